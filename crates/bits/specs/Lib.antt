@@ -1,0 +1,4 @@
+pub mod Refusals
+pub mod Codec
+pub mod Varint
+pub mod Bits

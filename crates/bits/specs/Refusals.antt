@@ -1,0 +1,41 @@
+-- What a refusal says of what was asked.
+use Rattle.std.specs.Prelude.{Result, MatchResult, IfErr}
+use Rattle.bits.specs.declared.refusal.Refusal.{Refusal}
+use Rattle.bits.specs.declared.refusal.Refusal.TheVariants.{Truncated, Thrift, Value, Limit, Memory}
+
+-- a fault of what was asked: no limit, and no want of memory
+abbrev pub IsFault : Refusal → Type 0
+IsFault Limit = ⊥
+IsFault Memory = ⊥
+IsFault _ = Unit {0}
+
+-- a refusal for a fault comes only where P
+abbrev pub OnFault : {X : Type 0} → Result X Refusal → Type 0 → Type 0
+OnFault r P = IfErr r (λ e. IsFault e → P)
+
+-- it is want of memory, or it has a cause
+abbrev pub HasCause : (Refusal → Type 0) → Refusal → Type 0
+HasCause Cause Memory = Unit {0}
+HasCause Cause e = Cause e
+
+-- a refusal, want of memory aside, comes only where it has a cause
+abbrev pub RefusedOnly : {X : Type 0} → (Refusal → Type 0) → Result X Refusal → Type 0
+RefusedOnly Cause r = IfErr r (HasCause Cause)
+
+-- it is Limit where the bound is passed, and another one where it is not, want of memory aside
+abbrev pub IsLimitJustWhere : Type 0 → Refusal → Type 0
+IsLimitJustWhere IsOver Limit = IsOver
+IsLimitJustWhere IsOver Memory = Unit {0}
+IsLimitJustWhere IsOver e = IsOver → ⊥
+
+-- Limit comes just where the bound is passed, want of memory aside
+abbrev pub LimitJustWhere : {X : Type 0} → Type 0 → Result X Refusal → Type 0
+LimitJustWhere IsOver r = MatchResult r (λ _. IsOver → ⊥) (IsLimitJustWhere IsOver)
+
+-- what the bytes of a list of values are refused for
+abbrev pub IsOfValues : Refusal → Type 0
+IsOfValues Truncated = Unit {0}
+IsOfValues Thrift = Unit {0}
+IsOfValues Value = Unit {0}
+IsOfValues Limit = Unit {0}
+IsOfValues _ = ⊥

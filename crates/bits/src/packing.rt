@@ -1,0 +1,97 @@
+//! Numbers of some bits each, side by side.
+
+ghost use Rattle.std.specs.Prelude.{◌≡◌, ℕ, ◌+◌, ◌*◌, ◌^◌, ◌<◌, ◌≤◌, List, length, take, slice_range, All, IfOk, OnOk, OnErr, vec_len};
+ghost use Rattle.bits.specs.Refusals.{OnFault, RefusedOnly};
+ghost use Rattle.bits.specs.Codec.{Appends};
+ghost use Rattle.bits.specs.Bits.{bits, number, IsPacked, IsPadded, packed_size};
+
+use crate::refusal::{R, Refusal};
+use std::alloc::Global;
+
+/// The number of the `width` bits that begin with bit `offset` of byte `at`.
+fn number_at(bytes: &[u8], at: usize, offset: u32, width: u32) -> u64
+    requires wide { width ≤ 64 }
+    requires in_byte { offset < 8 }
+    requires within { 8 * at + offset + width ≤ 8 * length bytes.now }
+    ensures { let start = 8 * at + offset in result ≡ number (slice_range (bits bytes.now) start (start + width)) }
+{
+    let mut value: u64 = 0;
+    for k in 0..width {
+        let place = offset + k;
+        let bit = (bytes[at + (place / 8) as usize] >> (place % 8)) & 1;
+        value += u64::from(bit) << k;
+    }
+    value
+}
+
+/// The first `n` numbers of `width` bits each (at most 64), the lowest bit first.
+///
+/// Refused Truncated just where the bytes have fewer than `n * width` bits. (parquet-format,
+/// Encodings.md, bit-packed runs.)
+pub fn unpack(alloc: Global, bytes: &[u8], width: u32, n: usize) -> R<Vec<u64>>
+    requires { width ≤ 64 }
+    ensures stands { IfOk result (λ v. (vec_len v ≡ n) × IsPacked bytes.now width v.items) }
+    ensures only { OnFault result ((numbers : List ℕ) → length numbers ≡ n → IsPacked bytes.now width numbers → ⊥) }
+    ensures which { RefusedOnly (λ e. (e ≡ Refusal.Truncated) × (8 * length bytes.now < n * width)) result }
+{
+    if (bytes.len() as u128) * 8 < (n as u128) * u128::from(width) {
+        return Err(Refusal::Truncated);
+    }
+    let mut numbers = Vec::with_capacity(alloc, n)?;
+    let mut at: usize = 0;
+    let mut offset: u32 = 0;
+    for _ in 0..n {
+        numbers.push(number_at(bytes, at, offset, width))?;
+        offset += width;
+        at += (offset / 8) as usize;
+        offset %= 8;
+    }
+    Ok(numbers)
+}
+
+/// Writes the numbers at the end; where it is refused, some of them may stand there.
+fn put_all(numbers: &[u64], width: u32, out: &mut Vec<u8>) -> R<()>
+    requires wide { width ≤ 64 }
+    requires fit { All (λ x. x < 2 ^ width) numbers.now }
+    ensures stands { OnOk result (Appends (λ bytes. IsPadded bytes width numbers.now) (packed_size (length numbers.now) width) out.old.items out.new.items) }
+    ensures which { RefusedOnly (λ _. ⊥) result }
+    ensures front { OnErr result (take (length out.old.items) out.new.items ≡ out.old.items) }
+{
+    let mut byte: u8 = 0;
+    let mut filled: u32 = 0;
+    for x in numbers {
+        for k in 0..width {
+            byte += (((*x >> k) & 1) as u8) << filled;
+            filled += 1;
+            if filled == 8 {
+                out.push(byte)?;
+                byte = 0;
+                filled = 0;
+            }
+        }
+    }
+    if filled > 0 {
+        out.push(byte)?;
+    }
+    Ok(())
+}
+
+/// Writes the numbers at the end of `out`, `width` bits each (at most 64), the lowest bit first,
+/// in as few bytes as hold them; the bits behind the last number are 0. Each number is below
+/// `2^width`.
+///
+/// Refused Memory alone; then `out` is as it was.
+pub fn pack(numbers: &[u64], width: u32, out: &mut Vec<u8>) -> R<()>
+    requires wide { width ≤ 64 }
+    requires fit { All (λ x. x < 2 ^ width) numbers.now }
+    ensures stands { OnOk result (Appends (λ bytes. IsPadded bytes width numbers.now) (packed_size (length numbers.now) width) out.old.items out.new.items) }
+    ensures which { RefusedOnly (λ _. ⊥) result }
+    ensures unchanged { OnErr result (out.new.items ≡ out.old.items) }
+{
+    let kept = out.len();
+    let done = put_all(numbers, width, out);
+    if done.is_err() {
+        out.truncate(kept);
+    }
+    done
+}
