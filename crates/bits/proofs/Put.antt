@@ -8,7 +8,7 @@ use Rattle.std.proofs.Math.Pow.{pow_mono}
 use Rattle.std.specs.Int.Bits.{bit_and}
 use Rattle.bits.specs.Codec.{Appends}
 use Rattle.bits.specs.Bits.{bits, number, IsPacked, IsPadded, packed_size}
-use Rattle.bits.proofs.BitLists.{length-bits, number_push, number_bound}
+use Rattle.bits.proofs.BitLists.{length-bits, number_push, number_bound, bits-append, whole_byte}
 
 -- the w low bits of a number
 abbrev pub bits_of : ℕ → ℕ → List ℕ
@@ -97,37 +97,6 @@ pub put_bit : (old new : List ℕ) (byte filled b : ℕ) (all : List ℕ) → b 
 put_bit old new byte filled b all lt room p =
     let m = more_held old new byte filled b all lt p in
     record { text = p.text; rest = p.rest ++ b ∷ []; joined = p.joined; so_far = ap (λ (t : List ℕ). t ++ b ∷ []) p.so_far ∙ append_assoc (bits p.text) p.rest (b ∷ []); held = m.is; size = m.size; few = omega (arith, p.few, room); low = m.low }
-
-bits-append : (xs ys : List ℕ) → bits (xs ++ ys) ≡ bits xs ++ bits ys
-bits-append [] ys = refl
-bits-append (x ∷ xs) ys = rw (bits-append xs ys) refl
-
--- eight bits are those of their number
-eight : (a b c d e f g h : ℕ) → a < 2 → b < 2 → c < 2 → d < 2 → e < 2 → f < 2 → g < 2 → h < 2
-    → bits (number (a ∷ b ∷ c ∷ d ∷ e ∷ f ∷ g ∷ h ∷ []) ∷ []) ≡ a ∷ b ∷ c ∷ d ∷ e ∷ f ∷ g ∷ h ∷ []
-eight a b c d e f g h la lb lc ld le lf lg lh =
-    let n = number (a ∷ b ∷ c ∷ d ∷ e ∷ f ∷ g ∷ h ∷ []) in
-    let e0 : n % 2 ≡ a = omega arith in
-    let e1 : n / 2 % 2 ≡ b = omega arith in
-    let e2 : n / 4 % 2 ≡ c = omega arith in
-    let e3 : n / 8 % 2 ≡ d = omega arith in
-    let e4 : n / 16 % 2 ≡ e = omega arith in
-    let e5 : n / 32 % 2 ≡ f = omega arith in
-    let e6 : n / 64 % 2 ≡ g = omega arith in
-    let e7 : n / 128 % 2 ≡ h = omega arith in
-    rw (e0, e1, e2, e3, e4, e5, e6, e7) refl
-
-whole_byte : (xs : List ℕ) → length xs ≡ 8 → ((i : ℕ) → get_or xs i 0 < 2) → bits (number xs ∷ []) ≡ xs
-whole_byte (a ∷ b ∷ c ∷ d ∷ e ∷ f ∷ g ∷ h ∷ []) l low = eight a b c d e f g h (low 0) (low 1) (low 2) (low 3) (low 4) (low 5) (low 6) (low 7)
-whole_byte [] l low = absurd (omega arith)
-whole_byte (a ∷ []) l low = absurd (omega arith)
-whole_byte (a ∷ b ∷ []) l low = absurd (omega arith)
-whole_byte (a ∷ b ∷ c ∷ []) l low = absurd (omega arith)
-whole_byte (a ∷ b ∷ c ∷ d ∷ []) l low = absurd (omega arith)
-whole_byte (a ∷ b ∷ c ∷ d ∷ e ∷ []) l low = absurd (omega arith)
-whole_byte (a ∷ b ∷ c ∷ d ∷ e ∷ f ∷ []) l low = absurd (omega arith)
-whole_byte (a ∷ b ∷ c ∷ d ∷ e ∷ f ∷ g ∷ []) l low = absurd (omega arith)
-whole_byte (a ∷ b ∷ c ∷ d ∷ e ∷ f ∷ g ∷ h ∷ i ∷ xs) l low = absurd (omega arith)
 
 pub put_last : (old new : List ℕ) (byte filled b : ℕ) (all : List ℕ) → b < 2 → filled + 1 ≡ 8 → Putting old new byte filled all → Putting old (new ++ (byte + (b * 2 ^ filled) % 2 ^ 8) ∷ []) 0 0 (all ++ b ∷ [])
 put_last old new byte filled b all lt full p =

@@ -1,0 +1,4 @@
+pub mod Paths
+pub mod State
+pub mod Calls
+pub mod Plain

@@ -1,0 +1,47 @@
+-- What a real folder is asked for, and what its answers mean.
+use Rattle.std.specs.Prelude.{◌≡◌, ◌≢◌, ◌⊎◌, ◌==◌, ℕ, List, [], ◌∷◌, All, codes, Bool, false}
+use Rattle.std.specs.List.{slice_split}
+use Rattle.disk.specs.Paths.{slash, path_in}
+use Rattle.disk.specs.State.{State, IsLawful}
+use Rattle.disk.specs.declared.binding.Binding.TheVariants.{Nothing}
+use Rattle.disk.specs.declared.fault.Fault.{Fault}
+use Rattle.disk.specs.declared.fault.Fault.TheVariants.{Absent, Failed, Memory}
+use Rattle.std.specs.declared.io.ErrorKind.{ErrorKind}
+use Rattle.std.specs.declared.io.ErrorKind.TheVariants.{NotFound, OutOfMemory}
+
+-- a part of a path that names something in its folder, and neither the folder itself nor the one above it
+pub record IsPlain (part : List ℕ) : Type 0 where
+  pub some : part ≢ []
+  pub no_self : part ≢ codes "."
+  pub no_above : part ≢ codes ".."
+
+-- a path that does not leave its folder: the folder itself, or plain parts with a slash between them
+abbrev pub IsProper : List ℕ → Type 0
+IsProper path = (path ≡ []) ⊎ All IsPlain (slice_split (λ b. b == slash) path)
+
+-- where a path of the dataset stands on the host, whose folder for it is `root`
+abbrev pub host_path : List ℕ → List ℕ → List ℕ
+host_path root [] = root
+host_path root (b ∷ path) = path_in root (b ∷ path)
+
+-- what an error of an input or output call is told as; the system's own want of memory comes in the midst of a call
+-- and is a failure
+abbrev pub fault_of : ErrorKind → Bool → Fault
+fault_of NotFound from_system = Absent
+fault_of OutOfMemory false = Memory
+fault_of _ _ = Failed
+
+-- what is claimed of a real folder: its counters, and nothing else
+abbrev pub host_state : ℕ → ℕ → State
+host_state failed counted = record {
+  seen = record { names = λ _. Nothing; bytes = λ _. [] };
+  moment = 0;
+  images = λ _ _. ⊥;
+  doubted = λ _. ⊥;
+  failures = failed;
+  reads = counted;
+  honest = ⊥;
+}
+
+pub host_lawful : (failed counted : ℕ) → IsLawful (host_state failed counted)
+host_lawful failed counted = record { seen_may_stay = λ no. absurd no; whole = λ no. absurd no }

@@ -1,0 +1,229 @@
+//! A real folder.
+
+ghost use Rattle.std.specs.Prelude.{◌≡◌, ◌≢◌, ◌⊎◌, IfOk, IfErr, IsErr, IsErrOf, string_bytes};
+ghost use Rattle.disk.specs.Plain.{IsProper, host_path, host_state, host_lawful};
+
+use crate::binding::Entry;
+use crate::counts::{counted, one_more};
+use crate::disk::Disk;
+use crate::fault::Fault;
+use crate::host_calls as calls;
+use crate::paths::folder_of;
+use crate::reach::reach;
+use std::alloc::Global;
+use std::fs::Files;
+
+/// A folder of the host's file system. Its calls go to the system one by one and keep nothing open.
+///
+/// That the file system keeps the model of [`Disk`] is a premise of whoever uses it; of what it holds nothing is
+/// promised here, but for the counts of failures and of reads. `docs/DISK.md` says which file systems are meant.
+///
+/// No call leaves the folder: a path with an empty part, `.` or `..` fails, and so does one with a link, a pipe or
+/// another kind of node on its way or at its end.
+#[derive(Drop)]
+pub struct HostDisk<R: Files + Clone + Drop> {
+    files: R,
+    alloc: Global,
+    folder: String,
+    failures: u64,
+    reads: u64,
+}
+
+impl<R: Files + Clone + Drop> HostDisk<R> {
+    /// The disk of a folder of the host; the empty text is the folder that the program runs in. Asks nothing of the
+    /// system. Refused Memory alone.
+    pub fn new(alloc: Global, files: R, folder: &str) -> Result<HostDisk<R>, Fault>
+        ensures starts { IfOk result (λ disk. (disk.failures ≡ 0) × (disk.reads ≡ 0)) }
+        ensures which { IfErr result (λ e. e ≡ Fault.Memory) }
+    {
+        let folder = if folder.is_empty() { "." } else { folder };
+        let folder = String::from_str(alloc, folder)?;
+        Ok(HostDisk {
+            files,
+            alloc,
+            folder,
+            failures: 0,
+            reads: 0,
+        })
+    }
+
+    /// Where a path stands on the host: below the folder, since the path is proper.
+    fn reach(&self, path: &str) -> Result<String, Fault>
+        ensures inside { IfOk result (λ place. string_bytes place ≡ host_path (string_bytes self.now.folder) path.now) }
+        ensures outside { (IsProper path.now → ⊥) → IsErrOf result Fault.Failed }
+        ensures which { IfErr result (λ e. e ≢ Fault.Exists) }
+    {
+        reach(&self.files, self.alloc, self.folder.as_str(), path)
+    }
+
+    fn try_create(&self, path: &str) -> Result<(), Fault>
+        ensures outside { (IsProper path.now → ⊥) → IsErrOf result Fault.Failed }
+    {
+        let place = self.reach(path)?;
+        calls::create(&self.files, place.as_str())
+    }
+
+    fn try_make_folder(&self, path: &str) -> Result<(), Fault>
+        ensures outside { (IsProper path.now → ⊥) → IsErrOf result Fault.Failed }
+    {
+        let place = self.reach(path)?;
+        calls::make_folder(&self.files, place.as_str())
+    }
+
+    fn try_read_range(
+        &self,
+        alloc: Global,
+        path: &str,
+        from: u64,
+        len: usize,
+    ) -> Result<Vec<u8>, Fault>
+        ensures outside { (IsProper path.now → ⊥) → IsErrOf result Fault.Failed }
+        ensures which { IfErr result (λ e. e ≢ Fault.Exists) }
+    {
+        let place = self.reach(path)?;
+        calls::read_range(&self.files, alloc, place.as_str(), from, len)
+    }
+
+    fn try_length(&self, path: &str) -> Result<u64, Fault>
+        ensures outside { (IsProper path.now → ⊥) → IsErrOf result Fault.Failed }
+        ensures which { IfErr result (λ e. e ≢ Fault.Exists) }
+    {
+        let place = self.reach(path)?;
+        calls::length(&self.files, place.as_str())
+    }
+
+    fn try_list(&self, alloc: Global, folder: &str) -> Result<Vec<Entry>, Fault>
+        ensures outside { (IsProper folder.now → ⊥) → IsErrOf result Fault.Failed }
+        ensures which { IfErr result (λ e. e ≢ Fault.Exists) }
+    {
+        let place = self.reach(folder)?;
+        calls::list(&self.files, alloc, place.as_str())
+    }
+
+    fn try_append(&self, path: &str, bytes: &[u8]) -> Result<(), Fault>
+        ensures outside { (IsProper path.now → ⊥) → IsErrOf result Fault.Failed }
+        ensures which { IfErr result (λ e. e ≢ Fault.Exists) }
+    {
+        let place = self.reach(path)?;
+        calls::append(&self.files, place.as_str(), bytes)
+    }
+
+    fn try_sync(&self, path: &str) -> Result<(), Fault>
+        ensures outside { (IsProper path.now → ⊥) → IsErrOf result Fault.Failed }
+        ensures which { IfErr result (λ e. e ≢ Fault.Exists) }
+    {
+        let place = self.reach(path)?;
+        calls::sync(&self.files, place.as_str())
+    }
+
+    fn try_sync_folder(&self, folder: &str) -> Result<(), Fault>
+        ensures outside { (IsProper folder.now → ⊥) → IsErrOf result Fault.Failed }
+        ensures which { IfErr result (λ e. e ≢ Fault.Exists) }
+    {
+        let place = self.reach(folder)?;
+        calls::sync_folder(&self.files, place.as_str())
+    }
+
+    fn try_rename(&self, source: &str, target: &str) -> Result<(), Fault>
+        ensures outside { (IsProper source.now → ⊥) → IsErrOf result Fault.Failed }
+        ensures onto { (IsProper target.now → ⊥) → IsErr result }
+        ensures which { IfErr result (λ e. e ≢ Fault.Exists) }
+    {
+        if source == target || folder_of(source) != folder_of(target) {
+            return Err(Fault::Failed);
+        }
+        let from = self.reach(source)?;
+        let to = self.reach(target)?;
+        calls::rename(&self.files, from.as_str(), to.as_str())
+    }
+
+    fn try_remove(&self, path: &str) -> Result<(), Fault>
+        ensures outside { (IsProper path.now → ⊥) → IsErrOf result Fault.Failed }
+        ensures which { IfErr result (λ e. e ≢ Fault.Exists) }
+    {
+        let place = self.reach(path)?;
+        calls::remove(&self.files, place.as_str())
+    }
+}
+
+/// A want of memory told as a failure, for the calls that answer no Memory.
+fn memory_is_failure(answer: Result<(), Fault>) -> Result<(), Fault>
+    requires { IfErr answer (λ e. e ≢ Fault.Exists) }
+    ensures { IfErr result (λ e. (e ≡ Fault.Absent) ⊎ (e ≡ Fault.Failed)) }
+{
+    match answer {
+        Err(Fault::Memory) => Err(Fault::Failed),
+        _ => answer,
+    }
+}
+
+impl<R: Files + Clone + Drop> Disk for HostDisk<R> {
+    ghost state = { λ disk. host_state disk.failures disk.reads };
+
+    ghost lawful = { λ disk. host_lawful disk.failures disk.reads };
+
+    fn create(&mut self, path: &str) -> Result<(), Fault> {
+        let answer = self.try_create(path);
+        counted(&mut self.failures, answer)
+    }
+
+    fn make_folder(&mut self, path: &str) -> Result<(), Fault> {
+        let answer = self.try_make_folder(path);
+        counted(&mut self.failures, answer)
+    }
+
+    fn read_range(
+        &mut self,
+        alloc: Global,
+        path: &str,
+        from: u64,
+        len: usize,
+    ) -> Result<Vec<u8>, Fault> {
+        self.reads = one_more(self.reads);
+        let answer = self.try_read_range(alloc, path, from, len);
+        counted(&mut self.failures, answer)
+    }
+
+    fn length(&mut self, path: &str) -> Result<u64, Fault> {
+        let answer = self.try_length(path);
+        counted(&mut self.failures, answer)
+    }
+
+    fn list(&mut self, alloc: Global, folder: &str) -> Result<Vec<Entry>, Fault> {
+        let answer = self.try_list(alloc, folder);
+        counted(&mut self.failures, answer)
+    }
+
+    fn append(&mut self, path: &str, bytes: &[u8]) -> Result<(), Fault> {
+        let answer = self.try_append(path, bytes);
+        counted(&mut self.failures, answer)
+    }
+
+    fn sync(&mut self, path: &str) -> Result<(), Fault> {
+        let answer = self.try_sync(path);
+        counted(&mut self.failures, answer)
+    }
+
+    fn sync_folder(&mut self, folder: &str) -> Result<(), Fault> {
+        let answer = memory_is_failure(self.try_sync_folder(folder));
+        counted(&mut self.failures, answer)
+    }
+
+    fn rename(&mut self, source: &str, target: &str) -> Result<(), Fault> {
+        let answer = memory_is_failure(self.try_rename(source, target));
+        counted(&mut self.failures, answer)
+    }
+
+    fn remove(&mut self, path: &str) -> Result<(), Fault> {
+        let answer = self.try_remove(path);
+        counted(&mut self.failures, answer)
+    }
+
+    fn failures(&self) -> u64 {
+        self.failures
+    }
+
+    fn reads(&self) -> u64 {
+        self.reads
+    }
+}

@@ -1,0 +1,11 @@
+pub mod Numbers
+pub mod Spelled
+pub mod Turned
+pub mod Lists
+pub mod Seen
+pub mod Views
+pub mod Bools
+pub mod Packing
+pub mod Written
+pub mod Rows
+pub mod Fitting

@@ -1,0 +1,150 @@
+//! From bytes to values.
+
+ghost use Rattle.std.specs.Prelude.{◌≡◌, ℕ, ◌≤◌, ◌⊎◌, All, map, length, IfOk};
+ghost use Rattle.bits.specs.Refusals.{OnFault, RefusedOnly, LimitJustWhere};
+ghost use Rattle.bits.specs.Codec.{NothingStands, AreInTurn};
+ghost use Rattle.schema.specs.Values.{view};
+ghost use Rattle.plain.specs.Plain.{IsOfKind, IsSpelled, AreBooleans, IsPlain, AnnouncesTooMuch, IsReadOver, HasSize};
+
+use bits::{R, Refusal};
+use byteorder::{ByteOrder, LittleEndian};
+use schema::{Kind, Value};
+use std::alloc::Global;
+
+/// The most bytes that a value may have: 16 MiB.
+pub const MOST_BYTES_OF_VALUE: usize = 16_777_216;
+
+/// The first `n` values of the type, and how many bytes they take. Bytes behind them are left.
+///
+/// Booleans are bits, the lowest of a byte first, in `(n + 7) / 8` bytes whose last bits are not
+/// looked at; numbers are little-endian; a BYTE_ARRAY stands behind its length in four bytes, a
+/// FIXED_LEN_BYTE_ARRAY alone. Each value is of the type: a number within its bits, bytes below 256,
+/// a fixed length kept. (parquet-format, Encodings.md, "Plain".)
+///
+/// Refused Limit just where one of the `n` values is announced with more than 16 MiB, by the four
+/// bytes before it or by the length of its type, and those before it stand; else Truncated just
+/// where the bytes end before the `n` values do.
+///
+/// Takes one pass and copies the bytes of each text once. Room is asked for only for values that
+/// the bytes can hold, whatever `n` is, and of a BYTE_ARRAY for none before one stands. (A fixed
+/// length of 0, which no schema has, is the one whose values no bytes count.)
+pub fn decode(alloc: Global, kind: Kind, bytes: &[u8], n: usize) -> R<(Vec<Value>, usize)>
+    ensures stands { IfOk result (λ x. IsPlain kind n bytes.now (map view x.0.items) x.1) }
+    ensures of_kind { IfOk result (λ x. All (IsOfKind kind) (map view x.0.items)) }
+    ensures within { IfOk result (λ x. x.1 ≤ length bytes.now) }
+    ensures only { OnFault result (NothingStands (IsPlain kind n bytes.now)) }
+    ensures which { RefusedOnly (λ e. (e ≡ Refusal.Truncated) ⊎ (e ≡ Refusal.Limit)) result }
+    ensures limit { LimitJustWhere (IsReadOver kind bytes.now n) result }
+{
+    match kind {
+        Kind::Boolean => booleans(alloc, bytes, n),
+        Kind::Int32 => sized_values(alloc, kind, 4, bytes, n),
+        Kind::Int64 => sized_values(alloc, kind, 8, bytes, n),
+        Kind::ByteArray => byte_arrays(alloc, bytes, n),
+        Kind::FixedLenByteArray(size) => sized_values(alloc, kind, size as usize, bytes, n),
+    }
+}
+
+/// The first `n` bits as booleans.
+fn booleans(alloc: Global, bytes: &[u8], n: usize) -> R<(Vec<Value>, usize)>
+    ensures stands { IfOk result (λ x. AreBooleans n bytes.now (map view x.0.items) x.1) }
+    ensures only { OnFault result (NothingStands (AreBooleans n bytes.now)) }
+    ensures which { RefusedOnly (λ e. e ≡ Refusal.Truncated) result }
+{
+    if n.div_ceil(8) > bytes.len() {
+        return Err(Refusal::Truncated);
+    }
+    let mut values = Vec::with_capacity(alloc, n)?;
+    for i in 0..n {
+        let bit = (bytes[i / 8] >> (i % 8)) & 1;
+        values.push(Value::Bool(bit == 1))?;
+    }
+    Ok((values, n.div_ceil(8)))
+}
+
+/// The first `n` values of a type whose values take `size` bytes each.
+fn sized_values(
+    alloc: Global,
+    kind: Kind,
+    size: usize,
+    bytes: &[u8],
+    n: usize,
+) -> R<(Vec<Value>, usize)>
+    requires { HasSize kind size }
+    ensures stands { IfOk result (λ x. AreInTurn (IsSpelled kind) n bytes.now (map view x.0.items) x.1) }
+    ensures only { OnFault result (NothingStands (AreInTurn (IsSpelled kind) n bytes.now)) }
+    ensures which { RefusedOnly (λ e. (e ≡ Refusal.Truncated) ⊎ (e ≡ Refusal.Limit)) result }
+    ensures limit { LimitJustWhere (IsReadOver kind bytes.now n) result }
+{
+    if n > 0 && size > MOST_BYTES_OF_VALUE {
+        return Err(Refusal::Limit);
+    }
+    if (n as u128) * (size as u128) > bytes.len() as u128 {
+        return Err(Refusal::Truncated);
+    }
+    // All values are there, so `n` is the least, but for those of no bytes, which no schema has.
+    let mut values = Vec::with_capacity(alloc, n.min(bytes.len()))?;
+    let mut at = 0;
+    for _ in 0..n {
+        values.push(sized_value(alloc, kind, &bytes[at..at + size])?)?;
+        at += size;
+    }
+    Ok((values, at))
+}
+
+/// The value whose spelling is the whole text.
+fn sized_value(alloc: Global, kind: Kind, text: &[u8]) -> R<Value>
+    requires { HasSize kind (length text.now) }
+    ensures stands { IfOk result (λ v. IsSpelled kind text.now (view v) (length text.now)) }
+    ensures which { RefusedOnly (λ _. ⊥) result }
+{
+    Ok(match kind {
+        Kind::Int32 => Value::Int(i64::from(LittleEndian::read_i32(text))),
+        Kind::Int64 => Value::Int(LittleEndian::read_i64(text)),
+        _ => Value::Bytes(Vec::from_slice(alloc, text)?),
+    })
+}
+
+/// The first `n` byte arrays.
+fn byte_arrays(alloc: Global, bytes: &[u8], n: usize) -> R<(Vec<Value>, usize)>
+    ensures stands { IfOk result (λ x. AreInTurn (IsSpelled Kind.ByteArray) n bytes.now (map view x.0.items) x.1) }
+    ensures only { OnFault result (NothingStands (AreInTurn (IsSpelled Kind.ByteArray) n bytes.now)) }
+    ensures which { RefusedOnly (λ e. (e ≡ Refusal.Truncated) ⊎ (e ≡ Refusal.Limit)) result }
+    ensures limit { LimitJustWhere (IsReadOver Kind.ByteArray bytes.now n) result }
+{
+    let mut values = Vec::new(alloc);
+    let mut at = 0;
+    for _ in 0..n {
+        let (value, used) = byte_array(alloc, bytes.split_at(at).1)?;
+        if values.is_empty() {
+            // Each length has four bytes. Bytes with no value at their front ask for no room.
+            values.reserve(n.min(bytes.len() / 4))?;
+        }
+        values.push(value)?;
+        at += used;
+    }
+    Ok((values, at))
+}
+
+/// The byte array at the front, and how many bytes it takes with its length.
+fn byte_array(alloc: Global, bytes: &[u8]) -> R<(Value, usize)>
+    ensures stands { IfOk result (λ x. IsSpelled Kind.ByteArray bytes.now (view x.0) x.1) }
+    ensures within { IfOk result (λ x. x.1 ≤ length bytes.now) }
+    ensures only { OnFault result (NothingStands (IsSpelled Kind.ByteArray bytes.now)) }
+    ensures which { RefusedOnly (λ e. (e ≡ Refusal.Truncated) ⊎ (e ≡ Refusal.Limit)) result }
+    ensures limit { LimitJustWhere (AnnouncesTooMuch Kind.ByteArray bytes.now) result }
+{
+    if bytes.len() < 4 {
+        return Err(Refusal::Truncated);
+    }
+    let (announced, rest) = bytes.split_at(4);
+    let size = LittleEndian::read_u32(announced) as usize;
+    if size > MOST_BYTES_OF_VALUE {
+        return Err(Refusal::Limit);
+    }
+    if size > rest.len() {
+        return Err(Refusal::Truncated);
+    }
+    let text = Vec::from_slice(alloc, rest.split_at(size).0)?;
+    Ok((Value::Bytes(text), 4 + size))
+}

@@ -1,0 +1,11 @@
+pub mod Members
+pub mod Sameness
+pub mod Orders
+pub mod AtMost
+pub mod LeafLaws
+pub mod Determined
+pub mod Views
+pub mod Texts
+pub mod Kept
+pub mod Worked
+pub mod Entries

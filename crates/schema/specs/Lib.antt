@@ -1,0 +1,9 @@
+pub mod Values
+pub mod Annotations
+pub mod Shape
+pub mod Fits
+pub mod Stripe
+pub mod Law
+pub mod Orders
+pub mod Views
+pub mod Worked

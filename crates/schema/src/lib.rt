@@ -1,0 +1,32 @@
+//! Values of rows, the schema tree over them, and the orders of leaves.
+//!
+//! `specs/Values.antt` sees a [`Value`] as a tree and `specs/Views.antt` all else; `specs/Annotations.antt`
+//! has the annotations and which order they give, `specs/Fits.antt` what fits a schema,
+//! `specs/Stripe.antt` the columns of rows, `specs/Law.antt` what a schema is.
+#![tactic(auto)]
+
+mod annotation;
+mod element;
+mod field;
+mod fits;
+mod key;
+mod laws;
+mod order;
+mod row;
+mod value;
+
+pub use annotation::{Annotation, ConvertedType, GroupAnnotation, LeafType};
+pub use element::Element;
+pub use field::{Field, Leaf, Step};
+pub use fits::fits_row;
+pub use key::{Key, KeyColumn, KeyKind};
+pub use laws::{
+    annotations_are_kept, at_most_laws, columns_determine_rows, entries_are_of_leaves,
+    levels_are_of_steps, orders_are_total, unsigned_order_is_of_bits, worked_examples,
+};
+pub use order::{Order, compare, compare_by};
+pub use row::{Column, Entry, Row};
+pub use value::{Kind, Repetition, Value, copied_values, same};
+
+#[cfg(test)]
+mod tests;

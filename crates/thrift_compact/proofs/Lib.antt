@@ -1,0 +1,14 @@
+pub mod NodeTypes
+pub mod Parts
+pub mod One
+pub mod Elements
+pub mod PairsRead
+pub mod FieldsRead
+pub mod Refused
+pub mod Within
+pub mod MapRead
+pub mod Appending
+pub mod Sizes
+pub mod Spelled
+pub mod Steps
+pub mod Writes

@@ -1,0 +1,6 @@
+pub mod Tree
+pub mod View
+pub mod Compact
+pub mod Reading
+pub mod Length
+pub mod Writing

@@ -1,0 +1,48 @@
+-- What each writer is asked for, in at most `left` more levels.
+use Rattle.std.specs.Prelude.{◌≡◌, ℕ, ◌+◌, ◌≤◌, ℤ, pos, ◌+ℤ◌, List, ◌++◌, drop}
+use Rattle.bits.specs.declared.refusal.Refusal.{Refusal}
+use Rattle.bits.specs.declared.refusal.Refusal.TheVariants.{Thrift}
+use Rattle.bits.specs.Varint.{IsShortestUleb, zigzag_of}
+use Rattle.thrift_compact.specs.Tree.{Node, Nodes, Pairs, Fields, nest, nodes_nest, pairs_nest, fields_nest}
+use Rattle.thrift_compact.specs.Compact.{kind, IsElement, IsFieldHead, IsValue, AreElements, ArePairs, AreFields}
+
+-- it is refused since no bytes stand for it
+abbrev pub IsWithoutBytes : (List ℕ → ℕ → Type 0) → Refusal → Type 0
+IsWithoutBytes Stands e = (e ≡ Thrift) × ((bytes : List ℕ) (used : ℕ) → Stands bytes used → ⊥)
+
+-- what was there stays at the front
+pub record Keeps (old new : List ℕ) : Type 0 where
+  pub text : List ℕ
+  pub joined : new ≡ old ++ text
+
+-- the step from the previous field in a short header
+pub record IsStep (previous id : ℤ) (step : ℕ) : Type 0 where
+  pub low : 1 ≤ step
+  pub high : step ≤ 15
+  pub is : id ≡ previous +ℤ pos step
+
+-- a zigzag varint, and no longer than it must be
+abbrev pub IsShortestSigned : ℤ → List ℕ → ℕ → Type 0
+IsShortestSigned z bytes used = IsShortestUleb bytes (zigzag_of z) used
+
+abbrev pub SpellsValue : ℕ → Node → List ℕ → ℕ → Type 0
+SpellsValue left x bytes used = (nest x ≤ left) × IsValue x bytes used
+
+abbrev pub SpellsElement : ℕ → ℕ → Node → List ℕ → ℕ → Type 0
+SpellsElement code left x bytes used = IsElement code x × (nest x ≤ left) × IsValue x bytes used
+
+abbrev pub SpellsElements : ℕ → ℕ → Nodes → List ℕ → ℕ → Type 0
+SpellsElements code left xs bytes used = (nodes_nest xs ≤ left) × AreElements xs code bytes used
+
+abbrev pub SpellsPair : ℕ → ℕ → ℕ → Node → Node → List ℕ → ℕ → Type 0
+SpellsPair key value left x y bytes used = (s t : ℕ) × SpellsElement key left x bytes s × SpellsElement value left y (drop s bytes) t × (used ≡ s + t)
+
+abbrev pub SpellsPairs : ℕ → ℕ → ℕ → Pairs → List ℕ → ℕ → Type 0
+SpellsPairs key value left ps bytes used = (pairs_nest ps ≤ left) × ArePairs ps key value bytes used
+
+-- one field
+abbrev pub SpellsField : ℤ → ℕ → ℤ → Node → List ℕ → ℕ → Type 0
+SpellsField previous left id x bytes used = (s t : ℕ) × IsFieldHead previous bytes id (kind x) s × SpellsValue left x (drop s bytes) t × (used ≡ s + t)
+
+abbrev pub SpellsFields : ℕ → Fields → List ℕ → ℕ → Type 0
+SpellsFields left fs bytes used = (fields_nest fs ≤ left) × AreFields fs (pos 0) bytes used

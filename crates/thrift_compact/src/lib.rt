@@ -1,0 +1,21 @@
+//! Structs of the Thrift compact protocol as trees.
+//!
+//! `specs/Compact.antt` says which bytes stand for which tree; `specs/View.antt` sees a [`Tree`] as
+//! the tree of `specs/Tree.antt`.
+#![tactic(auto)]
+
+mod copying;
+mod heads;
+mod laws;
+mod numbers;
+mod reading;
+mod tree;
+mod writing;
+
+pub use laws::one_struct;
+pub use reading::read_struct;
+pub use tree::{ElementType, Field, Node, Tree};
+pub use writing::write_struct;
+
+#[cfg(test)]
+mod tests;
