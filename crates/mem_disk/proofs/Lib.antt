@@ -1,0 +1,10 @@
+pub mod Choices
+pub mod Tables
+pub mod Bindings
+pub mod Writes
+pub mod Passing
+pub mod Effects
+pub mod Keeping
+pub mod Listed
+pub mod Resting
+pub mod Fitting

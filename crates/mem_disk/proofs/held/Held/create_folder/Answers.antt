@@ -1,0 +1,13 @@
+use Rattle.std.proofs.Common.{◌∙◌, ap, List, ℕ, sym, refl, Ok, Err}
+use Rattle.mem_disk.specs.Loose.{empty, replayed}
+use Rattle.disk.specs.declared.fault.Fault.TheVariants.{Failed}
+use Rattle.mem_disk.proofs.Effects.{folder_made_bound}
+use Rattle.mem_disk.proofs.held.Held.create_folder.Goals as goal
+
+pub returns : goal.returns
+returns c f g r s =
+    let sound = c.args.self.now.kept.sound in
+    let goes = c.in_ok-bind.ensures.ok in
+    let gone = sym c.in-Nothing.ensures in
+    let home = ap (λ (p : List ℕ). (replayed empty c.args.self.now.calls.items).names p) (sym c.folder_of.ensures.value) ∙ sym c.in-Folder-binding.ensures in
+    (folder_made_bound _ _ f g r s (Ok tt) tt _ sound c.args.path.now goes gone home, folder_made_bound _ _ f g r s (Err Failed) refl _ sound c.args.path.now goes gone home)

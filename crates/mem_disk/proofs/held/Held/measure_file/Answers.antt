@@ -1,0 +1,24 @@
+use Rattle.std.proofs.Common.{sym, ap, length}
+use Rattle.disk.specs.declared.fault.Fault.TheVariants.{Absent, Failed}
+use Rattle.mem_disk.specs.Loose.{empty, replayed}
+use Rattle.mem_disk.proofs.Effects.{file_within, file_content, reads_still, not_absent, err_is, ok_is_no_err}
+use Rattle.mem_disk.proofs.held.Held.measure_file.Goals as goal
+
+pub bytes_of-requires : goal.bytes_of-requires
+bytes_of-requires c = file_within _ _ c.args.self.now.kept.sound c.args.path.now c.in-File.node (sym c.in-File.ensures)
+
+pub returns-clause-effect : goal.returns-clause-effect
+returns-clause-effect c f g r s =
+    let calls = c.args.self.now.calls.items in
+    let whole = (replayed empty calls).bytes c.in-File.node in (
+      record {
+        still = reads_still calls f g r s;
+        done = (whole, file_content calls f r c.args.path.now c.in-File.node (sym c.in-File.ensures), ap length c.bytes_of.ensures);
+        absent = λ x. absurd (ok_is_no_err _ Absent x);
+      },
+      record {
+        still = reads_still calls f g r s;
+        done = tt;
+        absent = λ x. absurd (not_absent (err_is Failed Absent x));
+      },
+    )

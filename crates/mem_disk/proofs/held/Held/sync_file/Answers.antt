@@ -1,0 +1,21 @@
+use Rattle.std.proofs.Common.{sym, refl, Ok, Err}
+use Rattle.disk.specs.declared.fault.Fault.TheVariants.{Failed}
+use Rattle.mem_disk.proofs.Effects.{file_within, synced_done}
+use Rattle.mem_disk.proofs.held.Held.sync_file.Goals as goal
+
+pub is_doubted-requires : goal.is_doubted-requires
+is_doubted-requires c = file_within _ _ c.args.self.now.kept.sound c.args.path.now c.in-File.node (sym c.in-File.ensures)
+
+pub sync-requires : goal.sync-requires
+sync-requires c = file_within _ _ c.args.self.now.kept.sound c.args.path.now c.in-File.node (sym c.in-File.ensures)
+
+pub returns-in_ok-sync-in-Passes-clause-effect : goal.returns-in_ok-sync-in-Passes-clause-effect
+returns-in_ok-sync-in-Passes-clause-effect c f g r s =
+    let sound = c.args.self.now.kept.sound in
+    let goes = c.in_ok-sync-in-Passes.ensures.ok in (
+      synced_done _ _ f g r s (Ok tt) tt _ sound c.args.path.now c.in-File.node goes (sym c.in-File.ensures),
+      synced_done _ _ f g r s (Err Failed) refl _ sound c.args.path.now c.in-File.node goes (sym c.in-File.ensures),
+    )
+
+pub returns-in-Fails-clause-effect : goal.returns-in-Fails-clause-effect
+returns-in-Fails-clause-effect c f g r s = (c.fail_sync.ensures f g r s, c.fail_sync.ensures f g r s)

@@ -1,0 +1,10 @@
+use Rattle.disk.specs.Calls.{Appended}
+use Rattle.mem_disk.specs.States.{state_with}
+use Rattle.mem_disk.proofs.Effects.{either_way}
+use Rattle.mem_disk.proofs.mem_disk_impl.MemDiskDisk.append.Goals as goal
+
+pub returns-clause-effect : goal.returns-clause-effect
+returns-clause-effect c _ =
+    let self = c.args.self.now in
+    either_way (λ answer. Appended c.args.path.now c.args.bytes.now (state_with self.held.calls.items self.failures self.reads) (state_with c.append_file-done.new.self.calls.items c.answer.new.failures c.args.self.now.reads) answer) c.append_file-done.result c.answer.result
+    (c.append_file-done.ensures.effect self.failures c.answer.new.failures self.reads c.args.self.now.reads) c.answer.ensures.answer

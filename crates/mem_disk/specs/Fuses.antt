@@ -1,0 +1,33 @@
+-- Which calls fail.
+use Rattle.std.specs.Prelude.{ℕ, zero, suc, ◌%◌}
+use Rattle.mem_disk.specs.declared.fuse.Done.{Done}
+use Rattle.mem_disk.specs.declared.fuse.Done.TheVariants.{Nothing, Whole, Part}
+use Rattle.mem_disk.specs.declared.fuse.Fuse.{Fuse}
+use Rattle.mem_disk.specs.declared.fuse.Fuse.TheVariants.{Never, After, Once}
+use Rattle.mem_disk.specs.declared.fuse.Trip.{Trip}
+use Rattle.mem_disk.specs.declared.fuse.Trip.TheVariants.{Passes, Fails}
+
+-- 0 nothing, 1 the whole, 2 a part
+abbrev pub done_at : ℕ → Done
+done_at zero = Nothing
+done_at (suc zero) = Whole
+done_at (suc (suc n)) = Part
+
+abbrev pub done_of : ℕ → Done
+done_of pick = done_at (pick % 3)
+
+-- whether the next call fails
+abbrev pub trip_of : Fuse → Trip
+trip_of Never = Passes
+trip_of (After zero done) = Fails done
+trip_of (After (suc left) done) = Passes
+trip_of (Once zero done) = Fails done
+trip_of (Once (suc left) done) = Passes
+
+-- what is left after it
+abbrev pub burnt : Fuse → Fuse
+burnt Never = Never
+burnt (After zero done) = After zero done
+burnt (After (suc left) done) = After left done
+burnt (Once zero done) = Never
+burnt (Once (suc left) done) = Once left done

@@ -1,0 +1,191 @@
+//! What the calls do to what a disk keeps.
+
+ghost use Rattle.std.specs.Prelude.{◌≡◌, ◌≢◌, ◌<◌, ◌⊎◌, ℕ, length, IfErr, IsTrue};
+ghost use Rattle.disk.specs.Paths.{folder_of};
+ghost use Rattle.disk.specs.Calls.{Created, FolderMade, Appended, Synced, FolderSynced, Renamed, Removed};
+ghost use Rattle.disk.specs.declared.fault.Fault.TheVariants.{Absent, Exists, Failed};
+ghost use Rattle.mem_disk.specs.Loose.{empty, replayed};
+ghost use Rattle.mem_disk.specs.States.{state_with, AlsoFailed, FailsToSync};
+ghost use Rattle.disk.specs.declared.binding.Binding.TheVariants.{File};
+
+use crate::fuse::{Done, Trip};
+use crate::held::Held;
+use disk::{Binding, Fault, folder_of};
+
+// Two names of one folder.
+fn are_beside(source: &str, target: &str) -> bool
+    ensures { IsTrue result → (folder_of target.now ≡ folder_of source.now) × (target.now ≢ source.now) }
+{
+    folder_of(target) == folder_of(source) && target != source
+}
+
+impl Held {
+    /// Makes an empty file.
+    pub fn create_file(&mut self, trip: Trip, path: &str) -> Result<(), Fault>
+        ensures { (f g r s : ℕ) → AlsoFailed (Created path.now (state_with self.old.calls.items f r) (state_with self.new.calls.items g s)) result }
+    {
+        if trip == Trip::Fails(Done::Nothing) {
+            return Err(Fault::Failed);
+        }
+        let Binding::Nothing = self.binding(path) else {
+            return Err(Fault::Exists)
+        };
+        let Binding::Folder = self.binding(folder_of(path)) else {
+            return Err(Fault::Absent)
+        };
+        let Ok(node) = self.add_node() else {
+            return Err(Fault::Memory)
+        };
+        if self.bind(path, Binding::File(node)).is_err() {
+            return Err(Fault::Memory);
+        }
+        Ok(())
+    }
+
+    /// Makes a folder.
+    pub fn create_folder(&mut self, trip: Trip, path: &str) -> Result<(), Fault>
+        ensures { (f g r s : ℕ) → AlsoFailed (FolderMade path.now (state_with self.old.calls.items f r) (state_with self.new.calls.items g s)) result }
+    {
+        if trip == Trip::Fails(Done::Nothing) {
+            return Err(Fault::Failed);
+        }
+        match self.binding(path) {
+            Binding::Nothing => {}
+            Binding::Folder => return Ok(()),
+            Binding::File(_) => return Err(Fault::Exists),
+        }
+        let Binding::Folder = self.binding(folder_of(path)) else {
+            return Err(Fault::Absent)
+        };
+        self.bind(path, Binding::Folder)?;
+        Ok(())
+    }
+
+    /// Takes a file's name away.
+    pub fn remove_file(&mut self, trip: Trip, path: &str) -> Result<(), Fault>
+        ensures effect { (f g r s : ℕ) → AlsoFailed (Removed path.now (state_with self.old.calls.items f r) (state_with self.new.calls.items g s)) result }
+        ensures which { IfErr result (λ e. e ≢ Exists) }
+    {
+        if trip == Trip::Fails(Done::Nothing) {
+            return Err(Fault::Failed);
+        }
+        match self.binding(path) {
+            Binding::Nothing => return Err(Fault::Absent),
+            Binding::Folder => return Err(Fault::Failed),
+            Binding::File(_) => {}
+        }
+        self.bind(path, Binding::Nothing)?;
+        Ok(())
+    }
+
+    /// Gives a file another name in its folder.
+    pub fn rename_file(&mut self, trip: Trip, source: &str, target: &str) -> Result<(), Fault>
+        ensures effect { (f g r s : ℕ) → AlsoFailed (Renamed source.now target.now (state_with self.old.calls.items f r) (state_with self.new.calls.items g s)) result }
+        ensures which { IfErr result (λ e. (e ≡ Absent) ⊎ (e ≡ Failed)) }
+    {
+        if trip == Trip::Fails(Done::Nothing) {
+            return Err(Fault::Failed);
+        }
+        let node = match self.binding(source) {
+            Binding::Nothing => return Err(Fault::Absent),
+            Binding::Folder => return Err(Fault::Failed),
+            Binding::File(node) => node,
+        };
+        if let Binding::Folder = self.binding(target) {
+            return Err(Fault::Failed);
+        }
+        if !are_beside(source, target) {
+            return Err(Fault::Failed);
+        }
+        if self.bind(target, Binding::File(node)).is_err() {
+            return Err(Fault::Failed);
+        }
+        if trip == Trip::Fails(Done::Part) {
+            return Err(Fault::Failed);
+        }
+        if self.bind(source, Binding::Nothing).is_err() {
+            return Err(Fault::Failed);
+        }
+        Ok(())
+    }
+
+    /// Writes behind a file's end.
+    pub fn append_file(&mut self, trip: Trip, path: &str, bytes: &[u8]) -> Result<(), Fault>
+        ensures effect { (f g r s : ℕ) → AlsoFailed (Appended path.now bytes.now (state_with self.old.calls.items f r) (state_with self.new.calls.items g s)) result }
+        ensures which { IfErr result (λ e. e ≢ Exists) }
+    {
+        if trip == Trip::Fails(Done::Nothing) {
+            return Err(Fault::Failed);
+        }
+        let Binding::File(node) = self.binding(path) else {
+            return Err(Fault::Absent)
+        };
+        if trip == Trip::Fails(Done::Part) {
+            let half = bytes.split_at(bytes.len() / 2).0;
+            self.append(node, half)?;
+            return Err(Fault::Failed);
+        }
+        self.append(node, bytes)?;
+        Ok(())
+    }
+
+    /// Whether a sync of the node has failed.
+    fn is_doubted(&self, node: usize) -> bool
+        requires { node < length self.now.nodes.items }
+        ensures { result ≡ (replayed empty self.now.calls.items).doubted node }
+    {
+        self.nodes[node].doubted
+    }
+
+    /// Makes a file's bytes firm, where no sync of it has failed.
+    pub fn sync_file(&mut self, trip: Trip, path: &str) -> Result<(), Fault>
+        ensures effect { (f g r s : ℕ) → AlsoFailed (Synced path.now (state_with self.old.calls.items f r) (state_with self.new.calls.items g s)) result }
+        ensures which { IfErr result (λ e. e ≢ Exists) }
+    {
+        let Binding::File(node) = self.binding(path) else {
+            return Err(Fault::Absent)
+        };
+        if self.is_doubted(node) {
+            return Ok(());
+        }
+        match trip {
+            Trip::Passes => {
+                self.sync(node)?;
+                Ok(())
+            }
+            Trip::Fails(done) => {
+                self.fail_sync(done, path, node);
+                Err(Fault::Failed)
+            }
+        }
+    }
+
+    // A sync of the node fails, after it was done, or not.
+    fn fail_sync(&mut self, done: Done, path: &str, node: usize)
+        requires { (replayed empty self.old.calls.items).names path.now ≡ File node }
+        ensures { (f g r s : ℕ) → FailsToSync path.now (state_with self.old.calls.items f r) (state_with self.new.calls.items g s) }
+    {
+        if done == Done::Nothing {
+            let _ = self.doubt(node);
+        } else if self.sync(node).is_ok() {
+            let _ = self.doubt(node);
+        }
+    }
+
+    /// Makes a folder's names firm.
+    pub fn sync_names(&mut self, trip: Trip, folder: &str) -> Result<(), Fault>
+        ensures effect { (f g r s : ℕ) → AlsoFailed (FolderSynced folder.now (state_with self.old.calls.items f r) (state_with self.new.calls.items g s)) result }
+        ensures which { IfErr result (λ e. (e ≡ Absent) ⊎ (e ≡ Failed)) }
+    {
+        if trip == Trip::Fails(Done::Nothing) {
+            return Err(Fault::Failed);
+        }
+        let Binding::Folder = self.binding(folder) else {
+            return Err(Fault::Absent)
+        };
+        if self.sync_folder(folder).is_err() {
+            return Err(Fault::Failed);
+        }
+        Ok(())
+    }
+}

@@ -1,0 +1,29 @@
+//! Nodes.
+
+ghost use Rattle.std.specs.Prelude.{◌≡◌, [], false};
+
+use std::alloc::Global;
+
+/// The bytes of a file.
+#[derive(Drop)]
+pub struct Node {
+    pub bytes: Vec<u8>,
+    /// how many of them were there at the last sync
+    pub synced: usize,
+    /// a sync has failed; later ones make nothing firm
+    pub doubted: bool,
+}
+
+impl Node {
+    pub fn new(alloc: Global) -> Node
+        ensures bytes { result.bytes.items ≡ [] }
+        ensures synced { result.synced ≡ 0 }
+        ensures doubted { result.doubted ≡ false }
+    {
+        Node {
+            bytes: Vec::new(alloc),
+            synced: 0,
+            doubted: false,
+        }
+    }
+}

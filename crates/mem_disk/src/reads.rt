@@ -1,0 +1,63 @@
+//! What is read of what a disk keeps.
+
+ghost use Rattle.std.specs.Prelude.{◌≡◌, ◌≢◌, ◌<◌, ℕ, length, take, drop, IfErr, IfOk};
+ghost use Rattle.disk.specs.Calls.{RangeRead, Measured};
+ghost use Rattle.disk.specs.declared.fault.Fault.TheVariants.{Exists};
+ghost use Rattle.mem_disk.specs.Loose.{empty, replayed};
+ghost use Rattle.mem_disk.specs.States.{state_with, AlsoFailed};
+
+use crate::held::Held;
+use disk::{Binding, Fault};
+use std::alloc::{AllocError, Global};
+
+// So much of the bytes from there on as is there.
+fn part(alloc: Global, bytes: &[u8], from: u64, len: usize) -> Result<Vec<u8>, AllocError>
+    ensures { IfOk result (λ read. read.items ≡ take len (drop from bytes.now)) }
+{
+    if from >= bytes.len() as u64 {
+        return Ok(Vec::new(alloc));
+    }
+    let back = bytes.split_at(from as usize).1;
+    let wanted = back.split_at(len.min(back.len())).0;
+    Vec::from_slice(alloc, wanted)
+}
+
+impl Held {
+    // The bytes of a node.
+    fn bytes_of(&self, node: usize) -> &[u8]
+        requires { node < length self.now.nodes.items }
+        ensures { result.now ≡ (replayed empty self.now.calls.items).bytes node }
+    {
+        &self.nodes[node].bytes
+    }
+
+    /// The bytes of a file from `from` on, `len` of them or as many as are there.
+    pub fn read_file(
+        &self,
+        alloc: Global,
+        path: &str,
+        from: u64,
+        len: usize,
+    ) -> Result<Vec<u8>, Fault>
+        ensures effect { (f g r s : ℕ) → AlsoFailed (RangeRead (λ bytes. bytes.items) path.now from len (state_with self.now.calls.items f r) (state_with self.now.calls.items g s)) result }
+        ensures which { IfErr result (λ e. e ≢ Exists) }
+    {
+        let Binding::File(node) = self.binding(path) else {
+            return Err(Fault::Absent)
+        };
+        let bytes = self.bytes_of(node);
+        let read = part(alloc, bytes, from, len)?;
+        Ok(read)
+    }
+
+    /// How many bytes a file has.
+    pub fn measure_file(&self, path: &str) -> Result<u64, Fault>
+        ensures effect { (f g r s : ℕ) → AlsoFailed (Measured path.now (state_with self.now.calls.items f r) (state_with self.now.calls.items g s)) result }
+        ensures which { IfErr result (λ e. e ≢ Exists) }
+    {
+        let Binding::File(node) = self.binding(path) else {
+            return Err(Fault::Absent)
+        };
+        Ok(self.bytes_of(node).len() as u64)
+    }
+}

@@ -1,0 +1,50 @@
+-- What the root's two names are as texts.
+use Rattle.std.proofs.Common.{◌≡◌, ◌≢◌, ℕ, zero, suc, List, [], ◌∷◌, length, slice_index, Bool, true, false, if◌then◌else◌, ◌==◌, refl, sym, ◌∙◌, ap, arith, ⊎_elim}
+use Rattle.std.proofs.lemmas.Bool.Decides.{eqb_tells}
+use Rattle.disk.specs.Paths.{slash, folder_of, IsOnTheWay}
+use Rattle.disk.specs.State.{State}
+use Rattle.vault.specs.Views.{root_path, next_path, AreApart}
+use Rattle.vault.specs.Files.{IsClearWay}
+
+abbrev has_no_slash : List ℕ → Bool
+has_no_slash [] = true
+has_no_slash (b ∷ rest) = if b == slash then false else has_no_slash rest
+
+false_is_not_true : false ≡ true → ⊥
+false_is_not_true e = cc
+
+if_false : (t u : Bool) → (if t then false else u) ≡ true → (t ≡ false) × (u ≡ true)
+if_false true u e = absurd (false_is_not_true e)
+if_false false u e = (refl, e)
+
+no_slash_at : (path : List ℕ) → has_no_slash path ≡ true → (i : ℕ) → slice_index path i ≢ slash
+no_slash_at [] none i is = omega (arith, is)
+no_slash_at (b ∷ rest) none zero is =
+    let parts = if_false (b == slash) (has_no_slash rest) none in
+    ⊎_elim (λ at. false_is_not_true (sym parts.0 ∙ at.0)) (λ off. off.1 is) (eqb_tells b slash)
+no_slash_at (b ∷ rest) none (suc i) is = no_slash_at rest (if_false (b == slash) (has_no_slash rest) none).1 i is
+
+pub nothing_on_the_way : (path folder : List ℕ) → has_no_slash path ≡ true → IsOnTheWay folder path → ⊥
+nothing_on_the_way path folder none on = no_slash_at path none on.0 on.2
+
+pub next_clear : (state : State) → IsClearWay state next_path
+next_clear state c may folder on node is = nothing_on_the_way next_path folder refl on
+
+pub root_in_top : folder_of root_path ≡ []
+root_in_top = refl
+
+pub root_not_next : root_path ≢ next_path
+root_not_next e = let lengths : length root_path ≡ length next_path = ap length e in omega (arith, lengths)
+
+-- a name without a slash is apart from each path that it is not on the way to, both ways round
+pub name_apart : (name path : List ℕ) → has_no_slash name ≡ true → (IsOnTheWay name path → ⊥) → AreApart name path × AreApart path name
+name_apart name path plain off = (
+  record { no_folder = nothing_on_the_way name path plain; no_file = off },
+  record { no_folder = off; no_file = nothing_on_the_way name path plain },
+)
+
+pub root_apart : (path : List ℕ) → (IsOnTheWay root_path path → ⊥) → AreApart root_path path × AreApart path root_path
+root_apart path off = name_apart root_path path refl off
+
+pub next_apart : (path : List ℕ) → (IsOnTheWay next_path path → ⊥) → AreApart next_path path × AreApart path next_path
+next_apart path off = name_apart next_path path refl off

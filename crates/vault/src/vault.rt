@@ -1,0 +1,211 @@
+//! The root, and the files that are kept beside it.
+
+ghost use Rattle.std.specs.Prelude.{◌≡◌, ◌≢◌, ◌↔◌, ◌⊎◌, ℕ, List, OnOk, IfOk, IfErr, IfSome, Some, None, Ok, take, drop};
+ghost use Rattle.bits.specs.Refusals.{RefusedOnly};
+ghost use Rattle.disk.specs.State.{HasRoomFor, IsOneMore, content};
+ghost use Rattle.disk.specs.Calls.{CountsFailure};
+ghost use Rattle.vault.specs.Views.{LeavesAfter, AllBut, Swaps, IsKept, IsRooted, IsSettled, IsGone, AreApart, LeavesRoom, LeavesNames, LeavesAll, HasFailed, CountsOnce, root_path, next_path};
+ghost use Rattle.vault.specs.Files.{IsWritten, Turned, refusal_for};
+
+use crate::files::{clear, make_firm, place};
+use bits::{R, Refusal};
+use disk::{Disk, Fault};
+use std::alloc::Global;
+
+const ROOT: &str = "_metadata";
+
+const NEXT: &str = "_metadata.new";
+
+/// Files that a stop leaves whole, on a disk.
+///
+/// A path is *kept* where whatever a stop leaves has its bytes; the vault remembers none of these, since each call
+/// leaves what it does not name as it was.
+#[derive(Drop)]
+pub struct Vault<D: Disk> {
+    pub disk: D,
+}
+
+// The refusal for a fault that the rules of the disk leave.
+fn refusal_of(e: Fault) -> Refusal
+    ensures { result ≡ refusal_for e }
+{
+    match e {
+        Fault::Memory => Refusal::Memory,
+        _ => Refusal::Device,
+    }
+}
+
+impl<D: Disk> Vault<D> {
+    /// A vault over a disk. It keeps nothing yet and takes no memory.
+    pub fn start(disk: D) -> Vault<D>
+        ensures { result.disk ≡ disk }
+    {
+        Vault { disk }
+    }
+
+    /// Lends the disk.
+    pub fn disk(&self) -> &D
+        ensures { result.now ≡ self.now.disk }
+    {
+        &self.disk
+    }
+
+    /// Gives the disk back.
+    pub fn into_disk(self) -> D
+        ensures { result ≡ self.disk }
+    {
+        self.disk
+    }
+
+    /// Takes over a file that is firm already: it is the caller's duty that whatever a stop leaves has it with its
+    /// bytes. Nothing is asked of the disk, and no memory is taken.
+    pub fn adopt(&mut self, path: &str) -> R<()>
+        requires file { (path.now ≢ root_path) × (path.now ≢ next_path) }
+        requires firm { (D.state self.old.disk).honest → (bytes : List ℕ) × IsKept (D.state self.old.disk) path.now bytes }
+        ensures done { result ≡ Ok tt }
+        ensures unchanged { self.new.disk ≡ self.old.disk }
+    {
+        let _ = path;
+        Ok(())
+    }
+
+    /// Makes a file of these bytes kept, in the place of what its name stood for: takes the name away, makes the
+    /// folders on the way that are absent, writes and syncs a fresh file, then syncs its folder and those above.
+    ///
+    /// It is the caller's duty that the path is not one of the root's two. What is said of the disk holds where it is
+    /// honest and has room for the file. At every moment each other path has what it had, in each image by itself.
+    /// Refused Device where the disk failed, and Memory; the path is not kept then. Costs one write of the bytes, and
+    /// two calls of the disk for each folder on the way.
+    pub fn put(&mut self, path: &str, bytes: &[u8]) -> R<()>
+        requires { (path.now ≢ root_path) × (path.now ≢ next_path) }
+        ensures moments { (D.state self.old.disk).honest → HasRoomFor (D.state self.old.disk) path.now → LeavesAfter (AllBut path.now) (D.state self.old.disk) (D.state self.new.disk) }
+        ensures kept { (D.state self.old.disk).honest → HasRoomFor (D.state self.old.disk) path.now → OnOk result (IsKept (D.state self.new.disk) path.now bytes.now) }
+        ensures rooted { (D.state self.old.disk).honest → HasRoomFor (D.state self.old.disk) path.now → IsRooted (D.state self.old.disk) → IsRooted (D.state self.new.disk) }
+        ensures room { (D.state self.old.disk).honest → HasRoomFor (D.state self.old.disk) path.now → LeavesRoom path.now (D.state self.old.disk) (D.state self.new.disk) }
+        ensures which { RefusedOnly (λ e. (e ≡ Refusal.Device) × ((D.state self.old.disk).honest → HasRoomFor (D.state self.old.disk) path.now → HasFailed (D.state self.old.disk) (D.state self.new.disk))) result }
+        ensures counts { CountsOnce result (D.state self.old.disk) (D.state self.new.disk) }
+        ensures reads { (D.state self.new.disk).reads ≡ (D.state self.old.disk).reads }
+        ensures honest { (D.state self.old.disk).honest ↔ (D.state self.new.disk).honest }
+    {
+        match place(&mut self.disk, path, bytes) {
+            Ok(()) => Ok(()),
+            Err(e) => Err(refusal_of(e)),
+        }
+    }
+
+    /// Puts another root in the place of the old one: places it as `_metadata.new`, renames that to `_metadata`, and
+    /// syncs the dataset's folder.
+    ///
+    /// At every moment each image has the old root or the new one, whole, and all other paths as they were. After Ok
+    /// each has the new one. Refused Device and Memory before the rename, and each image has the old root then; refused
+    /// InDoubt where the disk failed in the rename or behind it, and each image has either. Device and InDoubt come only
+    /// where the disk failed.
+    pub fn swap_root(&mut self, bytes: &[u8]) -> R<()>
+        ensures moments { (D.state self.old.disk).honest → LeavesAfter (Swaps bytes.now) (D.state self.old.disk) (D.state self.new.disk) }
+        ensures done { (D.state self.old.disk).honest → OnOk result (IsKept (D.state self.new.disk) root_path bytes.now × IsRooted (D.state self.new.disk)) }
+        ensures unchanged { (D.state self.old.disk).honest → IfErr result (λ e. e ≢ Refusal.InDoubt → LeavesAfter (AllBut next_path) (D.state self.old.disk) (D.state self.new.disk)) }
+        ensures rooted { (D.state self.old.disk).honest → IsRooted (D.state self.old.disk) → IsRooted (D.state self.new.disk) }
+        ensures room { (D.state self.old.disk).honest → (q : List ℕ) → AreApart root_path q → AreApart next_path q → HasRoomFor (D.state self.old.disk) q → HasRoomFor (D.state self.new.disk) q }
+        ensures which { RefusedOnly (λ e. ((e ≡ Refusal.Device) ⊎ (e ≡ Refusal.InDoubt)) × ((D.state self.old.disk).honest → HasFailed (D.state self.old.disk) (D.state self.new.disk))) result }
+        ensures counts { CountsOnce result (D.state self.old.disk) (D.state self.new.disk) }
+        ensures reads { (D.state self.new.disk).reads ≡ (D.state self.old.disk).reads }
+        ensures honest { (D.state self.old.disk).honest ↔ (D.state self.new.disk).honest }
+    {
+        if let Err(e) = place(&mut self.disk, NEXT, bytes) {
+            return Err(refusal_of(e));
+        }
+        match turn(&mut self.disk) {
+            Ok(()) => Ok(()),
+            Err(_) => Err(Refusal::InDoubt),
+        }
+    }
+
+    /// Makes the root that is read the root of whatever a stop leaves, by one sync of the dataset's folder: so that an
+    /// opening after a stop can go on from what it reads. Nothing that is read changes. Refused Device where the disk
+    /// failed.
+    pub fn settle(&mut self) -> R<()>
+        ensures unchanged { (D.state self.old.disk).honest → LeavesAll (D.state self.old.disk) (D.state self.new.disk) }
+        ensures firm { (D.state self.old.disk).honest → IsRooted (D.state self.old.disk) → OnOk result (IsSettled (D.state self.new.disk)) }
+        ensures which { RefusedOnly (λ e. (e ≡ Refusal.Device) × ((D.state self.old.disk).honest → HasFailed (D.state self.old.disk) (D.state self.new.disk))) result }
+        ensures counts { CountsOnce result (D.state self.old.disk) (D.state self.new.disk) }
+        ensures reads { (D.state self.new.disk).reads ≡ (D.state self.old.disk).reads }
+        ensures honest { (D.state self.old.disk).honest ↔ (D.state self.new.disk).honest }
+    {
+        match make_firm(&mut self.disk, ROOT) {
+            Ok(()) => Ok(()),
+            Err(e) => Err(refusal_of(e)),
+        }
+    }
+
+    /// Lets a path go: takes its name away. A name that is not there is no fault.
+    ///
+    /// It is the caller's duty that the path is not one of the root's two. No other name changes. After Ok the name is
+    /// gone, as the disk reads; until its folder is synced a stop may still leave it. Refused Device where the disk
+    /// failed, and Memory.
+    pub fn forget(&mut self, path: &str) -> R<()>
+        requires { (path.now ≢ root_path) × (path.now ≢ next_path) }
+        ensures moments { (D.state self.old.disk).honest → LeavesAfter (AllBut path.now) (D.state self.old.disk) (D.state self.new.disk) }
+        ensures gone { (D.state self.old.disk).honest → OnOk result (IsGone (D.state self.new.disk) path.now) }
+        ensures others { (D.state self.old.disk).honest → LeavesNames path.now (D.state self.old.disk) (D.state self.new.disk) }
+        ensures rooted { (D.state self.old.disk).honest → IsRooted (D.state self.old.disk) → IsRooted (D.state self.new.disk) }
+        ensures room { (D.state self.old.disk).honest → LeavesRoom path.now (D.state self.old.disk) (D.state self.new.disk) }
+        ensures which { RefusedOnly (λ e. (e ≡ Refusal.Device) × ((D.state self.old.disk).honest → HasFailed (D.state self.old.disk) (D.state self.new.disk))) result }
+        ensures counts { CountsOnce result (D.state self.old.disk) (D.state self.new.disk) }
+        ensures reads { (D.state self.new.disk).reads ≡ (D.state self.old.disk).reads }
+        ensures honest { (D.state self.old.disk).honest ↔ (D.state self.new.disk).honest }
+    {
+        match clear(&mut self.disk, path) {
+            Ok(()) => Ok(()),
+            Err(e) => Err(refusal_of(e)),
+        }
+    }
+
+    /// The bytes of a file from `from` on, `len` of them or as many as are there, by one `read_range`.
+    ///
+    /// Of a kept path they are a range of its bytes, and it is refused Device only where the disk failed; where no file
+    /// is there it is refused Device too. Refused Memory.
+    pub fn get_range(&mut self, alloc: Global, path: &str, from: u64, len: usize) -> R<Vec<u8>>
+        ensures stands { (D.state self.old.disk).honest → IfOk result (λ read. (bytes : List ℕ) × (content (D.state self.old.disk).seen path.now ≡ Some bytes) × (read.items ≡ take len (drop from bytes))) }
+        ensures kept { (D.state self.old.disk).honest → (bytes : List ℕ) → IsKept (D.state self.old.disk) path.now bytes → IfOk result (λ read. read.items ≡ take len (drop from bytes)) }
+        ensures unchanged { (D.state self.old.disk).honest → LeavesAll (D.state self.old.disk) (D.state self.new.disk) }
+        ensures which { RefusedOnly (λ e. (e ≡ Refusal.Device) × ((D.state self.old.disk).honest → content (D.state self.old.disk).seen path.now ≢ None → HasFailed (D.state self.old.disk) (D.state self.new.disk))) result }
+        ensures counts { CountsOnce result (D.state self.old.disk) (D.state self.new.disk) }
+        ensures reads { IsOneMore (D.state self.old.disk).reads (D.state self.new.disk).reads }
+        ensures honest { (D.state self.old.disk).honest ↔ (D.state self.new.disk).honest }
+    {
+        match self.disk.read_range(alloc, path, from, len) {
+            Ok(bytes) => Ok(bytes),
+            Err(e) => Err(refusal_of(e)),
+        }
+    }
+
+    /// The bytes of `_metadata` as the disk reads them, None where it is not there, by one `read_range`. Refused Device
+    /// where the disk failed, and Memory.
+    pub fn root(&mut self, alloc: Global) -> R<Option<Vec<u8>>>
+        ensures there { (D.state self.old.disk).honest → IfOk result (λ root. IfSome root (λ bytes. content (D.state self.old.disk).seen root_path ≡ Some bytes.items)) }
+        ensures absent { (D.state self.old.disk).honest → result ≡ Ok None → content (D.state self.old.disk).seen root_path ≡ None }
+        ensures unchanged { (D.state self.old.disk).honest → LeavesAll (D.state self.old.disk) (D.state self.new.disk) }
+        ensures which { RefusedOnly (λ e. (e ≡ Refusal.Device) × HasFailed (D.state self.old.disk) (D.state self.new.disk)) result }
+        ensures counts { CountsOnce result (D.state self.old.disk) (D.state self.new.disk) }
+        ensures reads { IsOneMore (D.state self.old.disk).reads (D.state self.new.disk).reads }
+        ensures honest { (D.state self.old.disk).honest ↔ (D.state self.new.disk).honest }
+    {
+        match self.disk.read_range(alloc, ROOT, 0, usize::MAX) {
+            Ok(bytes) => Ok(Some(bytes)),
+            Err(Fault::Absent) => Ok(None),
+            Err(e) => Err(refusal_of(e)),
+        }
+    }
+}
+
+// Renames the next root to the root and syncs the dataset's folder. The rules of the disk leave it no cause but a
+// failure.
+fn turn<D: Disk>(disk: &mut D) -> Result<(), Fault>
+    ensures effect { (D.state disk.old).honest → (root : List ℕ) → IsWritten (D.state disk.old) next_path root → Turned root (D.state disk.old) (D.state disk.new) result }
+    ensures counts { CountsFailure result (D.state disk.old).failures (D.state disk.new).failures }
+    ensures reads { (D.state disk.new).reads ≡ (D.state disk.old).reads }
+    ensures honest { (D.state disk.old).honest ↔ (D.state disk.new).honest }
+{
+    disk.rename(NEXT, ROOT)?;
+    disk.sync_folder("")
+}
