@@ -1,5 +1,7 @@
 -- Which calls fail.
-use Rattle.std.specs.Prelude.{ℕ, zero, suc, ◌%◌}
+use Rattle.std.specs.Prelude.{◌≡◌, ◌≢◌, ℕ, zero, suc, ◌%◌, Result, Err}
+use Rattle.disk.specs.declared.fault.Fault.{Fault}
+use Rattle.disk.specs.declared.fault.Fault.TheVariants.{Failed}
 use Rattle.mem_disk.specs.declared.fuse.Done.{Done}
 use Rattle.mem_disk.specs.declared.fuse.Done.TheVariants.{Nothing, Whole, Part}
 use Rattle.mem_disk.specs.declared.fuse.Fuse.{Fuse}
@@ -24,10 +26,15 @@ trip_of (After (suc left) done) = Passes
 trip_of (Once zero done) = Fails done
 trip_of (Once (suc left) done) = Passes
 
--- what is left after it
+-- what is left of it then
 abbrev pub burnt : Fuse → Fuse
 burnt Never = Never
 burnt (After zero done) = After zero done
 burnt (After (suc left) done) = After left done
 burnt (Once zero done) = Never
 burnt (Once (suc left) done) = Once left done
+
+-- each call burns the fuse, and fails where the fuse says so
+pub record Burns {T : Type 0} (old new : Fuse) (result : Result T Fault) : Type 0 where
+  pub left : new ≡ burnt old
+  pub fails : trip_of old ≢ Passes → result ≡ Err Failed

@@ -1,12 +1,12 @@
 //! What the calls do to what a disk keeps.
 
-ghost use Rattle.std.specs.Prelude.{◌≡◌, ◌≢◌, ◌<◌, ◌⊎◌, ℕ, length, IfErr, IsTrue};
+ghost use Rattle.std.specs.Prelude.{◌≡◌, ◌≢◌, ◌<◌, ◌⊎◌, ℕ, length, IfErr, IsErrOf, IsTrue};
 ghost use Rattle.disk.specs.Paths.{folder_of};
 ghost use Rattle.disk.specs.Calls.{Created, FolderMade, Appended, Synced, FolderSynced, Renamed, Removed};
 ghost use Rattle.disk.specs.declared.fault.Fault.TheVariants.{Absent, Exists, Failed};
 ghost use Rattle.mem_disk.specs.Loose.{empty, replayed};
 ghost use Rattle.mem_disk.specs.States.{state_with, AlsoFailed, FailsToSync};
-ghost use Rattle.disk.specs.declared.binding.Binding.TheVariants.{File};
+ghost use Rattle.disk.specs.declared.binding.Binding.TheVariants.{Folder, File};
 
 use crate::fuse::{Done, Trip};
 use crate::held::Held;
@@ -22,7 +22,9 @@ fn are_beside(source: &str, target: &str) -> bool
 impl Held {
     /// Makes an empty file.
     pub fn create_file(&mut self, trip: Trip, path: &str) -> Result<(), Fault>
-        ensures { (f g r s : ℕ) → AlsoFailed (Created path.now (state_with self.old.calls.items f r) (state_with self.new.calls.items g s)) result }
+        ensures effect { (f g r s : ℕ) → AlsoFailed (Created path.now (state_with self.old.calls.items f r) (state_with self.new.calls.items g s)) result }
+        ensures passes { trip ≡ Trip.Passes → IsErrOf result Failed → ⊥ }
+        ensures nothing { trip ≡ Trip.Fails Done.Nothing → self.new.calls.items ≡ self.old.calls.items }
     {
         if trip == Trip::Fails(Done::Nothing) {
             return Err(Fault::Failed);
@@ -44,7 +46,9 @@ impl Held {
 
     /// Makes a folder.
     pub fn create_folder(&mut self, trip: Trip, path: &str) -> Result<(), Fault>
-        ensures { (f g r s : ℕ) → AlsoFailed (FolderMade path.now (state_with self.old.calls.items f r) (state_with self.new.calls.items g s)) result }
+        ensures effect { (f g r s : ℕ) → AlsoFailed (FolderMade path.now (state_with self.old.calls.items f r) (state_with self.new.calls.items g s)) result }
+        ensures passes { trip ≡ Trip.Passes → IsErrOf result Failed → ⊥ }
+        ensures nothing { trip ≡ Trip.Fails Done.Nothing → self.new.calls.items ≡ self.old.calls.items }
     {
         if trip == Trip::Fails(Done::Nothing) {
             return Err(Fault::Failed);
@@ -65,6 +69,8 @@ impl Held {
     pub fn remove_file(&mut self, trip: Trip, path: &str) -> Result<(), Fault>
         ensures effect { (f g r s : ℕ) → AlsoFailed (Removed path.now (state_with self.old.calls.items f r) (state_with self.new.calls.items g s)) result }
         ensures which { IfErr result (λ e. e ≢ Exists) }
+        ensures nothing { trip ≡ Trip.Fails Done.Nothing → self.new.calls.items ≡ self.old.calls.items }
+        ensures passes { trip ≡ Trip.Passes → IsErrOf result Failed → (replayed empty self.old.calls.items).names path.now ≡ Folder }
     {
         if trip == Trip::Fails(Done::Nothing) {
             return Err(Fault::Failed);
@@ -82,6 +88,7 @@ impl Held {
     pub fn rename_file(&mut self, trip: Trip, source: &str, target: &str) -> Result<(), Fault>
         ensures effect { (f g r s : ℕ) → AlsoFailed (Renamed source.now target.now (state_with self.old.calls.items f r) (state_with self.new.calls.items g s)) result }
         ensures which { IfErr result (λ e. (e ≡ Absent) ⊎ (e ≡ Failed)) }
+        ensures nothing { trip ≡ Trip.Fails Done.Nothing → self.new.calls.items ≡ self.old.calls.items }
     {
         if trip == Trip::Fails(Done::Nothing) {
             return Err(Fault::Failed);
@@ -113,6 +120,8 @@ impl Held {
     pub fn append_file(&mut self, trip: Trip, path: &str, bytes: &[u8]) -> Result<(), Fault>
         ensures effect { (f g r s : ℕ) → AlsoFailed (Appended path.now bytes.now (state_with self.old.calls.items f r) (state_with self.new.calls.items g s)) result }
         ensures which { IfErr result (λ e. e ≢ Exists) }
+        ensures passes { trip ≡ Trip.Passes → IsErrOf result Failed → ⊥ }
+        ensures nothing { trip ≡ Trip.Fails Done.Nothing → self.new.calls.items ≡ self.old.calls.items }
     {
         if trip == Trip::Fails(Done::Nothing) {
             return Err(Fault::Failed);
@@ -141,6 +150,7 @@ impl Held {
     pub fn sync_file(&mut self, trip: Trip, path: &str) -> Result<(), Fault>
         ensures effect { (f g r s : ℕ) → AlsoFailed (Synced path.now (state_with self.old.calls.items f r) (state_with self.new.calls.items g s)) result }
         ensures which { IfErr result (λ e. e ≢ Exists) }
+        ensures passes { trip ≡ Trip.Passes → IsErrOf result Failed → ⊥ }
     {
         let Binding::File(node) = self.binding(path) else {
             return Err(Fault::Absent)
@@ -176,6 +186,7 @@ impl Held {
     pub fn sync_names(&mut self, trip: Trip, folder: &str) -> Result<(), Fault>
         ensures effect { (f g r s : ℕ) → AlsoFailed (FolderSynced folder.now (state_with self.old.calls.items f r) (state_with self.new.calls.items g s)) result }
         ensures which { IfErr result (λ e. (e ≡ Absent) ⊎ (e ≡ Failed)) }
+        ensures nothing { trip ≡ Trip.Fails Done.Nothing → self.new.calls.items ≡ self.old.calls.items }
     {
         if trip == Trip::Fails(Done::Nothing) {
             return Err(Fault::Failed);

@@ -1,6 +1,6 @@
 //! What a stop leaves.
 
-ghost use Rattle.std.specs.Prelude.{◌≡◌, IfOk};
+ghost use Rattle.std.specs.Prelude.{◌≡◌, ◌⊎◌, IfOk, IfErr};
 ghost use Rattle.disk.specs.State.{may_leave, IsAtRest};
 ghost use Rattle.mem_disk.specs.Disks.{state_of};
 ghost use Rattle.mem_disk.specs.declared.fuse.Fuse.TheVariants as plan;
@@ -140,8 +140,10 @@ fn left_of(held: &Held, picks: &mut Picks<'_>) -> Result<Held, AllocError> {
         put_name(&mut left, &name.path, *to)?;
     }
     left.sync_folder("")?;
-    for name in &held.names {
-        left.sync_folder(&name.path)?;
+    for (name, to) in held.names.iter().zip(&bindings) {
+        if let Binding::Folder = to {
+            left.sync_folder(&name.path)?;
+        }
     }
     Ok(left)
 }
@@ -158,6 +160,7 @@ impl MemDisk {
     /// not ruled out by proof.
     pub fn crash(&self, picks: &[u64]) -> Result<MemDisk, Fault>
         ensures image { IfOk result (λ disk. may_leave (state_of self.now) (state_of disk).seen) }
+        ensures which { IfErr result (λ e. (e ≡ Fault.Memory) ⊎ (e ≡ Fault.Failed)) }
         ensures rest { IfOk result (λ disk. IsAtRest (state_of disk)) }
         ensures failures { IfOk result (λ disk. disk.failures ≡ 0) }
         ensures reads { IfOk result (λ disk. disk.reads ≡ 0) }

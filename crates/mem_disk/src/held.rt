@@ -102,7 +102,7 @@ impl Held {
     {
         self.calls.push(Call::Sync(node))?;
         let at = &mut self.nodes[node];
-        at.synced = at.bytes.len();
+        at.sync();
         Ok(())
     }
 

@@ -4,9 +4,9 @@ ghost use Rattle.std.specs.Prelude.{◌≡◌, ℕ, [], true, false, length, str
 ghost use Rattle.disk.specs.Paths.{folder_of};
 ghost use Rattle.disk.specs.declared.binding.Binding.TheVariants.{Folder};
 ghost use Rattle.mem_disk.specs.Tables.{Among, had_in, of_node};
-ghost use Rattle.mem_disk.specs.Loose.{empty, replayed, MayName, MayHold, MayLeave, image_of};
+ghost use Rattle.mem_disk.specs.Loose.{empty, replayed, MayName, MayHold};
 ghost use Rattle.mem_disk.specs.States.{state_with};
-ghost use Rattle.disk.specs.State.{IsAtRest};
+ghost use Rattle.disk.specs.State.{may_leave, IsAtRest};
 ghost use Rattle.mem_disk.specs.Images.{IsFit, AreFit, IsRestingName, IsRestingNode, AreHeld};
 
 use crate::held::Held;
@@ -65,7 +65,7 @@ fn nodes_rest(nodes: &[Node]) -> bool
 
 // Whether a stop may leave these bytes to a node.
 fn may_hold(node: &Node, bytes: &[u8]) -> bool
-    ensures { result ≡ true → MayHold node.now.synced node.now.bytes.items bytes.now }
+    ensures holds { result ≡ true → MayHold node.now.synced node.now.bytes.items bytes.now }
 {
     let whole = node.bytes.as_slice();
     if bytes.len() < node.synced || bytes.len() > whole.len() {
@@ -131,7 +131,7 @@ impl Held {
 
     /// Whether nothing is loose.
     pub fn is_resting(&self) -> bool
-        ensures { result ≡ true → IsAtRest (state_with self.now.calls.items 0 0) }
+        ensures rest { result ≡ true → IsAtRest (state_with self.now.calls.items 0 0) }
     {
         if !names_rest(&self.names) {
             return false;
@@ -141,7 +141,7 @@ impl Held {
 
     /// Whether a stop may leave this of what another disk keeps.
     pub fn may_be_left_of(&self, old: &Held) -> bool
-        ensures { result ≡ true → MayLeave (replayed empty old.now.calls.items) (image_of (replayed empty self.now.calls.items)) }
+        ensures image { result ≡ true → (f r g s : ℕ) → may_leave (state_with old.now.calls.items f r) (state_with self.now.calls.items g s).seen }
     {
         if !self.names_fit(old, &old.names) {
             return false;

@@ -1,4 +1,18 @@
-//! A disk in memory.
+//! A disk in memory that keeps the model of the trait `Disk`, and whose stops and failures can be chosen: what the
+//! crates above are tested on.
+//!
+//! [`MemDisk::new`] is the empty folder. [`MemDisk::fuse`] and [`MemDisk::fail_once`] say which calls fail and what a
+//! failed call has done, and [`MemDisk::crash`] gives a disk with what a stop may leave, by a list of words.
+//!
+//! The record of its calls is the disk: `specs/Loose.antt` says what a record leaves loose (`replayed`) and what a stop
+//! may leave of that (`MayLeave`), and `specs/States.antt` makes of it the state that the trait's contract speaks of,
+//! one moment for each call of the record (`state_with`; of a `MemDisk`: `state_of` in `specs/Disks.antt`). Lists of
+//! names and nodes beside the record answer reads without a replay, and a ghost field ties them to it (`Keeps`).
+//! `specs/Fuses.antt` says which calls fail (`Burns`).
+//!
+//! A call takes time that grows with the number of names that ever came up, and not with the length of the record;
+//! `crash` takes time that grows with the square of that number, and with the bytes of all files. The record is never
+//! cut: each byte that is appended is kept twice.
 #![tactic(auto)]
 
 mod acts;
@@ -52,9 +66,11 @@ impl MemDisk {
         }
     }
 
-    /// From now on `k` calls pass, and all later ones fail. The pick, modulo 3, says what a failed call has done: 0
-    /// nothing, 1 the whole, 2 a part (of an append the first half, rounded down to whole bytes, of a rename the
-    /// target's name alone, of any other call the whole).
+    /// From now on `k` calls pass, and all later ones fail. Each call of the disk counts, those that read too, but for
+    /// `failures` and `reads`; what was set before is forgotten. A call that fails answers Failed, whatever it would
+    /// have answered. The pick, modulo 3, says what a failed call has done: 0 nothing, 1 the whole, 2 a part (of an
+    /// append the first half, rounded down to whole bytes, of a rename the target's name alone, of any other call the
+    /// whole).
     pub fn fuse(&mut self, k: u64, pick: u64)
         ensures fuse { self.new.fuse ≡ plan.After k (Fuses.done_of pick) }
         ensures calls { self.new.held.calls.items ≡ self.old.held.calls.items }
@@ -75,5 +91,9 @@ impl MemDisk {
     }
 }
 
+#[cfg(test)]
+mod runs;
+#[cfg(test)]
+mod stops;
 #[cfg(test)]
 mod tests;

@@ -32,8 +32,11 @@ impl Name {
 
     // Its folder was synced, if it lies in this one.
     pub fn settle(&mut self, folder: &str)
-        ensures { Settled folder.now self.old self.new }
+        ensures settled { Settled folder.now self.old self.new }
     {
+        if self.had.is_empty() {
+            return;
+        }
         if disk::folder_of(&self.path) == folder {
             self.had.clear();
         }

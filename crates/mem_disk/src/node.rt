@@ -1,6 +1,6 @@
 //! Nodes.
 
-ghost use Rattle.std.specs.Prelude.{◌≡◌, [], false};
+ghost use Rattle.std.specs.Prelude.{◌≡◌, [], length, false};
 
 use std::alloc::Global;
 
@@ -25,5 +25,14 @@ impl Node {
             synced: 0,
             doubted: false,
         }
+    }
+
+    // Its bytes are firm.
+    pub fn sync(&mut self)
+        ensures bytes { self.new.bytes ≡ self.old.bytes }
+        ensures synced { self.new.synced ≡ length self.old.bytes.items }
+        ensures doubted { self.new.doubted ≡ self.old.doubted }
+    {
+        self.synced = self.bytes.len();
     }
 }

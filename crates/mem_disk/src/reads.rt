@@ -1,8 +1,8 @@
 //! What is read of what a disk keeps.
 
-ghost use Rattle.std.specs.Prelude.{◌≡◌, ◌≢◌, ◌<◌, ℕ, length, take, drop, IfErr, IfOk};
+ghost use Rattle.std.specs.Prelude.{◌≡◌, ◌<◌, ◌⊎◌, ℕ, length, take, drop, IfErr, IfOk};
 ghost use Rattle.disk.specs.Calls.{RangeRead, Measured};
-ghost use Rattle.disk.specs.declared.fault.Fault.TheVariants.{Exists};
+ghost use Rattle.disk.specs.declared.fault.Fault.TheVariants.{Absent, Memory};
 ghost use Rattle.mem_disk.specs.Loose.{empty, replayed};
 ghost use Rattle.mem_disk.specs.States.{state_with, AlsoFailed};
 
@@ -40,7 +40,7 @@ impl Held {
         len: usize,
     ) -> Result<Vec<u8>, Fault>
         ensures effect { (f g r s : ℕ) → AlsoFailed (RangeRead (λ bytes. bytes.items) path.now from len (state_with self.now.calls.items f r) (state_with self.now.calls.items g s)) result }
-        ensures which { IfErr result (λ e. e ≢ Exists) }
+        ensures which { IfErr result (λ e. (e ≡ Absent) ⊎ (e ≡ Memory)) }
     {
         let Binding::File(node) = self.binding(path) else {
             return Err(Fault::Absent)
@@ -53,7 +53,7 @@ impl Held {
     /// How many bytes a file has.
     pub fn measure_file(&self, path: &str) -> Result<u64, Fault>
         ensures effect { (f g r s : ℕ) → AlsoFailed (Measured path.now (state_with self.now.calls.items f r) (state_with self.now.calls.items g s)) result }
-        ensures which { IfErr result (λ e. e ≢ Exists) }
+        ensures which { IfErr result (λ e. e ≡ Absent) }
     {
         let Binding::File(node) = self.binding(path) else {
             return Err(Fault::Absent)

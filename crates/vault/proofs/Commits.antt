@@ -117,3 +117,6 @@ module _ (before after : Table) (one a two b three d gone lost : List ℕ)
               (λ m c lo hi at. inr (shows_on after gone s4 s5 gone_off (λ part is. (next.spared part is).0) forget_gone tells_swap m c lo hi at)))
               forget_lost
               (λ m c lo hi at. inr (shows_on after lost s5 s6 lost_off (λ part is. (next.spared part is).1) forget_lost tells_gone m c lo hi at))
+
+          pub tells_all : Tells s6 after
+          tells_all = tells_on after lost s5 s6 lost_off (λ part is. (next.spared part is).1) forget_lost tells_gone

@@ -1,14 +1,15 @@
 //! A commit as the store makes it, told from the vault's public clauses alone.
 
-ghost use Rattle.std.specs.Prelude.{◌≡◌, ◌≢◌, ℕ, List};
+ghost use Rattle.std.specs.Prelude.{◌≡◌, ◌≢◌, ℕ, List, OnOk};
 ghost use Rattle.vault.specs.Views.{root_path, next_path};
-ghost use Rattle.vault.specs.Tables.{Part, Table, IsReady, IsNext, LeavesEither};
+ghost use Rattle.vault.specs.Tables.{Part, Table, IsReady, IsNext, LeavesEither, Tells};
 
 use crate::Vault;
 use bits::R;
 use disk::Disk;
 
-/// Three puts, one swap, two forgets.
+/// Three puts, one swap, two forgets. At each moment whatever a stop leaves shows the table before or the one after; behind
+/// Ok it shows the one after.
 pub(crate) fn commit<D: Disk>(
     vault: &mut Vault<D>,
     one: &str,
@@ -29,6 +30,9 @@ pub(crate) fn commit<D: Disk>(
     ensures moments { (D.state vault.old.disk).honest → (before after : Table) → IsReady (D.state vault.old.disk) before one.now two.now three.now → after.root ≡ root.now
         → IsNext before after (record { path = one.now; bytes = a.now }) (record { path = two.now; bytes = b.now }) (record { path = three.now; bytes = c.now }) gone.now lost.now
         → LeavesEither before after (D.state vault.old.disk) (D.state vault.new.disk) }
+    ensures done { (D.state vault.old.disk).honest → (before after : Table) → IsReady (D.state vault.old.disk) before one.now two.now three.now → after.root ≡ root.now
+        → IsNext before after (record { path = one.now; bytes = a.now }) (record { path = two.now; bytes = b.now }) (record { path = three.now; bytes = c.now }) gone.now lost.now
+        → OnOk result (Tells (D.state vault.new.disk) after) }
 {
     vault.put(one, a)?;
     vault.put(two, b)?;

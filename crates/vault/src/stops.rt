@@ -169,6 +169,10 @@ fn a_commit_under_every_stop_leaves_the_old_table_or_the_new_one(
                     );
                 } else {
                     assert!(rt;
+                        matches!(answer, Ok(()) | Err(Refusal::InDoubt)),
+                        "{pick} {k} {list}"
+                    );
+                    assert!(rt;
                         has(&mut image, rt.alloc(), "part.1.parquet", b"one"),
                         "{pick} {k} {list}"
                     );

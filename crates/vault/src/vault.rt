@@ -1,9 +1,9 @@
 //! The root, and the files that are kept beside it.
 
-ghost use Rattle.std.specs.Prelude.{◌≡◌, ◌≢◌, ◌↔◌, ◌⊎◌, ℕ, List, OnOk, IfOk, IfErr, IfSome, Some, None, Ok, take, drop};
+ghost use Rattle.std.specs.Prelude.{◌≡◌, ◌≢◌, ◌↔◌, ◌⊎◌, ◌^◌, ◌-◌, ℕ, List, OnOk, IfOk, IfErr, IfSome, Some, None, Ok, take, drop};
 ghost use Rattle.bits.specs.Refusals.{RefusedOnly};
 ghost use Rattle.disk.specs.State.{HasRoomFor, IsOneMore, content};
-ghost use Rattle.disk.specs.Calls.{CountsFailure};
+ghost use Rattle.disk.specs.Calls.{CountsFailure, RangeRead};
 ghost use Rattle.vault.specs.Views.{LeavesAfter, AllBut, Swaps, IsKept, IsRooted, IsSettled, IsGone, AreApart, LeavesRoom, LeavesNames, LeavesAll, HasFailed, CountsOnce, root_path, next_path};
 ghost use Rattle.vault.specs.Files.{IsWritten, Turned, refusal_for};
 
@@ -121,12 +121,12 @@ impl<D: Disk> Vault<D> {
     }
 
     /// Makes the root that is read the root of whatever a stop leaves, by one sync of the dataset's folder: so that an
-    /// opening after a stop can go on from what it reads. Nothing that is read changes. Refused Device where the disk
-    /// failed.
+    /// opening after a stop can go on from what it reads. Nothing that is read changes. Refused Device alone, where the
+    /// disk failed.
     pub fn settle(&mut self) -> R<()>
         ensures unchanged { (D.state self.old.disk).honest → LeavesAll (D.state self.old.disk) (D.state self.new.disk) }
         ensures firm { (D.state self.old.disk).honest → IsRooted (D.state self.old.disk) → OnOk result (IsSettled (D.state self.new.disk)) }
-        ensures which { RefusedOnly (λ e. (e ≡ Refusal.Device) × ((D.state self.old.disk).honest → HasFailed (D.state self.old.disk) (D.state self.new.disk))) result }
+        ensures which { IfErr result (λ e. (e ≡ Refusal.Device) × ((D.state self.old.disk).honest → HasFailed (D.state self.old.disk) (D.state self.new.disk))) }
         ensures counts { CountsOnce result (D.state self.old.disk) (D.state self.new.disk) }
         ensures reads { (D.state self.new.disk).reads ≡ (D.state self.old.disk).reads }
         ensures honest { (D.state self.old.disk).honest ↔ (D.state self.new.disk).honest }
@@ -190,12 +190,23 @@ impl<D: Disk> Vault<D> {
         ensures reads { IsOneMore (D.state self.old.disk).reads (D.state self.new.disk).reads }
         ensures honest { (D.state self.old.disk).honest ↔ (D.state self.new.disk).honest }
     {
-        match self.disk.read_range(alloc, ROOT, 0, usize::MAX) {
+        match read_whole(&mut self.disk, alloc, ROOT) {
             Ok(bytes) => Ok(Some(bytes)),
             Err(Fault::Absent) => Ok(None),
             Err(e) => Err(refusal_of(e)),
         }
     }
+}
+
+// The bytes of a whole file, by one `read_range`.
+fn read_whole<D: Disk>(disk: &mut D, alloc: Global, path: &str) -> Result<Vec<u8>, Fault>
+    ensures effect { (D.state disk.old).honest → RangeRead (λ bytes. bytes.items) path.now 0 (2 ^ 64 - 1) (D.state disk.old) (D.state disk.new) result }
+    ensures which { IfErr result (λ e. e ≢ Fault.Exists) }
+    ensures counts { CountsFailure result (D.state disk.old).failures (D.state disk.new).failures }
+    ensures reads { IsOneMore (D.state disk.old).reads (D.state disk.new).reads }
+    ensures honest { (D.state disk.old).honest ↔ (D.state disk.new).honest }
+{
+    disk.read_range(alloc, path, 0, usize::MAX)
 }
 
 // Renames the next root to the root and syncs the dataset's folder. The rules of the disk leave it no cause but a

@@ -9,7 +9,7 @@ pub loop-name-preserved : goal.loop-name-preserved
 loop-name-preserved c =
     let within : c.loop-name.name-index < length c.loop-name.name-items = let lt = c.loop-name-test.true in let long = c.loop-name.auto.name-items in omega (arith, lt, long) in
     subst (λ (k : ℕ). SettledTo c.args.folder.now k c.args.names.now.items (set c.loop-name.name-items c.loop-name.name-index c.settle.new.self)) (sym (add-one c.loop-name.name-index))
-    (settled_more c.args.folder.now c.loop-name.name-index c.args.names.now.items c.loop-name.name-items c.name-item.result c.settle.new.self within c.loop-name.invariant c.settle.ensures)
+    (settled_more c.args.folder.now c.loop-name.name-index c.args.names.now.items c.loop-name.name-items c.name-item.result c.settle.new.self within c.loop-name.invariant c.settle.ensures.settled)
 
 pub returns-clause-settles : goal.returns-clause-settles
 returns-clause-settles c =

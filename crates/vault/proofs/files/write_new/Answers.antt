@@ -32,9 +32,9 @@ returns-clause-effect g c honest gone housed =
     let s0 = g.D.Disk.state c.args.disk.now in
     let s1 = g.D.Disk.state c.create.new.self in
     let s2 = g.D.Disk.state c.append.new.self in
-    let s3 = g.D.Disk.state c.sync.new.self in
+    let s3 = g.D.Disk.state c.sync_once.new.disk in
     let h1 = c.create.ensures.honest.0 honest in
     let h2 = c.append.ensures.honest.0 h1 in
     let made = c.in_ok-create.ensures.effect honest in
     written_file path c.args.bytes.now s0 s1 (Ok c.in_ok-create.field-0) c.requires (g.met.D.Disk.lawful c.args.disk.now) honest gone housed made s2 c.append.result (g.met.D.Disk.lawful c.create.new.self) h1 made.done
-    (c.append.ensures.effect h1) s3 c.sync.result c.in_ok-append.was c.sync.ensures.which (c.sync.ensures.effect h2)
+    (c.append.ensures.effect h1) s3 c.sync_once.result c.in_ok-append.was c.sync_once.ensures.which (c.sync_once.ensures.effect h2)

@@ -17,43 +17,43 @@ exists_absent e = cc
 absent_exists : Absent ≡ Exists → ⊥
 absent_exists e = cc
 
-pub returns-then-eq : goal.returns-then-eq
-returns-then-eq c f g r s =
+pub returns-then-eq-clause-effect : goal.returns-then-eq-clause-effect
+returns-then-eq-clause-effect c f g r s =
     let x = created_stays _ _ f g r s refl (Err Failed) Failed refl _ c.args.self.now.kept.sound c.args.path.now (λ e. absurd (not_exists e)) (λ e. absurd (not_absent e)) in
     (x, x)
 
-pub returns-in_default : goal.returns-in_default
-returns-in_default c f g r s =
+pub returns-in_default-clause-effect : goal.returns-in_default-clause-effect
+returns-in_default-clause-effect c f g r s =
     let sound = c.args.self.now.kept.sound in (
       created_stays _ _ f g r s refl (Err Exists) Exists refl _ sound c.args.path.now (λ _ none. c.in_default.not-Nothing (c.binding.ensures ∙ none)) (λ e. absurd (exists_absent e)),
       created_stays _ _ f g r s refl (Err Failed) Failed refl _ sound c.args.path.now (λ e. absurd (not_exists e)) (λ e. absurd (not_absent e)),
     )
 
-pub returns-in_default-binding : goal.returns-in_default-binding
-returns-in_default-binding c f g r s =
+pub returns-in_default-binding-clause-effect : goal.returns-in_default-binding-clause-effect
+returns-in_default-binding-clause-effect c f g r s =
     let sound = c.args.self.now.kept.sound in (
       created_stays _ _ f g r s refl (Err Absent) Absent refl _ sound c.args.path.now (λ e. absurd (absent_exists e)) (λ _ there. c.in_default-binding.not-Folder (c.binding-2.ensures ∙ ap (λ (p : List ℕ). (replayed empty c.args.self.now.calls.items).names p) c.folder_of.ensures.value ∙ there)),
       created_stays _ _ f g r s refl (Err Failed) Failed refl _ sound c.args.path.now (λ e. absurd (not_exists e)) (λ e. absurd (not_absent e)),
     )
 
-pub returns-in_default-add_node : goal.returns-in_default-add_node
-returns-in_default-add_node c f g r s =
+pub returns-in_default-add_node-clause-effect : goal.returns-in_default-add_node-clause-effect
+returns-in_default-add_node-clause-effect c f g r s =
     let sound = c.args.self.now.kept.sound in
     let same = c.add_node.ensures.calls in (
       created_stays _ _ f g r s same (Err Memory) Memory refl _ sound c.args.path.now (λ e. absurd (memory_exists e)) (λ e. absurd (memory_absent e)),
       created_stays _ _ f g r s same (Err Failed) Failed refl _ sound c.args.path.now (λ e. absurd (not_exists e)) (λ e. absurd (not_absent e)),
     )
 
-pub returns-then-is_err : goal.returns-then-is_err
-returns-then-is_err c f g r s =
+pub returns-then-is_err-clause-effect : goal.returns-then-is_err-clause-effect
+returns-then-is_err-clause-effect c f g r s =
     let sound = c.args.self.now.kept.sound in
     let same = err_of c.bind.result (sym c.is_err.ensures.value ∙ c.if-is_err.true) c.bind.ensures.err ∙ c.add_node.ensures.calls in (
       created_stays _ _ f g r s same (Err Memory) Memory refl _ sound c.args.path.now (λ e. absurd (memory_exists e)) (λ e. absurd (memory_absent e)),
       created_stays _ _ f g r s same (Err Failed) Failed refl _ sound c.args.path.now (λ e. absurd (not_exists e)) (λ e. absurd (not_absent e)),
     )
 
-pub returns : goal.returns
-returns c f g r s =
+pub returns-clause-effect : goal.returns-clause-effect
+returns-clause-effect c f g r s =
     let self = c.args.self.now in
     let path = c.args.path.now in
     let node = c.in-Ok.node in

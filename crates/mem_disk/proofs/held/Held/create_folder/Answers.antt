@@ -4,8 +4,8 @@ use Rattle.disk.specs.declared.fault.Fault.TheVariants.{Failed}
 use Rattle.mem_disk.proofs.Effects.{folder_made_bound}
 use Rattle.mem_disk.proofs.held.Held.create_folder.Goals as goal
 
-pub returns : goal.returns
-returns c f g r s =
+pub returns-clause-effect : goal.returns-clause-effect
+returns-clause-effect c f g r s =
     let sound = c.args.self.now.kept.sound in
     let goes = c.in_ok-bind.ensures.ok in
     let gone = sym c.in-Nothing.ensures in

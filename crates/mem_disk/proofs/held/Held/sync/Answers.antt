@@ -1,4 +1,4 @@
-use Rattle.std.proofs.Common.{◌≡◌, rules, refl, ap, ◌∙◌, length}
+use Rattle.std.proofs.Common.{◌∙◌, refl, ap, length}
 use Rattle.mem_disk.specs.declared.node.Node.{Node}
 use Rattle.mem_disk.specs.declared.call.Call.TheVariants.{Sync}
 use Rattle.mem_disk.proofs.Keeping.{keeps_synced}
@@ -8,14 +8,12 @@ pub invariant_of-self-2 : goal.invariant_of-self-2
 invariant_of-self-2 c =
     let self = c.args.self.now in
     let was = c.index_mut-at.result.now in
-    let v : Node = record { bytes = was.bytes; synced = c.len-at.result; doubted = was.doubted } in
     let same = c.index_mut-at.ensures.value in
-    let long : c.len-at.result ≡ length was.bytes.items = search rules in
     record {
-      kept = keeps_synced self.names.items self.nodes.items self.calls.items self.kept c.args.node v was c.requires c.push.new.self.items (Sync c.args.node)
+      kept = keeps_synced self.names.items self.nodes.items self.calls.items self.kept c.args.node c.sync.new.self was c.requires c.push.new.self.items (Sync c.args.node)
           c.in_ok-push.ensures.items refl
-          (ap (λ (x : Node). x.bytes.items) same)
-          (long ∙ ap (λ (x : Node). length x.bytes.items) same)
-          (ap (λ (x : Node). x.doubted) same);
+          (ap (λ x. x.items) c.sync.ensures.bytes ∙ ap (λ (x : Node). x.bytes.items) same)
+          (c.sync.ensures.synced ∙ ap (λ (x : Node). length x.bytes.items) same)
+          (c.sync.ensures.doubted ∙ ap (λ (x : Node). x.doubted) same);
       apart = self.apart;
     }

@@ -7,4 +7,4 @@ pub returns-clause-effect : goal.returns-clause-effect
 returns-clause-effect c _ =
     let self = c.args.self.now in
     either_way (λ answer. Created c.args.path.now (state_with self.held.calls.items self.failures self.reads) (state_with c.create_file-done.new.self.calls.items c.answer.new.failures c.args.self.now.reads) answer) c.create_file-done.result c.answer.result
-    (c.create_file-done.ensures self.failures c.answer.new.failures self.reads c.args.self.now.reads) c.answer.ensures.answer
+    (c.create_file-done.ensures.effect self.failures c.answer.new.failures self.reads c.args.self.now.reads) c.answer.ensures.answer

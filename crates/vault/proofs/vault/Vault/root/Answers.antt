@@ -10,7 +10,7 @@ returns-in-Ok-clause-there g c honest =
     read.1 ∙ ap (λ (l : List ℕ). Some l) (sym all)
 
 pub returns-in-Ok-clause-unchanged : goal.returns-in-Ok-clause-unchanged
-returns-in-Ok-clause-unchanged g c honest = reads_only _ _ (c.read_range.ensures.effect honest).still
+returns-in-Ok-clause-unchanged g c honest = reads_only _ _ (c.read_whole.ensures.effect honest).still
 
 pub returns-in-Err-clause-unchanged : goal.returns-in-Err-clause-unchanged
-returns-in-Err-clause-unchanged g c honest = reads_only _ _ (c.read_range.ensures.effect honest).still
+returns-in-Err-clause-unchanged g c honest = reads_only _ _ (c.read_whole.ensures.effect honest).still

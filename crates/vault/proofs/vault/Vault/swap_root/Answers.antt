@@ -1,4 +1,4 @@
-use Rattle.std.proofs.Common.{inr, refl, ◌≡◌}
+use Rattle.std.proofs.Common.{rules, ◌≡◌}
 use Rattle.disk.specs.declared.fault.Fault.TheVariants.{Failed}
 use Rattle.vault.specs.Views.{AllBut, Swaps, next_path}
 use Rattle.vault.proofs.Moments.{widens}
@@ -55,7 +55,7 @@ returns-in-Err-turn-clause-room g c honest =
 
 pub returns-in-Err-turn-clause-which : goal.returns-in-Err-turn-clause-which
 returns-in-Err-turn-clause-which g c = (
-  inr refl,
+  search rules,
   (λ honest.
       let placed = c.in_default.ensures.effect honest (next_clear (g.D.Disk.state c.args.self.now.disk)) in
       let h1 = c.place.ensures.honest.0 honest in
