@@ -20,12 +20,16 @@ fn a_text_and_the_empty_one(rt: HostRuntime) -> Result<(), Fail> {
     assert!(rt; is_bytes(&values[0], b"a") && is_bytes(&values[1], b""));
     let cut = decode(rt.alloc(), Kind::ByteArray, &TEXTS[..8], 2);
     assert!(rt; matches!(cut, Err(Refusal::Truncated)));
+    // A count that is not true asks for no more room than the bytes hold.
+    let few = decode(rt.alloc(), Kind::ByteArray, &TEXTS, usize::MAX);
+    assert!(rt; matches!(few, Err(Refusal::Truncated)));
     let mut out = Vec::from_slice(rt.alloc(), &[7])?;
     encode(Kind::ByteArray, &values, &mut out)?;
     assert_eq!(rt; out.as_slice(), [7, 1, 0, 0, 0, 97, 0, 0, 0, 0].as_slice());
     Ok(())
 }
 
+// This test and the last one pass with `rt try --test --fail-alloc 1` all the same: they ask for no room.
 #[test]
 fn a_length_of_four_full_bytes_is_over_the_limit(rt: HostRuntime) {
     for n in [1, usize::MAX] {

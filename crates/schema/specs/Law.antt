@@ -6,6 +6,7 @@ use Rattle.thrift_compact.specs.Tree.{Fields as Struct, fields_nest}
 use Rattle.schema.specs.declared.value.Kind.{Kind}
 use Rattle.schema.specs.declared.value.Kind.TheVariants.{FixedLenByteArray}
 use Rattle.schema.specs.Annotations.{LeafType, Annotation, plain, known, other_converted, other_logical, annotation_of, converted_number, logical_struct, is_half}
+use Rattle.schema.specs.Writable.{can_write_fields}
 use Rattle.schema.specs.Values.{ValueTrees}
 use Rattle.schema.specs.Shape.{Field, leaf, fields, Fields, no_fields, field, name_of}
 use Rattle.schema.specs.Fits.{fits_leaf, RowsFit}
@@ -33,9 +34,10 @@ pub record IsGroupOf (fs : Fields) : Type 0 where
   pub text : AllByRecursion (λ n. IsTrue (is_utf8 n)) (names fs)
 
 -- The struct of a logicalType can stand in a footer: there it is three levels down, and a struct nests at most 32 deep.
--- What else is asked of it, that some bytes have it, is a further field of this record.
+-- It can be written there.
 pub record IsWritable (s : Struct) : Type 0 where
   pub shallow : fields_nest s ≤ 29
+  pub spelled : IsTrue (can_write_fields 29 s)
 
 -- a struct that is kept can be written again, and is not FLOAT16's
 abbrev pub KeepsWritable : Annotation → Type 0

@@ -7,3 +7,13 @@ pub mod Law
 pub mod Orders
 pub mod Views
 pub mod Worked
+pub mod Elements
+pub mod Writable
+pub mod Listing
+pub mod Faults
+pub mod Reading
+pub mod Code
+pub mod Leafing
+pub mod Listed
+pub mod Cutting
+pub mod Spelled

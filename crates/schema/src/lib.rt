@@ -6,16 +6,26 @@
 #![tactic(auto)]
 
 mod annotation;
+mod building;
+mod cutting;
+mod cutting_laws;
 mod element;
 mod field;
 mod fits;
 mod key;
 mod laws;
+mod leaves;
+mod listing;
+mod listing_laws;
 mod order;
+mod reading;
 mod row;
+mod schema;
 mod value;
+mod writing;
 
 pub use annotation::{Annotation, ConvertedType, GroupAnnotation, LeafType};
+pub use cutting_laws::{a_cut_has_the_wanted_leaves, cut_rows_are_of_wanted_leaves};
 pub use element::Element;
 pub use field::{Field, Leaf, Step};
 pub use fits::fits_row;
@@ -24,9 +34,13 @@ pub use laws::{
     annotations_are_kept, at_most_laws, columns_determine_rows, entries_are_of_leaves,
     levels_are_of_steps, orders_are_total, unsigned_order_is_of_bits, worked_examples,
 };
+pub use listing_laws::{a_list_means_one_schema, structs_with_bytes_are_writable};
 pub use order::{Order, compare, compare_by};
 pub use row::{Column, Entry, Row};
+pub use schema::Schema;
 pub use value::{Kind, Repetition, Value, copied_values, same};
 
+#[cfg(test)]
+mod schema_tests;
 #[cfg(test)]
 mod tests;

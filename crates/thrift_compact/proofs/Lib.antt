@@ -12,3 +12,4 @@ pub mod Sizes
 pub mod Spelled
 pub mod Steps
 pub mod Writes
+pub mod Again

@@ -71,8 +71,9 @@ fn copied_pairs(alloc: Global, pairs: &[(Node, Node)]) -> R<Vec<(Node, Node)>>
     Ok(copies)
 }
 
+/// Other fields that are the same. Refused Memory alone.
 #[cycle(copied)]
-fn copied_fields(alloc: Global, fields: &[Field]) -> R<Vec<Field>>
+pub fn copied_fields(alloc: Global, fields: &[Field]) -> R<Vec<Field>>
     ensures same { IfOk result (λ copies. map field_view copies.items ≡ map field_view fields.now) }
     ensures which { RefusedOnly (λ _. ⊥) result }
 {

@@ -1,9 +1,21 @@
 //! What holds of the definitions.
 
-ghost use Rattle.bits.specs.Codec.{IsFunctional};
+ghost use Rattle.std.specs.Prelude.{◌≡◌, ℕ, List, ◌++◌, length, drop};
+ghost use Rattle.bits.specs.Codec.{IsFunctional, Appends};
+ghost use Rattle.thrift_compact.specs.Tree.{Fields};
 ghost use Rattle.thrift_compact.specs.Compact.{IsThrift};
 
 /// A front of the bytes stands for at most one struct.
 pub fn one_struct()
     ensures { IsFunctional IsThrift }
+{}
+
+/// What was written is read again, whatever follows: the bytes that the writing of a struct added
+/// stand for it with any bytes behind them, and a struct at the front of these is no other and takes
+/// just those that were added. ([`write_struct`](crate::write_struct)'s `stands` is the premise.
+/// `there` and `only` of [`read_struct`](crate::read_struct) say that reading is not refused for a
+/// fault, `alone` and `stands` that it answers this struct.)
+pub fn what_is_written_is_read_again()
+    ensures there { (fields : Fields) (most : ℕ) (old new more : List ℕ) → Appends (λ bytes used. IsThrift bytes fields used) most old new → (let text = drop (length old) new in IsThrift (text ++ more) fields (length text)) }
+    ensures alone { (fields seen : Fields) (most used : ℕ) (old new more : List ℕ) → Appends (λ bytes used. IsThrift bytes fields used) most old new → (let text = drop (length old) new in IsThrift (text ++ more) seen used → (seen ≡ fields) × (used ≡ length text)) }
 {}

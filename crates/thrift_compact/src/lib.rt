@@ -12,7 +12,8 @@ mod reading;
 mod tree;
 mod writing;
 
-pub use laws::one_struct;
+pub use copying::copied_fields;
+pub use laws::{one_struct, what_is_written_is_read_again};
 pub use reading::read_struct;
 pub use tree::{ElementType, Field, Node, Tree};
 pub use writing::write_struct;

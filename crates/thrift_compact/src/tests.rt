@@ -1,6 +1,26 @@
+ghost use Rattle.std.specs.Prelude.{◌≡◌, ◌+◌, length, IfOk};
+ghost use Rattle.bits.specs.Refusals.{RefusedOnly};
+ghost use Rattle.thrift_compact.specs.Compact.{IsThrift};
+ghost use Rattle.thrift_compact.specs.View.{tree_view};
+ghost use Rattle.thrift_compact.specs.Writing.{IsWithoutBytes};
+
 use super::*;
-use bits::Refusal;
+use bits::{R, Refusal};
+use std::alloc::Global;
 use std::test::*;
+
+/// Writes the struct and then `rest` behind what `out` holds, and reads the struct again: it is the
+/// same, whatever follows it. Refused Memory, and Thrift where no bytes have the struct.
+fn written_then_read(alloc: Global, tree: &Tree, rest: &[u8], out: &mut Vec<u8>) -> R<(Tree, usize)>
+    ensures same { IfOk result (λ x. tree_view x.0 ≡ tree_view tree.now) }
+    ensures whole { IfOk result (λ x. length out.new.items ≡ length out.old.items + x.1 + length rest.now) }
+    ensures which { RefusedOnly (IsWithoutBytes (λ bytes used. IsThrift bytes (tree_view tree.now) used)) result }
+{
+    let start = out.len();
+    write_struct(tree, out)?;
+    out.extend_from_slice(rest)?;
+    read_struct(alloc, out.split_at(start).1)
+}
 
 #[test]
 fn structs_nest_to_a_depth_of_thirty_two(rt: HostRuntime) -> Result<(), Fail> {
@@ -25,17 +45,23 @@ fn deeper_ones_are_refused(rt: HostRuntime) {
     assert!(rt; matches!(read_struct(rt.alloc(), &bytes), Err(Refusal::Thrift)));
 }
 
+// With `rt try --test --fail-alloc 1` it passes all the same: no room is asked for.
 #[test]
-fn faults_are_refused(rt: HostRuntime) {
-    let truncated: [&[u8]; 4] = [
+fn a_size_above_the_bytes_is_truncated(rt: HostRuntime) {
+    let truncated: [&[u8]; 5] = [
         &[],
         &[0x19, 0xF5, 0xFF, 0xFF, 0xFF, 0xFF, 0x07, 0x00],
+        &[0x1A, 0xFC, 0xFF, 0xFF, 0xFF, 0xFF, 0x07, 0x00],
         &[0x18, 0x05, 0x61, 0x00],
         &[0x1B, 0x03, 0x33, 0x00, 0x00],
     ];
     for bytes in truncated {
         assert!(rt; matches!(read_struct(rt.alloc(), bytes), Err(Refusal::Truncated)));
     }
+}
+
+#[test]
+fn what_no_bytes_complete_is_refused(rt: HostRuntime) {
     let faulty: [&[u8]; 5] = [
         // The types 0 and 13.
         &[0x10, 0x00],
@@ -91,8 +117,11 @@ fn every_type_survives_and_each_front_is_refused(rt: HostRuntime) -> Result<(), 
     assert_eq!(rt; used, bytes.len());
     let mut out = Vec::new(rt.alloc());
     out.push(7)?;
-    write_struct(&tree, &mut out)?;
-    assert_eq!(rt; &out[1..], bytes.as_slice());
+    let (_, again) = written_then_read(rt.alloc(), &tree, &[0, 9], &mut out)?;
+    assert_eq!(rt; again, bytes.len());
+    let (written, rest) = out.split_at(1 + again);
+    assert_eq!(rt; &written[1..], bytes.as_slice());
+    assert_eq!(rt; rest, [0, 9].as_slice());
     for end in 0..bytes.len() {
         assert!(rt;
             matches!(
@@ -125,5 +154,6 @@ fn a_tree_without_bytes_is_not_written(rt: HostRuntime) -> Result<(), Fail> {
     assert_eq!(rt; out.as_slice(), [7].as_slice());
     assert_eq!(rt; ElementType::Struct.code(), 12);
     one_struct();
+    what_is_written_is_read_again();
     Ok(())
 }

@@ -1,0 +1,9 @@
+pub mod Again
+pub mod Found
+pub mod Reading
+pub mod Writing
+pub mod Written
+pub mod Weights
+pub mod Texts
+pub mod Carried
+pub mod Own

@@ -1,0 +1,7 @@
+pub mod Given
+pub mod Records
+pub mod FromTree
+pub mod ToTree
+pub mod Views
+pub mod Answers
+pub mod Weight

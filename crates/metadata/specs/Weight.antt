@@ -1,0 +1,64 @@
+-- What a footer weighs: a bound on its written length that is told from the record alone.
+use Rattle.std.specs.Prelude.{◌≡◌, ℕ, ◌+◌, ◌*◌, ◌^◌, ◌<◌, ◌≤◌, List, [], ◌∷◌, length, Option, Some, None, IfSome, All, sum_by, codes}
+use Rattle.thrift_compact.specs.Tree.{Fields}
+use Rattle.thrift_compact.specs.Length.{most_struct}
+use Rattle.schema.specs.Elements.{Element}
+use Rattle.metadata.specs.Records.{KeyValue, Statistics, ColumnMeta, ChunkMeta, GroupMeta, FileMeta}
+
+abbrev pub text_weight : Option (List ℕ) → ℕ
+text_weight (Some text) = length text
+text_weight None = 0
+
+-- a kept struct: the bytes that it takes at most
+abbrev pub kept_weight : Option Fields → ℕ
+kept_weight (Some kept) = most_struct kept
+kept_weight None = 0
+
+abbrev pub element_weight : Element → ℕ
+element_weight e = 128 + length e.name + kept_weight e.logical_type
+
+-- 512, the names of its path, and its file
+abbrev pub chunk_weight : ChunkMeta → ℕ
+chunk_weight c = 512 + sum_by (λ name. length name) c.meta_data.path_in_schema + text_weight c.file_path
+
+abbrev pub group_weight : GroupMeta → ℕ
+group_weight g = 64 + sum_by chunk_weight g.columns
+
+-- a key of a table, by its name: as JSON a byte of a text takes at most six
+abbrev pub key_weight : List ℕ → ℕ
+key_weight name = 64 + 6 * length name
+
+-- a footer, of a table with keys of these names
+abbrev pub footer_weight : List (List ℕ) → FileMeta → ℕ
+footer_weight keys m = 1024 + sum_by element_weight m.schema + sum_by group_weight m.row_groups + sum_by key_weight keys
+
+-- What the store's own writer puts into a record, as far as it bears on the length.
+
+-- bounds of at most 64 bytes, and not those that are deprecated
+pub record AreOwnStatistics (s : Statistics) : Type 0 where
+  pub max : s.max ≡ None
+  pub min : s.min ≡ None
+  pub max_value : IfSome s.max_value (λ bound. length bound ≤ 64)
+  pub min_value : IfSome s.min_value (λ bound. length bound ≤ 64)
+
+-- each of the ten encodings once, and a path of at most 32 names
+pub record IsOwnColumn (c : ColumnMeta) : Type 0 where
+  pub encodings : IfSome c.encodings (λ encodings. length encodings ≤ 10)
+  pub path : length c.path_in_schema ≤ 32
+  pub names : All (λ name. length name < 2 ^ 32) c.path_in_schema
+  pub statistics : IfSome c.statistics AreOwnStatistics
+
+-- the keys as JSON, 64 bytes and the escaped name each, and the next group number of at most 20 digits
+pub record AreOwnPairs (keys : List (List ℕ)) (pairs : List KeyValue) : Type 0 where
+  pub text : List ℕ
+  pub number : List ℕ
+  pub both : pairs ≡ record { key = codes "pqds.keys"; value = Some text } ∷ record { key = codes "pqds.next"; value = Some number } ∷ []
+  pub few : length text ≤ 2 + sum_by key_weight keys
+  pub digits : length number ≤ 20
+
+-- a footer of the store's writer, of a table with keys of these names; in a data file there are no pairs
+pub record IsOfTheWriter (keys : List (List ℕ)) (m : FileMeta) : Type 0 where
+  pub columns : All (λ group. All (λ chunk. IsOwnColumn chunk.meta_data) group.columns) m.row_groups
+  pub pairs : IfSome m.key_value_metadata (AreOwnPairs keys)
+  pub created_by : m.created_by ≡ Some (codes "pqds")
+  pub column_orders : IfSome m.column_orders (λ orders. length orders ≤ length m.schema)

@@ -1,0 +1,115 @@
+//! ChunkMeta: the struct, how it is read and how it is written.
+
+ghost use Rattle.std.specs.Prelude.{◌≡◌, IfOk};
+ghost use Rattle.bits.specs.Refusals.{RefusedOnly};
+ghost use Rattle.thrift_compact.specs.View.{field_views, tree_view};
+ghost use Rattle.metadata.specs.Given.{record_by};
+ghost use Rattle.metadata.specs.ToTree.{chunk_meta_fields, record_as, STRUCT};
+ghost use Rattle.metadata.specs.FromTree.{chunk_meta};
+ghost use Rattle.metadata.specs.Records.{ChunkMeta as ChunkMetaShown};
+ghost use Rattle.metadata.specs.Views.{chunk_meta_view};
+ghost use Rattle.metadata.specs.Answers.{IsRecordOf};
+
+use crate::column_meta::ColumnMeta;
+use crate::ids::chunk as ids;
+use crate::known::{FromNode, known_as, needed_as};
+use crate::put::{ToElement, ToNode, put, put_given};
+use bits::{R, Refusal};
+use std::alloc::Global;
+use thrift_compact::{ElementType, Field, Node, Tree};
+
+/// A ColumnChunk (`parquet.thrift`): where a column of a group stands.
+#[derive(Debug, Drop)]
+pub struct ChunkMeta {
+    pub file_path: Option<Vec<u8>>,
+    pub file_offset: Option<i64>,
+    pub meta_data: ColumnMeta,
+}
+
+impl ChunkMeta {
+    /// The record that a struct is. Refused Thrift just where it is none: a known field is of another
+    /// type, also where a later one of its id is not, or a needed one is not there. Of a field that
+    /// comes twice the last counts; others are passed over.
+    pub fn from_tree(alloc: Global, tree: &Tree) -> R<ChunkMeta>
+        ensures stands { IsRecordOf chunk_meta_view (chunk_meta (tree_view tree.now)) result }
+    {
+        chunk_meta_of(alloc, tree.fields.as_slice())
+    }
+
+    /// The struct of the record, in the order of the ids; what is absent is left out. Refused Memory
+    /// alone.
+    pub fn to_tree(&self, alloc: Global) -> R<Tree>
+        ensures stands { IfOk result (λ tree. tree_view tree ≡ chunk_meta_fields (chunk_meta_view self.now)) }
+        ensures which { RefusedOnly (λ _. ⊥) result }
+    {
+        let fields = fields_of_chunk_meta(alloc, self)?;
+        Ok(Tree { fields })
+    }
+}
+
+/// The record that the fields are.
+fn chunk_meta_of(alloc: Global, fields: &[Field]) -> R<ChunkMeta>
+    ensures stands { IsRecordOf chunk_meta_view (chunk_meta (field_views fields.now)) result }
+{
+    let file_path = known_as(alloc, fields, ids::FILE_PATH)?;
+    let file_offset = known_as(alloc, fields, ids::FILE_OFFSET)?;
+    let meta_data = needed_as(alloc, fields, ids::META_DATA)?;
+    Ok(ChunkMeta {
+        file_path,
+        file_offset,
+        meta_data,
+    })
+}
+
+impl FromNode for ChunkMeta {
+    ghost Shown = { ChunkMetaShown };
+
+    ghost shown = { chunk_meta_view };
+
+    ghost read = { record_by chunk_meta };
+
+    fn from_node(alloc: Global, value: &Node) -> R<ChunkMeta> {
+        match value {
+            Node::Struct(fields) => chunk_meta_of(alloc, fields.as_slice()),
+            _ => Err(Refusal::Thrift),
+        }
+    }
+}
+
+/// The fields of the record.
+fn fields_of_chunk_meta(alloc: Global, chunk_meta: &ChunkMeta) -> R<Vec<Field>>
+    ensures stands { IfOk result (λ fields. field_views fields.items ≡ chunk_meta_fields (chunk_meta_view chunk_meta.now)) }
+    ensures which { RefusedOnly (λ _. ⊥) result }
+{
+    let mut fields = Vec::with_capacity(alloc, 3)?;
+    put_given(alloc, &mut fields, ids::FILE_PATH, &chunk_meta.file_path)?;
+    put_given(
+        alloc,
+        &mut fields,
+        ids::FILE_OFFSET,
+        &chunk_meta.file_offset,
+    )?;
+    put(alloc, &mut fields, ids::META_DATA, &chunk_meta.meta_data)?;
+    Ok(fields)
+}
+
+impl ToNode for ChunkMeta {
+    ghost Shown = { ChunkMetaShown };
+
+    ghost shown = { chunk_meta_view };
+
+    ghost write = { record_as chunk_meta_fields };
+
+    fn to_node(&self, alloc: Global) -> R<Node> {
+        let fields = fields_of_chunk_meta(alloc, self)?;
+        Ok(Node::Struct(fields))
+    }
+}
+
+impl ToElement for ChunkMeta {
+    ghost code = { STRUCT };
+
+    fn element_type() -> ElementType {
+        ElementType::Struct
+    }
+}

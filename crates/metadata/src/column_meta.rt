@@ -1,0 +1,156 @@
+//! ColumnMeta: the struct, how it is read and how it is written.
+
+ghost use Rattle.std.specs.Prelude.{◌≡◌, IfOk};
+ghost use Rattle.bits.specs.Refusals.{RefusedOnly};
+ghost use Rattle.thrift_compact.specs.View.{field_views, tree_view};
+ghost use Rattle.metadata.specs.Given.{record_by};
+ghost use Rattle.metadata.specs.ToTree.{column_meta_fields, record_as};
+ghost use Rattle.metadata.specs.FromTree.{column_meta};
+ghost use Rattle.metadata.specs.Records.{ColumnMeta as ColumnMetaShown};
+ghost use Rattle.metadata.specs.Views.{column_meta_view};
+ghost use Rattle.metadata.specs.Answers.{IsRecordOf};
+
+use crate::ids::column as ids;
+use crate::known::{FromNode, known_as, needed_as};
+use crate::put::{ToNode, put, put_given};
+use crate::statistics::Statistics;
+use bits::{R, Refusal};
+use std::alloc::Global;
+use thrift_compact::{Field, Node, Tree};
+
+/// A ColumnMetaData (`parquet.thrift`); `kind` is its `type`. `num_values` counts entries, nulls among
+/// them; the sizes are of bytes, page headers among them; the offsets are places in the file.
+#[derive(Debug, Drop)]
+pub struct ColumnMeta {
+    pub kind: i32,
+    pub encodings: Option<Vec<i32>>,
+    pub path_in_schema: Vec<Vec<u8>>,
+    pub codec: i32,
+    pub num_values: i64,
+    pub total_uncompressed_size: Option<i64>,
+    pub total_compressed_size: Option<i64>,
+    pub data_page_offset: i64,
+    pub dictionary_page_offset: Option<i64>,
+    pub statistics: Option<Statistics>,
+}
+
+impl ColumnMeta {
+    /// The record that a struct is. Refused Thrift just where it is none: a known field is of another
+    /// type, also where a later one of its id is not, or a needed one is not there. Of a field that
+    /// comes twice the last counts; others are passed over.
+    pub fn from_tree(alloc: Global, tree: &Tree) -> R<ColumnMeta>
+        ensures stands { IsRecordOf column_meta_view (column_meta (tree_view tree.now)) result }
+    {
+        column_meta_of(alloc, tree.fields.as_slice())
+    }
+
+    /// The struct of the record, in the order of the ids; what is absent is left out. Refused Memory
+    /// alone.
+    pub fn to_tree(&self, alloc: Global) -> R<Tree>
+        ensures stands { IfOk result (λ tree. tree_view tree ≡ column_meta_fields (column_meta_view self.now)) }
+        ensures which { RefusedOnly (λ _. ⊥) result }
+    {
+        let fields = fields_of_column_meta(alloc, self)?;
+        Ok(Tree { fields })
+    }
+}
+
+/// The record that the fields are.
+fn column_meta_of(alloc: Global, fields: &[Field]) -> R<ColumnMeta>
+    ensures stands { IsRecordOf column_meta_view (column_meta (field_views fields.now)) result }
+{
+    let kind = needed_as(alloc, fields, ids::KIND)?;
+    let encodings = known_as(alloc, fields, ids::ENCODINGS)?;
+    let path_in_schema = needed_as(alloc, fields, ids::PATH_IN_SCHEMA)?;
+    let codec = needed_as(alloc, fields, ids::CODEC)?;
+    let num_values = needed_as(alloc, fields, ids::NUM_VALUES)?;
+    let total_uncompressed_size = known_as(alloc, fields, ids::TOTAL_UNCOMPRESSED_SIZE)?;
+    let total_compressed_size = known_as(alloc, fields, ids::TOTAL_COMPRESSED_SIZE)?;
+    let data_page_offset = needed_as(alloc, fields, ids::DATA_PAGE_OFFSET)?;
+    let dictionary_page_offset = known_as(alloc, fields, ids::DICTIONARY_PAGE_OFFSET)?;
+    let statistics = known_as(alloc, fields, ids::STATISTICS)?;
+    Ok(ColumnMeta {
+        kind,
+        encodings,
+        path_in_schema,
+        codec,
+        num_values,
+        total_uncompressed_size,
+        total_compressed_size,
+        data_page_offset,
+        dictionary_page_offset,
+        statistics,
+    })
+}
+
+impl FromNode for ColumnMeta {
+    ghost Shown = { ColumnMetaShown };
+
+    ghost shown = { column_meta_view };
+
+    ghost read = { record_by column_meta };
+
+    fn from_node(alloc: Global, value: &Node) -> R<ColumnMeta> {
+        match value {
+            Node::Struct(fields) => column_meta_of(alloc, fields.as_slice()),
+            _ => Err(Refusal::Thrift),
+        }
+    }
+}
+
+/// The fields of the record.
+fn fields_of_column_meta(alloc: Global, column_meta: &ColumnMeta) -> R<Vec<Field>>
+    ensures stands { IfOk result (λ fields. field_views fields.items ≡ column_meta_fields (column_meta_view column_meta.now)) }
+    ensures which { RefusedOnly (λ _. ⊥) result }
+{
+    let mut fields = Vec::with_capacity(alloc, 10)?;
+    put(alloc, &mut fields, ids::KIND, &column_meta.kind)?;
+    put_given(alloc, &mut fields, ids::ENCODINGS, &column_meta.encodings)?;
+    put(
+        alloc,
+        &mut fields,
+        ids::PATH_IN_SCHEMA,
+        &column_meta.path_in_schema,
+    )?;
+    put(alloc, &mut fields, ids::CODEC, &column_meta.codec)?;
+    put(alloc, &mut fields, ids::NUM_VALUES, &column_meta.num_values)?;
+    put_given(
+        alloc,
+        &mut fields,
+        ids::TOTAL_UNCOMPRESSED_SIZE,
+        &column_meta.total_uncompressed_size,
+    )?;
+    put_given(
+        alloc,
+        &mut fields,
+        ids::TOTAL_COMPRESSED_SIZE,
+        &column_meta.total_compressed_size,
+    )?;
+    put(
+        alloc,
+        &mut fields,
+        ids::DATA_PAGE_OFFSET,
+        &column_meta.data_page_offset,
+    )?;
+    put_given(
+        alloc,
+        &mut fields,
+        ids::DICTIONARY_PAGE_OFFSET,
+        &column_meta.dictionary_page_offset,
+    )?;
+    put_given(alloc, &mut fields, ids::STATISTICS, &column_meta.statistics)?;
+    Ok(fields)
+}
+
+impl ToNode for ColumnMeta {
+    ghost Shown = { ColumnMetaShown };
+
+    ghost shown = { column_meta_view };
+
+    ghost write = { record_as column_meta_fields };
+
+    fn to_node(&self, alloc: Global) -> R<Node> {
+        let fields = fields_of_column_meta(alloc, self)?;
+        Ok(Node::Struct(fields))
+    }
+}

@@ -1,0 +1,177 @@
+//! What the fields of a struct give to a record, for every type of field at once.
+
+ghost use Rattle.std.specs.Prelude.{ℕ, ℤ, Bool, List, Option, map, option_map};
+ghost use Rattle.thrift_compact.specs.Tree.{Node, Fields};
+ghost use Rattle.thrift_compact.specs.View.{view, views, field_views, tree_view};
+ghost use Rattle.metadata.specs.Given.{known, needed, int32, int64, boolean, text, tree, any_struct, each_of, list_by};
+ghost use Rattle.metadata.specs.Answers.{IsRecordOf};
+
+use bits::{R, Refusal};
+use std::alloc::Global;
+use thrift_compact::{Field, Node as Value, Tree, copied_fields};
+
+/// What a value of the compact protocol may be read as.
+pub trait FromNode: Drop {
+    /// What a contract sees of it.
+    ghost Shown: { Type 0 };
+
+    ghost shown: { Self → Shown };
+
+    /// What a value stands for; none where it is of another type.
+    ghost read: { Node → Option Shown };
+
+    fn from_node(alloc: Global, value: &Value) -> R<Self>
+        ensures stands { IsRecordOf shown (read (view value.now)) result };
+}
+
+impl FromNode for i32 {
+    ghost Shown = { ℤ };
+
+    ghost shown = { λ z. z };
+
+    ghost read = { int32 };
+
+    fn from_node(_alloc: Global, value: &Value) -> R<i32> {
+        match value {
+            Value::I32(n) => Ok(*n),
+            _ => Err(Refusal::Thrift),
+        }
+    }
+}
+
+impl FromNode for i64 {
+    ghost Shown = { ℤ };
+
+    ghost shown = { λ z. z };
+
+    ghost read = { int64 };
+
+    fn from_node(_alloc: Global, value: &Value) -> R<i64> {
+        match value {
+            Value::I64(n) => Ok(*n),
+            _ => Err(Refusal::Thrift),
+        }
+    }
+}
+
+impl FromNode for bool {
+    ghost Shown = { Bool };
+
+    ghost shown = { λ b. b };
+
+    ghost read = { boolean };
+
+    fn from_node(_alloc: Global, value: &Value) -> R<bool> {
+        match value {
+            Value::Bool(b) => Ok(*b),
+            _ => Err(Refusal::Thrift),
+        }
+    }
+}
+
+impl FromNode for Vec<u8> {
+    ghost Shown = { List ℕ };
+
+    ghost shown = { λ v. v.items };
+
+    ghost read = { text };
+
+    fn from_node(alloc: Global, value: &Value) -> R<Vec<u8>> {
+        match value {
+            Value::Binary(bytes) => {
+                let bytes = Vec::from_slice(alloc, bytes.as_slice())?;
+                Ok(bytes)
+            }
+            _ => Err(Refusal::Thrift),
+        }
+    }
+}
+
+/// A struct is kept as the tree that it is.
+impl FromNode for Tree {
+    ghost Shown = { Fields };
+
+    ghost shown = { tree_view };
+
+    ghost read = { tree };
+
+    fn from_node(alloc: Global, value: &Value) -> R<Tree> {
+        match value {
+            Value::Struct(fields) => {
+                let fields = copied_fields(alloc, fields.as_slice())?;
+                Ok(Tree { fields })
+            }
+            _ => Err(Refusal::Thrift),
+        }
+    }
+}
+
+/// A struct, of which no more is asked.
+#[derive(Drop)]
+pub struct AnyStruct;
+
+impl FromNode for AnyStruct {
+    ghost Shown = { Unit {0} };
+
+    ghost shown = { λ _. tt };
+
+    ghost read = { any_struct };
+
+    fn from_node(_alloc: Global, value: &Value) -> R<AnyStruct> {
+        match value {
+            Value::Struct(_) => Ok(AnyStruct),
+            _ => Err(Refusal::Thrift),
+        }
+    }
+}
+
+/// The values of a list, each of which is of this type.
+fn each_as<T: FromNode>(alloc: Global, values: &[Value]) -> R<Vec<T>>
+    ensures stands { IsRecordOf (λ v. map T.shown v.items) (each_of T.read (views values.now)) result }
+{
+    let mut items = Vec::with_capacity(alloc, values.len())?;
+    for value in values {
+        let item = T::from_node(alloc, value)?;
+        items.push(item)?;
+    }
+    Ok(items)
+}
+
+impl<T: FromNode> FromNode for Vec<T> {
+    ghost Shown = { List T.Shown };
+
+    ghost shown = { λ v. map T.shown v.items };
+
+    ghost read = { list_by T.read };
+
+    fn from_node(alloc: Global, value: &Value) -> R<Vec<T>> {
+        match value {
+            Value::List(_, values) => each_as(alloc, values.as_slice()),
+            _ => Err(Refusal::Thrift),
+        }
+    }
+}
+
+/// The last of the fields with this id, each of which is of this type.
+pub fn known_as<T: FromNode>(alloc: Global, fields: &[Field], id: i16) -> R<Option<T>>
+    ensures stands { IsRecordOf (option_map T.shown) (known T.read id (field_views fields.now)) result }
+{
+    let mut found: Option<T> = None;
+    for field in fields {
+        if field.id == id {
+            let value = T::from_node(alloc, &field.value)?;
+            found = Some(value);
+        }
+    }
+    Ok(found)
+}
+
+/// The last of the fields with this id, of which there is one, each of this type.
+pub fn needed_as<T: FromNode>(alloc: Global, fields: &[Field], id: i16) -> R<T>
+    ensures stands { IsRecordOf T.shown (needed T.read id (field_views fields.now)) result }
+{
+    match known_as(alloc, fields, id)? {
+        Some(value) => Ok(value),
+        None => Err(Refusal::Thrift),
+    }
+}

@@ -1,0 +1,51 @@
+//! The records of the footer of a Parquet file and of page headers (`parquet.thrift`), between
+//! structs of the compact protocol and bytes.
+//!
+//! `specs/FromTree.antt` says which record a struct is, by the tables of ids of `src/ids.rt`;
+//! `specs/Records.antt` has the records apart from where they lie in memory, and `specs/Views.antt`
+//! sees those of the program as these.
+//!
+//! `specs/ToTree.antt` says which struct is written for a record. Reading goes over the fields of a
+//! struct once for each id of its table, and copies the texts and structs that are kept.
+//! `specs/Weight.antt` says what a footer weighs, which bounds the length of one that the store
+//! writes.
+//!
+//! Texts are kept as the bytes that they are: Thrift's strings are binary, and what must be UTF-8 is
+//! asked where it is used.
+#![tactic(auto)]
+
+mod chunk_meta;
+mod column_meta;
+mod column_order;
+mod data_page_header;
+mod data_page_header_v2;
+mod dictionary_page_header;
+mod element;
+mod file_meta;
+mod group_meta;
+mod ids;
+mod key_value;
+mod known;
+mod laws;
+mod page_header;
+mod put;
+mod statistics;
+
+pub use chunk_meta::ChunkMeta;
+pub use column_meta::ColumnMeta;
+pub use column_order::ColumnOrder;
+pub use data_page_header::DataPageHeader;
+pub use data_page_header_v2::DataPageHeaderV2;
+pub use dictionary_page_header::DictionaryPageHeader;
+pub use element::{element_from_tree, element_to_tree};
+pub use file_meta::FileMeta;
+pub use group_meta::GroupMeta;
+pub use key_value::KeyValue;
+pub use laws::{footer_again, one_footer, one_page_header, page_header_again, records_again};
+pub use page_header::{DATA_PAGE, DATA_PAGE_V2, DICTIONARY_PAGE, PageHeader};
+pub use statistics::Statistics;
+
+#[cfg(test)]
+mod byte_tests;
+#[cfg(test)]
+mod tests;

@@ -1,0 +1,210 @@
+//! PageHeader: the struct, how it is read and how it is written.
+
+ghost use Rattle.std.specs.Prelude.{◌≡◌, ◌≤◌, ◌⊎◌, ℕ, List, length, IfOk, OnOk, OnErr, IsTrue, true, false};
+ghost use Rattle.bits.specs.Refusals.{OnFault, RefusedOnly};
+ghost use Rattle.bits.specs.Codec.{Appends, NothingStands};
+ghost use Rattle.thrift_compact.specs.Tree.{Fields};
+ghost use Rattle.thrift_compact.specs.Compact.{IsThrift};
+ghost use Rattle.thrift_compact.specs.Length.{most_struct};
+ghost use Rattle.thrift_compact.specs.View.{field_views, tree_view};
+ghost use Rattle.metadata.specs.Given.{record_by};
+ghost use Rattle.metadata.specs.ToTree.{page_header_fields};
+ghost use Rattle.metadata.specs.FromTree.{page_header, any_page_header, has_own_header};
+ghost use Rattle.metadata.specs.Records.{PageHeader as PageHeaderShown};
+ghost use Rattle.metadata.specs.Views.{page_header_view};
+ghost use Rattle.metadata.specs.Answers.{IsRecordOf, StandsFor};
+
+use crate::data_page_header::DataPageHeader;
+use crate::data_page_header_v2::DataPageHeaderV2;
+use crate::dictionary_page_header::DictionaryPageHeader;
+use crate::ids::page as ids;
+use crate::known::{FromNode, known_as, needed_as};
+use crate::put::{put, put_given};
+use bits::{R, Refusal};
+use std::alloc::Global;
+use thrift_compact::{Field, Node, Tree, one_struct, read_struct, write_struct};
+
+/// The `kind` of a page of version 1.
+pub const DATA_PAGE: i32 = 0;
+
+/// The `kind` of a dictionary page.
+pub const DICTIONARY_PAGE: i32 = 2;
+
+/// The `kind` of a page of version 2.
+pub const DATA_PAGE_V2: i32 = 3;
+
+/// A PageHeader (`parquet.thrift`); `kind` is its `type`, the sizes are of bytes. The header that
+/// `kind` names is there in each one that was read.
+#[derive(Debug, Drop)]
+pub struct PageHeader {
+    pub kind: i32,
+    pub uncompressed_page_size: Option<i32>,
+    pub compressed_page_size: i32,
+    pub crc: Option<i32>,
+    pub data_page_header: Option<DataPageHeader>,
+    pub dictionary_page_header: Option<DictionaryPageHeader>,
+    pub data_page_header_v2: Option<DataPageHeaderV2>,
+}
+
+impl PageHeader {
+    /// The record that a struct is. Refused Thrift just where it is none: a known field is of another
+    /// type, also where a later one of its id is not, or a needed one is not there. Of a field that
+    /// comes twice the last counts; others are passed over.
+    pub fn from_tree(alloc: Global, tree: &Tree) -> R<PageHeader>
+        ensures stands { IsRecordOf page_header_view (page_header (tree_view tree.now)) result }
+    {
+        page_header_of(alloc, tree.fields.as_slice())
+    }
+
+    /// The record of the struct at the front of the bytes, and how many bytes that struct takes;
+    /// what follows is not looked at. By one pass over the struct's bytes, and one over its fields
+    /// for each id.
+    ///
+    /// Refused Truncated or Thrift only where no front of the bytes is such a record.
+    pub fn read(alloc: Global, bytes: &[u8]) -> R<(PageHeader, usize)>
+        ensures stands { IfOk result (λ x. StandsFor page_header bytes.now (page_header_view x.0) x.1) }
+        ensures within { IfOk result (λ x. x.1 ≤ length bytes.now) }
+        ensures only { OnFault result (NothingStands (StandsFor page_header bytes.now)) }
+        ensures which { RefusedOnly (λ e. (e ≡ Refusal.Truncated) ⊎ (e ≡ Refusal.Thrift)) result }
+    {
+        one_struct();
+        let (tree, used) = read_struct(alloc, bytes)?;
+        let record = PageHeader::from_tree(alloc, &tree)?;
+        Ok((record, used))
+    }
+
+    /// The struct of the record, in the order of the ids; what is absent is left out.
+    ///
+    /// Refused Thrift just where the header that `kind` names is not there: no struct is such a
+    /// record.
+    pub fn to_tree(&self, alloc: Global) -> R<Tree>
+        ensures stands { IfOk result (λ tree. tree_view tree ≡ page_header_fields (page_header_view self.now)) }
+        ensures own { OnOk result (IsTrue (has_own_header (page_header_view self.now))) }
+        ensures only { OnFault result ((fields : Fields) → page_header fields ≡ Some (page_header_view self.now) → ⊥) }
+        ensures which { RefusedOnly (λ e. (e ≡ Refusal.Thrift) × (has_own_header (page_header_view self.now) ≡ false)) result }
+    {
+        if !self.has_own_header() {
+            return Err(Refusal::Thrift);
+        }
+        let fields = fields_of_page_header(alloc, self)?;
+        Ok(Tree { fields })
+    }
+
+    /// Writes the struct of the record at the end of `out`. What is written is read again as this
+    /// record, whatever follows it.
+    ///
+    /// Refused Thrift only where no bytes at all are this record: where the header that `kind` names is
+    /// not there. After a refusal `out` is as it was.
+    pub fn write(&self, alloc: Global, out: &mut Vec<u8>) -> R<()>
+        ensures stands { let fields = page_header_fields (page_header_view self.now) in OnOk result (Appends (λ bytes used. IsThrift bytes fields used) (most_struct fields) out.old.items out.new.items) }
+        ensures read_again { let fields = page_header_fields (page_header_view self.now) in OnOk result (Appends (λ bytes used. StandsFor page_header bytes (page_header_view self.now) used) (most_struct fields) out.old.items out.new.items) }
+        ensures only { OnFault result ((bytes : List ℕ) (used : ℕ) → StandsFor page_header bytes (page_header_view self.now) used → ⊥) }
+        ensures which { RefusedOnly (λ e. e ≡ Refusal.Thrift) result }
+        ensures unchanged { OnErr result (out.new.items ≡ out.old.items) }
+    {
+        let tree = self.to_tree(alloc)?;
+        write_struct(&tree, out)
+    }
+
+    /// Whether the header that `kind` names is there.
+    fn has_own_header(&self) -> bool
+        ensures { result ≡ has_own_header (page_header_view self.now) }
+    {
+        match self.kind {
+            DATA_PAGE => self.data_page_header.is_some(),
+            DICTIONARY_PAGE => self.dictionary_page_header.is_some(),
+            DATA_PAGE_V2 => self.data_page_header_v2.is_some(),
+            _ => true,
+        }
+    }
+}
+
+/// The record that the fields are.
+fn page_header_of(alloc: Global, fields: &[Field]) -> R<PageHeader>
+    ensures stands { IsRecordOf page_header_view (page_header (field_views fields.now)) result }
+{
+    let header = any_page_header_of(alloc, fields)?;
+    if header.has_own_header() {
+        Ok(header)
+    } else {
+        Err(Refusal::Thrift)
+    }
+}
+
+/// The record that the fields are, whether or not the header that its type names is there.
+fn any_page_header_of(alloc: Global, fields: &[Field]) -> R<PageHeader>
+    ensures stands { IsRecordOf page_header_view (any_page_header (field_views fields.now)) result }
+{
+    let kind = needed_as(alloc, fields, ids::KIND)?;
+    let uncompressed_page_size = known_as(alloc, fields, ids::UNCOMPRESSED_PAGE_SIZE)?;
+    let compressed_page_size = needed_as(alloc, fields, ids::COMPRESSED_PAGE_SIZE)?;
+    let crc = known_as(alloc, fields, ids::CRC)?;
+    let data_page_header = known_as(alloc, fields, ids::DATA_PAGE_HEADER)?;
+    let dictionary_page_header = known_as(alloc, fields, ids::DICTIONARY_PAGE_HEADER)?;
+    let data_page_header_v2 = known_as(alloc, fields, ids::DATA_PAGE_HEADER_V2)?;
+    Ok(PageHeader {
+        kind,
+        uncompressed_page_size,
+        compressed_page_size,
+        crc,
+        data_page_header,
+        dictionary_page_header,
+        data_page_header_v2,
+    })
+}
+
+impl FromNode for PageHeader {
+    ghost Shown = { PageHeaderShown };
+
+    ghost shown = { page_header_view };
+
+    ghost read = { record_by page_header };
+
+    fn from_node(alloc: Global, value: &Node) -> R<PageHeader> {
+        match value {
+            Node::Struct(fields) => page_header_of(alloc, fields.as_slice()),
+            _ => Err(Refusal::Thrift),
+        }
+    }
+}
+
+/// The fields of the record.
+fn fields_of_page_header(alloc: Global, page_header: &PageHeader) -> R<Vec<Field>>
+    ensures stands { IfOk result (λ fields. field_views fields.items ≡ page_header_fields (page_header_view page_header.now)) }
+    ensures which { RefusedOnly (λ _. ⊥) result }
+{
+    let mut fields = Vec::with_capacity(alloc, 7)?;
+    put(alloc, &mut fields, ids::KIND, &page_header.kind)?;
+    put_given(
+        alloc,
+        &mut fields,
+        ids::UNCOMPRESSED_PAGE_SIZE,
+        &page_header.uncompressed_page_size,
+    )?;
+    put(
+        alloc,
+        &mut fields,
+        ids::COMPRESSED_PAGE_SIZE,
+        &page_header.compressed_page_size,
+    )?;
+    put_given(alloc, &mut fields, ids::CRC, &page_header.crc)?;
+    put_given(
+        alloc,
+        &mut fields,
+        ids::DATA_PAGE_HEADER,
+        &page_header.data_page_header,
+    )?;
+    put_given(
+        alloc,
+        &mut fields,
+        ids::DICTIONARY_PAGE_HEADER,
+        &page_header.dictionary_page_header,
+    )?;
+    put_given(
+        alloc,
+        &mut fields,
+        ids::DATA_PAGE_HEADER_V2,
+        &page_header.data_page_header_v2,
+    )?;
+    Ok(fields)
+}

@@ -1,0 +1,96 @@
+-- How many leaves a schema has, and how long the ways to them are.
+use Rattle.std.proofs.Common.{ℕ, suc, max, ◌≡◌, ◌+◌, ◌≤◌, List, [], ◌∷◌, ◌++◌, length, map, refl, ap, Option, Some, None, arith}
+use Rattle.std.specs.Prelude.{ℤ}
+use Rattle.std.specs.List.{AllByRecursion}
+use Rattle.schema.specs.Elements.{Element}
+use Rattle.schema.specs.Shape.{Field, leaf, fields, Fields, no_fields, field}
+use Rattle.schema.specs.Stripe.{Leaf, leaves, leaves_from, leaves_of, below}
+use Rattle.schema.specs.Law.{IsWithinLimits}
+use Rattle.schema.specs.Listing.{Branch, branch, Branches, no_branches, branches, count_branches, depth_first, depth_first_each, HasChildren, IsCounted, AreCounted, IsField, AreFields, one_typed, count_typed, IsSchemaOf}
+use Rattle.schema.specs.Reading.{tall, tallest}
+
+pub length-both : {A : Type 0} (xs ys : List A) → length (xs ++ ys) ≡ length xs + length ys
+length-both [] ys = omega arith
+length-both (x ∷ xs) ys = let h = length-both xs ys in omega (arith, h)
+
+pub length-each : {A B : Type 0} (f : A → B) (xs : List A) → length (map f xs) ≡ length xs
+length-each f [] = refl
+length-each f (x ∷ xs) = ap suc (length-each f xs)
+
+typed-both : (xs ys : List Element) → count_typed (xs ++ ys) ≡ count_typed xs + count_typed ys
+typed-both [] ys = omega arith
+typed-both (x ∷ xs) ys = let h = typed-both xs ys in omega (arith, h)
+
+no_children : (k c : Option ℤ) (z : ℤ) (bs : Branches) → k ≡ Some z → HasChildren k c (count_branches bs) → depth_first_each bs ≡ []
+no_children None c z bs e h = cc
+no_children (Some t) c z no_branches e h = refl
+no_children (Some t) c z (branches b bs) e h = let n = h.0 in absurd (omega (arith, n))
+
+mutual
+  leaves_at : (b : Branch) (f : Field) → IsCounted b → IsField b f → length (leaves f) ≡ count_typed (depth_first b)
+  leaves_at (branch e bs) (leaf n r t) c h =
+      let one : one_typed e.kind ≡ 1 = ap one_typed h.2.there in
+      let none : count_typed (depth_first_each bs) ≡ 0 = ap count_typed (no_children e.kind e.num_children h.2.number bs h.2.there c.0) in
+      omega (arith, one, none)
+  leaves_at (branch e bs) (fields n r a fs) c h =
+      let none : one_typed e.kind ≡ 0 = ap one_typed h.2 in
+      let all = leaves_each 0 bs fs c.1 h.4 in
+      omega (arith, none, all)
+
+  leaves_each : (i : ℕ) (bs : Branches) (fs : Fields) → AreCounted bs → AreFields bs fs → length (leaves_from i fs) ≡ count_typed (depth_first_each bs)
+  leaves_each i no_branches no_fields c h = refl
+  leaves_each i no_branches (field f fs) c h = absurd h
+  leaves_each i (branches b bs) no_fields c h = absurd h
+  leaves_each i (branches b bs) (field f fs) c h =
+      let here = leaves_at b f c.0 h.0 in
+      let rest = leaves_each (suc i) bs fs c.1 h.1 in
+      let p = length-both (map (below i f) (leaves f)) (leaves_from (suc i) fs) in
+      let q = length-each (below i f) (leaves f) in
+      let r = typed-both (depth_first b) (depth_first_each bs) in
+      omega (arith, here, rest, p, q, r)
+
+all-both : {A : Type 0} (P : A → Type 0) (xs ys : List A) → AllByRecursion P xs → AllByRecursion P ys → AllByRecursion P (xs ++ ys)
+all-both P [] ys p q = q
+all-both P (x ∷ xs) ys p q = (p.0, all-both P xs ys p.1 q)
+
+all-more : {A : Type 0} (P Q : A → Type 0) (xs : List A) → ((x : A) → P x → Q x) → AllByRecursion P xs → AllByRecursion Q xs
+all-more P Q [] f p = tt
+all-more P Q (x ∷ xs) f p = (f x p.0, all-more P Q xs f p.1)
+
+all-each : {A B : Type 0} (f : A → B) (P : B → Type 0) (xs : List A) → AllByRecursion (λ x. P (f x)) xs → AllByRecursion P (map f xs)
+all-each f P [] p = tt
+all-each f P (x ∷ xs) p = (p.0, all-each f P xs p.1)
+
+longer : (a b c : ℕ) → a ≤ b → a ≤ max c b
+longer a b c h = omega (arith, h)
+
+long : (a b c : ℕ) → suc a ≤ c → suc a ≤ max c b
+long a b c h = omega (arith, h)
+
+mutual
+  deep_at : (f : Field) → AllByRecursion (λ (l : Leaf). suc (length l.steps) ≤ tall f) (leaves f)
+  deep_at (leaf n r t) = (omega arith, tt)
+  deep_at (fields n r a fs) = all-more (λ (l : Leaf). length l.steps ≤ tallest fs) (λ (l : Leaf). suc (length l.steps) ≤ suc (tallest fs)) (leaves_from 0 fs) (λ l h. omega (arith, h)) (deep_each 0 fs)
+
+  deep_each : (i : ℕ) (fs : Fields) → AllByRecursion (λ (l : Leaf). length l.steps ≤ tallest fs) (leaves_from i fs)
+  deep_each i no_fields = tt
+  deep_each i (field f fs) =
+      all-both (λ (l : Leaf). length l.steps ≤ max (tall f) (tallest fs)) (map (below i f) (leaves f)) (leaves_from (suc i) fs)
+      (all-each (below i f) (λ (l : Leaf). length l.steps ≤ max (tall f) (tallest fs)) (leaves f)
+      (all-more (λ (l : Leaf). suc (length l.steps) ≤ tall f) (λ (l : Leaf). suc (length l.steps) ≤ max (tall f) (tallest fs)) (leaves f) (λ l h. long (length l.steps) (tallest fs) (tall f) h) (deep_at f)))
+      (all-more (λ (l : Leaf). length l.steps ≤ tallest fs) (λ (l : Leaf). length l.steps ≤ max (tall f) (tallest fs)) (leaves_from (suc i) fs) (λ l h. longer (length l.steps) (tallest fs) (tall f) h) (deep_each (suc i) fs))
+
+few_leaves : (es : List Element) (fs : Fields) → IsSchemaOf es fs → length (leaves_of fs) ≡ count_typed es
+few_leaves es fs s =
+    let all = leaves_each 0 s.below fs s.listed.counted.1 s.stands_for in
+    let none : one_typed s.root.kind ≡ 0 = ap one_typed s.listed.group in
+    let list : count_typed es ≡ one_typed s.root.kind + count_typed (depth_first_each s.below) = ap count_typed s.listed.listed in
+    omega (arith, all, none, list)
+
+pub within : (es : List Element) (fs : Fields) → IsSchemaOf es fs → tallest fs ≤ 32 → count_typed es ≤ 1024 → IsWithinLimits fs
+within es fs s short few =
+    let n = few_leaves es fs s in
+    record {
+      leaves = omega (arith, n, few);
+      depth = all-more (λ (l : Leaf). length l.steps ≤ tallest fs) (λ (l : Leaf). length l.steps ≤ 32) (leaves_of fs) (λ l h. omega (arith, h, short)) (deep_each 0 fs);
+    }

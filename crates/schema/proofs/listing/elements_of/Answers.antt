@@ -1,0 +1,11 @@
+use Rattle.schema.proofs.Few.{root_listed, few_each, few_fields}
+use Rattle.schema.proofs.listing.elements_of.Goals as goal
+
+pub returns-clause-is : goal.returns-clause-is
+returns-clause-is c = root_listed _ _ _ c.in_ok-root.root c.args.fields.now c.new-elements.ensures.items c.in_ok-push.ensures.items c.in_ok-root.ensures.is c.in_ok-push_listings.ensures.adds
+
+pub group_element-requires : goal.group_element-requires
+group_element-requires c = few_fields c.args.fields.now c.requires.valid c.requires.within
+
+pub push_listings-requires-clause-few : goal.push_listings-requires-clause-few
+push_listings-requires-clause-few c = few_each 0 _ c.requires.valid c.requires.within

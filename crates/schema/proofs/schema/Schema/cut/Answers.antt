@@ -1,0 +1,45 @@
+use Rattle.std.proofs.Common.{◌≡◌, ◌∙◌, ap, sym, subst, arith}
+use Rattle.std.specs.Prelude.{IfOk}
+use Rattle.schema.specs.Shape.{Fields}
+use Rattle.schema.specs.Law.{IsSchema, IsWithinLimits}
+use Rattle.schema.specs.Reading.{tallest, count_leaves_each}
+use Rattle.schema.specs.Views.{field_views}
+use Rattle.schema.specs.Cutting.{ArePlaces, IsCutTo, cut_to, is_among}
+use Rattle.schema.proofs.CutSteps.{counts_are, places_there, ok_more}
+use Rattle.schema.proofs.CutFits.{cut_schema, cut_within, each_cut_short}
+use Rattle.schema.proofs.schema.Schema.cut.Goals as goal
+
+pub cut_each-requires : goal.cut_each-requires
+cut_each-requires c =
+    let n = counts_are 0 (field_views c.self.inside.fields.items) in
+    let few = c.self.invariant.1.leaves in
+    let same = ap (λ xs. count_leaves_each (field_views xs)) c.as_slice.ensures.value in
+    record { few = omega (arith, n, few, same) }
+
+there : (c : goal.In_ok-fields) → ArePlaces (field_views c.self.inside.fields.items) c.args.places.now
+there c = places_there (field_views c.self.inside.fields.items) c.self.inside.leaves.items c.len.result c.args.places.now c.self.invariant.2 (grind (arith, c.len.ensures)) (grind (arith, c.is_empty.ensures, c.if-is_empty.false)) (c.are_below.ensures.0 c.if-not-are_below.false)
+
+made : (c : goal.In_ok-fields) → field_views c.in_ok-fields.fields.items ≡ cut_to c.args.places.now (field_views c.self.inside.fields.items)
+made c = c.in_ok-fields.ensures.is ∙ ap (λ xs. cut_to c.args.places.now (field_views xs)) c.as_slice.ensures.value
+
+pub of_fields-requires-clause-valid : goal.of_fields-requires-clause-valid
+of_fields-requires-clause-valid c = subst IsSchema (sym (made c)) (cut_schema c.args.places.now (field_views c.self.inside.fields.items) c.self.invariant.0 (there c))
+
+pub of_fields-requires-clause-within : goal.of_fields-requires-clause-within
+of_fields-requires-clause-within c = subst IsWithinLimits (sym (made c)) (cut_within c.args.places.now (field_views c.self.inside.fields.items) c.self.invariant.1)
+
+pub of_fields-requires-clause-short : goal.of_fields-requires-clause-short
+of_fields-requires-clause-short c =
+    let less = each_cut_short (is_among c.args.places.now) 0 (field_views c.self.inside.fields.items) in
+    let short = c.self.invariant.4 in
+    let same = ap tallest (made c) in
+    omega (arith, less, short, same)
+
+pub returns-clause-stands : goal.returns-clause-stands
+returns-clause-stands c =
+    let whole : Fields = field_views c.self.inside.fields.items in
+    let places : ArePlaces whole c.args.places.now =
+    places_there whole c.self.inside.leaves.items c.len.result c.args.places.now c.self.invariant.2 (grind (arith, c.len.ensures)) (grind (arith, c.is_empty.ensures, c.if-is_empty.false)) (c.are_below.ensures.0 c.if-not-are_below.false) in
+    let is : field_views c.in_ok-fields.fields.items ≡ cut_to c.args.places.now whole = c.in_ok-fields.ensures.is ∙ ap (λ xs. cut_to c.args.places.now (field_views xs)) c.as_slice.ensures.value in
+    subst (λ fs. IfOk c.of_fields.result (IsCutTo c.args.places.now fs)) c.self.view_is
+    (ok_more c.of_fields.result (λ gs. gs ≡ field_views c.in_ok-fields.fields.items) (IsCutTo c.args.places.now whole) (λ gs e. record { places_are = places; is = e ∙ is }) c.of_fields.ensures.is)

@@ -1,0 +1,235 @@
+//! The list of a schema's elements, read into fields.
+
+ghost use Rattle.std.specs.Prelude.{◌≡◌, ◌+◌, ◌<◌, ◌≤◌, ◌↔◌, IfOk, IfErr, drop, length, true, false, IsTrue, MatchOption, string_bytes};
+ghost use Rattle.std.specs.List.{AllByRecursion};
+ghost use Rattle.schema.specs.Elements.{element_view, elements_view};
+ghost use Rattle.schema.specs.Law.{AllDiffer, names, IsWithinLimits};
+ghost use Rattle.schema.specs.Shape.{name_of, repetition_of};
+ghost use Rattle.schema.specs.Listing.{count_typed, count_branches, IsSchemaOf};
+ghost use Rattle.schema.specs.Faults.{HasFault};
+ghost use Rattle.schema.specs.Reading.{children, may_have, forest, well_formed, take_branches, drop_branches, OnFirst, IsRead, AreRead, IsFaultOf, IsFaultAmong, IsInside, IsGroupMade, AreTwins, HasTree, tallest};
+ghost use Rattle.schema.specs.Views.{field_view, field_views};
+
+use crate::annotation::GroupAnnotation;
+use crate::building::{leaf, name_of, repetition_of};
+use crate::element::Element;
+use crate::field::Field;
+use crate::value::Repetition;
+use bits::{R, Refusal};
+use std::alloc::Global;
+
+/// A schema has at most so many leaves.
+const LEAVES: usize = 1024;
+
+/// And at most so many fields are on the way to each.
+const FIELDS_ON_A_WAY: u32 = 32;
+
+/// How many children an element says that it has. A leaf has none.
+pub fn children(element: &Element) -> usize
+    ensures { result ≡ children (element_view element.now) }
+{
+    match (element.kind, element.num_children) {
+        (None, Some(count)) if count > 0 => count as usize,
+        _ => 0,
+    }
+}
+
+/// Whether an element may say that it has so many children: a leaf none, a group some.
+fn may_have(element: &Element) -> bool
+    ensures { result ≡ may_have element.now.kind element.now.num_children }
+{
+    match (element.kind, element.num_children) {
+        (Some(_), None) => true,
+        (Some(_), Some(count)) => count == 0,
+        (None, Some(count)) => count > 0,
+        (None, None) => false,
+    }
+}
+
+/// How many trees a list is, one behind the other, where each element has the children that it says.
+fn count_trees(elements: &[Element]) -> Option<usize>
+    ensures some { MatchOption result (well_formed (elements_view elements.now) ≡ false) (λ n. (well_formed (elements_view elements.now) ≡ true) × (n ≡ count_branches (forest (elements_view elements.now)))) }
+{
+    let mut trees = 0;
+    let mut at = elements.len();
+    while at > 0 {
+        at -= 1;
+        let element = &elements[at];
+        let below = children(element);
+        if !may_have(element) || trees < below {
+            return None;
+        }
+        trees = trees - below + 1;
+    }
+    Some(trees)
+}
+
+/// How many elements have a type.
+pub fn count_typed(elements: &[Element]) -> usize
+    ensures { result ≡ count_typed (elements_view elements.now) }
+{
+    let mut count = 0;
+    for element in elements {
+        if element.kind.is_some() {
+            count += 1;
+        }
+    }
+    count
+}
+
+impl Field {
+    /// Its name.
+    pub fn name(&self) -> &str
+        ensures { result.now ≡ name_of (field_view self.now) }
+    {
+        match self {
+            Field::Leaf { name, .. } => name.as_str(),
+            Field::Group { name, .. } => name.as_str(),
+        }
+    }
+}
+
+/// Whether a field has this name.
+fn has_name(fields: &[Field], name: &str) -> bool
+    ensures { (result ≡ false) ↔ AllByRecursion (λ m. name.now ≡ m → ⊥) (names (field_views fields.now)) }
+{
+    for field in fields {
+        if field.name() == name {
+            return true;
+        }
+    }
+    false
+}
+
+/// Whether no two of the fields have one name. Names are compared pair by pair: there are no more than
+/// a schema may have leaves.
+pub fn names_differ(fields: &[Field]) -> bool
+    ensures { IsTrue result ↔ AllDiffer (names (field_views fields.now)) }
+{
+    for i in 0..fields.len() {
+        let (_, behind) = fields.split_at(i + 1);
+        if has_name(behind, fields[i].name()) {
+            return false;
+        }
+    }
+    true
+}
+
+/// The refusal of something inside a group of this name.
+fn inside(alloc: Global, name: &str, refusal: Refusal) -> Refusal
+    ensures { IsInside name.now refusal result }
+{
+    match refusal {
+        Refusal::Float(path) => match format!(in alloc; "{name}.{path}") {
+            Ok(path) => Refusal::Float(path),
+            Err(_) => Refusal::Memory,
+        },
+        Refusal::Int96(path) => match format!(in alloc; "{name}.{path}") {
+            Ok(path) => Refusal::Int96(path),
+            Err(_) => Refusal::Memory,
+        },
+        other => other,
+    }
+}
+
+/// The group of this element, with these fields.
+fn group(element: &Element, name: String, repetition: Repetition, fields: Vec<Field>) -> R<Field>
+    ensures stands { IfOk result (λ f. IsGroupMade (element_view element.now) (string_bytes name) repetition (field_views fields.items) (field_view f)) }
+    ensures which { IfErr result (AreTwins (field_views fields.items)) }
+{
+    if !names_differ(fields.as_slice()) {
+        return Err(Refusal::Schema);
+    }
+    Ok(Field::Group {
+        name,
+        repetition,
+        annotation: GroupAnnotation::of_element(element.converted_type),
+        fields,
+    })
+}
+
+/// The field at a place of the list, with at most so many fields on a way, and the place behind it.
+#[cycle(reading)]
+fn read_field(alloc: Global, elements: &[Element], at: usize, deep: u32) -> R<(Field, usize)>
+    requires some { at < length elements.now }
+    requires well { well_formed (elements_view (drop at elements.now)) ≡ true }
+    ensures stands { IfOk result (λ x. OnFirst (forest (elements_view (drop at elements.now))) (λ b bs. IsRead deep b (field_view x.0) × (forest (elements_view (drop x.1 elements.now)) ≡ bs))) }
+    ensures well { IfOk result (λ x. well_formed (elements_view (drop x.1 elements.now)) ≡ true) }
+    ensures which { IfErr result (λ e. OnFirst (forest (elements_view (drop at elements.now))) (λ b bs. IsFaultOf deep b e)) }
+{
+    let element = &elements[at];
+    if deep == 0 {
+        return Err(Refusal::Limit);
+    }
+    let name = name_of(alloc, element)?;
+    let Some(repetition) = repetition_of(element.repetition_type) else {
+        return Err(Refusal::Schema);
+    };
+    if let Some(number) = element.kind {
+        return Ok((leaf(alloc, element, name, repetition, number)?, at + 1));
+    }
+    let (fields, next) = match read_fields(alloc, elements, at + 1, children(element), deep - 1) {
+        Ok(x) => x,
+        Err(e) => return Err(inside(alloc, name.as_str(), e)),
+    };
+    let field = group(element, name, repetition, fields)?;
+    Ok((field, next))
+}
+
+/// So many fields that stand one behind the other, the first at this place of the list, and the place
+/// behind them.
+#[cycle(reading)]
+pub fn read_fields(
+    alloc: Global,
+    elements: &[Element],
+    at: usize,
+    count: usize,
+    deep: u32,
+) -> R<(Vec<Field>, usize)>
+    requires some { count ≤ count_branches (forest (elements_view (drop at elements.now))) }
+    requires well { well_formed (elements_view (drop at elements.now)) ≡ true }
+    ensures stands { IfOk result (λ x. AreRead deep (take_branches count (forest (elements_view (drop at elements.now)))) (field_views x.0.items)) }
+    ensures behind { IfOk result (λ x. forest (elements_view (drop x.1 elements.now)) ≡ drop_branches count (forest (elements_view (drop at elements.now)))) }
+    ensures well { IfOk result (λ x. well_formed (elements_view (drop x.1 elements.now)) ≡ true) }
+    ensures which { IfErr result (IsFaultAmong deep (take_branches count (forest (elements_view (drop at elements.now))))) }
+{
+    let mut fields = Vec::new(alloc);
+    let mut at = at;
+    for _ in 0..count {
+        let (field, next) = read_field(alloc, elements, at, deep)?;
+        fields.push(field)?;
+        at = next;
+    }
+    Ok((fields, at))
+}
+
+/// Whether the list is one tree, depth first, whose root is a group. Takes no memory.
+fn is_tree(elements: &[Element]) -> bool
+    ensures { IsTrue result ↔ HasTree (elements_view elements.now) }
+{
+    let Some((root, _)) = elements.split_first() else {
+        return false;
+    };
+    root.kind.is_none() && count_trees(elements) == Some(1)
+}
+
+/// The fields of the root of a list of elements.
+pub fn fields_of(alloc: Global, elements: &[Element]) -> R<Vec<Field>>
+    ensures stands { IfOk result (λ fields. IsSchemaOf (elements_view elements.now) (field_views fields.items)) }
+    ensures within { IfOk result (λ fields. IsWithinLimits (field_views fields.items)) }
+    ensures short { IfOk result (λ fields. tallest (field_views fields.items) ≤ 32) }
+    ensures which { IfErr result (HasFault (elements_view elements.now)) }
+{
+    if !is_tree(elements) {
+        return Err(Refusal::Schema);
+    }
+    if count_typed(elements) > LEAVES {
+        return Err(Refusal::Limit);
+    }
+    let root = &elements[0];
+    let (fields, _) = read_fields(alloc, elements, 1, children(root), FIELDS_ON_A_WAY)?;
+    if !names_differ(fields.as_slice()) {
+        return Err(Refusal::Schema);
+    }
+    Ok(fields)
+}
