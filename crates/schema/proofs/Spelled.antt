@@ -1,11 +1,10 @@
 -- A struct that has bytes is one that can be written.
-use Rattle.std.proofs.Common.{ℕ, suc, max, ◌≡◌, ◌-◌, ◌<◌, ◌≤◌, Bool, true, false, ◌&&◌, ◌||◌, nat_lt, List, inl, inr, refl, arith}
-use Rattle.std.specs.Prelude.{ℤ, pos, IsTrue, ◌==◌}
+use Rattle.std.proofs.Common.{ℕ, ◌≡◌, ◌-◌, ◌<◌, ◌≤◌, Bool, true, false, ◌&&◌, ◌||◌, nat_lt, List, inl, inr, refl, arith}
+use Rattle.std.specs.Prelude.{ℤ, pos, ◌==◌}
 use Rattle.std.proofs.lemmas.Bool.Decides.{nat_tests, Decides-eqb}
 use Rattle.thrift_compact.specs.Tree.{Node, yes, no as never, flag, i8, i16, i32, i64, double, binary, list, set, empty_map, map, struct, Nodes, no_nodes, node, Pairs, no_pairs, pair, Fields, no_fields, field, nest, nodes_nest, pairs_nest, fields_nest, count_pairs}
-use Rattle.thrift_compact.specs.Compact.{kind, IsElement, IsValue, AreElements, ArePairs, AreFields, IsThrift}
+use Rattle.thrift_compact.specs.Compact.{kind, IsElement, IsValue, AreElements, ArePairs, AreFields}
 use Rattle.schema.specs.Writable.{is_element, is_member, is_map, can_write, can_write_each, can_write_pairs, can_write_fields}
-use Rattle.schema.specs.Law.{IsWritable}
 use Rattle.schema.specs.Spelled.{StructsWithBytesAreWritable}
 
 both : (a b : Bool) → a ≡ true → b ≡ true → (a && b) ≡ true

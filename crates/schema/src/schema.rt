@@ -105,6 +105,13 @@ impl Schema {
         self.elements.as_slice()
     }
 
+    /// Its top-level fields. Takes no memory.
+    pub fn fields(&self) -> &[Field]
+        ensures { field_views result.now ≡ self.now }
+    {
+        self.fields.as_slice()
+    }
+
     /// Its leaves, depth first. Takes no memory.
     pub fn leaves(&self) -> &[Leaf]
         ensures is { map leaf_view result.now ≡ leaves_of self.now }

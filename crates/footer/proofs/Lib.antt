@@ -1,0 +1,4 @@
+pub mod Frames
+pub mod OneFile
+pub mod Single
+pub mod Meaning

@@ -1,0 +1,53 @@
+-- What a file means, from its footer, its schema and its groups.
+use Rattle.std.proofs.Common.{◌≡◌, ℕ, List, subst, inl, inr}
+use Rattle.bits.specs.declared.refusal.Refusal.{Refusal}
+use Rattle.bits.specs.declared.refusal.Refusal.TheVariants as refusal
+use Rattle.schema.specs.Values.{ValueTrees}
+use Rattle.schema.specs.Shape.{Fields}
+use Rattle.schema.specs.Listing.{IsSchemaOf, ListsMeanOneSchema}
+use Rattle.metadata.specs.Records.{FileMeta}
+use Rattle.footer.specs.File.{IsFile, GroupsMean, FileMeans}
+use Rattle.footer.specs.Faults.{HasGroupsFault, HasFault, many_groups, large_group, other_group}
+
+-- the file has this front and this record, and no other
+abbrev pub IsOnly : List ℕ → List ℕ → FileMeta → Type 0
+IsOnly bytes front meta = (f : List ℕ) (m : FileMeta) → IsFile bytes f m → (f ≡ front) × (m ≡ meta)
+
+-- no fields stand for the list
+pub no_schema : (bytes front : List ℕ) (meta : FileMeta) → IsOnly bytes front meta → ((fs : Fields) → IsSchemaOf meta.schema fs → ⊥) → (fs : Fields) (rows : List ValueTrees) → FileMeans bytes fs rows → ⊥
+no_schema bytes front meta alone nothing fs rows p = nothing fs (subst (λ (m : FileMeta). IsSchemaOf m.schema fs) (alone p.front p.meta p.file).1 p.schema)
+
+-- what the file means, seen from its one footer and its one schema
+pub seen : (bytes front : List ℕ) (meta : FileMeta) (fs : Fields) → IsOnly bytes front meta → ListsMeanOneSchema → IsSchemaOf meta.schema fs
+    → (gs : Fields) (rows : List ValueTrees) → FileMeans bytes gs rows → (gs ≡ fs) × GroupsMean front fs meta.row_groups rows
+seen bytes front meta fs alone law schema gs rows p =
+    let same = alone p.front p.meta p.file in
+    let one : gs ≡ fs = law meta.schema gs fs (subst (λ (m : FileMeta). IsSchemaOf m.schema gs) same.1 p.schema) schema in
+    (one, subst (λ (f : Fields). GroupsMean front f meta.row_groups rows) one (subst (λ (m : FileMeta). GroupsMean front gs m.row_groups rows) same.1 (subst (λ (b : List ℕ). GroupsMean b gs p.meta.row_groups rows) same.0 p.held)))
+
+-- no rows are held
+pub no_rows : (bytes front : List ℕ) (meta : FileMeta) (fs : Fields) → IsOnly bytes front meta → ListsMeanOneSchema → IsSchemaOf meta.schema fs → ((rows : List ValueTrees) → GroupsMean front fs meta.row_groups rows → ⊥)
+    → (gs : Fields) (rows : List ValueTrees) → FileMeans bytes gs rows → ⊥
+no_rows bytes front meta fs alone law schema nothing gs rows p = nothing rows (seen bytes front meta fs alone law schema gs rows p).1
+
+-- at most one list of rows
+pub one_meaning : (bytes front : List ℕ) (meta : FileMeta) (fs : Fields) (xs : List ValueTrees) → IsOnly bytes front meta → ListsMeanOneSchema → IsSchemaOf meta.schema fs → ((rows : List ValueTrees) → GroupsMean front fs meta.row_groups rows → rows ≡ xs)
+    → (gs : Fields) (rows : List ValueTrees) → FileMeans bytes gs rows → (gs ≡ fs) × (rows ≡ xs)
+one_meaning bytes front meta fs xs alone law schema one gs rows p = let s = seen bytes front meta fs alone law schema gs rows p in (s.0, one rows s.1)
+
+-- a fault of the groups is one of the file
+pub of_groups : (bytes front : List ℕ) (meta : FileMeta) (fs : Fields) → IsFile bytes front meta → IsSchemaOf meta.schema fs → (e : Refusal) → HasGroupsFault front fs meta.row_groups e → HasFault bytes e
+of_groups bytes front meta fs file schema refusal.Codec (g, among, is) = record { front = front; meta = meta; fs = fs; group = g; file = file; schema = schema; among = among; is = is }
+of_groups bytes front meta fs file schema refusal.Limit (inl many) = inr (many_groups fs (record { front = front; meta = meta; file = file; is = (schema, many) }))
+of_groups bytes front meta fs file schema refusal.Limit (inr (g, among, inl over)) = inl (large_group (record { front = front; meta = meta; fs = fs; group = g; file = file; schema = schema; among = among; is = over }))
+of_groups bytes front meta fs file schema refusal.Limit (inr (g, among, inr other)) = inr (other_group (record { front = front; meta = meta; fs = fs; group = g; file = file; schema = schema; among = among; is = other }))
+of_groups bytes front meta fs file schema refusal.Memory w = tt
+of_groups bytes front meta fs file schema refusal.Truncated w = tt
+of_groups bytes front meta fs file schema refusal.Thrift w = tt
+of_groups bytes front meta fs file schema refusal.Schema w = tt
+of_groups bytes front meta fs file schema refusal.Encoding w = tt
+of_groups bytes front meta fs file schema refusal.Page w = tt
+of_groups bytes front meta fs file schema refusal.Levels w = tt
+of_groups bytes front meta fs file schema refusal.Value w = tt
+of_groups bytes front meta fs file schema refusal.Utf8 w = tt
+of_groups bytes front meta fs file schema e w = absurd w

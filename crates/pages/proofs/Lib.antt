@@ -1,0 +1,6 @@
+pub mod Framed
+pub mod FlatPages
+pub mod Bodies
+pub mod PlainValues
+pub mod Passed
+pub mod Texts

@@ -1,0 +1,54 @@
+-- Which values are text.
+use Rattle.std.proofs.Common.{ℕ, ◌≡◌, Bool, true, false, cond, List, [], ◌∷◌, Result, Ok, Err, refl, sym}
+use Rattle.std.specs.Prelude.{is_ok, MatchResult, IsUtf8, IsTrue, ◌&&◌, ◌↔◌, map}
+use Rattle.std.specs.List.{AllByRecursion, list_all}
+use Rattle.std.specs.Str.{is_utf8}
+use Rattle.schema.specs.declared.value.Kind.{Kind}
+use Rattle.schema.specs.declared.value.Value.{Value}
+use Rattle.schema.specs.Annotations.{LeafType, is_text}
+use Rattle.schema.specs.Fits.{fits_leaf, fits_kind, is_valid_text}
+use Rattle.schema.specs.Values.{ValueTree, view}
+use Rattle.plain.specs.Plain.{IsOfKind}
+use Rattle.std.proofs.lemmas.Str.{IsUtf8-from_is_utf8, is_utf8-from_IsUtf8}
+
+not_true : (b : Bool) → (b ≡ true → ⊥) → b ≡ false
+not_true true h = absurd (h refl)
+not_true false h = refl
+
+-- what is read as text is UTF-8
+pub is_text_just_where : {X E : Type 0} (P : X → Type 0) (r : Result X E) (s : List ℕ) → MatchResult r (λ x. P x × IsUtf8 s) (λ e. ¬ (IsUtf8 s)) → is_ok r ≡ is_utf8 s
+is_text_just_where P (Ok x) s h = sym (is_utf8-from_IsUtf8 s h.1)
+is_text_just_where P (Err e) s h = sym (not_true (is_utf8 s) (λ t. h (IsUtf8-from_is_utf8 s t)))
+
+both : (a b : Bool) → a ≡ true → b ≡ true → a && b ≡ true
+both true true p q = refl
+both true false p q = q
+both false b p q = p
+
+first_of_both : (a b : Bool) → a && b ≡ true → a ≡ true
+first_of_both true b p = refl
+first_of_both false b p = p
+
+second_of_both : (a b : Bool) → a && b ≡ true → b ≡ true
+second_of_both true b p = p
+second_of_both false b p = cc
+
+where_asked : (asked valid : Bool) → (asked ≡ true → valid ≡ true) → cond asked valid true ≡ true
+where_asked true valid p = p refl
+where_asked false valid p = refl
+
+-- values of the type fit the leaf where they are text, if they are to be
+pub texts_fit : (t : LeafType) (vs : List Value) → ((kind : Kind) (v : ValueTree) → IsOfKind kind v ↔ IsTrue (fits_kind kind v)) → AllByRecursion (IsOfKind t.kind) (map view vs)
+    → (is_text t.kind t.annotation ≡ true → list_all (λ v. is_valid_text (view v)) vs ≡ true) → AllByRecursion (λ v. IsTrue (fits_leaf t v)) (map view vs)
+texts_fit t [] law are text = tt
+texts_fit t (v ∷ vs) law (here, are) text = (
+  both (fits_kind t.kind (view v)) _ ((law t.kind (view v)).0 here) (where_asked (is_text t.kind t.annotation) (is_valid_text (view v)) (λ asked. first_of_both (is_valid_text (view v)) _ (text asked))),
+  texts_fit t vs law are (λ asked. second_of_both (is_valid_text (view v)) _ (text asked)),
+)
+
+-- and one that is to be text and is not does not
+pub texts_unfit : (t : LeafType) (vs : List Value) → is_text t.kind t.annotation ≡ true → AllByRecursion (λ v. IsTrue (fits_leaf t v)) (map view vs) → list_all (λ v. is_valid_text (view v)) vs ≡ true
+texts_unfit t [] asked fit = refl
+texts_unfit t (v ∷ vs) asked (here, fit) =
+    let valid : cond (is_text t.kind t.annotation) (is_valid_text (view v)) true ≡ true = second_of_both (fits_kind t.kind (view v)) _ here in
+    both (is_valid_text (view v)) _ (rw asked at valid) (texts_unfit t vs asked fit)

@@ -1,0 +1,21 @@
+//! Pages of column chunks (parquet-format, README.md, "Data Pages"; `parquet.thrift`, PageHeader).
+//!
+//! `specs/Page.antt` says which page the bytes at a front are (`IsPage`), `specs/Chunk.antt` which entries
+//! the pages of a chunk hold, `specs/Encodings.antt` has the table of encodings, `specs/Limits.antt` what is
+//! beyond a limit and what is not read yet, `specs/Apart.antt` what one page says of every other page of the
+//! same bytes.
+#![tactic(auto)]
+
+mod data_page;
+mod encoding;
+mod laws;
+mod page;
+mod reading;
+
+pub use encoding::Encoding;
+pub use laws::pages_of_a_dictionary;
+pub use page::PageRef;
+pub use reading::read_page;
+
+#[cfg(test)]
+mod tests;

@@ -1,0 +1,66 @@
+-- The rows of a file fit, so that each has a text.
+use Rattle.std.proofs.Common.{◌≡◌, ◌≢◌, ◌⊎◌, inl, inr, ◌<◌, ℕ, zero, suc, Bool, false, true≢false, List, [], ◌∷◌, ◌++◌, length, get_or, flat_map, Result, Ok, Err, refl, sym, subst, ◌∙◌, arith}
+use Rattle.std.specs.Prelude.{IsTrue, IfErr}
+use Rattle.std.proofs.lemmas.List.Concat.{flat_map-cons}
+use Rattle.bits.specs.declared.refusal.Refusal.{Refusal}
+use Rattle.bits.specs.declared.refusal.Refusal.TheVariants.{Memory, Device, RowShape}
+use Rattle.bits.specs.Refusals.{HasCause, RefusedOnly, IsFault}
+use Rattle.schema.specs.declared.row.Row.{Row}
+use Rattle.schema.specs.Values.{ValueTrees}
+use Rattle.schema.specs.Shape.{Fields}
+use Rattle.schema.specs.Fits.{fits_each, RowsFit}
+use Rattle.schema.specs.Views.{row_view, rows_view}
+use Rattle.metadata.specs.Records.{GroupMeta}
+use Rattle.footer.specs.File.{FileMeans, AreGroups}
+use Rattle.footer.specs.Faults.{HasFault}
+
+both_fit : (fs : Fields) (rows others : List ValueTrees) → RowsFit fs rows → RowsFit fs others → RowsFit fs (rows ++ others)
+both_fit fs [] others x y = y
+both_fit fs (row ∷ rows) others x y = (x.0, both_fit fs rows others x.1 y)
+
+groups_fit : (front : List ℕ) (fs : Fields) (gs : List GroupMeta) (groups : List (List ValueTrees)) → AreGroups front fs gs groups → RowsFit fs (flat_map (λ g. g) groups)
+groups_fit front fs [] [] h = tt
+groups_fit front fs [] (rows ∷ others) h = absurd h
+groups_fit front fs (g ∷ gs) [] h = absurd h
+groups_fit front fs (g ∷ gs) (rows ∷ others) h = rw flat_map-cons (both_fit fs rows (flat_map (λ g. g) others) h.1.fit (groups_fit front fs gs others h.2))
+
+-- what a file means fits its schema
+pub rows_fit : (bytes : List ℕ) (fs : Fields) (rows : List ValueTrees) → FileMeans bytes fs rows → RowsFit fs rows
+rows_fit bytes fs rows means = rw means.held.joined (groups_fit _ fs _ means.held.groups means.held.each)
+
+pub row_fits : (fs : Fields) (rows : List Row) (i : ℕ) (d : Row) → i < length rows → RowsFit fs (rows_view rows) → IsTrue (fits_each fs (row_view (get_or rows i d)))
+row_fits fs [] i d h fit = absurd (omega arith)
+row_fits fs (row ∷ rows) zero d h fit = fit.0
+row_fits fs (row ∷ rows) (suc i) d h fit = row_fits fs rows i d (omega arith) fit.1
+
+-- a row that fits has a text, unless memory is wanting
+pub is_memory : (e : Refusal) (b : Bool) → IsTrue b → (e ≡ Memory) ⊎ ((e ≡ RowShape) × (b ≡ false)) → HasCause (λ x. x ≡ Device) e
+is_memory e b fits (inl m) = rw m tt
+is_memory e b fits (inr h) = absurd (true≢false (sym fits ∙ h.1))
+
+device_or_memory : (e : Refusal) → HasCause (λ x. x ≡ Device) e → (e ≡ Device) ⊎ (e ≡ Memory)
+device_or_memory Memory h = inr refl
+device_or_memory e h = inl h
+
+if_err : {X : Type 0} (P Q : Refusal → Type 0) → ((e : Refusal) → P e → Q e) → (r : Result X Refusal) → IfErr r P → IfErr r Q
+if_err P Q f (Ok x) h = h
+if_err P Q f (Err e) h = f e h
+
+has_fault : (bytes : List ℕ) (e : Refusal) → HasCause (λ x. x ≡ Device) e → (e ≡ Device) ⊎ HasFault bytes e
+has_fault bytes e h = elim (device_or_memory e h) [ inl d ↦ inl d | inr m ↦ inr (rw m tt) ]
+
+-- a writer that fails is no fault of a file that was accepted
+pub is_of_device : {X : Type 0} (bytes : List ℕ) (r : Result X Refusal) → RefusedOnly (λ x. x ≡ Device) r → IfErr r (λ e. (e ≡ Device) ⊎ HasFault bytes e)
+is_of_device bytes r h = if_err (HasCause (λ x. x ≡ Device)) (λ e. (e ≡ Device) ⊎ HasFault bytes e) (has_fault bytes) r h
+
+no_other : (P : Type 0) (e : Refusal) → HasCause (λ x. x ≡ Device) e → e ≢ Device → e ≢ Memory → P
+no_other P e h d m = elim (device_or_memory e h) [ inl is ↦ absurd (d is) | inr is ↦ absurd (m is) ]
+
+pub is_no_other : {X : Type 0} (P : Type 0) (r : Result X Refusal) → RefusedOnly (λ x. x ≡ Device) r → IfErr r (λ e. e ≢ Device → e ≢ Memory → P)
+is_no_other P r h = if_err (HasCause (λ x. x ≡ Device)) (λ e. e ≢ Device → e ≢ Memory → P) (no_other P) r h
+
+no_fault : (P : Type 0) (e : Refusal) → HasCause (λ x. x ≡ Device) e → IsFault e → e ≢ Device → P
+no_fault P e h fault d = elim (device_or_memory e h) [ inl is ↦ absurd (d is) | inr is ↦ absurd (subst IsFault is fault) ]
+
+pub is_no_fault : {X : Type 0} (P : Type 0) (r : Result X Refusal) → RefusedOnly (λ x. x ≡ Device) r → IfErr r (λ e. IsFault e → e ≢ Device → P)
+is_no_fault P r h = if_err (HasCause (λ x. x ≡ Device)) (λ e. IsFault e → e ≢ Device → P) (no_fault P) r h

@@ -1,0 +1,29 @@
+use Rattle.std.proofs.Common.{◌≢◌, List}
+use Rattle.bits.specs.declared.refusal.Refusal.TheVariants.{Device}
+use Rattle.bits.specs.Refusals.{IsFault}
+use Rattle.bits.proofs.Passing.{passes}
+use Rattle.schema.specs.Values.{ValueTrees}
+use Rattle.schema.specs.Shape.{Fields}
+use Rattle.footer.specs.File.{FileMeans}
+use Rattle.pqds.proofs.Rows.{rows_fit, is_of_device, is_no_other, is_no_fault}
+use Rattle.pqds.proofs.lines.decode.Goals as goal
+
+pub returns-clause-which : goal.returns-clause-which
+returns-clause-which g c =
+    let fit = rows_fit c.args.bytes.now _ _ c.in_ok-schema.ensures.stands in
+    is_of_device c.args.bytes.now c.write_rows.result (c.write_rows.ensures.which (rw c.as_slice.ensures.value fit))
+
+pub returns-clause-unchanged : goal.returns-clause-unchanged
+returns-clause-unchanged g c =
+    let fit = rows_fit c.args.bytes.now _ _ c.in_ok-schema.ensures.stands in
+    is_no_other _ c.write_rows.result (c.write_rows.ensures.which (rw c.as_slice.ensures.value fit))
+
+pub returns-in_err-schema-clause-only : goal.returns-in_err-schema-clause-only
+returns-in_err-schema-clause-only g c =
+    passes (λ e. IsFault e → e ≢ Device → (fs : Fields) (rows : List ValueTrees) → FileMeans c.args.bytes.now fs rows → ⊥) c.from_residual.result c.in_err-schema.field-0.0 c.from_residual.ensures.1
+    (λ fault other. c.in_err-schema.ensures.only fault)
+
+pub returns-clause-only : goal.returns-clause-only
+returns-clause-only g c =
+    let fit = rows_fit c.args.bytes.now _ _ c.in_ok-schema.ensures.stands in
+    is_no_fault ((fs : Fields) (rows : List ValueTrees) → FileMeans c.args.bytes.now fs rows → ⊥) c.write_rows.result (c.write_rows.ensures.which (rw c.as_slice.ensures.value fit))

@@ -1,0 +1,81 @@
+-- Where a chunk or a group goes beyond a limit, or is not read yet, and what they are refused for.
+use Rattle.std.specs.Prelude.{◌≡◌, ◌≢◌, ℕ, ◌<◌, ◌⊎◌, pos, ◌<ℤ◌, List, length, drop, slice_get, Contains, Option, Some, None}
+use Rattle.std.specs.List.{Any}
+use Rattle.bits.specs.Codec.{InTurn}
+use Rattle.bits.specs.declared.refusal.Refusal.{Refusal}
+use Rattle.bits.specs.declared.refusal.Refusal.TheVariants.{Schema, Codec}
+use Rattle.schema.specs.Values.{ValueTree}
+use Rattle.schema.specs.Shape.{Fields}
+use Rattle.schema.specs.Stripe.{Leaf, leaves_of}
+use Rattle.metadata.specs.Records.{ColumnMeta, ChunkMeta, GroupMeta}
+use Rattle.pages.specs.Page.{Page, IsPage}
+use Rattle.pages.specs.Chunk.{entries_of, all_entries}
+use Rattle.pages.specs.Limits.{IsPageOver, IsPageToCome, IsOfPages}
+use Rattle.row_group.specs.declared.limits.TheConstants.{MOST_ENTRIES_OF_CHUNK, MOST_ROWS_OF_GROUP}
+use Rattle.row_group.specs.Chunks.{IsChunkOf, StartsAt}
+
+-- behind pages that stand, and that hold fewer entries than the chunk, one page has a value that is too long
+pub record HasPageOver (m : ColumnMeta) (leaf : Leaf) (bytes : List ℕ) : Type 0 where
+  pub dictionary : Option (List ValueTree)
+  pub before : List Page
+  pub at : ℕ
+  pub stand : InTurn (IsPage leaf dictionary) bytes before at
+  pub fewer : pos (length (all_entries before)) <ℤ m.num_values
+  pub over : IsPageOver leaf (drop at bytes)
+
+-- the chunk that begins here announces too many entries, or has a value that is too long
+pub data IsChunkOver (m : ColumnMeta) (leaf : Leaf) (bytes : List ℕ) : Type 0 where
+  many_entries : MOST_ENTRIES_OF_CHUNK <ℤ m.num_values → IsChunkOver m leaf bytes
+  long_value : IsChunkOf m leaf → HasPageOver m leaf bytes → IsChunkOver m leaf bytes
+
+-- Why a chunk is not read yet. (Each that is built is taken away, and with the last the type.)
+pub data IsChunkToCome (m : ColumnMeta) (leaf : Leaf) (bytes : List ℕ) : Type 0 where
+  other_page : IsChunkOf m leaf → pos 0 <ℤ m.num_values → IsPageToCome leaf None bytes → IsChunkToCome m leaf bytes
+  many_pages : (page : Page) (used : ℕ) → IsChunkOf m leaf → IsPage leaf None bytes page used → pos (length (entries_of page)) <ℤ m.num_values → IsChunkToCome m leaf bytes
+
+-- a dictionary page's offset is given, above 0 and below the data page's
+pub record HasDictionary (m : ColumnMeta) : Type 0 where
+  pub offset : ℕ
+  pub page : ℕ
+  pub given : m.dictionary_page_offset ≡ Some (pos offset)
+  pub data_page : m.data_page_offset ≡ pos page
+  pub above : 0 < offset
+  pub below : offset < page
+
+-- chunk k of the group, with leaf k of the schema
+pub record HasColumn (fs : Fields) (g : GroupMeta) (Is : ColumnMeta → Leaf → Type 0) : Type 0 where
+  pub k : ℕ
+  pub chunk : ChunkMeta
+  pub leaf : Leaf
+  pub of_group : slice_get g.columns k ≡ Some chunk
+  pub of_schema : slice_get (leaves_of fs) k ≡ Some leaf
+  pub is : Is chunk.meta_data leaf
+
+-- the chunk begins in these bytes, and is so from there
+abbrev pub BeginsWith : List ℕ → (ColumnMeta → Leaf → List ℕ → Type 0) → ColumnMeta → Leaf → Type 0
+BeginsWith front Is m leaf = (start : ℕ) × StartsAt m start × Is m leaf (drop start front)
+
+-- the group announces too many rows, or a chunk of it goes beyond a limit
+pub data IsGroupOver (front : List ℕ) (fs : Fields) (g : GroupMeta) : Type 0 where
+  many_rows : MOST_ROWS_OF_GROUP <ℤ g.num_rows → IsGroupOver front fs g
+  large_chunk : HasColumn fs g (BeginsWith front IsChunkOver) → IsGroupOver front fs g
+
+-- a leaf that is not read yet: it is below a group, or not REQUIRED
+abbrev pub IsLeafToCome : Leaf → Type 0
+IsLeafToCome leaf = (1 < length leaf.steps) ⊎ (0 < leaf.greatest_definition)
+
+-- Why a group is not read yet. (Each that is built is taken away, and with the last the type.)
+pub data IsGroupToCome (front : List ℕ) (fs : Fields) (g : GroupMeta) : Type 0 where
+  other_leaf : Any IsLeafToCome (leaves_of fs) → IsGroupToCome front fs g
+  with_dictionary : HasColumn fs g (λ m leaf. HasDictionary m) → IsGroupToCome front fs g
+  other_chunk : HasColumn fs g (BeginsWith front IsChunkToCome) → IsGroupToCome front fs g
+
+-- a chunk of the group is compressed
+abbrev pub HasCodec : GroupMeta → Type 0
+HasCodec g = (chunk : ChunkMeta) × Contains g.columns chunk × (chunk.meta_data.codec ≢ pos 0)
+
+-- what a chunk or a group is refused for
+abbrev pub IsOfChunks : Refusal → Type 0
+IsOfChunks Schema = Unit {0}
+IsOfChunks Codec = Unit {0}
+IsOfChunks e = IsOfPages e

@@ -1,0 +1,55 @@
+-- Words of the functions that read columns one by one, and that move their values into rows.
+use Rattle.std.specs.Prelude.{◌≡◌, ◌<◌, ◌≤◌, ◌⊎◌, ℕ, List, [], ◌∷◌, map, length, replicate, None, unwrap_or}
+use Rattle.schema.specs.Values.{ValueTree, null, ValueTrees, no_values, value as item}
+use Rattle.schema.specs.Stripe.{Leaf, Entry}
+use Rattle.metadata.specs.Records.{ColumnMeta}
+use Rattle.pages.specs.Page.{Page, IsPage}
+use Rattle.pages.specs.Chunk.{entries_of}
+use Rattle.pages.specs.Limits.{IsPageOver, IsPageToCome}
+use Rattle.row_group.specs.Limits.{IsChunkOver, IsChunkToCome, BeginsWith, HasDictionary}
+
+-- the first page holds fewer entries than are wanted
+pub record HasFewer (leaf : Leaf) (bytes : List ℕ) (n : ℕ) : Type 0 where
+  pub page : Page
+  pub used : ℕ
+  pub stands : IsPage leaf None bytes page used
+  pub fewer : length (entries_of page) < n
+
+-- why pages that hold n entries are refused Limit
+abbrev pub IsPagesLimit : Leaf → List ℕ → ℕ → Type 0
+IsPagesLimit leaf bytes n = (0 < n) × (IsPageOver leaf bytes ⊎ (IsPageToCome leaf None bytes ⊎ HasFewer leaf bytes n))
+
+-- why a chunk of a file is
+abbrev pub IsColumnLimit : List ℕ → ColumnMeta → Leaf → Type 0
+IsColumnLimit front m leaf = HasDictionary m ⊎ (BeginsWith front IsChunkOver m leaf ⊎ BeginsWith front IsChunkToCome m leaf)
+
+-- a leaf that is read
+abbrev pub IsLeafRead : Leaf → Type 0
+IsLeafRead leaf = (length leaf.steps ≤ 1) × (leaf.greatest_definition ≡ 0)
+
+-- a column of n entries
+abbrev pub HasCount : ℕ → List Entry → Type 0
+HasCount n es = length es ≡ n
+
+-- the value of an entry, null where there is none
+abbrev pub value_of : Entry → ValueTree
+value_of e = unwrap_or e.value null
+
+-- a value behind those of a row, and one behind those of each
+abbrev pub behind : ValueTrees → ValueTree → ValueTrees
+behind no_values v = item v no_values
+behind (item w ws) v = item w (behind ws v)
+
+abbrev pub behind_each : List ValueTrees → List ValueTree → List ValueTrees
+behind_each (row ∷ rows) (v ∷ vs) = behind row v ∷ behind_each rows vs
+behind_each _ _ = []
+
+-- a value before those of each row
+abbrev pub before_each : List ValueTree → List ValueTrees → List ValueTrees
+before_each (v ∷ vs) (row ∷ rows) = item v row ∷ before_each vs rows
+before_each _ _ = []
+
+-- the n rows that have the values of these columns
+abbrev pub rows_of : ℕ → List (List Entry) → List ValueTrees
+rows_of n [] = replicate n no_values
+rows_of n (c ∷ cs) = before_each (map value_of c) (rows_of n cs)

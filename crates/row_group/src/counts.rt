@@ -1,0 +1,33 @@
+//! Numbers of records that count, or that are places.
+
+ghost use Rattle.std.specs.Prelude.{◌≡◌, ◌≢◌, ℕ, pos, ◌<ℤ◌, Option, MatchOption, IfOk, Err};
+ghost use Rattle.bits.specs.Refusals.{OnFault, RefusedOnly};
+ghost use Rattle.pages.specs.Limits.{IsOfPages};
+
+use bits::{R, Refusal};
+
+/// The number, where it is none below 0.
+pub fn natural(number: i64) -> Option<usize>
+    ensures { MatchOption result ((n : ℕ) → number ≡ pos n → ⊥) (λ n. number ≡ pos n) }
+{
+    if number < 0 {
+        return None;
+    }
+    Some(number as usize)
+}
+
+/// A count of at most so many. Refused Page below 0, and Limit above.
+pub fn count_of(number: i64, most: i64) -> R<usize>
+    ensures is { IfOk result (λ n. number ≡ pos n) }
+    ensures only { OnFault result ((n : ℕ) → number ≡ pos n → ⊥) }
+    ensures limit { result ≡ Err Refusal.Limit → most <ℤ number }
+    ensures which { RefusedOnly IsOfPages result }
+{
+    if number > most {
+        return Err(Refusal::Limit);
+    }
+    let Some(count) = natural(number) else {
+        return Err(Refusal::Page);
+    };
+    Ok(count)
+}
