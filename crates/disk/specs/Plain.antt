@@ -19,6 +19,11 @@ pub record IsPlain (part : List ℕ) : Type 0 where
 abbrev pub IsProper : List ℕ → Type 0
 IsProper path = (path ≡ []) ⊎ All IsPlain (slice_split (λ b. b == slash) path)
 
+-- the host's folder for a dataset: the empty text is the folder that the program runs in
+abbrev pub folder_or_dot : List ℕ → List ℕ
+folder_or_dot [] = codes "."
+folder_or_dot (b ∷ path) = b ∷ path
+
 -- where a path of the dataset stands on the host, whose folder for it is `root`
 abbrev pub host_path : List ℕ → List ℕ → List ℕ
 host_path root [] = root

@@ -1,7 +1,10 @@
 //! A real folder.
 
-ghost use Rattle.std.specs.Prelude.{◌≡◌, ◌≢◌, ◌⊎◌, IfOk, IfErr, IsErr, IsErrOf, string_bytes};
-ghost use Rattle.disk.specs.Plain.{IsProper, host_path, host_state, host_lawful};
+ghost use Rattle.std.specs.Prelude.{◌≡◌, ◌≢◌, ◌⊎◌, ◌≤◌, [], IfOk, IfErr, IsErrOf, length, string_bytes};
+ghost use Rattle.disk.specs.Paths.{folder_of};
+ghost use Rattle.disk.specs.State.{IsOneMore};
+ghost use Rattle.disk.specs.Calls.{CountsFailure};
+ghost use Rattle.disk.specs.Plain.{IsProper, folder_or_dot, host_path, host_state, host_lawful};
 
 use crate::binding::Entry;
 use crate::counts::{counted, one_more};
@@ -9,17 +12,18 @@ use crate::disk::Disk;
 use crate::fault::Fault;
 use crate::host_calls as calls;
 use crate::paths::folder_of;
-use crate::reach::reach;
+use crate::reach::{is_path, reach};
 use std::alloc::Global;
 use std::fs::Files;
 
 /// A folder of the host's file system. Its calls go to the system one by one and keep nothing open.
 ///
-/// That the file system keeps the model of [`Disk`] is a premise of whoever uses it; of what it holds nothing is
-/// promised here, but for the counts of failures and of reads. `docs/DISK.md` says which file systems are meant.
+/// That the file system keeps the model of [`Disk`] is a premise of whoever uses it: of what it holds nothing is
+/// promised here. `docs/DISK.md` says which file systems are meant. What is promised is which faults are answered, the
+/// counts of failures and of reads, and that it stays the folder that it was made of (`same_folder`).
 ///
-/// No call leaves the folder: a path with an empty part, `.` or `..` fails, and so does one with a link, a pipe or
-/// another kind of node on its way or at its end.
+/// No call leaves the folder: a path with an empty part, `.` or `..` is answered Failed (`outside`), and so is one with
+/// a link, a pipe or another kind of node on its way or at its end.
 #[derive(Drop)]
 pub struct HostDisk<R: Files + Clone + Drop> {
     files: R,
@@ -34,6 +38,7 @@ impl<R: Files + Clone + Drop> HostDisk<R> {
     /// system. Refused Memory alone.
     pub fn new(alloc: Global, files: R, folder: &str) -> Result<HostDisk<R>, Fault>
         ensures starts { IfOk result (λ disk. (disk.failures ≡ 0) × (disk.reads ≡ 0)) }
+        ensures folder { IfOk result (λ disk. string_bytes disk.folder ≡ folder_or_dot folder.now) }
         ensures which { IfErr result (λ e. e ≡ Fault.Memory) }
     {
         let folder = if folder.is_empty() { "." } else { folder };
@@ -51,6 +56,7 @@ impl<R: Files + Clone + Drop> HostDisk<R> {
     fn reach(&self, path: &str) -> Result<String, Fault>
         ensures inside { IfOk result (λ place. string_bytes place ≡ host_path (string_bytes self.now.folder) path.now) }
         ensures outside { (IsProper path.now → ⊥) → IsErrOf result Fault.Failed }
+        ensures top { path.now ≡ [] → IfErr result (λ e. e ≡ Fault.Memory) }
         ensures which { IfErr result (λ e. e ≢ Fault.Exists) }
     {
         reach(&self.files, self.alloc, self.folder.as_str(), path)
@@ -78,6 +84,7 @@ impl<R: Files + Clone + Drop> HostDisk<R> {
         len: usize,
     ) -> Result<Vec<u8>, Fault>
         ensures outside { (IsProper path.now → ⊥) → IsErrOf result Fault.Failed }
+        ensures at_most { IfOk result (λ bytes. length bytes.items ≤ len) }
         ensures which { IfErr result (λ e. e ≢ Fault.Exists) }
     {
         let place = self.reach(path)?;
@@ -126,10 +133,12 @@ impl<R: Files + Clone + Drop> HostDisk<R> {
 
     fn try_rename(&self, source: &str, target: &str) -> Result<(), Fault>
         ensures outside { (IsProper source.now → ⊥) → IsErrOf result Fault.Failed }
-        ensures onto { (IsProper target.now → ⊥) → IsErr result }
+        ensures onto { (IsProper target.now → ⊥) → IsErrOf result Fault.Failed }
+        ensures apart { source.now ≡ target.now → IsErrOf result Fault.Failed }
+        ensures beside { folder_of source.now ≢ folder_of target.now → IsErrOf result Fault.Failed }
         ensures which { IfErr result (λ e. e ≢ Fault.Exists) }
     {
-        if source == target || folder_of(source) != folder_of(target) {
+        if !is_path(target) || source == target || folder_of(source) != folder_of(target) {
             return Err(Fault::Failed);
         }
         let from = self.reach(source)?;
@@ -149,7 +158,9 @@ impl<R: Files + Clone + Drop> HostDisk<R> {
 /// A want of memory told as a failure, for the calls that answer no Memory.
 fn memory_is_failure(answer: Result<(), Fault>) -> Result<(), Fault>
     requires { IfErr answer (λ e. e ≢ Fault.Exists) }
-    ensures { IfErr result (λ e. (e ≡ Fault.Absent) ⊎ (e ≡ Fault.Failed)) }
+    ensures told { IsErrOf answer Fault.Memory → IsErrOf result Fault.Failed }
+    ensures others { (IsErrOf answer Fault.Memory → ⊥) → result ≡ answer }
+    ensures which { IfErr result (λ e. (e ≡ Fault.Absent) ⊎ (e ≡ Fault.Failed)) }
 {
     match answer {
         Err(Fault::Memory) => Err(Fault::Failed),
@@ -157,17 +168,28 @@ fn memory_is_failure(answer: Result<(), Fault>) -> Result<(), Fault>
     }
 }
 
+// A method's own clauses replace the trait's, so what the trait asks of every disk stands here again.
 impl<R: Files + Clone + Drop> Disk for HostDisk<R> {
     ghost state = { λ disk. host_state disk.failures disk.reads };
 
     ghost lawful = { λ disk. host_lawful disk.failures disk.reads };
 
-    fn create(&mut self, path: &str) -> Result<(), Fault> {
+    fn create(&mut self, path: &str) -> Result<(), Fault>
+        ensures outside { (IsProper path.now → ⊥) → IsErrOf result Fault.Failed }
+        ensures counts { CountsFailure result self.old.failures self.new.failures }
+        ensures reads { self.new.reads ≡ self.old.reads }
+        ensures same_folder { self.new.folder ≡ self.old.folder }
+    {
         let answer = self.try_create(path);
         counted(&mut self.failures, answer)
     }
 
-    fn make_folder(&mut self, path: &str) -> Result<(), Fault> {
+    fn make_folder(&mut self, path: &str) -> Result<(), Fault>
+        ensures outside { (IsProper path.now → ⊥) → IsErrOf result Fault.Failed }
+        ensures counts { CountsFailure result self.old.failures self.new.failures }
+        ensures reads { self.new.reads ≡ self.old.reads }
+        ensures same_folder { self.new.folder ≡ self.old.folder }
+    {
         let answer = self.try_make_folder(path);
         counted(&mut self.failures, answer)
     }
@@ -178,43 +200,95 @@ impl<R: Files + Clone + Drop> Disk for HostDisk<R> {
         path: &str,
         from: u64,
         len: usize,
-    ) -> Result<Vec<u8>, Fault> {
+    ) -> Result<Vec<u8>, Fault>
+        ensures outside { (IsProper path.now → ⊥) → IsErrOf result Fault.Failed }
+        ensures at_most { IfOk result (λ bytes. length bytes.items ≤ len) }
+        ensures which { IfErr result (λ e. e ≢ Fault.Exists) }
+        ensures counts { CountsFailure result self.old.failures self.new.failures }
+        ensures reads { IsOneMore self.old.reads self.new.reads }
+        ensures same_folder { self.new.folder ≡ self.old.folder }
+    {
         self.reads = one_more(self.reads);
         let answer = self.try_read_range(alloc, path, from, len);
         counted(&mut self.failures, answer)
     }
 
-    fn length(&mut self, path: &str) -> Result<u64, Fault> {
+    fn length(&mut self, path: &str) -> Result<u64, Fault>
+        ensures outside { (IsProper path.now → ⊥) → IsErrOf result Fault.Failed }
+        ensures which { IfErr result (λ e. e ≢ Fault.Exists) }
+        ensures counts { CountsFailure result self.old.failures self.new.failures }
+        ensures reads { self.new.reads ≡ self.old.reads }
+        ensures same_folder { self.new.folder ≡ self.old.folder }
+    {
         let answer = self.try_length(path);
         counted(&mut self.failures, answer)
     }
 
-    fn list(&mut self, alloc: Global, folder: &str) -> Result<Vec<Entry>, Fault> {
+    fn list(&mut self, alloc: Global, folder: &str) -> Result<Vec<Entry>, Fault>
+        ensures outside { (IsProper folder.now → ⊥) → IsErrOf result Fault.Failed }
+        ensures which { IfErr result (λ e. e ≢ Fault.Exists) }
+        ensures counts { CountsFailure result self.old.failures self.new.failures }
+        ensures reads { self.new.reads ≡ self.old.reads }
+        ensures same_folder { self.new.folder ≡ self.old.folder }
+    {
         let answer = self.try_list(alloc, folder);
         counted(&mut self.failures, answer)
     }
 
-    fn append(&mut self, path: &str, bytes: &[u8]) -> Result<(), Fault> {
+    fn append(&mut self, path: &str, bytes: &[u8]) -> Result<(), Fault>
+        ensures outside { (IsProper path.now → ⊥) → IsErrOf result Fault.Failed }
+        ensures which { IfErr result (λ e. e ≢ Fault.Exists) }
+        ensures counts { CountsFailure result self.old.failures self.new.failures }
+        ensures reads { self.new.reads ≡ self.old.reads }
+        ensures same_folder { self.new.folder ≡ self.old.folder }
+    {
         let answer = self.try_append(path, bytes);
         counted(&mut self.failures, answer)
     }
 
-    fn sync(&mut self, path: &str) -> Result<(), Fault> {
+    fn sync(&mut self, path: &str) -> Result<(), Fault>
+        ensures outside { (IsProper path.now → ⊥) → IsErrOf result Fault.Failed }
+        ensures which { IfErr result (λ e. e ≢ Fault.Exists) }
+        ensures counts { CountsFailure result self.old.failures self.new.failures }
+        ensures reads { self.new.reads ≡ self.old.reads }
+        ensures same_folder { self.new.folder ≡ self.old.folder }
+    {
         let answer = self.try_sync(path);
         counted(&mut self.failures, answer)
     }
 
-    fn sync_folder(&mut self, folder: &str) -> Result<(), Fault> {
+    fn sync_folder(&mut self, folder: &str) -> Result<(), Fault>
+        ensures outside { (IsProper folder.now → ⊥) → IsErrOf result Fault.Failed }
+        ensures which { IfErr result (λ e. (e ≡ Fault.Absent) ⊎ (e ≡ Fault.Failed)) }
+        ensures counts { CountsFailure result self.old.failures self.new.failures }
+        ensures reads { self.new.reads ≡ self.old.reads }
+        ensures same_folder { self.new.folder ≡ self.old.folder }
+    {
         let answer = memory_is_failure(self.try_sync_folder(folder));
         counted(&mut self.failures, answer)
     }
 
-    fn rename(&mut self, source: &str, target: &str) -> Result<(), Fault> {
+    fn rename(&mut self, source: &str, target: &str) -> Result<(), Fault>
+        ensures outside { (IsProper source.now → ⊥) → IsErrOf result Fault.Failed }
+        ensures onto { (IsProper target.now → ⊥) → IsErrOf result Fault.Failed }
+        ensures apart { source.now ≡ target.now → IsErrOf result Fault.Failed }
+        ensures beside { folder_of source.now ≢ folder_of target.now → IsErrOf result Fault.Failed }
+        ensures which { IfErr result (λ e. (e ≡ Fault.Absent) ⊎ (e ≡ Fault.Failed)) }
+        ensures counts { CountsFailure result self.old.failures self.new.failures }
+        ensures reads { self.new.reads ≡ self.old.reads }
+        ensures same_folder { self.new.folder ≡ self.old.folder }
+    {
         let answer = memory_is_failure(self.try_rename(source, target));
         counted(&mut self.failures, answer)
     }
 
-    fn remove(&mut self, path: &str) -> Result<(), Fault> {
+    fn remove(&mut self, path: &str) -> Result<(), Fault>
+        ensures outside { (IsProper path.now → ⊥) → IsErrOf result Fault.Failed }
+        ensures which { IfErr result (λ e. e ≢ Fault.Exists) }
+        ensures counts { CountsFailure result self.old.failures self.new.failures }
+        ensures reads { self.new.reads ≡ self.old.reads }
+        ensures same_folder { self.new.folder ≡ self.old.folder }
+    {
         let answer = self.try_remove(path);
         counted(&mut self.failures, answer)
     }

@@ -1,6 +1,6 @@
 //! What a real folder's calls ask of the system. A place is a path of the host, reached without a link.
 
-ghost use Rattle.std.specs.Prelude.{◌≡◌, ◌≢◌, IfErr};
+ghost use Rattle.std.specs.Prelude.{◌≡◌, ◌≢◌, ◌≤◌, IfOk, IfErr, length};
 
 use crate::binding::{Entry, Kind};
 use crate::fault::Fault;
@@ -62,6 +62,7 @@ pub fn read_range<R: Files>(
     from: u64,
     len: usize,
 ) -> Result<Vec<u8>, Fault>
+    ensures at_most { IfOk result (λ bytes. length bytes.items ≤ len) }
     ensures which { IfErr result (λ e. e ≢ Fault.Exists) }
 {
     let there = length(files, place)?.saturating_sub(from).min(len as u64);

@@ -1,6 +1,6 @@
 //! The way from a path of the dataset to a file or folder of the host.
 
-ghost use Rattle.std.specs.Prelude.{◌≡◌, ◌≢◌, ◌↔◌, IsTrue, IfOk, IfErr, IsErrOf, string_bytes};
+ghost use Rattle.std.specs.Prelude.{◌≡◌, ◌≢◌, ◌↔◌, IsTrue, [], IfOk, IfErr, IsErrOf, string_bytes};
 ghost use Rattle.disk.specs.Plain.{IsPlain, IsProper, host_path};
 
 use crate::fault::Fault;
@@ -69,10 +69,11 @@ fn check_way<R: Files>(files: &R, alloc: Global, root: &str, path: &str) -> Resu
 }
 
 /// Where a path stands on the host. Refused Failed for a path that would leave its folder, or that has a link or
-/// another kind of node on its way; Absent where a folder on its way is not there.
+/// another kind of node on its way; Absent where a folder on its way is not there. Of the folder itself Memory alone.
 pub fn reach<R: Files>(files: &R, alloc: Global, root: &str, path: &str) -> Result<String, Fault>
     ensures inside { IfOk result (λ place. string_bytes place ≡ host_path root.now path.now) }
     ensures outside { (IsProper path.now → ⊥) → IsErrOf result Fault.Failed }
+    ensures top { path.now ≡ [] → IfErr result (λ e. e ≡ Fault.Memory) }
     ensures which { IfErr result (λ e. e ≢ Fault.Exists) }
 {
     if !is_path(path) {

@@ -7,4 +7,5 @@ pub mod Effects
 pub mod Keeping
 pub mod Listed
 pub mod Resting
-pub mod Fitting
+pub mod Leaving
+pub mod Picking

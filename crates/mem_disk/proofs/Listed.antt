@@ -1,6 +1,5 @@
 -- What is listed of a folder.
-use Rattle.std.proofs.Common.{◌≡◌, ◌≢◌, ◌<◌, ◌≤◌, inl, inr, ⊎_elim, ℕ, zero, suc, ◌+◌, List, [], ◌∷◌, ◌++◌, length, take, drop, get_or, string_bytes, slice_get, Some, refl, sym, ◌∙◌, ap, subst, arith, length-append}
-use Rattle.std.proofs.Math.Seq.{take-append_seam}
+use Rattle.std.proofs.Common.{◌≡◌, ◌≢◌, ◌<◌, ◌≤◌, inl, inr, ⊎_elim, ℕ, zero, suc, List, [], ◌∷◌, ◌++◌, length, drop, get_or, string_bytes, slice_get, Option, MatchOption, None, Some, Bor, refl, sym, ◌∙◌, ap, subst, arith}
 use Rattle.disk.specs.Paths.{slash, path_in, IsName}
 use Rattle.disk.specs.State.{Image}
 use Rattle.disk.specs.Calls.{IsListedAs, AreNamesIn}
@@ -26,34 +25,15 @@ one_name (x ∷ folder) a b e =
     let cut : slash ∷ a ≡ slash ∷ b = sym (drop_front (x ∷ folder) (slash ∷ a)) ∙ ap (drop (length (x ∷ folder))) e ∙ drop_front (x ∷ folder) (slash ∷ b) in
     ap (drop 1) cut
 
-split : (n : ℕ) (xs : List ℕ) → take n xs ++ drop n xs ≡ xs
-split zero xs = refl
-split (suc n) [] = refl
-split (suc n) (x ∷ xs) = ap (λ (ys : List ℕ). x ∷ ys) (split n xs)
+-- what a front that is asked for in vain says of a folder's names, and what a slash behind it says
+pub other_front : (folder path : List ℕ) (r : Option (Bor (List ℕ))) → r ≡ None → folder ≢ [] → ((rest : List ℕ) → path ≢ folder ++ rest) → MatchOption r ((name : List ℕ) → path ≢ path_in folder name) (λ name. path ≡ path_in folder name.now)
+other_front folder path None is some ne = λ name e. ne (slash ∷ name) (e ∙ behind_it folder name some)
+other_front folder path (Some x) is some ne = absurd (let no : Some x ≡ None = is in cc)
 
-first_and : (xs : List ℕ) (d : ℕ) → 0 < length xs → xs ≡ get_or xs 0 d ∷ drop 1 xs
-first_and [] d lt = absurd (omega (arith, lt))
-first_and (x ∷ xs) d lt = refl
-
--- a path that begins with a folder and a slash
-pub begins : (folder path : List ℕ) (d : ℕ) → folder ≢ [] → length folder < length path → take (length folder) path ≡ folder → get_or (drop (length folder) path) 0 d ≡ slash → 0 < length (drop (length folder) path) → path ≡ path_in folder (drop 1 (drop (length folder) path))
-begins folder path d some lt front at long =
-    let back = drop (length folder) path in
-    sym (split (length folder) path) ∙ ap (λ (xs : List ℕ). xs ++ back) front
-    ∙ ap (λ (xs : List ℕ). folder ++ xs) (first_and back d long ∙ ap (λ (b : ℕ). b ∷ drop 1 back) at)
-    ∙ sym (behind_it folder (drop 1 back) some)
-
-pub too_short : (folder path name : List ℕ) → folder ≢ [] → length path ≤ length folder → path ≢ path_in folder name
-too_short folder path name some le e =
-    let long : length path ≡ length (folder ++ slash ∷ name) = ap length (e ∙ behind_it folder name some) in
-    let sum : length (folder ++ slash ∷ name) ≡ length folder + length (slash ∷ name) = length-append folder (slash ∷ name) in
-    omega (arith, le, long, sum)
-
-pub other_front : (folder path name : List ℕ) → folder ≢ [] → take (length folder) path ≢ folder → path ≢ path_in folder name
-other_front folder path name some ne e = ne (ap (take (length folder)) (e ∙ behind_it folder name some) ∙ take-append_seam folder (slash ∷ name))
-
-pub other_slash : (folder path name : List ℕ) (d : ℕ) → folder ≢ [] → get_or (drop (length folder) path) 0 d ≢ slash → path ≢ path_in folder name
-other_slash folder path name d some ne e = ne (ap (λ (xs : List ℕ). get_or xs 0 d) (ap (drop (length folder)) (e ∙ behind_it folder name some) ∙ drop_front folder (slash ∷ name)))
+pub behind_slash : (folder path local : List ℕ) (r : Option (Bor (List ℕ))) → folder ≢ [] → path ≡ folder ++ local → MatchOption r ((rest : List ℕ) → local ≢ slash ∷ rest) (λ x. local ≡ slash ∷ x.now)
+    → MatchOption r ((name : List ℕ) → path ≢ path_in folder name) (λ name. path ≡ path_in folder name.now)
+behind_slash folder path local None some is lacks = λ name e. lacks name (sym (drop_front folder local) ∙ ap (drop (length folder)) (sym is ∙ e ∙ behind_it folder name some) ∙ drop_front folder (slash ∷ name))
+behind_slash folder path local (Some x) some is at = is ∙ ap (λ (xs : List ℕ). folder ++ xs) at ∙ sym (behind_it folder x.now some)
 
 not_top : (folder name : List ℕ) → IsName name → at_first (path_in folder name) ≡ Nothing
 not_top [] [] is = absurd (is.some refl)

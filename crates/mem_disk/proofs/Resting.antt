@@ -12,7 +12,7 @@ use Rattle.mem_disk.specs.States.{state_with}
 use Rattle.mem_disk.proofs.Choices.{not_true, folder_or_not, nothing_or_not}
 use Rattle.mem_disk.proofs.Passing.{leaves_now}
 
-shorter : (b : ℕ) (q : List ℕ) → length (folder_of (b ∷ q)) ≤ length q
+pub shorter : (b : ℕ) (q : List ℕ) → length (folder_of (b ∷ q)) ≤ length q
 shorter b q = ⊎_elim
     (λ none. let long = ap length none in omega (arith, long))
     (λ some. let long = ap length some.3 in let cut = length-take some.0 (b ∷ q) in let lt = some.1 in omega (arith, long, cut, lt))

@@ -5,4 +5,5 @@ pub mod Laws
 pub mod Fuses
 pub mod Listings
 pub mod Disks
-pub mod Images
+pub mod Left
+pub mod Picks

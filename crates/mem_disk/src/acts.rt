@@ -1,6 +1,6 @@
 //! What the calls do to what a disk keeps.
 
-ghost use Rattle.std.specs.Prelude.{◌≡◌, ◌≢◌, ◌<◌, ◌⊎◌, ℕ, length, IfErr, IsErrOf, IsTrue};
+ghost use Rattle.std.specs.Prelude.{◌≡◌, ◌≢◌, ◌<◌, ◌⊎◌, ◌↔◌, ℕ, length, IfErr, IsErrOf, IsTrue};
 ghost use Rattle.disk.specs.Paths.{folder_of};
 ghost use Rattle.disk.specs.Calls.{Created, FolderMade, Appended, Synced, FolderSynced, Renamed, Removed};
 ghost use Rattle.disk.specs.declared.fault.Fault.TheVariants.{Absent, Exists, Failed};
@@ -14,7 +14,7 @@ use disk::{Binding, Fault, folder_of};
 
 // Two names of one folder.
 fn are_beside(source: &str, target: &str) -> bool
-    ensures { IsTrue result → (folder_of target.now ≡ folder_of source.now) × (target.now ≢ source.now) }
+    ensures { IsTrue result ↔ (folder_of target.now ≡ folder_of source.now) × (target.now ≢ source.now) }
 {
     folder_of(target) == folder_of(source) && target != source
 }

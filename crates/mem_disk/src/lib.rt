@@ -8,11 +8,13 @@
 //! may leave of that (`MayLeave`), and `specs/States.antt` makes of it the state that the trait's contract speaks of,
 //! one moment for each call of the record (`state_with`; of a `MemDisk`: `state_of` in `specs/Disks.antt`). Lists of
 //! names and nodes beside the record answer reads without a replay, and a ghost field ties them to it (`Keeps`).
-//! `specs/Fuses.antt` says which calls fail (`Burns`).
+//! `specs/Fuses.antt` says which calls fail (`Burns`), and `specs/Picks.antt` which image a list of words picks
+//! (`ArePickedBy`).
 //!
-//! A call takes time that grows with the number of names that ever came up, and not with the length of the record;
-//! `crash` takes time that grows with the square of that number, and with the bytes of all files. The record is never
-//! cut: each byte that is appended is kept twice.
+//! A call takes time that grows with the number of names that ever came up, and not with the length of the record.
+//! `crash` looks up each folder above each name, twice: its time grows with that number, times the depth of the names,
+//! times how late their folders came up, and with the bytes of all files. The record is never cut: each byte that is
+//! appended is kept twice.
 #![tactic(auto)]
 
 mod acts;
@@ -20,7 +22,7 @@ mod call;
 mod crash;
 mod fuse;
 mod held;
-mod images;
+mod left;
 mod listing;
 mod mem_disk_impl;
 mod name;

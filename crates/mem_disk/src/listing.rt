@@ -3,7 +3,7 @@
 ghost use Rattle.std.specs.Prelude.{◌≡◌, ◌≢◌, ◌<◌, ◌⊎◌, ℕ, List, [], true, false, IfErr, IfOk, OnOk, MatchOption, string_bytes};
 ghost use Rattle.disk.specs.Paths.{path_in, IsName};
 ghost use Rattle.disk.specs.Calls.{Listed};
-ghost use Rattle.disk.specs.declared.fault.Fault.TheVariants.{Exists, Failed, Memory};
+ghost use Rattle.disk.specs.declared.fault.Fault.TheVariants.{Absent, Memory};
 ghost use Rattle.disk.specs.declared.binding.Binding.TheVariants.{Nothing};
 ghost use Rattle.mem_disk.specs.Listings.{IsEntryOf, IsUnlisted, AreListed, AddsEntry, IsKindOf};
 ghost use Rattle.mem_disk.specs.States.{state_with, AlsoFailed};
@@ -11,7 +11,7 @@ ghost use Rattle.mem_disk.specs.States.{state_with, AlsoFailed};
 use crate::held::Held;
 use crate::name::Name;
 use disk::{Binding, Entry, Fault, Kind};
-use std::alloc::Global;
+use std::alloc::{AllocError, Global};
 
 // What a binding is listed as.
 fn kind_of(binding: Binding) -> Option<Kind>
@@ -38,45 +38,32 @@ fn is_name(bytes: &[u8]) -> bool
 }
 
 // What stands behind a folder and its slash.
-fn behind<'a>(path: &'a [u8], folder: &[u8]) -> Option<&'a [u8]>
+fn behind<'a>(path: &'a str, folder: &str) -> Option<&'a str>
     ensures { MatchOption result ((name : List ℕ) → path.now ≢ path_in folder.now name) (λ name. path.now ≡ path_in folder.now name.now) }
 {
     if folder.is_empty() {
         return Some(path);
     }
-    if path.len() <= folder.len() {
-        return None;
-    }
-    let (front, back) = path.split_at(folder.len());
-    if front != folder {
-        return None;
-    }
-    if back[0] != b'/' {
-        return None;
-    }
-    Some(back.split_at(1).1)
+    path.strip_prefix(folder)?.strip_prefix('/')
 }
 
 // What a name is listed as, where it stands for something and lies in the folder.
-fn entry_of(alloc: Global, name: &Name, folder: &[u8]) -> Result<Option<Entry>, Fault>
-    ensures entry { IfOk result (λ r. MatchOption r (IsUnlisted folder.now name.entry.now) (λ entry. IsEntryOf folder.now name.entry.now entry)) }
-    ensures which { IfErr result (λ e. (e ≡ Failed) ⊎ (e ≡ Memory)) }
+fn entry_of(alloc: Global, name: &Name, folder: &str) -> Result<Option<Entry>, AllocError>
+    ensures { IfOk result (λ r. MatchOption r (IsUnlisted folder.now name.entry.now) (λ entry. IsEntryOf folder.now name.entry.now entry)) }
 {
     let Some(kind) = kind_of(name.now) else {
         return Ok(None)
     };
-    let Some(local) = behind(name.path.as_bytes(), folder) else {
+    let Some(local) = behind(&name.path, folder) else {
         return Ok(None)
     };
-    if !is_name(local) {
+    if !is_name(local.as_bytes()) {
         return Ok(None);
     }
-    let bytes = Vec::from_slice(alloc, local)?;
-    // what stands behind a slash in a text is text
-    match String::from_utf8(bytes) {
-        Ok(text) => Ok(Some(Entry { name: text, kind })),
-        Err(_) => Err(Fault::Failed),
-    }
+    Ok(Some(Entry {
+        name: String::from_str(alloc, local)?,
+        kind,
+    }))
 }
 
 // Adds what a name is listed as.
@@ -84,10 +71,9 @@ fn add_entry(
     alloc: Global,
     entries: &mut Vec<Entry>,
     name: &Name,
-    folder: &[u8],
-) -> Result<(), Fault>
-    ensures adds { OnOk result (AddsEntry folder.now name.entry.now entries.old.items entries.new.items) }
-    ensures which { IfErr result (λ e. (e ≡ Failed) ⊎ (e ≡ Memory)) }
+    folder: &str,
+) -> Result<(), AllocError>
+    ensures { OnOk result (AddsEntry folder.now name.entry.now entries.old.items entries.new.items) }
 {
     let listed = entry_of(alloc, name, folder)?;
     match listed {
@@ -97,9 +83,8 @@ fn add_entry(
 }
 
 // The names in a folder, in the order of the list.
-fn entries_of(alloc: Global, names: &[Name], folder: &[u8]) -> Result<Vec<Entry>, Fault>
-    ensures entries { IfOk result (λ entries. AreListed folder.now names.now entries.items) }
-    ensures which { IfErr result (λ e. (e ≡ Failed) ⊎ (e ≡ Memory)) }
+fn entries_of(alloc: Global, names: &[Name], folder: &str) -> Result<Vec<Entry>, AllocError>
+    ensures { IfOk result (λ entries. AreListed folder.now names.now entries.items) }
 {
     let mut entries = Vec::new(alloc);
     for name in names {
@@ -112,12 +97,12 @@ impl Held {
     /// The names in a folder, each once.
     pub fn list_names(&self, alloc: Global, folder: &str) -> Result<Vec<Entry>, Fault>
         ensures effect { (f g r s : ℕ) → AlsoFailed (Listed (λ entries. entries.items) folder.now (state_with self.now.calls.items f r) (state_with self.now.calls.items g s)) result }
-        ensures which { IfErr result (λ e. e ≢ Exists) }
+        ensures which { IfErr result (λ e. (e ≡ Absent) ⊎ (e ≡ Memory)) }
     {
         let Binding::Folder = self.binding(folder) else {
             return Err(Fault::Absent)
         };
-        let entries = entries_of(alloc, &self.names, folder.as_bytes())?;
+        let entries = entries_of(alloc, &self.names, folder)?;
         Ok(entries)
     }
 }

@@ -89,6 +89,7 @@ impl Disk for MemDisk {
         ensures reads { (state_of self.new).reads ≡ (state_of self.old).reads }
         ensures honest { (state_of self.old).honest ↔ (state_of self.new).honest }
         ensures fuse { Burns self.old.fuse self.new.fuse result }
+        ensures passes { trip_of self.old.fuse ≡ case.Passes → IsErrOf result Fault.Failed → ⊥ }
     {
         let trip = self.fuse.burn();
         let done = self.held.list_names(alloc, folder);

@@ -22,9 +22,9 @@ loop-name-init c rest so = subst (λ (es : List Entry). AreListed c.args.folder.
 
 pub loop-name-preserved : goal.loop-name-preserved
 loop-name-preserved c rest so =
-    next c.args.folder.now c.args.names.now c.loop-name.name-index c.name-item.result c.loop-name.entries.items c.add_entry.new.entries.items c.loop-name-test.true c.name-item.is c.in_ok-add_entry.ensures.adds c.loop-name.invariant rest
+    next c.args.folder.now c.args.names.now c.loop-name.name-index c.name-item.result c.loop-name.entries.items c.add_entry.new.entries.items c.loop-name-test.true c.name-item.is c.in_ok-add_entry.ensures c.loop-name.invariant rest
     (subst (λ (k : ℕ). AreListed c.args.folder.now (drop k c.args.names.now) rest) (add-one c.loop-name.name-index) so)
 
-pub returns-clause-entries : goal.returns-clause-entries
-returns-clause-entries c = subst (λ (es : List Entry). AreListed c.args.folder.now c.args.names.now es) (behind_all c.loop-name.entries.items)
+pub returns : goal.returns
+returns c = subst (λ (es : List Entry). AreListed c.args.folder.now c.args.names.now es) (behind_all c.loop-name.entries.items)
     (c.loop-name.invariant [] (listed_end c.args.folder.now c.args.names.now c.loop-name.name-index c.loop-name-test.false))

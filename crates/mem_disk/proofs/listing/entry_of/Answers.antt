@@ -3,7 +3,7 @@ use Rattle.disk.specs.Paths.{IsName}
 use Rattle.mem_disk.proofs.Listed.{one_name}
 use Rattle.mem_disk.proofs.listing.entry_of.Goals as goal
 
-pub returns-then-not-is_name-clause-entry : goal.returns-then-not-is_name-clause-entry
-returns-then-not-is_name-clause-entry c =
+pub returns-then-not-is_name : goal.returns-then-not-is_name
+returns-then-not-is_name c =
     let off : c.is_name.result ≡ false = search rules in
-    inr (λ name is e. c.is_name.ensures.no off (subst IsName (one_name c.args.folder.now name c.in-Some-behind.local.now (sym e ∙ sym c.as_bytes.ensures.value ∙ c.in-Some-behind.ensures)) is))
+    inr (λ name is e. c.is_name.ensures.no off (subst IsName (one_name c.args.folder.now name c.in-Some-behind.local.now (sym e ∙ sym c.deref.ensures ∙ c.in-Some-behind.ensures) ∙ sym c.as_bytes.ensures.value) is))

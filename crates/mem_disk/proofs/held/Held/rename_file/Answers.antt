@@ -36,7 +36,7 @@ returns-then-is_err-clause-effect c f g r s =
 
 pub returns-then-eq-2-clause-effect : goal.returns-then-eq-2-clause-effect
 returns-then-eq-2-clause-effect c f g r s =
-    let beside : (folder_of c.args.target.now ≡ folder_of c.args.source.now) × (c.args.target.now ≢ c.args.source.now) = c.are_beside.ensures (search rules) in
+    let beside : (folder_of c.args.target.now ≡ folder_of c.args.source.now) × (c.args.target.now ≢ c.args.source.now) = c.are_beside.ensures.0 (search rules) in
     let moves = movable c.args.self.now.calls.items c.args.source.now c.args.target.now c.in-File.node c.binding-2.result c.in-File.ensures c.binding-2.ensures c.in_default.not-Folder beside in
     let goes = ok_of_not c.bind.result (sym c.is_err.ensures.value ∙ c.if-is_err.false) c.bind.ensures.ok in
     let x = renamed_part _ f g r s (Err Failed) refl _ c.args.self.now.kept.sound c.args.source.now c.args.target.now moves c.bind.new.self.calls.items goes refl in
@@ -44,19 +44,19 @@ returns-then-eq-2-clause-effect c f g r s =
 
 pub bind-requires-2-clause-no_folder : goal.bind-requires-2-clause-no_folder
 bind-requires-2-clause-no_folder c =
-    let beside : (folder_of c.args.target.now ≡ folder_of c.args.source.now) × (c.args.target.now ≢ c.args.source.now) = c.are_beside.ensures (search rules) in
+    let beside : (folder_of c.args.target.now ≡ folder_of c.args.source.now) × (c.args.target.now ≢ c.args.source.now) = c.are_beside.ensures.0 (search rules) in
     let goes = ok_of_not c.bind.result (sym c.is_err.ensures.value ∙ c.if-is_err.false) c.bind.ensures.ok in
     file_is_no_folder _ c.in-File.node (still_file _ _ c.args.source.now c.args.target.now c.in-File.node goes beside.1 c.in-File.ensures)
 
 pub bind-requires-2-clause-home : goal.bind-requires-2-clause-home
 bind-requires-2-clause-home c =
-    let beside : (folder_of c.args.target.now ≡ folder_of c.args.source.now) × (c.args.target.now ≢ c.args.source.now) = c.are_beside.ensures (search rules) in
+    let beside : (folder_of c.args.target.now ≡ folder_of c.args.source.now) × (c.args.target.now ≢ c.args.source.now) = c.are_beside.ensures.0 (search rules) in
     let goes = ok_of_not c.bind.result (sym c.is_err.ensures.value ∙ c.if-is_err.false) c.bind.ensures.ok in
     c.bind.new.self.kept.sound.whole.below c.args.source.now (file_is_something _ c.in-File.node (still_file _ _ c.args.source.now c.args.target.now c.in-File.node goes beside.1 c.in-File.ensures))
 
 pub returns-then-is_err-2-clause-effect : goal.returns-then-is_err-2-clause-effect
 returns-then-is_err-2-clause-effect c f g r s =
-    let beside : (folder_of c.args.target.now ≡ folder_of c.args.source.now) × (c.args.target.now ≢ c.args.source.now) = c.are_beside.ensures (search rules) in
+    let beside : (folder_of c.args.target.now ≡ folder_of c.args.source.now) × (c.args.target.now ≢ c.args.source.now) = c.are_beside.ensures.0 (search rules) in
     let moves = movable c.args.self.now.calls.items c.args.source.now c.args.target.now c.in-File.node c.binding-2.result c.in-File.ensures c.binding-2.ensures c.in_default.not-Folder beside in
     let goes = ok_of_not c.bind.result (sym c.is_err.ensures.value ∙ c.if-is_err.false) c.bind.ensures.ok in
     let same = err_of c.bind-2.result (sym c.is_err-2.ensures.value ∙ c.if-is_err-2.true) c.bind-2.ensures.err in
@@ -66,7 +66,7 @@ returns-then-is_err-2-clause-effect c f g r s =
 
 pub returns-clause-effect : goal.returns-clause-effect
 returns-clause-effect c f g r s =
-    let beside : (folder_of c.args.target.now ≡ folder_of c.args.source.now) × (c.args.target.now ≢ c.args.source.now) = c.are_beside.ensures (search rules) in
+    let beside : (folder_of c.args.target.now ≡ folder_of c.args.source.now) × (c.args.target.now ≢ c.args.source.now) = c.are_beside.ensures.0 (search rules) in
     let moves = movable c.args.self.now.calls.items c.args.source.now c.args.target.now c.in-File.node c.binding-2.result c.in-File.ensures c.binding-2.ensures c.in_default.not-Folder beside in
     let goes = ok_of_not c.bind.result (sym c.is_err.ensures.value ∙ c.if-is_err.false) c.bind.ensures.ok in
     let then = ok_of_not c.bind-2.result (sym c.is_err-2.ensures.value ∙ c.if-is_err-2.false) c.bind-2.ensures.ok in
