@@ -2,3 +2,9 @@ pub mod Frames
 pub mod OneFile
 pub mod Single
 pub mod Meaning
+pub mod Ends
+pub mod Writable
+pub mod Grouped
+pub mod Weighed
+pub mod NoRows
+pub mod Whole

@@ -1,2 +1,4 @@
 pub mod File
 pub mod Faults
+pub mod Writing
+pub mod Own

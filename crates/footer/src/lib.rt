@@ -1,16 +1,26 @@
 //! Whole files (parquet-format, README.md, "File format").
 //!
 //! `specs/File.antt` says which rows of which schema the bytes of a file mean (`FileMeans`),
-//! `specs/Faults.antt` which refusal comes when.
+//! `specs/Faults.antt` which refusal comes when,
+//! `specs/Writing.antt` how a file is written, and `specs/Own.antt` what the store's own writer puts
+//! into one.
 #![tactic(auto)]
 
+mod ending;
 mod file;
 mod limits;
+mod options;
 mod reading;
+mod record;
+mod writing;
 
 pub use file::read_file;
 pub use limits::{MOST_BYTES_OF_FILE, MOST_BYTES_OF_FOOTER};
+pub use options::{Style, WriteOptions};
 pub use reading::read_footer;
+pub use writing::write_file;
 
 #[cfg(test)]
 mod tests;
+#[cfg(test)]
+mod writing_tests;

@@ -1,4 +1,7 @@
-//! How much is read.
+//! What a file begins and ends with, and how much is read and written.
+
+/// The magic.
+pub const MAGIC: &[u8] = b"PAR1";
 
 /// The most bytes that a file may have.
 pub const MOST_BYTES_OF_FILE: usize = 2_147_483_647;

@@ -7,7 +7,7 @@ ghost use Rattle.metadata.specs.Views.{file_meta_view};
 ghost use Rattle.footer.specs.File.{magic, IsFramed, IsFile};
 ghost use Rattle.footer.specs.Faults.{LacksMagic, HasFooterFault};
 
-use crate::limits::{MOST_BYTES_OF_FILE, MOST_BYTES_OF_FOOTER};
+use crate::limits::{MAGIC, MOST_BYTES_OF_FILE, MOST_BYTES_OF_FOOTER};
 use bits::{R, Refusal};
 use byteorder::{ByteOrder, LittleEndian};
 use metadata::{FileMeta, one_footer};
@@ -17,7 +17,7 @@ use std::alloc::Global;
 fn is_magic(bytes: &[u8]) -> bool
     ensures { IsTrue result ↔ (bytes.now ≡ magic) }
 {
-    bytes == b"PAR1".as_slice()
+    bytes == MAGIC
 }
 
 /// Whether the bytes begin and end with the format's magic.

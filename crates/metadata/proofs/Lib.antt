@@ -7,3 +7,4 @@ pub mod Weights
 pub mod Texts
 pub mod Carried
 pub mod Own
+pub mod Shaped

@@ -5,3 +5,4 @@ pub mod ToTree
 pub mod Views
 pub mod Answers
 pub mod Weight
+pub mod Kept

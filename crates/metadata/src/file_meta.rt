@@ -12,6 +12,7 @@ ghost use Rattle.metadata.specs.FromTree.{file_meta};
 ghost use Rattle.metadata.specs.Records.{FileMeta as FileMetaShown};
 ghost use Rattle.metadata.specs.Views.{file_meta_view};
 ghost use Rattle.metadata.specs.Answers.{IsRecordOf, StandsFor};
+ghost use Rattle.metadata.specs.Kept.{EachKeepsWritten};
 ghost use Rattle.metadata.specs.Weight.{IsOfTheWriter, footer_weight};
 
 use crate::column_order::ColumnOrder;
@@ -23,7 +24,9 @@ use crate::put::{put, put_given};
 use bits::{R, Refusal};
 use schema::Element;
 use std::alloc::Global;
-use thrift_compact::{Field, Node, Tree, one_struct, read_struct, write_struct};
+use thrift_compact::{
+    Field, Node, Tree, one_struct, read_struct, structs_with_bytes_have_the_shape, write_struct,
+};
 
 /// A FileMetaData (`parquet.thrift`): the footer of a file.
 #[derive(Debug, Drop)]
@@ -80,15 +83,16 @@ impl FileMeta {
     /// The footer of a file that the store writes takes at most the bytes that it weighs.
     ///
     /// Refused Thrift only where no bytes at all are this record: where the logicalType of an
-    /// element nests deeper than 29, or holds what no bytes have. After a refusal `out` is as it was.
+    /// element nests deeper than 29, or no bytes have it. After a refusal `out` is as it was.
     pub fn write(&self, alloc: Global, out: &mut Vec<u8>) -> R<()>
         ensures stands { let fields = file_meta_fields (file_meta_view self.now) in OnOk result (Appends (λ bytes used. IsThrift bytes fields used) (most_struct fields) out.old.items out.new.items) }
         ensures read_again { let fields = file_meta_fields (file_meta_view self.now) in OnOk result (Appends (λ bytes used. StandsFor file_meta bytes (file_meta_view self.now) used) (most_struct fields) out.old.items out.new.items) }
         ensures weight { let seen = file_meta_view self.now in (keys : List (List ℕ)) → IsOfTheWriter keys seen → OnOk result (length out.new.items ≤ length out.old.items + footer_weight keys seen) }
         ensures only { OnFault result ((bytes : List ℕ) (used : ℕ) → StandsFor file_meta bytes (file_meta_view self.now) used → ⊥) }
-        ensures which { RefusedOnly (λ e. e ≡ Refusal.Thrift) result }
+        ensures which { RefusedOnly (λ e. (e ≡ Refusal.Thrift) × (EachKeepsWritten (file_meta_view self.now) → ⊥)) result }
         ensures unchanged { OnErr result (out.new.items ≡ out.old.items) }
     {
+        structs_with_bytes_have_the_shape();
         let tree = self.to_tree(alloc)?;
         write_struct(&tree, out)
     }

@@ -99,7 +99,7 @@ impl PageHeader {
         ensures stands { let fields = page_header_fields (page_header_view self.now) in OnOk result (Appends (λ bytes used. IsThrift bytes fields used) (most_struct fields) out.old.items out.new.items) }
         ensures read_again { let fields = page_header_fields (page_header_view self.now) in OnOk result (Appends (λ bytes used. StandsFor page_header bytes (page_header_view self.now) used) (most_struct fields) out.old.items out.new.items) }
         ensures only { OnFault result ((bytes : List ℕ) (used : ℕ) → StandsFor page_header bytes (page_header_view self.now) used → ⊥) }
-        ensures which { RefusedOnly (λ e. e ≡ Refusal.Thrift) result }
+        ensures which { RefusedOnly (λ e. (e ≡ Refusal.Thrift) × (has_own_header (page_header_view self.now) ≡ false)) result }
         ensures unchanged { OnErr result (out.new.items ≡ out.old.items) }
     {
         let tree = self.to_tree(alloc)?;

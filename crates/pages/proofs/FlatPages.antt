@@ -60,7 +60,7 @@ zero_definitions : (vs : List ValueTree) → AreZero (definitions (map flat vs))
 zero_definitions [] = tt
 zero_definitions (v ∷ vs) = (refl, zero_definitions vs)
 
-flat_values : (vs : List ValueTree) → values (map flat vs) ≡ vs
+pub flat_values : (vs : List ValueTree) → values (map flat vs) ≡ vs
 flat_values [] = refl
 flat_values (v ∷ vs) = ap (λ (t : List ValueTree). v ∷ t) (flat_values vs)
 
@@ -69,7 +69,7 @@ flat_fit leaf [] d fit = tt
 flat_fit leaf (v ∷ vs) d (here, fit) = (record { repetition = omega arith; definition = omega arith; value = (sym d, here) }, flat_fit leaf vs d fit)
 
 -- values that fit are a page's
-flat_body : (leaf : Leaf) (d : Option (List ValueTree)) (own : DataPageHeader) (body : List ℕ) (n : ℕ) (vs : List ValueTree) → leaf.greatest_repetition ≡ 0 → leaf.greatest_definition ≡ 0
+pub flat_body : (leaf : Leaf) (d : Option (List ValueTree)) (own : DataPageHeader) (body : List ℕ) (n : ℕ) (vs : List ValueTree) → leaf.greatest_repetition ≡ 0 → leaf.greatest_definition ≡ 0
     → own.num_values ≡ pos n → length vs ≡ n → AllByRecursion (λ v. IsTrue (fits_leaf leaf.leaf_type v)) vs → Spell (AreValues d leaf.leaf_type.kind (encoding_of own.encoding)) body vs → IsBodyV1 leaf d own body (map flat vs)
 flat_body leaf d own body n vs r g count size fit spelled =
     let es = map flat vs in

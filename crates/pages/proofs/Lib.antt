@@ -4,3 +4,5 @@ pub mod Bodies
 pub mod PlainValues
 pub mod Passed
 pub mod Texts
+mod Lent
+mod WrittenPages

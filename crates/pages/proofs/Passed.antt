@@ -1,9 +1,9 @@
 -- A refusal that is passed on by `?`, in this crate's clauses.
-use Rattle.std.proofs.Common.{◌≡◌, Result, Ok, Err, ◌∙◌, sym}
-use Rattle.std.specs.Result.{IsErrAnd, IfOk, OnOk}
+use Rattle.std.proofs.Common.{◌≡◌, Bool, true, false, Result, Ok, Err, ◌∙◌, sym}
+use Rattle.std.specs.Result.{is_err, IsErrAnd, IfOk, OnOk}
 use Rattle.bits.specs.declared.refusal.Refusal.{Refusal}
-use Rattle.bits.specs.declared.refusal.Refusal.TheVariants.{Memory, Limit}
-use Rattle.bits.specs.Refusals.{HasCause, RefusedOnly}
+use Rattle.bits.specs.declared.refusal.Refusal.TheVariants.{Memory, Limit, Thrift}
+use Rattle.bits.specs.Refusals.{HasCause, OnFault, RefusedOnly}
 use Rattle.bits.proofs.Passing.{passes}
 
 wider : (P Q : Refusal → Type 0) → ((e : Refusal) → P e → Q e) → (e : Refusal) → HasCause P e → HasCause Q e
@@ -27,3 +27,22 @@ if_ok P Q (Err e) more p = tt
 pub on_ok : {X : Type 0} (P : Type 0) (r : Result X Refusal) → P → OnOk r P
 on_ok P (Ok x) p = p
 on_ok P (Err e) p = tt
+
+-- three facts of what is answered give one more
+pub on_ok_all : {X : Type 0} {P Q R S : Type 0} (r : Result X Refusal) → (P → Q → R → S) → OnOk r P → OnOk r Q → OnOk r R → OnOk r S
+on_ok_all (Ok x) all p q r = all p q r
+on_ok_all (Err e) all p q r = tt
+
+-- nothing is asked of what is no answer
+pub no_error : {X : Type 0} (P : Type 0) (r : Result X Refusal) (b : Bool) → b ≡ true → b ≡ is_err r → OnOk r P
+no_error P (Ok x) b on is = absurd cc
+no_error P (Err e) b on is = tt
+
+pub not_false : true ≡ false → ⊥
+not_false e = cc
+
+-- refusals that come only where P does not come where P does not hold
+pub excluded : {X P : Type 0} (Cause Also : Refusal → Type 0) (r : Result X Refusal) → (P → ⊥) → RefusedOnly (λ e. Cause e × P) r → RefusedOnly Also r
+excluded Cause Also (Ok x) never p = tt
+excluded Cause Also (Err Memory) never p = tt
+excluded Cause Also (Err e) never p = absurd (never p.1)

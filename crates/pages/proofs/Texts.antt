@@ -52,3 +52,8 @@ texts_unfit t [] asked fit = refl
 texts_unfit t (v ∷ vs) asked (here, fit) =
     let valid : cond (is_text t.kind t.annotation) (is_valid_text (view v)) true ≡ true = second_of_both (fits_kind t.kind (view v)) _ here in
     both (is_valid_text (view v)) _ (rw asked at valid) (texts_unfit t vs asked fit)
+
+-- values that fit a leaf are of its type
+pub kinds_of_fit : (t : LeafType) (vs : List ValueTree) → ((kind : Kind) (v : ValueTree) → IsOfKind kind v ↔ IsTrue (fits_kind kind v)) → AllByRecursion (λ v. IsTrue (fits_leaf t v)) vs → AllByRecursion (IsOfKind t.kind) vs
+kinds_of_fit t [] law fit = tt
+kinds_of_fit t (v ∷ vs) law (here, fit) = ((law t.kind v).1 (first_of_both (fits_kind t.kind v) _ here), kinds_of_fit t vs law fit)

@@ -5,3 +5,5 @@ pub mod Limits
 pub mod Views
 pub mod Flat
 pub mod Apart
+pub mod Writing
+pub mod Headers

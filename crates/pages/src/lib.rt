@@ -3,19 +3,26 @@
 //! `specs/Page.antt` says which page the bytes at a front are (`IsPage`), `specs/Chunk.antt` which entries
 //! the pages of a chunk hold, `specs/Encodings.antt` has the table of encodings, `specs/Limits.antt` what is
 //! beyond a limit and what is not read yet, `specs/Apart.antt` what one page says of every other page of the
-//! same bytes.
+//! same bytes. `specs/Writing.antt` says what a written page weighs, and which entries are not written,
+//! `specs/Headers.antt` which header it has.
 #![tactic(auto)]
 
 mod data_page;
 mod encoding;
+mod entry;
 mod laws;
+mod limits;
 mod page;
 mod reading;
+mod writing;
 
 pub use encoding::Encoding;
+pub use entry::EntryRef;
 pub use laws::pages_of_a_dictionary;
+pub use limits::MOST_BYTES_OF_PAGE;
 pub use page::PageRef;
 pub use reading::read_page;
+pub use writing::write_page;
 
 #[cfg(test)]
 mod tests;

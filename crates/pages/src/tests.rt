@@ -1,6 +1,6 @@
 use super::*;
 use bits::{R, Refusal};
-use schema::{Annotation, Kind, Leaf, LeafType, Value};
+use schema::{Annotation, Entry, Kind, Leaf, LeafType, Value, same};
 use std::alloc::Global;
 use std::test::*;
 
@@ -148,4 +148,116 @@ fn a_page_of_another_type_is_passed_over(rt: HostRuntime) {
     assert!(rt; matches!(index, Ok((0, 33))));
     let dictionary = counted(rt.alloc(), changed(1, 0x04).as_slice(), None);
     assert!(rt; matches!(dictionary, Err(Refusal::Thrift)));
+}
+
+/// The entry of a value of a leaf without levels.
+fn entry_of(value: &Value) -> EntryRef<'_> {
+    EntryRef {
+        repetition: 0,
+        definition: 0,
+        value: Some(value),
+    }
+}
+
+/// A page of the values.
+fn written(alloc: Global, leaf: &Leaf, values: &[Value]) -> R<Vec<u8>> {
+    let mut entries = Vec::new(alloc);
+    for value in values {
+        entries.push(entry_of(value))?;
+    }
+    let mut out = Vec::new(alloc);
+    write_page(alloc, leaf, entries.as_slice(), &mut out)?;
+    Ok(out)
+}
+
+#[test]
+fn two_numbers_are_written(rt: HostRuntime) -> Result<(), Fail> {
+    let leaf = leaf_of(rt.alloc(), Kind::Int64, None);
+    let page = written(rt.alloc(), &leaf, &[Value::Int(1), Value::Int(300)])?;
+    assert_eq!(rt; page.as_slice(), NUMBERS.as_slice());
+    Ok(())
+}
+
+#[test]
+fn two_texts_are_written(rt: HostRuntime) -> Result<(), Fail> {
+    let leaf = leaf_of(rt.alloc(), Kind::ByteArray, Some(0));
+    let one = Value::Bytes(Vec::from_slice(rt.alloc(), b"a")?);
+    let values = vec![in rt.alloc(); one, Value::Bytes(Vec::new(rt.alloc()))]?;
+    let page = written(rt.alloc(), &leaf, values.as_slice())?;
+    assert_eq!(rt; page.as_slice(), TEXTS.as_slice());
+    Ok(())
+}
+
+/// Whether the entries are those of the values.
+fn are_entries_of(entries: &[Entry], values: &[Value]) -> bool {
+    if entries.len() != values.len() {
+        return false;
+    }
+    for (i, entry) in entries.iter().enumerate() {
+        let is_right = match &entry.value {
+            Some(value) => same(value, &values[i]),
+            None => false,
+        };
+        if !is_right {
+            return false;
+        }
+    }
+    true
+}
+
+/// Whether a page of the values is read as their entries.
+fn is_read_back(alloc: Global, kind: Kind, values: &[Value]) -> R<bool> {
+    let leaf = leaf_of(alloc, kind, None);
+    let page = written(alloc, &leaf, values)?;
+    let (read, used) = read_page(alloc, page.as_slice(), &leaf, None, values.len())?;
+    match read {
+        PageRef::Data(entries) => {
+            Ok(used == page.len() && are_entries_of(entries.as_slice(), values))
+        }
+        _ => Ok(false),
+    }
+}
+
+#[test]
+fn written_pages_are_read_back(rt: HostRuntime) -> Result<(), Fail> {
+    let numbers = [
+        Value::Int(-2147483648),
+        Value::Int(2147483647),
+        Value::Int(0),
+    ];
+    assert!(rt; is_read_back(rt.alloc(), Kind::Int32, &numbers)?);
+    assert!(rt; is_read_back(rt.alloc(), Kind::Int64, &numbers)?);
+    let truths = [Value::Bool(true), Value::Bool(false), Value::Bool(true)];
+    assert!(rt; is_read_back(rt.alloc(), Kind::Boolean, &truths)?);
+    let one = Value::Bytes(Vec::from_slice(rt.alloc(), b"abc")?);
+    let other = Value::Bytes(Vec::from_slice(rt.alloc(), &[0, 255, 7])?);
+    let fixed = vec![in rt.alloc(); one, other]?;
+    assert!(rt; is_read_back(rt.alloc(), Kind::FixedLenByteArray(3), fixed.as_slice())?);
+    for kind in [Kind::Boolean, Kind::Int32, Kind::ByteArray] {
+        assert!(rt; is_read_back(rt.alloc(), kind, &[])?);
+    }
+    Ok(())
+}
+
+#[test]
+fn entries_that_are_not_of_the_leaf_are_refused(rt: HostRuntime) -> Result<(), Fail> {
+    let mut out = Vec::from_slice(rt.alloc(), &[7])?;
+    let leaf = leaf_of(rt.alloc(), Kind::Int32, None);
+    let (right, wide) = (Value::Int(1), Value::Int(2147483648));
+    let mut missing = entry_of(&right);
+    missing.value = None;
+    for bad in [entry_of(&wide), missing] {
+        let wrong = write_page(rt.alloc(), &leaf, &[entry_of(&right), bad], &mut out);
+        assert!(rt; matches!(wrong, Err(Refusal::Value)));
+    }
+    let mut above = entry_of(&right);
+    above.definition = 1;
+    let wrong = write_page(rt.alloc(), &leaf, &[above], &mut out);
+    assert!(rt; matches!(wrong, Err(Refusal::Levels)));
+    let mut optional = leaf_of(rt.alloc(), Kind::Int32, None);
+    optional.greatest_definition = 1;
+    let wrong = write_page(rt.alloc(), &optional, &[above], &mut out);
+    assert!(rt; matches!(wrong, Err(Refusal::Limit)));
+    assert_eq!(rt; out.as_slice(), [7].as_slice());
+    Ok(())
 }

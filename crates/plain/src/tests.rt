@@ -122,3 +122,16 @@ fn a_count_that_no_bytes_hold_asks_for_nothing(rt: HostRuntime) {
         assert!(rt; matches!(cut, Err(Refusal::Truncated)));
     }
 }
+
+#[test]
+fn lent_values_are_written_where_they_lie(rt: HostRuntime) -> Result<(), Fail> {
+    let (one, other) = (Value::Int(300), Value::Int(-1));
+    let lent = [&one, &other, &one];
+    assert_eq!(rt; encoded_size(Kind::Int32, &lent)?, 12);
+    let mut out = Vec::new(rt.alloc());
+    encode(Kind::Int32, &lent, &mut out)?;
+    let bytes = [44, 1, 0, 0, 255, 255, 255, 255, 44, 1, 0, 0];
+    assert_eq!(rt; out.as_slice(), bytes.as_slice());
+    assert_eq!(rt; encoded_size(Kind::Boolean, &[Value::Bool(true)])?, 1);
+    Ok(())
+}

@@ -25,7 +25,7 @@ items_of-map f (v ∷ vs) = ap (item (inside_json f (value_view v))) (items_of-m
 pub items_seen : (f : Field) (made : List Json) (vs : List Value) (n : ℕ) → length vs ≤ n → map view made ≡ map (λ v. inside_json f (value_view v)) (take n vs) → items_view made ≡ items_json (inside_json f) (views vs)
 items_seen f made vs n h e = ap items_of (e ∙ ap (map (λ v. inside_json f (value_view v))) (take_all n vs h)) ∙ items_of-map f vs
 
-view-List : (vs : Vec Value Global) → value_view (ListOf vs) ≡ list (views vs.items)
+pub view-List : (vs : Vec Value Global) → value_view (ListOf vs) ≡ list (views vs.items)
 view-List vs = search (rules, of_schema)
 
 -- a REPEATED value is the array of its items

@@ -2,3 +2,8 @@ pub mod Floats
 pub mod Texts
 pub mod Forms
 pub mod Rows
+pub mod Joined
+pub mod Taken
+pub mod Fitting
+pub mod Said
+pub mod Told

@@ -1,7 +1,6 @@
 //! Files to lines.
 
-ghost use Rattle.std.specs.Prelude.{◌≡◌, ◌≢◌, ◌⊎◌, ◌↔◌, List, IfErr, OnOk};
-ghost use Rattle.std.specs.IoError.{error_kind};
+ghost use Rattle.std.specs.Prelude.{◌≡◌, ◌≢◌, ◌⊎◌, List, IfErr, OnOk};
 ghost use Rattle.std.specs.Io.KnownBytes.{Appends};
 ghost use Rattle.bits.specs.Refusals.{IsFault, RefusedOnly};
 ghost use Rattle.bits.specs.declared.refusal.Refusal.TheVariants.{Memory, Device};
@@ -14,40 +13,13 @@ ghost use Rattle.footer.specs.Faults.{HasFault};
 ghost use Rattle.pqds.specs.Json.{lines_of};
 ghost use Rattle.pqds.specs.Program.{WritesRowsOf};
 
+use crate::host::refusal_of;
 use crate::jsonrows::row_to;
-use bits::{R, Refusal};
+use bits::R;
 use footer::read_file;
 use schema::{Row, Schema};
 use std::alloc::Global;
-use std::fs::File;
-use std::io::{self, ErrorKind, Read, Write};
-use std::rt::Files;
-
-/// One byte more than a file may have.
-const MORE_THAN_A_FILE: u64 = 2_147_483_648;
-
-/// Why a file or a writer could not be used: Memory where a growth was refused, else Device.
-pub fn refusal_of(error: io::Error) -> Refusal
-    ensures which { (result ≡ Memory) ⊎ (result ≡ Device) }
-    ensures memory { result ≡ Memory ↔ (error_kind error ≡ ErrorKind.OutOfMemory) }
-{
-    match error.kind() {
-        ErrorKind::OutOfMemory => Refusal::Memory,
-        _ => Refusal::Device,
-    }
-}
-
-/// The bytes of a file of the host, but no more than are needed to see that it is too long. Refused
-/// Device where it cannot be read.
-pub fn bytes_of<F: Files>(rt: &F, alloc: Global, path: &str) -> R<Vec<u8>>
-    ensures which { RefusedOnly (λ e. e ≡ Device) result }
-{
-    let file = File::open(rt, path).map_err(refusal_of)?;
-    let mut bytes = Vec::new(alloc);
-    let mut front = file.take(MORE_THAN_A_FILE);
-    front.read_to_end(&mut bytes).map_err(refusal_of)?;
-    Ok(bytes)
-}
+use std::io::Write;
 
 /// Writes all of a text.
 fn write_text<W: Write>(text: &[u8], out: &mut W) -> R<()>

@@ -1,13 +1,27 @@
 //! The program `pqds`.
 //!
 //! [`working::work`] is all of it, over two writers; `main` hands it the words of the command line.
-//! `specs/Json.antt` says which line a row has.
+//! `specs/Json.antt` says which line a row has, `specs/Reading.antt` which row a line is,
+//! `specs/SchemaReading.antt` which schema a text is, `specs/Program.antt` and `specs/Words.antt` what a call does.
 #![tactic(auto)]
 
+#[cfg(test)]
+mod encode_tests;
+mod encoding;
+mod help;
+mod host;
+#[cfg(test)]
+mod host_tests;
+#[cfg(test)]
+mod json_reading_tests;
 #[cfg(test)]
 mod json_tests;
 mod jsonrows;
 mod lines;
+mod schema_notes;
+mod schema_reading;
+#[cfg(test)]
+mod schema_reading_tests;
 #[cfg(test)]
 mod tests;
 mod usage;
@@ -24,10 +38,10 @@ const GATHERED: usize = 65_536;
 /// The status of the program, which is then done. A word that is not UTF-8 cannot be handed over.
 fn run(rt: &HostRuntime) -> R<u8> {
     let alloc = rt.alloc();
-    let words = env::args(rt).map_err(lines::refusal_of)?;
+    let words = env::args(rt).map_err(host::refusal_of)?;
     let words: Vec<String> = words.skip(1).collect(alloc)?;
     let gathered = BufWriter::with_capacity(alloc, GATHERED, rt.stdout());
-    let mut out = gathered.map_err(lines::refusal_of)?;
+    let mut out = gathered.map_err(host::refusal_of)?;
     let status = working::work(rt, alloc, words.as_slice(), &mut out, &mut rt.stderr());
     // What could not be written is not tried once more.
     drop(out.into_parts());

@@ -18,7 +18,7 @@ const TWO_ROWS: [u8; 140] = [
 ];
 
 /// The same schema without rows.
-const NO_ROWS: [u8; 51] = [
+pub const NO_ROWS: [u8; 51] = [
     80, 65, 82, 49, 21, 2, 25, 44, 72, 6, 115, 99, 104, 101, 109, 97, 21, 2, 0, 21, 4, 37, 0, 24,
     1, 120, 0, 22, 0, 25, 12, 40, 4, 112, 113, 100, 115, 25, 28, 28, 0, 0, 0, 39, 0, 0, 0, 80, 65,
     82, 49,
@@ -26,14 +26,14 @@ const NO_ROWS: [u8; 51] = [
 
 /// What the program answers, and what it writes to both of its writers.
 #[derive(Drop)]
-struct Said {
-    status: u8,
-    out: Vec<u8>,
-    err: Vec<u8>,
+pub struct Said {
+    pub status: u8,
+    pub out: Vec<u8>,
+    pub err: Vec<u8>,
 }
 
 /// The words as the program gets them.
-fn owned(alloc: Global, words: &[&str]) -> R<Vec<String>> {
+pub fn owned(alloc: Global, words: &[&str]) -> R<Vec<String>> {
     let mut owned = Vec::new(alloc);
     for word in words {
         owned.push(String::from_str(alloc, word)?)?;
@@ -42,13 +42,18 @@ fn owned(alloc: Global, words: &[&str]) -> R<Vec<String>> {
 }
 
 /// What the program says to these words.
-fn answer_to(rt: &HostRuntime, words: &[&str]) -> R<Said> {
+pub fn answer(rt: &HostRuntime, words: &[String]) -> Said {
     let alloc = rt.alloc();
-    let words = owned(alloc, words)?;
     let mut out = Vec::new(alloc);
     let mut err = Vec::new(alloc);
-    let status = work(rt, alloc, words.as_slice(), &mut out, &mut err);
-    Ok(Said { status, out, err })
+    let status = work(rt, alloc, words, &mut out, &mut err);
+    Said { status, out, err }
+}
+
+/// The same, where they are lent.
+pub fn answer_to(rt: &HostRuntime, words: &[&str]) -> R<Said> {
+    let words = owned(rt.alloc(), words)?;
+    Ok(answer(rt, words.as_slice()))
 }
 
 /// A writer that takes nothing.

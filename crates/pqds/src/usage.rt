@@ -1,8 +1,14 @@
 //! The words that the program knows.
 
+ghost use Rattle.std.specs.Prelude.{◌≡◌, Some, IfSome, IfOk, codes};
+ghost use Rattle.pqds.specs.Words.{first_word, word_of};
+
+use crate::encoding::Sources;
+use crate::help;
 use bits::{R, Refusal};
 use clap::error::ErrorKind;
-use clap::{Arg, ArgAction, Command, Error};
+use clap::{Arg, ArgAction, ArgMatches, Command, Error, value_parser};
+use footer::{Style, WriteOptions};
 use std::alloc::Global;
 
 /// What the words ask for.
@@ -10,82 +16,83 @@ use std::alloc::Global;
 pub enum Call<'a> {
     /// Print the rows of a file.
     Decode { file: &'a str },
+    /// Make a file.
+    Encode { sources: Sources<'a>, file: &'a str },
 }
 
-const ABOUT: &str = "Reads Parquet files and prints their rows as JSON";
+/// The words for the styles.
+static STYLES: [&str; 4] = ["plain", "dictionary", "delta", "lengths"];
 
-const AFTER: &str = "\
-Answers with status 0 where all was done, and 1 where the call was refused: then standard error has one line,
-`refused`, a number, a name, and for 6 and 7 the column. Status 2 is this text, or what is wrong with the words.
+/// A file that must be named.
+fn file_named<'a>(alloc: Global, name: &'a str, help: &'a str) -> Arg<'a> {
+    Arg::new(alloc, name)
+        .required(true)
+        .action(ArgAction::Set)
+        .help(help)
+}
 
-Example, at the top of the repository:
+fn decode_command<'a>(alloc: Global) -> Result<Command<'a>, Error> {
+    let decode = Command::new(alloc, "decode")
+        .about(help::DECODE)
+        .long_about(help::DECODE_LONG)
+        .after_help(help::DECODE_REFUSALS)
+        .arg(file_named(alloc, "FILE", "The Parquet file to read"))?;
+    Ok(decode)
+}
 
-    ./pqds decode sample/two_rows.parquet
+/// The options of a command that writes files.
+fn with_options<'a>(alloc: Global, command: Command<'a>) -> Result<Command<'a>, Error> {
+    let group_rows = Arg::new(alloc, "group-rows")
+        .long("group-rows")
+        .value_name("N")
+        .value_parser(value_parser!(u32))
+        .help("How many rows a row group has at most; 131072 where it is not said");
+    let page_rows = Arg::new(alloc, "page-rows")
+        .long("page-rows")
+        .value_name("N")
+        .value_parser(value_parser!(u32))
+        .help("How many rows a page has at most; 20000 where it is not said");
+    let page_version = Arg::new(alloc, "page-version")
+        .long("page-version")
+        .value_name("N")
+        .value_parser(value_parser!(u8))
+        .help("The version of the pages; 1 where it is not said");
+    let style = Arg::new(alloc, "style")
+        .long("style")
+        .value_name("STYLE")
+        .value_parser(STYLES.as_slice())
+        .help("The encodings of the values; plain where it is not said");
+    let command = command
+        .arg(group_rows)?
+        .arg(page_rows)?
+        .arg(page_version)?
+        .arg(style)?;
+    Ok(command)
+}
 
-prints
-
-    {\"x\":1}
-    {\"x\":300}";
-
-const DECODE: &str = "Prints each row of a Parquet file as a line of JSON";
-
-const DECODE_LONG: &str = "\
-Prints each row of a Parquet file as a line of JSON: an object by the names of the columns, in the byte order of
-the names. Numbers are printed as they are (unsigned ones unsigned), booleans as true and false, text as text, and
-other bytes as hexadecimal digits in lower case.
-
-The file is read whole, and no line is printed before all of it was accepted. Standard output has the lines and
-nothing else.";
-
-const REFUSALS: &str = "\
-The file is refused, with status 1 and one line on standard error, by one of these:
-
-    1 Truncated    the bytes end before what they announce, or are fewer than 12
-    2 Magic        the first or the last four bytes are not PAR1
-    3 Thrift       a footer or a page header is no struct of the wanted shape
-    4 Schema       the columns are no valid tree, or a column chunk disagrees with them
-    5 Codec        a column chunk is compressed
-    6 Float        a FLOAT, DOUBLE or FLOAT16 column, whose path follows
-    7 Int96        an INT96 column, whose path follows
-    8 Encoding     an encoding that is not known, or not for this type or place
-    9 Page         a page or chunk whose sizes, offsets or counts cannot be
-    10 Levels      the columns have not as many values as there are rows
-    11 Value       bytes that are no value in their encoding
-    12 Utf8        text that is not UTF-8
-    13 Limit       the file goes beyond a limit, or holds what is not read yet: more than one row group or page
-                   to a chunk, dictionaries, optional, repeated or nested columns, other encodings than PLAIN
-    25 Device      the file cannot be read, or standard output not be written
-    28 Memory      there was no memory left
-
-Example, at the top of the repository:
-
-    ./pqds decode sample/two_rows.parquet
-
-prints
-
-    {\"x\":1}
-    {\"x\":300}";
+fn encode_command<'a>(alloc: Global) -> Result<Command<'a>, Error> {
+    let encode = Command::new(alloc, "encode")
+        .about(help::ENCODE)
+        .long_about(help::ENCODE_LONG)
+        .after_help(help::ENCODE_REFUSALS)
+        .arg(file_named(alloc, "SCHEMA", "The file with the columns, as JSON"))?
+        .arg(file_named(alloc, "ROWS", "The file with the rows, as lines of JSON"))?
+        .arg(file_named(alloc, "OUT", "The Parquet file to make"))?;
+    with_options(alloc, encode)
+}
 
 /// The program's commands.
 fn program<'a>(alloc: Global) -> Result<Command<'a>, Error> {
-    let file = Arg::new(alloc, "FILE")
-        .required(true)
-        .action(ArgAction::Set)
-        .help("The Parquet file to read");
-    let decode = Command::new(alloc, "decode")
-        .about(DECODE)
-        .long_about(DECODE_LONG)
-        .after_help(REFUSALS)
-        .arg(file)?;
     let program = Command::new(alloc, "pqds")
-        .about(ABOUT)
-        .after_help(AFTER)
+        .about(help::ABOUT)
+        .after_help(help::AFTER)
         .no_binary_name(true)
         .disable_help_subcommand(true)
         .subcommand_required(true)
         .arg_required_else_help(true)
         .bin_name("pqds")?
-        .subcommand(decode)?;
+        .subcommand(decode_command(alloc)?)?
+        .subcommand(encode_command(alloc)?)?;
     Ok(program)
 }
 
@@ -98,8 +105,70 @@ fn error_text(alloc: Global, error: &Error) -> R<String> {
     Ok(text)
 }
 
+/// The style that a word of [`STYLES`] says; `plain` where none is said.
+fn style_of(word: Option<&str>) -> Style {
+    match word {
+        Some("dictionary") => Style::Dictionary,
+        Some("delta") => Style::Delta,
+        Some("lengths") => Style::Lengths,
+        _ => Style::Plain,
+    }
+}
+
+/// How files are written, by the words.
+fn options_in(matches: &ArgMatches<'_>) -> WriteOptions {
+    let standard = WriteOptions::standard();
+    let group_rows = matches.get_one::<u32>("group-rows");
+    let page_rows = matches.get_one::<u32>("page-rows");
+    let page_version = matches.get_one::<u8>("page-version");
+    WriteOptions {
+        group_rows: group_rows.unwrap_or(standard.group_rows),
+        page_rows: page_rows.unwrap_or(standard.page_rows),
+        page_version: page_version.unwrap_or(standard.page_version),
+        style: style_of(matches.get_str("style")),
+    }
+}
+
+fn decode_call<'a>(matches: &ArgMatches<'a>) -> Option<Call<'a>>
+    ensures { IfSome result (λ call. word_of call ≡ codes "decode") }
+{
+    let file = matches.get_str("FILE")?;
+    Some(Call::Decode { file })
+}
+
+fn encode_call<'a>(matches: &ArgMatches<'a>) -> Option<Call<'a>>
+    ensures { IfSome result (λ call. word_of call ≡ codes "encode") }
+{
+    let schema = matches.get_str("SCHEMA")?;
+    let rows = matches.get_str("ROWS")?;
+    let file = matches.get_str("OUT")?;
+    let options = options_in(matches);
+    let sources = Sources {
+        schema,
+        rows,
+        options,
+    };
+    Some(Call::Encode { sources, file })
+}
+
+/// The call that the first word names, by what was found in the words.
+fn call_in<'a>(words: &[String], matches: &ArgMatches<'a>) -> Option<Call<'a>>
+    ensures { IfSome result (λ call. first_word words.now ≡ Some (word_of call)) }
+{
+    let word = words.first()?;
+    if word.as_str() == "decode" {
+        decode_call(matches.subcommand_matches("decode")?)
+    } else if word.as_str() == "encode" {
+        encode_call(matches.subcommand_matches("encode")?)
+    } else {
+        None
+    }
+}
+
 /// What the words ask for, or the text on the program's use, where they ask for nothing that it knows.
-pub fn call_of<'a>(alloc: Global, words: &'a [String]) -> R<Result<Call<'a>, String>> {
+pub fn call_of<'a>(alloc: Global, words: &'a [String]) -> R<Result<Call<'a>, String>>
+    ensures first { IfOk result (λ said. IfOk said (λ call. first_word words.now ≡ Some (word_of call))) }
+{
     let program = match program(alloc) {
         Ok(program) => program,
         Err(_) => return Err(Refusal::Memory),
@@ -108,12 +177,9 @@ pub fn call_of<'a>(alloc: Global, words: &'a [String]) -> R<Result<Call<'a>, Str
         Ok(matches) => matches,
         Err(error) => return Ok(Err(error_text(alloc, &error)?)),
     };
-    let file = matches
-        .subcommand_matches("decode")
-        .and_then(|it| it.get_str("FILE"));
-    match file {
-        Some(file) => Ok(Ok(Call::Decode { file })),
-        // FILE is required, so that this does not come.
+    match call_in(words, &matches) {
+        Some(call) => Ok(Ok(call)),
+        // The files are required, so that this does not come.
         None => Ok(Err(String::new(alloc))),
     }
 }

@@ -1,9 +1,11 @@
 //! All of the program, over two writers.
 
-ghost use Rattle.std.specs.Prelude.{◌≡◌, ◌≤◌, ℕ, List, OnOk};
-ghost use Rattle.pqds.specs.Program.{WritesRowsOf};
+ghost use Rattle.std.specs.Prelude.{◌≡◌, ◌≤◌, Some, OnOk, codes};
+ghost use Rattle.pqds.specs.Words.{first_word, word_of, Does, IsDone};
 
-use crate::lines::{bytes_of, decode};
+use crate::encoding::encode;
+use crate::host::bytes_of;
+use crate::lines::decode;
 use crate::usage::{Call, call_of};
 use bits::{R, Refusal};
 use std::alloc::Global;
@@ -28,21 +30,24 @@ pub fn refuse<E: Write>(err: &mut E, refusal: &Refusal) -> u8
 
 /// Makes the call.
 fn make<F: Files, W: Write>(rt: &F, alloc: Global, call: &Call<'_>, out: &mut W) -> R<()>
-    ensures { OnOk result ((bytes : List ℕ) × WritesRowsOf bytes (W.contents out.old) (W.contents out.new)) }
+    ensures done { OnOk result (Does call.now (W.contents out.old) (W.contents out.new)) }
+    ensures silent { word_of call.now ≡ codes "encode" → W.contents out.new ≡ W.contents out.old }
 {
     match call {
         Call::Decode { file } => {
             let bytes = bytes_of(rt, alloc, file)?;
             decode(alloc, bytes.as_slice(), out)
         }
+        Call::Encode { sources, file } => encode(rt, alloc, sources, file),
     }
 }
 
 /// What the program does for these words, which begin behind its name; answers its status.
 ///
-/// Status 0: done, and `out` has what was asked for. Status 1: refused, with one line on `err`, such as
-/// `refused 6 Float a.b`; `out` has nothing new where the file itself was refused. Status 2: the words
-/// are no call of the program, or ask for help, and `err` has the text on its use.
+/// Status 0: done, and `out` has what was asked for; of `encode` it has nothing, and the new file is there.
+/// Status 1: refused, with one line on `err`, such as `refused 6 Float a.b`; `out` has nothing new where the
+/// file itself was refused, and no file was made. Status 2: the words are no call of the program, or ask for
+/// help, and `err` has the text on its use.
 pub fn work<F: Files, W: Write, E: Write>(
     rt: &F,
     alloc: Global,
@@ -51,7 +56,8 @@ pub fn work<F: Files, W: Write, E: Write>(
     err: &mut E,
 ) -> u8
     ensures status { result ≤ 2 }
-    ensures done { result ≡ 0 → (bytes : List ℕ) × WritesRowsOf bytes (W.contents out.old) (W.contents out.new) }
+    ensures done { result ≡ 0 → IsDone words.now (W.contents out.old) (W.contents out.new) }
+    ensures silent { first_word words.now ≡ Some (codes "encode") → W.contents out.new ≡ W.contents out.old }
     ensures quiet { result ≡ 0 → E.contents err.new ≡ E.contents err.old }
     ensures usage { result ≡ 2 → W.contents out.new ≡ W.contents out.old }
 {

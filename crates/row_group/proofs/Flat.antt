@@ -9,12 +9,13 @@ use Rattle.schema.specs.Annotations.{LeafType}
 use Rattle.schema.specs.Values.{ValueTree, ValueTrees, no_values, member_at}
 use Rattle.schema.specs.Shape.{Field, leaf, fields, Fields, no_fields, field}
 use Rattle.schema.specs.Fits.{fits_leaf, fits_each, RowsFit}
-use Rattle.schema.specs.Stripe.{Step, Leaf, leaf_at, below, Entry, column, columns, leaves, leaves_from}
+use Rattle.schema.specs.Stripe.{Leaf, leaf_at, below, Entry, column, columns, leaves, leaves_from}
 use Rattle.schema.specs.Law.{IsEntryOf, AreValid}
 use Rattle.schema.proofs.LeafLaws.{Way, IsLeafFrom, Mem, Mem-map, Mem-append_left, some_leaf_from, leaf_is_listed_from}
 use Rattle.metadata.specs.Records.{ChunkMeta}
 use Rattle.row_group.specs.Chunks.{AreChunks}
 use Rattle.row_group.specs.Moving.{IsLeafRead, HasCount, value_of, before_each, rows_of}
+use Rattle.row_group.specs.Columns.{way_at}
 use Rattle.row_group.proofs.OnePage.{entries_are_of_leaf}
 use Rattle.row_group.proofs.Filling.{length-rows_of}
 
@@ -73,7 +74,7 @@ whole_at t r d (Some v) hr hd h =
     same : r ≡ 0 → d ≡ 0 → ◌≡◌ {A = Entry} (record { repetition = r; definition = d; value = Some v }) (entry_of v)
     same er ed = ap (λ (n : ℕ). let e : Entry = record { repetition = n; definition = d; value = Some v } in e) er ∙ ap (λ (n : ℕ). let e : Entry = record { repetition = 0; definition = n; value = Some v } in e) ed
 
-all_weaker : {A : Type 0} (P Q : A → Type 0) → ((x : A) → P x → Q x) → (xs : List A) → AllByRecursion P xs → AllByRecursion Q xs
+pub all_weaker : {A : Type 0} (P Q : A → Type 0) → ((x : A) → P x → Q x) → (xs : List A) → AllByRecursion P xs → AllByRecursion Q xs
 all_weaker P Q f [] h = tt
 all_weaker P Q f (x ∷ xs) h = (f x h.0, all_weaker P Q f xs h.1)
 
@@ -117,9 +118,6 @@ rows_fit (field (leaf nm Repeated t) fs) n cols flat h = absurd flat
 rows_fit (field (fields nm r a gs) fs) n cols flat h = absurd flat
 
 -- ---- the rows have these columns
-
-abbrev way_at : ℕ → List Step
-way_at i = record { place = i; repetition = Required } ∷ []
 
 column_first : (es : List Entry) (t : LeafType) (rows : List ValueTrees) → AllByRecursion (IsWhole t) es → length es ≡ length rows → column (before_each (map value_of es) rows) (way_at 0) ≡ es
 column_first [] t rows h e = refl

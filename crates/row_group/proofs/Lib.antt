@@ -6,3 +6,6 @@ pub mod Filling
 pub mod Passed
 pub mod Flat
 pub mod Whole
+pub mod ChunkWritten
+pub mod Lent
+pub mod ColumnsWritten

@@ -1,3 +1,5 @@
 pub mod Chunks
 pub mod Limits
 pub mod Moving
+pub mod Writing
+pub mod Columns

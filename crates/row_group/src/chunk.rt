@@ -4,7 +4,6 @@ ghost use Rattle.std.specs.Prelude.{◌≡◌, ◌≢◌, ◌⊎◌, ◌≤◌, 
 ghost use Rattle.bits.specs.Refusals.{OnFault, RefusedOnly};
 ghost use Rattle.bits.specs.Codec.{NothingStands};
 ghost use Rattle.schema.specs.Stripe.{Entry};
-ghost use Rattle.schema.specs.Listed.{type_number};
 ghost use Rattle.schema.specs.Views.{leaf_view, entry_view, column_view};
 ghost use Rattle.metadata.specs.Views.{column_meta_view};
 ghost use Rattle.pages.specs.Page.{IsPage};
@@ -20,11 +19,11 @@ use crate::limits::MOST_ENTRIES_OF_CHUNK;
 use bits::{R, Refusal};
 use metadata::ColumnMeta;
 use pages::{PageRef, pages_of_a_dictionary, read_page};
-use schema::{Column, Kind, Leaf};
+use schema::{Column, Leaf};
 use std::alloc::Global;
 
 /// The number of CompressionCodec (`parquet.thrift`) for chunks that are stored as they are.
-const UNCOMPRESSED: i32 = 0;
+pub const UNCOMPRESSED: i32 = 0;
 
 /// The column of a chunk, from the bytes that begin where the chunk starts, and how many of them its
 /// pages take.
@@ -47,7 +46,7 @@ pub fn read_chunk(alloc: Global, bytes: &[u8], meta: &ColumnMeta, leaf: &Leaf) -
     if !is_same_path(meta.path_in_schema.as_slice(), leaf.path.as_slice()) {
         return Err(Refusal::Schema);
     }
-    if meta.kind != type_number(leaf.leaf_type.kind) {
+    if meta.kind != leaf.leaf_type.kind.number() {
         return Err(Refusal::Schema);
     }
     if meta.codec != UNCOMPRESSED {
@@ -70,19 +69,6 @@ fn is_same_path(path: &[Vec<u8>], names: &[String]) -> bool
         }
     }
     true
-}
-
-/// The number of a type (`parquet.thrift`, Type).
-fn type_number(kind: Kind) -> i32
-    ensures { result ≡ pos (type_number kind) }
-{
-    match kind {
-        Kind::Boolean => 0,
-        Kind::Int32 => 1,
-        Kind::Int64 => 2,
-        Kind::ByteArray => 6,
-        Kind::FixedLenByteArray(_) => 7,
-    }
 }
 
 /// The entries of a page; one that holds none has no entries.

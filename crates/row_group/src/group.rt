@@ -46,7 +46,7 @@ pub fn read_group(alloc: Global, front: &[u8], meta: &GroupMeta, schema: &Schema
 }
 
 /// Whether a leaf is below a group, or not REQUIRED.
-fn is_any_to_come(leaves: &[Leaf]) -> bool
+pub fn is_any_to_come(leaves: &[Leaf]) -> bool
     ensures some { result ≡ true → Any IsLeafToCome (map leaf_view leaves.now) }
     ensures none { result ≡ false → AllByRecursion IsLeafRead (map leaf_view leaves.now) }
 {

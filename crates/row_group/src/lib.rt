@@ -1,19 +1,27 @@
 //! Chunks and row groups (`parquet.thrift`, ColumnChunk and RowGroup).
 //!
 //! `specs/Chunks.antt` says which entries a chunk holds (`ChunkMeans`) and which rows a group
-//! (`GroupMeans`), `specs/Limits.antt` what is beyond a limit and what is not read yet.
+//! (`GroupMeans`), `specs/Limits.antt` what is beyond a limit and what is not read yet,
+//! `specs/Writing.antt` what a writer leaves.
 #![tactic(auto)]
 
 mod chunk;
+mod chunk_writing;
 mod column;
+mod column_writing;
 mod counts;
 mod group;
+mod group_writing;
 mod limits;
 mod rows;
 
 pub use chunk::read_chunk;
+pub use chunk_writing::write_chunk;
 pub use group::read_group;
-pub use limits::{MOST_ENTRIES_OF_CHUNK, MOST_ROWS_OF_GROUP};
+pub use group_writing::write_group;
+pub use limits::{MOST_BYTES_BEFORE_CHUNK, MOST_ENTRIES_OF_CHUNK, MOST_ROWS_OF_GROUP};
 
 #[cfg(test)]
 mod tests;
+#[cfg(test)]
+mod writing_tests;

@@ -18,7 +18,7 @@ const TEXTS: [u8; 28] = [
 ];
 
 /// The bytes of a file before its footer: `PAR1`, and both pages.
-fn front(alloc: Global) -> R<Vec<u8>> {
+pub fn front(alloc: Global) -> R<Vec<u8>> {
     let mut bytes = Vec::from_slice(alloc, b"PAR1".as_slice())?;
     bytes.extend_from_slice(&INTEGERS)?;
     bytes.extend_from_slice(&TEXTS)?;
@@ -26,7 +26,7 @@ fn front(alloc: Global) -> R<Vec<u8>> {
 }
 
 /// A REQUIRED leaf, or the root where there is no type.
-fn element(alloc: Global, name: &str, kind: Option<i32>, children: Option<i32>) -> R<Element> {
+pub fn element(alloc: Global, name: &str, kind: Option<i32>, children: Option<i32>) -> R<Element> {
     Ok(Element {
         kind,
         type_length: None,
@@ -42,7 +42,7 @@ fn element(alloc: Global, name: &str, kind: Option<i32>, children: Option<i32>) 
 }
 
 /// The fields `n`, an INT32, and `t`, a BYTE_ARRAY.
-fn fields(alloc: Global) -> R<Schema> {
+pub fn fields(alloc: Global) -> R<Schema> {
     let mut elements = Vec::new(alloc);
     elements.push(element(alloc, "root", None, Some(2))?)?;
     elements.push(element(alloc, "n", Some(1), None)?)?;

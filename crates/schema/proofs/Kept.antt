@@ -1,4 +1,4 @@
--- Levels of leaves, and annotations that are written again.
+-- Levels of leaves, annotations that are written again, and structs that leaves keep.
 use Rattle.std.proofs.Common.{◌≡◌, ℕ, suc, ℤ, pos, Bool, true, false, List, [], ◌∷◌, ◌++◌, map, Option, Some, None, refl, ap, sym, ◌∙◌}
 use Rattle.std.specs.Prelude.{if◌then◌else◌}
 use Rattle.std.specs.List.{AllByRecursion}
@@ -10,9 +10,9 @@ use Rattle.schema.specs.declared.annotation.ConvertedType.TheVariants as convert
 use Rattle.schema.specs.declared.order.Standing.{Standing}
 use Rattle.schema.specs.declared.order.Standing.TheVariants.{Unknown, Unordered, Ordered}
 use Rattle.schema.specs.Annotations.{known, other_logical, number_of, converted_type, standing, by_standing, named, is_only_member, logical, annotation_of, converted_number, logical_struct}
-use Rattle.schema.specs.Shape.{Field, Fields, no_fields, field}
+use Rattle.schema.specs.Shape.{Field, leaf, fields, Fields, no_fields, field}
 use Rattle.schema.specs.Stripe.{Leaf, below, leaves, leaves_from}
-use Rattle.schema.specs.Law.{HasGreatestLevels, LevelsAreOfSteps, AnnotationsAreKept}
+use Rattle.schema.specs.Law.{HasGreatestLevels, LevelsAreOfSteps, AnnotationsAreKept, KeepsWritable, IsValid, AreValid, KeptStructsHaveBytes}
 
 -- of both lists
 pub all_joined : {A : Type 0} (P : A → Type 0) (xs ys : List A) → AllByRecursion P xs → AllByRecursion P ys → AllByRecursion P (xs ++ ys)
@@ -63,3 +63,22 @@ pub annotations_are_kept : AnnotationsAreKept
 annotations_are_kept k (Some z) s = kept_named k z (converted_type z) refl
 annotations_are_kept k None (Some s) = kept_logical k s
 annotations_are_kept k None None = refl
+
+abbrev Keeps : Leaf → Type 0
+Keeps l = KeepsWritable l.leaf_type.annotation
+
+kept_below : (i : ℕ) (f : Field) (ls : List Leaf) → AllByRecursion Keeps ls → AllByRecursion Keeps (map (below i f) ls)
+kept_below i f [] h = tt
+kept_below i f (l ∷ ls) h = (h.0, kept_below i f ls h.1)
+
+mutual
+  kept_at : (f : Field) → IsValid f → AllByRecursion Keeps (leaves f)
+  kept_at (leaf n r t) v = (v.keeps, tt)
+  kept_at (fields n r a fs) v = kept_from 0 fs v.1
+
+  kept_from : (i : ℕ) (fs : Fields) → AreValid fs → AllByRecursion Keeps (leaves_from i fs)
+  kept_from i no_fields v = tt
+  kept_from i (field f fs) v = all_joined Keeps (map (below i f) (leaves f)) (leaves_from (suc i) fs) (kept_below i f (leaves f) (kept_at f v.0)) (kept_from (suc i) fs v.1)
+
+pub kept_structs_have_bytes : KeptStructsHaveBytes
+kept_structs_have_bytes fs v = kept_from 0 fs v.1

@@ -9,7 +9,6 @@ pub mod Texts
 pub mod Kept
 pub mod Worked
 pub mod Entries
-pub mod Written
 pub mod Typed
 pub mod Forest
 pub mod Trees
@@ -23,4 +22,5 @@ pub mod Cuts
 pub mod CutFits
 pub mod Faultless
 pub mod CutSteps
-pub mod Spelled
+pub mod Marks
+pub mod Again

@@ -15,7 +15,6 @@ use Rattle.schema.specs.Elements.{Element}
 use Rattle.schema.specs.Law.{IsWritable, KeepsWritable, IsLeafType, HasLength}
 use Rattle.schema.specs.Listing.{typed, leaf_type, IsTyped, is_float16, KeepsSound}
 use Rattle.schema.specs.Reading.{KeepsWritten}
-use Rattle.schema.proofs.Written.{nest_fields}
 
 pub numbered_back : (c : ConvertedType) → converted_type (pos (number_of c)) ≡ Some c
 unfolding converted_type
@@ -80,7 +79,7 @@ named_keeps k z (Some c) = standing_keeps z c (standing k c)
 named_keeps k z None = tt
 
 writable : (s : Struct) → KeepsWritten (other_logical s) → IsWritable s
-writable s h = record { shallow = nest_fields 29 s h; spelled = h }
+writable s h = record { shallow = h.0; bytes = h.1 }
 
 if_keeps : (s : Struct) (b : Bool) → is_half s ≡ false → KeepsWritten (if b then known converted.Utf8 else other_logical s) → KeepsWritable (if b then known converted.Utf8 else other_logical s)
 if_keeps s true h w = tt
@@ -106,7 +105,7 @@ named_sound k z None = tt
 
 sound_struct : (s : Struct) → is_half s ≡ false → KeepsSound (other_logical s) → KeepsWritten (other_logical s)
 sound_struct s h (inl x) = absurd (false≢true (sym h ∙ x))
-sound_struct s h (inr x) = x.spelled
+sound_struct s h (inr x) = (x.shallow, x.bytes)
 
 if_sound : (s : Struct) (b : Bool) → is_half s ≡ false → KeepsSound (if b then known converted.Utf8 else other_logical s) → KeepsWritten (if b then known converted.Utf8 else other_logical s)
 if_sound s true h w = tt

@@ -1,5 +1,5 @@
 -- A schema cut to some of its leaves, and rows cut with it: these leaves, and the groups above them.
-use Rattle.std.specs.Prelude.{◌≡◌, ℕ, suc, ◌+◌, ◌<◌, Bool, List, [], ◌∷◌, length, map, Option, Some, None, if◌then◌else◌, nat_eq}
+use Rattle.std.specs.Prelude.{◌≡◌, ℕ, suc, ◌+◌, ◌<◌, Bool, false, List, [], ◌∷◌, length, get_or, map, Option, Some, None, if◌then◌else◌, nat_eq}
 use Rattle.std.specs.List.{AllByRecursion, list_any}
 use Rattle.bits.specs.declared.refusal.Refusal.{Refusal}
 use Rattle.bits.specs.declared.refusal.Refusal.TheVariants.{Schema, Memory}
@@ -35,6 +35,15 @@ abbrev mutual
 -- it is one of the places
 abbrev pub is_among : List ℕ → ℕ → Bool
 is_among places at = list_any (λ place. nat_eq place at) places
+
+-- there is a mark at this place
+abbrev pub is_marked : List Bool → ℕ → Bool
+is_marked marks at = get_or marks at false
+
+-- there are marks just at these places
+pub record AreMarks (places : List ℕ) (count : ℕ) (marks : List Bool) : Type 0 where
+  pub size : length marks ≡ count
+  pub each : (at : ℕ) → is_marked marks at ≡ is_among places at
 
 -- the schema of the leaves at these places
 abbrev pub cut_to : List ℕ → Fields → Fields

@@ -3,10 +3,10 @@ use Rattle.std.specs.Prelude.{◌≡◌, ℕ, ℤ, Option, ◌<◌, ◌≤◌, �
 use Rattle.std.specs.List.{AllByRecursion}
 use Rattle.std.specs.Str.{is_utf8}
 use Rattle.thrift_compact.specs.Tree.{Fields as Struct, fields_nest}
+use Rattle.thrift_compact.specs.Writable.{HasBytes}
 use Rattle.schema.specs.declared.value.Kind.{Kind}
 use Rattle.schema.specs.declared.value.Kind.TheVariants.{FixedLenByteArray}
 use Rattle.schema.specs.Annotations.{LeafType, Annotation, plain, known, other_converted, other_logical, annotation_of, converted_number, logical_struct, is_half}
-use Rattle.schema.specs.Writable.{can_write_fields}
 use Rattle.schema.specs.Values.{ValueTrees}
 use Rattle.schema.specs.Shape.{Field, leaf, fields, Fields, no_fields, field, name_of}
 use Rattle.schema.specs.Fits.{fits_leaf, RowsFit}
@@ -34,10 +34,10 @@ pub record IsGroupOf (fs : Fields) : Type 0 where
   pub text : AllByRecursion (λ n. IsTrue (is_utf8 n)) (names fs)
 
 -- The struct of a logicalType can stand in a footer: there it is three levels down, and a struct nests at most 32 deep.
--- It can be written there.
+-- Some bytes have it.
 pub record IsWritable (s : Struct) : Type 0 where
   pub shallow : fields_nest s ≤ 29
-  pub spelled : IsTrue (can_write_fields 29 s)
+  pub bytes : HasBytes s
 
 -- a struct that is kept can be written again, and is not FLOAT16's
 abbrev pub KeepsWritable : Annotation → Type 0
@@ -106,3 +106,7 @@ AnnotationsAreKept = (k : Kind) (z : Option ℤ) (s : Option Struct)
 -- rows that fit one schema and have the same columns are the same rows
 abbrev pub ColumnsDetermineRows : Type 0
 ColumnsDetermineRows = (fs : Fields) (xs ys : List ValueTrees) → IsSchema fs → RowsFit fs xs → RowsFit fs ys → columns fs xs ≡ columns fs ys → xs ≡ ys
+
+-- each leaf of a schema that keeps a struct keeps one that some bytes have
+abbrev pub KeptStructsHaveBytes : Type 0
+KeptStructsHaveBytes = (fs : Fields) → IsSchema fs → AllByRecursion (λ (l : Leaf). KeepsWritable l.leaf_type.annotation) (leaves_of fs)

@@ -8,7 +8,6 @@ pub mod Orders
 pub mod Views
 pub mod Worked
 pub mod Elements
-pub mod Writable
 pub mod Listing
 pub mod Faults
 pub mod Reading
@@ -16,4 +15,3 @@ pub mod Code
 pub mod Leafing
 pub mod Listed
 pub mod Cutting
-pub mod Spelled

@@ -3,8 +3,8 @@ use Rattle.std.specs.Prelude.{◌≡◌, ◌≤◌, ℕ, zero, suc, ◌+◌, nat
 use Rattle.bits.specs.declared.refusal.Refusal.{Refusal}
 use Rattle.bits.specs.declared.refusal.Refusal.TheVariants.{Schema, Float, Int96, Limit, Memory}
 use Rattle.std.specs.Str.{is_utf8}
-use Rattle.thrift_compact.specs.Tree.{Fields as Struct}
-use Rattle.schema.specs.Writable.{can_write_fields}
+use Rattle.thrift_compact.specs.Tree.{Fields as Struct, fields_nest}
+use Rattle.thrift_compact.specs.Writable.{HasBytes}
 use Rattle.schema.specs.Annotations.{Annotation, other_logical, group_annotation_of}
 use Rattle.schema.specs.declared.building.Typed.{Typed}
 use Rattle.schema.specs.declared.building.Typed.TheVariants.{Stored}
@@ -117,9 +117,9 @@ abbrev pub kept_struct : Option ℤ → Option Struct → Option Struct
 kept_struct None s = s
 kept_struct (Some z) s = None
 
--- a struct that is kept passes the test
+-- a struct that is kept nests at most 29 deep, and some bytes have it
 abbrev pub KeepsWritten : Annotation → Type 0
-KeepsWritten (other_logical s) = IsTrue (can_write_fields 29 s)
+KeepsWritten (other_logical s) = (fields_nest s ≤ 29) × HasBytes s
 KeepsWritten _ = Unit {0}
 
 -- the leaf of an element

@@ -14,10 +14,9 @@ use crate::annotation::{Annotation, GroupAnnotation, LeafType};
 use crate::element::Element;
 use crate::field::Field;
 use crate::value::{Kind, Repetition};
-use crate::writing::can_write_fields;
 use bits::{R, Refusal};
 use std::alloc::Global;
-use thrift_compact::{Field as Member, Tree};
+use thrift_compact::{Field as Member, Tree, has_bytes};
 
 /// FLOAT16's member of the union LogicalType.
 const FLOAT16: i16 = 15;
@@ -111,7 +110,7 @@ fn stored_type(alloc: Global, element: &Element, kind: Kind) -> R<LeafType>
     let kept = kept_struct(alloc, element)?;
     let annotation = Annotation::of_element(kind, element.converted_type, kept);
     if let Annotation::OtherLogical(tree) = &annotation {
-        if !can_write_fields(DEEPEST_STRUCT, tree.fields.as_slice()) {
+        if !has_bytes(tree, DEEPEST_STRUCT) {
             return Err(Refusal::Schema);
         }
     }

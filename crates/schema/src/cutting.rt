@@ -1,11 +1,11 @@
 //! A schema cut to some of its leaves.
 
-ghost use Rattle.std.specs.Prelude.{◌≡◌, ◌+◌, ◌<◌, ◌≤◌, ◌↔◌, IsTrue, IfOk, OnOk, option_map, Some, None, string_bytes};
+ghost use Rattle.std.specs.Prelude.{◌≡◌, ◌+◌, ◌<◌, ◌≤◌, ◌↔◌, IsTrue, IfOk, OnOk, length, option_map, Some, None, string_bytes};
 ghost use Rattle.std.specs.List.{AllByRecursion};
 ghost use Rattle.bits.specs.Refusals.{RefusedOnly};
 ghost use Rattle.schema.specs.Shape.{leaf, no_fields};
 ghost use Rattle.schema.specs.Reading.{count_leaves, count_leaves_each, join_fields};
-ghost use Rattle.schema.specs.Cutting.{group_of, kept, cut, cut_each, is_among};
+ghost use Rattle.schema.specs.Cutting.{group_of, kept, cut, cut_each, is_marked, AreMarks};
 ghost use Rattle.schema.specs.Views.{leaf_type_view, field_view, field_views};
 
 use crate::annotation::{GroupAnnotation, LeafType};
@@ -25,6 +25,19 @@ pub fn are_below(places: &[usize], count: usize) -> bool
         }
     }
     true
+}
+
+/// Marks at these places, each of which is below the count.
+pub fn marks_at(alloc: Global, places: &[usize], count: usize) -> R<Vec<bool>>
+    requires { AllByRecursion (λ place. place < count) places.now }
+    ensures are { IfOk result (λ marks. AreMarks places.now count marks.items) }
+    ensures which { RefusedOnly (λ _. ⊥) result }
+{
+    let mut marks = vec![in alloc; false; count]?;
+    for place in places {
+        marks[*place] = true;
+    }
+    Ok(marks)
 }
 
 /// A copy of a leaf.
@@ -78,9 +91,9 @@ fn push_kept(out: &mut Vec<Field>, field: Option<Field>) -> R<()>
 /// What is kept of a field: a leaf just if it is wanted, a group just if something in it is kept. The
 /// first leaf below it has this place; answers the place behind the last one too.
 #[cycle(cutting)]
-fn cut(alloc: Global, wanted: &[usize], at: usize, field: &Field) -> R<(Option<Field>, usize)>
-    requires few { at + count_leaves (field_view field.now) ≤ 1024 }
-    ensures is { IfOk result (λ x. option_map field_view x.0 ≡ cut (is_among wanted.now) at (field_view field.now)) }
+fn cut(alloc: Global, wanted: &[bool], at: usize, field: &Field) -> R<(Option<Field>, usize)>
+    requires few { at + count_leaves (field_view field.now) ≤ length wanted.now }
+    ensures is { IfOk result (λ x. option_map field_view x.0 ≡ cut (is_marked wanted.now) at (field_view field.now)) }
     ensures behind { IfOk result (λ x. x.1 ≡ at + count_leaves (field_view field.now)) }
     ensures which { RefusedOnly (λ _. ⊥) result }
 {
@@ -90,7 +103,7 @@ fn cut(alloc: Global, wanted: &[usize], at: usize, field: &Field) -> R<(Option<F
             repetition,
             leaf_type,
         } => {
-            if !wanted.contains(&at) {
+            if !wanted[at] {
                 return Ok((None, at + 1));
             }
             let field = copied_leaf(alloc, name.as_str(), *repetition, leaf_type)?;
@@ -114,12 +127,12 @@ fn cut(alloc: Global, wanted: &[usize], at: usize, field: &Field) -> R<(Option<F
 #[cycle(cutting)]
 pub fn cut_each(
     alloc: Global,
-    wanted: &[usize],
+    wanted: &[bool],
     at: usize,
     fields: &[Field],
 ) -> R<(Vec<Field>, usize)>
-    requires few { at + count_leaves_each (field_views fields.now) ≤ 1024 }
-    ensures is { IfOk result (λ x. field_views x.0.items ≡ cut_each (is_among wanted.now) at (field_views fields.now)) }
+    requires few { at + count_leaves_each (field_views fields.now) ≤ length wanted.now }
+    ensures is { IfOk result (λ x. field_views x.0.items ≡ cut_each (is_marked wanted.now) at (field_views fields.now)) }
     ensures behind { IfOk result (λ x. x.1 ≡ at + count_leaves_each (field_views fields.now)) }
     ensures which { RefusedOnly (λ _. ⊥) result }
 {

@@ -22,7 +22,6 @@ mod reading;
 mod row;
 mod schema;
 mod value;
-mod writing;
 
 pub use annotation::{Annotation, ConvertedType, GroupAnnotation, LeafType};
 pub use cutting_laws::{a_cut_has_the_wanted_leaves, cut_rows_are_of_wanted_leaves};
@@ -34,7 +33,9 @@ pub use laws::{
     annotations_are_kept, at_most_laws, columns_determine_rows, entries_are_of_leaves,
     levels_are_of_steps, orders_are_total, unsigned_order_is_of_bits, worked_examples,
 };
-pub use listing_laws::{a_list_means_one_schema, structs_with_bytes_are_writable};
+pub use listing_laws::{
+    a_list_means_one_schema, a_schema_is_its_elements, kept_structs_have_bytes,
+};
 pub use order::{Order, compare, compare_by};
 pub use row::{Column, Entry, Row};
 pub use schema::Schema;

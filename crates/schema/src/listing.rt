@@ -6,7 +6,7 @@ ghost use Rattle.thrift_compact.specs.View.{tree_view};
 ghost use Rattle.schema.specs.Annotations.{converted_number, logical_struct};
 ghost use Rattle.schema.specs.Elements.{element_view, elements_view};
 ghost use Rattle.schema.specs.Law.{HasLength, IsValid, AreValid};
-ghost use Rattle.schema.specs.Listed.{type_number, type_length, repetition_number, group_converted, leaf_element, group_element, listing, listings, elements_of, IsFew, AreFew};
+ghost use Rattle.schema.specs.Listed.{type_length, repetition_number, group_converted, leaf_element, group_element, listing, listings, elements_of, IsFew, AreFew};
 ghost use Rattle.schema.specs.Stripe.{leaves_of};
 ghost use Rattle.schema.specs.Views.{annotation_view, leaf_type_view, field_view, field_views};
 
@@ -20,18 +20,6 @@ use thrift_compact::Tree;
 
 /// What the root is called.
 const ROOT: &str = "schema";
-
-fn type_number(kind: Kind) -> i32
-    ensures { result ≡ pos (type_number kind) }
-{
-    match kind {
-        Kind::Boolean => 0,
-        Kind::Int32 => 1,
-        Kind::Int64 => 2,
-        Kind::ByteArray => 6,
-        Kind::FixedLenByteArray(_) => 7,
-    }
-}
 
 fn type_length(kind: Kind) -> Option<i32>
     requires { HasLength kind }
@@ -99,7 +87,7 @@ fn leaf_element(
     let name = Vec::from_slice(alloc, name.as_bytes())?;
     let logical_type = logical_struct(alloc, &leaf_type.annotation)?;
     Ok(Element {
-        kind: Some(type_number(leaf_type.kind)),
+        kind: Some(leaf_type.kind.number()),
         type_length: type_length(leaf_type.kind),
         repetition_type: repetition_type(repetition),
         name,

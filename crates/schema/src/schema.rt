@@ -15,7 +15,7 @@ ghost use Rattle.schema.specs.Faults.{HasFault};
 ghost use Rattle.schema.specs.Reading.{tallest};
 ghost use Rattle.schema.specs.Cutting.{IsCutTo, IsCutFault};
 
-use crate::cutting::{are_below, cut_each};
+use crate::cutting::{are_below, cut_each, marks_at};
 use crate::element::Element;
 use crate::field::{Field, Leaf};
 use crate::fits::fits_row;
@@ -62,10 +62,10 @@ impl Schema {
     /// (`parquet.thrift`, SchemaElement).
     ///
     /// Refused Schema where the list is no tree of groups with fields and of leaves, or a name, a
-    /// repetition, a type or a kept struct cannot be; Float and Int96, with the path joined by `.`, for
-    /// a leaf of FLOAT, DOUBLE or FLOAT16, and of INT96; Limit for more than 1,024 leaves, or 32 fields
-    /// on a way. Where there are several faults one of them is answered, and Float, Int96 and Limit only
-    /// where the list is a tree.
+    /// repetition or a type cannot be, or a kept struct has no bytes or nests more than 29 deep; Float
+    /// and Int96, with the path joined by `.`, for a leaf of FLOAT, DOUBLE or FLOAT16, and of INT96;
+    /// Limit for more than 1,024 leaves, or 32 fields on a way. Where there are several faults one of
+    /// them is answered, and Float, Int96 and Limit only where the list is a tree.
     ///
     /// The time is linear in the list; the names of siblings are compared pair by pair, once there are
     /// known to be no more than 1,024.
@@ -127,7 +127,7 @@ impl Schema {
     /// comes twice counts once.
     ///
     /// Refused Schema where no place is given, or one where no leaf is. The time is linear in the schema
-    /// for each place.
+    /// and the places.
     pub fn cut(&self, alloc: Global, places: &[usize]) -> R<Schema>
         ensures stands { IfOk result (IsCutTo places.now self.now) }
         ensures only { OnFault result ((cut : Fields) → IsCutTo places.now self.now cut → ⊥) }
@@ -136,7 +136,8 @@ impl Schema {
         if places.is_empty() || !are_below(places, self.leaves.len()) {
             return Err(Refusal::Schema);
         }
-        let (fields, _) = cut_each(alloc, places, 0, self.fields.as_slice())?;
+        let wanted = marks_at(alloc, places, self.leaves.len())?;
+        let (fields, _) = cut_each(alloc, wanted.as_slice(), 0, self.fields.as_slice())?;
         Schema::of_fields(alloc, fields)
     }
 

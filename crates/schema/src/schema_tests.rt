@@ -52,6 +52,18 @@ fn wide(alloc: Global, children: i32, leaves: i32) -> R<Vec<Element>> {
     Ok(elements)
 }
 
+/// A root with an INT32 leaf, whose logicalType has the member 99 with this value.
+fn annotated(alloc: Global, value: Node) -> R<Vec<Element>> {
+    let mut members = Vec::new(alloc);
+    members.push(Member { id: 99, value })?;
+    let mut leaf = element(alloc, "leaf", Some(1), None)?;
+    leaf.logical_type = Some(Tree { fields: members });
+    let mut elements = Vec::new(alloc);
+    elements.push(element(alloc, "root", None, Some(1))?)?;
+    elements.push(leaf)?;
+    Ok(elements)
+}
+
 /// Whether there is an element that says the same, repetitions aside.
 fn agrees(found: Option<&Element>, wanted: &Element) -> bool {
     match found {
@@ -127,18 +139,19 @@ fn the_root_is_called_schema(rt: HostRuntime) -> Result<(), Fail> {
 #[test]
 fn a_struct_that_is_not_known_is_kept(rt: HostRuntime) -> Result<(), Fail> {
     let alloc = rt.alloc();
-    let mut members = Vec::new(alloc);
-    members.push(Member {
-        id: 99,
-        value: Node::Struct(Vec::new(alloc)),
-    })?;
-    let mut leaf = element(alloc, "leaf", Some(1), None)?;
-    leaf.logical_type = Some(Tree { fields: members });
-    let mut elements = Vec::new(alloc);
-    elements.push(element(alloc, "root", None, Some(1))?)?;
-    elements.push(leaf)?;
+    let elements = annotated(alloc, Node::Struct(Vec::new(alloc)))?;
     let schema = Schema::new(alloc, elements.as_slice())?;
     assert_eq!(rt; kept_member(schema.elements().get(1)), Some(99));
+    Ok(())
+}
+
+#[test]
+fn a_struct_that_no_bytes_have_is_refused(rt: HostRuntime) -> Result<(), Fail> {
+    let alloc = rt.alloc();
+    let elements = annotated(alloc, Node::Flag(1))?;
+    let answer = Schema::new(alloc, elements.as_slice());
+    assert!(rt; matches!(answer, Err(Refusal::Schema)));
+    kept_structs_have_bytes();
     Ok(())
 }
 

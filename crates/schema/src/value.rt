@@ -1,7 +1,8 @@
 //! Values, and the types of leaves.
 
-ghost use Rattle.std.specs.Prelude.{◌≡◌, ◌↔◌, IsTrue, IfOk, map};
+ghost use Rattle.std.specs.Prelude.{◌≡◌, ◌↔◌, pos, IsTrue, IfOk, map};
 ghost use Rattle.bits.specs.Refusals.{RefusedOnly};
+ghost use Rattle.schema.specs.Listed.{type_number};
 ghost use Rattle.schema.specs.Values.{view, views};
 
 use bits::R;
@@ -23,6 +24,21 @@ pub enum Kind {
     Int64,
     ByteArray,
     FixedLenByteArray(u32),
+}
+
+impl Kind {
+    /// Its number in `parquet.thrift`, Type.
+    pub fn number(self) -> i32
+        ensures { result ≡ pos (type_number self) }
+    {
+        match self {
+            Kind::Boolean => 0,
+            Kind::Int32 => 1,
+            Kind::Int64 => 2,
+            Kind::ByteArray => 6,
+            Kind::FixedLenByteArray(_) => 7,
+        }
+    }
 }
 
 /// A value of a row.

@@ -13,3 +13,8 @@ pub mod Spelled
 pub mod Steps
 pub mod Writes
 pub mod Again
+pub mod Texts
+pub mod Passed
+pub mod Tested
+pub mod Shapes
+pub mod ShapePasses

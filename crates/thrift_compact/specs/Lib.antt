@@ -4,3 +4,5 @@ pub mod Compact
 pub mod Reading
 pub mod Length
 pub mod Writing
+pub mod Writable
+pub mod Shapes

@@ -1,5 +1,5 @@
 -- What each writer is asked for, in at most `left` more levels.
-use Rattle.std.specs.Prelude.{◌≡◌, ℕ, ◌+◌, ◌≤◌, ℤ, pos, ◌+ℤ◌, List, ◌++◌, drop}
+use Rattle.std.specs.Prelude.{◌≡◌, Bool, false, ℕ, ◌+◌, ◌≤◌, ℤ, pos, ◌+ℤ◌, List, ◌++◌, drop}
 use Rattle.bits.specs.declared.refusal.Refusal.{Refusal}
 use Rattle.bits.specs.declared.refusal.Refusal.TheVariants.{Thrift}
 use Rattle.bits.specs.Varint.{IsShortestUleb, zigzag_of}
@@ -46,3 +46,7 @@ SpellsField previous left id x bytes used = (s t : ℕ) × IsFieldHead previous 
 
 abbrev pub SpellsFields : ℕ → Fields → List ℕ → ℕ → Type 0
 SpellsFields left fs bytes used = (fields_nest fs ≤ left) × AreFields fs (pos 0) bytes used
+
+-- it is refused since it has not the shape of what can be written
+abbrev pub IsShapeless : Bool → Refusal → Type 0
+IsShapeless has_shape e = (e ≡ Thrift) × (has_shape ≡ false)

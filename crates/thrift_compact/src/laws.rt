@@ -4,6 +4,7 @@ ghost use Rattle.std.specs.Prelude.{◌≡◌, ℕ, List, ◌++◌, length, drop
 ghost use Rattle.bits.specs.Codec.{IsFunctional, Appends};
 ghost use Rattle.thrift_compact.specs.Tree.{Fields};
 ghost use Rattle.thrift_compact.specs.Compact.{IsThrift};
+ghost use Rattle.thrift_compact.specs.Shapes.{StructsWithBytesHaveTheShape};
 
 /// A front of the bytes stands for at most one struct.
 pub fn one_struct()
@@ -18,4 +19,10 @@ pub fn one_struct()
 pub fn what_is_written_is_read_again()
     ensures there { (fields : Fields) (most : ℕ) (old new more : List ℕ) → Appends (λ bytes used. IsThrift bytes fields used) most old new → (let text = drop (length old) new in IsThrift (text ++ more) fields (length text)) }
     ensures alone { (fields seen : Fields) (most used : ℕ) (old new more : List ℕ) → Appends (λ bytes used. IsThrift bytes fields used) most old new → (let text = drop (length old) new in IsThrift (text ++ more) seen used → (seen ≡ fields) × (used ≡ length text)) }
+{}
+
+/// A struct that some bytes have, and that does not nest deeper, has the shape of one that is written:
+/// [`write_struct`](crate::write_struct) is refused Thrift only where that is missing.
+pub fn structs_with_bytes_have_the_shape()
+    ensures { StructsWithBytesHaveTheShape }
 {}

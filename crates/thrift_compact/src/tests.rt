@@ -30,6 +30,8 @@ fn structs_nest_to_a_depth_of_thirty_two(rt: HostRuntime) -> Result<(), Fail> {
     }
     let (tree, used) = read_struct(rt.alloc(), &bytes)?;
     assert_eq!(rt; used, 65);
+    assert!(rt; has_bytes(&tree, 32));
+    assert!(rt; !has_bytes(&tree, 31));
     let mut out = Vec::new(rt.alloc());
     write_struct(&tree, &mut out)?;
     assert_eq!(rt; out.as_slice(), bytes.as_slice());
@@ -115,6 +117,7 @@ fn every_type_survives_and_each_front_is_refused(rt: HostRuntime) -> Result<(), 
     ];
     let (tree, used) = read_struct(rt.alloc(), &bytes)?;
     assert_eq!(rt; used, bytes.len());
+    assert!(rt; has_bytes(&tree, 3));
     let mut out = Vec::new(rt.alloc());
     out.push(7)?;
     let (_, again) = written_then_read(rt.alloc(), &tree, &[0, 9], &mut out)?;
@@ -143,14 +146,11 @@ fn a_tree_without_bytes_is_not_written(rt: HostRuntime) -> Result<(), Fail> {
         id: 1,
         value: Node::List(ElementType::I32, values),
     })?;
+    let tree = Tree { fields };
+    assert!(rt; !has_bytes(&tree, 32));
     let mut out = Vec::new(rt.alloc());
     out.push(7)?;
-    assert!(rt;
-        matches!(
-            write_struct(&Tree { fields }, &mut out),
-            Err(Refusal::Thrift)
-        )
-    );
+    assert!(rt; matches!(write_struct(&tree, &mut out), Err(Refusal::Thrift)));
     assert_eq!(rt; out.as_slice(), [7].as_slice());
     assert_eq!(rt; ElementType::Struct.code(), 12);
     one_struct();

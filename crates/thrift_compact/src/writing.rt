@@ -1,13 +1,14 @@
 //! Bytes from trees.
 
-ghost use Rattle.std.specs.Prelude.{◌≡◌, ℕ, ◌+◌, ◌<◌, ◌≤◌, ◌↔◌, List, length, OnOk, OnErr, IsTrue};
+ghost use Rattle.std.specs.Prelude.{◌≡◌, ℕ, ◌+◌, ◌<◌, ◌≤◌, ◌↔◌, ◌&&◌, List, length, OnOk, OnErr, IsTrue};
 ghost use Rattle.bits.specs.Refusals.{OnFault, RefusedOnly};
 ghost use Rattle.bits.specs.Codec.{Appends};
 ghost use Rattle.thrift_compact.specs.Tree.{list, empty_map, map, struct};
 ghost use Rattle.thrift_compact.specs.Compact.{kind, IsElement, IsBinary, IsThrift};
 ghost use Rattle.thrift_compact.specs.View.{view, views, pair_views, field_view, field_views, tree_view};
 ghost use Rattle.thrift_compact.specs.Length.{most_size, most_list_head, most_field_head, most_value, most_elements, most_pairs, most_fields, most_struct};
-ghost use Rattle.thrift_compact.specs.Writing.{IsWithoutBytes, Keeps, SpellsValue, SpellsElement, SpellsElements, SpellsPair, SpellsPairs, SpellsField, SpellsFields};
+ghost use Rattle.thrift_compact.specs.Shapes.{is_of_type, is_member, has_shape, each_has_shape, pairs_have_shape, pair_has_shape, fields_have_shape};
+ghost use Rattle.thrift_compact.specs.Writing.{IsWithoutBytes, IsShapeless, Keeps, SpellsValue, SpellsElement, SpellsElements, SpellsPair, SpellsPairs, SpellsField, SpellsFields};
 
 use crate::heads::{put_field_head, put_list_head, put_map_head};
 use crate::numbers::{put_binary, put_signed};
@@ -15,7 +16,7 @@ use crate::tree::{DEEPEST, Field, Node, Tree, type_code};
 use bits::{R, Refusal};
 
 /// Whether a list whose elements have the type `code` may hold the value.
-fn is_element(code: u8, value: &Node) -> bool
+pub(crate) fn is_element(code: u8, value: &Node) -> bool
     ensures { IsTrue result ↔ IsElement code (view value.now) }
 {
     match type_code(value) {
@@ -30,6 +31,7 @@ fn put_value(value: &Node, left: u32, out: &mut Vec<u8>) -> R<()>
     ensures stands { OnOk result (Appends (SpellsValue left (view value.now)) (most_value (view value.now)) out.old.items out.new.items) }
     ensures which { RefusedOnly (IsWithoutBytes (SpellsValue left (view value.now))) result }
     ensures kept { Keeps out.old.items out.new.items }
+    ensures shape { RefusedOnly (IsShapeless (has_shape left (view value.now))) result }
 {
     match value {
         Node::Bool(_) => Ok(()),
@@ -53,6 +55,7 @@ fn put_empty_map(left: u32, out: &mut Vec<u8>) -> R<()>
     ensures stands { OnOk result (Appends (SpellsValue left empty_map) (most_value empty_map) out.old.items out.new.items) }
     ensures which { RefusedOnly (IsWithoutBytes (SpellsValue left empty_map)) result }
     ensures kept { Keeps out.old.items out.new.items }
+    ensures shape { RefusedOnly (IsShapeless (has_shape left empty_map)) result }
 {
     if left == 0 {
         return Err(Refusal::Thrift);
@@ -66,6 +69,7 @@ fn put_struct(fields: &[Field], left: u32, out: &mut Vec<u8>) -> R<()>
     ensures stands { let seen = struct (field_views fields.now) in OnOk result (Appends (SpellsValue left seen) (most_value seen) out.old.items out.new.items) }
     ensures which { RefusedOnly (IsWithoutBytes (SpellsValue left (struct (field_views fields.now)))) result }
     ensures kept { Keeps out.old.items out.new.items }
+    ensures shape { RefusedOnly (IsShapeless (has_shape left (struct (field_views fields.now)))) result }
 {
     if left == 0 {
         return Err(Refusal::Thrift);
@@ -79,6 +83,7 @@ fn put_list(code: u8, values: &[Node], left: u32, out: &mut Vec<u8>) -> R<()>
     ensures stands { let seen = list code (views values.now) in OnOk result (Appends (SpellsValue left seen) (most_value seen) out.old.items out.new.items) }
     ensures which { RefusedOnly (IsWithoutBytes (SpellsValue left (list code (views values.now)))) result }
     ensures kept { Keeps out.old.items out.new.items }
+    ensures shape { RefusedOnly (IsShapeless (has_shape left (list code (views values.now)))) result }
 {
     if left == 0 || code > 15 {
         return Err(Refusal::Thrift);
@@ -92,6 +97,7 @@ fn put_elements(code: u8, values: &[Node], left: u32, out: &mut Vec<u8>) -> R<()
     ensures stands { OnOk result (Appends (SpellsElements code left (views values.now)) (most_elements (views values.now)) out.old.items out.new.items) }
     ensures which { RefusedOnly (IsWithoutBytes (SpellsElements code left (views values.now))) result }
     ensures kept { Keeps out.old.items out.new.items }
+    ensures shape { RefusedOnly (IsShapeless (each_has_shape left code (views values.now))) result }
 {
     for value in values {
         put_element(code, value, left, out)?;
@@ -104,6 +110,7 @@ fn put_element(code: u8, value: &Node, left: u32, out: &mut Vec<u8>) -> R<()>
     ensures stands { OnOk result (Appends (SpellsElement code left (view value.now)) (most_value (view value.now)) out.old.items out.new.items) }
     ensures which { RefusedOnly (IsWithoutBytes (SpellsElement code left (view value.now))) result }
     ensures kept { Keeps out.old.items out.new.items }
+    ensures shape { RefusedOnly (IsShapeless (is_of_type code (view value.now) && has_shape left (view value.now))) result }
 {
     if !is_element(code, value) {
         return Err(Refusal::Thrift);
@@ -117,6 +124,7 @@ fn put_map(keys: u8, values: u8, pairs: &[(Node, Node)], left: u32, out: &mut Ve
     ensures stands { let seen = map keys values (pair_views pairs.now) in OnOk result (Appends (SpellsValue left seen) (most_value seen) out.old.items out.new.items) }
     ensures which { RefusedOnly (IsWithoutBytes (SpellsValue left (map keys values (pair_views pairs.now)))) result }
     ensures kept { Keeps out.old.items out.new.items }
+    ensures shape { RefusedOnly (IsShapeless (has_shape left (map keys values (pair_views pairs.now)))) result }
 {
     if left == 0 || keys > 15 || values > 15 || pairs.is_empty() {
         return Err(Refusal::Thrift);
@@ -130,6 +138,7 @@ fn put_pairs(keys: u8, values: u8, pairs: &[(Node, Node)], left: u32, out: &mut 
     ensures stands { OnOk result (Appends (SpellsPairs keys values left (pair_views pairs.now)) (most_pairs (pair_views pairs.now)) out.old.items out.new.items) }
     ensures which { RefusedOnly (IsWithoutBytes (SpellsPairs keys values left (pair_views pairs.now))) result }
     ensures kept { Keeps out.old.items out.new.items }
+    ensures shape { RefusedOnly (IsShapeless (pairs_have_shape left keys values (pair_views pairs.now))) result }
 {
     for pair in pairs {
         put_pair(keys, values, pair, left, out)?;
@@ -142,6 +151,7 @@ fn put_pair(keys: u8, values: u8, pair: &(Node, Node), left: u32, out: &mut Vec<
     ensures stands { OnOk result (Appends (SpellsPair keys values left (view pair.now.0) (view pair.now.1)) (most_value (view pair.now.0) + most_value (view pair.now.1)) out.old.items out.new.items) }
     ensures which { RefusedOnly (IsWithoutBytes (SpellsPair keys values left (view pair.now.0) (view pair.now.1))) result }
     ensures kept { Keeps out.old.items out.new.items }
+    ensures shape { RefusedOnly (IsShapeless (pair_has_shape left keys values (view pair.now.0) (view pair.now.1))) result }
 {
     put_element(keys, &pair.0, left, out)?;
     put_element(values, &pair.1, left, out)
@@ -153,6 +163,7 @@ fn put_fields(fields: &[Field], left: u32, out: &mut Vec<u8>) -> R<()>
     ensures stands { OnOk result (Appends (SpellsFields left (field_views fields.now)) (most_struct (field_views fields.now)) out.old.items out.new.items) }
     ensures which { RefusedOnly (IsWithoutBytes (SpellsFields left (field_views fields.now))) result }
     ensures kept { Keeps out.old.items out.new.items }
+    ensures shape { RefusedOnly (IsShapeless (fields_have_shape left (field_views fields.now))) result }
 {
     let mut previous: i16 = 0;
     for field in fields {
@@ -167,6 +178,7 @@ fn put_field(previous: i16, field: &Field, left: u32, out: &mut Vec<u8>) -> R<()
     ensures stands { let seen = field_view field.now in OnOk result (Appends (SpellsField previous left seen.0 seen.1) (most_field_head previous seen.0 + most_value seen.1) out.old.items out.new.items) }
     ensures which { let seen = field_view field.now in RefusedOnly (IsWithoutBytes (SpellsField previous left seen.0 seen.1)) result }
     ensures kept { Keeps out.old.items out.new.items }
+    ensures shape { RefusedOnly (IsShapeless (is_member (view field.now.value) && has_shape left (view field.now.value))) result }
 {
     let code = type_code(&field.value);
     if code == 16 {
@@ -187,7 +199,7 @@ fn put_field(previous: i16, field: &Field, left: u32, out: &mut Vec<u8>) -> R<()
 pub fn write_struct(tree: &Tree, out: &mut Vec<u8>) -> R<()>
     ensures stands { let seen = tree_view tree.now in OnOk result (Appends (λ bytes used. IsThrift bytes seen used) (most_struct seen) out.old.items out.new.items) }
     ensures only { OnFault result ((bytes : List ℕ) (used : ℕ) → IsThrift bytes (tree_view tree.now) used → ⊥) }
-    ensures which { RefusedOnly (λ e. e ≡ Refusal.Thrift) result }
+    ensures which { RefusedOnly (IsShapeless (fields_have_shape 32 (tree_view tree.now))) result }
     ensures unchanged { OnErr result (out.new.items ≡ out.old.items) }
 {
     let kept = out.len();

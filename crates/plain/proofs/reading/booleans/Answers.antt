@@ -7,4 +7,4 @@ use Rattle.plain.proofs.reading.booleans.Goals as goal
 
 pub loop-i-preserved : goal.loop-i-preserved
 loop-i-preserved c =
-    rw (c.in_ok-push.ensures.items, pushed c.loop-i.values.items _, view_bool _) (read_more c.args.bytes.now (map view c.loop-i.values.items) c.loop-i.i c.loop-i.invariant)
+    rw (c.in_ok-push.ensures.items, pushed view c.loop-i.values.items _, view_bool _) (read_more c.args.bytes.now (map view c.loop-i.values.items) c.loop-i.i c.loop-i.invariant)

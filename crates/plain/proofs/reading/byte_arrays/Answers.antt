@@ -47,6 +47,6 @@ loop-preserved c =
     record {
       count = omega (arith, c.in_ok-push.ensures.len, ap length kept, c.loop.invariant.count);
       within = omega (arith, within, length-drop at body, c.loop.invariant.within);
-      stand = rw (c.in_ok-push.ensures.items, kept, pushed c.loop.values.items v) turn;
+      stand = rw (c.in_ok-push.ensures.items, kept, pushed view c.loop.values.items v) turn;
       below = over_more ByteArray c.loop.counter body front at size c.loop.invariant.stand c.loop.invariant.below not_here;
     }

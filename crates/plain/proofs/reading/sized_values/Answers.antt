@@ -28,5 +28,5 @@ loop-preserved c =
     record {
       count = omega (arith, c.in_ok-push.ensures.len, c.loop.invariant.count);
       place = omega (arith, place, one);
-      stand = rw (c.in_ok-push.ensures.items, pushed c.loop.values.items v) (turn_push (IsSpelled c.args.kind) (map view c.loop.values.items) (view v) body at size c.loop.invariant.stand here);
+      stand = rw (c.in_ok-push.ensures.items, pushed view c.loop.values.items v) (turn_push (IsSpelled c.args.kind) (map view c.loop.values.items) (view v) body at size c.loop.invariant.stand here);
     }

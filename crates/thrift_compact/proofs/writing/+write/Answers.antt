@@ -1,5 +1,5 @@
 use Rattle.std.proofs.Common.{rules, ◌≡◌, ◌+◌, ◌<◌, length, take, refl, sym, ap, subst, ◌∙◌, arith, to_z, of_z}
-use Rattle.std.specs.Prelude.{ℤ, pos, OnOk, FitsSigned}
+use Rattle.std.specs.Prelude.{ℤ, pos, OnOk, FitsSigned, ◌&&◌, false}
 use Rattle.std.specs.Int.{w16, w32}
 use Rattle.bits.specs.Codec.{Appends}
 use Rattle.bits.specs.Refusals.{RefusedOnly}
@@ -15,6 +15,9 @@ use Rattle.thrift_compact.specs.Writing.{SpellsValue, SpellsElement, SpellsEleme
 use Rattle.thrift_compact.proofs.Appending.{ok_then, appends_so, appends_then, keeps_then, pushed}
 use Rattle.thrift_compact.proofs.Writes as writes
 use Rattle.thrift_compact.proofs.Writes.{HasPart}
+use Rattle.thrift_compact.proofs.Shapes as shapes
+use Rattle.thrift_compact.specs.Shapes.{is_of_type, is_member, has_shape, each_has_shape, pairs_have_shape, pair_has_shape, fields_have_shape}
+use Rattle.thrift_compact.specs.Writing.{IsShapeless}
 use Rattle.thrift_compact.proofs.writing.+write.Goals as goal
 
 -- ---- elements
@@ -174,3 +177,40 @@ put_value-returns-in-I16-clause-stands t c =
     let w = wide_is z c.from.result fits c.from.ensures in
     ok_then c.put_signed.result (writes.short_stands (view c.args.value.now) z c.args.left c.args.out.now.items c.put_signed.new.out.items e fits)
     (subst (λ y. OnOk c.put_signed.result (Appends (IsShortestSigned y) 10 c.args.out.now.items c.put_signed.new.out.items)) w c.put_signed.ensures.stands)
+
+-- ---- shapes
+
+pub put_elements-returns-in_err-put_element-clause-shape : goal.put_elements-returns-in_err-put_element-clause-shape
+put_elements-returns-in_err-put_element-clause-shape t c =
+    let all = each_has_shape c.args.left c.args.code (views c.args.values.now) in
+    let fails = subst (λ y. (is_of_type c.args.code (view y) && has_shape c.args.left (view y)) ≡ false → all ≡ false) (sym c.value-item.is)
+    (shapes.element_fails c.args.values.now c.loop-value.value-index c.value-item.result c.args.code c.args.left c.loop-value-test.true) in
+    shapes.shapeless_by (is_of_type c.args.code (view c.value-item.result) && has_shape c.args.left (view c.value-item.result)) all c.from_residual.result c.in_err-put_element.field-0.0 fails c.from_residual.ensures.1 c.in_err-put_element.ensures.shape
+
+pub put_fields-returns-in_err-put_field-clause-shape : goal.put_fields-returns-in_err-put_field-clause-shape
+put_fields-returns-in_err-put_field-clause-shape t c =
+    let all = fields_have_shape c.args.left (field_views c.args.fields.now) in
+    let f = c.field-item.result in
+    let e : field_view f ≡ (f.id, view f.value) = search (rules, the_lemmas) in
+    let there = subst (λ (y : Field). (is_member (field_view y).1 && has_shape c.args.left (field_view y).1) ≡ false → all ≡ false) (sym c.field-item.is)
+    (shapes.field_fails c.args.fields.now c.loop-field.field-index c.field-item.result c.args.left c.loop-field-test.true) in
+    let fails = subst (λ (p : ℤ × Node). (is_member p.1 && has_shape c.args.left p.1) ≡ false → all ≡ false) e there in
+    shapes.shapeless_by (is_member (view c.field-item.result.value) && has_shape c.args.left (view c.field-item.result.value)) all c.from_residual.result c.in_err-put_field.field-0.0 fails c.from_residual.ensures.1 c.in_err-put_field.ensures.shape
+
+pub put_pair-returns-clause-shape : goal.put_pair-returns-clause-shape
+put_pair-returns-clause-shape t c =
+    let key = is_of_type c.args.keys (view c.args.pair.now.0) && has_shape c.args.left (view c.args.pair.now.0) in
+    let value = is_of_type c.args.values (view c.args.pair.now.1) && has_shape c.args.left (view c.args.pair.now.1) in
+    shapes.shapeless_as value (key && value) c.put_element-2.result (shapes.second_fails key value) c.put_element-2.ensures.shape
+
+pub put_pairs-returns-in_err-put_pair-clause-shape : goal.put_pairs-returns-in_err-put_pair-clause-shape
+put_pairs-returns-in_err-put_pair-clause-shape t c =
+    let all = pairs_have_shape c.args.left c.args.keys c.args.values (pair_views c.args.pairs.now) in
+    let fails = subst (λ y. pair_has_shape c.args.left c.args.keys c.args.values (view y.0) (view y.1) ≡ false → all ≡ false) (sym c.pair-item.is)
+    (shapes.pair_fails c.args.pairs.now c.loop-pair.pair-index c.pair-item.result c.args.keys c.args.values c.args.left c.loop-pair-test.true) in
+    shapes.shapeless_by (pair_has_shape c.args.left c.args.keys c.args.values (view c.pair-item.result.0) (view c.pair-item.result.1)) all c.from_residual.result c.in_err-put_pair.field-0.0 fails c.from_residual.ensures.1 c.in_err-put_pair.ensures.shape
+
+pub put_value-returns-in-Map-clause-shape : goal.put_value-returns-in-Map-clause-shape
+put_value-returns-in-Map-clause-shape t c =
+    let e : view c.args.value.now ≡ map c.code-in-Map.result c.code-in-Map-2.result (pair_views c.deref-in-Map.result.now) = search (rules, the_lemmas) in
+    subst (λ y. RefusedOnly (IsShapeless (has_shape c.args.left y)) c.put_map.result) (sym e) c.put_map.ensures.shape

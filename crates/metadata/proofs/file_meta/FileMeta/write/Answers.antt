@@ -12,6 +12,11 @@ use Rattle.metadata.proofs.Again.{file_meta_again}
 use Rattle.metadata.proofs.Own.{footer_has_bytes}
 use Rattle.metadata.proofs.Weights.{footer_at_most}
 use Rattle.metadata.proofs.Writing.{AppendsStruct, stands_again, only_where, within_weight}
+use Rattle.bits.specs.Refusals.{RefusedOnly}
+use Rattle.thrift_compact.specs.Shapes.{fields_have_shape}
+use Rattle.thrift_compact.specs.Writing.{IsShapeless}
+use Rattle.metadata.specs.Kept.{EachKeepsWritten}
+use Rattle.metadata.proofs.Shaped.{each_keeps_shape, footer_fits, not_shapeless, refused_where}
 use Rattle.metadata.proofs.file_meta.FileMeta.write.Goals as goal
 
 pub returns-clause-stands : goal.returns-clause-stands
@@ -37,3 +42,11 @@ returns-clause-only c =
     only_where ((bytes : List ℕ) (used : ℕ) → IsThrift bytes (file_meta_fields seen) used → ⊥) ((bytes : List ℕ) (used : ℕ) → StandsFor file_meta bytes seen used → ⊥) c.write_struct.result
     (λ nothing bytes used stands. let own = footer_has_bytes bytes seen used stands in nothing (own.0 ++ []) (length own.0) own.1)
     (subst (λ (fs : Fields). OnFault c.write_struct.result ((bytes : List ℕ) (used : ℕ) → IsThrift bytes fs used → ⊥)) c.in_ok-tree.ensures.stands c.write_struct.ensures.only)
+
+-- where each kept struct can be written, it has the shape, and so has the footer
+pub returns-clause-which : goal.returns-clause-which
+returns-clause-which c =
+    let seen = file_meta_view c.args.self.now in
+    let b = fields_have_shape 32 (file_meta_fields seen) in
+    refused_where b (EachKeepsWritten seen → ⊥) c.write_struct.result (λ shapeless kept. not_shapeless b (footer_fits seen (each_keeps_shape c.structs_with_bytes_have_the_shape.ensures seen.schema kept)) shapeless)
+    (subst (λ (fs : Fields). RefusedOnly (IsShapeless (fields_have_shape 32 fs)) c.write_struct.result) c.in_ok-tree.ensures.stands c.write_struct.ensures.which)

@@ -1,0 +1,49 @@
+-- The end of a file that is written: the footer, its length, and the magic.
+use Rattle.std.proofs.Common.{◌≡◌, ℕ, ◌+◌, ◌-◌, ◌<◌, ◌^◌, List, [], ◌++◌, length, drop, sym, ap, subst, ◌∙◌, arith, append_assoc, length-append}
+use Rattle.std.proofs.lemmas.List.{append-nil, drop_at}
+use Rattle.byteorder.specs.Endian.{little_bytes, little_number}
+use Rattle.byteorder.specs.Numbers.{little_number-reads_back}
+use Rattle.std.specs.Prelude.{Result, Ok, Err}
+use Rattle.bits.specs.declared.refusal.Refusal.{Refusal}
+use Rattle.bits.specs.declared.refusal.Refusal.TheVariants.{Memory}
+use Rattle.bits.specs.Refusals.{RefusedOnly}
+use Rattle.bits.specs.Codec.{Appends}
+use Rattle.metadata.specs.Records.{FileMeta}
+use Rattle.metadata.specs.FromTree.{file_meta}
+use Rattle.metadata.specs.Answers.{StandsFor}
+use Rattle.footer.specs.File.{magic, IsFramed}
+use Rattle.footer.specs.Own.{EndsWith}
+use Rattle.footer.proofs.Frames.{announced}
+
+abbrev pub AppendsRecord : FileMeta → ℕ → List ℕ → List ℕ → Type 0
+AppendsRecord meta most old new = Appends (λ bytes used. StandsFor file_meta bytes meta used) most old new
+
+-- the record behind the front, its length and the magic make a file
+pub ends : (front mid new : List ℕ) (meta : FileMeta) (most size : ℕ) → AppendsRecord meta most front mid → size ≡ length mid - length front → size < 2 ^ 32 → new ≡ mid ++ little_bytes 4 size ++ magic → EndsWith front meta new
+ends front mid new meta most size p is small joined = λ chunks begins.
+    let sized : size ≡ length p.text = omega (arith, is, ap length p.joined, length-append front p.text) in
+    record {
+      footer = p.text;
+      used = length p.text;
+      framed = record {
+        chunks = chunks;
+        begins = begins;
+        short = subst (λ (n : ℕ). n < 2 ^ 32) sized small;
+        joined = joined ∙ ap (λ (m : List ℕ). m ++ little_bytes 4 size ++ magic) p.joined ∙ ap (λ (n : ℕ). front ++ p.text ++ little_bytes 4 n ++ magic) sized;
+      };
+      stands = subst (λ (t : List ℕ). StandsFor file_meta t meta (length p.text)) (append-nil p.text) (p.stands []);
+    }
+
+-- the length of the footer, however the file is parted, is the one that stands at its end
+pub footer_is : (mid new before footer : List ℕ) (size : ℕ) → size < 2 ^ 32 → new ≡ mid ++ little_bytes 4 size ++ magic → IsFramed new before footer → length footer ≡ size
+footer_is mid new before footer size small joined p =
+    let whole : new ≡ mid ++ (little_bytes 4 size ++ magic) = joined ∙ append_assoc mid (little_bytes 4 size) magic in
+    let at : length mid ≡ length new - 8 = omega (arith, ap length whole, length-append mid (little_bytes 4 size ++ magic)) in
+    let tail : drop (length new - 8) new ≡ little_bytes 4 size ++ magic = ap (λ (t : List ℕ). drop (length new - 8) t) whole ∙ drop_at mid (little_bytes 4 size ++ magic) (length new - 8) at in
+    sym (announced new before footer p) ∙ ap (little_number 4) tail ∙ little_number-reads_back 4 size magic (omega (arith, small))
+
+-- refusals that come only where P does not hold do not come where it does
+pub never : {X : Type 0} (Cause : Refusal → Type 0) (P : Type 0) (r : Result X Refusal) → P → RefusedOnly (λ e. Cause e × (P → ⊥)) r → RefusedOnly (λ _. ⊥) r
+never Cause P (Ok x) p only = tt
+never Cause P (Err Memory) p only = tt
+never Cause P (Err e) p only = absurd (only.1 p)

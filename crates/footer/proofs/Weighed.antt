@@ -1,0 +1,135 @@
+-- What a written footer and a written file weigh.
+use Rattle.std.proofs.Common.{◌≡◌, ℕ, suc, ◌+◌, ◌^◌, ◌<◌, ◌≤◌, List, [], ◌∷◌, ◌++◌, length, map, refl, ap, arith, length-append}
+use Rattle.std.specs.Prelude.{sum_by, None, All}
+use Rattle.std.specs.List.{AllByRecursion}
+use Rattle.std.proofs.lemmas.List.{length-map, length-replicate}
+use Rattle.std.proofs.lemmas.List.Sums.{sum_by-cons}
+use Rattle.std.proofs.lemmas.List.Elements.{All-from_recursion}
+use Rattle.schema.specs.Values.{ValueTrees}
+use Rattle.schema.specs.Shape.{Field, leaf, fields, Fields, no_fields, field}
+use Rattle.schema.specs.Stripe.{Leaf, Entry, below, leaves, leaves_from, leaves_of, columns}
+use Rattle.schema.specs.Listed.{listing, listings}
+use Rattle.schema.specs.Law.{IsWithinLimits}
+use Rattle.schema.proofs.Kept.{all_joined}
+use Rattle.metadata.specs.Records.{ChunkMeta, GroupMeta, type_order}
+use Rattle.metadata.specs.Weight as record_weight
+use Rattle.metadata.specs.Weight.{text_weight, IsOwnColumn, IsOfTheWriter}
+use Rattle.row_group.specs.Chunks.{AreChunks}
+use Rattle.row_group.specs.Writing.{IsOwnChunk}
+use Rattle.footer.specs.declared.limits.TheConstants.{MOST_BYTES_OF_FOOTER}
+use Rattle.footer.specs.Writing.{footer_weight}
+use Rattle.footer.specs.Own.{groups_of, AppendsGroups, own_record}
+
+-- no more leaves than elements
+mutual
+  few_below : (f : Field) → length (leaves f) ≤ length (listing f)
+  few_below (leaf n r t) = omega arith
+  few_below (fields n r a fs) = let rest = few_from 0 fs in omega (arith, rest)
+
+  few_from : (i : ℕ) (fs : Fields) → length (leaves_from i fs) ≤ length (listings fs)
+  few_from i no_fields = omega arith
+  few_from i (field f fs) =
+      let one = few_below f in
+      let rest = few_from (suc i) fs in
+      omega (arith, one, rest, length-append (map (below i f) (leaves f)) (leaves_from (suc i) fs), length-map (leaves f) (below i f), length-append (listing f) (listings fs))
+
+-- a leaf has a name for each step
+abbrev IsNamed : Leaf → Type 0
+IsNamed l = length l.path ≡ length l.steps
+
+named_below : (i : ℕ) (f : Field) (ls : List Leaf) → AllByRecursion IsNamed ls → AllByRecursion IsNamed (map (below i f) ls)
+named_below i f [] h = tt
+named_below i f (l ∷ ls) h = let e = h.0 in (omega (arith, e), named_below i f ls h.1)
+
+mutual
+  named : (f : Field) → AllByRecursion IsNamed (leaves f)
+  named (leaf n r t) = (refl, tt)
+  named (fields n r a fs) = named_from 0 fs
+
+  named_from : (i : ℕ) (fs : Fields) → AllByRecursion IsNamed (leaves_from i fs)
+  named_from i no_fields = tt
+  named_from i (field f fs) = all_joined IsNamed (map (below i f) (leaves f)) (leaves_from (suc i) fs) (named_below i f (leaves f) (named f)) (named_from (suc i) fs)
+
+short_paths : (ls : List Leaf) → AllByRecursion IsNamed ls → AllByRecursion (λ (l : Leaf). length l.steps ≤ 32) ls → AllByRecursion (λ (l : Leaf). length l.path ≤ 32) ls
+short_paths [] h k = tt
+short_paths (l ∷ ls) h k = let e = h.0 in let le = k.0 in (omega (arith, e, le), short_paths ls h.1 k.1)
+
+-- names that weigh less than a bound are each below it
+short_names : (bound : ℕ) (names : List (List ℕ)) → sum_by (λ name. length name) names < bound → AllByRecursion (λ name. length name < bound) names
+short_names bound [] h = tt
+short_names bound (n ∷ ns) h = let e = sum_by-cons (λ (name : List ℕ). length name) n ns in (omega (arith, e, h), short_names bound ns (omega (arith, e, h)))
+
+abbrev pub leaf_weight : Leaf → ℕ
+leaf_weight l = 512 + sum_by (λ n. length n) l.path
+
+one_weighs : (c : ChunkMeta) (l : Leaf) → c.file_path ≡ None → c.meta_data.path_in_schema ≡ l.path → record_weight.chunk_weight c ≡ leaf_weight l
+one_weighs c l here path =
+    let none : text_weight c.file_path ≡ 0 = ap text_weight here in
+    let names : sum_by (λ name. length name) c.meta_data.path_in_schema ≡ sum_by (λ n. length n) l.path = ap (λ (p : List (List ℕ)). sum_by (λ name. length name) p) path in
+    omega (arith, none, names)
+
+-- the chunks of a group weigh what its leaves do
+chunks_weigh : (front : List ℕ) (cs : List ChunkMeta) (ls : List Leaf) (columns : List (List Entry)) → AreChunks front cs ls columns → AllByRecursion IsOwnChunk cs → sum_by record_weight.chunk_weight cs ≡ sum_by leaf_weight ls
+chunks_weigh front [] [] [] are own = refl
+chunks_weigh front [] [] (es ∷ ess) are own = absurd are
+chunks_weigh front [] (l ∷ ls) ess are own = absurd are
+chunks_weigh front (c ∷ cs) [] ess are own = absurd are
+chunks_weigh front (c ∷ cs) (l ∷ ls) [] are own = absurd are
+chunks_weigh front (c ∷ cs) (l ∷ ls) (es ∷ ess) are own =
+    let one = one_weighs c l own.0.here are.0.means.is.path in
+    let rest = chunks_weigh front cs ls ess are.1 own.1 in
+    omega (arith, one, rest, sum_by-cons record_weight.chunk_weight c cs, sum_by-cons leaf_weight l ls)
+
+own_column : (c : ChunkMeta) (l : Leaf) → IsOwnChunk c → c.meta_data.path_in_schema ≡ l.path → length l.path ≤ 32 → leaf_weight l < 2 ^ 32 → IsOwnColumn c.meta_data
+own_column c l own path few light = record {
+  encodings = own.own.encodings;
+  path = rw path few;
+  names = rw path (All-from_recursion (λ (name : List ℕ). length name < 2 ^ 32) l.path (short_names (2 ^ 32) l.path (omega (arith, light))));
+  statistics = rw (own.own.statistics) tt;
+}
+
+-- they are as the writer makes them, where they are light
+own_columns : (front : List ℕ) (cs : List ChunkMeta) (ls : List Leaf) (columns : List (List Entry)) → AreChunks front cs ls columns → AllByRecursion IsOwnChunk cs
+    → AllByRecursion (λ (l : Leaf). length l.path ≤ 32) ls → sum_by leaf_weight ls < 2 ^ 32 → AllByRecursion (λ (chunk : ChunkMeta). IsOwnColumn chunk.meta_data) cs
+own_columns front [] [] [] are own few light = tt
+own_columns front [] [] (es ∷ ess) are own few light = tt
+own_columns front [] (l ∷ ls) ess are own few light = tt
+own_columns front (c ∷ cs) [] ess are own few light = absurd are
+own_columns front (c ∷ cs) (l ∷ ls) [] are own few light = absurd are
+own_columns front (c ∷ cs) (l ∷ ls) (es ∷ ess) are own few light =
+    let sum = sum_by-cons leaf_weight l ls in
+    (own_column c l own.0 are.0.means.is.path few.0 (omega (arith, sum, light)), own_columns front cs ls ess are.1 own.1 few.1 (omega (arith, sum, light)))
+
+-- the record weighs what is told of its schema
+pub same_weight : (fs : Fields) (n : ℕ) (old new : List ℕ) (gs : List GroupMeta) (rows : List ValueTrees) → AppendsGroups fs old new gs rows
+    → record_weight.footer_weight [] (own_record fs n gs) ≡ footer_weight fs (length (groups_of rows))
+same_weight fs n old new [] [] p = omega arith
+same_weight fs n old new [] (row ∷ rows) p = absurd p
+same_weight fs n old new (g ∷ []) [] p = absurd p
+same_weight fs n old new (g ∷ []) (row ∷ rows) p =
+    let chunks = chunks_weigh (new ++ []) g.columns (leaves_of fs) (columns fs (row ∷ rows)) (p.means []).chunks p.own in
+    omega (arith, chunks)
+same_weight fs n old new (g ∷ h ∷ gs) rows p = absurd p
+
+own_groups : (fs : Fields) (old new : List ℕ) (gs : List GroupMeta) (rows : List ValueTrees) → AppendsGroups fs old new gs rows → IsWithinLimits fs
+    → footer_weight fs (length (groups_of rows)) ≤ MOST_BYTES_OF_FOOTER → AllByRecursion (λ (group : GroupMeta). AllByRecursion (λ (chunk : ChunkMeta). IsOwnColumn chunk.meta_data) group.columns) gs
+own_groups fs old new [] rows p within light = tt
+own_groups fs old new (g ∷ []) [] p within light = absurd p
+own_groups fs old new (g ∷ []) (row ∷ rows) p within light =
+    (own_columns (new ++ []) g.columns (leaves_of fs) (columns fs (row ∷ rows)) (p.means []).chunks p.own (short_paths (leaves_of fs) (named_from 0 fs) within.depth) (omega (arith, light)), tt)
+own_groups fs old new (g ∷ h ∷ gs) rows p within light = absurd p
+
+-- it is one of the writer's
+pub of_the_writer : (fs : Fields) (n : ℕ) (old new : List ℕ) (gs : List GroupMeta) (rows : List ValueTrees) → AppendsGroups fs old new gs rows → IsWithinLimits fs
+    → footer_weight fs (length (groups_of rows)) ≤ MOST_BYTES_OF_FOOTER → IsOfTheWriter [] (own_record fs n gs)
+of_the_writer fs n old new gs rows p within light = record {
+  columns = All-from_recursion (λ (group : GroupMeta). All (λ (chunk : ChunkMeta). IsOwnColumn chunk.meta_data) group.columns) gs (all_groups gs (own_groups fs old new gs rows p within light));
+  pairs = tt;
+  created_by = refl;
+  column_orders = let few = few_from 0 fs in omega (arith, few, length-replicate (length (leaves_of fs)) type_order);
+}
+  where
+    all_groups : (gs : List GroupMeta) → AllByRecursion (λ (group : GroupMeta). AllByRecursion (λ (chunk : ChunkMeta). IsOwnColumn chunk.meta_data) group.columns) gs
+        → AllByRecursion (λ (group : GroupMeta). All (λ (chunk : ChunkMeta). IsOwnColumn chunk.meta_data) group.columns) gs
+    all_groups [] h = tt
+    all_groups (g ∷ gs) h = (All-from_recursion (λ (chunk : ChunkMeta). IsOwnColumn chunk.meta_data) g.columns h.0, all_groups gs h.1)

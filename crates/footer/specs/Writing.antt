@@ -1,0 +1,90 @@
+-- Which options there are, what a written file weighs, and which rows are not written.
+use Rattle.std.specs.Prelude.{◌≡◌, ◌≢◌, ◌⊎◌, ℕ, suc, ◌+◌, ◌-◌, ◌*◌, ◌/◌, ◌<◌, ◌<ℤ◌, pos, ◌≤◌, List, [], ◌∷◌, length, take, drop, sum_by}
+use Rattle.std.specs.List.{Any, AllByRecursion}
+use Rattle.bits.specs.declared.refusal.Refusal.{Refusal}
+use Rattle.schema.specs.Values.{ValueTrees}
+use Rattle.schema.specs.Shape.{Fields}
+use Rattle.schema.specs.Stripe.{Leaf, Entry, leaves_of, columns}
+use Rattle.schema.specs.Listed.{elements_of}
+use Rattle.schema.specs.Listing.{IsSchemaOf}
+use Rattle.metadata.specs.Records.{FileMeta}
+use Rattle.metadata.specs.Weight.{element_weight}
+use Rattle.plain.specs.Plain.{IsTooLong}
+use Rattle.pages.specs.Page.{values}
+use Rattle.pages.specs.Writing.{page_weight}
+use Rattle.row_group.specs.declared.limits.TheConstants.{MOST_ENTRIES_OF_CHUNK}
+use Rattle.row_group.specs.Limits.{IsLeafToCome}
+use Rattle.row_group.specs.Writing.{AreTaken}
+use Rattle.footer.specs.declared.limits.TheConstants.{MOST_BYTES_OF_FILE, MOST_BYTES_OF_FOOTER}
+use Rattle.footer.specs.declared.options.Style.{Style}
+use Rattle.footer.specs.declared.options.Style.TheVariants.{Plain}
+use Rattle.footer.specs.declared.options.WriteOptions.{WriteOptions}
+use Rattle.footer.specs.File.{IsFramed, IsFile, AreGroups}
+
+-- options that are refused for good: no group of 1 to 1,048,576 rows, no page of a row or more, no version 1 or 2
+pub data IsOutOfRange (o : WriteOptions) : Type 0 where
+  empty_groups : o.group_rows ≡ 0 → IsOutOfRange o
+  large_groups : 1048576 < o.group_rows → IsOutOfRange o
+  empty_pages : o.page_rows ≡ 0 → IsOutOfRange o
+  other_version : o.page_version ≢ 1 → o.page_version ≢ 2 → IsOutOfRange o
+
+-- how many parts of so many rows each there are, the last with the rest
+abbrev pub parts_of : ℕ → ℕ → ℕ
+parts_of n size = (n + (size - 1)) / size
+
+-- the rows in groups of this many each, the last with the rest
+pub record AreGrouped (size : ℕ) (rows : List ValueTrees) (groups : List (List ValueTrees)) : Type 0 where
+  pub count : length groups ≡ parts_of (length rows) size
+  pub each : (k : ℕ) → k < length groups → take 1 (drop k groups) ≡ take size (drop (k * size) rows) ∷ []
+
+-- the file has the rows in groups of this many each
+pub record IsWrittenAs (size : ℕ) (fs : Fields) (rows : List ValueTrees) (bytes : List ℕ) : Type 0 where
+  pub front : List ℕ
+  pub meta : FileMeta
+  pub file : IsFile bytes front meta
+  pub schema : IsSchemaOf meta.schema fs
+  pub groups : List (List ValueTrees)
+  pub each : AreGroups front fs meta.row_groups groups
+  pub grouped : AreGrouped size rows groups
+
+-- a footer: 1,024, for each schema element 128, its name and its kept struct, for each group 64, for each chunk 512 and its names
+abbrev pub footer_weight : Fields → ℕ → ℕ
+footer_weight fs groups = 1024 + sum_by element_weight (elements_of fs) + groups * (64 + sum_by (λ (l : Leaf). 512 + sum_by (λ n. length n) l.path) (leaves_of fs))
+
+-- a chunk: 1,024 for each of its pages and once more for a dictionary, 64 an entry, and the bytes of its byte values
+abbrev pub chunk_weight : ℕ → List Entry → ℕ
+chunk_weight pages es = 1024 * pages + page_weight es
+
+-- the chunks of a group, in pages of so many rows
+abbrev pub group_weight : Fields → ℕ → List ValueTrees → ℕ
+group_weight fs page_rows rows = sum_by (chunk_weight (parts_of (length rows) page_rows)) (columns fs rows)
+
+-- a file: 1,024, its footer, and its chunks
+abbrev pub file_weight : Fields → WriteOptions → List (List ValueTrees) → ℕ
+file_weight fs o groups = 1024 + footer_weight fs (length groups) + sum_by (group_weight fs o.page_rows) groups
+
+-- its footer or the file itself weighs more than it may have
+pub record IsHeavy (fs : Fields) (o : WriteOptions) (rows : List ValueTrees) : Type 0 where
+  pub groups : List (List ValueTrees)
+  pub grouped : AreGrouped o.group_rows rows groups
+  pub over : (MOST_BYTES_OF_FOOTER < footer_weight fs (length groups)) ⊎ (MOST_BYTES_OF_FILE < file_weight fs o groups)
+
+-- why rows are too much for a file
+pub data IsTooMuch (fs : Fields) (o : WriteOptions) (rows : List ValueTrees) : Type 0 where
+  many_entries : Any (λ es. MOST_ENTRIES_OF_CHUNK <ℤ pos (length es)) (columns fs rows) → IsTooMuch fs o rows
+  long_value : Any (λ es. Any IsTooLong (values es)) (columns fs rows) → IsTooMuch fs o rows
+  heavy : IsHeavy fs o rows → IsTooMuch fs o rows
+
+-- Why a file is not written yet. (Each that is built is taken away, and with the last the type.)
+pub data IsToBeWritten (fs : Fields) (o : WriteOptions) (rows : List ValueTrees) : Type 0 where
+  many_groups : o.group_rows < length rows → IsToBeWritten fs o rows
+  many_pages : o.page_rows < length rows → IsToBeWritten fs o rows
+  second_version : o.page_version ≡ 2 → IsToBeWritten fs o rows
+  other_style : o.style ≢ Plain → IsToBeWritten fs o rows
+  other_leaf : Any IsLeafToCome (leaves_of fs) → IsToBeWritten fs o rows
+
+-- a reader takes the file: it is within the limits, and so are its footer, its columns and their values
+pub record IsTaken (fs : Fields) (rows : List ValueTrees) (bytes : List ℕ) : Type 0 where
+  pub size : length bytes ≤ MOST_BYTES_OF_FILE
+  pub footer_size : (front footer : List ℕ) → IsFramed bytes front footer → length footer ≤ MOST_BYTES_OF_FOOTER
+  pub columns_taken : AreTaken fs rows

@@ -1,0 +1,88 @@
+//! Texts to files.
+
+ghost use Rattle.std.specs.Prelude.{◌≡◌, ℕ, List, Err, IfOk, OnOk};
+ghost use Rattle.std.specs.Str.Lines.{lines};
+ghost use Rattle.bits.specs.Refusals.{RefusedOnly};
+ghost use Rattle.bits.specs.declared.refusal.Refusal.TheVariants.{RowShape};
+ghost use Rattle.schema.specs.Shape.{Fields};
+ghost use Rattle.schema.specs.Fits.{RowsFit};
+ghost use Rattle.schema.specs.Views.{rows_view};
+ghost use Rattle.pqds.specs.Program.{IsSchemaText, IsRefusedLine, AddsRow, AreRowTexts, HasFirstFault, IsFileOf, IsOfTexts, IsOfFiles};
+
+use crate::host::{put_new, text_of};
+use crate::jsonrows::row_from;
+use crate::schema_reading::schema_from;
+use bits::R;
+use footer::{WriteOptions, write_file};
+use schema::{Row, Schema};
+use std::alloc::Global;
+use std::rt::Files;
+
+/// What a file is made from: the paths of both texts, and how it is written.
+#[derive(Clone, Copy)]
+pub struct Sources<'a> {
+    pub schema: &'a str,
+    pub rows: &'a str,
+    pub options: WriteOptions,
+}
+
+/// Puts the row of a line behind the rows so far. Refused as `row_from` refuses the line.
+fn read_line(alloc: Global, schema: &Schema, line: &str, rows: &mut Vec<Row>) -> R<()>
+    ensures stands { OnOk result (AddsRow schema.now line.now rows.old.items rows.new.items) }
+    ensures which { RefusedOnly (IsRefusedLine schema.now line.now) result }
+{
+    let row = row_from(alloc, schema, line)?;
+    rows.push(row)?;
+    Ok(())
+}
+
+/// The rows of a text, one of each line. Refused as the first line is that is no row.
+fn rows_from(alloc: Global, schema: &Schema, text: &str) -> R<Vec<Row>>
+    ensures stands { IfOk result (λ rows. AreRowTexts schema.now (lines text.now) (rows_view rows.items)) }
+    ensures fits { IfOk result (λ rows. RowsFit schema.now (rows_view rows.items)) }
+    ensures which { RefusedOnly (HasFirstFault schema.now (lines text.now)) result }
+{
+    let mut rows = Vec::new(alloc);
+    for line in text.lines() {
+        read_line(alloc, schema, line, &mut rows)?;
+    }
+    Ok(rows)
+}
+
+/// The bytes of a file that means, in the schema of one text, the rows of the other, one of each line (an
+/// empty line is no row; a last line needs no line feed).
+///
+/// Refused as `schema_from` refuses the schema, or else as `row_from` does the first line that is no row, or
+/// else as `write_file` does. The time is linear in the texts.
+pub fn encoded(
+    alloc: Global,
+    schema_text: &str,
+    rows_text: &str,
+    options: &WriteOptions,
+) -> R<Vec<u8>>
+    ensures stands { IfOk result (λ file. IsFileOf schema_text.now rows_text.now file.items) }
+    ensures shape { result ≡ Err RowShape → (fs : Fields) × IsSchemaText schema_text.now fs × HasFirstFault fs (lines rows_text.now) RowShape }
+    ensures which { RefusedOnly IsOfTexts result }
+{
+    let schema = schema_from(alloc, schema_text)?;
+    let rows = rows_from(alloc, &schema, rows_text)?;
+    write_file(alloc, &schema, options, rows.as_slice())
+}
+
+/// Makes the file at `path` of the texts. Both are read whole before either is looked into, and the file is
+/// begun when its bytes are there. Refused Device or Script where a text cannot be read, as `encoded` refuses
+/// the texts, or as `put_new` refuses the path; then no file is made.
+pub fn encode<F: Files>(rt: &F, alloc: Global, sources: &Sources<'_>, path: &str) -> R<()>
+    ensures made { OnOk result ((schema_text : List ℕ) × (rows_text : List ℕ) × (bytes : List ℕ) × IsFileOf schema_text rows_text bytes) }
+    ensures which { RefusedOnly IsOfFiles result }
+{
+    let schema_text = text_of(rt, alloc, sources.schema)?;
+    let rows_text = text_of(rt, alloc, sources.rows)?;
+    let file = encoded(
+        alloc,
+        schema_text.as_str(),
+        rows_text.as_str(),
+        &sources.options,
+    )?;
+    put_new(rt, alloc, path, file.as_slice())
+}

@@ -1,0 +1,110 @@
+//! The texts on the program's use.
+
+pub const ABOUT: &str =
+    "Reads Parquet files and prints their rows as JSON, and makes such files of JSON";
+
+pub const AFTER: &str = "\
+Answers with status 0 where all was done, and 1 where the call was refused: then standard error has one line,
+`refused`, a number, a name, and for 6 and 7 the column. Status 2 is this text, or what is wrong with the words.
+
+Example, at the top of the repository:
+
+    ./pqds encode sample/two_rows.schema.json sample/two_rows.jsonl two_rows.parquet
+    ./pqds decode two_rows.parquet
+
+makes a file of two rows, and prints them:
+
+    {\"x\":1}
+    {\"x\":300}";
+
+pub const DECODE: &str = "Prints each row of a Parquet file as a line of JSON";
+
+pub const DECODE_LONG: &str = "\
+Prints each row of a Parquet file as a line of JSON: an object by the names of the columns, in the byte order of
+the names. Numbers are printed as they are (unsigned ones unsigned), booleans as true and false, text as text, and
+other bytes as hexadecimal digits in lower case.
+
+The file is read whole, and no line is printed before all of it was accepted. Standard output has the lines and
+nothing else.";
+
+pub const DECODE_REFUSALS: &str = "\
+The file is refused, with status 1 and one line on standard error, by one of these:
+
+    1 Truncated    the bytes end before what they announce, or are fewer than 12
+    2 Magic        the first or the last four bytes are not PAR1
+    3 Thrift       a footer or a page header is no struct of the wanted shape
+    4 Schema       the columns are no valid tree, or a column chunk disagrees with them
+    5 Codec        a column chunk is compressed
+    6 Float        a FLOAT, DOUBLE or FLOAT16 column, whose path follows
+    7 Int96        an INT96 column, whose path follows
+    8 Encoding     an encoding that is not known, or not for this type or place
+    9 Page         a page or chunk whose sizes, offsets or counts cannot be
+    10 Levels      the columns have not as many values as there are rows
+    11 Value       bytes that are no value in their encoding
+    12 Utf8        text that is not UTF-8
+    13 Limit       the file goes beyond a limit, or holds what is not read yet: more than one row group or page
+                   to a chunk, dictionaries, optional, repeated or nested columns, other encodings than PLAIN
+    25 Device      the file cannot be read, or standard output not be written
+    28 Memory      there was no memory left
+
+Example, at the top of the repository:
+
+    ./pqds decode sample/two_rows.parquet
+
+prints
+
+    {\"x\":1}
+    {\"x\":300}";
+
+pub const ENCODE: &str = "Makes a Parquet file of rows that are lines of JSON";
+
+pub const ENCODE_LONG: &str = "\
+Makes a Parquet file of rows that are lines of JSON, in the columns of a schema.
+
+SCHEMA is a file with a JSON array of the columns, each an object:
+
+    name       the column's name
+    rep        required, optional or repeated
+    type       boolean, int32, int64, bytes, or fixed with its length in bytes as length
+    note       where it is there: what the values are, such as utf8 (text), date, uint_32 or decimal, which has a
+               precision and a scale beside it
+    fields     in place of type: the columns of a group
+
+ROWS is a file with a line of JSON for each row, as decode prints them: an object with a value for each column by
+its name, text where the column is text, and other bytes as hexadecimal digits in lower case. The last line needs
+no line feed; an empty line is no row, and is refused.
+
+OUT is a new file. It appears whole, or not at all, and no file is ever replaced. Both other files are read whole
+first, and nothing is made where anything is refused. Standard output has nothing.
+
+Today every column is required and none has fields, and all rows stand in one page, so that N must be at least as
+many as there are rows, both for --group-rows and --page-rows.";
+
+pub const ENCODE_REFUSALS: &str = "\
+The call is refused, with status 1 and one line on standard error, by the first of these that is found: first what
+is wrong with the files (SCHEMA before ROWS), then with their JSON (SCHEMA before ROWS, the first line before the
+others), then with the rows as a whole, and last with OUT.
+
+    4 Schema       the columns are no valid tree: two of one name, none at all, a length that cannot be
+    6 Float        a column that is noted as FLOAT16, whose path follows
+    13 Limit       more than a file may have, an option out of its range (--group-rows 1 to 1048576, --page-rows
+                   1 or more, --page-version 1 or 2), or what is not written yet: more rows than N, optional,
+                   repeated or nested columns, version 2, another style than plain
+    14 RowShape    a row that has not just the schema's columns, or a value that its column cannot have
+    24 Exists      OUT is there already; it is left as it is
+    25 Device      SCHEMA or ROWS cannot be read, or OUT not be made
+    28 Memory      there was no memory left
+    29 Script      SCHEMA, or a line of ROWS, is not JSON of this form, or not UTF-8
+
+Example, at the top of the repository:
+
+    ./pqds encode sample/two_rows.schema.json sample/two_rows.jsonl two_rows.parquet
+
+where sample/two_rows.schema.json is
+
+    [{\"name\":\"x\",\"rep\":\"required\",\"type\":\"int64\"}]
+
+and sample/two_rows.jsonl is
+
+    {\"x\":1}
+    {\"x\":300}";

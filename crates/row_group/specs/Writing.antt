@@ -1,0 +1,70 @@
+-- What a writer of chunks and groups leaves.
+use Rattle.std.specs.Prelude.{◌≡◌, ◌⊎◌, ℕ, ◌+◌, ◌<◌, ◌<ℤ◌, ◌≤◌, pos, List, ◌++◌, length, sum_by, IfSome, None, Some}
+use Rattle.std.specs.List.{Any, AllByRecursion}
+use Rattle.bits.specs.declared.refusal.Refusal.{Refusal}
+use Rattle.bits.specs.declared.refusal.Refusal.TheVariants.{RowShape, Limit}
+use Rattle.schema.specs.Values.{ValueTrees}
+use Rattle.schema.specs.Shape.{Fields}
+use Rattle.schema.specs.Stripe.{Leaf, Entry, leaves_of, columns}
+use Rattle.metadata.specs.Records.{ColumnMeta, ChunkMeta, GroupMeta}
+use Rattle.plain.specs.Plain.{IsTooLong}
+use Rattle.pages.specs.Page.{values}
+use Rattle.pages.specs.Writing.{page_weight, AreShort, IsPageTooMuch, IsLeafToBeWritten}
+use Rattle.row_group.specs.declared.limits.TheConstants.{MOST_ENTRIES_OF_CHUNK, MOST_ROWS_OF_GROUP, MOST_BYTES_BEFORE_CHUNK}
+use Rattle.row_group.specs.Chunks.{ColumnMeans, GroupMeans}
+use Rattle.row_group.specs.Limits.{IsLeafToCome}
+
+-- what the store's own writer says of a chunk: few encodings, no dictionary, no statistics yet
+pub record IsOwn (m : ColumnMeta) : Type 0 where
+  pub encodings : IfSome m.encodings (λ encodings. length encodings ≤ 10)
+  pub dictionary : m.dictionary_page_offset ≡ None
+  pub statistics : m.statistics ≡ None
+
+-- The bytes of `new` are those of `old` and a chunk of these entries; its record says where it is, whatever follows it.
+-- Its pages fill just the size that the record says.
+pub record AppendsChunk (leaf : Leaf) (old new : List ℕ) (m : ColumnMeta) (es : List Entry) : Type 0 where
+  pub text : List ℕ
+  pub joined : new ≡ old ++ text
+  pub means : (more : List ℕ) → ColumnMeans (new ++ more) m leaf es
+  pub size : m.total_compressed_size ≡ Some (pos (length text))
+  pub plain_size : m.total_uncompressed_size ≡ Some (pos (length text))
+  pub own : IsOwn m
+  pub short : length text ≤ page_weight es
+
+-- why entries are too much for a chunk behind so many bytes
+pub data IsChunkTooMuch (before : ℕ) (es : List Entry) : Type 0 where
+  many_entries : MOST_ENTRIES_OF_CHUNK <ℤ pos (length es) → IsChunkTooMuch before es
+  large_page : IsPageTooMuch es → IsChunkTooMuch before es
+  far_behind : MOST_BYTES_BEFORE_CHUNK < before → IsChunkTooMuch before es
+
+-- a chunk of this file, by what the store's own writer says of it
+pub record IsOwnChunk (c : ChunkMeta) : Type 0 where
+  pub here : c.file_path ≡ None
+  pub own : IsOwn c.meta_data
+
+-- the bytes of `new` are those of `old` and the chunks of a group of these rows, whatever follows them
+pub record AppendsGroup (fs : Fields) (old new : List ℕ) (g : GroupMeta) (rows : List ValueTrees) : Type 0 where
+  pub text : List ℕ
+  pub joined : new ≡ old ++ text
+  pub means : (more : List ℕ) → GroupMeans (new ++ more) fs g rows
+  pub own : AllByRecursion IsOwnChunk g.columns
+  pub size : g.total_byte_size ≡ Some (pos (length text))
+  pub short : length text ≤ sum_by page_weight (columns fs rows)
+
+-- none of the columns has too many entries, or a value that is longer than a value may be
+pub record AreTaken (fs : Fields) (rows : List ValueTrees) : Type 0 where
+  pub few : AllByRecursion (λ es. MOST_ENTRIES_OF_CHUNK <ℤ pos (length es) → ⊥) (columns fs rows)
+  pub values_short : AllByRecursion AreShort (columns fs rows)
+
+-- why rows are too much for a group behind so many bytes
+pub data IsGroupTooMuch (before : ℕ) (fs : Fields) (rows : List ValueTrees) : Type 0 where
+  many_rows : MOST_ROWS_OF_GROUP <ℤ pos (length rows) → IsGroupTooMuch before fs rows
+  many_entries : Any (λ es. MOST_ENTRIES_OF_CHUNK <ℤ pos (length es)) (columns fs rows) → IsGroupTooMuch before fs rows
+  long_value : Any (λ es. Any IsTooLong (values es)) (columns fs rows) → IsGroupTooMuch before fs rows
+  heavy : MOST_BYTES_BEFORE_CHUNK < before + sum_by page_weight (columns fs rows) → IsGroupTooMuch before fs rows
+
+-- what rows are refused for that should make a group
+abbrev pub IsOfRows : Refusal → Type 0
+IsOfRows RowShape = Unit {0}
+IsOfRows Limit = Unit {0}
+IsOfRows _ = ⊥
