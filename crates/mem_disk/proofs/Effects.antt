@@ -10,9 +10,9 @@ use Rattle.disk.specs.declared.fault.Fault.TheVariants.{Absent, Exists, Failed}
 use Rattle.mem_disk.specs.declared.call.Call.{Call}
 use Rattle.mem_disk.specs.Loose.{Loose, empty, bound, appended, node_synced, node_doubted, folder_synced, replayed, image_of, MayName, MayLeave, IsSound, GoesOn}
 use Rattle.mem_disk.specs.States.{state_with, AlsoFailed, IsAnswer, FailsToSync}
-use Rattle.mem_disk.proofs.Choices.{not_true, at_same, at_other, at_other_node, equal_or_not, file_is_something, file_is_no_folder, folder_is_something, file_node}
+use Rattle.mem_disk.proofs.Choices.{not_true, at_same, at_other, at_node, at_other_node, equal_or_not, file_is_something, file_is_no_folder, folder_is_something, file_node}
 use Rattle.mem_disk.proofs.Bindings.{bound_from, bound_reads, bound_sound, bound_leaves, folder_from, folder_firm}
-use Rattle.mem_disk.proofs.Writes.{appended_from, appended_reads, appended_bytes, synced_from, synced_firm, doubted_from, doubted_leaves}
+use Rattle.mem_disk.proofs.Writes.{appended_from, appended_reads, appended_bytes, synced_from, synced_firm, doubted_from}
 use Rattle.mem_disk.proofs.Passing.{passes_by, passes_on, passes_still, is_still, leaves_now, now_after}
 use Rattle.mem_disk.specs.Laws.{now_leaves}
 
@@ -343,20 +343,20 @@ sync_nothing old new f g r s result path n goes file is =
     file is
 
 -- one that has done all
-pub sync_whole : {T : Type 0} (old mid new : List Call) (f g r s : ℕ) (result : Result T Fault) (count : ℕ) → IsSound (replayed empty old) count → (path : List ℕ) (n : ℕ) → GoesOn old mid (node_synced (replayed empty old) n) → GoesOn mid new (node_doubted (replayed empty mid) n) → (replayed empty old).names path ≡ File n → result ≡ Err Failed → Synced path (state_with old f r) (state_with new g s) result
+pub sync_whole : {T : Type 0} (old mid new : List Call) (f g r s : ℕ) (result : Result T Fault) (count : ℕ) → IsSound (replayed empty mid) count → (path : List ℕ) (n : ℕ) → GoesOn old mid (node_doubted (replayed empty old) n) → GoesOn mid new (node_synced (replayed empty mid) n) → (replayed empty old).names path ≡ File n → result ≡ Err Failed → Synced path (state_with old f r) (state_with new g s) result
 sync_whole old mid new f g r s result count sound path n one two file is =
     let l = replayed empty old in
-    let between : replayed empty mid ≡ node_synced l n = now_after old mid one.call one.more ∙ one.made in
-    let now : replayed empty new ≡ node_doubted (replayed empty mid) n = now_after mid new two.call two.more ∙ two.made in
+    let between : replayed empty mid ≡ node_doubted l n = now_after old mid one.call one.more ∙ one.made in
+    let now : replayed empty new ≡ node_synced (replayed empty mid) n = now_after mid new two.call two.more ∙ two.made in
     let failed : IfErr result (λ e. e ≡ Failed) = subst (λ (x : Result _ Fault). IfErr x (λ e. e ≡ Failed)) (sym is) refl in
     synced_fails old new f g r s result failed path n
     (passes_on Stays Stays Stays old mid new f g r s
-    (passes_by Stays old mid f f r r one.call one.more (λ c may. (c, synced_from l n count sound c (subst (λ (x : Loose). MayLeave x c) one.made may), refl)))
-    (doubted_passes mid new f g r s result failed n two)
-    (λ c may. now_leaves new g s c (subst (λ (x : Loose). MayLeave x c) (sym now) (doubted_leaves (replayed empty mid) n c (leaves_now mid f r c may))))
+    (doubted_passes old mid f f r r result failed n one)
+    (passes_by Stays mid new f g r s two.call two.more (λ c may. (c, synced_from (replayed empty mid) n count sound c (subst (λ (x : Loose). MayLeave x c) two.made may), refl)))
+    (λ c may. inl (now_leaves old f r c (doubted_from l n c (subst (λ (x : Loose). MayLeave x c) between (leaves_now mid f r c may)))))
     (λ d e c a b. b ∙ a))
     (sym (ap image_of now ∙ ap image_of between))
-    (λ m ne d. subst (λ (x : Loose). IsTrue (x.doubted m)) between (subst IsTrue (at_other_node m n true ((replayed empty mid).doubted m) ne) (subst (λ (x : Loose). IsTrue (x.doubted m)) now d)))
+    (λ m ne d. subst IsTrue (at_other_node m n true (l.doubted m) ne) (subst (λ (x : Loose). IsTrue (x.doubted m)) between (subst (λ (x : Loose). IsTrue (x.doubted m)) now d)))
     file is
 
 binds_twice : (source target : List ℕ) (to : Binding) (d e c : Image) → Binds target to d e → Binds source Nothing e c → Moves source target to d c
@@ -410,7 +410,7 @@ module _ {T : Type 0} (old : List Call) (f g r s : ℕ) (result : Result T Fault
       passes_on (Binds target to) (Binds source Nothing) (Moves source target (start.names source)) old mid new f g r s
       (bound_passes old mid f f r r result failed count sound target to one movable.onto home no_over)
       (bound_passes mid new f g r s result failed count (mid_sound mid one) source Nothing two (file_is_no_folder ((replayed empty mid).names source) movable.node source_mid) source_home (λ e. absurd (let h : Nothing ≡ Folder = e in cc)))
-      (λ c may. now_leaves new g s c (subst (λ (x : Loose). MayLeave x c) (sym now) (bound_leaves (replayed empty mid) source Nothing c (leaves_now mid f r c may))))
+      (λ c may. inr (now_leaves new g s c (subst (λ (x : Loose). MayLeave x c) (sym now) (bound_leaves (replayed empty mid) source Nothing c (leaves_now mid f r c may)))))
       step in
       let first : Binds target to (image_of start) (image_of (replayed empty mid)) = subst (λ (x : Loose). Binds target to (image_of start) (image_of x)) (sym between) (bound_reads start target to) in
       let second : Binds source Nothing (image_of (replayed empty mid)) (image_of (replayed empty new)) = subst (λ (x : Loose). Binds source Nothing (image_of (replayed empty mid)) (image_of x)) (sym now) (bound_reads (replayed empty mid) source Nothing) in
@@ -455,14 +455,23 @@ file_within l count sound path n is = sound.named path n (inl (sym is))
 pub goes_from : (make : Loose → Loose) (old mid new : List Call) → mid ≡ old → GoesOn mid new (make (replayed empty mid)) → GoesOn old new (make (replayed empty old))
 goes_from make old mid new same goes = subst (λ (x : List Call). GoesOn x new (make (replayed empty x))) same goes
 
-pub fails_nothing : {A E : Type 0} (res : Result A E) (old new : List Call) (f g r s : ℕ) (path : List ℕ) (n : ℕ) → OnOk res (GoesOn old new (node_doubted (replayed empty old) n)) → OnErr res (new ≡ old) → (replayed empty old).names path ≡ File n → FailsToSync path (state_with old f r) (state_with new g s)
-fails_nothing (Ok x) old new f g r s path n goes same file = sync_nothing old new f g r s (Err Failed) path n goes file refl
-fails_nothing (Err x) old new f g r s path n goes same file = synced_stays old new f g r s same (Err Failed) Failed refl path (λ e. absurd (not_absent e))
+-- after the doubt the sync is done, or not
+pub fails_in_doubt : {A E : Type 0} (res : Result A E) (old mid new : List Call) (f g r s : ℕ) (count : ℕ) → IsSound (replayed empty mid) count → (path : List ℕ) (n : ℕ) → GoesOn old mid (node_doubted (replayed empty old) n) → OnOk res (GoesOn mid new (node_synced (replayed empty mid) n)) → OnErr res (new ≡ mid) → (replayed empty old).names path ≡ File n → FailsToSync path (state_with old f r) (state_with new g s)
+fails_in_doubt (Ok x) old mid new f g r s count sound path n one two same file = sync_whole old mid new f g r s (Err Failed) count sound path n one two file refl
+fails_in_doubt (Err x) old mid new f g r s count sound path n one two same file =
+    sync_nothing old new f g r s (Err Failed) path n (subst (λ (y : List Call). GoesOn old y (node_doubted (replayed empty old) n)) (sym same) one) file refl
 
-pub fails_whole : {A E : Type 0} (res : Result A E) (old mid new : List Call) (f g r s : ℕ) (count : ℕ) → IsSound (replayed empty old) count → (path : List ℕ) (n : ℕ) → GoesOn old mid (node_synced (replayed empty old) n) → OnOk res (GoesOn mid new (node_doubted (replayed empty mid) n)) → OnErr res (new ≡ mid) → (replayed empty old).names path ≡ File n → FailsToSync path (state_with old f r) (state_with new g s)
-fails_whole (Ok x) old mid new f g r s count sound path n one two same file = sync_whole old mid new f g r s (Err Failed) count sound path n one two file refl
-fails_whole (Err x) old mid new f g r s count sound path n one two same file =
-    synced_done old new f g r s (Err Failed) refl count sound path n (subst (λ (y : List Call). GoesOn old y (node_synced (replayed empty old) n)) (sym same) one) file
+pub in_doubt : (old new : List Call) (n : ℕ) → GoesOn old new (node_doubted (replayed empty old) n) → (replayed empty new).doubted n ≡ true
+in_doubt old new n goes = ap (λ (x : Loose). x.doubted n) (now_after old new goes.call goes.more ∙ goes.made) ∙ at_node n n true ((replayed empty old).doubted n) refl
+
+-- a sync takes no doubt away
+pub doubt_stands : {A E : Type 0} (res : Result A E) (mid new : List Call) (n : ℕ) → OnOk res (GoesOn mid new (node_synced (replayed empty mid) n)) → OnErr res (new ≡ mid) → (replayed empty mid).doubted n ≡ true → (replayed empty new).doubted n ≡ true
+doubt_stands (Ok x) mid new n two same doubt = ap (λ (y : Loose). y.doubted n) (now_after mid new two.call two.more ∙ two.made) ∙ doubt
+doubt_stands (Err x) mid new n two same doubt = ap (λ (y : List Call). (replayed empty y).doubted n) same ∙ doubt
+
+-- doubt makes nothing firm
+pub none_firmer : (old new : List Call) (n : ℕ) → GoesOn old new (node_doubted (replayed empty old) n) → (replayed empty new).synced ≡ (replayed empty old).synced
+none_firmer old new n goes = ap (λ (x : Loose). x.synced) (now_after old new goes.call goes.more ∙ goes.made)
 
 -- another name stays as it was
 pub later_name : (old mid : List Call) (path : List ℕ) (to : Binding) → GoesOn old mid (bound (replayed empty old) path to) → (q : List ℕ) → q ≢ path → (replayed empty mid).names q ≡ (replayed empty old).names q

@@ -9,3 +9,4 @@ pub mod Listed
 pub mod Resting
 pub mod Leaving
 pub mod Picking
+pub mod Shortages

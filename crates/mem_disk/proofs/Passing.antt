@@ -46,19 +46,19 @@ pub passes_by : (Step : Image → Image → Type 0) (old new : List Call) (f g r
     → Passes Step (state_with old f r) (state_with new g s)
 passes_by Step old new f g r s call is follows = subst (λ (x : List Call). Passes Step (state_with old f r) (state_with x g s)) (sym is) (passes_more Step old call f g r s follows)
 
--- one after the other, where the second takes nothing away
+-- one after the other, where between them a stop may leave what it may before or after both
 pub passes_on : (First Second Step : Image → Image → Type 0) (old mid new : List Call) (f g r s : ℕ)
     → Passes First (state_with old f r) (state_with mid f r) → Passes Second (state_with mid f r) (state_with new g s)
-    → ((c : Image) → may_leave (state_with mid f r) c → may_leave (state_with new g s) c)
+    → ((c : Image) → may_leave (state_with mid f r) c → may_leave (state_with old f r) c ⊎ may_leave (state_with new g s) c)
     → ((d e c : Image) → First d e → Second e c → Step d c)
     → Passes Step (state_with old f r) (state_with new g s)
-passes_on First Second Step old mid new f g r s one two wider join = record {
+passes_on First Second Step old mid new f g r s one two between join = record {
   later = let a = one.later in let b = two.later in omega (arith, a, b);
   history = λ m c le at. one.history m c le (two.history m c (let a = one.later in omega (arith, a, le)) at);
   keeps = λ m c le at. two.keeps m c (let a = one.later in omega (arith, a, le)) (one.keeps m c le at);
   within = λ m c lo hi at. ⊎_elim
-      (λ le. ⊎_elim (λ was. inl was) (λ now. inr (wider c now)) (one.within m c lo le (two.history m c le at)))
-      (λ lt. ⊎_elim (λ now. inr (wider c now)) (λ now. inr now) (two.within m c lt hi at))
+      (λ le. ⊎_elim (λ was. inl was) (λ now. between c now) (one.within m c lo le (two.history m c le at)))
+      (λ lt. ⊎_elim (λ now. between c now) (λ now. inr now) (two.within m c lt hi at))
       (le_or_lt m (length mid));
   follows = λ c may.
       let e = two.follows c may in

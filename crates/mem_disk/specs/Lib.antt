@@ -3,6 +3,7 @@ pub mod Loose
 pub mod States
 pub mod Laws
 pub mod Fuses
+pub mod Shortages
 pub mod Listings
 pub mod Disks
 pub mod Left

@@ -1,16 +1,18 @@
 //! What the calls do to what a disk keeps.
 
-ghost use Rattle.std.specs.Prelude.{◌≡◌, ◌≢◌, ◌<◌, ◌⊎◌, ◌↔◌, ℕ, length, IfErr, IsErrOf, IsTrue};
+ghost use Rattle.std.specs.Prelude.{◌≡◌, ◌≢◌, ◌<◌, ◌⊎◌, ◌↔◌, ℕ, length, IfErr, IsErrOf, IsTrue, OnOk, OnErr, true};
 ghost use Rattle.disk.specs.Paths.{folder_of};
-ghost use Rattle.disk.specs.Calls.{Created, FolderMade, Appended, Synced, FolderSynced, Renamed, Removed};
-ghost use Rattle.disk.specs.declared.fault.Fault.TheVariants.{Absent, Exists, Failed};
-ghost use Rattle.mem_disk.specs.Loose.{empty, replayed};
+ghost use Rattle.disk.specs.Calls.{Created, FolderMade, Appended, Synced, FolderSynced, IsMovable, Renamed, Removed};
+ghost use Rattle.disk.specs.declared.fault.Fault.TheVariants.{Exists, Failed, Memory};
+ghost use Rattle.mem_disk.specs.Loose.{empty, replayed, image_of};
+ghost use Rattle.mem_disk.specs.Shortages.{IsNoRename, told_as};
 ghost use Rattle.mem_disk.specs.States.{state_with, AlsoFailed, FailsToSync};
 ghost use Rattle.disk.specs.declared.binding.Binding.TheVariants.{Folder, File};
 
 use crate::fuse::{Done, Trip};
 use crate::held::Held;
 use disk::{Binding, Fault, folder_of};
+use std::alloc::AllocError;
 
 // Two names of one folder.
 fn are_beside(source: &str, target: &str) -> bool
@@ -84,11 +86,13 @@ impl Held {
         Ok(())
     }
 
-    /// Gives a file another name in its folder.
+    /// Gives a file another name in its folder. After Memory the target's name may be there, as after a failure.
     pub fn rename_file(&mut self, trip: Trip, source: &str, target: &str) -> Result<(), Fault>
-        ensures effect { (f g r s : ℕ) → AlsoFailed (Renamed source.now target.now (state_with self.old.calls.items f r) (state_with self.new.calls.items g s)) result }
-        ensures which { IfErr result (λ e. (e ≡ Absent) ⊎ (e ≡ Failed)) }
+        ensures effect { (f g r s : ℕ) → AlsoFailed (Renamed source.now target.now (state_with self.old.calls.items f r) (state_with self.new.calls.items g s)) (told_as result) }
+        ensures which { IfErr result (λ e. e ≢ Exists) }
         ensures nothing { trip ≡ Trip.Fails Done.Nothing → self.new.calls.items ≡ self.old.calls.items }
+        ensures passes { trip ≡ Trip.Passes → IsErrOf result Failed → IsNoRename source.now target.now (image_of (replayed empty self.old.calls.items)) }
+        ensures short { IsErrOf result Memory → IsMovable (image_of (replayed empty self.old.calls.items)) source.now target.now }
     {
         if trip == Trip::Fails(Done::Nothing) {
             return Err(Fault::Failed);
@@ -105,13 +109,13 @@ impl Held {
             return Err(Fault::Failed);
         }
         if self.bind(target, Binding::File(node)).is_err() {
-            return Err(Fault::Failed);
+            return Err(Fault::Memory);
         }
         if trip == Trip::Fails(Done::Part) {
             return Err(Fault::Failed);
         }
         if self.bind(source, Binding::Nothing).is_err() {
-            return Err(Fault::Failed);
+            return Err(Fault::Memory);
         }
         Ok(())
     }
@@ -151,6 +155,8 @@ impl Held {
         ensures effect { (f g r s : ℕ) → AlsoFailed (Synced path.now (state_with self.old.calls.items f r) (state_with self.new.calls.items g s)) result }
         ensures which { IfErr result (λ e. e ≢ Exists) }
         ensures passes { trip ≡ Trip.Passes → IsErrOf result Failed → ⊥ }
+        ensures doubt { IsErrOf result Failed → (n : ℕ) × ((replayed empty self.old.calls.items).names path.now ≡ File n) × ((replayed empty self.new.calls.items).doubted n ≡ true) }
+        ensures nothing { trip ≡ Trip.Fails Done.Nothing → (replayed empty self.new.calls.items).synced ≡ (replayed empty self.old.calls.items).synced }
     {
         let Binding::File(node) = self.binding(path) else {
             return Err(Fault::Absent)
@@ -164,28 +170,34 @@ impl Held {
                 Ok(())
             }
             Trip::Fails(done) => {
-                self.fail_sync(done, path, node);
+                self.fail_sync(done, path, node)?;
                 Err(Fault::Failed)
             }
         }
     }
 
-    // A sync of the node fails, after it was done, or not.
-    fn fail_sync(&mut self, done: Done, path: &str, node: usize)
+    // A sync of the node fails and leaves doubt. It was done nevertheless, or not.
+    fn fail_sync(&mut self, done: Done, path: &str, node: usize) -> Result<(), AllocError>
         requires { (replayed empty self.old.calls.items).names path.now ≡ File node }
-        ensures { (f g r s : ℕ) → FailsToSync path.now (state_with self.old.calls.items f r) (state_with self.new.calls.items g s) }
+        ensures effect { (f g r s : ℕ) → FailsToSync path.now (state_with self.old.calls.items f r) (state_with self.new.calls.items g s) }
+        ensures doubt { OnOk result ((replayed empty self.new.calls.items).doubted node ≡ true) }
+        ensures nothing { done ≡ Done.Nothing → (replayed empty self.new.calls.items).synced ≡ (replayed empty self.old.calls.items).synced }
+        ensures err { OnErr result (self.new.calls.items ≡ self.old.calls.items) }
     {
+        self.doubt(node)?;
         if done == Done::Nothing {
-            let _ = self.doubt(node);
-        } else if self.sync(node).is_ok() {
-            let _ = self.doubt(node);
+            return Ok(());
         }
+        let _ = self.sync(node);
+        Ok(())
     }
 
     /// Makes a folder's names firm.
     pub fn sync_names(&mut self, trip: Trip, folder: &str) -> Result<(), Fault>
-        ensures effect { (f g r s : ℕ) → AlsoFailed (FolderSynced folder.now (state_with self.old.calls.items f r) (state_with self.new.calls.items g s)) result }
-        ensures which { IfErr result (λ e. (e ≡ Absent) ⊎ (e ≡ Failed)) }
+        ensures effect { (f g r s : ℕ) → AlsoFailed (FolderSynced folder.now (state_with self.old.calls.items f r) (state_with self.new.calls.items g s)) (told_as result) }
+        ensures which { IfErr result (λ e. e ≢ Exists) }
+        ensures passes { trip ≡ Trip.Passes → IsErrOf result Failed → ⊥ }
+        ensures short { IsErrOf result Memory → (replayed empty self.old.calls.items).names folder.now ≡ Folder }
         ensures nothing { trip ≡ Trip.Fails Done.Nothing → self.new.calls.items ≡ self.old.calls.items }
     {
         if trip == Trip::Fails(Done::Nothing) {
@@ -195,7 +207,7 @@ impl Held {
             return Err(Fault::Absent)
         };
         if self.sync_folder(folder).is_err() {
-            return Err(Fault::Failed);
+            return Err(Fault::Memory);
         }
         Ok(())
     }

@@ -208,6 +208,7 @@ impl MemDisk {
         ensures rest { IfOk result (λ disk. IsAtRest (state_of disk)) }
         ensures failures { IfOk result (λ disk. disk.failures ≡ 0) }
         ensures reads { IfOk result (λ disk. disk.reads ≡ 0) }
+        ensures shortages { IfOk result (λ disk. disk.shortages ≡ 0) }
         ensures fuse { IfOk result (λ disk. disk.fuse ≡ plan.Never) }
     {
         let mut picks = Picks {
@@ -219,6 +220,7 @@ impl MemDisk {
             held: left,
             failures: 0,
             reads: 0,
+            shortages: 0,
             fuse: Fuse::Never,
         })
     }

@@ -1,10 +1,12 @@
 //! When calls fail, and what a failed call has done.
 
-ghost use Rattle.std.specs.Prelude.{◌≡◌, ◌≢◌};
+ghost use Rattle.std.specs.Prelude.{◌≡◌, ◌≢◌, IsErrOf};
+ghost use Rattle.disk.specs.State.{IsOneMore};
 ghost use Rattle.disk.specs.Calls.{CountsFailure};
-ghost use Rattle.disk.specs.declared.fault.Fault.TheVariants.{Failed};
+ghost use Rattle.disk.specs.declared.fault.Fault.TheVariants.{Failed, Memory};
 ghost use Rattle.mem_disk.specs.States.{IsAnswer};
 ghost use Rattle.mem_disk.specs.Fuses;
+ghost use Rattle.mem_disk.specs.Shortages.{told_as};
 
 use disk::Fault;
 
@@ -71,6 +73,23 @@ impl Fuse {
             }
         }
     }
+}
+
+/// What a call that answers no Memory tells: a refused growth as a failure, which is counted as a shortage where the
+/// call was to pass.
+pub fn tell_shortage(shortages: &mut u64, trip: Trip, done: Result<(), Fault>) -> Result<(), Fault>
+    ensures told { result ≡ told_as done }
+    ensures short { trip ≡ Trip.Passes → IsErrOf done Memory → IsOneMore shortages.old shortages.new }
+    ensures trips { trip ≢ Trip.Passes → shortages.new ≡ shortages.old }
+    ensures others { (IsErrOf done Memory → ⊥) → shortages.new ≡ shortages.old }
+{
+    let Err(Fault::Memory) = done else {
+        return done
+    };
+    if trip == Trip::Passes {
+        *shortages = shortages.saturating_add(1);
+    }
+    Err(Fault::Failed)
 }
 
 /// The answer of a call that has done this: `Failed`, and counted, where it fails.

@@ -111,6 +111,7 @@ impl Held {
         requires { node < length self.old.nodes.items }
         ensures ok { OnOk result (GoesOn self.old.calls.items self.new.calls.items (node_doubted (replayed empty self.old.calls.items) node)) }
         ensures err { OnErr result (self.new.calls.items ≡ self.old.calls.items) }
+        ensures nodes { length self.new.nodes.items ≡ length self.old.nodes.items }
     {
         self.calls.push(Call::Doubt(node))?;
         let at = &mut self.nodes[node];

@@ -8,8 +8,8 @@
 //! may leave of that (`MayLeave`), and `specs/States.antt` makes of it the state that the trait's contract speaks of,
 //! one moment for each call of the record (`state_with`; of a `MemDisk`: `state_of` in `specs/Disks.antt`). Lists of
 //! names and nodes beside the record answer reads without a replay, and a ghost field ties them to it (`Keeps`).
-//! `specs/Fuses.antt` says which calls fail (`Burns`), and `specs/Picks.antt` which image a list of words picks
-//! (`ArePickedBy`).
+//! `specs/Fuses.antt` says which calls fail (`Burns`), `specs/Shortages.antt` when a call that answers no Memory was
+//! short of it, and `specs/Picks.antt` which image a list of words picks (`ArePickedBy`).
 //!
 //! A call takes time that grows with the number of names that ever came up, and not with the length of the record.
 //! `crash` looks up each folder above each name, twice: its time grows with that number, times the depth of the names,
@@ -42,6 +42,7 @@ pub struct MemDisk {
     held: Held,
     failures: u64,
     reads: u64,
+    shortages: u64,
     fuse: Fuse,
 }
 
@@ -58,12 +59,14 @@ impl MemDisk {
         ensures seen { (state_of result).seen ≡ image_of empty }
         ensures failures { result.failures ≡ 0 }
         ensures reads { result.reads ≡ 0 }
+        ensures shortages { result.shortages ≡ 0 }
         ensures fuse { result.fuse ≡ plan.Never }
     {
         MemDisk {
             held: Held::new(alloc),
             failures: 0,
             reads: 0,
+            shortages: 0,
             fuse: Fuse::Never,
         }
     }
@@ -78,6 +81,7 @@ impl MemDisk {
         ensures calls { self.new.held.calls.items ≡ self.old.held.calls.items }
         ensures failures { self.new.failures ≡ self.old.failures }
         ensures reads { self.new.reads ≡ self.old.reads }
+        ensures shortages { self.new.shortages ≡ self.old.shortages }
     {
         self.fuse = Fuse::After(k, done_of(pick));
     }
@@ -88,8 +92,17 @@ impl MemDisk {
         ensures calls { self.new.held.calls.items ≡ self.old.held.calls.items }
         ensures failures { self.new.failures ≡ self.old.failures }
         ensures reads { self.new.reads ≡ self.old.reads }
+        ensures shortages { self.new.shortages ≡ self.old.shortages }
     {
         self.fuse = Fuse::Once(k, done_of(pick));
+    }
+
+    /// How many calls of `rename` and `sync_folder` failed since a growth was refused in them, and for no other reason;
+    /// it stays at the greatest u64. Each of them is among `failures` too. The other calls answer Memory.
+    pub fn shortages(&self) -> u64
+        ensures { result ≡ self.now.shortages }
+    {
+        self.shortages
     }
 }
 

@@ -2,15 +2,17 @@
 
 ghost use Rattle.std.specs.Prelude.{◌≡◌, ◌≢◌, ◌⊎◌, ◌↔◌, IfErr, IsErrOf};
 ghost use Rattle.disk.specs.State.{IsOneMore};
-ghost use Rattle.disk.specs.Calls.{CountsFailure, Created, FolderMade, Appended, Synced, FolderSynced, Renamed, Removed, RangeRead, Measured, Listed};
+ghost use Rattle.disk.specs.Calls.{CountsFailure, Created, FolderMade, Appended, Synced, FolderSynced, IsMovable, Renamed, Removed, RangeRead, Measured, Listed};
 ghost use Rattle.disk.specs.declared.binding.Binding.TheVariants.{Folder};
+ghost use Rattle.mem_disk.specs.Loose.{empty, replayed};
 ghost use Rattle.mem_disk.specs.Disks.{state_of, lawful_of};
 ghost use Rattle.mem_disk.specs.Fuses.{Burns, trip_of};
+ghost use Rattle.mem_disk.specs.Shortages.{IsNoRename, StaysUnlessShort};
 ghost use Rattle.mem_disk.specs.declared.fuse.Done.TheVariants as extent;
 ghost use Rattle.mem_disk.specs.declared.fuse.Trip.TheVariants as case;
 
 use crate::MemDisk;
-use crate::fuse::answer;
+use crate::fuse::{answer, tell_shortage};
 use disk::{Disk, Entry, Fault};
 use std::alloc::Global;
 
@@ -27,6 +29,7 @@ impl Disk for MemDisk {
         ensures fuse { Burns self.old.fuse self.new.fuse result }
         ensures passes { trip_of self.old.fuse ≡ case.Passes → IsErrOf result Fault.Failed → ⊥ }
         ensures nothing { trip_of self.old.fuse ≡ case.Fails extent.Nothing → self.new.held.calls.items ≡ self.old.held.calls.items }
+        ensures shortages { self.new.shortages ≡ self.old.shortages }
     {
         let trip = self.fuse.burn();
         let done = self.held.create_file(trip, path);
@@ -41,6 +44,7 @@ impl Disk for MemDisk {
         ensures fuse { Burns self.old.fuse self.new.fuse result }
         ensures passes { trip_of self.old.fuse ≡ case.Passes → IsErrOf result Fault.Failed → ⊥ }
         ensures nothing { trip_of self.old.fuse ≡ case.Fails extent.Nothing → self.new.held.calls.items ≡ self.old.held.calls.items }
+        ensures shortages { self.new.shortages ≡ self.old.shortages }
     {
         let trip = self.fuse.burn();
         let done = self.held.create_folder(trip, path);
@@ -61,6 +65,7 @@ impl Disk for MemDisk {
         ensures honest { (state_of self.old).honest ↔ (state_of self.new).honest }
         ensures fuse { Burns self.old.fuse self.new.fuse result }
         ensures passes { trip_of self.old.fuse ≡ case.Passes → IsErrOf result Fault.Failed → ⊥ }
+        ensures shortages { self.new.shortages ≡ self.old.shortages }
     {
         self.reads = self.reads.saturating_add(1);
         let trip = self.fuse.burn();
@@ -76,6 +81,7 @@ impl Disk for MemDisk {
         ensures honest { (state_of self.old).honest ↔ (state_of self.new).honest }
         ensures fuse { Burns self.old.fuse self.new.fuse result }
         ensures passes { trip_of self.old.fuse ≡ case.Passes → IsErrOf result Fault.Failed → ⊥ }
+        ensures shortages { self.new.shortages ≡ self.old.shortages }
     {
         let trip = self.fuse.burn();
         let done = self.held.measure_file(path);
@@ -90,6 +96,7 @@ impl Disk for MemDisk {
         ensures honest { (state_of self.old).honest ↔ (state_of self.new).honest }
         ensures fuse { Burns self.old.fuse self.new.fuse result }
         ensures passes { trip_of self.old.fuse ≡ case.Passes → IsErrOf result Fault.Failed → ⊥ }
+        ensures shortages { self.new.shortages ≡ self.old.shortages }
     {
         let trip = self.fuse.burn();
         let done = self.held.list_names(alloc, folder);
@@ -105,6 +112,7 @@ impl Disk for MemDisk {
         ensures fuse { Burns self.old.fuse self.new.fuse result }
         ensures passes { trip_of self.old.fuse ≡ case.Passes → IsErrOf result Fault.Failed → ⊥ }
         ensures nothing { trip_of self.old.fuse ≡ case.Fails extent.Nothing → self.new.held.calls.items ≡ self.old.held.calls.items }
+        ensures shortages { self.new.shortages ≡ self.old.shortages }
     {
         let trip = self.fuse.burn();
         let done = self.held.append_file(trip, path, bytes);
@@ -119,6 +127,8 @@ impl Disk for MemDisk {
         ensures honest { (state_of self.old).honest ↔ (state_of self.new).honest }
         ensures fuse { Burns self.old.fuse self.new.fuse result }
         ensures passes { trip_of self.old.fuse ≡ case.Passes → IsErrOf result Fault.Failed → ⊥ }
+        ensures nothing { trip_of self.old.fuse ≡ case.Fails extent.Nothing → (replayed empty self.new.held.calls.items).synced ≡ (replayed empty self.old.held.calls.items).synced }
+        ensures shortages { self.new.shortages ≡ self.old.shortages }
     {
         let trip = self.fuse.burn();
         let done = self.held.sync_file(trip, path);
@@ -133,10 +143,13 @@ impl Disk for MemDisk {
         ensures honest { (state_of self.old).honest ↔ (state_of self.new).honest }
         ensures fuse { Burns self.old.fuse self.new.fuse result }
         ensures nothing { trip_of self.old.fuse ≡ case.Fails extent.Nothing → self.new.held.calls.items ≡ self.old.held.calls.items }
+        ensures passes { trip_of self.old.fuse ≡ case.Passes → IsErrOf result Fault.Failed → IsOneMore self.old.shortages self.new.shortages }
+        ensures ample { StaysUnlessShort ((state_of self.old).seen.names folder.now ≡ Folder) self.old.fuse result self.old.shortages self.new.shortages }
     {
         let trip = self.fuse.burn();
         let done = self.held.sync_names(trip, folder);
-        answer(&mut self.failures, trip, done)
+        let told = tell_shortage(&mut self.shortages, trip, done);
+        answer(&mut self.failures, trip, told)
     }
 
     fn rename(&mut self, source: &str, target: &str) -> Result<(), Fault>
@@ -147,10 +160,13 @@ impl Disk for MemDisk {
         ensures honest { (state_of self.old).honest ↔ (state_of self.new).honest }
         ensures fuse { Burns self.old.fuse self.new.fuse result }
         ensures nothing { trip_of self.old.fuse ≡ case.Fails extent.Nothing → self.new.held.calls.items ≡ self.old.held.calls.items }
+        ensures passes { trip_of self.old.fuse ≡ case.Passes → IsErrOf result Fault.Failed → IsNoRename source.now target.now (state_of self.old).seen ⊎ IsOneMore self.old.shortages self.new.shortages }
+        ensures ample { StaysUnlessShort (IsMovable (state_of self.old).seen source.now target.now) self.old.fuse result self.old.shortages self.new.shortages }
     {
         let trip = self.fuse.burn();
         let done = self.held.rename_file(trip, source, target);
-        answer(&mut self.failures, trip, done)
+        let told = tell_shortage(&mut self.shortages, trip, done);
+        answer(&mut self.failures, trip, told)
     }
 
     fn remove(&mut self, path: &str) -> Result<(), Fault>
@@ -162,6 +178,7 @@ impl Disk for MemDisk {
         ensures fuse { Burns self.old.fuse self.new.fuse result }
         ensures nothing { trip_of self.old.fuse ≡ case.Fails extent.Nothing → self.new.held.calls.items ≡ self.old.held.calls.items }
         ensures passes { trip_of self.old.fuse ≡ case.Passes → IsErrOf result Fault.Failed → (state_of self.old).seen.names path.now ≡ Folder }
+        ensures shortages { self.new.shortages ≡ self.old.shortages }
     {
         let trip = self.fuse.burn();
         let done = self.held.remove_file(trip, path);

@@ -34,6 +34,8 @@ fn a_run_of_many_calls_over_a_few_names_ends_in_good_time(rt: HostRuntime) -> Re
         disk.remove("part.0.parquet")?;
     }
     assert_eq!(rt; disk.reads(), 4000);
+    assert_eq!(rt; disk.failures(), 0);
+    assert_eq!(rt; disk.shortages(), 0);
     let mut left = disk.crash(&[1])?;
     assert_eq!(rt; left.list(rt.alloc(), "")?.len(), 1);
     assert_eq!(rt; left.length("_metadata"), Ok(4));

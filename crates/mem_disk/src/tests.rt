@@ -135,3 +135,38 @@ fn what_lies_below_an_absent_folder_is_gone(rt: HostRuntime) {
     let mut there = disk.crash(&[1]).expect(&rt, "room");
     assert!(rt; there.length("k=1/part") == Ok(0));
 }
+
+#[test]
+fn a_sync_after_a_failed_one_makes_nothing_firm(rt: HostRuntime) {
+    for (pick, firm) in [(0, 5), (1, 10)] {
+        let mut disk = with_file(rt.alloc()).expect(&rt, "room");
+        disk.append("a", b"there").expect(&rt, "room");
+        disk.fail_once(0, pick);
+        assert!(rt; disk.sync("a") == Err(Fault::Failed));
+        disk.append("a", b"xy").expect(&rt, "room");
+        assert!(rt; disk.sync("a") == Ok(()));
+        for long in 0..13 - firm {
+            let mut left = disk.crash(&[long, 1, 1]).expect(&rt, "room");
+            assert_eq!(rt; left.length("a"), Ok(firm + long), "{pick} {long}");
+        }
+    }
+}
+
+#[test]
+fn a_rename_that_cannot_be_is_no_shortage(rt: HostRuntime) {
+    let mut disk = with_file(rt.alloc()).expect(&rt, "room");
+    disk.make_folder("f").expect(&rt, "room");
+    for (source, target) in [("f", "b"), ("a", "f"), ("a", "f/a"), ("a", "a")] {
+        assert_eq!(rt;
+            disk.rename(source, target),
+            Err(Fault::Failed),
+            "{source} {target}"
+        );
+    }
+    assert!(rt; disk.rename("b", "c") == Err(Fault::Absent));
+    assert!(rt; disk.sync_folder("a") == Err(Fault::Absent));
+    disk.fail_once(0, 1);
+    assert!(rt; disk.rename("a", "b") == Err(Fault::Failed));
+    assert!(rt; disk.failures() == 5);
+    assert!(rt; disk.shortages() == 0);
+}

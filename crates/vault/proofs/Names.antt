@@ -3,8 +3,7 @@ use Rattle.std.proofs.Common.{◌≡◌, ◌≢◌, ℕ, zero, suc, List, [], �
 use Rattle.std.proofs.lemmas.Bool.Decides.{eqb_tells}
 use Rattle.disk.specs.Paths.{slash, folder_of, IsOnTheWay}
 use Rattle.disk.specs.State.{State}
-use Rattle.vault.specs.Views.{root_path, next_path, AreApart}
-use Rattle.vault.specs.Files.{IsClearWay}
+use Rattle.vault.specs.Views.{root_path, next_path, AreApart, IsClearWay}
 
 abbrev has_no_slash : List ℕ → Bool
 has_no_slash [] = true

@@ -1,5 +1,5 @@
 -- The rename of the next root to the root, and the whole swap.
-use Rattle.std.proofs.Common.{◌≡◌, ◌≢◌, ◌⊎◌, ℕ, List, [], Some, ⊎_elim, inl, inr, refl, sym, ◌∙◌, ap, subst, Result, Ok, Err}
+use Rattle.std.proofs.Common.{◌≡◌, ◌≢◌, ◌⊎◌, ℕ, List, [], Some, ⊎_elim, inl, inr, refl, sym, ◌∙◌, ap, arith, subst, Result, Ok, Err}
 use Rattle.std.specs.Prelude.{IfErr}
 use Rattle.std.proofs.lemmas.Result.{on_ok_weaker, IfOk-at_ok}
 use Rattle.disk.specs.Paths.{IsOnTheWay}
@@ -8,7 +8,7 @@ use Rattle.disk.specs.declared.binding.Binding.TheVariants.{Nothing, Folder, Fil
 use Rattle.disk.specs.declared.fault.Fault.{Fault}
 use Rattle.disk.specs.declared.fault.Fault.TheVariants.{Absent, Failed}
 use Rattle.disk.specs.Calls.{Passes, Moves, IsStill, Renamed, FolderSynced, IsMovable}
-use Rattle.vault.specs.Views.{Same, View, LeavesAfter, AllBut, Swaps, IsRooted, IsSettled, AreApart, root_path, next_path}
+use Rattle.vault.specs.Views.{Same, View, LeavesAfter, AllBut, Swaps, IsKept, WasKept, IsRooted, IsSettled, AreApart, root_path, next_path}
 use Rattle.vault.specs.Files.{IsWritten, IsHoused, Turned, Spares}
 use Rattle.vault.proofs.Moments.{one_call, joins, stays_leaves, stays_may, swaps_same}
 use Rattle.vault.proofs.Steps.{content_along, room_on, stays_rooted, stays_room}
@@ -144,6 +144,15 @@ module _ (root : List ℕ) (s0 s1 s2 : State) (r : Result (Unit {0}) Fault) (pla
 
   pub swap_room : (q : List ℕ) → AreApart root_path q → AreApart next_path q → HasRoomFor s0 q → HasRoomFor s2 q
   swap_room q root_off next_off had = turned.room q root_off (placed.room q next_off had)
+
+  pub swap_was_kept : IsLawful s1 → s1.honest → IsKept s1 next_path root → WasKept next_path root s0 s2
+  swap_was_kept lawful honest kept = record {
+    moment = s1.moment;
+    from = placed.moments.later;
+    until = turned.moments.later;
+    some = (s1.seen, turned.moments.keeps s1.moment s1.seen (omega arith) (lawful.seen_may_stay honest));
+    each = λ c at. kept c (turned.moments.history s1.moment c (omega arith) at);
+  }
 
 -- the root after its folder's sync
 pub root_housed : (state : State) → IsLawful state → state.honest → IsHoused state root_path

@@ -10,8 +10,8 @@ use Rattle.disk.specs.declared.binding.Binding.TheVariants.{Nothing, Folder, Fil
 use Rattle.disk.specs.declared.fault.Fault.{Fault}
 use Rattle.disk.specs.declared.fault.Fault.TheVariants.{Absent, Exists, Failed}
 use Rattle.disk.specs.Calls.{Passes, Binds, Tears, IsStill, Takes, Removed, FolderMade, Created, Appended, Synced, FolderSynced}
-use Rattle.vault.specs.Views.{Same, AllBut, root_path}
-use Rattle.vault.specs.Files.{Spares, NoNewFiles, IsClearWay, IsHoused, FailsOnly, Cleared, FoldersMade, Written, MadeFirm, Placed}
+use Rattle.vault.specs.Views.{Same, AllBut, IsClearWay, root_path}
+use Rattle.vault.specs.Files.{Spares, NoNewFiles, IsHoused, FailsOnly, Cleared, FoldersMade, Written, MadeFirm, Placed}
 use Rattle.vault.proofs.Moments.{one_call, joins, widens, nothing_yet, stays_may, still_on, same_same, same_twice}
 use Rattle.vault.proofs.Steps.{binds_spares, tears_spares, stays_spares, spares_on, folder_same, rooted_on, room_on, folder_is_no_file}
 use Rattle.vault.proofs.Answering.{fails_only, never, failed_only, fails_by_failure}

@@ -1,7 +1,7 @@
 -- What the steps of writing one file do.
 use Rattle.std.specs.Prelude.{◌≡◌, ◌≢◌, ◌⊎◌, ℕ, List, Result, OnOk, IfErr}
 use Rattle.disk.specs.Paths.{folder_of, IsOnTheWay}
-use Rattle.disk.specs.State.{Image, State, may_leave}
+use Rattle.disk.specs.State.{Image, State, HasRoomFor, may_leave}
 use Rattle.disk.specs.Calls.{IsStill}
 use Rattle.disk.specs.declared.binding.Binding.TheVariants.{Nothing, Folder, File}
 use Rattle.disk.specs.declared.fault.Fault.{Fault}
@@ -9,11 +9,6 @@ use Rattle.disk.specs.declared.fault.Fault.TheVariants.{Failed, Memory}
 use Rattle.bits.specs.declared.refusal.Refusal.{Refusal}
 use Rattle.bits.specs.declared.refusal.Refusal.TheVariants as refusal
 use Rattle.vault.specs.Views.{LeavesAfter, Same, AllBut, Swaps, IsRooted, LeavesRoom, AreApart, IsKept, root_path}
-use Rattle.disk.specs.State.{HasRoomFor}
-
--- no stop leaves a file where a folder on the way to this path belongs
-abbrev pub IsClearWay : State → List ℕ → Type 0
-IsClearWay state path = (c : Image) → may_leave state c → (folder : List ℕ) → IsOnTheWay folder path → (node : ℕ) → c.names folder ≢ File node
 
 -- the folder of this path is there, as the disk reads
 abbrev pub IsHoused : State → List ℕ → Type 0

@@ -21,6 +21,14 @@ next_path = codes "_metadata.new"
 abbrev pub IsKept : State → List ℕ → List ℕ → Type 0
 IsKept state path bytes = (c : Image) → may_leave state c → content c path ≡ Some bytes
 
+-- At a moment from old to new whatever a stop leaves has these bytes at this path, and a stop may leave something then.
+pub record WasKept (path bytes : List ℕ) (old new : State) : Type 0 where
+  pub moment : ℕ
+  pub from : old.moment ≤ moment
+  pub until : moment ≤ new.moment
+  pub some : (c : Image) × new.images moment c
+  pub each : (c : Image) → new.images moment c → content c path ≡ Some bytes
+
 -- the file that the root names in one image has the same bytes in each: it has no write that a stop may tear
 abbrev pub IsRooted : State → Type 0
 IsRooted state = (c d : Image) (node : ℕ) → may_leave state c → may_leave state d → c.names root_path ≡ File node → d.bytes node ≡ c.bytes node
@@ -32,6 +40,10 @@ IsSettled state = (c : Image) → may_leave state c → content c root_path ≡ 
 -- no name stands at this path, as the disk reads
 abbrev pub IsGone : State → List ℕ → Type 0
 IsGone state path = state.seen.names path ≡ Nothing
+
+-- no stop leaves a file where a folder on the way to this path belongs
+abbrev pub IsClearWay : State → List ℕ → Type 0
+IsClearWay state path = (c : Image) → may_leave state c → (folder : List ℕ) → IsOnTheWay folder path → (node : ℕ) → c.names folder ≢ File node
 
 -- all paths have what they had
 abbrev pub Same : View → View → Type 0

@@ -2,8 +2,8 @@
 
 ghost use Rattle.std.specs.Prelude.{◌≡◌, ◌≢◌, ◌⊎◌, ◌↔◌, IfErr};
 ghost use Rattle.disk.specs.Calls.{CountsFailure, Synced};
-ghost use Rattle.vault.specs.Views.{IsGone, root_path};
-ghost use Rattle.vault.specs.Files.{Cleared, FoldersMade, Written, MadeFirm, Placed, IsClearWay, IsHoused};
+ghost use Rattle.vault.specs.Views.{IsGone, IsClearWay, root_path};
+ghost use Rattle.vault.specs.Files.{Cleared, FoldersMade, Written, MadeFirm, Placed, IsHoused};
 
 use disk::{Disk, Fault, folder_of};
 

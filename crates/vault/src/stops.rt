@@ -3,6 +3,7 @@
 use crate::Vault;
 use crate::example::commit;
 use bits::{R, Refusal};
+use disk::Disk;
 use mem_disk::MemDisk;
 use std::alloc::Global;
 use std::test::Fail;
@@ -123,6 +124,32 @@ fn a_failed_folder_sync_after_the_rename_is_in_doubt(rt: HostRuntime) -> Result<
         let mut image = Vault::start(vault.disk.crash(&words(list))?);
         assert!(rt; root_is(&mut image, rt.alloc(), b"the second"), "{list}");
     }
+    Ok(())
+}
+
+#[test]
+fn a_file_that_is_not_there_is_truncated_and_no_failure(rt: HostRuntime) -> Result<(), Fail> {
+    let mut vault = start(rt.alloc())?;
+    assert_eq!(rt; vault.put(PART, b"a part"), Ok(()));
+    // no name, and a folder's
+    for path in ["none", "k=a"] {
+        assert_eq!(rt;
+            vault
+                .get_range(rt.alloc(), path, 0, 9)
+                .map(|bytes| bytes.len()),
+            Err(Refusal::Truncated),
+            "{path}"
+        );
+    }
+    assert_eq!(rt; vault.disk().failures(), 0);
+    vault.disk.fuse(0, 0);
+    assert_eq!(rt;
+        vault
+            .get_range(rt.alloc(), PART, 0, 9)
+            .map(|bytes| bytes.len()),
+        Err(Refusal::Device)
+    );
+    assert_eq!(rt; vault.disk().failures(), 1);
     Ok(())
 }
 

@@ -4,7 +4,7 @@ ghost use Rattle.std.specs.Prelude.{◌≡◌, ◌≢◌, ◌↔◌, ◌⊎◌, 
 ghost use Rattle.bits.specs.Refusals.{RefusedOnly};
 ghost use Rattle.disk.specs.State.{HasRoomFor, IsOneMore, content};
 ghost use Rattle.disk.specs.Calls.{CountsFailure, RangeRead};
-ghost use Rattle.vault.specs.Views.{LeavesAfter, AllBut, Swaps, IsKept, IsRooted, IsSettled, IsGone, AreApart, LeavesRoom, LeavesNames, LeavesAll, HasFailed, CountsOnce, root_path, next_path};
+ghost use Rattle.vault.specs.Views.{LeavesAfter, AllBut, Swaps, IsKept, WasKept, IsRooted, IsSettled, IsGone, IsClearWay, AreApart, LeavesRoom, LeavesNames, LeavesAll, HasFailed, CountsOnce, root_path, next_path};
 ghost use Rattle.vault.specs.Files.{IsWritten, Turned, refusal_for};
 
 use crate::files::{clear, make_firm, place};
@@ -73,16 +73,17 @@ impl<D: Disk> Vault<D> {
     /// folders on the way that are absent, writes and syncs a fresh file, then syncs its folder and those above.
     ///
     /// It is the caller's duty that the path is not one of the root's two. What is said of the disk holds where it is
-    /// honest and has room for the file. At every moment each other path has what it had, in each image by itself.
-    /// Refused Device where the disk failed, and Memory; the path is not kept then. Costs one write of the bytes, and
-    /// two calls of the disk for each folder on the way.
+    /// honest and no stop leaves a file where a folder on the way belongs. At every moment each other path has what it
+    /// had, in each image by itself. Refused Device where the disk failed, as it does where the path is a folder's, and
+    /// Memory; nothing is said of the path then. Costs one write of the bytes, and two calls of the disk for each folder
+    /// on the way.
     pub fn put(&mut self, path: &str, bytes: &[u8]) -> R<()>
         requires { (path.now ≢ root_path) × (path.now ≢ next_path) }
-        ensures moments { (D.state self.old.disk).honest → HasRoomFor (D.state self.old.disk) path.now → LeavesAfter (AllBut path.now) (D.state self.old.disk) (D.state self.new.disk) }
-        ensures kept { (D.state self.old.disk).honest → HasRoomFor (D.state self.old.disk) path.now → OnOk result (IsKept (D.state self.new.disk) path.now bytes.now) }
-        ensures rooted { (D.state self.old.disk).honest → HasRoomFor (D.state self.old.disk) path.now → IsRooted (D.state self.old.disk) → IsRooted (D.state self.new.disk) }
-        ensures room { (D.state self.old.disk).honest → HasRoomFor (D.state self.old.disk) path.now → LeavesRoom path.now (D.state self.old.disk) (D.state self.new.disk) }
-        ensures which { RefusedOnly (λ e. (e ≡ Refusal.Device) × ((D.state self.old.disk).honest → HasRoomFor (D.state self.old.disk) path.now → HasFailed (D.state self.old.disk) (D.state self.new.disk))) result }
+        ensures moments { (D.state self.old.disk).honest → IsClearWay (D.state self.old.disk) path.now → LeavesAfter (AllBut path.now) (D.state self.old.disk) (D.state self.new.disk) }
+        ensures kept { (D.state self.old.disk).honest → IsClearWay (D.state self.old.disk) path.now → OnOk result (IsKept (D.state self.new.disk) path.now bytes.now) }
+        ensures rooted { (D.state self.old.disk).honest → IsClearWay (D.state self.old.disk) path.now → IsRooted (D.state self.old.disk) → IsRooted (D.state self.new.disk) }
+        ensures room { (D.state self.old.disk).honest → IsClearWay (D.state self.old.disk) path.now → LeavesRoom path.now (D.state self.old.disk) (D.state self.new.disk) }
+        ensures which { RefusedOnly (λ e. (e ≡ Refusal.Device) × ((D.state self.old.disk).honest → IsClearWay (D.state self.old.disk) path.now → HasFailed (D.state self.old.disk) (D.state self.new.disk))) result }
         ensures counts { CountsOnce result (D.state self.old.disk) (D.state self.new.disk) }
         ensures reads { (D.state self.new.disk).reads ≡ (D.state self.old.disk).reads }
         ensures honest { (D.state self.old.disk).honest ↔ (D.state self.new.disk).honest }
@@ -96,14 +97,15 @@ impl<D: Disk> Vault<D> {
     /// Puts another root in the place of the old one: places it as `_metadata.new`, renames that to `_metadata`, and
     /// syncs the dataset's folder.
     ///
-    /// At every moment each image has the old root or the new one, whole, and all other paths as they were. After Ok
-    /// each has the new one. Refused Device and Memory before the rename, and each image has the old root then; refused
-    /// InDoubt where the disk failed in the rename or behind it, and each image has either. Device and InDoubt come only
-    /// where the disk failed.
+    /// At every moment each image has the old root or the new one, whole, and all paths but these two as they were.
+    /// After Ok each has the new one. Refused Device and Memory before the rename, and each image has the old root then;
+    /// refused InDoubt where the disk failed in the rename or behind it, and each image has either: by then the next
+    /// root was whole in whatever a stop could leave. Device and InDoubt come only where the disk failed.
     pub fn swap_root(&mut self, bytes: &[u8]) -> R<()>
         ensures moments { (D.state self.old.disk).honest → LeavesAfter (Swaps bytes.now) (D.state self.old.disk) (D.state self.new.disk) }
         ensures done { (D.state self.old.disk).honest → OnOk result (IsKept (D.state self.new.disk) root_path bytes.now × IsRooted (D.state self.new.disk)) }
         ensures unchanged { (D.state self.old.disk).honest → IfErr result (λ e. e ≢ Refusal.InDoubt → LeavesAfter (AllBut next_path) (D.state self.old.disk) (D.state self.new.disk)) }
+        ensures in_doubt { (D.state self.old.disk).honest → IfErr result (λ e. e ≡ Refusal.InDoubt → WasKept next_path bytes.now (D.state self.old.disk) (D.state self.new.disk)) }
         ensures rooted { (D.state self.old.disk).honest → IsRooted (D.state self.old.disk) → IsRooted (D.state self.new.disk) }
         ensures room { (D.state self.old.disk).honest → (q : List ℕ) → AreApart root_path q → AreApart next_path q → HasRoomFor (D.state self.old.disk) q → HasRoomFor (D.state self.new.disk) q }
         ensures which { RefusedOnly (λ e. ((e ≡ Refusal.Device) ⊎ (e ≡ Refusal.InDoubt)) × ((D.state self.old.disk).honest → HasFailed (D.state self.old.disk) (D.state self.new.disk))) result }
@@ -121,8 +123,9 @@ impl<D: Disk> Vault<D> {
     }
 
     /// Makes the root that is read the root of whatever a stop leaves, by one sync of the dataset's folder: so that an
-    /// opening after a stop can go on from what it reads. Nothing that is read changes. Refused Device alone, where the
-    /// disk failed.
+    /// opening after a stop can go on from what it reads. That holds where the root's file has the same bytes in
+    /// whatever a stop leaves (`IsRooted`), which the other calls keep. Nothing that is read changes. Refused Device
+    /// alone, where the disk failed.
     pub fn settle(&mut self) -> R<()>
         ensures unchanged { (D.state self.old.disk).honest → LeavesAll (D.state self.old.disk) (D.state self.new.disk) }
         ensures firm { (D.state self.old.disk).honest → IsRooted (D.state self.old.disk) → OnOk result (IsSettled (D.state self.new.disk)) }
@@ -162,19 +165,20 @@ impl<D: Disk> Vault<D> {
 
     /// The bytes of a file from `from` on, `len` of them or as many as are there, by one `read_range`.
     ///
-    /// Of a kept path they are a range of its bytes, and it is refused Device only where the disk failed; where no file
-    /// is there it is refused Device too. Refused Memory.
+    /// Of a kept path they are a range of its bytes. Refused Truncated where no file is there, as the disk reads, Device
+    /// where the disk failed, and Memory.
     pub fn get_range(&mut self, alloc: Global, path: &str, from: u64, len: usize) -> R<Vec<u8>>
         ensures stands { (D.state self.old.disk).honest → IfOk result (λ read. (bytes : List ℕ) × (content (D.state self.old.disk).seen path.now ≡ Some bytes) × (read.items ≡ take len (drop from bytes))) }
         ensures kept { (D.state self.old.disk).honest → (bytes : List ℕ) → IsKept (D.state self.old.disk) path.now bytes → IfOk result (λ read. read.items ≡ take len (drop from bytes)) }
         ensures unchanged { (D.state self.old.disk).honest → LeavesAll (D.state self.old.disk) (D.state self.new.disk) }
-        ensures which { RefusedOnly (λ e. (e ≡ Refusal.Device) × ((D.state self.old.disk).honest → content (D.state self.old.disk).seen path.now ≢ None → HasFailed (D.state self.old.disk) (D.state self.new.disk))) result }
+        ensures which { RefusedOnly (λ e. ((e ≡ Refusal.Device) × HasFailed (D.state self.old.disk) (D.state self.new.disk)) ⊎ ((e ≡ Refusal.Truncated) × ((D.state self.old.disk).honest → content (D.state self.old.disk).seen path.now ≡ None))) result }
         ensures counts { CountsOnce result (D.state self.old.disk) (D.state self.new.disk) }
         ensures reads { IsOneMore (D.state self.old.disk).reads (D.state self.new.disk).reads }
         ensures honest { (D.state self.old.disk).honest ↔ (D.state self.new.disk).honest }
     {
         match self.disk.read_range(alloc, path, from, len) {
             Ok(bytes) => Ok(bytes),
+            Err(Fault::Absent) => Err(Refusal::Truncated),
             Err(e) => Err(refusal_of(e)),
         }
     }

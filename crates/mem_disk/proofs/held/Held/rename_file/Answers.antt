@@ -1,4 +1,4 @@
-use Rattle.std.proofs.Common.{◌≡◌, ◌≢◌, sym, ◌∙◌, subst, refl, Ok, Err, arith, List, ℕ, rules}
+use Rattle.std.proofs.Common.{inr, ◌≡◌, ◌≢◌, sym, ◌∙◌, subst, refl, Ok, Err, arith, List, ℕ, rules}
 use Rattle.disk.specs.declared.fault.Fault.TheVariants.{Failed}
 use Rattle.disk.specs.declared.binding.Binding.{Binding}
 use Rattle.disk.specs.declared.binding.Binding.TheVariants.{Folder, File}
@@ -6,8 +6,9 @@ use Rattle.disk.specs.Calls.{IsMovable}
 use Rattle.disk.specs.Paths.{folder_of}
 use Rattle.mem_disk.specs.declared.call.Call.{Call}
 use Rattle.mem_disk.specs.Loose.{empty, replayed, image_of, bound, GoesOn}
-use Rattle.mem_disk.proofs.Choices.{file_is_no_folder, file_is_something}
+use Rattle.mem_disk.proofs.Choices.{not_true, file_is_no_folder, file_is_something}
 use Rattle.mem_disk.proofs.Effects.{file_within, renamed_stays, renamed_part, renamed_whole, err_of, ok_of_not, not_absent, later_name}
+use Rattle.mem_disk.proofs.Shortages.{not_beside}
 use Rattle.mem_disk.proofs.held.Held.rename_file.Goals as goal
 
 abbrev movable : (calls : List Call) (source target : List ℕ) (n : ℕ) (over : Binding) → File n ≡ (replayed empty calls).names source → over ≡ (replayed empty calls).names target → (over ≡ Folder → ⊥) → (folder_of target ≡ folder_of source) × (target ≢ source) → IsMovable (image_of (replayed empty calls)) source target
@@ -74,3 +75,16 @@ returns-clause-effect c f g r s =
       renamed_whole _ f g r s (Ok tt) tt _ sound c.args.source.now c.args.target.now moves c.bind.new.self.calls.items c.bind-2.new.self.calls.items goes then,
       renamed_whole _ f g r s (Err Failed) refl _ sound c.args.source.now c.args.target.now moves c.bind.new.self.calls.items c.bind-2.new.self.calls.items goes then,
     )
+
+pub returns-then-not-are_beside-clause-passes : goal.returns-then-not-are_beside-clause-passes
+returns-then-not-are_beside-clause-passes c _ _ = inr (inr (not_beside c.args.source.now c.args.target.now (λ both. not_true (sym c.if-not-are_beside.true ∙ c.are_beside.ensures.1 both))))
+
+pub returns-then-is_err-clause-short : goal.returns-then-is_err-clause-short
+returns-then-is_err-clause-short c _ =
+    let beside : (folder_of c.args.target.now ≡ folder_of c.args.source.now) × (c.args.target.now ≢ c.args.source.now) = c.are_beside.ensures.0 (search rules) in
+    movable c.args.self.now.calls.items c.args.source.now c.args.target.now c.in-File.node c.binding-2.result c.in-File.ensures c.binding-2.ensures c.in_default.not-Folder beside
+
+pub returns-then-is_err-2-clause-short : goal.returns-then-is_err-2-clause-short
+returns-then-is_err-2-clause-short c _ =
+    let beside : (folder_of c.args.target.now ≡ folder_of c.args.source.now) × (c.args.target.now ≢ c.args.source.now) = c.are_beside.ensures.0 (search rules) in
+    movable c.args.self.now.calls.items c.args.source.now c.args.target.now c.in-File.node c.binding-2.result c.in-File.ensures c.binding-2.ensures c.in_default.not-Folder beside

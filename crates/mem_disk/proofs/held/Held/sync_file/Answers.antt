@@ -17,5 +17,5 @@ returns-in_ok-sync-in-Passes-clause-effect c f g r s =
       synced_done _ _ f g r s (Err Failed) refl _ sound c.args.path.now c.in-File.node goes (sym c.in-File.ensures),
     )
 
-pub returns-in-Fails-clause-effect : goal.returns-in-Fails-clause-effect
-returns-in-Fails-clause-effect c f g r s = (c.fail_sync.ensures f g r s, c.fail_sync.ensures f g r s)
+pub returns-in_ok-fail_sync-in-Fails-clause-effect : goal.returns-in_ok-fail_sync-in-Fails-clause-effect
+returns-in_ok-fail_sync-in-Fails-clause-effect c f g r s = (c.fail_sync.ensures.effect f g r s, c.fail_sync.ensures.effect f g r s)

@@ -3,7 +3,7 @@ use Rattle.disk.specs.declared.fault.Fault.TheVariants.{Failed}
 use Rattle.vault.specs.Views.{AllBut, Swaps, next_path}
 use Rattle.vault.proofs.Moments.{widens}
 use Rattle.vault.proofs.Names.{next_clear}
-use Rattle.vault.proofs.Turning.{beside_swaps, swap_moments, swap_rooted, swap_room}
+use Rattle.vault.proofs.Turning.{beside_swaps, swap_moments, swap_rooted, swap_room, swap_was_kept}
 use Rattle.vault.proofs.Answering.{grown}
 use Rattle.vault.proofs.vault.Vault.swap_root.Goals as goal
 
@@ -52,6 +52,14 @@ returns-in-Err-turn-clause-room g c honest =
     let s0 = g.D.Disk.state c.args.self.now.disk in
     let placed = c.in_default.ensures.effect honest (next_clear s0) in
     swap_room c.args.bytes.now s0 _ _ _ placed.spares (c.turn.ensures.effect (c.place.ensures.honest.0 honest) c.args.bytes.now placed.written)
+
+pub returns-in-Err-turn-clause-in_doubt : goal.returns-in-Err-turn-clause-in_doubt
+returns-in-Err-turn-clause-in_doubt g c honest is =
+    let s0 = g.D.Disk.state c.args.self.now.disk in
+    let placed = c.in_default.ensures.effect honest (next_clear s0) in
+    let h1 = c.place.ensures.honest.0 honest in
+    swap_was_kept c.args.bytes.now s0 _ _ _ placed.spares (c.turn.ensures.effect h1 c.args.bytes.now placed.written)
+    (g.met.D.Disk.lawful c.place.new.disk) h1 placed.kept
 
 pub returns-in-Err-turn-clause-which : goal.returns-in-Err-turn-clause-which
 returns-in-Err-turn-clause-which g c = (
