@@ -1,9 +1,11 @@
 #!/bin/sh
-# Decodes a file of 50 MB, and prints the seconds and the most memory that this took.
-# The file is made by python3, beside this script's temporary folder, and removed.
+# Decodes files of 50 MB, and prints the seconds and the most memory that this took.
+# The files are made by python3, in a temporary folder, which is removed.
 top=$(CDPATH='' cd -- "$(dirname -- "$0")/.." && pwd) || exit 1
 room=$(mktemp -d) || exit 1
 trap 'rm -rf "$room"' EXIT
+# The program is built before anything is measured.
+"$top/pqds" decode "$top/sample/two_rows.parquet" >/dev/null || exit 1
 for column in numbers texts; do
     python3 "$top/bench/make_file.py" "$column" "$room/$column.parquet" || exit 1
     python3 - "$top/pqds" "$room/$column.parquet" <<'PYTHON'

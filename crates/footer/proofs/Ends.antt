@@ -1,5 +1,5 @@
 -- The end of a file that is written: the footer, its length, and the magic.
-use Rattle.std.proofs.Common.{◌≡◌, ℕ, ◌+◌, ◌-◌, ◌<◌, ◌^◌, List, [], ◌++◌, length, drop, sym, ap, subst, ◌∙◌, arith, append_assoc, length-append}
+use Rattle.std.proofs.Common.{◌≡◌, ℕ, ◌-◌, ◌<◌, ◌^◌, List, [], ◌++◌, length, drop, sym, ap, subst, ◌∙◌, arith, append_assoc, length-append}
 use Rattle.std.proofs.lemmas.List.{append-nil, drop_at}
 use Rattle.byteorder.specs.Endian.{little_bytes, little_number}
 use Rattle.byteorder.specs.Numbers.{little_number-reads_back}
@@ -24,14 +24,13 @@ ends front mid new meta most size p is small joined = λ chunks begins.
     let sized : size ≡ length p.text = omega (arith, is, ap length p.joined, length-append front p.text) in
     record {
       footer = p.text;
-      used = length p.text;
       framed = record {
         chunks = chunks;
         begins = begins;
         short = subst (λ (n : ℕ). n < 2 ^ 32) sized small;
         joined = joined ∙ ap (λ (m : List ℕ). m ++ little_bytes 4 size ++ magic) p.joined ∙ ap (λ (n : ℕ). front ++ p.text ++ little_bytes 4 n ++ magic) sized;
       };
-      stands = subst (λ (t : List ℕ). StandsFor file_meta t meta (length p.text)) (append-nil p.text) (p.stands []);
+      fills = subst (λ (t : List ℕ). StandsFor file_meta t meta (length p.text)) (append-nil p.text) (p.stands []);
     }
 
 -- the length of the footer, however the file is parted, is the one that stands at its end

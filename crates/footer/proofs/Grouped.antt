@@ -1,5 +1,5 @@
 -- Rows in one group, or none.
-use Rattle.std.proofs.Common.{◌≡◌, ℕ, ◌+◌, ◌-◌, ◌*◌, ◌/◌, ◌≤◌, List, [], ◌∷◌, ◌++◌, length, take, drop, refl, sym, ap, subst, ◌∙◌, arith}
+use Rattle.std.proofs.Common.{◌≡◌, ℕ, ◌+◌, ◌-◌, ◌*◌, ◌/◌, ◌<◌, ◌≤◌, List, [], ◌∷◌, ◌++◌, length, take, drop, refl, sym, ap, subst, ◌∙◌, arith, append_assoc}
 use Rattle.std.specs.Prelude.{flat_map, None}
 use Rattle.std.specs.List.{AllByRecursion}
 use Rattle.std.proofs.Math.Nat.{div-eq_of_lt}
@@ -7,9 +7,11 @@ use Rattle.std.proofs.lemmas.Nat.{div-mul-add}
 use Rattle.std.proofs.lemmas.List.{append-nil, take_all}
 use Rattle.schema.specs.Values.{ValueTrees}
 use Rattle.schema.specs.Shape.{Fields}
+use Rattle.schema.specs.Stripe.{Leaf, Entry, leaves_of, columns}
 use Rattle.metadata.specs.Records.{GroupMeta, ChunkMeta}
 use Rattle.row_group.specs.Chunks.{GroupMeans}
-use Rattle.row_group.specs.Writing.{IsOwnChunk}
+use Rattle.row_group.specs.Writing.{AppendsEach, AppendsGroup}
+use Rattle.row_group.proofs.Laid.{each_joined, group_means}
 use Rattle.footer.specs.File.{AreGroups}
 use Rattle.footer.specs.Writing.{AreGrouped, parts_of}
 use Rattle.footer.specs.Own.{groups_of, AppendsGroups}
@@ -39,22 +41,41 @@ pub joined : (rows : List ValueTrees) → rows ≡ flat_map (λ g. g) (groups_of
 joined [] = refl
 joined (row ∷ rows) = sym (append-nil (row ∷ rows))
 
-lies : (cs : List ChunkMeta) → AllByRecursion IsOwnChunk cs → AllByRecursion (λ (c : ChunkMeta). c.file_path ≡ None) cs
-lies [] own = tt
-lies (c ∷ cs) own = (own.0.here, lies cs own.1)
+-- no rows are no group, and some are one
+pub no_group : (fs : Fields) (old : List ℕ) (gs : List GroupMeta) (rows : List ValueTrees) → gs ≡ [] → length rows ≡ 0 → AppendsGroups fs old old gs (groups_of rows)
+no_group fs old gs [] is none = subst (λ (t : List GroupMeta). AppendsGroups fs old old t []) (sym is) refl
+no_group fs old gs (row ∷ rows) is none = absurd (omega (arith, none))
 
--- the bytes before the footer hold the groups
-pub are_groups : (fs : Fields) (old new : List ℕ) (gs : List GroupMeta) (rows : List ValueTrees) → AppendsGroups fs old new gs rows → AreGroups new fs gs (groups_of rows)
-are_groups fs old new [] [] p = tt
-are_groups fs old new [] (row ∷ rows) p = absurd p
-are_groups fs old new (g ∷ []) [] p = absurd p
-are_groups fs old new (g ∷ []) (row ∷ rows) p = (lies g.columns p.own, subst (λ (t : List ℕ). GroupMeans t fs g (row ∷ rows)) (append-nil new) (p.means []), tt)
-are_groups fs old new (g ∷ h ∷ gs) rows p = absurd p
+pub one_group : (fs : Fields) (old new : List ℕ) (gs : List GroupMeta) (g : GroupMeta) (rows : List ValueTrees) → gs ≡ g ∷ [] → 0 < length rows → AppendsGroup fs old new g rows → AppendsGroups fs old new gs (groups_of rows)
+one_group fs old new gs g [] is some p = absurd (omega (arith, some))
+one_group fs old new gs g (row ∷ rows) is some p = subst (λ (t : List GroupMeta). AppendsGroups fs old new t ((row ∷ rows) ∷ [])) (sym is) (new, p, refl)
+
+lies : (leaves : List Leaf) (cols : List (List Entry)) (old new : List ℕ) (cs : List ChunkMeta) → AppendsEach leaves cols old new cs → AllByRecursion (λ (c : ChunkMeta). c.file_path ≡ None) cs
+lies [] [] old new [] p = tt
+lies [] [] old new (c ∷ cs) p = absurd p
+lies [] (es ∷ cols) old new cs p = absurd p
+lies (leaf ∷ leaves) [] old new cs p = absurd p
+lies (leaf ∷ leaves) (es ∷ cols) old new [] p = absurd p
+lies (leaf ∷ leaves) (es ∷ cols) old new (c ∷ cs) p = (p.2.here, lies leaves cols p.0 new cs p.3)
 
 -- they begin as they did
-pub begins : (fs : Fields) (old new : List ℕ) (gs : List GroupMeta) (rows : List ValueTrees) → AppendsGroups fs old new gs rows → (text : List ℕ) × (new ≡ old ++ text)
+pub begins : (fs : Fields) (old new : List ℕ) (gs : List GroupMeta) (groups : List (List ValueTrees)) → AppendsGroups fs old new gs groups → (text : List ℕ) × (new ≡ old ++ text)
 begins fs old new [] [] p = ([], p ∙ sym (append-nil old))
-begins fs old new [] (row ∷ rows) p = absurd p
-begins fs old new (g ∷ []) [] p = absurd p
-begins fs old new (g ∷ []) (row ∷ rows) p = (p.text, p.joined)
-begins fs old new (g ∷ h ∷ gs) rows p = absurd p
+begins fs old new [] (rows ∷ others) p = absurd p
+begins fs old new (g ∷ gs) [] p = absurd p
+begins fs old new (g ∷ gs) (rows ∷ others) p =
+    let one = each_joined (leaves_of fs) (columns fs rows) old p.0 g.columns p.1.chunks in
+    let rest = begins fs p.0 new gs others p.2 in
+    (one.0 ++ rest.0, rest.1 ∙ ap (λ (t : List ℕ). t ++ rest.0) one.1 ∙ append_assoc old one.0 rest.0)
+
+-- the bytes before the footer hold the groups
+pub are_groups : (fs : Fields) (old new : List ℕ) (gs : List GroupMeta) (groups : List (List ValueTrees)) → AppendsGroups fs old new gs groups → AreGroups new fs gs groups
+are_groups fs old new [] [] p = tt
+are_groups fs old new [] (rows ∷ others) p = absurd p
+are_groups fs old new (g ∷ gs) [] p = absurd p
+are_groups fs old new (g ∷ gs) (rows ∷ others) p =
+    let rest = begins fs p.0 new gs others p.2 in (
+      lies (leaves_of fs) (columns fs rows) old p.0 g.columns p.1.chunks,
+      subst (λ (t : List ℕ). GroupMeans t fs g rows) (sym rest.1) (group_means fs old p.0 g rows p.1 rest.0),
+      are_groups fs p.0 new gs others p.2,
+    )

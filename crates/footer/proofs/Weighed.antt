@@ -1,8 +1,9 @@
 -- What a written footer and a written file weigh.
-use Rattle.std.proofs.Common.{◌≡◌, ℕ, suc, ◌+◌, ◌^◌, ◌<◌, ◌≤◌, List, [], ◌∷◌, ◌++◌, length, map, refl, ap, arith, length-append}
+use Rattle.std.proofs.Common.{◌≡◌, ℕ, suc, ◌+◌, ◌*◌, ◌^◌, ◌<◌, ◌≤◌, List, [], ◌∷◌, length, map, refl, ap, arith, length-append}
 use Rattle.std.specs.Prelude.{sum_by, None, All}
 use Rattle.std.specs.List.{AllByRecursion}
 use Rattle.std.proofs.lemmas.List.{length-map, length-replicate}
+use Rattle.std.proofs.Math.Nat.{suc-mul}
 use Rattle.std.proofs.lemmas.List.Sums.{sum_by-cons}
 use Rattle.std.proofs.lemmas.List.Elements.{All-from_recursion}
 use Rattle.schema.specs.Values.{ValueTrees}
@@ -11,14 +12,13 @@ use Rattle.schema.specs.Stripe.{Leaf, Entry, below, leaves, leaves_from, leaves_
 use Rattle.schema.specs.Listed.{listing, listings}
 use Rattle.schema.specs.Law.{IsWithinLimits}
 use Rattle.schema.proofs.Kept.{all_joined}
-use Rattle.metadata.specs.Records.{ChunkMeta, GroupMeta, type_order}
+use Rattle.metadata.specs.Records.{ColumnMeta, ChunkMeta, GroupMeta, type_order}
 use Rattle.metadata.specs.Weight as record_weight
 use Rattle.metadata.specs.Weight.{text_weight, IsOwnColumn, IsOfTheWriter}
-use Rattle.row_group.specs.Chunks.{AreChunks}
-use Rattle.row_group.specs.Writing.{IsOwnChunk}
+use Rattle.row_group.specs.Writing.{IsOwn, AppendsEach}
 use Rattle.footer.specs.declared.limits.TheConstants.{MOST_BYTES_OF_FOOTER}
 use Rattle.footer.specs.Writing.{footer_weight}
-use Rattle.footer.specs.Own.{groups_of, AppendsGroups, own_record}
+use Rattle.footer.specs.Own.{AppendsGroups, own_record}
 
 -- no more leaves than elements
 mutual
@@ -69,61 +69,70 @@ one_weighs c l here path =
     omega (arith, none, names)
 
 -- the chunks of a group weigh what its leaves do
-chunks_weigh : (front : List ℕ) (cs : List ChunkMeta) (ls : List Leaf) (columns : List (List Entry)) → AreChunks front cs ls columns → AllByRecursion IsOwnChunk cs → sum_by record_weight.chunk_weight cs ≡ sum_by leaf_weight ls
-chunks_weigh front [] [] [] are own = refl
-chunks_weigh front [] [] (es ∷ ess) are own = absurd are
-chunks_weigh front [] (l ∷ ls) ess are own = absurd are
-chunks_weigh front (c ∷ cs) [] ess are own = absurd are
-chunks_weigh front (c ∷ cs) (l ∷ ls) [] are own = absurd are
-chunks_weigh front (c ∷ cs) (l ∷ ls) (es ∷ ess) are own =
-    let one = one_weighs c l own.0.here are.0.means.is.path in
-    let rest = chunks_weigh front cs ls ess are.1 own.1 in
+chunks_weigh : (ls : List Leaf) (cols : List (List Entry)) (old new : List ℕ) (cs : List ChunkMeta) → AppendsEach ls cols old new cs → sum_by record_weight.chunk_weight cs ≡ sum_by leaf_weight ls
+chunks_weigh [] [] old new [] p = refl
+chunks_weigh [] [] old new (c ∷ cs) p = absurd p
+chunks_weigh [] (es ∷ cols) old new cs p = absurd p
+chunks_weigh (l ∷ ls) [] old new cs p = absurd p
+chunks_weigh (l ∷ ls) (es ∷ cols) old new [] p = absurd p
+chunks_weigh (l ∷ ls) (es ∷ cols) old new (c ∷ cs) p =
+    let one = one_weighs c l p.2.here (p.1.fills []).is.path in
+    let rest = chunks_weigh ls cols p.0 new cs p.3 in
     omega (arith, one, rest, sum_by-cons record_weight.chunk_weight c cs, sum_by-cons leaf_weight l ls)
 
-own_column : (c : ChunkMeta) (l : Leaf) → IsOwnChunk c → c.meta_data.path_in_schema ≡ l.path → length l.path ≤ 32 → leaf_weight l < 2 ^ 32 → IsOwnColumn c.meta_data
-own_column c l own path few light = record {
-  encodings = own.own.encodings;
+own_column : (m : ColumnMeta) (l : Leaf) → IsOwn m → m.path_in_schema ≡ l.path → length l.path ≤ 32 → leaf_weight l < 2 ^ 32 → IsOwnColumn m
+own_column m l own path few light = record {
+  encodings = own.encodings;
   path = rw path few;
   names = rw path (All-from_recursion (λ (name : List ℕ). length name < 2 ^ 32) l.path (short_names (2 ^ 32) l.path (omega (arith, light))));
-  statistics = rw (own.own.statistics) tt;
+  statistics = rw (own.statistics) tt;
 }
 
 -- they are as the writer makes them, where they are light
-own_columns : (front : List ℕ) (cs : List ChunkMeta) (ls : List Leaf) (columns : List (List Entry)) → AreChunks front cs ls columns → AllByRecursion IsOwnChunk cs
-    → AllByRecursion (λ (l : Leaf). length l.path ≤ 32) ls → sum_by leaf_weight ls < 2 ^ 32 → AllByRecursion (λ (chunk : ChunkMeta). IsOwnColumn chunk.meta_data) cs
-own_columns front [] [] [] are own few light = tt
-own_columns front [] [] (es ∷ ess) are own few light = tt
-own_columns front [] (l ∷ ls) ess are own few light = tt
-own_columns front (c ∷ cs) [] ess are own few light = absurd are
-own_columns front (c ∷ cs) (l ∷ ls) [] are own few light = absurd are
-own_columns front (c ∷ cs) (l ∷ ls) (es ∷ ess) are own few light =
+own_columns : (ls : List Leaf) (cols : List (List Entry)) (old new : List ℕ) (cs : List ChunkMeta) → AppendsEach ls cols old new cs → AllByRecursion (λ (l : Leaf). length l.path ≤ 32) ls → sum_by leaf_weight ls < 2 ^ 32
+    → AllByRecursion (λ (chunk : ChunkMeta). IsOwnColumn chunk.meta_data) cs
+own_columns [] [] old new [] p few light = tt
+own_columns [] [] old new (c ∷ cs) p few light = absurd p
+own_columns [] (es ∷ cols) old new cs p few light = absurd p
+own_columns (l ∷ ls) [] old new cs p few light = absurd p
+own_columns (l ∷ ls) (es ∷ cols) old new [] p few light = absurd p
+own_columns (l ∷ ls) (es ∷ cols) old new (c ∷ cs) p few light =
     let sum = sum_by-cons leaf_weight l ls in
-    (own_column c l own.0 are.0.means.is.path few.0 (omega (arith, sum, light)), own_columns front cs ls ess are.1 own.1 few.1 (omega (arith, sum, light)))
+    (own_column c.meta_data l p.1.own (p.1.fills []).is.path few.0 (omega (arith, sum, light)), own_columns ls cols p.0 new cs p.3 few.1 (omega (arith, sum, light)))
+
+-- what each group weighs in the record
+abbrev group_weight : Fields → ℕ
+group_weight fs = 64 + sum_by leaf_weight (leaves_of fs)
+
+groups_weigh : (fs : Fields) (old new : List ℕ) (gs : List GroupMeta) (groups : List (List ValueTrees)) → AppendsGroups fs old new gs groups → sum_by record_weight.group_weight gs ≡ length groups * group_weight fs
+groups_weigh fs old new [] [] p = omega arith
+groups_weigh fs old new [] (rows ∷ others) p = absurd p
+groups_weigh fs old new (g ∷ gs) [] p = absurd p
+groups_weigh fs old new (g ∷ gs) (rows ∷ others) p =
+    let one = chunks_weigh (leaves_of fs) (columns fs rows) old p.0 g.columns p.1.chunks in
+    let rest = groups_weigh fs p.0 new gs others p.2 in
+    omega (arith, one, rest, sum_by-cons record_weight.group_weight g gs, suc-mul (length others) (group_weight fs))
 
 -- the record weighs what is told of its schema
-pub same_weight : (fs : Fields) (n : ℕ) (old new : List ℕ) (gs : List GroupMeta) (rows : List ValueTrees) → AppendsGroups fs old new gs rows
-    → record_weight.footer_weight [] (own_record fs n gs) ≡ footer_weight fs (length (groups_of rows))
-same_weight fs n old new [] [] p = omega arith
-same_weight fs n old new [] (row ∷ rows) p = absurd p
-same_weight fs n old new (g ∷ []) [] p = absurd p
-same_weight fs n old new (g ∷ []) (row ∷ rows) p =
-    let chunks = chunks_weigh (new ++ []) g.columns (leaves_of fs) (columns fs (row ∷ rows)) (p.means []).chunks p.own in
-    omega (arith, chunks)
-same_weight fs n old new (g ∷ h ∷ gs) rows p = absurd p
+pub same_weight : (fs : Fields) (n : ℕ) (old new : List ℕ) (gs : List GroupMeta) (groups : List (List ValueTrees)) → AppendsGroups fs old new gs groups
+    → record_weight.footer_weight [] (own_record fs n gs) ≡ footer_weight fs (length groups)
+same_weight fs n old new gs groups p = let weight = groups_weigh fs old new gs groups p in omega (arith, weight)
 
-own_groups : (fs : Fields) (old new : List ℕ) (gs : List GroupMeta) (rows : List ValueTrees) → AppendsGroups fs old new gs rows → IsWithinLimits fs
-    → footer_weight fs (length (groups_of rows)) ≤ MOST_BYTES_OF_FOOTER → AllByRecursion (λ (group : GroupMeta). AllByRecursion (λ (chunk : ChunkMeta). IsOwnColumn chunk.meta_data) group.columns) gs
-own_groups fs old new [] rows p within light = tt
-own_groups fs old new (g ∷ []) [] p within light = absurd p
-own_groups fs old new (g ∷ []) (row ∷ rows) p within light =
-    (own_columns (new ++ []) g.columns (leaves_of fs) (columns fs (row ∷ rows)) (p.means []).chunks p.own (short_paths (leaves_of fs) (named_from 0 fs) within.depth) (omega (arith, light)), tt)
-own_groups fs old new (g ∷ h ∷ gs) rows p within light = absurd p
+own_groups : (fs : Fields) (old new : List ℕ) (gs : List GroupMeta) (groups : List (List ValueTrees)) → AppendsGroups fs old new gs groups → IsWithinLimits fs
+    → footer_weight fs (length groups) ≤ MOST_BYTES_OF_FOOTER → AllByRecursion (λ (group : GroupMeta). AllByRecursion (λ (chunk : ChunkMeta). IsOwnColumn chunk.meta_data) group.columns) gs
+own_groups fs old new [] groups p within light = tt
+own_groups fs old new (g ∷ gs) [] p within light = absurd p
+own_groups fs old new (g ∷ gs) (rows ∷ others) p within light =
+    let product = suc-mul (length others) (group_weight fs) in (
+      own_columns (leaves_of fs) (columns fs rows) old p.0 g.columns p.1.chunks (short_paths (leaves_of fs) (named_from 0 fs) within.depth) (omega (arith, light, product)),
+      own_groups fs p.0 new gs others p.2 within (omega (arith, light, product)),
+    )
 
 -- it is one of the writer's
-pub of_the_writer : (fs : Fields) (n : ℕ) (old new : List ℕ) (gs : List GroupMeta) (rows : List ValueTrees) → AppendsGroups fs old new gs rows → IsWithinLimits fs
-    → footer_weight fs (length (groups_of rows)) ≤ MOST_BYTES_OF_FOOTER → IsOfTheWriter [] (own_record fs n gs)
-of_the_writer fs n old new gs rows p within light = record {
-  columns = All-from_recursion (λ (group : GroupMeta). All (λ (chunk : ChunkMeta). IsOwnColumn chunk.meta_data) group.columns) gs (all_groups gs (own_groups fs old new gs rows p within light));
+pub of_the_writer : (fs : Fields) (n : ℕ) (old new : List ℕ) (gs : List GroupMeta) (groups : List (List ValueTrees)) → AppendsGroups fs old new gs groups → IsWithinLimits fs
+    → footer_weight fs (length groups) ≤ MOST_BYTES_OF_FOOTER → IsOfTheWriter [] (own_record fs n gs)
+of_the_writer fs n old new gs groups p within light = record {
+  columns = All-from_recursion (λ (group : GroupMeta). All (λ (chunk : ChunkMeta). IsOwnColumn chunk.meta_data) group.columns) gs (all_groups gs (own_groups fs old new gs groups p within light));
   pairs = tt;
   created_by = refl;
   column_orders = let few = few_from 0 fs in omega (arith, few, length-replicate (length (leaves_of fs)) type_order);

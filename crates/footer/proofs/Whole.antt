@@ -1,11 +1,11 @@
 -- What a written file means, and where its rows are too much.
-use Rattle.std.proofs.Common.{◌≡◌, ◌⊎◌, inl, inr, ℕ, ◌+◌, ◌<◌, ◌≤◌, List, [], ◌∷◌, length, sym, ap, subst, ◌∙◌, arith, length-append}
+use Rattle.std.proofs.Common.{◌≡◌, ◌⊎◌, inl, inr, ℕ, ◌+◌, ◌<◌, ◌≤◌, List, [], ◌∷◌, length, sym, ap, subst, ◌∙◌, arith}
 use Rattle.std.specs.Prelude.{sum_by, Result, Ok, Err}
 use Rattle.std.specs.Result.{IsErrAnd}
 use Rattle.std.specs.List.{Any}
 use Rattle.std.proofs.lemmas.Bool.{cases_lt}
 use Rattle.std.proofs.lemmas.Int.{ints}
-use Rattle.std.proofs.lemmas.List.Sums.{sum_by-le-sum_by}
+use Rattle.std.proofs.lemmas.List.Sums.{sum_by-cons, sum_by-le-sum_by}
 use Rattle.bits.specs.declared.refusal.Refusal.{Refusal}
 use Rattle.bits.specs.declared.refusal.Refusal.TheVariants.{Limit}
 use Rattle.schema.specs.Values.{ValueTrees}
@@ -21,53 +21,46 @@ use Rattle.pages.specs.Writing.{page_weight}
 use Rattle.row_group.specs.Limits.{IsLeafToCome}
 use Rattle.row_group.specs.Writing as group_limit
 use Rattle.row_group.specs.Writing.{IsGroupTooMuch}
+use Rattle.row_group.proofs.Laid.{each_short}
 use Rattle.footer.specs.declared.limits.TheConstants.{MOST_BYTES_OF_FILE, MOST_BYTES_OF_FOOTER}
 use Rattle.footer.specs.declared.options.WriteOptions.{WriteOptions}
 use Rattle.footer.specs.File.{magic, AreGroups, FileMeans}
-use Rattle.footer.specs.Faults.{HasFooter}
-use Rattle.footer.specs.Writing.{IsOutOfRange, empty_groups, large_groups, IsWrittenAs, footer_weight, chunk_weight, group_weight, file_weight, parts_of, IsHeavy, IsTooMuch, many_entries, long_value, heavy, IsToBeWritten, other_leaf}
-use Rattle.footer.specs.Own.{groups_of, AppendsGroups, own_record, EndsWith}
+use Rattle.footer.specs.Writing.{IsOutOfRange, empty_groups, large_groups, footer_weight, chunk_weight, group_weight, file_weight, parts_of, IsHeavy, IsTooMuch, many_entries, long_value, heavy, IsToBeWritten, other_leaf}
+use Rattle.footer.specs.Own.{groups_of, AppendsGroups, own_record, IsFilled, EndsWith, IsLaidOut}
 use Rattle.footer.proofs.Grouped.{grouped, joined, are_groups, begins}
 use Rattle.footer.proofs.Weighed.{same_weight, of_the_writer}
 
--- the file has its rows in groups
-pub written : (size n : ℕ) (fs : Fields) (rows : List ValueTrees) (front bytes : List ℕ) (gs : List GroupMeta) (meta : FileMeta) → meta ≡ own_record fs n gs → AppendsGroups fs magic front gs rows
-    → EndsWith front meta bytes → IsSchemaOf (elements_of fs) fs → 1 ≤ size → length rows ≤ size → IsWrittenAs size fs rows bytes
-written size n fs rows front bytes gs meta is p ends schema some few =
-    let begun = begins fs magic front gs rows p in
-    record {
-      front = front;
-      meta = meta;
-      file = ends begun.0 begun.1;
-      schema = subst (λ (m : FileMeta). IsSchemaOf m.schema fs) (sym is) schema;
-      groups = groups_of rows;
-      each = subst (λ (m : FileMeta). AreGroups front fs m.row_groups (groups_of rows)) (sym is) (are_groups fs magic front gs rows p);
-      grouped = grouped size rows some few;
-    }
-
--- and means them
-pub means : (n : ℕ) (fs : Fields) (rows : List ValueTrees) (front bytes : List ℕ) (gs : List GroupMeta) (meta : FileMeta) → meta ≡ own_record fs n gs → AppendsGroups fs magic front gs rows
+-- the file means its rows
+pub means : (n : ℕ) (fs : Fields) (rows : List ValueTrees) (front bytes : List ℕ) (gs : List GroupMeta) (meta : FileMeta) → meta ≡ own_record fs n gs → AppendsGroups fs magic front gs (groups_of rows)
     → EndsWith front meta bytes → IsSchemaOf (elements_of fs) fs → FileMeans bytes fs rows
 means n fs rows front bytes gs meta is p ends schema =
-    let begun = begins fs magic front gs rows p in
+    let begun = begins fs magic front gs (groups_of rows) p in
+    let filled = ends begun.0 begun.1 in
     record {
       front = front;
       meta = meta;
-      file = ends begun.0 begun.1;
+      file = record { footer = filled.footer; used = length filled.footer; framed = filled.framed; stands = filled.fills };
       schema = subst (λ (m : FileMeta). IsSchemaOf m.schema fs) (sym is) schema;
       held = record {
         groups = groups_of rows;
-        each = subst (λ (m : FileMeta). AreGroups front fs m.row_groups (groups_of rows)) (sym is) (are_groups fs magic front gs rows p);
+        each = subst (λ (m : FileMeta). AreGroups front fs m.row_groups (groups_of rows)) (sym is) (are_groups fs magic front gs (groups_of rows) p);
         joined = joined rows;
       };
     }
 
--- and its footer is the writer's own
-pub own_footer : (n : ℕ) (fs : Fields) (rows : List ValueTrees) (front bytes : List ℕ) (gs : List GroupMeta) (meta : FileMeta) → meta ≡ own_record fs n gs → AppendsGroups fs magic front gs rows
-    → EndsWith front meta bytes → HasFooter bytes (λ m. m ≡ own_record fs n m.row_groups)
-own_footer n fs rows front bytes gs meta is p ends =
-    let begun = begins fs magic front gs rows p in
-    record { front = front; meta = meta; file = ends begun.0 begun.1; is = is ∙ ap (own_record fs n) (sym (ap (λ (m : FileMeta). m.row_groups) is)) }
+-- and is laid out as the writer does
+pub laid_out : (size : ℕ) (fs : Fields) (rows : List ValueTrees) (front bytes : List ℕ) (gs : List GroupMeta) (meta : FileMeta) → meta ≡ own_record fs (length rows) gs → AppendsGroups fs magic front gs (groups_of rows)
+    → EndsWith front meta bytes → 1 ≤ size → length rows ≤ size → IsLaidOut size fs rows bytes
+laid_out size fs rows front bytes gs meta is p ends some few =
+    let begun = begins fs magic front gs (groups_of rows) p in
+    record {
+      front = front;
+      metas = gs;
+      groups = groups_of rows;
+      file = subst (IsFilled bytes front) is (ends begun.0 begun.1);
+      grouped = grouped size rows some few;
+      chunks = p;
+    }
 
 -- the pages of the columns, one each
 abbrev pub pages_weight : Fields → List ValueTrees → ℕ
@@ -76,15 +69,17 @@ pages_weight fs rows = sum_by page_weight (columns fs rows)
 lighter : (fs : Fields) (page_rows : ℕ) (rows : List ValueTrees) → pages_weight fs rows ≤ group_weight fs page_rows rows
 lighter fs page_rows rows = sum_by-le-sum_by page_weight (chunk_weight (parts_of (length rows) page_rows)) (columns fs rows) (λ es. omega arith)
 
-at_most : (fs : Fields) (old new : List ℕ) (gs : List GroupMeta) (rows : List ValueTrees) → AppendsGroups fs old new gs rows → length new ≤ length old + sum_by (pages_weight fs) (groups_of rows)
+at_most : (fs : Fields) (old new : List ℕ) (gs : List GroupMeta) (groups : List (List ValueTrees)) → AppendsGroups fs old new gs groups → length new ≤ length old + sum_by (pages_weight fs) groups
 at_most fs old new [] [] p = omega (arith, ap length p)
-at_most fs old new [] (row ∷ rows) p = absurd p
-at_most fs old new (g ∷ []) [] p = absurd p
-at_most fs old new (g ∷ []) (row ∷ rows) p = let short = p.short in omega (arith, ap length p.joined, length-append old p.text, short)
-at_most fs old new (g ∷ h ∷ gs) rows p = absurd p
+at_most fs old new [] (rows ∷ others) p = absurd p
+at_most fs old new (g ∷ gs) [] p = absurd p
+at_most fs old new (g ∷ gs) (rows ∷ others) p =
+    let one = each_short (leaves_of fs) (columns fs rows) old p.0 g.columns p.1.chunks in
+    let rest = at_most fs p.0 new gs others p.2 in
+    omega (arith, one, rest, sum_by-cons (pages_weight fs) rows others)
 
 -- its footer, or the file, is too long only where it weighs too much
-pub is_heavy : (fs : Fields) (o : WriteOptions) (n : ℕ) (rows : List ValueTrees) (front : List ℕ) (gs : List GroupMeta) (meta : FileMeta) → meta ≡ own_record fs n gs → AppendsGroups fs magic front gs rows → IsWithinLimits fs
+pub is_heavy : (fs : Fields) (o : WriteOptions) (n : ℕ) (rows : List ValueTrees) (front : List ℕ) (gs : List GroupMeta) (meta : FileMeta) → meta ≡ own_record fs n gs → AppendsGroups fs magic front gs (groups_of rows) → IsWithinLimits fs
     → 1 ≤ o.group_rows → length rows ≤ o.group_rows
     → (IsOfTheWriter [] meta → (MOST_BYTES_OF_FOOTER < record_weight.footer_weight [] meta) ⊎ (MOST_BYTES_OF_FILE < length front + 8 + record_weight.footer_weight [] meta)) → IsHeavy fs o rows
 is_heavy fs o n rows front gs meta is p within some few long = record { groups = groups_of rows; grouped = grouped o.group_rows rows some few; over = over (cases_lt MOST_BYTES_OF_FOOTER weight) }
@@ -93,18 +88,18 @@ is_heavy fs o n rows front gs meta is p within some few long = record { groups =
     weight = footer_weight fs (length (groups_of rows))
 
     same : record_weight.footer_weight [] meta ≡ weight
-    same = ap (λ (m : FileMeta). record_weight.footer_weight [] m) is ∙ same_weight fs n magic front gs rows p
+    same = ap (λ (m : FileMeta). record_weight.footer_weight [] m) is ∙ same_weight fs n magic front gs (groups_of rows) p
 
     by_length : (MOST_BYTES_OF_FOOTER < record_weight.footer_weight [] meta) ⊎ (MOST_BYTES_OF_FILE < length front + 8 + record_weight.footer_weight [] meta) → (MOST_BYTES_OF_FOOTER < weight) ⊎ (MOST_BYTES_OF_FILE < file_weight fs o (groups_of rows))
     by_length (inl h) = inl (omega (arith, same, h))
     by_length (inr h) =
-        let most = at_most fs magic front gs rows p in
+        let most = at_most fs magic front gs (groups_of rows) p in
         let less = sum_by-le-sum_by (pages_weight fs) (group_weight fs o.page_rows) (groups_of rows) (lighter fs o.page_rows) in
         inr (omega (arith, same, h, most, less))
 
     over : (MOST_BYTES_OF_FOOTER < weight) ⊎ (weight ≤ MOST_BYTES_OF_FOOTER) → (MOST_BYTES_OF_FOOTER < weight) ⊎ (MOST_BYTES_OF_FILE < file_weight fs o (groups_of rows))
     over (inl h) = inl h
-    over (inr h) = by_length (long (subst (λ (m : FileMeta). IsOfTheWriter [] m) (sym is) (of_the_writer fs n magic front gs rows p within h)))
+    over (inr h) = by_length (long (subst (λ (m : FileMeta). IsOfTheWriter [] m) (sym is) (of_the_writer fs n magic front gs (groups_of rows) p within h)))
 
 -- rows that are too much for a group are too much for the file
 pub too_much : (fs : Fields) (o : WriteOptions) (rows : List ValueTrees) → 1 ≤ o.group_rows → length rows ≤ o.group_rows → o.group_rows ≤ 1048576 → 0 < length rows

@@ -5,24 +5,43 @@ use Rattle.schema.specs.Shape.{Fields}
 use Rattle.schema.specs.Stripe.{leaves_of}
 use Rattle.schema.specs.Listed.{elements_of}
 use Rattle.metadata.specs.Records.{FileMeta, GroupMeta, type_order}
+use Rattle.metadata.specs.FromTree.{file_meta}
+use Rattle.metadata.specs.Answers.{StandsFor}
 use Rattle.row_group.specs.Writing.{AppendsGroup}
-use Rattle.footer.specs.File.{magic, IsFile}
+use Rattle.footer.specs.File.{magic, IsFramed}
+use Rattle.footer.specs.Writing.{AreGrouped}
 
 -- the rows as groups: one has all of them, and where there are no rows there is none
 abbrev pub groups_of : List ValueTrees → List (List ValueTrees)
 groups_of [] = []
 groups_of (row ∷ rows) = (row ∷ rows) ∷ []
 
--- the bytes of `new` are those of `old` and the chunks of these groups, which have the rows
-abbrev pub AppendsGroups : Fields → List ℕ → List ℕ → List GroupMeta → List ValueTrees → Type 0
+-- the bytes of `new` are those of `old` and the chunks of these groups, each group of its rows, one right behind the other
+abbrev pub AppendsGroups : Fields → List ℕ → List ℕ → List GroupMeta → List (List ValueTrees) → Type 0
 AppendsGroups fs old new [] [] = new ≡ old
-AppendsGroups fs old new (g ∷ []) (row ∷ rows) = AppendsGroup fs old new g (row ∷ rows)
+AppendsGroups fs old new (g ∷ gs) (rows ∷ others) = (middle : List ℕ) × AppendsGroup fs old middle g rows × AppendsGroups fs middle new gs others
 AppendsGroups fs old new _ _ = ⊥
 
 -- the record of a file with this schema, so many rows, and these groups: the writer is `pqds`, and each column has the order of its type
 abbrev pub own_record : Fields → ℕ → List GroupMeta → FileMeta
 own_record fs rows groups = record { version = Some (pos 1); schema = elements_of fs; num_rows = Some (pos rows); row_groups = groups; key_value_metadata = None; created_by = Some (codes "pqds"); column_orders = Some (replicate (length (leaves_of fs)) type_order) }
 
+-- the same as `IsFile`, and the record fills the footer
+pub record IsFilled (bytes front : List ℕ) (meta : FileMeta) : Type 0 where
+  pub footer : List ℕ
+  pub framed : IsFramed bytes front footer
+  pub fills : StandsFor file_meta footer meta (length footer)
+
 -- the file is `PAR1` and the chunks, the footer with this record, its length, and `PAR1`
 abbrev pub EndsWith : List ℕ → FileMeta → List ℕ → Type 0
-EndsWith front meta bytes = (chunks : List ℕ) → front ≡ magic ++ chunks → IsFile bytes front meta
+EndsWith front meta bytes = (chunks : List ℕ) → front ≡ magic ++ chunks → IsFilled bytes front meta
+
+-- The file as the store lays it out: `PAR1`; the chunks of the rows, in groups of this many each, one right behind the other
+-- up to the footer; the writer's own record of them, which fills the footer; its length, and `PAR1`.
+pub record IsLaidOut (size : ℕ) (fs : Fields) (rows : List ValueTrees) (bytes : List ℕ) : Type 0 where
+  pub front : List ℕ
+  pub metas : List GroupMeta
+  pub groups : List (List ValueTrees)
+  pub file : IsFilled bytes front (own_record fs (length rows) metas)
+  pub grouped : AreGrouped size rows groups
+  pub chunks : AppendsGroups fs magic front metas groups

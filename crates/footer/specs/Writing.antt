@@ -1,13 +1,10 @@
 -- Which options there are, what a written file weighs, and which rows are not written.
-use Rattle.std.specs.Prelude.{◌≡◌, ◌≢◌, ◌⊎◌, ℕ, suc, ◌+◌, ◌-◌, ◌*◌, ◌/◌, ◌<◌, ◌<ℤ◌, pos, ◌≤◌, List, [], ◌∷◌, length, take, drop, sum_by}
-use Rattle.std.specs.List.{Any, AllByRecursion}
-use Rattle.bits.specs.declared.refusal.Refusal.{Refusal}
+use Rattle.std.specs.Prelude.{◌≡◌, ◌≢◌, ◌⊎◌, ℕ, ◌+◌, ◌-◌, ◌*◌, ◌/◌, ◌<◌, ◌<ℤ◌, pos, ◌≤◌, List, [], ◌∷◌, length, take, drop, sum_by}
+use Rattle.std.specs.List.{Any}
 use Rattle.schema.specs.Values.{ValueTrees}
 use Rattle.schema.specs.Shape.{Fields}
 use Rattle.schema.specs.Stripe.{Leaf, Entry, leaves_of, columns}
 use Rattle.schema.specs.Listed.{elements_of}
-use Rattle.schema.specs.Listing.{IsSchemaOf}
-use Rattle.metadata.specs.Records.{FileMeta}
 use Rattle.metadata.specs.Weight.{element_weight}
 use Rattle.plain.specs.Plain.{IsTooLong}
 use Rattle.pages.specs.Page.{values}
@@ -16,10 +13,9 @@ use Rattle.row_group.specs.declared.limits.TheConstants.{MOST_ENTRIES_OF_CHUNK}
 use Rattle.row_group.specs.Limits.{IsLeafToCome}
 use Rattle.row_group.specs.Writing.{AreTaken}
 use Rattle.footer.specs.declared.limits.TheConstants.{MOST_BYTES_OF_FILE, MOST_BYTES_OF_FOOTER}
-use Rattle.footer.specs.declared.options.Style.{Style}
 use Rattle.footer.specs.declared.options.Style.TheVariants.{Plain}
 use Rattle.footer.specs.declared.options.WriteOptions.{WriteOptions}
-use Rattle.footer.specs.File.{IsFramed, IsFile, AreGroups}
+use Rattle.footer.specs.File.{IsFramed}
 
 -- options that are refused for good: no group of 1 to 1,048,576 rows, no page of a row or more, no version 1 or 2
 pub data IsOutOfRange (o : WriteOptions) : Type 0 where
@@ -36,16 +32,6 @@ parts_of n size = (n + (size - 1)) / size
 pub record AreGrouped (size : ℕ) (rows : List ValueTrees) (groups : List (List ValueTrees)) : Type 0 where
   pub count : length groups ≡ parts_of (length rows) size
   pub each : (k : ℕ) → k < length groups → take 1 (drop k groups) ≡ take size (drop (k * size) rows) ∷ []
-
--- the file has the rows in groups of this many each
-pub record IsWrittenAs (size : ℕ) (fs : Fields) (rows : List ValueTrees) (bytes : List ℕ) : Type 0 where
-  pub front : List ℕ
-  pub meta : FileMeta
-  pub file : IsFile bytes front meta
-  pub schema : IsSchemaOf meta.schema fs
-  pub groups : List (List ValueTrees)
-  pub each : AreGroups front fs meta.row_groups groups
-  pub grouped : AreGrouped size rows groups
 
 -- a footer: 1,024, for each schema element 128, its name and its kept struct, for each group 64, for each chunk 512 and its names
 abbrev pub footer_weight : Fields → ℕ → ℕ

@@ -8,11 +8,12 @@ ghost use Rattle.schema.specs.Views.{rows_view};
 ghost use Rattle.metadata.specs.Views.{group_meta_view};
 ghost use Rattle.footer.specs.File.{LiesHere, GroupsMean, FileMeans};
 ghost use Rattle.footer.specs.Faults.{HasGroupsFault, HasFault};
+ghost use Rattle.footer.specs.Left.{rows_left};
 
 use crate::reading::parts_and_record;
+use crate::rows::Rows;
 use bits::{R, Refusal};
 use metadata::GroupMeta;
-use row_group::read_group;
 use schema::{Row, Schema, a_list_means_one_schema};
 use std::alloc::Global;
 
@@ -28,10 +29,10 @@ fn lies_here(group: &GroupMeta) -> bool
     true
 }
 
-/// The rows of the groups, from the bytes of their file before the footer.
-fn rows_of(alloc: Global, front: &[u8], groups: &[GroupMeta], schema: &Schema) -> R<Vec<Row>>
-    ensures stands { IfOk result (λ rows. GroupsMean front.now schema.now (map group_meta_view groups.now) (rows_view rows.items)) }
-    ensures alone { IfOk result (λ rows. (others : List ValueTrees) → GroupsMean front.now schema.now (map group_meta_view groups.now) others → others ≡ rows_view rows.items) }
+/// The rows of the groups, from the bytes of their file before the footer: all of them, each to be made.
+fn rows_of(alloc: Global, front: &[u8], groups: &[GroupMeta], schema: &Schema) -> R<Rows>
+    ensures stands { IfOk result (λ rows. GroupsMean front.now schema.now (map group_meta_view groups.now) (rows_left rows)) }
+    ensures alone { IfOk result (λ rows. (others : List ValueTrees) → GroupsMean front.now schema.now (map group_meta_view groups.now) others → others ≡ rows_left rows) }
     ensures only { OnFault result ((rows : List ValueTrees) → GroupsMean front.now schema.now (map group_meta_view groups.now) rows → ⊥) }
     ensures which { IfErr result (HasGroupsFault front.now schema.now (map group_meta_view groups.now)) }
 {
@@ -39,15 +40,23 @@ fn rows_of(alloc: Global, front: &[u8], groups: &[GroupMeta], schema: &Schema) -
         return Err(Refusal::Limit);
     }
     let Some(group) = groups.first() else {
-        return Ok(Vec::new(alloc));
+        return Ok(Rows { alloc, group: None });
     };
     if !lies_here(group) {
         return Err(Refusal::Page);
     }
-    read_group(alloc, front, group, schema)
+    let rows = row_group::Rows::of_group(alloc, front, group, schema)?;
+    Ok(Rows {
+        alloc,
+        group: Some(rows),
+    })
 }
 
-/// The schema and the rows of a file.
+/// The schema of a file, and its rows, all of them still to be made.
+///
+/// The whole file is accepted before the first row is made: all of its columns are decoded and checked, so
+/// that a row is refused for memory alone. Kept until the rows are made are 40 bytes for each value of
+/// a column, and the bytes of texts; no rows. The time is linear in the bytes.
 ///
 /// Read today are files of at most one row group whose columns are all REQUIRED and at the top level, each
 /// in one page of version 1 in PLAIN. What the footer says beside its schema, its groups and their chunks'
@@ -61,12 +70,12 @@ fn rows_of(alloc: Global, front: &[u8], groups: &[GroupMeta], schema: &Schema) -
 /// has rows; Truncated also for values whose bytes end early; Utf8 for text that is not UTF-8.
 /// Refused Limit where a number is above its limit (1,024 leaves, 32 fields on a path, 16,777,216 rows in
 /// a group and entries in a chunk, 16 MiB for a value), and for files of the format that are not read yet.
-/// Where there are several faults one of them is answered. The time is linear in the bytes.
+/// Where there are several faults one of them is answered. (parquet-format, README.md, "File format".)
 ///
 /// [`read_footer`]: crate::read_footer
-pub fn read_file(alloc: Global, bytes: &[u8]) -> R<(Schema, Vec<Row>)>
-    ensures stands { IfOk result (λ x. FileMeans bytes.now x.0 (rows_view x.1.items)) }
-    ensures alone { IfOk result (λ x. (fs : Fields) (rows : List ValueTrees) → FileMeans bytes.now fs rows → (fs ≡ x.0) × (rows ≡ rows_view x.1.items)) }
+pub fn read_rows(alloc: Global, bytes: &[u8]) -> R<(Schema, Rows)>
+    ensures stands { IfOk result (λ x. FileMeans bytes.now x.0 (rows_left x.1)) }
+    ensures alone { IfOk result (λ x. (fs : Fields) (rows : List ValueTrees) → FileMeans bytes.now fs rows → (fs ≡ x.0) × (rows ≡ rows_left x.1)) }
     ensures only { OnFault result ((fs : Fields) (rows : List ValueTrees) → FileMeans bytes.now fs rows → ⊥) }
     ensures which { IfErr result (HasFault bytes.now) }
 {
@@ -74,5 +83,18 @@ pub fn read_file(alloc: Global, bytes: &[u8]) -> R<(Schema, Vec<Row>)>
     let (front, record) = parts_and_record(alloc, bytes)?;
     let schema = Schema::new(alloc, record.schema.as_slice())?;
     let rows = rows_of(alloc, front, record.row_groups.as_slice(), &schema)?;
+    Ok((schema, rows))
+}
+
+/// The schema and the rows of a file, which are all kept. Refused as [`read_rows`] is, by which they are
+/// made; the time is linear in the bytes. (parquet-format, README.md, "File format".)
+pub fn read_file(alloc: Global, bytes: &[u8]) -> R<(Schema, Vec<Row>)>
+    ensures stands { IfOk result (λ x. FileMeans bytes.now x.0 (rows_view x.1.items)) }
+    ensures alone { IfOk result (λ x. (fs : Fields) (rows : List ValueTrees) → FileMeans bytes.now fs rows → (fs ≡ x.0) × (rows ≡ rows_view x.1.items)) }
+    ensures only { OnFault result ((fs : Fields) (rows : List ValueTrees) → FileMeans bytes.now fs rows → ⊥) }
+    ensures which { IfErr result (HasFault bytes.now) }
+{
+    let (schema, rows) = read_rows(alloc, bytes)?;
+    let rows = rows.collected()?;
     Ok((schema, rows))
 }

@@ -12,12 +12,14 @@ mod limits;
 mod options;
 mod reading;
 mod record;
+mod rows;
 mod writing;
 
-pub use file::read_file;
+pub use file::{read_file, read_rows};
 pub use limits::{MOST_BYTES_OF_FILE, MOST_BYTES_OF_FOOTER};
 pub use options::{Style, WriteOptions};
 pub use reading::read_footer;
+pub use rows::Rows;
 pub use writing::write_file;
 
 #[cfg(test)]

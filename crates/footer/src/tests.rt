@@ -143,6 +143,38 @@ fn two_rows_and_no_rows_are_read(rt: HostRuntime) -> Result<(), Fail> {
     Ok(())
 }
 
+/// The values of so many rows of a file, made one by one, and those of the rows that are left.
+fn parted(alloc: Global, bytes: &[u8], count: usize) -> R<(String, String)> {
+    let (_, mut rows) = read_rows(alloc, bytes)?;
+    let mut taken = Vec::new(alloc);
+    for _ in 0..count {
+        if let Some(row) = rows.next()? {
+            taken.push(row)?;
+        }
+    }
+    let left = rows.collected()?;
+    let taken = text_of(alloc, taken.as_slice())?;
+    let left = text_of(alloc, left.as_slice())?;
+    Ok((taken, left))
+}
+
+#[test]
+fn rows_are_made_one_by_one(rt: HostRuntime) -> Result<(), Fail> {
+    let alloc = rt.alloc();
+    for (count, taken, left) in [
+        (0, "", "1;300;"),
+        (1, "1;", "300;"),
+        (2, "1;300;", ""),
+        (3, "1;300;", ""),
+    ] {
+        let parts = parted(alloc, TWO_ROWS.as_slice(), count)?;
+        assert_eq!(rt; (parts.0.as_str(), parts.1.as_str()), (taken, left));
+    }
+    let parts = parted(alloc, NO_ROWS.as_slice(), 1)?;
+    assert_eq!(rt; (parts.0.as_str(), parts.1.as_str()), ("", ""));
+    Ok(())
+}
+
 #[test]
 fn bytes_and_texts_are_read_however_they_are_said(rt: HostRuntime) -> Result<(), Fail> {
     let alloc = rt.alloc();

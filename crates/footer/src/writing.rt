@@ -12,9 +12,8 @@ ghost use Rattle.metadata.specs.Views.{group_meta_view};
 ghost use Rattle.row_group.specs.Limits.{IsLeafToCome};
 ghost use Rattle.row_group.specs.Writing.{AreTaken, IsGroupTooMuch, IsOfRows};
 ghost use Rattle.footer.specs.File.{FileMeans};
-ghost use Rattle.footer.specs.Faults.{HasFooter};
-ghost use Rattle.footer.specs.Own.{AppendsGroups, own_record};
-ghost use Rattle.footer.specs.Writing.{IsOutOfRange, IsWrittenAs, IsTooMuch, IsToBeWritten, IsTaken};
+ghost use Rattle.footer.specs.Own.{groups_of, AppendsGroups, IsLaidOut};
+ghost use Rattle.footer.specs.Writing.{IsOutOfRange, IsTooMuch, IsToBeWritten, IsTaken};
 
 use crate::ending::ended;
 use crate::limits::MAGIC;
@@ -58,7 +57,7 @@ fn write_groups(
     rows: &[Row],
     out: &mut Vec<u8>,
 ) -> R<Vec<GroupMeta>>
-    ensures stands { IfOk result (λ gs. AppendsGroups schema.now out.old.items out.new.items (map group_meta_view gs.items) (rows_view rows.now)) }
+    ensures stands { IfOk result (λ gs. AppendsGroups schema.now out.old.items out.new.items (map group_meta_view gs.items) (groups_of (rows_view rows.now))) }
     ensures taken { OnOk result (AreTaken schema.now (rows_view rows.now)) }
     ensures only { OnFault result (RowsFit schema.now (rows_view rows.now) → ⊥) }
     ensures limit { result ≡ Err Refusal.Limit → IsGroupTooMuch (length out.old.items) schema.now (rows_view rows.now) ⊎ Any IsLeafToCome (leaves_of schema.now) }
@@ -76,7 +75,8 @@ fn write_groups(
 
 /// The bytes of a file that means these rows of this schema (parquet-format, README.md, "File
 /// format"): `PAR1`, the row groups, each with a chunk for each leaf in the order of the leaves, the
-/// footer, its length, and `PAR1`. The rows are lent; their values are copied into the bytes alone.
+/// footer, its length, and `PAR1`, each right behind the other. The rows are lent; their values are copied
+/// into the bytes alone.
 ///
 /// Written today are files of at most one row group whose columns are all REQUIRED and at the top
 /// level, each in one page of version 1 in PLAIN. A file of no rows has no group, whatever its columns.
@@ -85,9 +85,10 @@ fn write_groups(
 ///
 /// Refused RowShape just where a row does not fit the schema, want of memory and Limit aside. Refused Limit
 /// for a number of rows in a group outside 1 to 1,048,576, for pages of no rows, for a version other than
-/// 1 and 2; for a value of more than 16 MiB; for more than 16,777,216 entries in a column; where the footer
-/// weighs more than 16 MiB, or the file more than 2^31 - 1 bytes; and for what is not written yet: more
-/// rows than a group or a page should have, version 2, another style, other columns.
+/// 1 and 2; for a value of more than 16 MiB; for more than 16,777,216 entries in a column; for what is not
+/// written yet: more rows than a group or a page should have, version 2, another style, other columns; and
+/// where the footer is longer than 16 MiB, or the file than 2^31 - 1 bytes, which comes only where it
+/// weighs more.
 ///
 /// The time is linear in the rows and the schema.
 pub fn write_file(
@@ -97,8 +98,7 @@ pub fn write_file(
     rows: &[Row],
 ) -> R<Vec<u8>>
     ensures means { IfOk result (λ file. FileMeans file.items schema.now (rows_view rows.now)) }
-    ensures groups { IfOk result (λ file. IsWrittenAs options.now.group_rows schema.now (rows_view rows.now) file.items) }
-    ensures footer { IfOk result (λ file. HasFooter file.items (λ m. m ≡ own_record schema.now (length rows.now) m.row_groups)) }
+    ensures laid_out { IfOk result (λ file. IsLaidOut options.now.group_rows schema.now (rows_view rows.now) file.items) }
     ensures taken { IfOk result (λ file. IsTaken schema.now (rows_view rows.now) file.items) }
     ensures options { OnOk result (IsOutOfRange options.now → ⊥) }
     ensures only { OnFault result (RowsFit schema.now (rows_view rows.now) → ⊥) }

@@ -125,11 +125,12 @@ impl FromNode for AnyStruct {
     }
 }
 
-/// The values of a list, each of which is of this type.
+/// The values of a list, each of which is of this type. Room is asked for as they are found to be: a list of
+/// many small values of another type asks for none.
 fn each_as<T: FromNode>(alloc: Global, values: &[Value]) -> R<Vec<T>>
     ensures stands { IsRecordOf (λ v. map T.shown v.items) (each_of T.read (views values.now)) result }
 {
-    let mut items = Vec::with_capacity(alloc, values.len())?;
+    let mut items = Vec::new(alloc);
     for value in values {
         let item = T::from_node(alloc, value)?;
         items.push(item)?;

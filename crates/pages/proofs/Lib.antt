@@ -1,5 +1,6 @@
 pub mod Framed
 pub mod FlatPages
+pub mod FlatEntries
 pub mod Bodies
 pub mod PlainValues
 pub mod Passed

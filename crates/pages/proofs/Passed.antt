@@ -1,9 +1,9 @@
 -- A refusal that is passed on by `?`, in this crate's clauses.
 use Rattle.std.proofs.Common.{◌≡◌, Bool, true, false, Result, Ok, Err, ◌∙◌, sym}
-use Rattle.std.specs.Result.{is_err, IsErrAnd, IfOk, OnOk}
+use Rattle.std.specs.Result.{is_err, IsErrAnd, OnOk}
 use Rattle.bits.specs.declared.refusal.Refusal.{Refusal}
-use Rattle.bits.specs.declared.refusal.Refusal.TheVariants.{Memory, Limit, Thrift}
-use Rattle.bits.specs.Refusals.{HasCause, OnFault, RefusedOnly}
+use Rattle.bits.specs.declared.refusal.Refusal.TheVariants.{Memory, Limit}
+use Rattle.bits.specs.Refusals.{HasCause, RefusedOnly}
 use Rattle.bits.proofs.Passing.{passes}
 
 wider : (P Q : Refusal → Type 0) → ((e : Refusal) → P e → Q e) → (e : Refusal) → HasCause P e → HasCause Q e
@@ -18,15 +18,6 @@ passes_which P Q r e more is cause = passes (HasCause Q) r e is (wider P Q more 
 pub passes_over : {X : Type 0} (Over : Type 0) (r : Result X Refusal) (e : Refusal) → IsErrAnd r (λ f. f ≡ e) → (e ≡ Limit → Over) → r ≡ Err Limit → Over
 passes_over {X} Over (Ok x) e is over same = absurd is
 passes_over {X} Over (Err f) e is over same = let here : f ≡ Limit = cc in over (sym is ∙ here)
-
--- what is answered is of one more kind
-pub if_ok : {X : Type 0} (P Q : X → Type 0) (r : Result X Refusal) → ((x : X) → P x → Q x) → IfOk r P → IfOk r Q
-if_ok P Q (Ok x) more p = more x p
-if_ok P Q (Err e) more p = tt
-
-pub on_ok : {X : Type 0} (P : Type 0) (r : Result X Refusal) → P → OnOk r P
-on_ok P (Ok x) p = p
-on_ok P (Err e) p = tt
 
 -- three facts of what is answered give one more
 pub on_ok_all : {X : Type 0} {P Q R S : Type 0} (r : Result X Refusal) → (P → Q → R → S) → OnOk r P → OnOk r Q → OnOk r R → OnOk r S

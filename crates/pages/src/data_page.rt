@@ -10,6 +10,7 @@ ghost use Rattle.schema.specs.Stripe.{Entry as EntryShown};
 ghost use Rattle.schema.specs.Views.{entry_view, leaf_type_view, leaf_view};
 ghost use Rattle.metadata.specs.Views.{data_page_header_view};
 ghost use Rattle.plain.specs.Plain.{IsOfKind};
+ghost use Rattle.plain.specs.Held.{entry_value};
 ghost use Rattle.pages.specs.Encodings.{encoding_of, AreValues, IsEncodingToCome};
 ghost use Rattle.pages.specs.Flat.{flat, IsDataOver, IsDataToCome};
 ghost use Rattle.pages.specs.Limits.{IsValueOver, IsOfPages};
@@ -18,7 +19,7 @@ ghost use Rattle.pages.specs.Page.{Spell, IsBodyV1};
 use crate::encoding::Encoding;
 use bits::{R, Refusal};
 use metadata::DataPageHeader;
-use plain::{decode, one_list, what_is_of_a_kind_fits_it};
+use plain::{decode_to, one_list, what_is_of_a_kind_fits_it};
 use schema::{Entry, Kind, Leaf, LeafType, Value};
 use simdutf8::basic::from_utf8;
 use std::alloc::Global;
@@ -48,9 +49,9 @@ pub fn read_data_page(
     }
     let kind = leaf.leaf_type.kind;
     let encoding = Encoding::of_number(header.encoding);
-    let values = read_values(alloc, encoding, kind, dictionary, body, count)?;
-    check_texts(&leaf.leaf_type, values.as_slice())?;
-    flat_entries(alloc, values)
+    let entries = read_values(alloc, encoding, kind, dictionary, body, count)?;
+    check_texts(&leaf.leaf_type, entries.as_slice())?;
+    Ok(entries)
 }
 
 /// How many entries the page has. Refused Page where that is below 0 or above `left`.
@@ -66,8 +67,8 @@ fn checked_count(number: i32, left: usize) -> R<usize>
     }
 }
 
-/// The first `count` values of the text. Where `count` is 0 neither the encoding nor the text is
-/// looked at.
+/// The first `count` values of the text, as entries of a leaf without levels. Where `count` is 0
+/// neither the encoding nor the text is looked at.
 fn read_values(
     alloc: Global,
     encoding: Option<Encoding>,
@@ -75,11 +76,12 @@ fn read_values(
     dictionary: Option<&[Value]>,
     text: &[u8],
     count: usize,
-) -> R<Vec<Value>>
-    ensures stands { IfOk result (λ vs. Spell (AreValues (option_map (λ d. map view d.now) dictionary.entry) kind encoding) text.now (map view vs.items)) }
-    ensures count { IfOk result (λ vs. length (map view vs.items) ≡ count) }
-    ensures of_kind { IfOk result (λ vs. All (IsOfKind kind) (map view vs.items)) }
-    ensures alone { IfOk result (λ vs. (ws : List ValueTree) → length ws ≡ count → Spell (AreValues (option_map (λ d. map view d.now) dictionary.entry) kind encoding) text.now ws → ws ≡ map view vs.items) }
+) -> R<Vec<Entry>>
+    ensures stands { IfOk result (λ es. Spell (AreValues (option_map (λ d. map view d.now) dictionary.entry) kind encoding) text.now (map entry_value es.items)) }
+    ensures made { IfOk result (λ es. map entry_view es.items ≡ map flat (map entry_value es.items)) }
+    ensures count { IfOk result (λ es. length (map entry_value es.items) ≡ count) }
+    ensures of_kind { IfOk result (λ es. All (IsOfKind kind) (map entry_value es.items)) }
+    ensures alone { IfOk result (λ es. (ws : List ValueTree) → length ws ≡ count → Spell (AreValues (option_map (λ d. map view d.now) dictionary.entry) kind encoding) text.now ws → ws ≡ map entry_value es.items) }
     ensures short { OnOk result (IsValueOver kind encoding text.now count → ⊥) }
     ensures only { OnFault result ((ws : List ValueTree) → length ws ≡ count → Spell (AreValues (option_map (λ d. map view d.now) dictionary.entry) kind encoding) text.now ws → ⊥) }
     ensures limit { result ≡ Err Refusal.Limit → IsValueOver kind encoding text.now count ⊎ IsEncodingToCome (option_map (λ d. map view d.now) dictionary.entry) kind encoding }
@@ -91,8 +93,8 @@ fn read_values(
     one_list();
     match encoding {
         Some(Encoding::Plain) => {
-            let (values, _) = decode(alloc, kind, text, count)?;
-            Ok(values)
+            let (entries, _) = decode_to(alloc, kind, text, count)?;
+            Ok(entries)
         }
         Some(encoding) if is_to_come(encoding, kind, dictionary) => Err(Refusal::Limit),
         _ => Err(Refusal::Encoding),
@@ -114,15 +116,15 @@ fn is_to_come(encoding: Encoding, kind: Kind, dictionary: Option<&[Value]>) -> b
     }
 }
 
-/// Refused Utf8 where the values should be text and one of them is not.
-fn check_texts(leaf_type: &LeafType, values: &[Value]) -> R<()>
-    requires { All (IsOfKind leaf_type.now.kind) (map view values.now) }
-    ensures fit { OnOk result (AllByRecursion (λ v. IsTrue (fits_leaf (leaf_type_view leaf_type.now) v)) (map view values.now)) }
-    ensures only { OnFault result (AllByRecursion (λ v. IsTrue (fits_leaf (leaf_type_view leaf_type.now) v)) (map view values.now) → ⊥) }
+/// Refused Utf8 where the entries' values should be text and one of them is not.
+fn check_texts(leaf_type: &LeafType, entries: &[Entry]) -> R<()>
+    requires { All (IsOfKind leaf_type.now.kind) (map entry_value entries.now) }
+    ensures fit { OnOk result (AllByRecursion (λ v. IsTrue (fits_leaf (leaf_type_view leaf_type.now) v)) (map entry_value entries.now)) }
+    ensures only { OnFault result (AllByRecursion (λ v. IsTrue (fits_leaf (leaf_type_view leaf_type.now) v)) (map entry_value entries.now) → ⊥) }
     ensures which { RefusedOnly (λ e. e ≡ Refusal.Utf8) result }
 {
     what_is_of_a_kind_fits_it();
-    if leaf_type.is_text() && !are_texts(values) {
+    if leaf_type.is_text() && !are_texts(entries) {
         return Err(Refusal::Utf8);
     }
     Ok(())
@@ -135,35 +137,19 @@ fn is_utf8(bytes: &[u8]) -> bool
     from_utf8(bytes).is_ok()
 }
 
-/// Whether a value is text.
-fn is_text(value: &Value) -> bool
-    ensures { result ≡ is_valid_text (view value.now) }
+/// Whether an entry's value is text.
+fn is_text(entry: &Entry) -> bool
+    ensures { result ≡ is_valid_text (entry_value entry.now) }
 {
-    match value {
-        Value::Bytes(bytes) => is_utf8(bytes.as_slice()),
+    match &entry.value {
+        Some(Value::Bytes(bytes)) => is_utf8(bytes.as_slice()),
         _ => false,
     }
 }
 
-/// Whether all of the values are text.
-fn are_texts(values: &[Value]) -> bool
-    ensures { result ≡ list_all (λ v. is_valid_text (view v)) values.now }
+/// Whether the values of all entries are text.
+fn are_texts(entries: &[Entry]) -> bool
+    ensures { result ≡ list_all (λ e. is_valid_text (entry_value e)) entries.now }
 {
-    values.iter().all(|value| is_text(value))
-}
-
-/// The entries of the values, which are moved into them.
-fn flat_entries(alloc: Global, values: Vec<Value>) -> R<Vec<Entry>>
-    ensures stands { IfOk result (λ es. map entry_view es.items ≡ map flat (map view values.items)) }
-    ensures which { RefusedOnly (λ _. ⊥) result }
-{
-    let mut entries = Vec::with_capacity(alloc, values.len())?;
-    for value in values {
-        entries.push(Entry {
-            repetition: 0,
-            definition: 0,
-            value: Some(value),
-        })?;
-    }
-    Ok(entries)
+    entries.iter().all(|entry| is_text(entry))
 }

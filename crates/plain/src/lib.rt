@@ -1,18 +1,21 @@
 //! PLAIN values, from bytes and to bytes (parquet-format, Encodings.md, "Plain").
 //!
 //! `specs/Plain.antt` carries the contracts: `IsPlain`, which bytes stand for which values.
+//! `specs/Held.antt` says what an entry that a value is read to holds.
 #![tactic(auto)]
 
 mod codec;
+mod held;
 mod laws;
 mod lent;
 mod reading;
 mod writing;
 
 pub use codec::Plain;
+pub use held::Holds;
 pub use laws::{one_list, what_is_of_a_kind_fits_it};
 pub use lent::Lends;
-pub use reading::{MOST_BYTES_OF_VALUE, decode};
+pub use reading::{MOST_BYTES_OF_VALUE, decode, decode_to};
 pub use writing::{encode, encoded_size};
 
 #[cfg(test)]

@@ -6,6 +6,7 @@ ghost use Rattle.bits.specs.Codec.{NothingStands, AreInTurn};
 ghost use Rattle.schema.specs.Values.{view};
 ghost use Rattle.plain.specs.Plain.{IsOfKind, IsSpelled, AreBooleans, IsPlain, AnnouncesTooMuch, IsReadOver, HasSize};
 
+use crate::held::Holds;
 use bits::{R, Refusal};
 use byteorder::{ByteOrder, LittleEndian};
 use schema::{Kind, Value};
@@ -36,6 +37,21 @@ pub fn decode(alloc: Global, kind: Kind, bytes: &[u8], n: usize) -> R<(Vec<Value
     ensures which { RefusedOnly (λ e. (e ≡ Refusal.Truncated) ⊎ (e ≡ Refusal.Limit)) result }
     ensures limit { LimitJustWhere (IsReadOver kind bytes.now n) result }
 {
+    decode_to(alloc, kind, bytes, n)
+}
+
+/// As [`decode`], in its refusals and its cost too, with each value held by a `T`: a value itself,
+/// or an entry of a leaf without levels, as [`Holds`] says. So values are read to where they are to
+/// lie, with no other list of them.
+pub fn decode_to<T: Holds>(alloc: Global, kind: Kind, bytes: &[u8], n: usize) -> R<(Vec<T>, usize)>
+    ensures stands { IfOk result (λ x. IsPlain kind n bytes.now (map T.held x.0.items) x.1) }
+    ensures of_kind { IfOk result (λ x. All (IsOfKind kind) (map T.held x.0.items)) }
+    ensures made { IfOk result (λ x. All T.IsMade x.0.items) }
+    ensures within { IfOk result (λ x. x.1 ≤ length bytes.now) }
+    ensures only { OnFault result (NothingStands (IsPlain kind n bytes.now)) }
+    ensures which { RefusedOnly (λ e. (e ≡ Refusal.Truncated) ⊎ (e ≡ Refusal.Limit)) result }
+    ensures limit { LimitJustWhere (IsReadOver kind bytes.now n) result }
+{
     match kind {
         Kind::Boolean => booleans(alloc, bytes, n),
         Kind::Int32 => sized_values(alloc, kind, 4, bytes, n),
@@ -46,8 +62,9 @@ pub fn decode(alloc: Global, kind: Kind, bytes: &[u8], n: usize) -> R<(Vec<Value
 }
 
 /// The first `n` bits as booleans.
-fn booleans(alloc: Global, bytes: &[u8], n: usize) -> R<(Vec<Value>, usize)>
-    ensures stands { IfOk result (λ x. AreBooleans n bytes.now (map view x.0.items) x.1) }
+fn booleans<T: Holds>(alloc: Global, bytes: &[u8], n: usize) -> R<(Vec<T>, usize)>
+    ensures stands { IfOk result (λ x. AreBooleans n bytes.now (map T.held x.0.items) x.1) }
+    ensures made { IfOk result (λ x. All T.IsMade x.0.items) }
     ensures only { OnFault result (NothingStands (AreBooleans n bytes.now)) }
     ensures which { RefusedOnly (λ e. e ≡ Refusal.Truncated) result }
 {
@@ -57,21 +74,22 @@ fn booleans(alloc: Global, bytes: &[u8], n: usize) -> R<(Vec<Value>, usize)>
     let mut values = Vec::with_capacity(alloc, n)?;
     for i in 0..n {
         let bit = (bytes[i / 8] >> (i % 8)) & 1;
-        values.push(Value::Bool(bit == 1))?;
+        values.push(T::hold(Value::Bool(bit == 1)))?;
     }
     Ok((values, n.div_ceil(8)))
 }
 
 /// The first `n` values of a type whose values take `size` bytes each.
-fn sized_values(
+fn sized_values<T: Holds>(
     alloc: Global,
     kind: Kind,
     size: usize,
     bytes: &[u8],
     n: usize,
-) -> R<(Vec<Value>, usize)>
+) -> R<(Vec<T>, usize)>
     requires { HasSize kind size }
-    ensures stands { IfOk result (λ x. AreInTurn (IsSpelled kind) n bytes.now (map view x.0.items) x.1) }
+    ensures stands { IfOk result (λ x. AreInTurn (IsSpelled kind) n bytes.now (map T.held x.0.items) x.1) }
+    ensures made { IfOk result (λ x. All T.IsMade x.0.items) }
     ensures only { OnFault result (NothingStands (AreInTurn (IsSpelled kind) n bytes.now)) }
     ensures which { RefusedOnly (λ e. (e ≡ Refusal.Truncated) ⊎ (e ≡ Refusal.Limit)) result }
     ensures limit { LimitJustWhere (IsReadOver kind bytes.now n) result }
@@ -86,7 +104,8 @@ fn sized_values(
     let mut values = Vec::with_capacity(alloc, n.min(bytes.len()))?;
     let mut at = 0;
     for _ in 0..n {
-        values.push(sized_value(alloc, kind, &bytes[at..at + size])?)?;
+        let value = sized_value(alloc, kind, &bytes[at..at + size])?;
+        values.push(T::hold(value))?;
         at += size;
     }
     Ok((values, at))
@@ -106,8 +125,9 @@ fn sized_value(alloc: Global, kind: Kind, text: &[u8]) -> R<Value>
 }
 
 /// The first `n` byte arrays.
-fn byte_arrays(alloc: Global, bytes: &[u8], n: usize) -> R<(Vec<Value>, usize)>
-    ensures stands { IfOk result (λ x. AreInTurn (IsSpelled Kind.ByteArray) n bytes.now (map view x.0.items) x.1) }
+fn byte_arrays<T: Holds>(alloc: Global, bytes: &[u8], n: usize) -> R<(Vec<T>, usize)>
+    ensures stands { IfOk result (λ x. AreInTurn (IsSpelled Kind.ByteArray) n bytes.now (map T.held x.0.items) x.1) }
+    ensures made { IfOk result (λ x. All T.IsMade x.0.items) }
     ensures only { OnFault result (NothingStands (AreInTurn (IsSpelled Kind.ByteArray) n bytes.now)) }
     ensures which { RefusedOnly (λ e. (e ≡ Refusal.Truncated) ⊎ (e ≡ Refusal.Limit)) result }
     ensures limit { LimitJustWhere (IsReadOver Kind.ByteArray bytes.now n) result }
@@ -120,7 +140,7 @@ fn byte_arrays(alloc: Global, bytes: &[u8], n: usize) -> R<(Vec<Value>, usize)>
             // Each length has four bytes. Bytes with no value at their front ask for no room.
             values.reserve(n.min(bytes.len() / 4))?;
         }
-        values.push(value)?;
+        values.push(T::hold(value))?;
         at += used;
     }
     Ok((values, at))

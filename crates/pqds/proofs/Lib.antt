@@ -6,4 +6,7 @@ pub mod Joined
 pub mod Taken
 pub mod Fitting
 pub mod Said
+pub mod Elements
 pub mod Told
+pub mod Refused
+pub mod Printed

@@ -24,7 +24,7 @@ abbrev value_or : {A : Type 0} → A → Option A → A
 value_or d None = d
 value_or d (Some x) = x
 
-same_value : {A : Type 0} (x y : A) → Some x ≡ Some y → x ≡ y
+pub same_value : {A : Type 0} (x y : A) → Some x ≡ Some y → x ≡ y
 same_value x y e = ap (value_or x) e
 
 after-after : (old some : List Said) (left : Option (List Said)) → after old (option_map (λ more. some ++ more) left) ≡ after (old ++ some) left

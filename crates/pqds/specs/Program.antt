@@ -1,22 +1,22 @@
 -- What the program does with files.
-use Rattle.std.specs.Prelude.{◌≡◌, ℕ, List, [], ◌∷◌, ◌++◌, Option, Some, None, IsTrue}
+use Rattle.std.specs.Prelude.{◌≡◌, ◌⊎◌, ℕ, List, [], ◌∷◌, ◌++◌, Option, Some, None, IsTrue}
 use Rattle.std.specs.Io.KnownBytes.{Appends}
 use Rattle.std.specs.Str.Lines.{lines}
 use Rattle.serde_json.specs.Data.{Data, Members}
 use Rattle.serde_json.specs.Read.{read}
 use Rattle.bits.specs.declared.refusal.Refusal.{Refusal}
-use Rattle.bits.specs.declared.refusal.Refusal.TheVariants.{Schema, Float, Int96, Limit, RowShape, Exists, Device, Script}
+use Rattle.bits.specs.declared.refusal.Refusal.TheVariants.{Limit, RowShape, Exists, Device, Script}
 use Rattle.schema.specs.declared.row.Row.{Row}
 use Rattle.schema.specs.Values.{ValueTrees}
 use Rattle.schema.specs.Shape.{Fields}
 use Rattle.schema.specs.Fits.{fits_each}
-use Rattle.schema.specs.Elements.{Element}
-use Rattle.schema.specs.Listing.{IsSchemaOf}
 use Rattle.schema.specs.Views.{row_view}
+use Rattle.footer.specs.declared.options.WriteOptions.{WriteOptions}
 use Rattle.footer.specs.File.{FileMeans}
+use Rattle.footer.specs.Writing.{IsOutOfRange, IsTooMuch, IsToBeWritten}
 use Rattle.pqds.specs.Json.{lines_of}
 use Rattle.pqds.specs.Reading.{row_of, line_of, members_read}
-use Rattle.pqds.specs.SchemaReading.{Said, said_in, AreElementsOf}
+use Rattle.pqds.specs.SchemaReading.{IsSchemaText, IsRefusedSchema}
 
 -- behind what a writer held, where that is known, stand the lines of the rows that the bytes of a file mean
 pub record WritesRowsOf (bytes : List ℕ) (old new : Option (List ℕ)) : Type 0 where
@@ -24,10 +24,6 @@ pub record WritesRowsOf (bytes : List ℕ) (old new : Option (List ℕ)) : Type 
   pub rows : List ValueTrees
   pub means : FileMeans bytes fs rows
   pub written : Appends old new (lines_of fs rows)
-
--- a text is JSON that says the elements of this schema
-abbrev pub IsSchemaText : List ℕ → Fields → Type 0
-IsSchemaText text fs = (said : List Said) × (es : List Element) × (said_in text ≡ Some said) × AreElementsOf said es × IsSchemaOf es fs
 
 -- a text is JSON, and this row
 abbrev pub IsRowText : Fields → List ℕ → ValueTrees → Type 0
@@ -70,18 +66,28 @@ pub record IsFileOf (schema_text rows_text bytes : List ℕ) : Type 0 where
   pub read : AreRowTexts fs (lines rows_text) rows
   pub means : FileMeans bytes fs rows
 
--- what texts, and the rows that they are, are refused for
-abbrev pub IsOfTexts : Refusal → Type 0
-IsOfTexts Schema = Unit {0}
-IsOfTexts (Float path) = Unit {0}
-IsOfTexts (Int96 path) = Unit {0}
-IsOfTexts Limit = Unit {0}
-IsOfTexts RowShape = Unit {0}
-IsOfTexts Script = Unit {0}
-IsOfTexts _ = ⊥
+-- in the schema of one text, some line of the other is the first that is refused, and so
+abbrev pub HasRefusedLine : List ℕ → List ℕ → Refusal → Type 0
+HasRefusedLine schema_text rows_text e = (fs : Fields) × IsSchemaText schema_text fs × HasFirstFault fs (lines rows_text) e
 
--- the same, or the host's files
-abbrev pub IsOfFiles : Refusal → Type 0
-IsOfFiles Exists = Unit {0}
-IsOfFiles Device = Unit {0}
-IsOfFiles e = IsOfTexts e
+-- the rows of the other text are not written: the options are out of range, they are too much for a file, or not written yet
+pub record AreNotWritten (options : WriteOptions) (schema_text rows_text : List ℕ) : Type 0 where
+  pub fs : Fields
+  pub rows : List ValueTrees
+  pub schema : IsSchemaText schema_text fs
+  pub read : AreRowTexts fs (lines rows_text) rows
+  pub why : IsOutOfRange options ⊎ (IsTooMuch fs options rows ⊎ IsToBeWritten fs options rows)
+
+-- that fault is in the two texts, by these options, and no other refusal is answered
+abbrev pub AreRefusedTexts : WriteOptions → List ℕ → List ℕ → Refusal → Type 0
+AreRefusedTexts options schema_text rows_text RowShape = HasRefusedLine schema_text rows_text RowShape
+AreRefusedTexts options schema_text rows_text Script = IsRefusedSchema schema_text Script ⊎ HasRefusedLine schema_text rows_text Script
+AreRefusedTexts options schema_text rows_text Limit = IsRefusedSchema schema_text Limit ⊎ AreNotWritten options schema_text rows_text
+AreRefusedTexts options schema_text rows_text e = IsRefusedSchema schema_text e
+
+-- there were two texts with that fault, or a file cannot be read, is no text (Script), or cannot be made
+abbrev pub AreRefusedFiles : WriteOptions → Refusal → Type 0
+AreRefusedFiles options Exists = Unit {0}
+AreRefusedFiles options Device = Unit {0}
+AreRefusedFiles options Script = Unit {0}
+AreRefusedFiles options e = (schema_text : List ℕ) × (rows_text : List ℕ) × AreRefusedTexts options schema_text rows_text e

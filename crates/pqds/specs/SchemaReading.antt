@@ -7,22 +7,16 @@ use Rattle.serde_json.specs.Find.{get, as_str, as_number, as_i64, as_array, as_o
 use Rattle.serde_json.specs.Events.{items_len}
 use Rattle.serde_json.specs.Read.{read}
 use Rattle.bits.specs.declared.refusal.Refusal.{Refusal}
-use Rattle.bits.specs.declared.refusal.Refusal.TheVariants.{Schema, Float, Int96, Limit, Script}
+use Rattle.bits.specs.declared.refusal.Refusal.TheVariants.{Script, Memory}
 use Rattle.thrift_compact.specs.Tree.{Fields as Struct}
 use Rattle.thrift_compact.specs.Compact.{IsThrift}
+use Rattle.schema.specs.Shape.{Fields}
 use Rattle.schema.specs.Elements.{Element}
 use Rattle.schema.specs.Fits.{is_within}
+use Rattle.schema.specs.Listing.{IsSchemaOf}
+use Rattle.schema.specs.Faults.{HasFault}
 use Rattle.pqds.specs.declared.schema_reading.Numbers.{Numbers}
 use Rattle.pqds.specs.Reading.{bytes_of_digits}
-
--- what the text of a schema is refused for
-abbrev pub IsOfSchemaText : Refusal → Type 0
-IsOfSchemaText Schema = Unit {0}
-IsOfSchemaText (Float path) = Unit {0}
-IsOfSchemaText (Int96 path) = Unit {0}
-IsOfSchemaText Limit = Unit {0}
-IsOfSchemaText Script = Unit {0}
-IsOfSchemaText _ = ⊥
 
 -- the second step, where the first gave a value
 infixl 10 ◌>>=◌
@@ -209,3 +203,17 @@ abbrev pub AreElementsOf : List Said → List Element → Type 0
 AreElementsOf [] [] = Unit {0}
 AreElementsOf (s ∷ ss) (e ∷ es) = IsElementOf s e × AreElementsOf ss es
 AreElementsOf _ _ = ⊥
+
+-- the elements that a text says
+abbrev pub SaysElements : List ℕ → List Element → Type 0
+SaysElements text es = (said : List Said) × (said_in text ≡ Some said) × AreElementsOf said es
+
+-- a text says the elements of this schema
+abbrev pub IsSchemaText : List ℕ → Fields → Type 0
+IsSchemaText text fs = (es : List Element) × SaysElements text es × IsSchemaOf es fs
+
+-- that fault is in the text: it says no elements, or those that it says have that fault; no other refusal is answered
+abbrev pub IsRefusedSchema : List ℕ → Refusal → Type 0
+IsRefusedSchema text Script = (es : List Element) → SaysElements text es → ⊥
+IsRefusedSchema text Memory = Unit {0}
+IsRefusedSchema text e = (es : List Element) × SaysElements text es × HasFault es e

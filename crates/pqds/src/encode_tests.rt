@@ -6,9 +6,11 @@ use std::fs;
 use std::test::*;
 
 /// One REQUIRED INT64 `x`.
-const SCHEMA: &str = "[{\"name\":\"x\",\"rep\":\"required\",\"type\":\"int64\"}]";
+const SCHEMA: &[u8] = b"[{\"name\":\"x\",\"rep\":\"required\",\"type\":\"int64\"}]";
 
-const ROWS: &str = "{\"x\":1}\n{\"x\":300}\n";
+const OPTIONAL: &[u8] = b"[{\"name\":\"x\",\"rep\":\"optional\",\"type\":\"int64\"}]";
+
+const ROWS: &[u8] = b"{\"x\":1}\n{\"x\":300}\n";
 
 /// A file with the rows 1 and 300 of one REQUIRED INT64 `x`, as it is written.
 const MADE: [u8; 116] = [
@@ -21,6 +23,82 @@ const MADE: [u8; 116] = [
 
 /// A file that is there before the call.
 const THERE: &[u8] = b"there before";
+
+const LIMIT: &str = "refused 13 Limit\n";
+
+const ROW_SHAPE: &str = "refused 14 RowShape\n";
+
+const DEVICE: &str = "refused 25 Device\n";
+
+const SCRIPT: &str = "refused 29 Script\n";
+
+/// Rows, and the file that is made of them.
+const FILES: [(&[u8], &[u8]); 4] = [
+    (ROWS, &MADE),
+    (b"{\"x\":1}\n{\"x\":300}", &MADE),
+    (b" { \"x\" : 1 } \r\n{\"x\":300}\r\n", &MADE),
+    (b"", &NO_ROWS),
+];
+
+/// A schema and rows, where they are there, and the fault that is told: the first of several.
+const FAULTS: [(Option<&[u8]>, Option<&[u8]>, &str); 14] = [
+    (None, Some(b"\xFF"), DEVICE),
+    (Some(b"\xFF"), None, SCRIPT),
+    (Some(b"no schema"), None, DEVICE),
+    (Some(b"[]"), Some(b"\xFF"), SCRIPT),
+    (Some(b"[]"), Some(b"no row"), "refused 4 Schema\n"),
+    (Some(b"no schema"), Some(b"{}"), SCRIPT),
+    (
+        Some(SCHEMA),
+        Some(b"{\"x\":1}\n{\"y\":2}\nno row"),
+        ROW_SHAPE,
+    ),
+    (Some(SCHEMA), Some(b"{\"x\":1}\nno row\n{\"y\":2}"), SCRIPT),
+    (Some(SCHEMA), Some(b"{\"x\":1}\n\n{\"x\":300}"), SCRIPT),
+    (Some(SCHEMA), Some(b"{\"x\":\n1}"), SCRIPT),
+    (Some(SCHEMA), Some(b"{\"x\":1}{\"x\":300}"), SCRIPT),
+    (Some(SCHEMA), Some(b"\n"), SCRIPT),
+    (Some(OPTIONAL), Some(b"{\"y\":1}"), ROW_SHAPE),
+    (Some(OPTIONAL), Some(b"{\"x\":1}"), LIMIT),
+];
+
+/// Options for the two rows, and the fault that is told, where there is one.
+const OPTIONS: [(&[&str], &str); 14] = [
+    (&["--group-rows", "2", "--page-rows", "2"], ""),
+    (&["--group-rows=1048576", "--page-rows=4294967295"], ""),
+    (&["--page-version", "1", "--style", "plain"], ""),
+    (&["--group-rows", "0"], LIMIT),
+    (&["--group-rows", "1048577"], LIMIT),
+    (&["--page-rows", "0"], LIMIT),
+    (&["--page-version", "0"], LIMIT),
+    (&["--page-version", "3"], LIMIT),
+    // Not written yet.
+    (&["--page-version", "2"], LIMIT),
+    (&["--group-rows", "1"], LIMIT),
+    (&["--page-rows", "1"], LIMIT),
+    (&["--style", "dictionary"], LIMIT),
+    (&["--style", "delta"], LIMIT),
+    (&["--style", "lengths"], LIMIT),
+];
+
+/// Words that are no call, parted by spaces.
+const NO_CALLS: [&str; 15] = [
+    "encode",
+    "encode a b",
+    "encode a b c d",
+    "encode --help",
+    "Encode a b c",
+    "encode a b c --rows 1",
+    "encode a b c --group-rows",
+    "encode a b c --group-rows many",
+    "encode a b c --group-rows -1",
+    "encode a b c --group-rows 4294967296",
+    "encode a b c --page-rows 1.5",
+    "encode a b c --page-version 256",
+    "encode a b c --style Plain",
+    "encode a b c --page-rows 1 --page-rows 1",
+    "--style plain encode a b c",
+];
 
 /// How the names of the three files end: the schema, the rows, and OUT.
 const ENDINGS: [&str; 3] = [".schema.json", ".jsonl", ".parquet"];
@@ -66,39 +144,92 @@ fn encoded(
     Ok((said, made))
 }
 
+/// Whether `encode` says this and no more, and leaves this at OUT, and nothing beside it.
+fn is_answered(
+    rt: &HostRuntime,
+    name: &str,
+    files: [Option<&[u8]>; 3],
+    options: &[&str],
+    err: &str,
+    left: Option<&[u8]>,
+) -> R<bool> {
+    let (said, made) = encoded(rt, name, files, options)?;
+    let made = made.as_ref().map(|made| made.as_slice());
+    let beside = format!(in rt.alloc(); "{name}.parquet.new-0")?;
+    Ok(
+        said.status == u8::from(!err.is_empty())
+            && said.out.is_empty()
+            && said.err.as_slice() == err.as_bytes()
+            && made == left
+            && at(rt, beside.as_str()).is_none(),
+    )
+}
+
+#[test]
+fn a_file_is_made_of_the_lines_of_rows(rt: HostRuntime) -> Result<(), Fail> {
+    for (rows, made) in &FILES {
+        let files = [Some(SCHEMA), Some(*rows), None];
+        assert!(rt; is_answered(&rt, "lines", files, &[], "", Some(*made))?);
+    }
+    Ok(())
+}
+
+#[test]
+fn the_first_fault_is_told_and_nothing_is_made(rt: HostRuntime) -> Result<(), Fail> {
+    for (schema, rows, err) in &FAULTS {
+        // A file at OUT is found last, and is left.
+        for there in [None, Some(THERE)] {
+            assert!(rt;
+                is_answered(&rt, "faults", [*schema, *rows, there], &[], err, there)?,
+                "{err}"
+            );
+        }
+    }
+    Ok(())
+}
+
+#[test]
+fn a_file_that_is_there_is_left(rt: HostRuntime) -> Result<(), Fail> {
+    let files = [Some(SCHEMA), Some(ROWS), Some(THERE)];
+    let is_left = is_answered(&rt, "there", files, &[], "refused 24 Exists\n", Some(THERE))?;
+    assert!(rt; is_left);
+    Ok(())
+}
+
+#[test]
+fn options_are_limits_of_what_is_written(rt: HostRuntime) -> Result<(), Fail> {
+    for (options, err) in &OPTIONS {
+        let left = if err.is_empty() {
+            Some(MADE.as_slice())
+        } else {
+            None
+        };
+        let files = [Some(SCHEMA), Some(ROWS), None];
+        assert!(rt;
+            is_answered(&rt, "options", files, options, err, left)?,
+            "{options:?}"
+        );
+    }
+    Ok(())
+}
+
+/// What the program says to words that are parted by spaces.
+fn answer_to_text(rt: &HostRuntime, text: &str) -> R<Said> {
+    let mut words = Vec::new(rt.alloc());
+    for word in text.split(' ') {
+        words.push(String::from_str(rt.alloc(), word)?)?;
+    }
+    Ok(answer(rt, words.as_slice()))
+}
+
 #[test]
 fn words_that_are_no_call_of_encode_are_usage(rt: HostRuntime) -> Result<(), Fail> {
-    let calls: [&[&str]; 16] = [
-        &["encode"],
-        &["encode", "a", "b"],
-        &["encode", "a", "b", "c", "d"],
-        &["encode", "--help"],
-        &["Encode", "a", "b", "c"],
-        &["encode", "a", "b", "c", "--rows", "1"],
-        &["encode", "a", "b", "c", "--group-rows"],
-        &["encode", "a", "b", "c", "--group-rows", "many"],
-        &["encode", "a", "b", "c", "--group-rows", "-1"],
-        &["encode", "a", "b", "c", "--group-rows", "4294967296"],
-        &["encode", "a", "b", "c", "--page-rows", "1.5"],
-        &["encode", "a", "b", "c", "--page-version", "256"],
-        &["encode", "a", "b", "c", "--style", "Plain"],
-        &["encode", "a", "b", "c", "--style", ""],
-        &[
-            "encode",
-            "a",
-            "b",
-            "c",
-            "--page-rows",
-            "1",
-            "--page-rows",
-            "1",
-        ],
-        &["--style", "plain", "encode", "a", "b", "c"],
-    ];
-    for words in calls {
-        let said = answer_to(&rt, words)?;
-        assert_eq!(rt; (said.status, said.out.len()), (2, 0), "{words:?}");
-        assert!(rt; !said.err.is_empty(), "{words:?}");
+    for text in NO_CALLS {
+        let said = answer_to_text(&rt, text)?;
+        assert!(rt;
+            said.status == 2 && said.out.is_empty() && !said.err.is_empty(),
+            "{text}"
+        );
     }
     Ok(())
 }
@@ -113,166 +244,9 @@ fn the_help_of_encode_names_its_refusals_and_an_example(rt: HostRuntime) -> Resu
         "24 Exists",
         "29 Script",
         "./pqds encode sample/two_rows.schema.json sample/two_rows.jsonl two_rows.parquet",
-        SCHEMA,
+        r#"[{"name":"x","rep":"required","type":"int64"}]"#,
     ] {
         assert!(rt; text.contains(wanted), "{wanted}");
-    }
-    Ok(())
-}
-
-#[test]
-fn a_file_is_made_of_the_lines_of_rows(rt: HostRuntime) -> Result<(), Fail> {
-    let table: [(&str, &[u8]); 6] = [
-        (ROWS, &MADE),
-        ("{\"x\":1}\n{\"x\":300}", &MADE),
-        (" { \"x\" : 1 } \r\n{\"x\":300}\r\n", &MADE),
-        ("{\"x\":\n1}", b""),
-        ("", &NO_ROWS),
-        ("{\"x\":1}{\"x\":300}", b""),
-    ];
-    for (rows, file) in table {
-        let files = [Some(SCHEMA.as_bytes()), Some(rows.as_bytes()), None];
-        let (said, made) = encoded(&rt, "lines", files, &[])?;
-        let err: &str = if file.is_empty() {
-            "refused 29 Script\n"
-        } else {
-            ""
-        };
-        assert_eq!(rt; std::str::from_utf8(said.err.as_slice())?, err);
-        assert_eq!(rt;
-            (said.status, said.out.len()),
-            (u8::from(file.is_empty()), 0)
-        );
-        let made = made.as_ref().map_or(b"".as_slice(), |made| made.as_slice());
-        assert_eq!(rt; made, file);
-    }
-    Ok(())
-}
-
-#[test]
-fn what_was_encoded_is_decoded_again(rt: HostRuntime) -> Result<(), Fail> {
-    let schema = "[{\"name\":\"n\",\"rep\":\"required\",\"type\":\"int32\",\"note\":\"uint_32\"},\
-        {\"name\":\"t\",\"rep\":\"required\",\"type\":\"bytes\",\"note\":\"utf8\"},\
-        {\"name\":\"f\",\"rep\":\"required\",\"type\":\"fixed\",\"length\":2},\
-        {\"name\":\"b\",\"rep\":\"required\",\"type\":\"boolean\"}]";
-    let rows = "{\"b\":true,\"f\":\"00ff\",\"n\":4294967295,\"t\":\"é\"}\n\
-        {\"b\":false,\"f\":\"6162\",\"n\":0,\"t\":\"\"}\n";
-    put(&rt, "again.schema.json", Some(schema.as_bytes()));
-    put(&rt, "again.jsonl", Some(rows.as_bytes()));
-    put(&rt, "again.parquet", None);
-    let words = [
-        "encode",
-        "again.schema.json",
-        "again.jsonl",
-        "again.parquet",
-    ];
-    let said = answer_to(&rt, &words)?;
-    assert_eq!(rt; (said.status, said.out.len(), said.err.len()), (0, 0, 0));
-    let said = answer_to(&rt, &["decode", "again.parquet"])?;
-    for path in ["again.schema.json", "again.jsonl", "again.parquet"] {
-        put(&rt, path, None);
-    }
-    assert_eq!(rt; std::str::from_utf8(said.out.as_slice())?, rows);
-    Ok(())
-}
-
-#[test]
-fn the_first_fault_is_told_and_nothing_is_made(rt: HostRuntime) -> Result<(), Fail> {
-    let optional = "[{\"name\":\"x\",\"rep\":\"optional\",\"type\":\"int64\"}]";
-    let doubled = "[{\"name\":\"x\",\"rep\":\"required\",\"type\":\"int64\"},\
-        {\"name\":\"x\",\"rep\":\"required\",\"type\":\"int64\"}]";
-    let table: [(Option<&[u8]>, Option<&[u8]>, &str); 13] = [
-        (None, Some(b"\xFF"), "refused 25 Device\n"),
-        (Some(b"\xFF"), None, "refused 29 Script\n"),
-        (Some(b"no schema"), None, "refused 25 Device\n"),
-        (Some(b"[]"), Some(b"\xFF"), "refused 29 Script\n"),
-        (Some(b"[]"), Some(b"no row"), "refused 4 Schema\n"),
-        (Some(doubled.as_bytes()), Some(b""), "refused 4 Schema\n"),
-        (Some(b"no schema"), Some(b"{}"), "refused 29 Script\n"),
-        (
-            Some(SCHEMA.as_bytes()),
-            Some(b"{\"x\":1}\n{\"y\":2}\nno row"),
-            "refused 14 RowShape\n",
-        ),
-        (
-            Some(SCHEMA.as_bytes()),
-            Some(b"{\"x\":1}\nno row\n{\"y\":2}"),
-            "refused 29 Script\n",
-        ),
-        (
-            Some(SCHEMA.as_bytes()),
-            Some(b"{\"x\":1}\n\n{\"x\":300}"),
-            "refused 29 Script\n",
-        ),
-        (Some(SCHEMA.as_bytes()), Some(b"\n"), "refused 29 Script\n"),
-        (
-            Some(optional.as_bytes()),
-            Some(b"{\"y\":1}"),
-            "refused 14 RowShape\n",
-        ),
-        (
-            Some(optional.as_bytes()),
-            Some(b"{\"x\":1}"),
-            "refused 13 Limit\n",
-        ),
-    ];
-    for (schema, rows, err) in table {
-        // A file at OUT is found last, and is left.
-        for out in [None, Some(THERE)] {
-            let (said, made) = encoded(&rt, "faults", [schema, rows, out], &[])?;
-            assert_eq!(rt; (said.status, said.out.len()), (1, 0));
-            assert_eq!(rt; std::str::from_utf8(said.err.as_slice())?, err);
-            assert_eq!(rt; made.as_ref().map(|made| made.as_slice()), out);
-            assert!(rt; at(&rt, "faults.parquet.new-0").is_none());
-        }
-    }
-    Ok(())
-}
-
-#[test]
-fn a_file_that_is_there_is_left(rt: HostRuntime) -> Result<(), Fail> {
-    let files = [Some(SCHEMA.as_bytes()), Some(ROWS.as_bytes()), Some(THERE)];
-    let (said, made) = encoded(&rt, "there", files, &[])?;
-    assert_eq!(rt; (said.status, said.out.len()), (1, 0));
-    assert_eq!(rt; said.err.as_slice(), b"refused 24 Exists\n".as_slice());
-    assert_eq!(rt; made.as_ref().map(|made| made.as_slice()), Some(THERE));
-    Ok(())
-}
-
-#[test]
-fn options_are_limits_of_what_is_written(rt: HostRuntime) -> Result<(), Fail> {
-    let table: [(&[&str], &str); 15] = [
-        (&["--group-rows", "2", "--page-rows", "2"], ""),
-        (&["--group-rows=1048576", "--page-rows=4294967295"], ""),
-        (&["--page-version", "1", "--style", "plain"], ""),
-        (&["--group-rows", "0"], "refused 13 Limit\n"),
-        (&["--group-rows", "1048577"], "refused 13 Limit\n"),
-        (&["--page-rows", "0"], "refused 13 Limit\n"),
-        (&["--page-version", "0"], "refused 13 Limit\n"),
-        (&["--page-version", "3"], "refused 13 Limit\n"),
-        // Not written yet.
-        (&["--page-version", "2"], "refused 13 Limit\n"),
-        (&["--group-rows", "1"], "refused 13 Limit\n"),
-        (&["--page-rows", "1"], "refused 13 Limit\n"),
-        (&["--style", "dictionary"], "refused 13 Limit\n"),
-        (&["--style", "delta"], "refused 13 Limit\n"),
-        (&["--style", "lengths"], "refused 13 Limit\n"),
-        (&[], ""),
-    ];
-    for (options, err) in table {
-        let files = [Some(SCHEMA.as_bytes()), Some(ROWS.as_bytes()), None];
-        let (said, made) = encoded(&rt, "options", files, options)?;
-        assert_eq!(rt;
-            std::str::from_utf8(said.err.as_slice())?,
-            err,
-            "{options:?}"
-        );
-        let wanted = if err.is_empty() {
-            Some(MADE.as_slice())
-        } else {
-            None
-        };
-        assert_eq!(rt; made.as_ref().map(|made| made.as_slice()), wanted);
     }
     Ok(())
 }

@@ -1,13 +1,11 @@
 //! Texts to files.
 
-ghost use Rattle.std.specs.Prelude.{◌≡◌, ℕ, List, Err, IfOk, OnOk};
+ghost use Rattle.std.specs.Prelude.{ℕ, List, IfOk, IfErr, OnOk};
 ghost use Rattle.std.specs.Str.Lines.{lines};
 ghost use Rattle.bits.specs.Refusals.{RefusedOnly};
-ghost use Rattle.bits.specs.declared.refusal.Refusal.TheVariants.{RowShape};
-ghost use Rattle.schema.specs.Shape.{Fields};
 ghost use Rattle.schema.specs.Fits.{RowsFit};
 ghost use Rattle.schema.specs.Views.{rows_view};
-ghost use Rattle.pqds.specs.Program.{IsSchemaText, IsRefusedLine, AddsRow, AreRowTexts, HasFirstFault, IsFileOf, IsOfTexts, IsOfFiles};
+ghost use Rattle.pqds.specs.Program.{IsRefusedLine, AddsRow, AreRowTexts, HasFirstFault, IsFileOf, AreRefusedTexts, AreRefusedFiles};
 
 use crate::host::{put_new, text_of};
 use crate::jsonrows::row_from;
@@ -61,8 +59,7 @@ pub fn encoded(
     options: &WriteOptions,
 ) -> R<Vec<u8>>
     ensures stands { IfOk result (λ file. IsFileOf schema_text.now rows_text.now file.items) }
-    ensures shape { result ≡ Err RowShape → (fs : Fields) × IsSchemaText schema_text.now fs × HasFirstFault fs (lines rows_text.now) RowShape }
-    ensures which { RefusedOnly IsOfTexts result }
+    ensures which { IfErr result (AreRefusedTexts options.now schema_text.now rows_text.now) }
 {
     let schema = schema_from(alloc, schema_text)?;
     let rows = rows_from(alloc, &schema, rows_text)?;
@@ -74,7 +71,7 @@ pub fn encoded(
 /// the texts, or as `put_new` refuses the path; then no file is made.
 pub fn encode<F: Files>(rt: &F, alloc: Global, sources: &Sources<'_>, path: &str) -> R<()>
     ensures made { OnOk result ((schema_text : List ℕ) × (rows_text : List ℕ) × (bytes : List ℕ) × IsFileOf schema_text rows_text bytes) }
-    ensures which { RefusedOnly IsOfFiles result }
+    ensures which { RefusedOnly (AreRefusedFiles sources.now.options) result }
 {
     let schema_text = text_of(rt, alloc, sources.schema)?;
     let rows_text = text_of(rt, alloc, sources.rows)?;

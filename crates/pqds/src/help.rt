@@ -43,7 +43,8 @@ The file is refused, with status 1 and one line on standard error, by one of the
     11 Value       bytes that are no value in their encoding
     12 Utf8        text that is not UTF-8
     13 Limit       the file goes beyond a limit, or holds what is not read yet: more than one row group or page
-                   to a chunk, dictionaries, optional, repeated or nested columns, other encodings than PLAIN
+                   to a chunk, pages of version 2, dictionaries, optional, repeated or nested columns, other
+                   encodings than PLAIN
     25 Device      the file cannot be read, or standard output not be written
     28 Memory      there was no memory left
 
@@ -66,16 +67,21 @@ SCHEMA is a file with a JSON array of the columns, each an object:
     name       the column's name
     rep        required, optional or repeated
     type       boolean, int32, int64, bytes, or fixed with its length in bytes as length
-    note       where it is there: what the values are, such as utf8 (text), date, uint_32 or decimal, which has a
-               precision and a scale beside it
+    note       where it is there: what the values are. Of bytes utf8 (text), enum, json, bson; of numbers int_8,
+               int_16, int_32, int_64, uint_8, uint_16, uint_32, uint_64, date, time_millis, time_micros,
+               timestamp_millis, timestamp_micros; interval; decimal, with a precision and a scale beside it; of
+               a group list, map or map_key_value. Or other, with the number of another ConvertedType as
+               converted, or the hexadecimal digits of the struct of a LogicalType as logical
     fields     in place of type: the columns of a group
 
 ROWS is a file with a line of JSON for each row, as decode prints them: an object with a value for each column by
 its name, text where the column is text, and other bytes as hexadecimal digits in lower case. The last line needs
 no line feed; an empty line is no row, and is refused.
 
-OUT is a new file. It appears whole, or not at all, and no file is ever replaced. Both other files are read whole
-first, and nothing is made where anything is refused. Standard output has nothing.
+OUT is a new file, and no file is ever replaced. It appears whole, or not at all: it is made under another name and
+then called OUT. Only where the file system has no links is it made under its own name from the start, and a stop of
+the machine may leave a part of it there. Both other files are read whole first, and nothing is made where anything
+is refused. Standard output has nothing.
 
 Today every column is required and none has fields, and all rows stand in one page, so that N must be at least as
 many as there are rows, both for --group-rows and --page-rows.";

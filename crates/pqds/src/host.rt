@@ -1,6 +1,6 @@
 //! Files of the host, read whole or made whole.
 
-ghost use Rattle.std.specs.Prelude.{◌≡◌, ◌⊎◌, ◌↔◌, OnOk};
+ghost use Rattle.std.specs.Prelude.{◌≡◌, ◌⊎◌, ◌↔◌, ◌≤◌, OnOk};
 ghost use Rattle.std.specs.IoError.{error_kind};
 ghost use Rattle.std.specs.Io.KnownBytes.{Appends};
 ghost use Rattle.bits.specs.Refusals.{RefusedOnly};
@@ -40,13 +40,24 @@ fn refusal_of_new(error: io::Error) -> Refusal
     }
 }
 
+/// How much room to ask for before a file is read: for the bytes that it has, but no more than are read,
+/// and for one more, so that its end is seen without growth. None where its length is not known.
+fn room_for<O: OpenFile>(file: &O) -> usize
+    ensures limit { result ≤ 2147483649 }
+{
+    match file.metadata() {
+        Ok(metadata) => metadata.len().min(MORE_THAN_A_FILE) as usize + 1,
+        Err(_) => 0,
+    }
+}
+
 /// The bytes of a file of the host, but no more than are needed to see that it is too long. Refused
-/// Device where it cannot be read.
+/// Device where it cannot be read. Room for as many bytes as it is said to have is asked for at once.
 pub fn bytes_of<F: Files>(rt: &F, alloc: Global, path: &str) -> R<Vec<u8>>
     ensures which { RefusedOnly (λ e. e ≡ Device) result }
 {
     let file = File::open(rt, path).map_err(refusal_of)?;
-    let mut bytes = Vec::new(alloc);
+    let mut bytes = Vec::with_capacity(alloc, room_for(&file))?;
     let mut front = file.take(MORE_THAN_A_FILE);
     front.read_to_end(&mut bytes).map_err(refusal_of)?;
     Ok(bytes)
@@ -110,7 +121,7 @@ fn give_name<F: Files>(rt: &F, beside: &str, path: &str, bytes: &[u8]) -> io::Re
 
 /// Makes a new file of these bytes. It is written and synced under a name of its own beside it, `PATH.new-N`,
 /// and only then called `path`: nothing that is there is replaced, and a stop leaves all of the file, or
-/// none of it, at `path` (a host without links aside). The name of its own is taken away in any case.
+/// none of it, at `path` (a host without links aside). The name of its own is taken away, where the host lets it.
 ///
 /// Refused Exists where something is at `path`, and Device where no file can be made there; then none is.
 pub fn put_new<F: Files>(rt: &F, alloc: Global, path: &str, bytes: &[u8]) -> R<()>

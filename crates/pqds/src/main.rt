@@ -13,8 +13,6 @@ mod host;
 #[cfg(test)]
 mod host_tests;
 #[cfg(test)]
-mod json_reading_tests;
-#[cfg(test)]
 mod json_tests;
 mod jsonrows;
 mod lines;

@@ -1,13 +1,15 @@
 //! Schemas from JSON text.
 
-ghost use Rattle.std.specs.Prelude.{◌≡◌, ◌∷◌, [], ℕ, pos, nat_abs, ◌≤ℤ◌, List, length, map, Some, option_map, IfOk};
-ghost use Rattle.bits.specs.Refusals.{RefusedOnly};
+ghost use Rattle.std.specs.Prelude.{◌≡◌, ◌∷◌, [], pos, nat_abs, ◌≤ℤ◌, List, length, map, option_map, IfOk, IfErr};
+ghost use Rattle.bits.specs.Refusals.{OnFault, RefusedOnly};
+ghost use Rattle.bits.specs.declared.refusal.Refusal.TheVariants.{Script};
+ghost use Rattle.thrift_compact.specs.Tree.{Fields as Struct};
 ghost use Rattle.thrift_compact.specs.Compact.{IsThrift};
 ghost use Rattle.thrift_compact.specs.View.{tree_view};
 ghost use Rattle.serde_json.specs.View.{view, items_view};
+ghost use Rattle.schema.specs.Shape.{Fields};
 ghost use Rattle.schema.specs.Elements.{Element as Listed, element_view, elements_view};
-ghost use Rattle.schema.specs.Listing.{IsSchemaOf};
-ghost use Rattle.pqds.specs.SchemaReading.{IsOfSchemaText, Said as WhatIsSaid, has_only, length_of, numbers_of, leaf_said, said_of_group, group_said, field_said, fields_said, said_below, all_said, said_in, IsElementOf, AreElementsOf};
+ghost use Rattle.pqds.specs.SchemaReading.{has_only, length_of, numbers_of, leaf_said, said_of_group, group_said, field_said, fields_said, said_below, all_said, IsElementOf, AreElementsOf, IsSchemaText, IsRefusedSchema};
 ghost use Rattle.pqds.specs.SchemaViews.{said_view, saids, Says};
 
 use crate::jsonrows::json_of;
@@ -18,7 +20,7 @@ use bits::{R, Refusal};
 use schema::{Element, Schema};
 use serde_json::Value as Json;
 use std::alloc::{AllocError, Global};
-use thrift_compact::{Tree, read_struct};
+use thrift_compact::{Tree, one_struct, read_struct};
 
 /// How deep fields may nest in a text: deeper than the JSON reader goes, and than a schema may.
 const DEEPEST: u32 = 64;
@@ -270,8 +272,10 @@ fn say_fields(
 /// The struct that bytes are. Refused Script where they are none, or not all of them are one.
 fn struct_of(alloc: Global, bytes: &[u8]) -> R<Tree>
     ensures stands { IfOk result (λ t. IsThrift bytes.now (tree_view t) (length bytes.now)) }
-    ensures which { RefusedOnly IsOfSchemaText result }
+    ensures only { OnFault result ((t : Struct) → IsThrift bytes.now t (length bytes.now) → ⊥) }
+    ensures which { RefusedOnly (λ e. e ≡ Script) result }
 {
+    one_struct();
     match read_struct(alloc, bytes) {
         Ok((tree, used)) => {
             if used == bytes.len() {
@@ -288,7 +292,8 @@ fn struct_of(alloc: Global, bytes: &[u8]) -> R<Tree>
 /// The element of what an object says. Refused Script where the bytes of its logicalType are no struct.
 fn element_of(alloc: Global, said: Said) -> R<Element>
     ensures stands { IfOk result (λ e. IsElementOf (said_view said) (element_view e)) }
-    ensures which { RefusedOnly IsOfSchemaText result }
+    ensures only { OnFault result ((e : Listed) → IsElementOf (said_view said) e → ⊥) }
+    ensures which { RefusedOnly (λ e. e ≡ Script) result }
 {
     let Said { element, logical } = said;
     let logical_type = match logical {
@@ -301,10 +306,11 @@ fn element_of(alloc: Global, said: Said) -> R<Element>
     })
 }
 
-/// The elements of what objects say.
+/// The elements of what objects say. Refused Script where one of them says no element.
 fn elements_of(alloc: Global, all: Vec<Said>) -> R<Vec<Element>>
     ensures stands { IfOk result (λ es. AreElementsOf (saids all.items) (elements_view es.items)) }
-    ensures which { RefusedOnly IsOfSchemaText result }
+    ensures only { OnFault result ((es : List Listed) → AreElementsOf (saids all.items) es → ⊥) }
+    ensures which { RefusedOnly (λ e. e ≡ Script) result }
 {
     let mut elements = Vec::with_capacity(alloc, all.len())?;
     for said in all {
@@ -345,9 +351,11 @@ fn all_said(alloc: Global, json: &Json) -> Result<Option<Vec<Said>>, AllocError>
 /// Refused Script where the text is no JSON, or not of this form; Schema, Float, Int96 and Limit as
 /// `Schema::new` does of the elements. The time is that of `Schema::new`, and linear in the text.
 pub fn schema_from(alloc: Global, text: &str) -> R<Schema>
-    ensures stands { IfOk result (λ fs. (said : List WhatIsSaid) × (es : List Listed) × (said_in text.now ≡ Some said) × AreElementsOf said es × IsSchemaOf es fs) }
-    ensures which { RefusedOnly IsOfSchemaText result }
+    ensures stands { IfOk result (IsSchemaText text.now) }
+    ensures only { OnFault result ((fs : Fields) → IsSchemaText text.now fs → ⊥) }
+    ensures which { IfErr result (IsRefusedSchema text.now) }
 {
+    one_struct();
     let json = json_of(alloc, text)?;
     let Some(all) = all_said(alloc, &json)? else {
         return Err(Refusal::Script);

@@ -1,14 +1,14 @@
 -- A chunk that is written: its pages, and its record.
-use Rattle.std.proofs.Common.{◌≡◌, ℕ, ◌-◌, ◌<◌, List, [], ◌∷◌, ◌++◌, length, drop, Some, None, refl, sym, ap, subst, ◌∙◌, arith, append_assoc}
+use Rattle.std.proofs.Common.{◌≡◌, ℕ, ◌-◌, ◌<◌, List, [], ◌∷◌, ◌++◌, length, Some, None, refl, sym, ap, ◌∙◌, arith}
 use Rattle.std.specs.Prelude.{pos}
-use Rattle.std.proofs.lemmas.List.{append-nil, length-append, drop_at}
+use Rattle.std.proofs.lemmas.List.{append-nil, length-append}
 use Rattle.bits.specs.Codec.{Appends}
 use Rattle.schema.specs.Stripe.{Leaf, Entry}
 use Rattle.metadata.specs.Records.{ColumnMeta}
 use Rattle.pages.specs.Page.{entries}
 use Rattle.pages.specs.Chunk.{IsChunk}
 use Rattle.pages.specs.Writing.{page_weight, StandsAsPage}
-use Rattle.row_group.specs.Chunks.{IsChunkOf, ColumnMeans}
+use Rattle.row_group.specs.Chunks.{IsChunkOf}
 use Rattle.row_group.specs.Writing.{IsOwn, AppendsChunk}
 use Rattle.row_group.proofs.OnePage.{one_page, no_page}
 
@@ -45,22 +45,6 @@ pub record Says (m : ColumnMeta) (leaf : Leaf) (start bytes many : ℕ) : Type 0
   pub plain_size : m.total_uncompressed_size ≡ Some (pos bytes)
   pub own : IsOwn m
 
-means_there : (m : ColumnMeta) (leaf : Leaf) (old new : List ℕ) (es : List Entry) (size : ℕ) → Says m leaf (length old) size (length es) → (p : Appends (StandsAsChunk leaf es) (page_weight es) old new)
-    → (more : List ℕ) → ColumnMeans (new ++ more) m leaf es
-means_there m leaf old new es size s p more =
-    let whole : new ++ more ≡ old ++ (p.text ++ more) = ap (λ (t : List ℕ). t ++ more) p.joined ∙ append_assoc old p.text more in
-    let behind : drop (length old) (new ++ more) ≡ p.text ++ more = ap (λ (t : List ℕ). drop (length old) t) whole ∙ drop_at old (p.text ++ more) (length old) refl in
-    record {
-      start = length old;
-      used = length p.text;
-      starts = record { page = length old; data_page = s.place; begins = rw s.own.dictionary refl };
-      means = record {
-        is = s.is;
-        count = s.count;
-        held = subst (λ (t : List ℕ). IsChunk leaf t (length es) es (length p.text)) (sym behind) (p.stands more);
-      };
-    }
-
 pub chunk_written : (m : ColumnMeta) (leaf : Leaf) (old new : List ℕ) (es : List Entry) (size : ℕ) → size ≡ length new - length old → Says m leaf (length old) size (length es)
     → Appends (StandsAsChunk leaf es) (page_weight es) old new → AppendsChunk leaf old new m es
 chunk_written m leaf old new es size filled s p =
@@ -68,7 +52,8 @@ chunk_written m leaf old new es size filled s p =
     record {
       text = p.text;
       joined = p.joined;
-      means = means_there m leaf old new es size s p;
+      starts = record { page = length old; data_page = s.place; begins = rw s.own.dictionary refl };
+      fills = λ more. record { is = s.is; count = s.count; held = p.stands more };
       size = s.size ∙ ap (λ (n : ℕ). Some (pos n)) same;
       plain_size = s.plain_size ∙ ap (λ (n : ℕ). Some (pos n)) same;
       own = s.own;

@@ -1,9 +1,9 @@
 -- Chunks that are written one behind the other.
-use Rattle.std.proofs.Common.{◌≡◌, ℕ, zero, suc, ◌+◌, ◌-◌, ◌<◌, ◌≤◌, List, [], ◌∷◌, ◌++◌, map, length, get_or, take, Some, refl, sym, ap, subst, ◌∙◌, arith, append_assoc}
+use Rattle.std.proofs.Common.{◌≡◌, ℕ, zero, suc, ◌+◌, ◌-◌, ◌<◌, ◌≤◌, List, [], ◌∷◌, ◌++◌, map, length, get_or, take, Some, refl, sym, ap, subst, ◌∙◌, arith}
 use Rattle.std.specs.Prelude.{pos, ◌<ℤ◌, sum_by}
 use Rattle.std.specs.List.{Any, AllByRecursion}
-use Rattle.std.proofs.lemmas.List.{append-nil, length-append, map-append, take_more}
-use Rattle.std.proofs.lemmas.List.Sums.{sum_by-append}
+use Rattle.std.proofs.lemmas.List.{map-append, take_more}
+use Rattle.std.proofs.lemmas.List.Sums.{sum_by-cons}
 use Rattle.schema.specs.Values.{ValueTrees}
 use Rattle.schema.specs.Shape.{Fields}
 use Rattle.schema.specs.Fits.{RowsFit}
@@ -14,24 +14,12 @@ use Rattle.plain.specs.Plain.{IsTooLong}
 use Rattle.pages.specs.Page.{values}
 use Rattle.pages.specs.Writing.{page_weight, AreShort, IsPageTooMuch}
 use Rattle.row_group.specs.declared.limits.TheConstants.{MOST_ENTRIES_OF_CHUNK}
-use Rattle.row_group.specs.Chunks.{ColumnMeans, AreChunks}
-use Rattle.row_group.specs.Writing.{IsOwnChunk, AppendsChunk, AppendsGroup, IsChunkTooMuch, IsGroupTooMuch}
+use Rattle.row_group.specs.Writing.{IsOwnChunk, AppendsChunk, AppendsEach, AppendsGroup, IsChunkTooMuch, IsGroupTooMuch}
 use Rattle.row_group.specs.Columns.{column_of, AppendsChunks}
 use Rattle.row_group.proofs.Places.{any_here}
+use Rattle.row_group.proofs.Laid.{each_short, each_more}
 
 -- ---- one chunk more
-
-are_chunks_more : (front : List ℕ) (cs : List ChunkMeta) (leaves : List Leaf) (cols : List (List Entry)) (c : ChunkMeta) (leaf : Leaf) (es : List Entry) → AreChunks front cs leaves cols → ColumnMeans front c.meta_data leaf es
-    → AreChunks front (cs ++ c ∷ []) (leaves ++ leaf ∷ []) (cols ++ es ∷ [])
-are_chunks_more front [] [] [] c leaf es h m = (m, tt)
-are_chunks_more front [] [] (d ∷ cols) c leaf es h m = absurd h
-are_chunks_more front [] (l ∷ ls) cols c leaf es h m = absurd h
-are_chunks_more front (x ∷ cs) [] cols c leaf es h m = absurd h
-are_chunks_more front (x ∷ cs) (l ∷ ls) [] c leaf es h m = absurd h
-are_chunks_more front (x ∷ cs) (l ∷ ls) (d ∷ cols) c leaf es h m = (h.0, are_chunks_more front cs ls cols c leaf es h.1 m)
-
-pub no_chunks : (rows : List ValueTrees) (old : List ℕ) → AppendsChunks [] rows old old []
-no_chunks rows old = record { text = []; joined = sym (append-nil old); means = λ more. tt; own = tt; short = omega arith; few = tt; values_short = tt }
 
 -- what is said of the columns of some leaves and of one more
 columns_more : (rows : List ValueTrees) (leaves : List Leaf) (leaf : Leaf) → map (column_of rows) (leaves ++ leaf ∷ []) ≡ map (column_of rows) leaves ++ column_of rows leaf ∷ []
@@ -44,24 +32,12 @@ all_more P rows leaves leaf h p =
 pub chunk_more : (leaves : List Leaf) (leaf : Leaf) (rows : List ValueTrees) (old mid new : List ℕ) (cs : List ChunkMeta) (c : ChunkMeta) → IsOwnChunk c
     → AreShort (column_of rows leaf) → (MOST_ENTRIES_OF_CHUNK <ℤ pos (length (column_of rows leaf)) → ⊥)
     → AppendsChunk leaf mid new c.meta_data (column_of rows leaf) → AppendsChunks leaves rows old mid cs → AppendsChunks (leaves ++ leaf ∷ []) rows old new (cs ++ c ∷ [])
-chunk_more leaves leaf rows old mid new cs c own short few p q =
-    let es = column_of rows leaf in
-    let cols = map (column_of rows) leaves in
-    let weights : sum_by page_weight (cols ++ es ∷ []) ≡ sum_by page_weight cols + sum_by page_weight (es ∷ []) = sum_by-append page_weight cols (es ∷ []) in
-    let size : length (q.text ++ p.text) ≡ length q.text + length p.text = length-append q.text p.text in
-    let same = ap (sum_by page_weight) (columns_more rows leaves leaf) in
-    record {
-      text = q.text ++ p.text;
-      joined = p.joined ∙ ap (λ (t : List ℕ). t ++ p.text) q.joined ∙ append_assoc old q.text p.text;
-      means = λ more.
-          let behind : mid ++ (p.text ++ more) ≡ new ++ more = sym (append_assoc mid p.text more) ∙ ap (λ (t : List ℕ). t ++ more) (sym p.joined) in
-          let before = subst (λ (t : List ℕ). AreChunks t cs leaves cols) behind (q.means (p.text ++ more)) in
-          subst (AreChunks (new ++ more) (cs ++ c ∷ []) (leaves ++ leaf ∷ [])) (sym (columns_more rows leaves leaf)) (are_chunks_more (new ++ more) cs leaves cols c leaf es before (p.means more));
-      own = all_joined IsOwnChunk cs (c ∷ []) q.own (own, tt);
-      short = let a = q.short in let b = p.short in omega (arith, a, b, size, weights, same);
-      few = all_more (λ es. MOST_ENTRIES_OF_CHUNK <ℤ pos (length es) → ⊥) rows leaves leaf q.few few;
-      values_short = all_more AreShort rows leaves leaf q.values_short short;
-    }
+chunk_more leaves leaf rows old mid new cs c own short few p q = record {
+  each = subst (λ (cols : List (List Entry)). AppendsEach (leaves ++ leaf ∷ []) cols old new (cs ++ c ∷ [])) (sym (columns_more rows leaves leaf))
+      (each_more leaves (map (column_of rows) leaves) old mid new cs leaf (column_of rows leaf) c q.each p own);
+  few = all_more (λ es. MOST_ENTRIES_OF_CHUNK <ℤ pos (length es) → ⊥) rows leaves leaf q.few few;
+  values_short = all_more AreShort rows leaves leaf q.values_short short;
+}
 
 -- the same, at a place of the leaves
 pub chunk_more_at : (leaves : List Leaf) (i : ℕ) (leaf : Leaf) (rows : List ValueTrees) (old mid new : List ℕ) (cs : List ChunkMeta) (c : ChunkMeta) → i < length leaves → leaf ≡ get_or leaves i leaf → IsOwnChunk c
@@ -73,17 +49,14 @@ chunk_more_at leaves i leaf rows old mid new cs c lt e own short few p q =
 
 -- ---- why a chunk is too much is why its group is
 
-sum_first : {A : Type 0} (w : A → ℕ) (x : A) (xs : List A) → sum_by w (x ∷ xs) ≡ w x + sum_by w xs
-sum_first w x xs = let e = sum_by-append w (x ∷ []) xs in omega (arith, e)
-
 weights_before : {A : Type 0} (w : A → ℕ) (xs : List A) (i : ℕ) (x : A) → i < length xs → x ≡ get_or xs i x → sum_by w (take i xs) + w x ≤ sum_by w xs
 weights_before w [] i x lt e = absurd (omega (arith, lt))
-weights_before {A} w (y ∷ ys) zero x lt e = let same : w x ≡ w y = ap w e in omega (arith, same, sum_first w y ys)
-weights_before w (y ∷ ys) (suc i) x lt e = let h = weights_before w ys i x (omega (arith, lt)) e in omega (arith, h, sum_first w y ys, sum_first w y (take i ys))
+weights_before {A} w (y ∷ ys) zero x lt e = let same : w x ≡ w y = ap w e in omega (arith, same, sum_by-cons w y ys)
+weights_before w (y ∷ ys) (suc i) x lt e = let h = weights_before w ys i x (omega (arith, lt)) e in omega (arith, h, sum_by-cons w y ys, sum_by-cons w y (take i ys))
 
 sum_of_map : {A B : Type 0} (w : B → ℕ) (f : A → B) (xs : List A) → sum_by w (map f xs) ≡ sum_by (λ x. w (f x)) xs
 sum_of_map w f [] = refl
-sum_of_map w f (x ∷ xs) = omega (arith, sum_first w (f x) (map f xs), sum_first (λ y. w (f y)) x xs, sum_of_map w f xs)
+sum_of_map w f (x ∷ xs) = omega (arith, sum_by-cons w (f x) (map f xs), sum_by-cons (λ y. w (f y)) x xs, sum_of_map w f xs)
 
 weights_up_to : (rows : List ValueTrees) (leaves : List Leaf) (i : ℕ) (leaf : Leaf) → i < length leaves → leaf ≡ get_or leaves i leaf
     → sum_by page_weight (map (column_of rows) (take i leaves)) + page_weight (column_of rows leaf) ≤ sum_by page_weight (map (column_of rows) leaves)
@@ -101,20 +74,11 @@ too_much fs rows i leaf old mid cs lt e so_far (IsChunkTooMuch.large_page (IsPag
     IsGroupTooMuch.heavy (let w = weights_up_to rows (leaves_of fs) i leaf lt e in omega (arith, w, heavy))
 too_much fs rows i leaf old mid cs lt e so_far (IsChunkTooMuch.far_behind far) =
     IsGroupTooMuch.heavy (let w = weights_up_to rows (leaves_of fs) i leaf lt e in
-    let s = so_far.short in
-    omega (arith, w, far, s, ap length so_far.joined, length-append old so_far.text))
+    let s = each_short (take i (leaves_of fs)) (map (column_of rows) (take i (leaves_of fs))) old mid cs so_far.each in
+    omega (arith, w, far, s))
 
 -- ---- the group
 
 pub group_written : (fs : Fields) (rows : List ValueTrees) (old new : List ℕ) (g : GroupMeta) (size : ℕ) → RowsFit fs rows → size ≡ length new - length old
     → g.num_rows ≡ pos (length rows) → g.total_byte_size ≡ Some (pos size) → AppendsChunks (leaves_of fs) rows old new g.columns → AppendsGroup fs old new g rows
-group_written fs rows old new g size fit filled count says p =
-    let same : size ≡ length p.text = omega (arith, filled, ap length p.joined, length-append old p.text) in
-    record {
-      text = p.text;
-      joined = p.joined;
-      means = λ more. record { count = count; fit = fit; chunks = p.means more };
-      own = p.own;
-      size = says ∙ ap (λ (n : ℕ). Some (pos n)) same;
-      short = p.short;
-    }
+group_written fs rows old new g size fit filled count says p = record { count = count; fit = fit; chunks = p.each; size = says ∙ ap (λ (n : ℕ). Some (pos n)) filled }

@@ -17,7 +17,7 @@ use Rattle.row_group.specs.Chunks.{AreChunks}
 use Rattle.row_group.specs.Moving.{IsLeafRead, HasCount, value_of, before_each, rows_of}
 use Rattle.row_group.specs.Columns.{way_at}
 use Rattle.row_group.proofs.OnePage.{entries_are_of_leaf}
-use Rattle.row_group.proofs.Filling.{length-rows_of}
+use Rattle.row_group.proofs.RowsOf.{length-rows_of}
 
 -- each field is a REQUIRED leaf
 abbrev pub AreFlat : Fields → Type 0

@@ -10,7 +10,7 @@ use Rattle.metadata.specs.Records.{GroupMeta}
 use Rattle.row_group.specs.Chunks.{AreChunks, GroupMeans}
 use Rattle.row_group.specs.Limits.{HasColumn, IsGroupOver, large_chunk, IsGroupToCome, with_dictionary, other_chunk}
 use Rattle.row_group.specs.Moving.{IsLeafRead, IsColumnLimit, HasCount, rows_of}
-use Rattle.row_group.proofs.Filling.{length-rows_of}
+use Rattle.row_group.proofs.RowsOf.{length-rows_of}
 use Rattle.row_group.proofs.Flat.{AreFlat, flat, chunks_are_whole, rows_fit, columns_are, columns_count}
 
 -- the columns are read

@@ -1,14 +1,13 @@
 -- Words of the functions that write the columns of a group one by one.
-use Rattle.std.specs.Prelude.{◌≡◌, ℕ, suc, ◌<◌, ◌<ℤ◌, ◌≤◌, pos, List, [], ◌∷◌, ◌++◌, map, length, sum_by}
+use Rattle.std.specs.Prelude.{◌≡◌, ℕ, suc, ◌<◌, ◌<ℤ◌, pos, List, [], ◌∷◌, map, length}
 use Rattle.std.specs.List.{AllByRecursion}
 use Rattle.schema.specs.declared.value.Repetition.TheVariants.{Required}
 use Rattle.schema.specs.Values.{ValueTrees, no_values, value as item}
 use Rattle.schema.specs.Stripe.{Step, Leaf, Entry, column}
 use Rattle.metadata.specs.Records.{ChunkMeta}
-use Rattle.pages.specs.Writing.{page_weight, AreShort}
+use Rattle.pages.specs.Writing.{AreShort}
 use Rattle.row_group.specs.declared.limits.TheConstants.{MOST_ENTRIES_OF_CHUNK}
-use Rattle.row_group.specs.Chunks.{AreChunks}
-use Rattle.row_group.specs.Writing.{IsOwnChunk}
+use Rattle.row_group.specs.Writing.{AppendsEach}
 
 -- how many values a row has
 abbrev pub width : ValueTrees → ℕ
@@ -35,12 +34,8 @@ pub record IsFieldOf (rows : List ValueTrees) (leaf : Leaf) : Type 0 where
 abbrev pub column_of : List ValueTrees → Leaf → List Entry
 column_of rows leaf = column rows leaf.steps
 
--- the bytes of `new` are those of `old` and the chunks of these leaves' columns, whatever follows them; none of the columns is too much
+-- the bytes of `new` are those of `old` and the chunks of these leaves' columns; none of the columns is too much
 pub record AppendsChunks (leaves : List Leaf) (rows : List ValueTrees) (old new : List ℕ) (chunks : List ChunkMeta) : Type 0 where
-  pub text : List ℕ
-  pub joined : new ≡ old ++ text
-  pub means : (more : List ℕ) → AreChunks (new ++ more) chunks leaves (map (column_of rows) leaves)
-  pub own : AllByRecursion IsOwnChunk chunks
-  pub short : length text ≤ sum_by page_weight (map (column_of rows) leaves)
+  pub each : AppendsEach leaves (map (column_of rows) leaves) old new chunks
   pub few : AllByRecursion (λ es. MOST_ENTRIES_OF_CHUNK <ℤ pos (length es) → ⊥) (map (column_of rows) leaves)
   pub values_short : AllByRecursion AreShort (map (column_of rows) leaves)

@@ -3,3 +3,4 @@ pub mod Limits
 pub mod Moving
 pub mod Writing
 pub mod Columns
+pub mod Left

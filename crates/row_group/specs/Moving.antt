@@ -1,7 +1,12 @@
 -- Words of the functions that read columns one by one, and that move their values into rows.
 use Rattle.std.specs.Prelude.{◌≡◌, ◌<◌, ◌≤◌, ◌⊎◌, ℕ, List, [], ◌∷◌, map, length, replicate, None, unwrap_or}
+use Rattle.std.specs.Vec.Iter.{into_iter_items}
+use Rattle.std.specs.declared.alloc.Global.{Global}
+use Rattle.std.specs.declared.vec.IntoIter.{IntoIter}
+use Rattle.schema.specs.declared.row.Entry.{Entry as CodeEntry}
 use Rattle.schema.specs.Values.{ValueTree, null, ValueTrees, no_values, value as item}
 use Rattle.schema.specs.Stripe.{Leaf, Entry}
+use Rattle.schema.specs.Views.{entry_view}
 use Rattle.metadata.specs.Records.{ColumnMeta}
 use Rattle.pages.specs.Page.{Page, IsPage}
 use Rattle.pages.specs.Chunk.{entries_of}
@@ -35,15 +40,6 @@ HasCount n es = length es ≡ n
 abbrev pub value_of : Entry → ValueTree
 value_of e = unwrap_or e.value null
 
--- a value behind those of a row, and one behind those of each
-abbrev pub behind : ValueTrees → ValueTree → ValueTrees
-behind no_values v = item v no_values
-behind (item w ws) v = item w (behind ws v)
-
-abbrev pub behind_each : List ValueTrees → List ValueTree → List ValueTrees
-behind_each (row ∷ rows) (v ∷ vs) = behind row v ∷ behind_each rows vs
-behind_each _ _ = []
-
 -- a value before those of each row
 abbrev pub before_each : List ValueTree → List ValueTrees → List ValueTrees
 before_each (v ∷ vs) (row ∷ rows) = item v row ∷ before_each vs rows
@@ -53,3 +49,15 @@ before_each _ _ = []
 abbrev pub rows_of : ℕ → List (List Entry) → List ValueTrees
 rows_of n [] = replicate n no_values
 rows_of n (c ∷ cs) = before_each (map value_of c) (rows_of n cs)
+
+-- the entries that are left of a column, and of each
+abbrev pub entries_left : IntoIter CodeEntry Global → List Entry
+entries_left c = map entry_view (into_iter_items c)
+
+abbrev pub columns_left : List (IntoIter CodeEntry Global) → List (List Entry)
+columns_left cs = map entries_left cs
+
+-- the value of a column's first entry, null where there is none
+abbrev pub first_value : List Entry → ValueTree
+first_value [] = null
+first_value (e ∷ es) = value_of e

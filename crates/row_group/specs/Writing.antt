@@ -1,18 +1,18 @@
 -- What a writer of chunks and groups leaves.
-use Rattle.std.specs.Prelude.{◌≡◌, ◌⊎◌, ℕ, ◌+◌, ◌<◌, ◌<ℤ◌, ◌≤◌, pos, List, ◌++◌, length, sum_by, IfSome, None, Some}
+use Rattle.std.specs.Prelude.{◌≡◌, ℕ, ◌+◌, ◌-◌, ◌<◌, ◌<ℤ◌, ◌≤◌, pos, List, [], ◌∷◌, ◌++◌, length, sum_by, IfSome, None, Some}
 use Rattle.std.specs.List.{Any, AllByRecursion}
 use Rattle.bits.specs.declared.refusal.Refusal.{Refusal}
 use Rattle.bits.specs.declared.refusal.Refusal.TheVariants.{RowShape, Limit}
 use Rattle.schema.specs.Values.{ValueTrees}
 use Rattle.schema.specs.Shape.{Fields}
+use Rattle.schema.specs.Fits.{RowsFit}
 use Rattle.schema.specs.Stripe.{Leaf, Entry, leaves_of, columns}
 use Rattle.metadata.specs.Records.{ColumnMeta, ChunkMeta, GroupMeta}
 use Rattle.plain.specs.Plain.{IsTooLong}
 use Rattle.pages.specs.Page.{values}
-use Rattle.pages.specs.Writing.{page_weight, AreShort, IsPageTooMuch, IsLeafToBeWritten}
+use Rattle.pages.specs.Writing.{page_weight, AreShort, IsPageTooMuch}
 use Rattle.row_group.specs.declared.limits.TheConstants.{MOST_ENTRIES_OF_CHUNK, MOST_ROWS_OF_GROUP, MOST_BYTES_BEFORE_CHUNK}
-use Rattle.row_group.specs.Chunks.{ColumnMeans, GroupMeans}
-use Rattle.row_group.specs.Limits.{IsLeafToCome}
+use Rattle.row_group.specs.Chunks.{ChunkMeans, StartsAt}
 
 -- what the store's own writer says of a chunk: few encodings, no dictionary, no statistics yet
 pub record IsOwn (m : ColumnMeta) : Type 0 where
@@ -20,12 +20,13 @@ pub record IsOwn (m : ColumnMeta) : Type 0 where
   pub dictionary : m.dictionary_page_offset ≡ None
   pub statistics : m.statistics ≡ None
 
--- The bytes of `new` are those of `old` and a chunk of these entries; its record says where it is, whatever follows it.
--- Its pages fill just the size that the record says.
+-- The bytes of `new` are those of `old` and a chunk of these entries, which starts right behind `old` and whose pages fill
+-- just what was written, whatever follows it; so says its record.
 pub record AppendsChunk (leaf : Leaf) (old new : List ℕ) (m : ColumnMeta) (es : List Entry) : Type 0 where
   pub text : List ℕ
   pub joined : new ≡ old ++ text
-  pub means : (more : List ℕ) → ColumnMeans (new ++ more) m leaf es
+  pub starts : StartsAt m (length old)
+  pub fills : (more : List ℕ) → ChunkMeans m leaf (text ++ more) es (length text)
   pub size : m.total_compressed_size ≡ Some (pos (length text))
   pub plain_size : m.total_uncompressed_size ≡ Some (pos (length text))
   pub own : IsOwn m
@@ -37,19 +38,24 @@ pub data IsChunkTooMuch (before : ℕ) (es : List Entry) : Type 0 where
   large_page : IsPageTooMuch es → IsChunkTooMuch before es
   far_behind : MOST_BYTES_BEFORE_CHUNK < before → IsChunkTooMuch before es
 
--- a chunk of this file, by what the store's own writer says of it
+-- a chunk of this file: no path is given, and 0 for the offset that parquet.thrift deprecates
 pub record IsOwnChunk (c : ChunkMeta) : Type 0 where
   pub here : c.file_path ≡ None
-  pub own : IsOwn c.meta_data
+  pub offset : c.file_offset ≡ Some (pos 0)
 
--- the bytes of `new` are those of `old` and the chunks of a group of these rows, whatever follows them
+-- a chunk for each leaf, of its entries, one right behind the other: from where `old` ends to where `new` does
+abbrev pub AppendsEach : List Leaf → List (List Entry) → List ℕ → List ℕ → List ChunkMeta → Type 0
+AppendsEach [] [] old new [] = new ≡ old
+AppendsEach (leaf ∷ leaves) (es ∷ columns) old new (c ∷ cs) = (middle : List ℕ) × AppendsChunk leaf old middle c.meta_data es × IsOwnChunk c × AppendsEach leaves columns middle new cs
+AppendsEach _ _ old new _ = ⊥
+
+-- The bytes of `new` are those of `old` and the chunks of a group of these rows, in the order of the leaves; the record
+-- counts the rows and the bytes. (So the group has the rows, whatever follows: `GroupMeans`.)
 pub record AppendsGroup (fs : Fields) (old new : List ℕ) (g : GroupMeta) (rows : List ValueTrees) : Type 0 where
-  pub text : List ℕ
-  pub joined : new ≡ old ++ text
-  pub means : (more : List ℕ) → GroupMeans (new ++ more) fs g rows
-  pub own : AllByRecursion IsOwnChunk g.columns
-  pub size : g.total_byte_size ≡ Some (pos (length text))
-  pub short : length text ≤ sum_by page_weight (columns fs rows)
+  pub count : g.num_rows ≡ pos (length rows)
+  pub fit : RowsFit fs rows
+  pub chunks : AppendsEach (leaves_of fs) (columns fs rows) old new g.columns
+  pub size : g.total_byte_size ≡ Some (pos (length new - length old))
 
 -- none of the columns has too many entries, or a value that is longer than a value may be
 pub record AreTaken (fs : Fields) (rows : List ValueTrees) : Type 0 where

@@ -1,6 +1,7 @@
 //! From bytes to columns.
 
-ghost use Rattle.std.specs.Prelude.{◌≡◌, ◌≢◌, ◌⊎◌, ◌≤◌, ◌<◌, ◌↔◌, ℕ, ℤ, pos, List, map, length, IsTrue, IfOk, OnOk, Err, None, string_bytes};
+ghost use Rattle.std.specs.Prelude.{◌≡◌, ◌≢◌, ◌⊎◌, ◌≤◌, ◌<◌, ◌↔◌, ℕ, ℤ, pos, List, map, length, IsTrue, IfOk, OnOk, Err, None};
+ghost use Rattle.std.specs.Rc.{rc_str_bytes};
 ghost use Rattle.bits.specs.Refusals.{OnFault, RefusedOnly};
 ghost use Rattle.bits.specs.Codec.{NothingStands};
 ghost use Rattle.schema.specs.Stripe.{Entry};
@@ -21,6 +22,7 @@ use metadata::ColumnMeta;
 use pages::{PageRef, pages_of_a_dictionary, read_page};
 use schema::{Column, Leaf};
 use std::alloc::Global;
+use std::rc::RcStr;
 
 /// The number of CompressionCodec (`parquet.thrift`) for chunks that are stored as they are.
 pub const UNCOMPRESSED: i32 = 0;
@@ -57,14 +59,14 @@ pub fn read_chunk(alloc: Global, bytes: &[u8], meta: &ColumnMeta, leaf: &Leaf) -
 }
 
 /// Whether a path has these names.
-fn is_same_path(path: &[Vec<u8>], names: &[String]) -> bool
-    ensures { IsTrue result ↔ (map (λ s. s.items) path.now ≡ map string_bytes names.now) }
+fn is_same_path(path: &[Vec<u8>], names: &[RcStr]) -> bool
+    ensures { IsTrue result ↔ (map (λ s. s.items) path.now ≡ map rc_str_bytes names.now) }
 {
     if path.len() != names.len() {
         return false;
     }
     for (i, name) in names.iter().enumerate() {
-        if path[i].as_slice() != name.as_bytes() {
+        if path[i].as_slice() != name.as_str().as_bytes() {
             return false;
         }
     }

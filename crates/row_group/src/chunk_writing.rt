@@ -1,6 +1,7 @@
 //! From entries to chunks.
 
-ghost use Rattle.std.specs.Prelude.{◌≡◌, ◌⊎◌, ◌≤◌, ◌+◌, ◌<ℤ◌, pos, map, length, string_bytes, IfOk, OnOk, OnErr, Err};
+ghost use Rattle.std.specs.Prelude.{◌≡◌, ◌⊎◌, ◌<ℤ◌, pos, map, length, IfOk, OnOk, OnErr, Err};
+ghost use Rattle.std.specs.Rc.{rc_str_bytes};
 ghost use Rattle.std.specs.List.{AllByRecursion};
 ghost use Rattle.bits.specs.Codec.{Appends};
 ghost use Rattle.bits.specs.Refusals.{OnFault, RefusedOnly};
@@ -20,13 +21,15 @@ use metadata::ColumnMeta;
 use pages::{EntryRef, write_page};
 use schema::Leaf;
 use std::alloc::Global;
+use std::rc::RcStr;
 
 /// The numbers of the encodings (`parquet.thrift`, Encoding) of a chunk's values and levels: PLAIN
 /// and RLE.
 const ENCODINGS: [i32; 2] = [0, 3];
 
 /// Writes the entries at the end of a file's bytes, as a chunk of the leaf, and answers its record:
-/// one page, or none where there are no entries. (`parquet.thrift`, ColumnMetaData.)
+/// one page, or none where there are no entries. The chunk starts where the bytes ended, and both sizes
+/// in the record are those of the bytes that were written. (`parquet.thrift`, ColumnMetaData.)
 ///
 /// Refused Levels or Value only where an entry is none of the leaf's. Refused Limit only where there
 /// are more than 16,777,216 entries, where the page is too much for one, where `out` has 2^31 bytes
@@ -72,13 +75,13 @@ pub fn write_chunk(
 }
 
 /// The bytes of each of the names.
-fn bytes_of_names(alloc: Global, names: &[String]) -> R<Vec<Vec<u8>>>
-    ensures is { IfOk result (λ path. map (λ s. s.items) path.items ≡ map string_bytes names.now) }
+fn bytes_of_names(alloc: Global, names: &[RcStr]) -> R<Vec<Vec<u8>>>
+    ensures is { IfOk result (λ path. map (λ s. s.items) path.items ≡ map rc_str_bytes names.now) }
     ensures which { RefusedOnly (λ _. ⊥) result }
 {
     let mut path = Vec::with_capacity(alloc, names.len())?;
     for name in names {
-        let bytes = Vec::from_slice(alloc, name.as_bytes())?;
+        let bytes = Vec::from_slice(alloc, name.as_str().as_bytes())?;
         path.push(bytes)?;
     }
     Ok(path)
@@ -88,7 +91,6 @@ fn bytes_of_names(alloc: Global, names: &[String]) -> R<Vec<Vec<u8>>>
 fn write_pages(alloc: Global, leaf: &Leaf, entries: &[EntryRef<'_>], out: &mut Vec<u8>) -> R<()>
     ensures stands { let es = map entry_ref_view entries.now in OnOk result (Appends (λ bytes used. IsChunk (leaf_view leaf.now) bytes (length es) es used) (page_weight es) out.old.items out.new.items) }
     ensures short { OnOk result (AreShort (map entry_ref_view entries.now)) }
-    ensures size { OnOk result (length out.new.items ≤ length out.old.items + 2147484671) }
     ensures only { OnFault result (AllByRecursion (IsEntryOf (leaf_view leaf.now)) (map entry_ref_view entries.now) → ⊥) }
     ensures limit { result ≡ Err Refusal.Limit → IsPageTooMuch (map entry_ref_view entries.now) ⊎ IsLeafToBeWritten (leaf_view leaf.now) }
     ensures which { RefusedOnly IsOfWriting result }

@@ -1,22 +1,17 @@
 //! From bytes to rows.
 
-ghost use Rattle.std.specs.Prelude.{◌≡◌, ◌⊎◌, List, map, true, false, IfOk, Err};
-ghost use Rattle.std.specs.List.{Any, AllByRecursion};
+ghost use Rattle.std.specs.Prelude.{◌≡◌, ◌⊎◌, List, IfOk, Err};
 ghost use Rattle.bits.specs.Refusals.{OnFault, RefusedOnly};
 ghost use Rattle.schema.specs.Values.{ValueTrees};
-ghost use Rattle.schema.specs.Views.{leaf_view, rows_view};
+ghost use Rattle.schema.specs.Views.{rows_view};
 ghost use Rattle.metadata.specs.Views.{group_meta_view};
 ghost use Rattle.row_group.specs.Chunks.{GroupMeans};
-ghost use Rattle.row_group.specs.Limits.{IsLeafToCome, IsGroupOver, IsGroupToCome, HasCodec, IsOfChunks};
-ghost use Rattle.row_group.specs.Moving.{IsLeafRead};
+ghost use Rattle.row_group.specs.Limits.{IsGroupOver, IsGroupToCome, HasCodec, IsOfChunks};
 
-use crate::column::read_columns;
-use crate::counts::count_of;
-use crate::limits::MOST_ROWS_OF_GROUP;
-use crate::rows::rows_of;
+use crate::rows::Rows;
 use bits::{R, Refusal};
 use metadata::GroupMeta;
-use schema::{Leaf, Row, Schema, columns_determine_rows};
+use schema::{Row, Schema};
 use std::alloc::Global;
 
 /// The rows of a group, from the bytes of its file before the footer.
@@ -27,7 +22,8 @@ use std::alloc::Global;
 /// as the group has rows; else as a chunk is.
 ///
 /// Each byte of the chunks is read once, and the values move into the rows. Room for rows is asked for
-/// once the columns are there. (`parquet.thrift`, RowGroup.)
+/// once the columns are there; all of both stand in memory together, where [`Rows`] gives the rows away
+/// one by one. (`parquet.thrift`, RowGroup.)
 pub fn read_group(alloc: Global, front: &[u8], meta: &GroupMeta, schema: &Schema) -> R<Vec<Row>>
     ensures stands { IfOk result (λ rows. GroupMeans front.now schema.now (group_meta_view meta.now) (rows_view rows.items)) }
     ensures alone { IfOk result (λ rows. (others : List ValueTrees) → GroupMeans front.now schema.now (group_meta_view meta.now) others → others ≡ rows_view rows.items) }
@@ -36,24 +32,5 @@ pub fn read_group(alloc: Global, front: &[u8], meta: &GroupMeta, schema: &Schema
     ensures codec { result ≡ Err Refusal.Codec → HasCodec (group_meta_view meta.now) }
     ensures which { RefusedOnly IsOfChunks result }
 {
-    columns_determine_rows();
-    let count = count_of(meta.num_rows, MOST_ROWS_OF_GROUP)?;
-    if is_any_to_come(schema.leaves()) {
-        return Err(Refusal::Limit);
-    }
-    let columns = read_columns(alloc, front, meta, schema, count)?;
-    rows_of(alloc, columns, count)
-}
-
-/// Whether a leaf is below a group, or not REQUIRED.
-pub fn is_any_to_come(leaves: &[Leaf]) -> bool
-    ensures some { result ≡ true → Any IsLeafToCome (map leaf_view leaves.now) }
-    ensures none { result ≡ false → AllByRecursion IsLeafRead (map leaf_view leaves.now) }
-{
-    for leaf in leaves {
-        if leaf.steps.len() > 1 || leaf.greatest_definition > 0 {
-            return true;
-        }
-    }
-    false
+    Rows::of_group(alloc, front, meta, schema)?.collected()
 }

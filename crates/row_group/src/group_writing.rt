@@ -11,7 +11,7 @@ ghost use Rattle.row_group.specs.Limits.{IsLeafToCome};
 ghost use Rattle.row_group.specs.Writing.{AppendsGroup, AreTaken, IsGroupTooMuch, IsOfRows};
 
 use crate::column_writing::write_columns;
-use crate::group::is_any_to_come;
+use crate::leaves::is_any_to_come;
 use crate::limits::MOST_ROWS_OF_GROUP;
 use bits::{R, Refusal};
 use metadata::GroupMeta;
@@ -22,10 +22,10 @@ use std::alloc::Global;
 /// the order of the leaves, one behind the other; and answers its record. The rows are lent, their
 /// values are not copied. (`parquet.thrift`, RowGroup.)
 ///
-/// Refused RowShape just where a row does not fit the schema; Limit only where there are more than
+/// Refused RowShape only where a row does not fit the schema; Limit only where there are more than
 /// 16,777,216 rows, or entries in a column, where a value has more than 16 MiB, where the bytes before the
 /// group and what it weighs are more than a file may have, or for a leaf that is not written yet: one
-/// below a group, or not REQUIRED. After a refusal `out` is as it was.
+/// below a group, or not REQUIRED. Where both are so, either may come. After a refusal `out` is as it was.
 ///
 /// All rows are compared with the schema before the first chunk; then one column of lent values is
 /// held at a time. The time is linear in the rows for each leaf, and in the bytes of the values.

@@ -1,8 +1,8 @@
 //! Chunks and row groups (`parquet.thrift`, ColumnChunk and RowGroup).
 //!
 //! `specs/Chunks.antt` says which entries a chunk holds (`ChunkMeans`) and which rows a group
-//! (`GroupMeans`), `specs/Limits.antt` what is beyond a limit and what is not read yet,
-//! `specs/Writing.antt` what a writer leaves.
+//! (`GroupMeans`), `specs/Left.antt` which rows of a group are still to come, `specs/Limits.antt` what is
+//! beyond a limit and what is not read yet, `specs/Writing.antt` what a writer leaves.
 #![tactic(auto)]
 
 mod chunk;
@@ -12,6 +12,9 @@ mod column_writing;
 mod counts;
 mod group;
 mod group_writing;
+mod laws;
+mod leaves;
+mod left;
 mod limits;
 mod rows;
 
@@ -19,7 +22,9 @@ pub use chunk::read_chunk;
 pub use chunk_writing::write_chunk;
 pub use group::read_group;
 pub use group_writing::write_group;
+pub use laws::an_appended_group_has_its_rows;
 pub use limits::{MOST_BYTES_BEFORE_CHUNK, MOST_ENTRIES_OF_CHUNK, MOST_ROWS_OF_GROUP};
+pub use rows::Rows;
 
 #[cfg(test)]
 mod tests;

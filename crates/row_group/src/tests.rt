@@ -73,8 +73,8 @@ fn integers(alloc: Global) -> R<ColumnMeta> {
     record(alloc, "n", 1, 4)
 }
 
-/// The rows of a group of these chunks.
-fn read_both(alloc: Global, num_rows: i64, first: ColumnMeta) -> R<Vec<Row>> {
+/// The record of a group of two chunks, the second that of the texts.
+fn group_of(alloc: Global, num_rows: i64, first: ColumnMeta) -> R<GroupMeta> {
     let mut columns = Vec::new(alloc);
     for meta_data in [first, record(alloc, "t", 6, 29)?] {
         columns.push(ChunkMeta {
@@ -83,13 +83,25 @@ fn read_both(alloc: Global, num_rows: i64, first: ColumnMeta) -> R<Vec<Row>> {
             meta_data,
         })?;
     }
-    let group = GroupMeta {
+    Ok(GroupMeta {
         columns,
         total_byte_size: None,
         num_rows,
-    };
+    })
+}
+
+/// The rows of a group of these chunks.
+fn read_both(alloc: Global, num_rows: i64, first: ColumnMeta) -> R<Vec<Row>> {
+    let group = group_of(alloc, num_rows, first)?;
     let bytes = front(alloc)?;
     read_group(alloc, bytes.as_slice(), &group, &fields(alloc)?)
+}
+
+/// The same, where they are still to come.
+fn rows_of_both(alloc: Global) -> R<Rows> {
+    let group = group_of(alloc, 2, integers(alloc)?)?;
+    let bytes = front(alloc)?;
+    Rows::of_group(alloc, bytes.as_slice(), &group, &fields(alloc)?)
 }
 
 /// The integers' column, from these bytes.
@@ -109,6 +121,38 @@ fn two_columns_are_two_rows(rt: HostRuntime) -> Result<(), Fail> {
     assert_eq!(rt;
         text.as_str(),
         "[Row { values: [Int(1), Bytes([97])] }, Row { values: [Int(300), Bytes([98, 99])] }]"
+    );
+    Ok(())
+}
+
+#[test]
+fn rows_come_one_by_one(rt: HostRuntime) -> Result<(), Fail> {
+    let alloc = rt.alloc();
+    let mut rows = rows_of_both(alloc)?;
+    for expected in [
+        "Some(Row { values: [Int(1), Bytes([97])] })",
+        "Some(Row { values: [Int(300), Bytes([98, 99])] })",
+        "None",
+        "None",
+    ] {
+        let row = rows.next()?;
+        let text = format!(in alloc; "{row:?}")?;
+        assert_eq!(rt; text.as_str(), expected);
+    }
+    Ok(())
+}
+
+#[test]
+fn the_rows_that_are_left_are_collected(rt: HostRuntime) -> Result<(), Fail> {
+    let alloc = rt.alloc();
+    let mut rows = rows_of_both(alloc)?;
+    let first = rows.next()?;
+    assert!(rt; first.is_some());
+    let rest = rows.collected()?;
+    let text = format!(in alloc; "{rest:?}")?;
+    assert_eq!(rt;
+        text.as_str(),
+        "[Row { values: [Int(300), Bytes([98, 99])] }]"
     );
     Ok(())
 }

@@ -1,8 +1,9 @@
 use super::*;
 use crate::tests::{element, fields, front};
 use bits::{R, Refusal};
-use metadata::GroupMeta;
-use schema::{Row, Schema, Value};
+use metadata::{ColumnMeta, GroupMeta};
+use pages::EntryRef;
+use schema::{Leaf, Row, Schema, Value};
 use std::alloc::Global;
 use std::test::*;
 
@@ -35,6 +36,86 @@ fn pair(alloc: Global, number: i64, text: &[u8]) -> R<Row> {
 fn written(alloc: Global, schema: &Schema, rows: [Row; 2], out: &mut Vec<u8>) -> R<GroupMeta> {
     let rows = Vec::from_array(alloc, rows)?;
     write_group(alloc, schema, rows.as_slice(), out)
+}
+
+/// The entry of a value of a REQUIRED leaf.
+fn entry_of(value: &Value) -> EntryRef<'_> {
+    EntryRef {
+        repetition: 0,
+        definition: 0,
+        value: Some(value),
+    }
+}
+
+/// The record of a chunk of these two values, behind what is in `out`.
+fn chunk_of(alloc: Global, leaf: &Leaf, values: [&Value; 2], out: &mut Vec<u8>) -> R<ColumnMeta> {
+    let mut entries = Vec::new(alloc);
+    for value in values {
+        entries.push(entry_of(value))?;
+    }
+    write_chunk(alloc, leaf, entries.as_slice(), out)
+}
+
+/// What writing the entry to a leaf of REQUIRED INT64 answers, and what is in `out` then.
+fn refused(alloc: Global, entry: EntryRef<'_>) -> R<String> {
+    let schema = numbers(alloc, 0)?;
+    let Some(leaf) = schema.leaves().first() else {
+        return Err(Refusal::Schema);
+    };
+    let mut out = Vec::from_slice(alloc, b"PAR1".as_slice())?;
+    let answer = write_chunk(alloc, leaf, &[entry], &mut out);
+    let text = format!(in alloc; "{answer:?} {out:?}")?;
+    Ok(text)
+}
+
+#[test]
+fn a_chunk_starts_right_behind_what_was_there(rt: HostRuntime) -> Result<(), Fail> {
+    let alloc = rt.alloc();
+    let schema = fields(alloc)?;
+    let values = [
+        [Value::Int(1), Value::Int(300)],
+        [
+            Value::Bytes(Vec::from_slice(alloc, b"a".as_slice())?),
+            Value::Bytes(Vec::from_slice(alloc, b"bc".as_slice())?),
+        ],
+    ];
+    let mut out = Vec::from_slice(alloc, b"PAR1".as_slice())?;
+    for ((leaf, [first, second]), (start, size)) in schema
+        .leaves()
+        .iter()
+        .zip(&values)
+        .zip([(4, 25), (29, 28)])
+    {
+        let meta = chunk_of(alloc, leaf, [first, second], &mut out)?;
+        assert_eq!(rt; meta.data_page_offset, start);
+        assert_eq!(rt; meta.total_compressed_size, Some(size));
+        assert_eq!(rt; meta.total_uncompressed_size, Some(size));
+    }
+    let bytes = front(alloc)?;
+    assert_eq!(rt; out.as_slice(), bytes.as_slice());
+    Ok(())
+}
+
+#[test]
+fn an_entry_that_is_none_of_the_leafs_is_refused(rt: HostRuntime) -> Result<(), Fail> {
+    let alloc = rt.alloc();
+    let number = Value::Int(1);
+    let other = Value::Bool(true);
+    let mut repeated = entry_of(&number);
+    repeated.repetition = 1;
+    let mut defined = entry_of(&number);
+    defined.definition = 1;
+    let mut empty = entry_of(&number);
+    empty.value = None;
+    for (entry, answer) in [
+        (repeated, "Err(Levels) [80, 65, 82, 49]"),
+        (defined, "Err(Levels) [80, 65, 82, 49]"),
+        (empty, "Err(Value) [80, 65, 82, 49]"),
+        (entry_of(&other), "Err(Value) [80, 65, 82, 49]"),
+    ] {
+        assert_eq!(rt; refused(alloc, entry)?.as_str(), answer);
+    }
+    Ok(())
 }
 
 #[test]

@@ -1,5 +1,7 @@
 -- Leaves, and the ways to them.
-use Rattle.std.proofs.Common.{ℕ, suc, ◌≡◌, ◌+◌, ◌<◌, ◌≤◌, List, [], ◌∷◌, ◌++◌, length, drop, get_or, map, refl, ap, sym, subst, ◌∙◌, add-one, append_assoc, arith, String, Global, string_bytes}
+use Rattle.std.proofs.Common.{ℕ, suc, ◌≡◌, ◌+◌, ◌<◌, ◌≤◌, List, [], ◌∷◌, ◌++◌, length, drop, get_or, map, refl, ap, sym, subst, ◌∙◌, add-one, append_assoc, arith, Global}
+use Rattle.std.specs.Rc.{rc_str_bytes}
+use Rattle.std.specs.declared.rc.RcStr.{RcStr}
 use Rattle.schema.specs.declared.value.Repetition.{Repetition}
 use Rattle.schema.specs.declared.field.Step.{Step as CodeStep}
 use Rattle.schema.specs.declared.field.Field.{Field as CodeField}
@@ -36,18 +38,18 @@ ways_more path steps fs i f h is =
     ∙ ap (λ n. map (along (path ++ name_of (field_view f) ∷ []) (steps ++ step_to i (field_view f) ∷ [])) (leaves (field_view f)) ++ map (along path steps) (leaves_from n (field_views (drop (i + 1) fs)))) (sym (add-one i))
 
 -- the leaves of one field more are added
-pub push_way : (out more : List Leaf) (path down : List (String Global)) (steps further : List CodeStep) (name : List ℕ) (x : Repetition) (fs : List CodeField) (i : ℕ) (f : CodeField) → i < length fs → f ≡ get_or fs i f
-    → name ≡ name_of (field_view f) → x ≡ repetition_of (field_view f) → map string_bytes down ≡ map string_bytes path ++ name ∷ [] → further ≡ steps ++ record { place = i; repetition = x } ∷ []
-    → more ≡ out ++ map (along (map string_bytes down) (map step_view further)) (leaves (field_view f))
-    → more ++ map (along (map string_bytes path) (map step_view steps)) (leaves_from (i + 1) (field_views (drop (i + 1) fs))) ≡ out ++ map (along (map string_bytes path) (map step_view steps)) (leaves_from i (field_views (drop i fs)))
+pub push_way : (out more : List Leaf) (path down : List (RcStr Global)) (steps further : List CodeStep) (name : List ℕ) (x : Repetition) (fs : List CodeField) (i : ℕ) (f : CodeField) → i < length fs → f ≡ get_or fs i f
+    → name ≡ name_of (field_view f) → x ≡ repetition_of (field_view f) → map rc_str_bytes down ≡ map rc_str_bytes path ++ name ∷ [] → further ≡ steps ++ record { place = i; repetition = x } ∷ []
+    → more ≡ out ++ map (along (map rc_str_bytes down) (map step_view further)) (leaves (field_view f))
+    → more ++ map (along (map rc_str_bytes path) (map step_view steps)) (leaves_from (i + 1) (field_views (drop (i + 1) fs))) ≡ out ++ map (along (map rc_str_bytes path) (map step_view steps)) (leaves_from i (field_views (drop i fs)))
 push_way out more path down steps further name x fs i f h is named same deeper on wrote =
-    let P : List (List ℕ) = map string_bytes path in
+    let P : List (List ℕ) = map rc_str_bytes path in
     let S : List Step = map step_view steps in
     let rest : List Leaf = map (along P S) (leaves_from (i + 1) (field_views (drop (i + 1) fs))) in
-    let names : map string_bytes down ≡ P ++ name_of (field_view f) ∷ [] = deeper ∙ ap (λ n. P ++ n ∷ []) named in
+    let names : map rc_str_bytes down ≡ P ++ name_of (field_view f) ∷ [] = deeper ∙ ap (λ n. P ++ n ∷ []) named in
     let ways : map step_view further ≡ S ++ step_to i (field_view f) ∷ [] =
     ap (map step_view) on ∙ map-both step_view steps (record { place = i; repetition = x } ∷ []) ∙ ap (λ r. S ++ record { place = i; repetition = r } ∷ []) same in
-    ap (λ t. t ++ rest) wrote ∙ append_assoc out (map (along (map string_bytes down) (map step_view further)) (leaves (field_view f))) rest
+    ap (λ t. t ++ rest) wrote ∙ append_assoc out (map (along (map rc_str_bytes down) (map step_view further)) (leaves (field_view f))) rest
     ∙ ap (λ p. out ++ (map (along p (map step_view further)) (leaves (field_view f)) ++ rest)) names
     ∙ ap (λ s. out ++ (map (along (P ++ name_of (field_view f) ∷ []) s) (leaves (field_view f)) ++ rest)) ways
     ∙ ap (λ t. out ++ t) (sym (ways_more P S fs i f h is))

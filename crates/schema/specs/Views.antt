@@ -1,5 +1,6 @@
 -- What the program's values show, apart from where they lie in memory.
 use Rattle.std.specs.Prelude.{List, [], ◌∷◌, map, Option, option_map, string_bytes}
+use Rattle.std.specs.Rc.{rc_str_bytes}
 use Rattle.thrift_compact.specs.View.{tree_view}
 use Rattle.schema.specs.declared.annotation.Annotation.{Annotation as CodeAnnotation}
 use Rattle.schema.specs.declared.annotation.Annotation.TheVariants.{Plain, Known, OtherConverted, OtherLogical}
@@ -46,7 +47,7 @@ abbrev pub step_view : CodeStep → Step
 step_view s = record { place = s.place; repetition = s.repetition }
 
 abbrev pub leaf_view : CodeLeaf → Leaf
-leaf_view l = record { path = map string_bytes l.path.items; steps = map step_view l.steps.items; leaf_type = leaf_type_view l.leaf_type; greatest_repetition = l.greatest_repetition; greatest_definition = l.greatest_definition }
+leaf_view l = record { path = map rc_str_bytes l.path.items; steps = map step_view l.steps.items; leaf_type = leaf_type_view l.leaf_type; greatest_repetition = l.greatest_repetition; greatest_definition = l.greatest_definition }
 
 -- the order of a leaf's values, where they have one
 abbrev pub leaf_order : CodeLeaf → Option Order

@@ -6,6 +6,7 @@ ghost use Rattle.schema.specs.Views.{field_view};
 
 use crate::annotation::{GroupAnnotation, LeafType};
 use crate::value::Repetition;
+use std::rc::RcStr;
 
 /// A field of a schema, and what is below it.
 #[derive(Debug, Drop)]
@@ -45,8 +46,8 @@ pub struct Step {
 /// A leaf of a schema.
 #[derive(Debug, Drop)]
 pub struct Leaf {
-    /// The names of the fields on the way to it, the leaf's own last.
-    pub path: Vec<String>,
+    /// The names of the fields on the way to it, the leaf's own last; leaves below a field share its name.
+    pub path: Vec<RcStr>,
     /// The places and repetitions of the same fields.
     pub steps: Vec<Step>,
     pub leaf_type: LeafType,

@@ -1,6 +1,7 @@
 //! The leaves of a schema, depth first.
 
-ghost use Rattle.std.specs.Prelude.{◌≡◌, ◌+◌, ◌<◌, ◌≤◌, ◌^◌, ◌++◌, ◌∷◌, [], length, map, IfOk, OnOk, string_bytes};
+ghost use Rattle.std.specs.Prelude.{◌≡◌, ◌+◌, ◌<◌, ◌≤◌, ◌^◌, ◌++◌, ◌∷◌, [], length, map, IfOk, OnOk};
+ghost use Rattle.std.specs.Rc.{rc_str_bytes};
 ghost use Rattle.bits.specs.Refusals.{RefusedOnly};
 ghost use Rattle.schema.specs.Stripe.{definitions, repetitions, greatest_definition, greatest_repetition, leaf_at, leaves, leaves_from, leaves_of};
 ghost use Rattle.schema.specs.Reading.{tall, tallest};
@@ -12,6 +13,7 @@ use crate::field::{Field, Leaf, Step};
 use crate::value::Repetition;
 use bits::R;
 use std::alloc::Global;
+use std::rc::RcStr;
 
 /// What a field adds to the greatest definition level of the leaves below it.
 fn definitions(repetition: Repetition) -> u32
@@ -85,18 +87,18 @@ pub fn copied_type(alloc: Global, leaf_type: &LeafType) -> R<LeafType>
     })
 }
 
-/// The names, and one more.
-fn path_down(alloc: Global, path: &[String], name: &str) -> R<Vec<String>>
+/// The names, which are shared and not copied, and one more.
+fn path_down(alloc: Global, path: &[RcStr], name: &str) -> R<Vec<RcStr>>
     requires { length path.now < 2 ^ 32 }
-    ensures is { IfOk result (λ down. map string_bytes down.items ≡ map string_bytes path.now ++ name.now ∷ []) }
+    ensures is { IfOk result (λ down. map rc_str_bytes down.items ≡ map rc_str_bytes path.now ++ name.now ∷ []) }
     ensures len { IfOk result (λ down. length down.items ≡ length path.now + 1) }
     ensures which { RefusedOnly (λ _. ⊥) result }
 {
     let mut down = Vec::with_capacity(alloc, path.len() + 1)?;
     for name in path {
-        down.push(String::from_str(alloc, name.as_str())?)?;
+        down.push(name.clone()?)?;
     }
-    down.push(String::from_str(alloc, name)?)?;
+    down.push(RcStr::from_str(alloc, name)?)?;
     Ok(down)
 }
 
@@ -111,9 +113,9 @@ fn steps_down(alloc: Global, steps: &[Step], step: Step) -> R<Vec<Step>>
 }
 
 /// The leaf at the end of a way.
-fn leaf_of(alloc: Global, path: Vec<String>, steps: Vec<Step>, leaf_type: &LeafType) -> R<Leaf>
+fn leaf_of(alloc: Global, path: Vec<RcStr>, steps: Vec<Step>, leaf_type: &LeafType) -> R<Leaf>
     requires { length steps.items < 2 ^ 32 }
-    ensures is { IfOk result (λ l. leaf_view l ≡ leaf_at (map string_bytes path.items) (map step_view steps.items) (leaf_type_view leaf_type.now)) }
+    ensures is { IfOk result (λ l. leaf_view l ≡ leaf_at (map rc_str_bytes path.items) (map step_view steps.items) (leaf_type_view leaf_type.now)) }
     ensures which { RefusedOnly (λ _. ⊥) result }
 {
     let leaf_type = copied_type(alloc, leaf_type)?;
@@ -133,13 +135,13 @@ fn leaf_of(alloc: Global, path: Vec<String>, steps: Vec<Step>, leaf_type: &LeafT
 fn push_leaves(
     alloc: Global,
     out: &mut Vec<Leaf>,
-    path: Vec<String>,
+    path: Vec<RcStr>,
     steps: Vec<Step>,
     field: &Field,
 ) -> R<()>
     requires deep { length steps.items + tall (field_view field.now) ≤ 33 }
     requires paired { length path.items ≡ length steps.items }
-    ensures adds { OnOk result (map leaf_view out.new.items ≡ map leaf_view out.old.items ++ map (along (map string_bytes path.items) (map step_view steps.items)) (leaves (field_view field.now))) }
+    ensures adds { OnOk result (map leaf_view out.new.items ≡ map leaf_view out.old.items ++ map (along (map rc_str_bytes path.items) (map step_view steps.items)) (leaves (field_view field.now))) }
     ensures which { RefusedOnly (λ _. ⊥) result }
 {
     match field {
@@ -165,13 +167,13 @@ fn push_leaves(
 fn push_each(
     alloc: Global,
     out: &mut Vec<Leaf>,
-    path: &[String],
+    path: &[RcStr],
     steps: &[Step],
     fields: &[Field],
 ) -> R<()>
     requires deep { length steps.now + tallest (field_views fields.now) ≤ 32 }
     requires paired { length path.now ≡ length steps.now }
-    ensures adds { OnOk result (map leaf_view out.new.items ≡ map leaf_view out.old.items ++ map (along (map string_bytes path.now) (map step_view steps.now)) (leaves_from 0 (field_views fields.now))) }
+    ensures adds { OnOk result (map leaf_view out.new.items ≡ map leaf_view out.old.items ++ map (along (map rc_str_bytes path.now) (map step_view steps.now)) (leaves_from 0 (field_views fields.now))) }
     ensures which { RefusedOnly (λ _. ⊥) result }
 {
     for (place, field) in fields.iter().enumerate() {

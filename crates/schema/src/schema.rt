@@ -67,8 +67,9 @@ impl Schema {
     /// Limit for more than 1,024 leaves, or 32 fields on a way. Where there are several faults one of
     /// them is answered, and Float, Int96 and Limit only where the list is a tree.
     ///
-    /// The time is linear in the list; the names of siblings are compared pair by pair, once there are
-    /// known to be no more than 1,024.
+    /// Time and memory are linear in the list, beside a handle for each name on the way to each leaf: leaves
+    /// below a field share its name. The names of siblings are compared pair by pair, once there are known to
+    /// be no more than 1,024.
     pub fn new(alloc: Global, elements: &[Element]) -> R<Schema>
         ensures stands { IfOk result (λ fs. IsSchemaOf (elements_view elements.now) fs) }
         ensures within { IfOk result (λ fs. IsWithinLimits fs) }
@@ -126,8 +127,8 @@ impl Schema {
     /// `leaves()`, in any order; they, and their groups, stand in the cut as they stand here. A place that
     /// comes twice counts once.
     ///
-    /// Refused Schema where no place is given, or one where no leaf is. The time is linear in the schema
-    /// and the places.
+    /// Refused Schema where no place is given, or one where no leaf is. The time is linear in the places and
+    /// in the schema, with a handle for each name on the way to each leaf.
     pub fn cut(&self, alloc: Global, places: &[usize]) -> R<Schema>
         ensures stands { IfOk result (IsCutTo places.now self.now) }
         ensures only { OnFault result ((cut : Fields) → IsCutTo places.now self.now cut → ⊥) }

@@ -1,37 +1,34 @@
-use Rattle.std.proofs.Common.{◌≡◌, List, map, subst}
-use Rattle.bits.specs.Refusals.{IsFault}
+use Rattle.std.proofs.Common.{◌∙◌, List, sym}
+use Rattle.bits.specs.declared.refusal.Refusal.{Refusal}
+use Rattle.bits.specs.declared.refusal.Refusal.TheVariants.{Memory}
+use Rattle.bits.specs.Refusals.{HasCause, IsFault}
 use Rattle.bits.proofs.Passing.{passes}
 use Rattle.schema.specs.Values.{ValueTrees}
 use Rattle.schema.specs.Shape.{Fields}
-use Rattle.schema.specs.Elements.{elements_view}
-use Rattle.schema.specs.Listing.{IsSchemaOf}
-use Rattle.schema.specs.Views.{rows_view}
-use Rattle.metadata.specs.Views.{file_meta_view, group_meta_view}
-use Rattle.footer.specs.File.{GroupsMean, FileMeans}
-use Rattle.footer.specs.Faults.{HasGroupsFault, HasFault}
-use Rattle.footer.proofs.Meaning.{no_schema, no_rows, one_meaning, of_groups}
+use Rattle.footer.specs.File.{FileMeans}
+use Rattle.footer.specs.Faults.{HasFault}
 use Rattle.footer.proofs.file.read_file.Goals as goal
 
-pub returns-in_err-front-clause-only : goal.returns-in_err-front-clause-only
-returns-in_err-front-clause-only c =
-    passes (λ e. IsFault e → (fs : Fields) (rows : List ValueTrees) → FileMeans c.args.bytes.now fs rows → ⊥) c.from_residual.result c.in_err-front.field-0.0 c.from_residual.ensures.1
-    (λ fault fs rows p. c.in_err-front.ensures.only fault p.front p.meta p.file)
+-- a refusal that has no cause is want of memory
+memory_alone : (P : Refusal → Type 0) → P Memory → (e : Refusal) → HasCause (λ _. ⊥) e → P e
+memory_alone P p Memory w = p
+memory_alone P p e w = absurd w
 
 pub returns-in_err-schema-clause-only : goal.returns-in_err-schema-clause-only
 returns-in_err-schema-clause-only c =
-    passes (λ e. IsFault e → (fs : Fields) (rows : List ValueTrees) → FileMeans c.args.bytes.now fs rows → ⊥) c.from_residual-in_err-schema.result c.in_err-schema.field-0.0 c.from_residual-in_err-schema.ensures.1
-    (λ fault. no_schema c.args.bytes.now c.in_ok-front.front.now (file_meta_view c.in_ok-front.record) c.in_ok-front.ensures.alone (subst (λ xs. (fs : Fields) → IsSchemaOf (elements_view xs) fs → ⊥) c.as_slice.ensures.value (c.in_err-schema.ensures.only fault)))
+    passes (λ e. IsFault e → (fs : Fields) (rows : List ValueTrees) → FileMeans c.args.bytes.now fs rows → ⊥) c.from_residual.result c.in_err-schema.field-0.0 c.from_residual.ensures.1 c.in_err-schema.ensures.only
 
 pub returns-in_err-rows-clause-only : goal.returns-in_err-rows-clause-only
 returns-in_err-rows-clause-only c =
     passes (λ e. IsFault e → (fs : Fields) (rows : List ValueTrees) → FileMeans c.args.bytes.now fs rows → ⊥) c.from_residual-in_err-rows.result c.in_err-rows.field-0.0 c.from_residual-in_err-rows.ensures.1
-    (λ fault. no_rows c.args.bytes.now c.in_ok-front.front.now (file_meta_view c.in_ok-front.record) c.in_ok-schema.schema c.in_ok-front.ensures.alone c.a_list_means_one_schema.ensures (subst (λ xs. IsSchemaOf (elements_view xs) c.in_ok-schema.schema) c.as_slice.ensures.value c.in_ok-schema.ensures.stands) (subst (λ gs. (rows : List ValueTrees) → GroupsMean c.in_ok-front.front.now c.in_ok-schema.schema (map group_meta_view gs) rows → ⊥) c.as_slice-2.ensures.value (c.in_err-rows.ensures.only fault)))
+    (memory_alone (λ e. IsFault e → (fs : Fields) (rows : List ValueTrees) → FileMeans c.args.bytes.now fs rows → ⊥) (λ fault. absurd fault) c.in_err-rows.field-0.0 c.in_err-rows.ensures.which)
 
 pub returns-in_err-rows-clause-which : goal.returns-in_err-rows-clause-which
 returns-in_err-rows-clause-which c =
     passes (HasFault c.args.bytes.now) c.from_residual-in_err-rows.result c.in_err-rows.field-0.0 c.from_residual-in_err-rows.ensures.1
-    (of_groups c.args.bytes.now c.in_ok-front.front.now (file_meta_view c.in_ok-front.record) c.in_ok-schema.schema c.in_ok-front.ensures.stands (subst (λ xs. IsSchemaOf (elements_view xs) c.in_ok-schema.schema) c.as_slice.ensures.value c.in_ok-schema.ensures.stands) c.in_err-rows.field-0.0 (subst (λ gs. HasGroupsFault c.in_ok-front.front.now c.in_ok-schema.schema (map group_meta_view gs) c.in_err-rows.field-0.0) c.as_slice-2.ensures.value c.in_err-rows.ensures.which))
+    (memory_alone (HasFault c.args.bytes.now) tt c.in_err-rows.field-0.0 c.in_err-rows.ensures.which)
 
 pub returns-clause-alone : goal.returns-clause-alone
-returns-clause-alone c =
-    one_meaning c.args.bytes.now c.in_ok-front.front.now (file_meta_view c.in_ok-front.record) c.in_ok-schema.schema (rows_view c.in_ok-rows.rows.items) c.in_ok-front.ensures.alone c.a_list_means_one_schema.ensures (subst (λ xs. IsSchemaOf (elements_view xs) c.in_ok-schema.schema) c.as_slice.ensures.value c.in_ok-schema.ensures.stands) (subst (λ gs. (rows : List ValueTrees) → GroupsMean c.in_ok-front.front.now c.in_ok-schema.schema (map group_meta_view gs) rows → rows ≡ rows_view c.in_ok-rows.rows.items) c.as_slice-2.ensures.value c.in_ok-rows.ensures.alone)
+returns-clause-alone c = λ fs rows p.
+    let same = c.in_ok-schema.ensures.alone fs rows p in
+    (same.0, same.1 ∙ sym c.in_ok-rows.ensures.is)

@@ -1,4 +1,4 @@
-use Rattle.std.proofs.Common.{◌≡◌, ◌⊎◌, inl, inr, ℕ, List, length, map, ap, subst, Err, arith}
+use Rattle.std.proofs.Common.{◌≡◌, ◌⊎◌, inl, inr, ℕ, List, length, map, sym, ap, subst, ◌∙◌, Err, arith}
 use Rattle.std.specs.List.{Any}
 use Rattle.std.proofs.lemmas.List.{length-map}
 use Rattle.std.proofs.Common.{Vec, Global}
@@ -8,11 +8,10 @@ use Rattle.metadata.specs.Views.{group_meta_view, file_meta_view}
 use Rattle.row_group.specs.Limits.{IsLeafToCome}
 use Rattle.row_group.specs.Writing.{IsGroupTooMuch}
 use Rattle.footer.specs.File.{magic, FileMeans}
-use Rattle.footer.specs.Faults.{HasFooter}
-use Rattle.footer.specs.Writing.{IsOutOfRange, IsWrittenAs, IsTooMuch, heavy, IsToBeWritten}
-use Rattle.footer.specs.Own.{AppendsGroups, own_record, EndsWith}
+use Rattle.footer.specs.Writing.{IsOutOfRange, IsTooMuch, heavy, IsToBeWritten}
+use Rattle.footer.specs.Own.{groups_of, AppendsGroups, own_record, EndsWith, IsLaidOut}
 use Rattle.footer.proofs.Single.{ok_map}
-use Rattle.footer.proofs.Whole.{written, means, own_footer, is_heavy, too_much, in_range, passes_limit}
+use Rattle.footer.proofs.Whole.{means, laid_out, is_heavy, too_much, in_range, passes_limit}
 use Rattle.footer.proofs.writing.write_file.Goals as goal
 
 pub returns-then-is_to_be_written-clause-limit : goal.returns-then-is_to_be_written-clause-limit
@@ -37,24 +36,12 @@ returns-clause-means c =
     let front = c.write_groups.new.out.items in
     let gs = map group_meta_view c.in_ok-groups.groups.items in
     let meta = file_meta_view c.in_ok-record.record in
-    let p : AppendsGroups fs magic front gs rows = subst (λ (t : List ℕ). AppendsGroups fs t front gs rows) c.in_ok-front.ensures.items c.in_ok-groups.ensures.stands in
+    let p : AppendsGroups fs magic front gs (groups_of rows) = subst (λ (t : List ℕ). AppendsGroups fs t front gs (groups_of rows)) c.in_ok-front.ensures.items c.in_ok-groups.ensures.stands in
     ok_map (λ (file : Vec ℕ Global). EndsWith front meta file.items) (λ (file : Vec ℕ Global). FileMeans file.items fs rows) c.ended.result
     (λ file ends. means (length c.args.rows.now) fs rows front file.items gs meta c.in_ok-record.ensures.is p ends c.in_ok-record.ensures.listed) c.ended.ensures.stands
 
-pub returns-clause-footer : goal.returns-clause-footer
-returns-clause-footer c =
-    let fs = c.args.schema.now in
-    let n = length c.args.rows.now in
-    let rows = rows_view c.args.rows.now in
-    let front = c.write_groups.new.out.items in
-    let gs = map group_meta_view c.in_ok-groups.groups.items in
-    let meta = file_meta_view c.in_ok-record.record in
-    let p : AppendsGroups fs magic front gs rows = subst (λ (t : List ℕ). AppendsGroups fs t front gs rows) c.in_ok-front.ensures.items c.in_ok-groups.ensures.stands in
-    ok_map (λ (file : Vec ℕ Global). EndsWith front meta file.items) (λ (file : Vec ℕ Global). HasFooter file.items (λ m. m ≡ own_record fs n m.row_groups)) c.ended.result
-    (λ file ends. own_footer n fs rows front file.items gs meta c.in_ok-record.ensures.is p ends) c.ended.ensures.stands
-
-pub returns-clause-groups : goal.returns-clause-groups
-returns-clause-groups c =
+pub returns-clause-laid_out : goal.returns-clause-laid_out
+returns-clause-laid_out c =
     let fs = c.args.schema.now in
     let o = c.args.options.now in
     let rows = rows_view c.args.rows.now in
@@ -64,9 +51,9 @@ returns-clause-groups c =
     let size : length rows ≡ length c.args.rows.now = length-map c.args.rows.now row_view in
     let bounds = in_range o (c.is_out_of_range.ensures.within c.if-is_out_of_range.false) in
     let few = c.is_to_be_written.ensures.few c.if-is_to_be_written.false in
-    let p : AppendsGroups fs magic front gs rows = subst (λ (t : List ℕ). AppendsGroups fs t front gs rows) c.in_ok-front.ensures.items c.in_ok-groups.ensures.stands in
-    ok_map (λ (file : Vec ℕ Global). EndsWith front meta file.items) (λ (file : Vec ℕ Global). IsWrittenAs o.group_rows fs rows file.items) c.ended.result
-    (λ file ends. written o.group_rows (length c.args.rows.now) fs rows front file.items gs meta c.in_ok-record.ensures.is p ends c.in_ok-record.ensures.listed bounds.0 (omega (arith, size, few))) c.ended.ensures.stands
+    let p : AppendsGroups fs magic front gs (groups_of rows) = subst (λ (t : List ℕ). AppendsGroups fs t front gs (groups_of rows)) c.in_ok-front.ensures.items c.in_ok-groups.ensures.stands in
+    ok_map (λ (file : Vec ℕ Global). EndsWith front meta file.items) (λ (file : Vec ℕ Global). IsLaidOut o.group_rows fs rows file.items) c.ended.result
+    (λ file ends. laid_out o.group_rows fs rows front file.items gs meta (c.in_ok-record.ensures.is ∙ ap (λ (n : ℕ). own_record fs n gs) (sym size)) p ends bounds.0 (omega (arith, size, few))) c.ended.ensures.stands
 
 pub returns-clause-limit : goal.returns-clause-limit
 returns-clause-limit c = λ is.
@@ -79,5 +66,5 @@ returns-clause-limit c = λ is.
     let size : length rows ≡ length c.args.rows.now = length-map c.args.rows.now row_view in
     let bounds = in_range o (c.is_out_of_range.ensures.within c.if-is_out_of_range.false) in
     let few = c.is_to_be_written.ensures.few c.if-is_to_be_written.false in
-    let p : AppendsGroups fs magic front gs rows = subst (λ (t : List ℕ). AppendsGroups fs t front gs rows) c.in_ok-front.ensures.items c.in_ok-groups.ensures.stands in
+    let p : AppendsGroups fs magic front gs (groups_of rows) = subst (λ (t : List ℕ). AppendsGroups fs t front gs (groups_of rows)) c.in_ok-front.ensures.items c.in_ok-groups.ensures.stands in
     inr (inl (heavy (is_heavy fs o (length c.args.rows.now) rows front gs meta c.in_ok-record.ensures.is p c.in_ok-record.ensures.within bounds.0 (omega (arith, size, few)) (c.ended.ensures.limit is))))

@@ -11,12 +11,12 @@ use Rattle.pqds.proofs.lines.decode.Goals as goal
 pub returns-clause-which : goal.returns-clause-which
 returns-clause-which g c =
     let fit = rows_fit c.args.bytes.now _ _ c.in_ok-schema.ensures.stands in
-    is_of_device c.args.bytes.now c.write_rows.result (c.write_rows.ensures.which (rw c.as_slice.ensures.value fit))
+    is_of_device c.args.bytes.now c.write_rows.result (c.write_rows.ensures.which fit)
 
 pub returns-clause-unchanged : goal.returns-clause-unchanged
 returns-clause-unchanged g c =
     let fit = rows_fit c.args.bytes.now _ _ c.in_ok-schema.ensures.stands in
-    is_no_other _ c.write_rows.result (c.write_rows.ensures.which (rw c.as_slice.ensures.value fit))
+    is_no_other _ c.write_rows.result (c.write_rows.ensures.which fit)
 
 pub returns-in_err-schema-clause-only : goal.returns-in_err-schema-clause-only
 returns-in_err-schema-clause-only g c =
@@ -26,4 +26,4 @@ returns-in_err-schema-clause-only g c =
 pub returns-clause-only : goal.returns-clause-only
 returns-clause-only g c =
     let fit = rows_fit c.args.bytes.now _ _ c.in_ok-schema.ensures.stands in
-    is_no_fault ((fs : Fields) (rows : List ValueTrees) → FileMeans c.args.bytes.now fs rows → ⊥) c.write_rows.result (c.write_rows.ensures.which (rw c.as_slice.ensures.value fit))
+    is_no_fault ((fs : Fields) (rows : List ValueTrees) → FileMeans c.args.bytes.now fs rows → ⊥) c.write_rows.result (c.write_rows.ensures.which fit)

@@ -1,11 +1,17 @@
-use Rattle.std.proofs.Common.{◌≡◌}
-use Rattle.bits.specs.declared.refusal.Refusal.TheVariants.{Device}
-use Rattle.bits.specs.Refusals.{HasCause}
-use Rattle.bits.proofs.Passing.{passes}
-use Rattle.pqds.proofs.Rows.{row_fits, is_memory}
+use Rattle.std.proofs.Common.{◌≡◌, ◌∷◌, subst}
+use Rattle.schema.specs.Fits.{RowsFit}
+use Rattle.schema.specs.Views.{row_view}
+use Rattle.footer.specs.Left.{rows_left}
+use Rattle.pqds.proofs.Printed.{one_more}
 use Rattle.pqds.proofs.lines.write_rows.Goals as goal
 
-pub returns-in_err-text-clause-which : goal.returns-in_err-text-clause-which
-returns-in_err-text-clause-which g c = λ fit.
-    passes (HasCause (λ e. e ≡ Device)) c.from_residual.result c.in_err-text.field-0.0 c.from_residual.ensures.1
-    (is_memory c.in_err-text.field-0.0 _ (rw c.row-item.is (row_fits c.args.schema.now c.args.rows.now c.loop-row.row-index _ c.loop-row-test.true fit)) c.in_err-text.ensures.which)
+pub loop-row-preserved : goal.loop-row-preserved
+loop-row-preserved g c =
+    let fs = c.args.schema.now in
+    let all = rows_left c.args.rows.now in
+    let row = row_view c.in-Some.row in
+    let next : rows_left c.loop-row.rows ≡ row ∷ rows_left c.next.new.self = rw c.in-Some.is at c.in_ok-row.ensures.takes in
+    record {
+      printed = one_more fs all (rows_left c.loop-row.rows) (rows_left c.next.new.self) row (g.W.Write.contents c.args.out.now) (g.W.Write.contents c.loop-row.out) (g.W.Write.contents c.write_row.new.out) c.loop-row.invariant.printed next c.in_ok-write_row.ensures.stands;
+      fit = λ fits. (subst (RowsFit fs) next (c.loop-row.invariant.fit fits)).1;
+    }

@@ -1,10 +1,34 @@
-use Rattle.std.proofs.Common.{◌++◌, [], sym, subst, ◌∙◌, append-nil}
+use Rattle.std.proofs.Common.{◌++◌, [], length, List, ap, sym, subst, ◌∙◌, append-nil, arith}
 use Rattle.std.specs.Vec.Iter.{into_iter_items}
-use Rattle.schema.specs.Elements.{elements_view}
+use Rattle.bits.specs.Refusals.{IsFault}
+use Rattle.bits.proofs.Passing.{passes}
+use Rattle.schema.specs.Elements.{Element, elements_view}
 use Rattle.pqds.specs.SchemaReading.{AreElementsOf}
-use Rattle.pqds.specs.SchemaViews.{saids}
+use Rattle.pqds.specs.SchemaViews.{said_view, saids}
+use Rattle.pqds.proofs.Elements.{goes_on_with, goes_on_below, no_elements}
 use Rattle.pqds.proofs.Taken.{nothing_left}
 use Rattle.pqds.proofs.schema_reading.elements_of.Goals as goal
+
+pub returns-in_err-element_of-clause-only : goal.returns-in_err-element_of-clause-only
+returns-in_err-element_of-clause-only c =
+    let l = c.loop-said in
+    passes (λ e. IsFault e → (es : List Element) → AreElementsOf (saids c.args.all.items) es → ⊥) c.from_residual-in_err-element_of.result c.in_err-element_of.field-0.0 c.from_residual-in_err-element_of.ensures.1
+    (λ fault. no_elements (saids c.args.all.items) (saids (into_iter_items l.said-iterator)) (saids (into_iter_items c.next.new.self)) (said_view c.in-Some.said) (ap saids c.in-Some.ensures.steps.0)
+    (subst (λ xs. (es : List Element) → AreElementsOf (saids xs) es → (left : List Element) × AreElementsOf (saids (into_iter_items l.said-iterator)) left) c.into_iter-said-iterator.ensures.into_iter_gives.0 l.invariant.2)
+    (c.in_err-element_of.ensures.only fault))
+
+pub loop-said-preserved : goal.loop-said-preserved
+loop-said-preserved c =
+    let l = c.loop-said in
+    let step = c.in-Some.ensures.steps.0 in
+    let gone = c.in-Some.ensures.steps.1 in
+    let short = ap length step in
+    let was = l.invariant.1 in (
+      goes_on_with (saids (into_iter_items c.into_iter-said-iterator.result)) (saids (into_iter_items l.said-iterator)) (saids (into_iter_items c.next.new.self)) (said_view c.in-Some.said) l.elements.items c.push.new.self.items c.in_ok-element_of.field-0
+          (ap saids step) c.in_ok-push.ensures.items c.in_ok-element_of.ensures.stands l.invariant.0,
+      omega arith,
+      goes_on_below _ _ _ _ (ap saids step) l.invariant.2,
+    )
 
 pub returns-clause-stands : goal.returns-clause-stands
 returns-clause-stands c =

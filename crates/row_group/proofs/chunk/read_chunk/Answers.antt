@@ -1,4 +1,5 @@
-use Rattle.std.proofs.Common.{◌≡◌, ℕ, List, map, string_bytes, sym, ap, ◌∙◌, arith, rules}
+use Rattle.std.proofs.Common.{◌≡◌, ℕ, List, map, sym, ap, ◌∙◌, arith, rules}
+use Rattle.std.specs.Rc.{rc_str_bytes}
 use Rattle.std.specs.Prelude.{pos}
 use Rattle.std.proofs.lemmas.Int.{ints}
 use Rattle.std.proofs.lemmas.Result.{IfOk-weaker, IfErr-weaker}
@@ -21,7 +22,7 @@ returns-clause-stands c =
     let leaf = leaf_view c.args.leaf.now in
     let e = c.in_ok-count.ensures.is in
     let number : c.args.meta.now.num_values ≡ pos c.in_ok-count.count = omega (arith, ints) in
-    let path : map (λ s. s.items) c.args.meta.now.path_in_schema.items ≡ map string_bytes c.args.leaf.now.path.items = sym (ap (map _) c.as_slice.ensures.value) ∙ c.is_same_path.ensures.0 c.if-not-is_same_path.false ∙ ap (map _) c.as_slice-2.ensures.value in
+    let path : map (λ s. s.items) c.args.meta.now.path_in_schema.items ≡ map rc_str_bytes c.args.leaf.now.path.items = sym (ap (map _) c.as_slice.ensures.value) ∙ c.is_same_path.ensures.0 c.if-not-is_same_path.false ∙ ap (map _) c.as_slice-2.ensures.value in
     let kind : c.args.meta.now.kind ≡ pos (type_number c.args.leaf.now.leaf_type.kind) = search rules in
     let codec : c.args.meta.now.codec ≡ pos 0 = search rules in
     let is : IsChunkOf m leaf = record { path = path; kind = kind; codec = codec } in
@@ -53,7 +54,7 @@ returns-clause-limit c = λ limit.
     let leaf = leaf_view c.args.leaf.now in
     let e = c.in_ok-count.ensures.is in
     let number : c.args.meta.now.num_values ≡ pos c.in_ok-count.count = omega (arith, ints) in
-    let path : map (λ s. s.items) c.args.meta.now.path_in_schema.items ≡ map string_bytes c.args.leaf.now.path.items = sym (ap (map _) c.as_slice.ensures.value) ∙ c.is_same_path.ensures.0 c.if-not-is_same_path.false ∙ ap (map _) c.as_slice-2.ensures.value in
+    let path : map (λ s. s.items) c.args.meta.now.path_in_schema.items ≡ map rc_str_bytes c.args.leaf.now.path.items = sym (ap (map _) c.as_slice.ensures.value) ∙ c.is_same_path.ensures.0 c.if-not-is_same_path.false ∙ ap (map _) c.as_slice-2.ensures.value in
     let kind : c.args.meta.now.kind ≡ pos (type_number c.args.leaf.now.leaf_type.kind) = search rules in
     let codec : c.args.meta.now.codec ≡ pos 0 = search rules in
     let is : IsChunkOf m leaf = record { path = path; kind = kind; codec = codec } in

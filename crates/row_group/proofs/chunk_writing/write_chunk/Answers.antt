@@ -1,4 +1,5 @@
-use Rattle.std.proofs.Common.{◌≡◌, ◌-◌, ◌∙◌, length, map, Some, string_bytes, refl, sym, ap, arith, to_z, of_z, w32, w64}
+use Rattle.std.proofs.Common.{◌≡◌, ◌-◌, ◌∙◌, length, map, Some, refl, sym, ap, arith, to_z, of_z, w32, w64}
+use Rattle.std.specs.Rc.{rc_str_bytes}
 use Rattle.std.specs.Prelude.{ℤ, pos}
 use Rattle.std.proofs.lemmas.Int.{to_z_pos}
 use Rattle.std.proofs.lemmas.List.{length-map}
@@ -28,8 +29,7 @@ returns-clause-stands c =
     let s = c.len-start.ensures in
     let few = c.if-entries.false in
     let near = c.if-start-gt-MOST_BYTES_BEFORE_CHUNK.false in
-    let bound = c.in_ok-write_pages.ensures.size in
-    let path : map (λ s. s.items) c.in_ok-path_in_schema.path_in_schema.items ≡ map string_bytes c.args.leaf.now.path.items = c.in_ok-path_in_schema.ensures.is ∙ ap (map _) c.as_slice-2.ensures.value in
+    let path : map (λ s. s.items) c.in_ok-path_in_schema.path_in_schema.items ≡ map rc_str_bytes c.args.leaf.now.path.items = c.in_ok-path_in_schema.ensures.is ∙ ap (map _) c.as_slice-2.ensures.value in
     let kind : to_z w32 (of_z w32 c.number.result) ≡ pos (type_number c.args.leaf.now.leaf_type.kind) = ap (λ (z : ℤ). to_z w32 (of_z w32 z)) c.number.ensures ∙ number_kept c.args.leaf.now.leaf_type.kind in
     let count : to_z w64 (length c.args.entries.now) ≡ pos (length es) = to_z_pos w64 (length c.args.entries.now) (omega arith) ∙ ap pos (sym (length-map c.args.entries.now entry_ref_view)) in
     let place : to_z w64 c.len-start.result ≡ pos (length old) = to_z_pos w64 c.len-start.result (omega arith) ∙ ap pos (omega (arith, c.args.out.now.ok.0)) in

@@ -1,6 +1,8 @@
-use Rattle.std.proofs.Common.{◌≡◌, ◌<◌, ◌+◌, ◌++◌, ◌∷◌, [], ◌∙◌, List, length, map, get_or, take, refl, sym, ap, subst, arith}
+use Rattle.std.proofs.Common.{◌≡◌, ◌<◌, ◌+◌, ◌++◌, ◌∷◌, [], ◌∙◌, List, length, map, get_or, take, refl, sym, ap, subst, arith, Result, Ok, Err}
+use Rattle.std.specs.Prelude.{OnErr}
 use Rattle.std.specs.List.{AllByRecursion}
-use Rattle.std.proofs.lemmas.List.{length-map, map-append}
+use Rattle.bits.specs.declared.refusal.Refusal.{Refusal}
+use Rattle.std.proofs.lemmas.List.{length-map, map-append, take-append-le}
 use Rattle.schema.specs.Stripe.{Leaf}
 use Rattle.schema.specs.Law.{IsEntryOf}
 use Rattle.schema.specs.Views.{leaf_view, rows_view}
@@ -8,6 +10,7 @@ use Rattle.metadata.specs.Views.{chunk_meta_view}
 use Rattle.row_group.specs.Columns.{IsFieldOf, column_of, AppendsChunks}
 use Rattle.row_group.proofs.Places.{all_here, shown_here}
 use Rattle.row_group.proofs.Passed.{passed}
+use Rattle.row_group.proofs.Laid.{each_kept}
 use Rattle.row_group.proofs.ColumnsWritten.{chunk_more_at, too_much}
 use Rattle.row_group.proofs.column_writing.write_columns.Goals as goal
 
@@ -37,6 +40,27 @@ returns-in_err-meta_data-clause-limit c = λ limit.
     (shown_here leaf_view leaves i x lt c.leaf-item.is ∙ ap (λ (t : List Leaf). get_or t i (leaf_view x)) is) so_far
     (c.in_err-meta_data.ensures.limit (passed c.from_residual-in_err-meta_data.result c.in_err-meta_data.field-0.0 _ c.from_residual-in_err-meta_data.ensures.1 limit))
 
+-- where what was there stays, it does in a refusal
+refused : {X : Type 0} (r : Result X Refusal) {P : Type 0} → P → OnErr r P
+refused (Ok x) p = tt
+refused (Err e) p = p
+
+pub returns-in_err-meta_data-clause-front : goal.returns-in_err-meta_data-clause-front
+returns-in_err-meta_data-clause-front c =
+    let leaves = take c.loop-leaf.leaf-index (map leaf_view c.leaves-leaves.result.now) in
+    let old = c.args.out.now.items in
+    let kept = each_kept leaves (map (column_of (rows_view c.args.rows.now)) leaves) old c.loop-leaf.out.items (map chunk_meta_view c.loop-leaf.columns.items) c.loop-leaf.invariant.each in
+    refused c.from_residual-in_err-meta_data.result (ap (take (length old)) c.in_err-meta_data.ensures.unchanged ∙ kept.0)
+
+pub returns-in_err-push-clause-front : goal.returns-in_err-push-clause-front
+returns-in_err-push-clause-front c =
+    let leaves = take c.loop-leaf.leaf-index (map leaf_view c.leaves-leaves.result.now) in
+    let old = c.args.out.now.items in
+    let mid = c.loop-leaf.out.items in
+    let more = c.in_ok-meta_data.ensures.stands in
+    let kept = each_kept leaves (map (column_of (rows_view c.args.rows.now)) leaves) old mid (map chunk_meta_view c.loop-leaf.columns.items) c.loop-leaf.invariant.each in
+    refused c.from_residual-in_err-push.result (ap (take (length old)) more.joined ∙ take-append-le (length old) mid more.text kept.1 ∙ kept.0)
+
 pub loop-leaf-preserved : goal.loop-leaf-preserved
 loop-leaf-preserved c =
     let rows = rows_view c.args.rows.now in
@@ -50,4 +74,4 @@ loop-leaf-preserved c =
     let pushed : map chunk_meta_view c.push.new.self.items ≡ map chunk_meta_view c.loop-leaf.columns.items ++ _ ∷ [] = ap (map chunk_meta_view) c.in_ok-push.ensures.items ∙ map-append chunk_meta_view c.loop-leaf.columns.items (_ ∷ []) in
     subst (AppendsChunks (take (i + 1) (map leaf_view leaves)) rows old new) (sym pushed)
     (chunk_more_at (map leaf_view leaves) i (leaf_view x) rows old c.loop-leaf.out.items new (map chunk_meta_view c.loop-leaf.columns.items) _ (omega (arith, lt, length-map leaves leaf_view)) (shown_here leaf_view leaves i x lt c.leaf-item.is)
-    (record { here = refl; own = says.stands.own }) says.short says.few says.stands c.loop-leaf.invariant)
+    (record { here = refl; offset = refl }) says.short says.few says.stands c.loop-leaf.invariant)

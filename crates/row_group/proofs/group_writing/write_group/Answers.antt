@@ -3,9 +3,11 @@ use Rattle.std.specs.Prelude.{ℤ, pos}
 use Rattle.std.specs.List.{AllByRecursion}
 use Rattle.std.proofs.lemmas.Int.{to_z_pos}
 use Rattle.std.proofs.lemmas.List.{length-map}
+use Rattle.schema.specs.Stripe.{leaves_of, columns}
 use Rattle.schema.specs.Views.{row_view, rows_view}
 use Rattle.row_group.specs.Moving.{IsLeafRead}
 use Rattle.row_group.proofs.Flat.{flat}
+use Rattle.row_group.proofs.Laid.{each_kept}
 use Rattle.row_group.proofs.Lent.{fields_of_rows}
 use Rattle.row_group.proofs.ColumnsWritten.{group_written}
 use Rattle.row_group.proofs.group_writing.write_group.Goals as goal
@@ -15,6 +17,14 @@ write_columns-requires-clause-fields c =
     let fs = c.args.schema.now in
     let read = subst (AllByRecursion IsLeafRead) c.leaves.ensures.is (c.is_any_to_come.ensures.none c.if-is_any_to_come.false) in
     fields_of_rows fs (rows_view c.args.rows.now) (flat fs 0 c.leaves.ensures.valid.1 read) (c.all_fit.ensures.all c.if-not-all_fit.false)
+
+pub overflow_sub-result : goal.overflow_sub-result
+overflow_sub-result c =
+    let fs = c.args.schema.now in
+    let old = c.args.out.now in
+    let new = c.write_columns.new.out in
+    let kept = each_kept (leaves_of fs) (columns fs (rows_view c.args.rows.now)) old.items new.items _ c.in-Ok.ensures.stands.each in
+    omega (arith, kept.1, c.len-kept.ensures, c.len.ensures, old.ok.0, new.ok.0)
 
 pub returns-in-Ok-clause-stands : goal.returns-in-Ok-clause-stands
 returns-in-Ok-clause-stands c =

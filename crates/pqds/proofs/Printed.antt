@@ -1,0 +1,22 @@
+-- Rows that are written one by one, each as a line.
+use Rattle.std.proofs.Common.{◌≡◌, ℕ, List, [], ◌∷◌, ◌++◌, Option, sym, ap, subst, ◌∙◌, append_assoc}
+use Rattle.std.specs.Io.KnownBytes.{Appends}
+use Rattle.std.proofs.KnownBytes.{Appends-trans}
+use Rattle.std.proofs.lemmas.List.{flat_map_more}
+use Rattle.schema.specs.Values.{ValueTrees}
+use Rattle.schema.specs.Shape.{Fields}
+use Rattle.pqds.specs.Json.{row_text, lines_of}
+
+-- behind what a writer held stand the lines of the rows before those that are left
+pub record ArePrinted (fs : Fields) (all left : List ValueTrees) (old new : Option (List ℕ)) : Type 0 where
+  pub before : List ValueTrees
+  pub joined : all ≡ before ++ left
+  pub written : Appends old new (lines_of fs before)
+
+pub one_more : (fs : Fields) (all left rest : List ValueTrees) (row : ValueTrees) (old mid new : Option (List ℕ)) → ArePrinted fs all left old mid → left ≡ row ∷ rest → Appends mid new (row_text fs row ++ 10 ∷ [])
+    → ArePrinted fs all rest old new
+one_more fs all left rest row old mid new p is line = record {
+  before = p.before ++ row ∷ [];
+  joined = p.joined ∙ ap (λ (t : List ValueTrees). p.before ++ t) is ∙ sym (append_assoc p.before (row ∷ []) rest);
+  written = subst (Appends old new) (flat_map_more (λ (r : ValueTrees). row_text fs r ++ 10 ∷ []) [] p.before row) (Appends-trans old mid new (lines_of fs p.before) (row_text fs row ++ 10 ∷ []) p.written line);
+}

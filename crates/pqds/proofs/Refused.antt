@@ -1,0 +1,32 @@
+-- What two texts are refused for: a line of the one, or all rows together.
+use Rattle.std.proofs.Common.{◌≡◌, ◌⊎◌, inl, inr, ℕ, List, Result, Ok, Err, refl, ap}
+use Rattle.std.specs.Prelude.{IfErr}
+use Rattle.std.specs.Str.Lines.{lines}
+use Rattle.bits.specs.declared.refusal.Refusal.{Refusal}
+use Rattle.bits.specs.declared.refusal.Refusal.TheVariants.{RowShape, Script, Limit, Memory}
+use Rattle.bits.specs.Refusals.{OnFault, HasCause, IsFault}
+use Rattle.schema.specs.Values.{ValueTrees}
+use Rattle.schema.specs.Shape.{Fields}
+use Rattle.schema.specs.Fits.{RowsFit}
+use Rattle.footer.specs.declared.options.WriteOptions.{WriteOptions}
+use Rattle.footer.specs.Writing.{IsOutOfRange, IsTooMuch, IsToBeWritten}
+use Rattle.pqds.specs.SchemaReading.{IsSchemaText}
+use Rattle.pqds.specs.Program.{AreRowTexts, HasFirstFault, AreRefusedTexts}
+
+-- the first line that is refused
+pub by_line : (options : WriteOptions) (schema_text rows_text : List ℕ) (fs : Fields) (e : Refusal) → IsSchemaText schema_text fs → HasCause (HasFirstFault fs (lines rows_text)) e → AreRefusedTexts options schema_text rows_text e
+by_line options schema_text rows_text fs RowShape says h = (fs, says, h)
+by_line options schema_text rows_text fs Script says h = inr (fs, says, h)
+by_line options schema_text rows_text fs Memory says h = tt
+by_line options schema_text rows_text fs e says h = absurd h.refused
+
+-- rows that fit are refused for no fault of theirs
+pub by_rows : {X : Type 0} (options : WriteOptions) (schema_text rows_text : List ℕ) (fs : Fields) (rows : List ValueTrees) (r : Result X Refusal) → IsSchemaText schema_text fs → AreRowTexts fs (lines rows_text) rows → RowsFit fs rows
+    → OnFault r (RowsFit fs rows → ⊥) → (r ≡ Err Limit → IsOutOfRange options ⊎ (IsTooMuch fs options rows ⊎ IsToBeWritten fs options rows)) → IfErr r (AreRefusedTexts options schema_text rows_text)
+by_rows options schema_text rows_text fs rows (Ok x) says read fit only limit = tt
+by_rows options schema_text rows_text fs rows (Err e) says read fit only limit = go e only (λ is. limit (ap Err is))
+  where
+    go : (e : Refusal) → (IsFault e → RowsFit fs rows → ⊥) → (e ≡ Limit → IsOutOfRange options ⊎ (IsTooMuch fs options rows ⊎ IsToBeWritten fs options rows)) → AreRefusedTexts options schema_text rows_text e
+    go Limit only limit = inr (record { fs = fs; rows = rows; schema = says; read = read; why = limit refl })
+    go Memory only limit = tt
+    go e only limit = absurd (only tt fit)
