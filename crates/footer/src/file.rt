@@ -55,7 +55,7 @@ fn rows_of(alloc: Global, front: &[u8], groups: &[GroupMeta], schema: &Schema) -
 /// The schema of a file, and its rows, all of them still to be made.
 ///
 /// The whole file is accepted before the first row is made: all of its columns are decoded and checked, so
-/// that a row is refused for memory alone. Kept until the rows are made are 40 bytes for each value of
+/// that a row is refused for memory alone. Kept until the rows are made are 48 bytes for each value of
 /// a column, and the bytes of texts; no rows. The time is linear in the bytes.
 ///
 /// Read today are files of at most one row group whose columns are all REQUIRED and at the top level, each
