@@ -1,16 +1,21 @@
 -- What the rules of a disk say of a record that stays or goes on.
-use Rattle.std.proofs.Common.{◌≡◌, ◌≢◌, ◌<◌, ◌≤◌, inl, inr, ⊎_elim, ℕ, List, [], ◌∷◌, ◌++◌, length, take, true, false, IsTrue, refl, sym, ◌∙◌, ap, subst, arith, Result, Ok, Err, Some, None, OnOk, OnErr, IfErr, IsErrOf, is_ok, is_err}
+use Rattle.std.proofs.Common.{◌≡◌, ◌≢◌, ◌⊎◌, ◌<◌, ◌≤◌, inl, inr, ⊎_elim, ℕ, List, [], ◌∷◌, ◌++◌, length, take, true, false, IsTrue, refl, sym, ◌∙◌, ap, subst, arith, Result, Ok, Err, Some, None, OnOk, OnErr, IfErr, IsErrOf, is_ok, is_err}
 use Rattle.disk.specs.declared.binding.Binding.{Binding}
 use Rattle.disk.specs.declared.binding.Binding.TheVariants.{Nothing, Folder, File}
 use Rattle.disk.specs.Paths.{folder_of}
 use Rattle.disk.specs.State.{Image, State, IsFresh, may_leave, held, content}
 use Rattle.disk.specs.Calls.{Passes, Stays, Binds, Tears, Moves, IsStill, NoDoubt, IsRefusal, Takes, Created, FolderMade, Appended, Synced, FolderSynced, IsMovable, Renamed, Removed, IsNoFile}
 use Rattle.disk.specs.declared.fault.Fault.{Fault}
-use Rattle.disk.specs.declared.fault.Fault.TheVariants.{Absent, Exists, Failed}
+use Rattle.disk.specs.declared.fault.Fault.TheVariants.{Absent, Exists, Failed, Memory}
 use Rattle.mem_disk.specs.declared.call.Call.{Call}
+use Rattle.mem_disk.specs.declared.fuse.Done.{Done}
+use Rattle.mem_disk.specs.declared.fuse.Done.TheVariants as extent
+use Rattle.mem_disk.specs.declared.fuse.Trip.{Trip}
+use Rattle.mem_disk.specs.declared.fuse.Trip.TheVariants.{Fails}
 use Rattle.mem_disk.specs.Loose.{Loose, empty, bound, appended, node_synced, node_doubted, folder_synced, replayed, image_of, MayName, MayLeave, IsSound, GoesOn}
-use Rattle.mem_disk.specs.States.{state_with, AlsoFailed, IsAnswer, FailsToSync}
-use Rattle.mem_disk.proofs.Choices.{not_true, at_same, at_other, at_node, at_other_node, equal_or_not, file_is_something, file_is_no_folder, folder_is_something, file_node}
+use Rattle.mem_disk.specs.Failing.{taken, HasDone}
+use Rattle.mem_disk.specs.States.{state_with, AlsoFailed, IsAnswer}
+use Rattle.mem_disk.proofs.Choices.{not_true, at_same, at_other, at_other_node, equal_or_not, file_is_something, file_is_no_folder, folder_is_something, file_node}
 use Rattle.mem_disk.proofs.Bindings.{bound_from, bound_reads, bound_sound, bound_leaves, folder_from, folder_firm}
 use Rattle.mem_disk.proofs.Writes.{appended_from, appended_reads, appended_bytes, synced_from, synced_firm, doubted_from}
 use Rattle.mem_disk.proofs.Passing.{passes_by, passes_on, passes_still, is_still, leaves_now, now_after}
@@ -49,6 +54,9 @@ not_exists e = cc
 
 pub not_absent : Failed ≡ Absent → ⊥
 not_absent e = cc
+
+pub memory_absent : Memory ≡ Absent → ⊥
+memory_absent e = cc
 
 no_exists : {T : Type 0} (result : Result T Fault) → IfErr result (λ e. e ≡ Failed) → IsErrOf result Exists → ⊥
 no_exists result is of = not_exists (sym (is_failed result is Exists of))
@@ -105,6 +113,17 @@ module _ (old new : List Call) (f g r s : ℕ) where
 
   abbrev l : Loose
   l = replayed empty old
+
+  -- a sync that is refused changes nothing
+  pub synced_still : {T : Type 0} (result : Result T Fault) (e : Fault) → result ≡ Err e → e ≢ Absent → IsStill was now → (path : List ℕ) → Synced path was now result
+  synced_still result e is there stays path = record {
+    takes = record { passes = stays.passes; seen = stays.seen; refused = if_any result stays };
+    doubt = λ n d. inl (stays.sure n d);
+    sure = on_err _ result e is;
+    done = on_err _ result e is;
+    unmoved = λ _. stays;
+    absent = λ x. absurd (there (same_err result e Absent is x));
+  }
 
   -- ---- a record that stays
 
@@ -342,21 +361,31 @@ sync_nothing old new f g r s result path n goes file is =
     (λ m ne d. subst IsTrue (at_other_node m n true (l.doubted m) ne) (subst (λ (x : Loose). IsTrue (x.doubted m)) now d))
     file is
 
--- one that has done all
-pub sync_whole : {T : Type 0} (old mid new : List Call) (f g r s : ℕ) (result : Result T Fault) (count : ℕ) → IsSound (replayed empty mid) count → (path : List ℕ) (n : ℕ) → GoesOn old mid (node_doubted (replayed empty old) n) → GoesOn mid new (node_synced (replayed empty mid) n) → (replayed empty old).names path ≡ File n → result ≡ Err Failed → Synced path (state_with old f r) (state_with new g s) result
-sync_whole old mid new f g r s result count sound path n one two file is =
+-- bytes that have become firm are no change
+pub firm_still : (old new : List Call) (f g r s count : ℕ) → IsSound (replayed empty old) count → (n : ℕ) → GoesOn old new (node_synced (replayed empty old) n) → IsStill (state_with old f r) (state_with new g s)
+firm_still old new f g r s count sound n goes =
     let l = replayed empty old in
-    let between : replayed empty mid ≡ node_doubted l n = now_after old mid one.call one.more ∙ one.made in
-    let now : replayed empty new ≡ node_synced (replayed empty mid) n = now_after mid new two.call two.more ∙ two.made in
+    let now : replayed empty new ≡ node_synced l n = now_after old new goes.call goes.more ∙ goes.made in
+    record {
+      passes = passes_by Stays old new f g r s goes.call goes.more (λ c may. (c, synced_from l n count sound c (subst (λ (x : Loose). MayLeave x c) goes.made may), refl));
+      seen = ap image_of now;
+      sure = λ m. subst (λ (x : Loose). IsTrue (x.doubted m) → IsTrue (l.doubted m)) (sym now) (λ d. d);
+    }
+
+-- a failed sync that has done all
+pub sync_whole : {T : Type 0} (old mid new : List Call) (f g r s : ℕ) (result : Result T Fault) (count : ℕ) → IsSound (replayed empty old) count → (path : List ℕ) (n : ℕ) → GoesOn old mid (node_synced (replayed empty old) n) → GoesOn mid new (node_doubted (replayed empty mid) n) → (replayed empty old).names path ≡ File n → result ≡ Err Failed → Synced path (state_with old f r) (state_with new g s) result
+sync_whole old mid new f g r s result count sound path n one two file is =
+    let between : replayed empty mid ≡ node_synced (replayed empty old) n = now_after old mid one.call one.more ∙ one.made in
+    let now : replayed empty new ≡ node_doubted (replayed empty mid) n = now_after mid new two.call two.more ∙ two.made in
     let failed : IfErr result (λ e. e ≡ Failed) = subst (λ (x : Result _ Fault). IfErr x (λ e. e ≡ Failed)) (sym is) refl in
     synced_fails old new f g r s result failed path n
     (passes_on Stays Stays Stays old mid new f g r s
-    (doubted_passes old mid f f r r result failed n one)
-    (passes_by Stays mid new f g r s two.call two.more (λ c may. (c, synced_from (replayed empty mid) n count sound c (subst (λ (x : Loose). MayLeave x c) two.made may), refl)))
-    (λ c may. inl (now_leaves old f r c (doubted_from l n c (subst (λ (x : Loose). MayLeave x c) between (leaves_now mid f r c may)))))
+    (firm_still old mid f f r r count sound n one).passes
+    (doubted_passes mid new f g r s result failed n two)
+    (λ c may. inl (now_leaves old f r c (synced_from (replayed empty old) n count sound c (subst (λ (x : Loose). MayLeave x c) between (leaves_now mid f r c may)))))
     (λ d e c a b. b ∙ a))
     (sym (ap image_of now ∙ ap image_of between))
-    (λ m ne d. subst IsTrue (at_other_node m n true (l.doubted m) ne) (subst (λ (x : Loose). IsTrue (x.doubted m)) between (subst (λ (x : Loose). IsTrue (x.doubted m)) now d)))
+    (λ m ne d. subst (λ (x : Loose). IsTrue (x.doubted m)) between (subst IsTrue (at_other_node m n true ((replayed empty mid).doubted m) ne) (subst (λ (x : Loose). IsTrue (x.doubted m)) now d)))
     file is
 
 binds_twice : (source target : List ℕ) (to : Binding) (d e c : Image) → Binds target to d e → Binds source Nothing e c → Moves source target to d c
@@ -455,23 +484,26 @@ file_within l count sound path n is = sound.named path n (inl (sym is))
 pub goes_from : (make : Loose → Loose) (old mid new : List Call) → mid ≡ old → GoesOn mid new (make (replayed empty mid)) → GoesOn old new (make (replayed empty old))
 goes_from make old mid new same goes = subst (λ (x : List Call). GoesOn x new (make (replayed empty x))) same goes
 
--- after the doubt the sync is done, or not
-pub fails_in_doubt : {A E : Type 0} (res : Result A E) (old mid new : List Call) (f g r s : ℕ) (count : ℕ) → IsSound (replayed empty mid) count → (path : List ℕ) (n : ℕ) → GoesOn old mid (node_doubted (replayed empty old) n) → OnOk res (GoesOn mid new (node_synced (replayed empty mid) n)) → OnErr res (new ≡ mid) → (replayed empty old).names path ≡ File n → FailsToSync path (state_with old f r) (state_with new g s)
-fails_in_doubt (Ok x) old mid new f g r s count sound path n one two same file = sync_whole old mid new f g r s (Err Failed) count sound path n one two file refl
-fails_in_doubt (Err x) old mid new f g r s count sound path n one two same file =
-    sync_nothing old new f g r s (Err Failed) path n (subst (λ (y : List Call). GoesOn old y (node_doubted (replayed empty old) n)) (sym same) one) file refl
+-- by what an answer says, and by what a refusal says
+pub either : {A E P Q R : Type 0} (res : Result A E) → OnOk res P → OnErr res Q → (P → R) → (Q → R) → R
+either (Ok x) p q ok err = ok p
+either (Err e) p q ok err = err q
 
-pub in_doubt : (old new : List Call) (n : ℕ) → GoesOn old new (node_doubted (replayed empty old) n) → (replayed empty new).doubted n ≡ true
-in_doubt old new n goes = ap (λ (x : Loose). x.doubted n) (now_after old new goes.call goes.more ∙ goes.made) ∙ at_node n n true ((replayed empty old).doubted n) refl
+pub on_ok : {A E P Q : Type 0} (res : Result A E) → OnOk res P → (P → Q) → OnOk res Q
+on_ok (Ok x) p f = f p
+on_ok (Err e) p f = tt
 
--- a sync takes no doubt away
-pub doubt_stands : {A E : Type 0} (res : Result A E) (mid new : List Call) (n : ℕ) → OnOk res (GoesOn mid new (node_synced (replayed empty mid) n)) → OnErr res (new ≡ mid) → (replayed empty mid).doubted n ≡ true → (replayed empty new).doubted n ≡ true
-doubt_stands (Ok x) mid new n two same doubt = ap (λ (y : Loose). y.doubted n) (now_after mid new two.call two.more ∙ two.made) ∙ doubt
-doubt_stands (Err x) mid new n two same doubt = ap (λ (y : List Call). (replayed empty y).doubted n) same ∙ doubt
+pub on_refusal : {A E P Q : Type 0} (res : Result A E) → OnErr res P → (P → Q) → OnErr res Q
+on_refusal (Ok x) p f = tt
+on_refusal (Err e) p f = f p
 
--- doubt makes nothing firm
-pub none_firmer : (old new : List Call) (n : ℕ) → GoesOn old new (node_doubted (replayed empty old) n) → (replayed empty new).synced ≡ (replayed empty old).synced
-none_firmer old new n goes = ap (λ (x : Loose). x.synced) (now_after old new goes.call goes.more ∙ goes.made)
+-- a record that stays as it was once it had gone on
+pub stays_at : (old mid new : List Call) (l : Loose) → new ≡ mid → GoesOn old mid l → GoesOn old new l
+stays_at old mid new l same goes = subst (λ (x : List Call). GoesOn old x l) (sym same) goes
+
+-- what a record that goes on says then
+pub goes_to : (old new : List Call) (l : Loose) → GoesOn old new l → replayed empty new ≡ l
+goes_to old new l goes = now_after old new goes.call goes.more ∙ goes.made
 
 -- another name stays as it was
 pub later_name : (old mid : List Call) (path : List ℕ) (to : Binding) → GoesOn old mid (bound (replayed empty old) path to) → (q : List ℕ) → q ≢ path → (replayed empty mid).names q ≡ (replayed empty old).names q
@@ -501,3 +533,31 @@ ok_is_no_err {T} x e is = let P : Result T Fault → Type 0 = elim [ Ok y ↦ Un
 pub err_is : {T : Type 0} (d e : Fault) → let result : Result T Fault = Err d in result ≡ Err e → d ≡ e
 unfolding is_the_err
 err_is {T} d e is = ap (λ (r : Result T Fault). is_the_err r d) is
+
+-- ---- what a failed call has done
+
+pub taken_whole : (step : Loose → Loose) (done : Done) (l : Loose) → (done ≡ extent.Whole) ⊎ (done ≡ extent.Part) → taken step done l ≡ step l
+taken_whole step done l (inl is) = ap (λ (d : Done). taken step d l) is
+taken_whole step done l (inr is) = ap (λ (d : Done). taken step d l) is
+
+pub some_pick : (trip : Trip) (done : Done) → (trip ≡ Fails extent.Nothing → ⊥) → trip ≡ Fails done → (done ≡ extent.Whole) ⊎ (done ≡ extent.Part)
+some_pick trip extent.Nothing none is = absurd (none is)
+some_pick trip extent.Whole none is = inl refl
+some_pick trip extent.Part none is = inr refl
+
+-- a record that has gone on by a step which is taken whole
+pub goes_whole : {Short : Type 0} (step : Loose → Loose) (trip : Trip) (old new : List Call) → (trip ≡ Fails extent.Nothing → ⊥) → GoesOn old new (step (replayed empty old)) → HasDone (taken step) trip old new Short
+goes_whole step trip old new none goes done is = inl (goes_to old new _ goes ∙ sym (taken_whole step done (replayed empty old) (some_pick trip done none is)))
+
+same_pick : (trip : Trip) (one other : Done) → trip ≡ Fails one → trip ≡ Fails other → one ≡ other
+same_pick trip one other is also = let h : Fails one ≡ Fails other = sym is ∙ also in cc
+
+whole_pick : (trip : Trip) (done : Done) → (trip ≡ Fails extent.Nothing → ⊥) → (trip ≡ Fails extent.Part → ⊥) → trip ≡ Fails done → done ≡ extent.Whole
+whole_pick trip done none part is = ⊎_elim (λ e. e) (λ e. absurd (part (is ∙ ap Fails e))) (some_pick trip done none is)
+
+-- a record that has gone on by all of a step that has parts, or by a part of it
+pub goes_in_all : {Short : Type 0} (step : Done → Loose → Loose) (trip : Trip) (old new : List Call) → (trip ≡ Fails extent.Nothing → ⊥) → (trip ≡ Fails extent.Part → ⊥) → replayed empty new ≡ step extent.Whole (replayed empty old) → HasDone step trip old new Short
+goes_in_all step trip old new none part goes done is = inl (goes ∙ ap (λ (d : Done). step d (replayed empty old)) (sym (whole_pick trip done none part is)))
+
+pub goes_in_part : {Short : Type 0} (step : Done → Loose → Loose) (trip : Trip) (old new : List Call) → trip ≡ Fails extent.Part → replayed empty new ≡ step extent.Part (replayed empty old) → HasDone step trip old new Short
+goes_in_part step trip old new part goes done is = inl (goes ∙ ap (λ (d : Done). step d (replayed empty old)) (same_pick trip extent.Part done part is))

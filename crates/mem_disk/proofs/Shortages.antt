@@ -1,8 +1,14 @@
 -- Renames that cannot be, and refused growths that are told as failures.
-use Rattle.std.proofs.Common.{◌≡◌, ◌≢◌, ◌⊎◌, inl, inr, ⊎_elim, ℕ, List, Result, Ok, Err, IsErrOf, refl, ◌∙◌, subst}
+use Rattle.std.proofs.Common.{◌≡◌, ◌≢◌, ◌⊎◌, inl, inr, ⊎_elim, ℕ, List, Result, Ok, Err, IsErrOf, refl, sym, ◌∙◌, subst}
 use Rattle.disk.specs.Paths.{folder_of}
 use Rattle.disk.specs.declared.fault.Fault.{Fault}
 use Rattle.disk.specs.declared.fault.Fault.TheVariants.{Absent, Exists, Failed, Memory}
+use Rattle.mem_disk.specs.declared.call.Call.{Call}
+use Rattle.mem_disk.specs.declared.fuse.Done.{Done}
+use Rattle.mem_disk.specs.declared.fuse.Trip.{Trip}
+use Rattle.mem_disk.specs.declared.fuse.Trip.TheVariants.{Passes, Fails}
+use Rattle.mem_disk.specs.Loose.{Loose}
+use Rattle.mem_disk.specs.Failing.{HasDone}
 use Rattle.mem_disk.specs.Shortages.{told_as}
 use Rattle.mem_disk.specs.States.{AlsoFailed, IsAnswer}
 use Rattle.mem_disk.proofs.Choices.{same_or_not}
@@ -27,3 +33,11 @@ failed_or_short (Err Exists) is = let h : Err Exists ≡ Err Failed = is in cc
 pub reason_or_short : {T Reason Short : Type 0} (done told result : Result T Fault) → told ≡ told_as done → result ≡ told → (IsErrOf done Failed → Reason) → (IsErrOf done Memory → Short) → IsErrOf result Failed → Reason ⊎ Short
 reason_or_short done told result is same failed short of =
     ⊎_elim (λ e. inl (failed e)) (λ e. inr (short e)) (failed_or_short done (subst (λ (x : Result _ Fault). IsErrOf x Failed) (same ∙ is) of))
+
+passes_or_fails : (trip : Trip) (done : Done) → trip ≡ Passes → trip ≡ Fails done → ⊥
+passes_or_fails trip done one other = let h : Passes ≡ Fails done = sym one ∙ other in cc
+
+-- what was done where the call was to fail, and where it was short
+pub done_or_short : {Was Short : Type 0} (step : Done → Loose → Loose) (burnt trip : Trip) (old new : List Call) → burnt ≡ trip → HasDone step burnt old new Was → (burnt ≢ Passes → Was → Short) → HasDone step trip old new Short
+done_or_short step burnt trip old new same has short done is =
+    ⊎_elim inl (λ was. inr (short (λ passes. passes_or_fails burnt done passes (same ∙ is)) was)) (has done (same ∙ is))

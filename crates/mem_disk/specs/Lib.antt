@@ -4,6 +4,7 @@ pub mod States
 pub mod Laws
 pub mod Fuses
 pub mod Shortages
+pub mod Failing
 pub mod Listings
 pub mod Disks
 pub mod Left

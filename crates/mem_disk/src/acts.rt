@@ -1,13 +1,15 @@
 //! What the calls do to what a disk keeps.
 
-ghost use Rattle.std.specs.Prelude.{◌≡◌, ◌≢◌, ◌<◌, ◌⊎◌, ◌↔◌, ℕ, length, IfErr, IsErrOf, IsTrue, OnOk, OnErr, true};
+ghost use Rattle.std.specs.Prelude.{◌≡◌, ◌≢◌, ◌<◌, ◌⊎◌, ◌↔◌, ℕ, length, false, IfErr, IsErrOf, IsTrue, OnOk, OnErr, true};
 ghost use Rattle.disk.specs.Paths.{folder_of};
-ghost use Rattle.disk.specs.Calls.{Created, FolderMade, Appended, Synced, FolderSynced, IsMovable, Renamed, Removed};
+ghost use Rattle.disk.specs.Calls.{IsStill, Created, FolderMade, Appended, Synced, FolderSynced, IsMovable, Renamed, Removed};
 ghost use Rattle.disk.specs.declared.fault.Fault.TheVariants.{Exists, Failed, Memory};
-ghost use Rattle.mem_disk.specs.Loose.{empty, replayed, image_of};
+ghost use Rattle.mem_disk.specs.Loose.{Loose, empty, replayed, image_of, bound, folder_synced};
 ghost use Rattle.mem_disk.specs.Shortages.{IsNoRename, told_as};
+ghost use Rattle.mem_disk.specs.Failing.{taken, written, moved, doubtful, HasDone, IsVacant, IsFile, IsSureFile, IsToBeDone};
 ghost use Rattle.mem_disk.specs.States.{state_with, AlsoFailed, FailsToSync};
 ghost use Rattle.disk.specs.declared.binding.Binding.TheVariants.{Folder, File};
+ghost use Rattle.disk.specs.declared.binding.Binding.TheVariants as binding;
 
 use crate::fuse::{Done, Trip};
 use crate::held::Held;
@@ -27,6 +29,8 @@ impl Held {
         ensures effect { (f g r s : ℕ) → AlsoFailed (Created path.now (state_with self.old.calls.items f r) (state_with self.new.calls.items g s)) result }
         ensures passes { trip ≡ Trip.Passes → IsErrOf result Failed → ⊥ }
         ensures nothing { trip ≡ Trip.Fails Done.Nothing → self.new.calls.items ≡ self.old.calls.items }
+        ensures extent { IsVacant (image_of (replayed empty self.old.calls.items)) path.now → HasDone (taken (λ l. bound l path.now (File (length self.old.nodes.items)))) trip self.old.calls.items self.new.calls.items (IsErrOf result Memory) }
+        ensures short { IsErrOf result Memory → IsToBeDone trip (IsVacant (image_of (replayed empty self.old.calls.items)) path.now) }
     {
         if trip == Trip::Fails(Done::Nothing) {
             return Err(Fault::Failed);
@@ -51,6 +55,8 @@ impl Held {
         ensures effect { (f g r s : ℕ) → AlsoFailed (FolderMade path.now (state_with self.old.calls.items f r) (state_with self.new.calls.items g s)) result }
         ensures passes { trip ≡ Trip.Passes → IsErrOf result Failed → ⊥ }
         ensures nothing { trip ≡ Trip.Fails Done.Nothing → self.new.calls.items ≡ self.old.calls.items }
+        ensures extent { IsVacant (image_of (replayed empty self.old.calls.items)) path.now → HasDone (taken (λ l. bound l path.now Folder)) trip self.old.calls.items self.new.calls.items (IsErrOf result Memory) }
+        ensures short { IsErrOf result Memory → IsToBeDone trip (IsVacant (image_of (replayed empty self.old.calls.items)) path.now) }
     {
         if trip == Trip::Fails(Done::Nothing) {
             return Err(Fault::Failed);
@@ -73,6 +79,8 @@ impl Held {
         ensures which { IfErr result (λ e. e ≢ Exists) }
         ensures nothing { trip ≡ Trip.Fails Done.Nothing → self.new.calls.items ≡ self.old.calls.items }
         ensures passes { trip ≡ Trip.Passes → IsErrOf result Failed → (replayed empty self.old.calls.items).names path.now ≡ Folder }
+        ensures extent { IsFile (image_of (replayed empty self.old.calls.items)) path.now → HasDone (taken (λ l. bound l path.now binding.Nothing)) trip self.old.calls.items self.new.calls.items (IsErrOf result Memory) }
+        ensures short { IsErrOf result Memory → IsToBeDone trip (IsFile (image_of (replayed empty self.old.calls.items)) path.now) }
     {
         if trip == Trip::Fails(Done::Nothing) {
             return Err(Fault::Failed);
@@ -92,7 +100,8 @@ impl Held {
         ensures which { IfErr result (λ e. e ≢ Exists) }
         ensures nothing { trip ≡ Trip.Fails Done.Nothing → self.new.calls.items ≡ self.old.calls.items }
         ensures passes { trip ≡ Trip.Passes → IsErrOf result Failed → IsNoRename source.now target.now (image_of (replayed empty self.old.calls.items)) }
-        ensures short { IsErrOf result Memory → IsMovable (image_of (replayed empty self.old.calls.items)) source.now target.now }
+        ensures extent { IsMovable (image_of (replayed empty self.old.calls.items)) source.now target.now → HasDone (moved source.now target.now) trip self.old.calls.items self.new.calls.items (IsErrOf result Memory) }
+        ensures short { IsErrOf result Memory → IsToBeDone trip (IsMovable (image_of (replayed empty self.old.calls.items)) source.now target.now) }
     {
         if trip == Trip::Fails(Done::Nothing) {
             return Err(Fault::Failed);
@@ -126,6 +135,8 @@ impl Held {
         ensures which { IfErr result (λ e. e ≢ Exists) }
         ensures passes { trip ≡ Trip.Passes → IsErrOf result Failed → ⊥ }
         ensures nothing { trip ≡ Trip.Fails Done.Nothing → self.new.calls.items ≡ self.old.calls.items }
+        ensures extent { (n : ℕ) → (replayed empty self.old.calls.items).names path.now ≡ File n → HasDone (written n bytes.now) trip self.old.calls.items self.new.calls.items (IsErrOf result Memory) }
+        ensures short { IsErrOf result Memory → IsToBeDone trip (IsFile (image_of (replayed empty self.old.calls.items)) path.now) }
     {
         if trip == Trip::Fails(Done::Nothing) {
             return Err(Fault::Failed);
@@ -157,6 +168,8 @@ impl Held {
         ensures passes { trip ≡ Trip.Passes → IsErrOf result Failed → ⊥ }
         ensures doubt { IsErrOf result Failed → (n : ℕ) × ((replayed empty self.old.calls.items).names path.now ≡ File n) × ((replayed empty self.new.calls.items).doubted n ≡ true) }
         ensures nothing { trip ≡ Trip.Fails Done.Nothing → (replayed empty self.new.calls.items).synced ≡ (replayed empty self.old.calls.items).synced }
+        ensures extent { (n : ℕ) → (replayed empty self.old.calls.items).names path.now ≡ File n → (replayed empty self.old.calls.items).doubted n ≡ false → HasDone (doubtful n) trip self.old.calls.items self.new.calls.items (IsErrOf result Memory) }
+        ensures short { IsErrOf result Memory → IsSureFile (replayed empty self.old.calls.items) path.now }
     {
         let Binding::File(node) = self.binding(path) else {
             return Err(Fault::Absent)
@@ -180,16 +193,17 @@ impl Held {
     fn fail_sync(&mut self, done: Done, path: &str, node: usize) -> Result<(), AllocError>
         requires { (replayed empty self.old.calls.items).names path.now ≡ File node }
         ensures effect { (f g r s : ℕ) → FailsToSync path.now (state_with self.old.calls.items f r) (state_with self.new.calls.items g s) }
-        ensures doubt { OnOk result ((replayed empty self.new.calls.items).doubted node ≡ true) }
+        ensures extent { OnOk result (replayed empty self.new.calls.items ≡ doubtful node done (replayed empty self.old.calls.items)) }
         ensures nothing { done ≡ Done.Nothing → (replayed empty self.new.calls.items).synced ≡ (replayed empty self.old.calls.items).synced }
-        ensures err { OnErr result (self.new.calls.items ≡ self.old.calls.items) }
+        ensures err { OnErr result ((f g r s : ℕ) → IsStill (state_with self.old.calls.items f r) (state_with self.new.calls.items g s)) }
     {
-        self.doubt(node)?;
-        if done == Done::Nothing {
-            return Ok(());
+        match done {
+            Done::Nothing => self.doubt(node),
+            Done::Whole | Done::Part => {
+                self.sync(node)?;
+                self.doubt(node)
+            }
         }
-        let _ = self.sync(node);
-        Ok(())
     }
 
     /// Makes a folder's names firm.
@@ -197,8 +211,9 @@ impl Held {
         ensures effect { (f g r s : ℕ) → AlsoFailed (FolderSynced folder.now (state_with self.old.calls.items f r) (state_with self.new.calls.items g s)) (told_as result) }
         ensures which { IfErr result (λ e. e ≢ Exists) }
         ensures passes { trip ≡ Trip.Passes → IsErrOf result Failed → ⊥ }
-        ensures short { IsErrOf result Memory → (replayed empty self.old.calls.items).names folder.now ≡ Folder }
         ensures nothing { trip ≡ Trip.Fails Done.Nothing → self.new.calls.items ≡ self.old.calls.items }
+        ensures extent { (replayed empty self.old.calls.items).names folder.now ≡ Folder → HasDone (taken (λ l. folder_synced l folder.now)) trip self.old.calls.items self.new.calls.items (IsErrOf result Memory) }
+        ensures short { IsErrOf result Memory → IsToBeDone trip ((replayed empty self.old.calls.items).names folder.now ≡ Folder) }
     {
         if trip == Trip::Fails(Done::Nothing) {
             return Err(Fault::Failed);

@@ -75,20 +75,30 @@ impl Fuse {
     }
 }
 
-/// What a call that answers no Memory tells: a refused growth as a failure, which is counted as a shortage where the
-/// call was to pass.
-pub fn tell_shortage(shortages: &mut u64, trip: Trip, done: Result<(), Fault>) -> Result<(), Fault>
+/// Counts a refused growth, where the call is to fail.
+pub fn count_shortage(shortages: &mut u64, trip: Trip, done: &Result<(), Fault>)
+    ensures short { trip ≢ Trip.Passes → IsErrOf done.now Memory → IsOneMore shortages.old shortages.new }
+    ensures passes { trip ≡ Trip.Passes → shortages.new ≡ shortages.old }
+    ensures others { (IsErrOf done.now Memory → ⊥) → shortages.new ≡ shortages.old }
+{
+    if trip == Trip::Passes {
+        return;
+    }
+    if let Err(Fault::Memory) = done {
+        *shortages = shortages.saturating_add(1);
+    }
+}
+
+/// What a call that answers no Memory tells: a refused growth as a failure, which is counted as a shortage.
+pub fn tell_shortage(shortages: &mut u64, done: Result<(), Fault>) -> Result<(), Fault>
     ensures told { result ≡ told_as done }
-    ensures short { trip ≡ Trip.Passes → IsErrOf done Memory → IsOneMore shortages.old shortages.new }
-    ensures trips { trip ≢ Trip.Passes → shortages.new ≡ shortages.old }
+    ensures short { IsErrOf done Memory → IsOneMore shortages.old shortages.new }
     ensures others { (IsErrOf done Memory → ⊥) → shortages.new ≡ shortages.old }
 {
     let Err(Fault::Memory) = done else {
         return done
     };
-    if trip == Trip::Passes {
-        *shortages = shortages.saturating_add(1);
-    }
+    *shortages = shortages.saturating_add(1);
     Err(Fault::Failed)
 }
 

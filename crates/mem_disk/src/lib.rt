@@ -8,8 +8,9 @@
 //! may leave of that (`MayLeave`), and `specs/States.antt` makes of it the state that the trait's contract speaks of,
 //! one moment for each call of the record (`state_with`; of a `MemDisk`: `state_of` in `specs/Disks.antt`). Lists of
 //! names and nodes beside the record answer reads without a replay, and a ghost field ties them to it (`Keeps`).
-//! `specs/Fuses.antt` says which calls fail (`Burns`), `specs/Shortages.antt` when a call that answers no Memory was
-//! short of it, and `specs/Picks.antt` which image a list of words picks (`ArePickedBy`).
+//! `specs/Fuses.antt` says which calls fail (`Burns`), `specs/Failing.antt` what a call that fails has done (`HasDone`),
+//! `specs/Shortages.antt` what a call that answers no Memory tells when it is short of it, and `specs/Picks.antt` which
+//! image a list of words picks (`ArePickedBy`).
 //!
 //! A call takes time that grows with the number of names that ever came up, and not with the length of the record.
 //! `crash` looks up each folder above each name, twice: its time grows with that number, times the depth of the names,
@@ -97,8 +98,9 @@ impl MemDisk {
         self.fuse = Fuse::Once(k, done_of(pick));
     }
 
-    /// How many calls of `rename` and `sync_folder` failed since a growth was refused in them, and for no other reason;
-    /// it stays at the greatest u64. Each of them is among `failures` too. The other calls answer Memory.
+    /// How many calls that answered Failed have done less than they were to, since a growth was refused in them: of
+    /// those that the fuse lets fail any that should do something, of all others `rename` and `sync_folder` alone, which
+    /// answer no Memory. It stays at the greatest u64.
     pub fn shortages(&self) -> u64
         ensures { result ≡ self.now.shortages }
     {

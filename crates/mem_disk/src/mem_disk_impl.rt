@@ -1,18 +1,20 @@
 //! The disk.
 
-ghost use Rattle.std.specs.Prelude.{◌≡◌, ◌≢◌, ◌⊎◌, ◌↔◌, IfErr, IsErrOf};
+ghost use Rattle.std.specs.Prelude.{◌≡◌, ◌≢◌, ◌⊎◌, ◌↔◌, ℕ, length, false, IfErr, IsErrOf};
 ghost use Rattle.disk.specs.State.{IsOneMore};
 ghost use Rattle.disk.specs.Calls.{CountsFailure, Created, FolderMade, Appended, Synced, FolderSynced, IsMovable, Renamed, Removed, RangeRead, Measured, Listed};
-ghost use Rattle.disk.specs.declared.binding.Binding.TheVariants.{Folder};
-ghost use Rattle.mem_disk.specs.Loose.{empty, replayed};
-ghost use Rattle.mem_disk.specs.Disks.{state_of, lawful_of};
+ghost use Rattle.disk.specs.declared.binding.Binding.TheVariants.{Folder, File};
+ghost use Rattle.disk.specs.declared.binding.Binding.TheVariants as binding;
+ghost use Rattle.mem_disk.specs.Loose.{Loose, empty, replayed, bound, folder_synced};
+ghost use Rattle.mem_disk.specs.Disks.{state_of, lawful_of, FailsBy};
 ghost use Rattle.mem_disk.specs.Fuses.{Burns, trip_of};
-ghost use Rattle.mem_disk.specs.Shortages.{IsNoRename, StaysUnlessShort};
+ghost use Rattle.mem_disk.specs.Shortages.{IsNoRename};
+ghost use Rattle.mem_disk.specs.Failing.{taken, written, moved, doubtful, IsVacant, IsFile, IsSureFile, IsToBeDone, StaysUnlessShort};
 ghost use Rattle.mem_disk.specs.declared.fuse.Done.TheVariants as extent;
 ghost use Rattle.mem_disk.specs.declared.fuse.Trip.TheVariants as case;
 
 use crate::MemDisk;
-use crate::fuse::{answer, tell_shortage};
+use crate::fuse::{answer, count_shortage, tell_shortage};
 use disk::{Disk, Entry, Fault};
 use std::alloc::Global;
 
@@ -29,10 +31,12 @@ impl Disk for MemDisk {
         ensures fuse { Burns self.old.fuse self.new.fuse result }
         ensures passes { trip_of self.old.fuse ≡ case.Passes → IsErrOf result Fault.Failed → ⊥ }
         ensures nothing { trip_of self.old.fuse ≡ case.Fails extent.Nothing → self.new.held.calls.items ≡ self.old.held.calls.items }
-        ensures shortages { self.new.shortages ≡ self.old.shortages }
+        ensures extent { IsVacant (state_of self.old).seen path.now → FailsBy (taken (λ l. bound l path.now (File (length self.old.held.nodes.items)))) self.old self.new }
+        ensures ample { StaysUnlessShort (IsToBeDone (trip_of self.old.fuse) (IsVacant (state_of self.old).seen path.now)) result self.old.shortages self.new.shortages }
     {
         let trip = self.fuse.burn();
         let done = self.held.create_file(trip, path);
+        count_shortage(&mut self.shortages, trip, &done);
         answer(&mut self.failures, trip, done)
     }
 
@@ -44,10 +48,12 @@ impl Disk for MemDisk {
         ensures fuse { Burns self.old.fuse self.new.fuse result }
         ensures passes { trip_of self.old.fuse ≡ case.Passes → IsErrOf result Fault.Failed → ⊥ }
         ensures nothing { trip_of self.old.fuse ≡ case.Fails extent.Nothing → self.new.held.calls.items ≡ self.old.held.calls.items }
-        ensures shortages { self.new.shortages ≡ self.old.shortages }
+        ensures extent { IsVacant (state_of self.old).seen path.now → FailsBy (taken (λ l. bound l path.now Folder)) self.old self.new }
+        ensures ample { StaysUnlessShort (IsToBeDone (trip_of self.old.fuse) (IsVacant (state_of self.old).seen path.now)) result self.old.shortages self.new.shortages }
     {
         let trip = self.fuse.burn();
         let done = self.held.create_folder(trip, path);
+        count_shortage(&mut self.shortages, trip, &done);
         answer(&mut self.failures, trip, done)
     }
 
@@ -112,10 +118,12 @@ impl Disk for MemDisk {
         ensures fuse { Burns self.old.fuse self.new.fuse result }
         ensures passes { trip_of self.old.fuse ≡ case.Passes → IsErrOf result Fault.Failed → ⊥ }
         ensures nothing { trip_of self.old.fuse ≡ case.Fails extent.Nothing → self.new.held.calls.items ≡ self.old.held.calls.items }
-        ensures shortages { self.new.shortages ≡ self.old.shortages }
+        ensures extent { (n : ℕ) → (state_of self.old).seen.names path.now ≡ File n → FailsBy (written n bytes.now) self.old self.new }
+        ensures ample { StaysUnlessShort (IsToBeDone (trip_of self.old.fuse) (IsFile (state_of self.old).seen path.now)) result self.old.shortages self.new.shortages }
     {
         let trip = self.fuse.burn();
         let done = self.held.append_file(trip, path, bytes);
+        count_shortage(&mut self.shortages, trip, &done);
         answer(&mut self.failures, trip, done)
     }
 
@@ -128,10 +136,12 @@ impl Disk for MemDisk {
         ensures fuse { Burns self.old.fuse self.new.fuse result }
         ensures passes { trip_of self.old.fuse ≡ case.Passes → IsErrOf result Fault.Failed → ⊥ }
         ensures nothing { trip_of self.old.fuse ≡ case.Fails extent.Nothing → (replayed empty self.new.held.calls.items).synced ≡ (replayed empty self.old.held.calls.items).synced }
-        ensures shortages { self.new.shortages ≡ self.old.shortages }
+        ensures extent { (n : ℕ) → (state_of self.old).seen.names path.now ≡ File n → (replayed empty self.old.held.calls.items).doubted n ≡ false → FailsBy (doubtful n) self.old self.new }
+        ensures ample { StaysUnlessShort (IsSureFile (replayed empty self.old.held.calls.items) path.now) result self.old.shortages self.new.shortages }
     {
         let trip = self.fuse.burn();
         let done = self.held.sync_file(trip, path);
+        count_shortage(&mut self.shortages, trip, &done);
         answer(&mut self.failures, trip, done)
     }
 
@@ -144,11 +154,12 @@ impl Disk for MemDisk {
         ensures fuse { Burns self.old.fuse self.new.fuse result }
         ensures nothing { trip_of self.old.fuse ≡ case.Fails extent.Nothing → self.new.held.calls.items ≡ self.old.held.calls.items }
         ensures passes { trip_of self.old.fuse ≡ case.Passes → IsErrOf result Fault.Failed → IsOneMore self.old.shortages self.new.shortages }
-        ensures ample { StaysUnlessShort ((state_of self.old).seen.names folder.now ≡ Folder) self.old.fuse result self.old.shortages self.new.shortages }
+        ensures extent { (state_of self.old).seen.names folder.now ≡ Folder → FailsBy (taken (λ l. folder_synced l folder.now)) self.old self.new }
+        ensures ample { StaysUnlessShort (IsToBeDone (trip_of self.old.fuse) ((state_of self.old).seen.names folder.now ≡ Folder)) result self.old.shortages self.new.shortages }
     {
         let trip = self.fuse.burn();
         let done = self.held.sync_names(trip, folder);
-        let told = tell_shortage(&mut self.shortages, trip, done);
+        let told = tell_shortage(&mut self.shortages, done);
         answer(&mut self.failures, trip, told)
     }
 
@@ -161,11 +172,12 @@ impl Disk for MemDisk {
         ensures fuse { Burns self.old.fuse self.new.fuse result }
         ensures nothing { trip_of self.old.fuse ≡ case.Fails extent.Nothing → self.new.held.calls.items ≡ self.old.held.calls.items }
         ensures passes { trip_of self.old.fuse ≡ case.Passes → IsErrOf result Fault.Failed → IsNoRename source.now target.now (state_of self.old).seen ⊎ IsOneMore self.old.shortages self.new.shortages }
-        ensures ample { StaysUnlessShort (IsMovable (state_of self.old).seen source.now target.now) self.old.fuse result self.old.shortages self.new.shortages }
+        ensures extent { IsMovable (state_of self.old).seen source.now target.now → FailsBy (moved source.now target.now) self.old self.new }
+        ensures ample { StaysUnlessShort (IsToBeDone (trip_of self.old.fuse) (IsMovable (state_of self.old).seen source.now target.now)) result self.old.shortages self.new.shortages }
     {
         let trip = self.fuse.burn();
         let done = self.held.rename_file(trip, source, target);
-        let told = tell_shortage(&mut self.shortages, trip, done);
+        let told = tell_shortage(&mut self.shortages, done);
         answer(&mut self.failures, trip, told)
     }
 
@@ -178,10 +190,12 @@ impl Disk for MemDisk {
         ensures fuse { Burns self.old.fuse self.new.fuse result }
         ensures nothing { trip_of self.old.fuse ≡ case.Fails extent.Nothing → self.new.held.calls.items ≡ self.old.held.calls.items }
         ensures passes { trip_of self.old.fuse ≡ case.Passes → IsErrOf result Fault.Failed → (state_of self.old).seen.names path.now ≡ Folder }
-        ensures shortages { self.new.shortages ≡ self.old.shortages }
+        ensures extent { IsFile (state_of self.old).seen path.now → FailsBy (taken (λ l. bound l path.now binding.Nothing)) self.old self.new }
+        ensures ample { StaysUnlessShort (IsToBeDone (trip_of self.old.fuse) (IsFile (state_of self.old).seen path.now)) result self.old.shortages self.new.shortages }
     {
         let trip = self.fuse.burn();
         let done = self.held.remove_file(trip, path);
+        count_shortage(&mut self.shortages, trip, &done);
         answer(&mut self.failures, trip, done)
     }
 

@@ -148,6 +148,7 @@ fn a_stop_at_each_call_leaves_each_image_of_the_model_and_no_other(
             let mut disk = MemDisk::new(rt.alloc());
             disk.fuse(k, pick);
             assert_eq!(rt; passed(&mut disk, rt.alloc()), k, "{pick}");
+            assert!(rt; disk.shortages() == 0, "{pick} {k}");
             let wanted = match pick {
                 0 => images_after(k),
                 1 => images_after(k + 1),

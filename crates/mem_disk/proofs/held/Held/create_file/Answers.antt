@@ -1,15 +1,14 @@
-use Rattle.std.proofs.Common.{◌≡◌, ◌≤◌, sym, ◌∙◌, ap, refl, Ok, Err, arith, length, List, ℕ}
+use Rattle.std.proofs.Common.{rules, ◌≡◌, ◌≤◌, sym, ◌∙◌, ap, subst, refl, Ok, Err, arith, length, List, ℕ}
 use Rattle.disk.specs.declared.fault.Fault.TheVariants.{Failed, Exists, Absent, Memory}
 use Rattle.disk.specs.declared.binding.Binding.TheVariants.{File}
-use Rattle.mem_disk.specs.Loose.{Loose, empty, replayed, bound}
-use Rattle.mem_disk.proofs.Effects.{created_stays, created_bound, goes_from, err_of, ok_of_not, not_exists, not_absent}
+use Rattle.mem_disk.specs.declared.fuse.Done.TheVariants as extent
+use Rattle.mem_disk.specs.declared.fuse.Trip.TheVariants.{Fails}
+use Rattle.mem_disk.specs.Loose.{Loose, empty, replayed, bound, GoesOn}
+use Rattle.mem_disk.proofs.Effects.{created_stays, created_bound, goes_from, goes_whole, err_of, ok_of_not, not_exists, not_absent, memory_absent}
 use Rattle.mem_disk.proofs.held.Held.create_file.Goals as goal
 
 memory_exists : Memory ≡ Exists → ⊥
 memory_exists e = cc
-
-memory_absent : Memory ≡ Absent → ⊥
-memory_absent e = cc
 
 exists_absent : Exists ≡ Absent → ⊥
 exists_absent e = cc
@@ -64,3 +63,14 @@ returns-clause-effect c f g r s =
     let gone = sym c.in-Nothing.ensures in
     let home = ap (λ (p : List ℕ). (replayed empty c.args.self.now.calls.items).names p) (sym c.folder_of.ensures.value) ∙ sym c.in-Folder.ensures in
     (created_bound _ _ f g r s (Ok tt) tt _ self.kept.sound path node ge goes gone home, created_bound _ _ f g r s (Err Failed) refl _ self.kept.sound path node ge goes gone home)
+
+pub returns-clause-extent : goal.returns-clause-extent
+returns-clause-extent c _ =
+    let none : c.args.trip ≡ Fails extent.Nothing → ⊥ = λ e. (search rules) in
+    let self = c.args.self.now in
+    let path = c.args.path.now in
+    let goes = goes_from (λ (l : Loose). bound l path (File c.in-Ok.node)) self.calls.items c.add_node.new.self.calls.items c.bind.new.self.calls.items c.add_node.ensures.calls
+    (ok_of_not c.bind.result (sym c.is_err.ensures.value ∙ c.if-is_err.false) c.bind.ensures.ok) in
+    let is : c.in-Ok.node ≡ length self.nodes.items = c.in-Ok.ensures.node.0 in
+    goes_whole (λ (l : Loose). bound l path (File (length self.nodes.items))) c.args.trip _ _ none
+    (subst (λ (k : ℕ). GoesOn self.calls.items c.bind.new.self.calls.items (bound (replayed empty self.calls.items) path (File k))) is goes)

@@ -1,6 +1,10 @@
-use Rattle.std.proofs.Common.{sym, refl, Ok, Err}
+use Rattle.std.proofs.Common.{rules, ◌≡◌, sym, refl, Ok, Err}
 use Rattle.disk.specs.declared.fault.Fault.TheVariants.{Failed}
-use Rattle.mem_disk.proofs.Effects.{removed_bound}
+use Rattle.disk.specs.declared.binding.Binding.TheVariants.{Nothing}
+use Rattle.mem_disk.specs.declared.fuse.Done.TheVariants as extent
+use Rattle.mem_disk.specs.declared.fuse.Trip.TheVariants.{Fails}
+use Rattle.mem_disk.specs.Loose.{Loose, bound}
+use Rattle.mem_disk.proofs.Effects.{removed_bound, goes_whole}
 use Rattle.mem_disk.proofs.held.Held.remove_file.Goals as goal
 
 pub returns-clause-effect : goal.returns-clause-effect
@@ -9,3 +13,8 @@ returns-clause-effect c f g r s =
     let goes = c.in_ok-bind.ensures.ok in
     let file = sym c.in-File.ensures in
     (removed_bound _ _ f g r s (Ok tt) tt _ sound c.args.path.now c.in-File.field-0 goes file, removed_bound _ _ f g r s (Err Failed) refl _ sound c.args.path.now c.in-File.field-0 goes file)
+
+pub returns-clause-extent : goal.returns-clause-extent
+returns-clause-extent c _ =
+    let none : c.args.trip ≡ Fails extent.Nothing → ⊥ = λ e. (search rules) in
+    goes_whole (λ (l : Loose). bound l c.args.path.now Nothing) c.args.trip _ _ none c.in_ok-bind.ensures.ok

@@ -1,13 +1,16 @@
-use Rattle.std.proofs.Common.{inr, ◌≡◌, ◌≢◌, sym, ◌∙◌, subst, refl, Ok, Err, arith, List, ℕ, rules}
+use Rattle.std.proofs.Common.{inr, ◌≡◌, ◌≢◌, sym, ◌∙◌, ap, subst, refl, Ok, Err, arith, List, ℕ, rules}
 use Rattle.disk.specs.declared.fault.Fault.TheVariants.{Failed}
 use Rattle.disk.specs.declared.binding.Binding.{Binding}
-use Rattle.disk.specs.declared.binding.Binding.TheVariants.{Folder, File}
+use Rattle.disk.specs.declared.binding.Binding.TheVariants.{Nothing, Folder, File}
 use Rattle.disk.specs.Calls.{IsMovable}
 use Rattle.disk.specs.Paths.{folder_of}
 use Rattle.mem_disk.specs.declared.call.Call.{Call}
-use Rattle.mem_disk.specs.Loose.{empty, replayed, image_of, bound, GoesOn}
+use Rattle.mem_disk.specs.declared.fuse.Done.TheVariants as extent
+use Rattle.mem_disk.specs.declared.fuse.Trip.TheVariants.{Fails}
+use Rattle.mem_disk.specs.Loose.{Loose, empty, replayed, image_of, bound, GoesOn}
+use Rattle.mem_disk.specs.Failing.{moved}
 use Rattle.mem_disk.proofs.Choices.{not_true, file_is_no_folder, file_is_something}
-use Rattle.mem_disk.proofs.Effects.{file_within, renamed_stays, renamed_part, renamed_whole, err_of, ok_of_not, not_absent, later_name}
+use Rattle.mem_disk.proofs.Effects.{goes_to, goes_in_all, goes_in_part, file_within, renamed_stays, renamed_part, renamed_whole, err_of, ok_of_not, not_absent, later_name}
 use Rattle.mem_disk.proofs.Shortages.{not_beside}
 use Rattle.mem_disk.proofs.held.Held.rename_file.Goals as goal
 
@@ -81,10 +84,31 @@ returns-then-not-are_beside-clause-passes c _ _ = inr (inr (not_beside c.args.so
 
 pub returns-then-is_err-clause-short : goal.returns-then-is_err-clause-short
 returns-then-is_err-clause-short c _ =
+    let none : c.args.trip ≡ Fails extent.Nothing → ⊥ = λ e. (search rules) in
     let beside : (folder_of c.args.target.now ≡ folder_of c.args.source.now) × (c.args.target.now ≢ c.args.source.now) = c.are_beside.ensures.0 (search rules) in
-    movable c.args.self.now.calls.items c.args.source.now c.args.target.now c.in-File.node c.binding-2.result c.in-File.ensures c.binding-2.ensures c.in_default.not-Folder beside
+    (movable c.args.self.now.calls.items c.args.source.now c.args.target.now c.in-File.node c.binding-2.result c.in-File.ensures c.binding-2.ensures c.in_default.not-Folder beside, none)
 
 pub returns-then-is_err-2-clause-short : goal.returns-then-is_err-2-clause-short
 returns-then-is_err-2-clause-short c _ =
+    let none : c.args.trip ≡ Fails extent.Nothing → ⊥ = λ e. (search rules) in
     let beside : (folder_of c.args.target.now ≡ folder_of c.args.source.now) × (c.args.target.now ≢ c.args.source.now) = c.are_beside.ensures.0 (search rules) in
-    movable c.args.self.now.calls.items c.args.source.now c.args.target.now c.in-File.node c.binding-2.result c.in-File.ensures c.binding-2.ensures c.in_default.not-Folder beside
+    (movable c.args.self.now.calls.items c.args.source.now c.args.target.now c.in-File.node c.binding-2.result c.in-File.ensures c.binding-2.ensures c.in_default.not-Folder beside, none)
+
+-- the target's name, and then the source's gone
+named : (old mid : List Call) (source target : List ℕ) (n : ℕ) → GoesOn old mid (bound (replayed empty old) target (File n)) → File n ≡ (replayed empty old).names source → replayed empty mid ≡ bound (replayed empty old) target ((replayed empty old).names source)
+named old mid source target n goes file = goes_to old mid _ goes ∙ ap (λ (b : Binding). bound (replayed empty old) target b) file
+
+pub returns-then-eq-2-clause-extent : goal.returns-then-eq-2-clause-extent
+returns-then-eq-2-clause-extent c _ =
+    let part : c.args.trip ≡ Fails extent.Part = (search rules) in
+    let goes = ok_of_not c.bind.result (sym c.is_err.ensures.value ∙ c.if-is_err.false) c.bind.ensures.ok in
+    goes_in_part (moved c.args.source.now c.args.target.now) c.args.trip c.args.self.now.calls.items c.bind.new.self.calls.items part (named _ _ c.args.source.now c.args.target.now c.in-File.node goes c.in-File.ensures)
+
+pub returns-clause-extent : goal.returns-clause-extent
+returns-clause-extent c _ =
+    let none : c.args.trip ≡ Fails extent.Nothing → ⊥ = λ e. (search rules) in
+    let part : c.args.trip ≡ Fails extent.Part → ⊥ = λ e. (search rules) in
+    let goes = ok_of_not c.bind.result (sym c.is_err.ensures.value ∙ c.if-is_err.false) c.bind.ensures.ok in
+    let then = ok_of_not c.bind-2.result (sym c.is_err-2.ensures.value ∙ c.if-is_err-2.false) c.bind-2.ensures.ok in
+    goes_in_all (moved c.args.source.now c.args.target.now) c.args.trip c.args.self.now.calls.items c.bind-2.new.self.calls.items none part
+    (goes_to _ _ _ then ∙ ap (λ (l : Loose). bound l c.args.source.now Nothing) (named _ _ c.args.source.now c.args.target.now c.in-File.node goes c.in-File.ensures))

@@ -1,6 +1,6 @@
-use Rattle.std.proofs.Common.{sym, refl, Ok, Err}
-use Rattle.disk.specs.declared.fault.Fault.TheVariants.{Failed}
-use Rattle.mem_disk.proofs.Effects.{file_within, synced_done}
+use Rattle.std.proofs.Common.{rules, ◌≡◌, sym, refl, Ok, Err}
+use Rattle.disk.specs.declared.fault.Fault.TheVariants.{Failed, Memory}
+use Rattle.mem_disk.proofs.Effects.{file_within, synced_done, synced_still, memory_absent}
 use Rattle.mem_disk.proofs.held.Held.sync_file.Goals as goal
 
 pub is_doubted-requires : goal.is_doubted-requires
@@ -19,3 +19,8 @@ returns-in_ok-sync-in-Passes-clause-effect c f g r s =
 
 pub returns-in_ok-fail_sync-in-Fails-clause-effect : goal.returns-in_ok-fail_sync-in-Fails-clause-effect
 returns-in_ok-fail_sync-in-Fails-clause-effect c f g r s = (c.fail_sync.ensures.effect f g r s, c.fail_sync.ensures.effect f g r s)
+
+pub returns-in_err-fail_sync-in-Fails-clause-effect : goal.returns-in_err-fail_sync-in-Fails-clause-effect
+returns-in_err-fail_sync-in-Fails-clause-effect c f g r s =
+    let is : c.from_residual-in_err-fail_sync-in-Fails.result ≡ Err Memory = (search rules) in
+    (synced_still _ _ f g r s c.from_residual-in_err-fail_sync-in-Fails.result Memory is memory_absent (c.in_err-fail_sync-in-Fails.ensures.err f g r s) c.args.path.now, c.fail_sync.ensures.effect f g r s)
