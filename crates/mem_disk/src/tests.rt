@@ -137,6 +137,19 @@ fn what_lies_below_an_absent_folder_is_gone(rt: HostRuntime) {
 }
 
 #[test]
+fn a_name_that_is_gone_keeps_its_place_among_the_words(rt: HostRuntime) {
+    let mut disk = MemDisk::new(rt.alloc());
+    disk.create("a").expect(&rt, "room");
+    let mut left = disk.crash(&[]).expect(&rt, "room");
+    assert!(rt; left.length("a") == Err(Fault::Absent));
+    left.create("b").expect(&rt, "room");
+    left.create("a").expect(&rt, "room");
+    let mut again = left.crash(&[1, 0]).expect(&rt, "room");
+    assert!(rt; again.length("a") == Ok(0));
+    assert!(rt; again.length("b") == Err(Fault::Absent));
+}
+
+#[test]
 fn a_sync_after_a_failed_one_makes_nothing_firm(rt: HostRuntime) {
     for (pick, firm) in [(0, 5), (1, 10)] {
         let mut disk = with_file(rt.alloc()).expect(&rt, "room");

@@ -16,6 +16,8 @@ mod example;
 #[cfg(test)]
 mod fake;
 #[cfg(test)]
+mod real_folder;
+#[cfg(test)]
 mod stops;
 #[cfg(test)]
 mod tests;
