@@ -7,3 +7,4 @@ pub mod Passed
 pub mod Texts
 mod Lent
 mod WrittenPages
+pub mod Worked

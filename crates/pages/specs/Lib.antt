@@ -7,3 +7,4 @@ pub mod Flat
 pub mod Apart
 pub mod Writing
 pub mod Headers
+pub mod Worked

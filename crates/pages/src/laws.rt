@@ -1,5 +1,11 @@
 //! What holds of the definitions.
 
+ghost use Rattle.std.specs.Prelude.{Option, List, [], ◌∷◌, codes};
+ghost use Rattle.schema.specs.declared.value.Repetition.TheVariants.{Optional, Repeated};
+ghost use Rattle.schema.specs.Values.{ValueTree, bytes};
+ghost use Rattle.pages.specs.Page.{IsPage, dictionary};
+ghost use Rattle.pages.specs.Writing.{StandsAsPage};
+ghost use Rattle.pages.specs.Worked.{number_leaf, text_leaf, five_null_six, three_lists, page_of_version_1, page_of_version_2, page_of_texts, page_of_lists};
 ghost use Rattle.pages.specs.Apart.{DictionaryIsNotRead, EntriesStandAlone, NoPageOfNoBytes};
 
 use metadata::one_page_header;
@@ -13,3 +19,14 @@ pub fn pages_of_a_dictionary()
 {
     one_page_header();
 }
+
+/// Pages made by hand from the standard: 5, null and 6 of an OPTIONAL leaf as a page of version 1 and as
+/// one of version 2, the texts a and b as a dictionary, and the rows [5, 6], [] and [7] of a REPEATED
+/// leaf, with levels of both kinds.
+#[tactic(auto, using(crate::proofs::Worked::version_1, crate::proofs::Worked::version_2, crate::proofs::Worked::two_texts, crate::proofs::Worked::lists))]
+pub fn worked_examples()
+    ensures version_1 { StandsAsPage (number_leaf Optional) five_null_six page_of_version_1 31 }
+    ensures version_2 { StandsAsPage (number_leaf Optional) five_null_six page_of_version_2 32 }
+    ensures dictionary { (d : Option (List ValueTree)) → IsPage text_leaf d page_of_texts (dictionary (bytes (codes "a") ∷ bytes (codes "b") ∷ [])) 23 }
+    ensures lists { StandsAsPage (number_leaf Repeated) three_lists page_of_lists 43 }
+{}

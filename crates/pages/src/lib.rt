@@ -4,7 +4,7 @@
 //! the pages of a chunk hold, `specs/Encodings.antt` has the table of encodings, `specs/Limits.antt` what is
 //! beyond a limit and what is not read yet, `specs/Apart.antt` what one page says of every other page of the
 //! same bytes. `specs/Writing.antt` says what a written page weighs, and which entries are not written,
-//! `specs/Headers.antt` which header it has.
+//! `specs/Headers.antt` which header it has. `specs/Worked.antt` has pages made by hand.
 #![tactic(auto)]
 
 mod data_page;
@@ -18,7 +18,7 @@ mod writing;
 
 pub use encoding::Encoding;
 pub use entry::EntryRef;
-pub use laws::pages_of_a_dictionary;
+pub use laws::{pages_of_a_dictionary, worked_examples};
 pub use limits::MOST_BYTES_OF_PAGE;
 pub use page::PageRef;
 pub use reading::read_page;

@@ -15,9 +15,6 @@ use Rattle.schema.proofs.LeafLaws.{Way, IsLeaf, IsLeafFrom, map-same_at, leaf_is
 heads : (e f : Entry) (xs ys : List Entry) → e ∷ xs ≡ f ∷ ys → e ≡ f
 heads e f xs ys h = cc
 
-tails : (e f : Entry) (xs ys : List Entry) → e ∷ xs ≡ f ∷ ys → xs ≡ ys
-tails e f xs ys h = cc
-
 -- an entry of a lower definition level, or of another repetition level, is no such start
 no_deeper : (r d k : ℕ) (o : Option ValueTree) (a es b : List Entry) → Starts r (suc d) es → entry r d o ++ a ≡ es ++ b → ⊥
 no_deeper r d k o a [] b s h = s

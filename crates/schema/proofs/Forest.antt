@@ -1,24 +1,25 @@
 -- The trees of a list, from place to place.
 use Rattle.std.proofs.Common.{ℕ, zero, suc, ◌≡◌, ◌+◌, ◌-◌, ◌<◌, ◌≤◌, Bool, true, ◌&&◌, nat_lt, nat_le, max, List, [], ◌∷◌, ◌++◌, length, drop, get_or, refl, ap, sym, subst, ◌∙◌, Option, Some, None, IsTrue, arith, inl, inr}
-use Rattle.std.specs.Prelude.{ℤ, IsSome}
+use Rattle.std.specs.Prelude.{ℤ}
 use Rattle.std.specs.List.{AllByRecursion}
 use Rattle.std.specs.Str.{is_utf8}
-use Rattle.std.proofs.lemmas.Bool.{and_parts, false≢true}
+use Rattle.std.proofs.lemmas.Bool.{and_parts}
 use Rattle.std.proofs.lemmas.Bool.Decides.{nat_tests}
 use Rattle.std.proofs.lemmas.List.{drop_more}
 use Rattle.bits.specs.declared.refusal.Refusal.{Refusal}
 use Rattle.bits.specs.declared.refusal.Refusal.TheVariants as refusal
+use Rattle.bits.specs.Refusals.{HasCause}
 use Rattle.schema.specs.declared.value.Repetition.{Repetition}
 use Rattle.schema.specs.declared.element.Element.{Element as CodeElement}
 use Rattle.schema.specs.declared.field.Field.{Field as CodeField}
 use Rattle.schema.specs.Annotations.{group_annotation_of}
 use Rattle.schema.specs.declared.annotation.GroupAnnotation.{GroupAnnotation}
 use Rattle.schema.specs.Elements.{Element, element_view, elements_view}
-use Rattle.schema.specs.Shape.{Field, leaf, fields, Fields, no_fields, field, name_of}
+use Rattle.schema.specs.Shape.{Field, leaf, fields, Fields, no_fields, field}
 use Rattle.schema.specs.Views.{field_view, field_views}
 use Rattle.schema.specs.Law.{AllDiffer, names, IsFilled, IsGroupOf, AreValid}
-use Rattle.schema.specs.Listing.{Branch, branch, Branches, no_branches, branches, branch_names, count_branches, repetition, AreFields, IsSound, IsSoundKind, HasLeaf, HasLeafAmong, height, height_of}
-use Rattle.schema.specs.Reading.{amount, children, children_by, may_have, forest, well_formed, take_branches, drop_branches, OnFirst, IsRead, AreRead, IsFaultOf, IsFaultAmong, IsNameFault, IsLeafFault, IsLeafOf, IsGroupMade, AreTwins, join_fields, tallest}
+use Rattle.schema.specs.Listing.{Branch, branch, Branches, no_branches, branches, branch_names, count_branches, repetition, AreFields, IsSound, height, height_of}
+use Rattle.schema.specs.Reading.{amount, children, children_by, may_have, forest, well_formed, take_branches, drop_branches, OnFirst, IsRead, AreRead, IsFaultOf, IsFaultAmong, IsGroupMade, AreTwins, join_fields, tallest}
 
 pub at_place : (es : List CodeElement) (i : ℕ) (e : CodeElement) → i < length es → e ≡ get_or es i e → elements_view (drop i es) ≡ element_view e ∷ elements_view (drop (i + 1) es)
 at_place es i e h is = ap elements_view (drop_more es i e h) ∙ ap (λ t. element_view t ∷ elements_view (drop (i + 1) es)) (sym is)
@@ -28,10 +29,6 @@ drop_past [] zero h = refl
 drop_past [] (suc i) h = refl
 drop_past (x ∷ xs) zero h = absurd (omega (arith, h))
 drop_past (x ∷ xs) (suc i) h = drop_past xs i (omega (arith, h))
-
--- where trees are left there is an element
-pub some_left : (es : List CodeElement) (i : ℕ) → 1 ≤ count_branches (forest (elements_view (drop i es))) → (length es ≤ i → ⊥)
-some_left es i h p = let none : 1 ≤ 0 = subst (λ t. 1 ≤ count_branches (forest (elements_view t))) (drop_past es i p) h in absurd (omega (arith, none))
 
 to_le : (a b : ℕ) → nat_le a b ≡ true → a ≤ b
 to_le a b p = grind (arith, nat_tests)
@@ -160,90 +157,9 @@ later_fault P deep k m no_branches G e is h here bad = absurd (omega (arith, h, 
 later_fault P deep k m (branches b bs) G e is h here bad =
     subst (λ n. IsFaultAmong deep (take_branches n (branches b bs)) e) (sym is) (fault_later deep b (take_branches m bs) e (subst (λ t. IsFaultAmong deep (take_branches m t) e) here.1 bad))
 
--- faults of a name and of a leaf
-pub name_fault : (deep : ℕ) (e : Element) (bs : Branches) (r : Refusal) → IsNameFault e.name r → IsFaultOf deep (branch e bs) r
-name_fault deep e bs refusal.Schema h = λ s. false≢true (sym h ∙ s.0)
-name_fault deep e bs (refusal.Float path) h = absurd h
-name_fault deep e bs (refusal.Int96 path) h = absurd h
-name_fault deep e bs refusal.Limit h = absurd h
-name_fault deep e bs refusal.Memory h = tt
-name_fault deep e bs refusal.Truncated h = absurd h
-name_fault deep e bs refusal.Magic h = absurd h
-name_fault deep e bs refusal.Thrift h = absurd h
-name_fault deep e bs refusal.Codec h = absurd h
-name_fault deep e bs refusal.Encoding h = absurd h
-name_fault deep e bs refusal.Page h = absurd h
-name_fault deep e bs refusal.Levels h = absurd h
-name_fault deep e bs refusal.Value h = absurd h
-name_fault deep e bs refusal.Utf8 h = absurd h
-name_fault deep e bs refusal.RowShape h = absurd h
-name_fault deep e bs refusal.NoColumn h = absurd h
-name_fault deep e bs refusal.Unordered h = absurd h
-name_fault deep e bs refusal.Key h = absurd h
-name_fault deep e bs refusal.NoGroup h = absurd h
-name_fault deep e bs refusal.Stale h = absurd h
-name_fault deep e bs refusal.NoJob h = absurd h
-name_fault deep e bs refusal.NoCursor h = absurd h
-name_fault deep e bs refusal.Full h = absurd h
-name_fault deep e bs refusal.NoTable h = absurd h
-name_fault deep e bs refusal.Exists h = absurd h
-name_fault deep e bs refusal.Device h = absurd h
-name_fault deep e bs refusal.InDoubt h = absurd h
-name_fault deep e bs refusal.Closed h = absurd h
-name_fault deep e bs refusal.Script h = absurd h
-
-none_some : {A : Type 0} (o : Option A) → o ≡ None → IsSome o → ⊥
-none_some None e h = absurd (false≢true h)
-none_some (Some x) e h = cc
-
-pub repetition_fault : (e : Element) (bs : Branches) → repetition e.repetition_type ≡ None → IsSound (branch e bs) → ⊥
-repetition_fault e bs none s = none_some _ none s.1
-
 no_children : (k c : Option ℤ) (z : ℤ) → k ≡ Some z → children_by k c ≡ 0
 no_children None c z h = cc
 no_children (Some y) c z h = refl
-
-leaf_fault_at : (deep : ℕ) (e : Element) (z : ℤ) (name : List ℕ) (r : Refusal) → e.kind ≡ Some z → name ≡ e.name → IsLeafFault e z name r → IsFaultOf deep (branch e no_branches) r
-leaf_fault_at deep e z name refusal.Schema k n h = λ s. h (subst (IsSoundKind e) k s.2)
-leaf_fault_at deep e z name (refusal.Float path) k n h = (h.0, h.1 ∙ n)
-leaf_fault_at deep e z name (refusal.Int96 path) k n h = (h.0, h.1 ∙ n)
-leaf_fault_at deep e z name refusal.Limit k n h = absurd h
-leaf_fault_at deep e z name refusal.Memory k n h = tt
-leaf_fault_at deep e z name refusal.Truncated k n h = absurd h
-leaf_fault_at deep e z name refusal.Magic k n h = absurd h
-leaf_fault_at deep e z name refusal.Thrift k n h = absurd h
-leaf_fault_at deep e z name refusal.Codec k n h = absurd h
-leaf_fault_at deep e z name refusal.Encoding k n h = absurd h
-leaf_fault_at deep e z name refusal.Page k n h = absurd h
-leaf_fault_at deep e z name refusal.Levels k n h = absurd h
-leaf_fault_at deep e z name refusal.Value k n h = absurd h
-leaf_fault_at deep e z name refusal.Utf8 k n h = absurd h
-leaf_fault_at deep e z name refusal.RowShape k n h = absurd h
-leaf_fault_at deep e z name refusal.NoColumn k n h = absurd h
-leaf_fault_at deep e z name refusal.Unordered k n h = absurd h
-leaf_fault_at deep e z name refusal.Key k n h = absurd h
-leaf_fault_at deep e z name refusal.NoGroup k n h = absurd h
-leaf_fault_at deep e z name refusal.Stale k n h = absurd h
-leaf_fault_at deep e z name refusal.NoJob k n h = absurd h
-leaf_fault_at deep e z name refusal.NoCursor k n h = absurd h
-leaf_fault_at deep e z name refusal.Full k n h = absurd h
-leaf_fault_at deep e z name refusal.NoTable k n h = absurd h
-leaf_fault_at deep e z name refusal.Exists k n h = absurd h
-leaf_fault_at deep e z name refusal.Device k n h = absurd h
-leaf_fault_at deep e z name refusal.InDoubt k n h = absurd h
-leaf_fault_at deep e z name refusal.Closed k n h = absurd h
-leaf_fault_at deep e z name refusal.Script k n h = absurd h
-
-pub leaf_fault : (deep : ℕ) (e : Element) (G : Branches) (z : ℤ) (name : List ℕ) (r : Refusal) → e.kind ≡ Some z → name ≡ e.name → IsLeafFault e z name r → IsFaultOf deep (branch e (take_branches (children e) G)) r
-leaf_fault deep e G z name r k n h = subst (λ t. IsFaultOf deep (branch e (take_branches t G)) r) (sym (no_children e.kind e.num_children z k)) (leaf_fault_at deep e z name r k n h)
-
-pub leaf_behind : (e : Element) (G : Branches) (z : ℤ) → e.kind ≡ Some z → drop_branches (children e) G ≡ G
-leaf_behind e G z k = ap (λ t. drop_branches t G) (no_children e.kind e.num_children z k)
-
-pub leaf_read : (deep : ℕ) (e : Element) (bs : Branches) (n : List ℕ) (r : Repetition) (f : Field) → n ≡ e.name → IsTrue (is_utf8 e.name) → repetition e.repetition_type ≡ Some r → 1 ≤ deep → IsLeafOf e n r f → IsRead deep (branch e bs) f
-leaf_read deep e bs n r (leaf m s t) name text rep d h =
-    record { stands_for = (h.0 ∙ name, rep ∙ ap Some (sym h.1), h.2); valid = h.3; text = subst (λ x. IsTrue (is_utf8 x)) (sym (h.0 ∙ name)) text; short = d }
-leaf_read deep e bs n r (fields m s a fs) name text rep d h = absurd h
 
 -- what is read has the names and the number of its branches
 pub names-read : (deep : ℕ) (bs : Branches) (fs : Fields) → AreRead deep bs fs → names fs ≡ branch_names bs
@@ -306,10 +222,6 @@ group_read deep d e bs n r a fs is name text rep none an h some differ =
 pub twins_fault : (deep d : ℕ) (e : Element) (bs : Branches) (fs : Fields) → AreRead d bs fs → (AllDiffer (names fs) → ⊥) → IsSound (branch e bs) → ⊥
 twins_fault deep d e bs fs h bad s = bad (subst AllDiffer (sym (names-read d bs fs h)) s.3)
 
-inside_leaf : (Is : Element → Type 0) (e : Element) (bs : Branches) (path whole : List ℕ) → HasLeafAmong Is bs path → whole ≡ e.name ++ 46 ∷ path → HasLeaf Is (branch e bs) whole
-inside_leaf Is e no_branches path whole h is = absurd h
-inside_leaf Is e (branches b bs) path whole h is = (path, h, is)
-
 pub well_from : (es : List CodeElement) (i : ℕ) → well_formed (elements_view es) ≡ true → well_formed (elements_view (drop i es)) ≡ true
 well_from es zero h = h
 well_from [] (suc i) h = h
@@ -352,23 +264,12 @@ well_place es i e h is w = well_parts (element_view e) (elements_view (drop (i +
 pub field_place : (fs : List CodeField) (i : ℕ) (f : CodeField) → i < length fs → f ≡ get_or fs i f → field_views (drop i fs) ≡ field (field_view f) (field_views (drop (i + 1) fs))
 field_place fs i f h is = ap field_views (drop_more fs i f h) ∙ ap (λ t. field (field_view t) (field_views (drop (i + 1) fs))) (sym is)
 
-pub differ_split : (fs : List CodeField) (i : ℕ) (f : CodeField) → i < length fs → f ≡ get_or fs i f → AllDiffer (names (field_views (drop i fs)))
-    → AllByRecursion (λ m. name_of (field_view f) ≡ m → ⊥) (names (field_views (drop (i + 1) fs))) × AllDiffer (names (field_views (drop (i + 1) fs)))
-differ_split fs i f h is d = subst (λ t. AllDiffer (names t)) (field_place fs i f h is) d
-
-pub differ_join : (fs : List CodeField) (i : ℕ) (f : CodeField) → i < length fs → f ≡ get_or fs i f
-    → AllByRecursion (λ m. name_of (field_view f) ≡ m → ⊥) (names (field_views (drop (i + 1) fs))) → AllDiffer (names (field_views (drop (i + 1) fs))) → AllDiffer (names (field_views (drop i fs)))
-differ_join fs i f h is a d = subst (λ t. AllDiffer (names t)) (sym (field_place fs i f h is)) (a, d)
-
-pub others : (n m : List ℕ) (xs ys : List (List ℕ)) → n ≡ m → xs ≡ ys → AllByRecursion (λ x. n ≡ x → ⊥) xs → AllByRecursion (λ x. m ≡ x → ⊥) ys
-others n m xs ys p q h = subst (λ t. AllByRecursion (λ x. t ≡ x → ⊥) ys) p (subst (λ t. AllByRecursion (λ x. n ≡ x → ⊥) t) q h)
-
-twins_at : (deep d : ℕ) (e : Element) (bs : Branches) (fs : Fields) (r : Refusal) → AreRead d bs fs → AreTwins fs r → IsFaultOf deep (branch e bs) r
+twins_at : (deep d : ℕ) (e : Element) (bs : Branches) (fs : Fields) (r : Refusal) → AreRead d bs fs → HasCause (AreTwins fs) r → IsFaultOf deep (branch e bs) r
 twins_at deep d e bs fs refusal.Schema h bad = twins_fault deep d e bs fs h bad
 twins_at deep d e bs fs (refusal.Float path) h bad = absurd bad
 twins_at deep d e bs fs (refusal.Int96 path) h bad = absurd bad
 twins_at deep d e bs fs refusal.Limit h bad = absurd bad
-twins_at deep d e bs fs refusal.Memory h bad = absurd bad
+twins_at deep d e bs fs refusal.Memory h bad = tt
 twins_at deep d e bs fs refusal.Truncated h bad = absurd bad
 twins_at deep d e bs fs refusal.Magic h bad = absurd bad
 twins_at deep d e bs fs refusal.Thrift h bad = absurd bad
@@ -396,7 +297,7 @@ twins_at deep d e bs fs refusal.Script h bad = absurd bad
 
 -- two fields of one name are a fault of the group at a place
 pub group_twins : (es : List CodeElement) (i : ℕ) (e : CodeElement) (n d deep : ℕ) (fs : Fields) (r : Refusal) → i < length es → e ≡ get_or es i e → n ≡ children (element_view e)
-    → AreRead d (take_branches n (forest (elements_view (drop (i + 1) es)))) fs → AreTwins fs r → OnFirst (forest (elements_view (drop i es))) (λ b bs. IsFaultOf deep b r)
+    → AreRead d (take_branches n (forest (elements_view (drop (i + 1) es)))) fs → HasCause (AreTwins fs) r → OnFirst (forest (elements_view (drop i es))) (λ b bs. IsFaultOf deep b r)
 group_twins es i e n d deep fs r h is asked read bad =
     let G : Branches = forest (elements_view (drop (i + 1) es)) in
     on_place (λ b bs. IsFaultOf deep b r) es i e h is

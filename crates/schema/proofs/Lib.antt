@@ -11,6 +11,7 @@ pub mod Worked
 pub mod Entries
 pub mod Typed
 pub mod Forest
+pub mod Names
 pub mod Trees
 pub mod Limits
 pub mod OneSchema

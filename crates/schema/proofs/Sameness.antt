@@ -20,6 +20,3 @@ same_first a b i d e f g h = let k = sym (views-drop a i d f) ∙ h ∙ views-dr
 -- and so is what is left behind it
 pub same_rest : (a b : List Value) (i : ℕ) (d e : Value) → i < length a → i < length b → views (drop i a) ≡ views (drop i b) → views (drop (i + 1) a) ≡ views (drop (i + 1) b)
 same_rest a b i d e f g h = let k = sym (views-drop a i d f) ∙ h ∙ views-drop b i e g in cc
-
-pub same_both : (a b : List Value) (i : ℕ) (d e : Value) → i < length a → i < length b → view (get_or a i d) ≡ view (get_or b i e) → views (drop (i + 1) a) ≡ views (drop (i + 1) b) → views (drop i a) ≡ views (drop i b)
-same_both a b i d e f g first rest = views-drop a i d f ∙ ap (λ t. value t (views (drop (i + 1) a))) first ∙ ap (value (view (get_or b i e))) rest ∙ sym (views-drop b i e g)

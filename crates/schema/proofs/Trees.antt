@@ -1,5 +1,5 @@
 -- A list that is well formed is the listing of its trees, and the listing of trees is well formed.
-use Rattle.std.proofs.Common.{ℕ, zero, suc, ◌≡◌, ◌<◌, ◌≤◌, Bool, true, ◌&&◌, nat_lt, nat_le, List, [], ◌∷◌, ◌++◌, length, drop, get_or, refl, ap, sym, subst, ◌∙◌, Option, Some, None, append_assoc, arith, inl, inr}
+use Rattle.std.proofs.Common.{ℕ, zero, suc, ◌≡◌, ◌<◌, ◌≤◌, Bool, true, ◌&&◌, nat_lt, nat_le, List, [], ◌∷◌, ◌++◌, drop, get_or, refl, ap, sym, subst, ◌∙◌, Option, Some, None, append_assoc, arith, inl, inr}
 use Rattle.std.specs.Prelude.{ℤ, pos, negsuc}
 use Rattle.std.proofs.lemmas.Bool.{false≢true}
 use Rattle.std.proofs.lemmas.Bool.Decides.{nat_tests}
@@ -151,10 +151,6 @@ tree_at root below c g = (g, well-listing (branch root below) c, ap count_branch
 pub only_tree : (es : List Element) (root : Element) (below : Branches) → IsTreeOf es root below → HasTree es
 only_tree es root below t = subst HasTree (sym t.listed) (tree_at root below t.counted t.group)
 
-rest_of : List Element → List Element
-rest_of [] = []
-rest_of (e ∷ es) = es
-
 same_rest : (e f : Element) (xs ys : List Element) → e ∷ xs ≡ f ∷ ys → xs ≡ ys
 same_rest e f xs ys h = cc
 
@@ -212,16 +208,6 @@ Rest es = forest (elements_view (drop 1 es))
 
 pub whole_rest : (es : List CodeElement) (e : CodeElement) (n : ℕ) → e ≡ get_or es 0 e → HasTree (elements_view es) → n ≡ children (element_view e) → take_branches n (Rest es) ≡ Rest es
 whole_rest es e n h t is = take_whole n (Rest es) (is ∙ children_all (element_view e) (elements_view (drop 1 es)) (subst HasTree (first_is es e h t) t))
-
-pub enough_rest : (es : List CodeElement) (e : CodeElement) (n : ℕ) → e ≡ get_or es 0 e → HasTree (elements_view es) → n ≡ children (element_view e) → n ≤ count_branches (Rest es)
-enough_rest es e n h t is = let k = children_all (element_view e) (elements_view (drop 1 es)) (subst HasTree (first_is es e h t) t) in omega (arith, k, is)
-
-pub well_rest : (es : List CodeElement) (e : CodeElement) → e ≡ get_or es 0 e → HasTree (elements_view es) → well_formed (elements_view (drop 1 es)) ≡ true
-well_rest es e h t = (well_parts (element_view e) (elements_view (drop 1 es)) (subst HasTree (first_is es e h t) t).1).2
-
-pub some_first : (es : List CodeElement) → HasTree (elements_view es) → 0 < length es
-some_first [] t = absurd t
-some_first (x ∷ xs) t = omega arith
 
 -- a fault below the root is the list's
 pub fault_list : (es : List CodeElement) (e : CodeElement) (n : ℕ) (r : Refusal) → e ≡ get_or es 0 e → HasTree (elements_view es) → n ≡ children (element_view e) → IsFaultAmong 32 (take_branches n (Rest es)) r → HasFault (elements_view es) r

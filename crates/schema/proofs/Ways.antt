@@ -8,7 +8,7 @@ use Rattle.schema.specs.declared.field.Field.{Field as CodeField}
 use Rattle.schema.specs.Shape.{Field, Fields, no_fields, field, repetition_of, name_of}
 use Rattle.schema.specs.Stripe.{Step, Leaf, leaf_at, below, leaves, leaves_from}
 use Rattle.schema.specs.Leafing.{along}
-use Rattle.schema.specs.Reading.{tall, tallest}
+use Rattle.schema.specs.Reading.{tallest}
 use Rattle.schema.specs.Views.{field_view, field_views, step_view}
 use Rattle.schema.proofs.Forest.{field_place}
 
@@ -53,9 +53,6 @@ push_way out more path down steps further name x fs i f h is named same deeper o
     ∙ ap (λ p. out ++ (map (along p (map step_view further)) (leaves (field_view f)) ++ rest)) names
     ∙ ap (λ s. out ++ (map (along (P ++ name_of (field_view f) ∷ []) s) (leaves (field_view f)) ++ rest)) ways
     ∙ ap (λ t. out ++ t) (sym (ways_more P S fs i f h is))
-
-pub tall_first : (n : ℕ) (fs : List CodeField) (i : ℕ) (f : CodeField) → i < length fs → f ≡ get_or fs i f → n + tallest (field_views (drop i fs)) ≤ 32 → n + tall (field_view f) ≤ 32
-tall_first n fs i f h is deep = let k = subst (λ t. n + tallest t ≤ 32) (field_place fs i f h is) deep in omega (arith, k)
 
 pub tall_rest : (n : ℕ) (fs : List CodeField) (i : ℕ) (f : CodeField) → i < length fs → f ≡ get_or fs i f → n + tallest (field_views (drop i fs)) ≤ 32 → n + tallest (field_views (drop (i + 1) fs)) ≤ 32
 tall_rest n fs i f h is deep = let k = subst (λ t. n + tallest t ≤ 32) (field_place fs i f h is) deep in omega (arith, k)

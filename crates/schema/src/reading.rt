@@ -1,7 +1,7 @@
 //! The list of a schema's elements, read into fields.
 
 ghost use Rattle.std.specs.Prelude.{◌≡◌, ◌+◌, ◌<◌, ◌≤◌, ◌↔◌, IfOk, IfErr, drop, length, true, false, IsTrue, MatchOption, string_bytes};
-ghost use Rattle.std.specs.List.{AllByRecursion};
+ghost use Rattle.bits.specs.Refusals.{RefusedOnly};
 ghost use Rattle.schema.specs.Elements.{element_view, elements_view};
 ghost use Rattle.schema.specs.Law.{AllDiffer, names, IsWithinLimits};
 ghost use Rattle.schema.specs.Shape.{name_of, repetition_of};
@@ -17,6 +17,7 @@ use crate::field::Field;
 use crate::value::Repetition;
 use bits::{R, Refusal};
 use std::alloc::Global;
+use std::collections::BTreeSet;
 
 /// A schema has at most so many leaves.
 const LEAVES: usize = 1024;
@@ -89,30 +90,21 @@ impl Field {
     }
 }
 
-/// Whether a field has this name.
-fn has_name(fields: &[Field], name: &str) -> bool
-    ensures { (result ≡ false) ↔ AllByRecursion (λ m. name.now ≡ m → ⊥) (names (field_views fields.now)) }
+/// Whether no two of the fields have one name. Each name is looked up, in order, among those behind it: for n
+/// names about n log n comparisons.
+pub fn names_differ(alloc: Global, fields: &[Field]) -> R<bool>
+    ensures is { IfOk result (λ b. IsTrue b ↔ AllDiffer (names (field_views fields.now))) }
+    ensures which { RefusedOnly (λ _. ⊥) result }
 {
-    for field in fields {
-        if field.name() == name {
-            return true;
+    let mut behind = BTreeSet::new(alloc);
+    let mut at = fields.len();
+    while at > 0 {
+        at -= 1;
+        if !behind.insert(fields[at].name())? {
+            return Ok(false);
         }
     }
-    false
-}
-
-/// Whether no two of the fields have one name. Names are compared pair by pair: there are no more than
-/// a schema may have leaves.
-pub fn names_differ(fields: &[Field]) -> bool
-    ensures { IsTrue result ↔ AllDiffer (names (field_views fields.now)) }
-{
-    for i in 0..fields.len() {
-        let (_, behind) = fields.split_at(i + 1);
-        if has_name(behind, fields[i].name()) {
-            return false;
-        }
-    }
-    true
+    Ok(true)
 }
 
 /// The refusal of something inside a group of this name.
@@ -133,11 +125,17 @@ fn inside(alloc: Global, name: &str, refusal: Refusal) -> Refusal
 }
 
 /// The group of this element, with these fields.
-fn group(element: &Element, name: String, repetition: Repetition, fields: Vec<Field>) -> R<Field>
+fn group(
+    alloc: Global,
+    element: &Element,
+    name: String,
+    repetition: Repetition,
+    fields: Vec<Field>,
+) -> R<Field>
     ensures stands { IfOk result (λ f. IsGroupMade (element_view element.now) (string_bytes name) repetition (field_views fields.items) (field_view f)) }
-    ensures which { IfErr result (AreTwins (field_views fields.items)) }
+    ensures which { RefusedOnly (AreTwins (field_views fields.items)) result }
 {
-    if !names_differ(fields.as_slice()) {
+    if !names_differ(alloc, fields.as_slice())? {
         return Err(Refusal::Schema);
     }
     Ok(Field::Group {
@@ -172,7 +170,7 @@ fn read_field(alloc: Global, elements: &[Element], at: usize, deep: u32) -> R<(F
         Ok(x) => x,
         Err(e) => return Err(inside(alloc, name.as_str(), e)),
     };
-    let field = group(element, name, repetition, fields)?;
+    let field = group(alloc, element, name, repetition, fields)?;
     Ok((field, next))
 }
 
@@ -228,7 +226,7 @@ pub fn fields_of(alloc: Global, elements: &[Element]) -> R<Vec<Field>>
     }
     let root = &elements[0];
     let (fields, _) = read_fields(alloc, elements, 1, children(root), FIELDS_ON_A_WAY)?;
-    if !names_differ(fields.as_slice()) {
+    if !names_differ(alloc, fields.as_slice())? {
         return Err(Refusal::Schema);
     }
     Ok(fields)

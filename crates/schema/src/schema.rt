@@ -67,9 +67,9 @@ impl Schema {
     /// Limit for more than 1,024 leaves, or 32 fields on a way. Where there are several faults one of
     /// them is answered, and Float, Int96 and Limit only where the list is a tree.
     ///
-    /// Time and memory are linear in the list, beside a handle for each name on the way to each leaf: leaves
-    /// below a field share its name. The names of siblings are compared pair by pair, once there are known to
-    /// be no more than 1,024.
+    /// Time and memory are linear in the list, beside a handle for each name on the way to each leaf (leaves
+    /// below a field share its name) and a look-up of each name among its siblings, in order: for n siblings
+    /// about n log n comparisons of names.
     pub fn new(alloc: Global, elements: &[Element]) -> R<Schema>
         ensures stands { IfOk result (λ fs. IsSchemaOf (elements_view elements.now) fs) }
         ensures within { IfOk result (λ fs. IsWithinLimits fs) }

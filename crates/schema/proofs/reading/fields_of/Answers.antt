@@ -21,15 +21,15 @@ returns-in_err-fields-clause-which c =
     passes (HasFault (elements_view c.args.elements.now)) c.from_residual.result c.in_err-fields.field-0.0 c.from_residual.ensures.1
     (fault_list c.args.elements.now c.index-elements-0.result c.children.result c.in_err-fields.field-0.0 c.index-elements-0.is (c.is_tree.ensures.0 c.if-not-is_tree.false) c.children.ensures c.in_err-fields.ensures.which)
 
-pub returns-then-not-names_differ-clause-which : goal.returns-then-not-names_differ-clause-which
-returns-then-not-names_differ-clause-which c =
+pub returns-then-not-branch-clause-which : goal.returns-then-not-branch-clause-which
+returns-then-not-branch-clause-which c =
     twins_list c.args.elements.now c.index-elements-0.result c.children.result (field_views c.in_ok-fields.fields.items) c.index-elements-0.is (c.is_tree.ensures.0 c.if-not-is_tree.false) c.children.ensures c.in_ok-fields.ensures.stands
-    (λ d. false≢true (sym c.if-not-names_differ.true ∙ c.names_differ.ensures.1 (subst (λ xs. AllDiffer (names (field_views xs))) (sym c.as_slice.ensures.value) d)))
+    (λ d. false≢true (sym c.if-not-branch.true ∙ c.in_ok-names_differ.ensures.is.1 (subst (λ xs. AllDiffer (names (field_views xs))) (sym c.as_slice.ensures.value) d)))
 
 pub returns-clause-stands : goal.returns-clause-stands
 returns-clause-stands c =
     made_list c.args.elements.now c.index-elements-0.result c.children.result (field_views c.in_ok-fields.fields.items) c.index-elements-0.is (c.is_tree.ensures.0 c.if-not-is_tree.false) c.children.ensures c.in_ok-fields.ensures.stands
-    (subst (λ xs. AllDiffer (names (field_views xs))) c.as_slice.ensures.value (c.names_differ.ensures.0 c.if-not-names_differ.false))
+    (subst (λ xs. AllDiffer (names (field_views xs))) c.as_slice.ensures.value (c.in_ok-names_differ.ensures.is.0 c.if-not-branch.false))
 
 pub returns-clause-within : goal.returns-clause-within
 returns-clause-within c =
@@ -37,7 +37,7 @@ returns-clause-within c =
     let few = c.if-count_typed-gt-LEAVES.false in
     within (elements_view c.args.elements.now) (field_views c.in_ok-fields.fields.items)
     (made_list c.args.elements.now c.index-elements-0.result c.children.result (field_views c.in_ok-fields.fields.items) c.index-elements-0.is (c.is_tree.ensures.0 c.if-not-is_tree.false) c.children.ensures c.in_ok-fields.ensures.stands
-    (subst (λ xs. AllDiffer (names (field_views xs))) c.as_slice.ensures.value (c.names_differ.ensures.0 c.if-not-names_differ.false)))
+    (subst (λ xs. AllDiffer (names (field_views xs))) c.as_slice.ensures.value (c.in_ok-names_differ.ensures.is.0 c.if-not-branch.false)))
     (tallest-read 32 _ (field_views c.in_ok-fields.fields.items) c.in_ok-fields.ensures.stands)
     (omega (arith, n, few))
 

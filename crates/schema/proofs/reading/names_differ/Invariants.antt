@@ -1,11 +1,12 @@
-use Rattle.std.proofs.Common.{drop}
-use Rattle.schema.specs.Law.{names, AllDiffer}
-use Rattle.schema.specs.Views.{field_views}
+use Rattle.std.proofs.Common.{◌≤◌, length}
+use Rattle.schema.proofs.Names.{AreMet}
 use Rattle.schema.proofs.reading.names_differ.Given as goal
 
--- all differ just where those that are left do
-abbrev pub invariant-loop-i : goal.invariant-loop-i
-invariant-loop-i l = record {
-  whole : AllDiffer (names (field_views (drop l.i l.fields))) → AllDiffer (names (field_views l.fields));
-  left : AllDiffer (names (field_views l.fields)) → AllDiffer (names (field_views (drop l.i l.fields)));
+abbrev pub invariant-loop-at : goal.invariant-loop-at
+invariant-loop-at l = record {
+  in_range : l.at ≤ length l.fields;
+  met : AreMet l.behind l.fields l.at;
 }
+
+abbrev pub decreases-loop-at : goal.decreases-loop-at
+decreases-loop-at l = l.at
