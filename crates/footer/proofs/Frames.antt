@@ -6,9 +6,9 @@ use Rattle.std.proofs.lemmas.Bool.{cases_lt}
 use Rattle.std.proofs.lemmas.Nat.{le_bytes_4}
 use Rattle.byteorder.specs.Endian.{little_bytes, little_number}
 use Rattle.byteorder.specs.Numbers.{little_number-reads_back}
-use Rattle.footer.specs.declared.limits.TheConstants.{MOST_BYTES_OF_FOOTER}
+use Rattle.footer.specs.declared.limits.TheConstants.{MOST_BYTES_OF_FILE, MOST_BYTES_OF_FOOTER}
 use Rattle.footer.specs.File.{magic, IsFramed}
-use Rattle.footer.specs.Faults.{AnnouncesLongFooter}
+use Rattle.footer.specs.Faults.{AnnouncesLongFooter, IsLong, long_file, long_footer}
 
 -- what a frame says of the bytes: `head` is all but the last eight, `announced` the next four
 pub record Parts (bytes front footer : List ℕ) : Type 0 where
@@ -128,3 +128,20 @@ over bytes are enough first ends size is short much =
           ∙ sym (append_assoc (magic ++ drop 4 head) (little_bytes 4 size) magic);
       over = much;
     }
+
+-- the announced length is the one that stands before the last magic
+not_over : (bytes : List ℕ) (size : ℕ) → size ≡ little_number 4 (drop (length bytes - 8) bytes) → size ≤ MOST_BYTES_OF_FOOTER → AnnouncesLongFooter bytes → ⊥
+not_over bytes size is few a =
+    let end = little_bytes 4 a.size ++ magic in
+    let joined : bytes ≡ (magic ++ a.before) ++ end = a.announced ∙ append_assoc (magic ++ a.before) (little_bytes 4 a.size) magic in
+    let at : length (magic ++ a.before) ≡ length bytes - 8 = omega (arith, ap length joined, length-append (magic ++ a.before) end) in
+    let tail : drop (length bytes - 8) bytes ≡ end = ap (λ (t : List ℕ). drop (length bytes - 8) t) joined ∙ drop_at (magic ++ a.before) end (length bytes - 8) at in
+    let small = a.short in
+    let over = a.over in
+    let same : little_number 4 (drop (length bytes - 8) bytes) ≡ a.size = ap (little_number 4) tail ∙ little_number-reads_back 4 a.size magic (omega (arith, small)) in
+    omega (arith, same, is, few, over)
+
+-- neither the file nor its footer is too long
+pub not_long : (bytes : List ℕ) (size : ℕ) → length bytes ≤ MOST_BYTES_OF_FILE → size ≡ little_number 4 (drop (length bytes - 8) bytes) → size ≤ MOST_BYTES_OF_FOOTER → IsLong bytes → ⊥
+not_long bytes size short is few (long_file long) = omega (arith, short, long)
+not_long bytes size short is few (long_footer announced) = not_over bytes size is few announced

@@ -1,13 +1,16 @@
 -- What a file means, from its footer, its schema and its groups.
 use Rattle.std.proofs.Common.{◌≡◌, ℕ, List, subst, inl, inr}
+use Rattle.std.specs.Prelude.{Contains}
 use Rattle.bits.specs.declared.refusal.Refusal.{Refusal}
 use Rattle.bits.specs.declared.refusal.Refusal.TheVariants as refusal
 use Rattle.schema.specs.Values.{ValueTrees}
 use Rattle.schema.specs.Shape.{Fields}
-use Rattle.schema.specs.Listing.{IsSchemaOf, ListsMeanOneSchema}
-use Rattle.metadata.specs.Records.{FileMeta}
+use Rattle.schema.specs.Listing.{IsSchemaOf, IsTooLarge, ListsMeanOneSchema}
+use Rattle.schema.specs.Faults.{HasFault as HasSchemaFault}
+use Rattle.metadata.specs.Records.{FileMeta, GroupMeta}
+use Rattle.row_group.specs.Limits.{IsGroupOver}
 use Rattle.footer.specs.File.{IsFile, GroupsMean, FileMeans}
-use Rattle.footer.specs.Faults.{HasGroupsFault, HasFault, many_groups, large_group, other_group}
+use Rattle.footer.specs.Faults.{IsLong, HasGroup, HasGroupsFault, IsOverLimit, long, large_schema, HasFault, many_groups, large_group, other_group}
 
 -- the file has this front and this record, and no other
 abbrev pub IsOnly : List ℕ → List ℕ → FileMeta → Type 0
@@ -51,3 +54,28 @@ of_groups bytes front meta fs file schema refusal.Levels w = tt
 of_groups bytes front meta fs file schema refusal.Value w = tt
 of_groups bytes front meta fs file schema refusal.Utf8 w = tt
 of_groups bytes front meta fs file schema e w = absurd w
+
+-- and so is a fault of the schema
+pub of_schema : (bytes front : List ℕ) (meta : FileMeta) → IsFile bytes front meta → (e : Refusal) → HasSchemaFault meta.schema e → HasFault bytes e
+of_schema bytes front meta file refusal.Schema w = tt
+of_schema bytes front meta file (refusal.Float path) w = record { front = front; meta = meta; file = file; is = w }
+of_schema bytes front meta file (refusal.Int96 path) w = record { front = front; meta = meta; file = file; is = w }
+of_schema bytes front meta file refusal.Limit w = inl (large_schema (record { front = front; meta = meta; file = file; is = w }))
+of_schema bytes front meta file refusal.Memory w = tt
+of_schema bytes front meta file e w = absurd w
+
+-- no group of the file's one footer goes beyond a limit
+no_group_over : (bytes front : List ℕ) (meta : FileMeta) (fs : Fields) → IsOnly bytes front meta → ListsMeanOneSchema → IsSchemaOf meta.schema fs → ((g : GroupMeta) → Contains meta.row_groups g → IsGroupOver front fs g → ⊥)
+    → HasGroup bytes IsGroupOver → ⊥
+no_group_over bytes front meta fs alone law schema none h =
+    let same = alone h.front h.meta h.file in
+    let one : h.fs ≡ fs = law meta.schema h.fs fs (subst (λ (m : FileMeta). IsSchemaOf m.schema h.fs) same.1 h.schema) schema in
+    none h.group (subst (λ (m : FileMeta). Contains m.row_groups h.group) same.1 h.among)
+    (subst (λ (f : Fields). IsGroupOver front f h.group) one (subst (λ (b : List ℕ). IsGroupOver b h.fs h.group) same.0 h.is))
+
+-- the file is within the limits
+pub not_over : (bytes front : List ℕ) (meta : FileMeta) (fs : Fields) → IsOnly bytes front meta → ListsMeanOneSchema → IsSchemaOf meta.schema fs → (IsLong bytes → ⊥) → (IsTooLarge meta.schema → ⊥)
+    → ((g : GroupMeta) → Contains meta.row_groups g → IsGroupOver front fs g → ⊥) → IsOverLimit bytes → ⊥
+not_over bytes front meta fs alone law schema short small none (long is) = short is
+not_over bytes front meta fs alone law schema short small none (large_schema h) = small (subst (λ (m : FileMeta). IsTooLarge m.schema) (alone h.front h.meta h.file).1 h.is)
+not_over bytes front meta fs alone law schema short small none (large_group h) = no_group_over bytes front meta fs alone law schema none h

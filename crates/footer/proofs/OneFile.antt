@@ -1,6 +1,6 @@
 -- A file has one footer, and one list of rows.
-use Rattle.std.proofs.Common.{◌≡◌, ◌<◌, ◌≤◌, ℕ, List, [], ◌∷◌, length, get_or, refl, sym, ap, subst, ◌∙◌, arith}
-use Rattle.std.specs.Prelude.{flat_map}
+use Rattle.std.proofs.Common.{◌≡◌, ◌<◌, ◌≤◌, ℕ, zero, suc, List, [], ◌∷◌, length, get_or, refl, sym, ap, subst, ◌∙◌, arith}
+use Rattle.std.specs.Prelude.{flat_map, Contains}
 use Rattle.std.proofs.lemmas.List.{append-nil}
 use Rattle.bits.specs.Codec.{IsFunctional, NothingStands}
 use Rattle.schema.specs.Values.{ValueTrees}
@@ -57,3 +57,8 @@ pub single : {X : Type 0} (xs : List X) (x : X) → length xs ≤ 1 → 0 < leng
 single [] x few some first = absurd (omega (arith, some))
 single (y ∷ []) x few some first = ap (λ z. z ∷ []) (sym first)
 single (y ∷ z ∷ xs) x few some first = absurd (omega (arith, few))
+
+-- one item is in the list of one
+pub one_within : {X : Type 0} (P : X → Type 0) (y : X) → (P y → ⊥) → (x : X) → Contains (y ∷ []) x → P x → ⊥
+one_within P y none x (zero, some, is) p = none (subst P (sym is) p)
+one_within P y none x (suc k, some, is) p = absurd (omega (arith, some))

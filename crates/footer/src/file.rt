@@ -1,13 +1,15 @@
 //! From bytes to the rows of a file.
 
-ghost use Rattle.std.specs.Prelude.{◌≡◌, ◌↔◌, List, map, IfOk, IfErr, IsTrue};
+ghost use Rattle.std.specs.Prelude.{◌≡◌, ◌↔◌, List, map, Contains, IfOk, OnOk, IfErr, IsTrue};
 ghost use Rattle.bits.specs.Refusals.{OnFault};
 ghost use Rattle.schema.specs.Values.{ValueTrees};
 ghost use Rattle.schema.specs.Shape.{Fields};
 ghost use Rattle.schema.specs.Views.{rows_view};
+ghost use Rattle.metadata.specs.Records.{GroupMeta as GroupMetaShown};
 ghost use Rattle.metadata.specs.Views.{group_meta_view};
+ghost use Rattle.row_group.specs.Limits.{IsGroupOver};
 ghost use Rattle.footer.specs.File.{LiesHere, GroupsMean, FileMeans};
-ghost use Rattle.footer.specs.Faults.{HasGroupsFault, HasFault};
+ghost use Rattle.footer.specs.Faults.{HasGroupsFault, IsOverLimit, HasFault};
 ghost use Rattle.footer.specs.Left.{rows_left};
 
 use crate::reading::parts_and_record;
@@ -33,6 +35,7 @@ fn lies_here(group: &GroupMeta) -> bool
 fn rows_of(alloc: Global, front: &[u8], groups: &[GroupMeta], schema: &Schema) -> R<Rows>
     ensures stands { IfOk result (λ rows. GroupsMean front.now schema.now (map group_meta_view groups.now) (rows_left rows)) }
     ensures alone { IfOk result (λ rows. (others : List ValueTrees) → GroupsMean front.now schema.now (map group_meta_view groups.now) others → others ≡ rows_left rows) }
+    ensures short { OnOk result ((g : GroupMetaShown) → Contains (map group_meta_view groups.now) g → IsGroupOver front.now schema.now g → ⊥) }
     ensures only { OnFault result ((rows : List ValueTrees) → GroupsMean front.now schema.now (map group_meta_view groups.now) rows → ⊥) }
     ensures which { IfErr result (HasGroupsFault front.now schema.now (map group_meta_view groups.now)) }
 {
@@ -70,12 +73,14 @@ fn rows_of(alloc: Global, front: &[u8], groups: &[GroupMeta], schema: &Schema) -
 /// has rows; Truncated also for values whose bytes end early; Utf8 for text that is not UTF-8.
 /// Refused Limit where a number is above its limit (1,024 leaves, 32 fields on a path, 16,777,216 rows in
 /// a group and entries in a chunk, 16 MiB for a value), and for files of the format that are not read yet.
+/// No rows are answered of a file that goes beyond a limit.
 /// Where there are several faults one of them is answered. (parquet-format, README.md, "File format".)
 ///
 /// [`read_footer`]: crate::read_footer
 pub fn read_rows(alloc: Global, bytes: &[u8]) -> R<(Schema, Rows)>
     ensures stands { IfOk result (λ x. FileMeans bytes.now x.0 (rows_left x.1)) }
     ensures alone { IfOk result (λ x. (fs : Fields) (rows : List ValueTrees) → FileMeans bytes.now fs rows → (fs ≡ x.0) × (rows ≡ rows_left x.1)) }
+    ensures short { OnOk result (IsOverLimit bytes.now → ⊥) }
     ensures only { OnFault result ((fs : Fields) (rows : List ValueTrees) → FileMeans bytes.now fs rows → ⊥) }
     ensures which { IfErr result (HasFault bytes.now) }
 {
@@ -87,10 +92,12 @@ pub fn read_rows(alloc: Global, bytes: &[u8]) -> R<(Schema, Rows)>
 }
 
 /// The schema and the rows of a file, which are all kept. Refused as [`read_rows`] is, by which they are
-/// made; the time is linear in the bytes. (parquet-format, README.md, "File format".)
+/// made, and so never answered of a file that goes beyond a limit; the time is linear in the bytes.
+/// (parquet-format, README.md, "File format".)
 pub fn read_file(alloc: Global, bytes: &[u8]) -> R<(Schema, Vec<Row>)>
     ensures stands { IfOk result (λ x. FileMeans bytes.now x.0 (rows_view x.1.items)) }
     ensures alone { IfOk result (λ x. (fs : Fields) (rows : List ValueTrees) → FileMeans bytes.now fs rows → (fs ≡ x.0) × (rows ≡ rows_view x.1.items)) }
+    ensures short { OnOk result (IsOverLimit bytes.now → ⊥) }
     ensures only { OnFault result ((fs : Fields) (rows : List ValueTrees) → FileMeans bytes.now fs rows → ⊥) }
     ensures which { IfErr result (HasFault bytes.now) }
 {

@@ -1,11 +1,11 @@
 //! From bytes to the record of the footer.
 
-ghost use Rattle.std.specs.Prelude.{◌≡◌, ◌↔◌, ◌≤◌, ◌-◌, ℕ, List, length, take, drop, IfOk, IfErr, IsTrue, true, false};
+ghost use Rattle.std.specs.Prelude.{◌≡◌, ◌↔◌, ◌≤◌, ◌-◌, ℕ, List, length, take, drop, IfOk, OnOk, IfErr, IsTrue, true, false};
 ghost use Rattle.bits.specs.Refusals.{OnFault};
 ghost use Rattle.metadata.specs.Records.{FileMeta as FileMetaShown};
 ghost use Rattle.metadata.specs.Views.{file_meta_view};
 ghost use Rattle.footer.specs.File.{magic, IsFramed, IsFile};
-ghost use Rattle.footer.specs.Faults.{LacksMagic, HasFooterFault};
+ghost use Rattle.footer.specs.Faults.{LacksMagic, IsLong, HasFooterFault};
 
 use crate::limits::{MAGIC, MOST_BYTES_OF_FILE, MOST_BYTES_OF_FOOTER};
 use bits::{R, Refusal};
@@ -32,6 +32,7 @@ fn has_magic(bytes: &[u8]) -> bool
 /// The bytes before the footer, and the footer.
 fn parts_of(bytes: &[u8]) -> R<(&[u8], &[u8])>
     ensures framed { IfOk result (λ x. IsFramed bytes.now x.0.now x.1.now) }
+    ensures short { OnOk result (IsLong bytes.now → ⊥) }
     ensures only { OnFault result ((front footer : List ℕ) → IsFramed bytes.now front footer → ⊥) }
     ensures which { IfErr result (HasFooterFault bytes.now) }
 {
@@ -59,6 +60,7 @@ fn parts_of(bytes: &[u8]) -> R<(&[u8], &[u8])>
 pub fn parts_and_record(alloc: Global, bytes: &[u8]) -> R<(&[u8], FileMeta)>
     ensures stands { IfOk result (λ x. IsFile bytes.now x.0.now (file_meta_view x.1)) }
     ensures alone { IfOk result (λ x. (front : List ℕ) (other : FileMetaShown) → IsFile bytes.now front other → (front ≡ x.0.now) × (other ≡ file_meta_view x.1)) }
+    ensures short { OnOk result (IsLong bytes.now → ⊥) }
     ensures only { OnFault result ((front : List ℕ) (meta : FileMetaShown) → IsFile bytes.now front meta → ⊥) }
     ensures which { IfErr result (HasFooterFault bytes.now) }
 {
@@ -73,9 +75,11 @@ pub fn parts_and_record(alloc: Global, bytes: &[u8]) -> R<(&[u8], FileMeta)>
 /// Refused Truncated for fewer than 12 bytes, a footer that is longer than the file, or one that ends
 /// within its struct; Magic where the first or the last four bytes are not `PAR1`; Thrift where the footer
 /// is no such struct; Limit for a file of more than 2,147,483,647 bytes, or a footer of more than 16 MiB.
+/// No record is answered of a file that has more bytes, or that announces a longer footer.
 pub fn read_footer(alloc: Global, bytes: &[u8]) -> R<FileMeta>
     ensures stands { IfOk result (λ meta. (front : List ℕ) × IsFile bytes.now front (file_meta_view meta)) }
     ensures alone { IfOk result (λ meta. (front : List ℕ) (other : FileMetaShown) → IsFile bytes.now front other → other ≡ file_meta_view meta) }
+    ensures short { OnOk result (IsLong bytes.now → ⊥) }
     ensures only { OnFault result ((front : List ℕ) (meta : FileMetaShown) → IsFile bytes.now front meta → ⊥) }
     ensures which { IfErr result (HasFooterFault bytes.now) }
 {

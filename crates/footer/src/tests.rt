@@ -227,6 +227,52 @@ fn a_changed_byte_is_refused_by_its_number(rt: HostRuntime) -> Result<(), Fail> 
     Ok(())
 }
 
+/// The answer to the first file with these bytes for the length of its footer.
+fn answer_sized(alloc: Global, size: &[u8]) -> R<String> {
+    let mut bytes = Vec::from_slice(alloc, &TWO_ROWS[..132])?;
+    bytes.extend_from_slice(size)?;
+    bytes.extend_from_slice(b"PAR1")?;
+    answer(alloc, bytes.as_slice())
+}
+
+#[test]
+fn a_longer_footer_than_a_footer_may_be_is_refused_limit(rt: HostRuntime) -> Result<(), Fail> {
+    let alloc = rt.alloc();
+    assert!(rt; answer_sized(alloc, &[0xFF, 0xFF, 0xFF, 0xFF])?.as_str() == "13 Limit");
+    // 16,777,217 and 16,777,216
+    assert!(rt; answer_sized(alloc, &[1, 0, 0, 1])?.as_str() == "13 Limit");
+    assert!(rt; answer_sized(alloc, &[0, 0, 0, 1])?.as_str() == "1 Truncated");
+    Ok(())
+}
+
+/// The answer to the first file with a count of 16,777,216, or of one more, for a byte of its footer.
+fn answer_counted(alloc: Global, before: &[u8], more: bool, behind: &[u8]) -> R<String> {
+    let low = if more { 0x82 } else { 0x80 };
+    let mut bytes = Vec::from_slice(alloc, before)?;
+    bytes.extend_from_slice(&[low, 0x80, 0x80, 0x10])?;
+    bytes.extend_from_slice(behind)?;
+    bytes.extend_from_slice(b"\x62\x00\x00\x00PAR1")?;
+    answer(alloc, bytes.as_slice())
+}
+
+#[test]
+fn a_group_of_too_many_rows_is_refused_limit(rt: HostRuntime) -> Result<(), Fail> {
+    let alloc = rt.alloc();
+    let (before, behind) = (&TWO_ROWS[..118], &TWO_ROWS[119..132]);
+    assert!(rt; answer_counted(alloc, before, true, behind)?.as_str() == "13 Limit");
+    assert!(rt; answer_counted(alloc, before, false, behind)?.as_str() == "10 Levels");
+    Ok(())
+}
+
+#[test]
+fn a_chunk_of_too_many_entries_is_refused_limit(rt: HostRuntime) -> Result<(), Fail> {
+    let alloc = rt.alloc();
+    let (before, behind) = (&TWO_ROWS[..82], &TWO_ROWS[83..132]);
+    assert!(rt; answer_counted(alloc, before, true, behind)?.as_str() == "13 Limit");
+    assert!(rt; answer_counted(alloc, before, false, behind)?.as_str() == "9 Page");
+    Ok(())
+}
+
 #[test]
 fn columns_of_left_out_types_are_refused_by_their_path(rt: HostRuntime) -> Result<(), Fail> {
     let alloc = rt.alloc();

@@ -1,22 +1,31 @@
 -- Columns that are read one by one.
-use Rattle.std.proofs.Common.{◌≡◌, ℕ, ◌+◌, ◌<◌, ◌≤◌, List, [], ◌∷◌, ◌++◌, map, length, get_or, drop, refl, sym, ap, subst, ◌∙◌, arith, append_assoc}
+use Rattle.std.proofs.Common.{◌≡◌, ℕ, zero, suc, ◌+◌, ◌<◌, ◌≤◌, Some, List, [], ◌∷◌, ◌++◌, map, length, get_or, drop, refl, sym, ap, subst, ◌∙◌, arith, append_assoc}
+use Rattle.std.specs.Prelude.{slice_get}
 use Rattle.std.specs.List.{AllByRecursion}
 use Rattle.std.proofs.lemmas.List.{append-nil, at_drop_all}
-use Rattle.schema.specs.Stripe.{Leaf, Entry}
+use Rattle.schema.specs.Shape.{Fields}
+use Rattle.schema.specs.Stripe.{Leaf, Entry, leaves_of}
 use Rattle.schema.proofs.Kept.{all_joined}
-use Rattle.metadata.specs.Records.{ChunkMeta}
+use Rattle.metadata.specs.Records.{ChunkMeta, GroupMeta}
 use Rattle.row_group.specs.Chunks.{ColumnMeans, AreChunks}
+use Rattle.row_group.specs.Limits.{IsChunkOver, HasColumn, BeginsWith}
 use Rattle.row_group.specs.Moving.{HasCount}
 use Rattle.row_group.proofs.Places.{reads}
+
+-- no chunk of these goes beyond a limit
+abbrev pub NoneOver : List ℕ → List ChunkMeta → List Leaf → Type 0
+NoneOver front (c ∷ cs) (leaf ∷ leaves) = (BeginsWith front IsChunkOver c.meta_data leaf → ⊥) × NoneOver front cs leaves
+NoneOver front _ _ = Unit {0}
 
 -- the columns `done` are read, of n entries each, and those of these chunks and leaves are left
 pub record IsReadUpTo (front : List ℕ) (n : ℕ) (cs : List ChunkMeta) (leaves : List Leaf) (left : List ChunkMeta) (rest : List Leaf) (done : List (List Entry)) : Type 0 where
   pub forward : (others : List (List Entry)) → AreChunks front left rest others → AreChunks front cs leaves (done ++ others)
   pub backward : (all : List (List Entry)) → AreChunks front cs leaves all → (others : List (List Entry)) × AreChunks front left rest others × (all ≡ done ++ others)
   pub counts : AllByRecursion (HasCount n) done
+  pub short : NoneOver front left rest → NoneOver front cs leaves
 
 pub nothing_read : (front : List ℕ) (n : ℕ) (cs : List ChunkMeta) (leaves : List Leaf) → IsReadUpTo front n cs leaves cs leaves []
-nothing_read front n cs leaves = record { forward = λ others h. h; backward = λ all h. (all, h, refl); counts = tt }
+nothing_read front n cs leaves = record { forward = λ others h. h; backward = λ all h. (all, h, refl); counts = tt; short = λ h. h }
 
 -- the next column is the one that its chunk holds
 one_more : (front : List ℕ) (c : ChunkMeta) (leaf : Leaf) (left : List ChunkMeta) (rest : List Leaf) (es : List Entry) → ((fs : List Entry) → ColumnMeans front c.meta_data leaf fs → fs ≡ es)
@@ -25,15 +34,16 @@ one_more front c leaf left rest es alone [] h = absurd h
 one_more front c leaf left rest es alone (fs ∷ more) h = (more, h.1, ap (λ (t : List Entry). t ∷ more) (alone fs h.0))
 
 pub one_read : (front : List ℕ) (n : ℕ) (cs : List ChunkMeta) (leaves : List Leaf) (c : ChunkMeta) (leaf : Leaf) (left : List ChunkMeta) (rest : List Leaf) (done : List (List Entry)) (es : List Entry)
-    → ColumnMeans front c.meta_data leaf es → ((fs : List Entry) → ColumnMeans front c.meta_data leaf fs → fs ≡ es) → length es ≡ n
+    → ColumnMeans front c.meta_data leaf es → ((fs : List Entry) → ColumnMeans front c.meta_data leaf fs → fs ≡ es) → length es ≡ n → (BeginsWith front IsChunkOver c.meta_data leaf → ⊥)
     → IsReadUpTo front n cs leaves (c ∷ left) (leaf ∷ rest) done → IsReadUpTo front n cs leaves left rest (done ++ es ∷ [])
-one_read front n cs leaves c leaf left rest done es means alone size so_far = record {
+one_read front n cs leaves c leaf left rest done es means alone size short so_far = record {
   forward = λ others h. subst (AreChunks front cs leaves) (sym (append_assoc done (es ∷ []) others)) (so_far.forward (es ∷ others) (means, h));
   backward = λ all h.
       let b = so_far.backward all h in
       let o = one_more front c leaf left rest es alone b.0 b.1 in
       (o.0, o.1, b.2 ∙ ap (λ (t : List (List Entry)). done ++ t) o.2 ∙ sym (append_assoc done (es ∷ []) o.0));
   counts = all_joined (HasCount n) done (es ∷ []) so_far.counts (size, tt);
+  short = λ h. so_far.short (short, h);
 }
 
 no_others : (front : List ℕ) (others : List (List Entry)) → AreChunks front [] [] others → others ≡ []
@@ -65,6 +75,20 @@ pub none_read : (front : List ℕ) (n : ℕ) (cs : List ChunkMeta) (leaves : Lis
 none_read front n cs leaves c leaf left rest done none so_far all h counts =
     let b = so_far.backward all h in
     no_first front n c leaf left rest b.0 none b.1 (all_later (HasCount n) done b.0 (subst (AllByRecursion (HasCount n)) b.2 counts))
+
+-- so it is of the group that has these chunks
+over_nowhere : (front : List ℕ) (cs : List ChunkMeta) (leaves : List Leaf) (k : ℕ) (c : ChunkMeta) (leaf : Leaf) → NoneOver front cs leaves → slice_get cs k ≡ Some c → slice_get leaves k ≡ Some leaf
+    → BeginsWith front IsChunkOver c.meta_data leaf → ⊥
+over_nowhere front [] leaves k c leaf none of_group of_schema over = cc
+over_nowhere front (x ∷ cs) [] k c leaf none of_group of_schema over = cc
+over_nowhere front (x ∷ cs) (y ∷ leaves) zero c leaf none of_group of_schema over =
+    let chunk : c ≡ x = cc in
+    let here : leaf ≡ y = cc in
+    none.0 (subst (λ (t : Leaf). BeginsWith front IsChunkOver x.meta_data t) here (subst (λ (t : ChunkMeta). BeginsWith front IsChunkOver t.meta_data leaf) chunk over))
+over_nowhere front (x ∷ cs) (y ∷ leaves) (suc k) c leaf none of_group of_schema over = over_nowhere front cs leaves k c leaf none.1 of_group of_schema over
+
+pub no_column_over : (front : List ℕ) (fs : Fields) (g : GroupMeta) → NoneOver front g.columns (leaves_of fs) → HasColumn fs g (BeginsWith front IsChunkOver) → ⊥
+no_column_over front fs g none h = over_nowhere front g.columns (leaves_of fs) h.k h.chunk h.leaf none h.of_group h.of_schema h.is
 
 -- there are as many chunks as leaves
 pub as_many : (front : List ℕ) (cs : List ChunkMeta) (leaves : List Leaf) (all : List (List Entry)) → AreChunks front cs leaves all → length cs ≡ length leaves

@@ -1,6 +1,8 @@
 -- Chunks of one page.
 use Rattle.std.proofs.Common.{◌≡◌, ℕ, ◌+◌, ◌<◌, ◌≤◌, List, [], ◌∷◌, ◌++◌, map, filter, length, take, drop, Option, Some, None, refl, sym, ap, subst, ◌∙◌, arith, inl, inr}
+use Rattle.std.specs.Prelude.{pos, ◌<ℤ◌}
 use Rattle.std.specs.List.{AllByRecursion}
+use Rattle.std.proofs.lemmas.Int.{ints}
 use Rattle.std.proofs.lemmas.List.{append-nil, length-append, length-drop}
 use Rattle.bits.specs.Codec.{InTurn}
 use Rattle.schema.specs.Values.{ValueTree}
@@ -11,6 +13,8 @@ use Rattle.pages.specs.Page.{Page, skipped, dictionary, entries, IsPage, IsBody}
 use Rattle.metadata.specs.Records.{PageHeader}
 use Rattle.pages.specs.Apart.{DictionaryIsNotRead, NoPageOfNoBytes}
 use Rattle.pages.specs.Chunk.{is_read, dictionary_page, entries_of, all_entries, IsChunk}
+use Rattle.pages.specs.Limits.{IsPageOver}
+use Rattle.row_group.specs.Limits.{HasPageOver}
 
 drop-end : {A : Type 0} (xs : List A) (n : ℕ) → n ≡ length xs → drop n xs ≡ []
 drop-end xs n e = empty (drop n xs) (omega (arith, length-drop n xs, e))
@@ -97,6 +101,24 @@ no_pages n es used leaf d bytes (p ∷ ps) none turn joined until = absurd (let 
 
 pub only_no_page : (leaf : Leaf) (bytes : List ℕ) (n : ℕ) (es : List Entry) (used : ℕ) → n ≡ 0 → IsChunk leaf bytes n es used → (es ≡ []) × (used ≡ 0)
 only_no_page leaf bytes n es used none c = no_pages n es used leaf c.dictionary_values bytes c.pages none c.spelled c.joined c.until
+
+-- ---- the one page holds all entries, so that no other is looked at
+
+pub no_page_over : DictionaryIsNotRead → (leaf : Leaf) (bytes : List ℕ) (n : ℕ) (page : Page) → ((other : Page) (used : ℕ) → IsPage leaf None bytes other used → other ≡ page) → length (entries_of page) ≡ n → (IsPageOver leaf bytes → ⊥)
+    → HasPageOver (pos n) leaf bytes → ⊥
+no_page_over unread leaf bytes n page alone size short h = behind h.before h.parts h.at h.stand h.in_order h.fewer h.over
+  where
+    behind : (before : List Page) (parts : List (List Entry)) (at : ℕ) → InTurn (IsPage leaf h.dictionary) bytes before at → filter is_read before ≡ dictionary_page h.dictionary ++ map entries parts
+        → pos (length (all_entries before)) <ℤ pos n → IsPageOver leaf (drop at bytes) → ⊥
+    behind [] parts at turn order fewer over = short (subst (λ (k : ℕ). IsPageOver leaf (drop k bytes)) turn over)
+    behind (p ∷ ps) parts at turn order fewer over =
+        let first = first_is_read_alone unread leaf h.dictionary bytes p ps parts turn.0 order turn.2 in
+        let same : length (entries_of p) ≡ n = ap (λ (q : Page). length (entries_of q)) (alone p turn.0 first) ∙ size in
+        let total = length-append (entries_of p) (all_entries ps) in
+        omega (arith, ints, fewer, same, total)
+
+pub none_over : (leaf : Leaf) (bytes : List ℕ) (n : ℕ) → n ≡ 0 → HasPageOver (pos n) leaf bytes → ⊥
+none_over leaf bytes n none h = let fewer = h.fewer in omega (arith, ints, fewer, none)
 
 -- ---- the entries of a chunk are its leaf's
 

@@ -1,6 +1,6 @@
 -- A group, by its columns.
 use Rattle.std.proofs.Common.{◌≡◌, ℕ, List, length, sym, ap, subst, ◌∙◌, ◌⊎◌, inl, inr}
-use Rattle.std.specs.Prelude.{pos}
+use Rattle.std.specs.Prelude.{pos, ◌<ℤ◌}
 use Rattle.std.specs.List.{AllByRecursion}
 use Rattle.schema.specs.Values.{ValueTrees}
 use Rattle.schema.specs.Shape.{Fields}
@@ -8,7 +8,8 @@ use Rattle.schema.specs.Stripe.{Entry, columns, leaves_of}
 use Rattle.schema.specs.Law.{IsSchema, ColumnsDetermineRows}
 use Rattle.metadata.specs.Records.{GroupMeta}
 use Rattle.row_group.specs.Chunks.{AreChunks, GroupMeans}
-use Rattle.row_group.specs.Limits.{HasColumn, IsGroupOver, large_chunk, IsGroupToCome, with_dictionary, other_chunk}
+use Rattle.row_group.specs.declared.limits.TheConstants.{MOST_ROWS_OF_GROUP}
+use Rattle.row_group.specs.Limits.{HasColumn, BeginsWith, IsChunkOver, IsGroupOver, many_rows, large_chunk, IsGroupToCome, with_dictionary, other_chunk}
 use Rattle.row_group.specs.Moving.{IsLeafRead, IsColumnLimit, HasCount, rows_of}
 use Rattle.row_group.proofs.RowsOf.{length-rows_of}
 use Rattle.row_group.proofs.Flat.{AreFlat, flat, chunks_are_whole, rows_fit, columns_are, columns_count}
@@ -56,3 +57,8 @@ limit_of_column front fs g h = by h.is
     by (inl d) = inr (with_dictionary (record { k = h.k; chunk = h.chunk; leaf = h.leaf; of_group = h.of_group; of_schema = h.of_schema; is = d }))
     by (inr (inl over)) = inl (large_chunk (record { k = h.k; chunk = h.chunk; leaf = h.leaf; of_group = h.of_group; of_schema = h.of_schema; is = over }))
     by (inr (inr come)) = inr (other_chunk (record { k = h.k; chunk = h.chunk; leaf = h.leaf; of_group = h.of_group; of_schema = h.of_schema; is = come }))
+
+-- a group whose count and whose columns are within the limits
+pub not_over : (front : List ℕ) (fs : Fields) (g : GroupMeta) → (MOST_ROWS_OF_GROUP <ℤ g.num_rows → ⊥) → (HasColumn fs g (BeginsWith front IsChunkOver) → ⊥) → IsGroupOver front fs g → ⊥
+not_over front fs g few short (many_rows many) = few many
+not_over front fs g few short (large_chunk over) = short over

@@ -1,32 +1,35 @@
 -- Where a chunk or a group goes beyond a limit, or is not read yet, and what they are refused for.
-use Rattle.std.specs.Prelude.{◌≡◌, ◌≢◌, ℕ, ◌<◌, ◌⊎◌, pos, ◌<ℤ◌, List, length, drop, slice_get, Contains, Option, Some, None}
+use Rattle.std.specs.Prelude.{◌≡◌, ◌≢◌, ℕ, ◌<◌, ◌⊎◌, pos, ℤ, ◌<ℤ◌, List, ◌++◌, map, filter, length, drop, slice_get, Contains, Option, Some, None}
 use Rattle.std.specs.List.{Any}
 use Rattle.bits.specs.Codec.{InTurn}
 use Rattle.bits.specs.declared.refusal.Refusal.{Refusal}
 use Rattle.bits.specs.declared.refusal.Refusal.TheVariants.{Schema, Codec}
 use Rattle.schema.specs.Values.{ValueTree}
 use Rattle.schema.specs.Shape.{Fields}
-use Rattle.schema.specs.Stripe.{Leaf, leaves_of}
+use Rattle.schema.specs.Stripe.{Leaf, Entry, leaves_of}
 use Rattle.metadata.specs.Records.{ColumnMeta, ChunkMeta, GroupMeta}
-use Rattle.pages.specs.Page.{Page, IsPage}
-use Rattle.pages.specs.Chunk.{entries_of, all_entries}
+use Rattle.pages.specs.Page.{Page, entries, IsPage}
+use Rattle.pages.specs.Chunk.{is_read, dictionary_page, entries_of, all_entries}
 use Rattle.pages.specs.Limits.{IsPageOver, IsPageToCome, IsOfPages}
 use Rattle.row_group.specs.declared.limits.TheConstants.{MOST_ENTRIES_OF_CHUNK, MOST_ROWS_OF_GROUP}
 use Rattle.row_group.specs.Chunks.{IsChunkOf, StartsAt}
 
--- behind pages that stand, and that hold fewer entries than the chunk, one page has a value that is too long
-pub record HasPageOver (m : ColumnMeta) (leaf : Leaf) (bytes : List ℕ) : Type 0 where
+-- Behind pages that stand as the first ones of a chunk, with its dictionary where they have one, and that hold fewer entries
+-- than so many, one page has a value that is too long.
+pub record HasPageOver (count : ℤ) (leaf : Leaf) (bytes : List ℕ) : Type 0 where
   pub dictionary : Option (List ValueTree)
   pub before : List Page
+  pub parts : List (List Entry)
   pub at : ℕ
   pub stand : InTurn (IsPage leaf dictionary) bytes before at
-  pub fewer : pos (length (all_entries before)) <ℤ m.num_values
+  pub in_order : filter is_read before ≡ dictionary_page dictionary ++ map entries parts
+  pub fewer : pos (length (all_entries before)) <ℤ count
   pub over : IsPageOver leaf (drop at bytes)
 
 -- the chunk that begins here announces too many entries, or has a value that is too long
 pub data IsChunkOver (m : ColumnMeta) (leaf : Leaf) (bytes : List ℕ) : Type 0 where
   many_entries : MOST_ENTRIES_OF_CHUNK <ℤ m.num_values → IsChunkOver m leaf bytes
-  long_value : IsChunkOf m leaf → HasPageOver m leaf bytes → IsChunkOver m leaf bytes
+  long_value : IsChunkOf m leaf → HasPageOver m.num_values leaf bytes → IsChunkOver m leaf bytes
 
 -- Why a chunk is not read yet. (Each that is built is taken away, and with the last the type.)
 pub data IsChunkToCome (m : ColumnMeta) (leaf : Leaf) (bytes : List ℕ) : Type 0 where

@@ -12,7 +12,7 @@ ghost use Rattle.pages.specs.Chunk.{entries_of, IsChunk};
 ghost use Rattle.pages.specs.Views.{page_view};
 ghost use Rattle.pages.specs.Limits.{IsOfPages};
 ghost use Rattle.row_group.specs.Chunks.{IsChunkOf, ChunkMeans};
-ghost use Rattle.row_group.specs.Limits.{IsChunkOver, IsChunkToCome, IsOfChunks};
+ghost use Rattle.row_group.specs.Limits.{HasPageOver, IsChunkOver, IsChunkToCome, IsOfChunks};
 ghost use Rattle.row_group.specs.Moving.{IsPagesLimit};
 
 use crate::counts::count_of;
@@ -33,6 +33,7 @@ pub const UNCOMPRESSED: i32 = 0;
 /// Refused Schema where the record is not one of the leaf's path and type; Codec where it says that the
 /// chunk is compressed; Page for a negative count, or where the pages end before the chunk's entries do;
 /// Limit for more than [`MOST_ENTRIES_OF_CHUNK`] entries, or more pages than one; else as its page is.
+/// No column is answered of a chunk that announces more entries, or a value of more than 16 MiB.
 ///
 /// Each byte of the page is read once, and the values move. A chunk of no entries has no page.
 /// (`parquet.thrift`, ColumnMetaData.)
@@ -40,6 +41,7 @@ pub fn read_chunk(alloc: Global, bytes: &[u8], meta: &ColumnMeta, leaf: &Leaf) -
     ensures stands { IfOk result (λ x. ChunkMeans (column_meta_view meta.now) (leaf_view leaf.now) bytes.now (column_view x.0) x.1) }
     ensures alone { IfOk result (λ x. (es : List Entry) (used : ℕ) → ChunkMeans (column_meta_view meta.now) (leaf_view leaf.now) bytes.now es used → (es ≡ column_view x.0) × (used ≡ x.1)) }
     ensures within { IfOk result (λ x. x.1 ≤ length bytes.now) }
+    ensures short { OnOk result (IsChunkOver (column_meta_view meta.now) (leaf_view leaf.now) bytes.now → ⊥) }
     ensures only { OnFault result (NothingStands (ChunkMeans (column_meta_view meta.now) (leaf_view leaf.now) bytes.now)) }
     ensures limit { result ≡ Err Refusal.Limit → IsChunkOver (column_meta_view meta.now) (leaf_view leaf.now) bytes.now ⊎ IsChunkToCome (column_meta_view meta.now) (leaf_view leaf.now) bytes.now }
     ensures codec { result ≡ Err Refusal.Codec → (column_meta_view meta.now).codec ≢ pos 0 }
@@ -88,6 +90,7 @@ fn read_pages(alloc: Global, bytes: &[u8], leaf: &Leaf, count: usize) -> R<(Colu
     ensures stands { IfOk result (λ x. IsChunk (leaf_view leaf.now) bytes.now count (column_view x.0) x.1) }
     ensures alone { IfOk result (λ x. (es : List Entry) (used : ℕ) → IsChunk (leaf_view leaf.now) bytes.now count es used → (es ≡ column_view x.0) × (used ≡ x.1)) }
     ensures within { IfOk result (λ x. x.1 ≤ length bytes.now) }
+    ensures short { OnOk result (HasPageOver (pos count) (leaf_view leaf.now) bytes.now → ⊥) }
     ensures only { OnFault result (NothingStands (IsChunk (leaf_view leaf.now) bytes.now count)) }
     ensures limit { result ≡ Err Refusal.Limit → IsPagesLimit (leaf_view leaf.now) bytes.now count }
     ensures which { RefusedOnly IsOfPages result }

@@ -1,6 +1,6 @@
 //! The columns of a group.
 
-ghost use Rattle.std.specs.Prelude.{◌≡◌, ◌≢◌, ◌⊎◌, ℕ, pos, List, map, length, drop, IfOk, Err};
+ghost use Rattle.std.specs.Prelude.{◌≡◌, ◌≢◌, ◌⊎◌, ℕ, pos, List, map, length, drop, IfOk, OnOk, Err};
 ghost use Rattle.std.specs.List.{AllByRecursion};
 ghost use Rattle.bits.specs.Refusals.{OnFault, RefusedOnly};
 ghost use Rattle.schema.specs.Stripe.{Entry, leaves_of};
@@ -8,7 +8,7 @@ ghost use Rattle.schema.specs.Views.{leaf_view, column_view, columns_view};
 ghost use Rattle.metadata.specs.Views.{column_meta_view, group_meta_view};
 ghost use Rattle.pages.specs.Limits.{IsOfPages};
 ghost use Rattle.row_group.specs.Chunks.{StartsAt, ColumnMeans, AreChunks};
-ghost use Rattle.row_group.specs.Limits.{HasDictionary, HasColumn, HasCodec, IsOfChunks};
+ghost use Rattle.row_group.specs.Limits.{IsChunkOver, HasDictionary, HasColumn, BeginsWith, HasCodec, IsOfChunks};
 ghost use Rattle.row_group.specs.Moving.{IsColumnLimit, HasCount};
 
 use crate::chunk::read_chunk;
@@ -64,6 +64,7 @@ fn read_column(
     ensures stands { IfOk result (λ c. ColumnMeans front.now (column_meta_view meta.now) (leaf_view leaf.now) (column_view c)) }
     ensures alone { IfOk result (λ c. (es : List Entry) → ColumnMeans front.now (column_meta_view meta.now) (leaf_view leaf.now) es → es ≡ column_view c) }
     ensures count { IfOk result (λ c. length (column_view c) ≡ count) }
+    ensures short { OnOk result (BeginsWith front.now IsChunkOver (column_meta_view meta.now) (leaf_view leaf.now) → ⊥) }
     ensures only { OnFault result ((es : List Entry) → ColumnMeans front.now (column_meta_view meta.now) (leaf_view leaf.now) es → length es ≡ count → ⊥) }
     ensures limit { result ≡ Err Refusal.Limit → IsColumnLimit front.now (column_meta_view meta.now) (leaf_view leaf.now) }
     ensures codec { result ≡ Err Refusal.Codec → (column_meta_view meta.now).codec ≢ pos 0 }
@@ -89,6 +90,7 @@ pub fn read_columns(
     ensures stands { IfOk result (λ cs. AreChunks front.now (group_meta_view meta.now).columns (leaves_of schema.now) (columns_view cs.items)) }
     ensures alone { IfOk result (λ cs. (others : List (List Entry)) → AreChunks front.now (group_meta_view meta.now).columns (leaves_of schema.now) others → others ≡ columns_view cs.items) }
     ensures count { IfOk result (λ cs. AllByRecursion (HasCount count) (columns_view cs.items)) }
+    ensures short { OnOk result (HasColumn schema.now (group_meta_view meta.now) (BeginsWith front.now IsChunkOver) → ⊥) }
     ensures only { OnFault result ((others : List (List Entry)) → AreChunks front.now (group_meta_view meta.now).columns (leaves_of schema.now) others → AllByRecursion (HasCount count) others → ⊥) }
     ensures limit { result ≡ Err Refusal.Limit → HasColumn schema.now (group_meta_view meta.now) (IsColumnLimit front.now) }
     ensures codec { result ≡ Err Refusal.Codec → HasCodec (group_meta_view meta.now) }

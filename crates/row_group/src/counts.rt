@@ -1,6 +1,6 @@
 //! Numbers of records that count, or that are places.
 
-ghost use Rattle.std.specs.Prelude.{◌≡◌, ◌≢◌, ℕ, pos, ◌<ℤ◌, Option, MatchOption, IfOk, Err};
+ghost use Rattle.std.specs.Prelude.{◌≡◌, ◌≢◌, ℕ, pos, ◌<ℤ◌, Option, MatchOption, IfOk, OnOk, Err};
 ghost use Rattle.bits.specs.Refusals.{OnFault, RefusedOnly};
 ghost use Rattle.pages.specs.Limits.{IsOfPages};
 
@@ -19,6 +19,7 @@ pub fn natural(number: i64) -> Option<usize>
 /// A count of at most so many. Refused Page below 0, and Limit above.
 pub fn count_of(number: i64, most: i64) -> R<usize>
     ensures is { IfOk result (λ n. number ≡ pos n) }
+    ensures short { OnOk result (most <ℤ number → ⊥) }
     ensures only { OnFault result ((n : ℕ) → number ≡ pos n → ⊥) }
     ensures limit { result ≡ Err Refusal.Limit → most <ℤ number }
     ensures which { RefusedOnly IsOfPages result }

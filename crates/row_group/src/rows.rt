@@ -1,6 +1,6 @@
 //! The rows of a group, one by one.
 
-ghost use Rattle.std.specs.Prelude.{◌≡◌, ◌⊎◌, ◌++◌, List, [], map, None, IfOk, OnErr, Err};
+ghost use Rattle.std.specs.Prelude.{◌≡◌, ◌⊎◌, ◌++◌, List, [], map, None, IfOk, OnOk, OnErr, Err};
 ghost use Rattle.std.specs.List.{AllByRecursion};
 ghost use Rattle.std.specs.Option.{option_to_list};
 ghost use Rattle.std.proofs.Props.{props};
@@ -45,11 +45,13 @@ impl Rows {
     /// [`MOST_ROWS_OF_GROUP`] rows, a leaf that is below a group or not REQUIRED, or a dictionary's page;
     /// Schema where there are not as many chunks as leaves; Levels where a chunk has not as many entries
     /// as the group has rows; else as a chunk is. No row is made before this is known of all of them.
+    /// No group is accepted that goes beyond a limit.
     ///
     /// Each byte of the chunks is read once, and no entry is copied. (`parquet.thrift`, RowGroup.)
     pub fn of_group(alloc: Global, front: &[u8], meta: &GroupMeta, schema: &Schema) -> R<Rows>
         ensures stands { IfOk result (λ rows. GroupMeans front.now schema.now (group_meta_view meta.now) (rows_left rows)) }
         ensures alone { IfOk result (λ rows. (others : List ValueTrees) → GroupMeans front.now schema.now (group_meta_view meta.now) others → others ≡ rows_left rows) }
+        ensures short { OnOk result (IsGroupOver front.now schema.now (group_meta_view meta.now) → ⊥) }
         ensures only { OnFault result ((rows : List ValueTrees) → GroupMeans front.now schema.now (group_meta_view meta.now) rows → ⊥) }
         ensures limit { result ≡ Err Refusal.Limit → IsGroupOver front.now schema.now (group_meta_view meta.now) ⊎ IsGroupToCome front.now schema.now (group_meta_view meta.now) }
         ensures codec { result ≡ Err Refusal.Codec → HasCodec (group_meta_view meta.now) }

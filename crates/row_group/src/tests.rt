@@ -220,3 +220,21 @@ fn a_second_page_is_refused_limit(rt: HostRuntime) -> Result<(), Fail> {
     assert!(rt; matches!(&answer, Err(Refusal::Limit)));
     Ok(())
 }
+
+#[test]
+fn a_chunk_of_too_many_entries_is_refused_limit(rt: HostRuntime) -> Result<(), Fail> {
+    let alloc = rt.alloc();
+    let mut meta = integers(alloc)?;
+    meta.num_values = MOST_ENTRIES_OF_CHUNK + 1;
+    let answer = read_first(alloc, &INTEGERS, &meta);
+    assert!(rt; matches!(&answer, Err(Refusal::Limit)));
+    Ok(())
+}
+
+#[test]
+fn a_group_of_too_many_rows_is_refused_limit(rt: HostRuntime) -> Result<(), Fail> {
+    let alloc = rt.alloc();
+    let answer = read_both(alloc, MOST_ROWS_OF_GROUP + 1, integers(alloc)?);
+    assert!(rt; matches!(&answer, Err(Refusal::Limit)));
+    Ok(())
+}

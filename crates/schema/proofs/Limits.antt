@@ -1,13 +1,14 @@
 -- How many leaves a schema has, and how long the ways to them are.
-use Rattle.std.proofs.Common.{ℕ, suc, max, ◌≡◌, ◌+◌, ◌≤◌, List, [], ◌∷◌, ◌++◌, length, map, refl, ap, Option, Some, None, arith}
+use Rattle.std.proofs.Common.{ℕ, suc, max, ◌≡◌, ◌+◌, ◌≤◌, List, [], ◌∷◌, ◌++◌, length, map, refl, ap, subst, ◌∙◌, Option, Some, None, ◌<◌, ◌⊎◌, arith, inl, inr}
 use Rattle.std.specs.Prelude.{ℤ}
 use Rattle.std.specs.List.{AllByRecursion}
 use Rattle.schema.specs.Elements.{Element}
 use Rattle.schema.specs.Shape.{Field, leaf, fields, Fields, no_fields, field}
 use Rattle.schema.specs.Stripe.{Leaf, leaves, leaves_from, leaves_of, below}
 use Rattle.schema.specs.Law.{IsWithinLimits}
-use Rattle.schema.specs.Listing.{Branch, branch, Branches, no_branches, branches, count_branches, depth_first, depth_first_each, HasChildren, IsCounted, AreCounted, IsField, AreFields, one_typed, count_typed, IsSchemaOf}
+use Rattle.schema.specs.Listing.{Branch, branch, Branches, no_branches, branches, count_branches, depth_first, depth_first_each, HasChildren, IsCounted, AreCounted, IsField, AreFields, one_typed, count_typed, height, height_of, IsTreeOf, IsTooLarge, IsSchemaOf}
 use Rattle.schema.specs.Reading.{tall, tallest}
+use Rattle.schema.proofs.Trees.{below_is, forest-listing}
 
 pub length-both : {A : Type 0} (xs ys : List A) → length (xs ++ ys) ≡ length xs + length ys
 length-both [] ys = omega arith
@@ -94,3 +95,36 @@ within es fs s short few =
       leaves = omega (arith, n, few);
       depth = all-more (λ (l : Leaf). length l.steps ≤ tallest fs) (λ (l : Leaf). length l.steps ≤ 32) (leaves_of fs) (λ l h. omega (arith, h, short)) (deep_each 0 fs);
     }
+
+-- ---- a list that stands for a schema within the limits is not too large
+
+no_height : (k c : Option ℤ) (z : ℤ) (bs : Branches) → k ≡ Some z → HasChildren k c (count_branches bs) → height_of bs ≡ 0
+no_height None c z bs e h = cc
+no_height (Some t) c z no_branches e h = refl
+no_height (Some t) c z (branches b bs) e h = let n = h.0 in absurd (omega (arith, n))
+
+mutual
+  height_at : (b : Branch) (f : Field) → IsCounted b → IsField b f → height b ≡ tall f
+  height_at (branch e bs) (leaf n r t) c h = ap suc (no_height e.kind e.num_children h.2.number bs h.2.there c.0)
+  height_at (branch e bs) (fields n r a fs) c h = ap suc (height_each bs fs c.1 h.4)
+
+  height_each : (bs : Branches) (fs : Fields) → AreCounted bs → AreFields bs fs → height_of bs ≡ tallest fs
+  height_each no_branches no_fields c h = refl
+  height_each no_branches (field f fs) c h = absurd h
+  height_each (branches b bs) no_fields c h = absurd h
+  height_each (branches b bs) (field f fs) c h = ap (λ (k : ℕ). max k (height_of bs)) (height_at b f c.0 h.0) ∙ ap (max (tall f)) (height_each bs fs c.1 h.1)
+
+pub not_too_large : (es : List Element) (fs : Fields) → IsSchemaOf es fs → tallest fs ≤ 32 → IsWithinLimits fs → IsTooLarge es → ⊥
+not_too_large es fs s short few large = beyond large.over
+  where
+    same : large.below ≡ s.below
+    same =
+        below_is s.root (depth_first_each s.below) large.root large.below (subst (λ (t : List Element). IsTreeOf t large.root large.below) s.listed.listed large.listed)
+        ∙ forest-listing s.below s.listed.counted.1
+
+    high : height_of large.below ≡ tallest fs
+    high = ap height_of same ∙ height_each s.below fs s.listed.counted.1 s.stands_for
+
+    beyond : (1024 < count_typed es) ⊎ (32 < height_of large.below) → ⊥
+    beyond (inl many) = let n = few_leaves es fs s in let most = few.leaves in omega (arith, n, most, many)
+    beyond (inr deep) = omega (arith, high, short, deep)

@@ -1,7 +1,7 @@
 //! A schema.
 
 ghost use Rattle.bits.specs.Refusals.{OnFault, RefusedOnly};
-ghost use Rattle.std.specs.Prelude.{◌≡◌, ◌≤◌, map, length, IfOk, IfErr};
+ghost use Rattle.std.specs.Prelude.{◌≡◌, ◌≤◌, map, length, IfOk, OnOk, IfErr};
 ghost use Rattle.schema.specs.Elements.{elements_view};
 ghost use Rattle.schema.specs.Values.{views};
 ghost use Rattle.schema.specs.Shape.{Fields};
@@ -10,7 +10,7 @@ ghost use Rattle.schema.specs.Stripe.{leaves_of};
 ghost use Rattle.schema.specs.Listed.{elements_of};
 ghost use Rattle.schema.specs.Fits.{fits_each};
 ghost use Rattle.schema.specs.Law.{IsSchema, IsWithinLimits};
-ghost use Rattle.schema.specs.Listing.{IsSchemaOf};
+ghost use Rattle.schema.specs.Listing.{IsSchemaOf, IsTooLarge};
 ghost use Rattle.schema.specs.Faults.{HasFault};
 ghost use Rattle.schema.specs.Reading.{tallest};
 ghost use Rattle.schema.specs.Cutting.{IsCutTo, IsCutFault};
@@ -65,7 +65,8 @@ impl Schema {
     /// repetition or a type cannot be, or a kept struct has no bytes or nests more than 29 deep; Float
     /// and Int96, with the path joined by `.`, for a leaf of FLOAT, DOUBLE or FLOAT16, and of INT96;
     /// Limit for more than 1,024 leaves, or 32 fields on a way. Where there are several faults one of
-    /// them is answered, and Float, Int96 and Limit only where the list is a tree.
+    /// them is answered, and Float, Int96 and Limit only where the list is a tree. No schema is answered of
+    /// a tree that is too large.
     ///
     /// Time and memory are linear in the list, beside a handle for each name on the way to each leaf (leaves
     /// below a field share its name) and a look-up of each name among its siblings, in order: for n siblings
@@ -73,6 +74,7 @@ impl Schema {
     pub fn new(alloc: Global, elements: &[Element]) -> R<Schema>
         ensures stands { IfOk result (λ fs. IsSchemaOf (elements_view elements.now) fs) }
         ensures within { IfOk result (λ fs. IsWithinLimits fs) }
+        ensures short { OnOk result (IsTooLarge (elements_view elements.now) → ⊥) }
         ensures only { OnFault result ((fs : Fields) → IsSchemaOf (elements_view elements.now) fs → ⊥) }
         ensures which { IfErr result (HasFault (elements_view elements.now)) }
     {

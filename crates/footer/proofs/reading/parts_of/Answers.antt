@@ -1,7 +1,7 @@
 use Rattle.std.proofs.Common.{get_or, Fits, w8, ◌≡◌, ◌∙◌, ◌-◌, ◌<◌, List, ℕ, length, ap, arith}
 use Rattle.byteorder.specs.Endian.{little_number}
 use Rattle.footer.specs.Faults.{long_footer}
-use Rattle.footer.proofs.Frames.{framed, not_framed, over}
+use Rattle.footer.proofs.Frames.{framed, not_framed, over, not_long}
 use Rattle.footer.proofs.reading.parts_of.Goals as goal
 
 below : (bytes : List ℕ) → ((i : ℕ) → Fits w8 (get_or bytes i 0)) → (i : ℕ) → get_or bytes i 0 < 256
@@ -28,3 +28,7 @@ returns-clause-framed c =
     let n : length c.split_at.result.0.now ≡ length bytes - 8 = omega (arith, e, c.split_at.ensures.front_len) in
     let r = framed bytes (below bytes c.type_inv.bytes) e magics.0 magics.1 size (c.read_u32-size.ensures ∙ ap (λ t. little_number 4 t) c.split_at.ensures.back) c.read_u32-size.type_inv (omega (arith, e, f, n)) in
     rw (c.split_at-2.ensures.front, c.split_at-2.ensures.back, n, c.split_at.ensures.front) r
+
+pub returns-clause-short : goal.returns-clause-short
+returns-clause-short c =
+    not_long c.args.bytes.now c.read_u32-size.result (omega arith) (c.read_u32-size.ensures ∙ ap (λ t. little_number 4 t) c.split_at.ensures.back) (omega arith)

@@ -1,12 +1,19 @@
 use Rattle.std.proofs.Common.{◌≢◌, List}
+use Rattle.std.proofs.lemmas.Result.{on_ok_weaker}
 use Rattle.bits.specs.declared.refusal.Refusal.TheVariants.{Device}
 use Rattle.bits.specs.Refusals.{IsFault}
 use Rattle.bits.proofs.Passing.{passes}
 use Rattle.schema.specs.Values.{ValueTrees}
 use Rattle.schema.specs.Shape.{Fields}
 use Rattle.footer.specs.File.{FileMeans}
+use Rattle.footer.specs.Left.{rows_left}
 use Rattle.pqds.proofs.Rows.{rows_fit, is_of_device, is_no_other, is_no_fault}
 use Rattle.pqds.proofs.lines.decode.Goals as goal
+
+pub returns-clause-stands : goal.returns-clause-stands
+returns-clause-stands g c =
+    on_ok_weaker c.write_rows.result
+    (λ written. record { fs = c.in_ok-schema.schema; rows = rows_left c.in_ok-schema.rows; means = c.in_ok-schema.ensures.stands; written = written }) c.write_rows.ensures.stands
 
 pub returns-clause-which : goal.returns-clause-which
 returns-clause-which g c =

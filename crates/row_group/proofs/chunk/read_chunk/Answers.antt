@@ -2,7 +2,7 @@ use Rattle.std.proofs.Common.{◌≡◌, ℕ, List, map, sym, ap, ◌∙◌, ari
 use Rattle.std.specs.Rc.{rc_str_bytes}
 use Rattle.std.specs.Prelude.{pos}
 use Rattle.std.proofs.lemmas.Int.{ints}
-use Rattle.std.proofs.lemmas.Result.{IfOk-weaker, IfErr-weaker}
+use Rattle.std.proofs.lemmas.Result.{IfOk-weaker, IfErr-weaker, on_ok_weaker}
 use Rattle.bits.specs.declared.refusal.Refusal.{Refusal}
 use Rattle.bits.specs.Refusals.{IsFault}
 use Rattle.bits.specs.Codec.{NothingStands}
@@ -13,7 +13,7 @@ use Rattle.schema.specs.Views.{leaf_view, column_view}
 use Rattle.metadata.specs.Views.{column_meta_view}
 use Rattle.pages.specs.Chunk.{IsChunk}
 use Rattle.row_group.specs.Chunks.{IsChunkOf, ChunkMeans}
-use Rattle.row_group.proofs.Means.{means, held, limit_of_pages}
+use Rattle.row_group.proofs.Means.{means, held, limit_of_pages, not_over}
 use Rattle.row_group.proofs.chunk.read_chunk.Goals as goal
 
 pub returns-clause-stands : goal.returns-clause-stands
@@ -38,6 +38,13 @@ returns-clause-alone c =
     IfOk-weaker {X = Column × ℕ} {Y = Refusal} c.read_pages.result (λ x. (es : List Entry) (used : ℕ) → IsChunk leaf c.args.bytes.now c.in_ok-count.count es used → (es ≡ column_view x.0) × (used ≡ x.1))
     (λ x. (es : List Entry) (used : ℕ) → ChunkMeans m leaf c.args.bytes.now es used → (es ≡ column_view x.0) × (used ≡ x.1))
     (λ x h es used w. h es used (held m leaf c.args.bytes.now c.in_ok-count.count es used number w)) c.read_pages.ensures.alone
+
+pub returns-clause-short : goal.returns-clause-short
+returns-clause-short c =
+    let e = c.in_ok-count.ensures.is in
+    let number : c.args.meta.now.num_values ≡ pos c.in_ok-count.count = omega (arith, ints) in
+    on_ok_weaker {T = Column × ℕ} {E = Refusal} c.read_pages.result
+    (not_over (column_meta_view c.args.meta.now) (leaf_view c.args.leaf.now) c.args.bytes.now c.in_ok-count.count number (λ many. c.in_ok-count.ensures.short (omega (arith, ints, many)))) c.read_pages.ensures.short
 
 pub returns-clause-only : goal.returns-clause-only
 returns-clause-only c =

@@ -9,7 +9,7 @@ use Rattle.schema.specs.Views.{leaf_view, entry_view}
 use Rattle.pages.specs.Page.{Page}
 use Rattle.pages.specs.Chunk.{entries_of, IsChunk}
 use Rattle.pages.specs.Views.{page_view}
-use Rattle.row_group.proofs.OnePage.{begins, one_page, no_page, only_no_page}
+use Rattle.row_group.proofs.OnePage.{begins, one_page, no_page, only_no_page, no_page_over, none_over}
 use Rattle.row_group.proofs.chunk.read_pages.Goals as goal
 
 pub returns-then-count-eq0-clause-stands : goal.returns-then-count-eq0-clause-stands
@@ -20,6 +20,9 @@ pub returns-then-count-eq0-clause-alone : goal.returns-then-count-eq0-clause-alo
 returns-then-count-eq0-clause-alone c = λ es used chunk.
     let o = only_no_page (leaf_view c.args.leaf.now) c.args.bytes.now c.args.count es used c.if-count-eq0.true chunk in
     (o.0 ∙ sym (ap (λ (t : List CodeEntry). map entry_view t) c.new-entries.ensures.items), o.1)
+
+pub returns-then-count-eq0-clause-short : goal.returns-then-count-eq0-clause-short
+returns-then-count-eq0-clause-short c = none_over (leaf_view c.args.leaf.now) c.args.bytes.now c.args.count c.if-count-eq0.true
 
 pub returns-in_err-page-clause-only : goal.returns-in_err-page-clause-only
 returns-in_err-page-clause-only c =
@@ -48,6 +51,12 @@ returns-then-len-count-clause-alone c = λ es used chunk.
     let o = c.in_ok-page.ensures.alone b.page b.first b.stands in
     let w = b.only (ap (λ (p : Page). length (entries_of p)) o.0 ∙ size) in
     (w.0 ∙ ap entries_of o.0 ∙ sym same, w.1 ∙ o.1)
+
+pub returns-then-len-count-clause-short : goal.returns-then-len-count-clause-short
+returns-then-len-count-clause-short c =
+    let page = page_view c.in_ok-page.page in
+    let size : length (entries_of page) ≡ c.args.count = sym (ap length c.entries_of-entries.ensures) ∙ length-map c.entries_of-entries.result.items entry_view ∙ omega arith in
+    no_page_over c.pages_of_a_dictionary.ensures.unread (leaf_view c.args.leaf.now) c.args.bytes.now c.args.count page (λ other used stands. (c.in_ok-page.ensures.alone other used stands).0) size c.in_ok-page.ensures.short
 
 pub returns-then-used-bytes-clause-only : goal.returns-then-used-bytes-clause-only
 returns-then-used-bytes-clause-only c = λ fault es used chunk.

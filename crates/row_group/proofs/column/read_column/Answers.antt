@@ -5,7 +5,7 @@ use Rattle.schema.specs.Stripe.{Entry}
 use Rattle.schema.specs.Views.{leaf_view}
 use Rattle.metadata.specs.Views.{column_meta_view}
 use Rattle.row_group.specs.Chunks.{ColumnMeans}
-use Rattle.row_group.proofs.Means.{at_start}
+use Rattle.row_group.proofs.Means.{at_start, not_over_at_start}
 use Rattle.row_group.proofs.column.read_column.Goals as goal
 
 pub returns-in_err-start-clause-only : goal.returns-in_err-start-clause-only
@@ -26,3 +26,7 @@ pub returns-clause-alone : goal.returns-clause-alone
 returns-clause-alone c = λ es m.
     let w = at_start c.args.front.now (column_meta_view c.args.meta.now) (leaf_view c.args.leaf.now) es c.in_ok-start.start c.from.result.now c.in_ok-start.ensures.alone c.from.ensures m in
     (c.in_ok-column.ensures.alone es w.0 w.1).0
+
+pub returns-clause-short : goal.returns-clause-short
+returns-clause-short c =
+    not_over_at_start c.args.front.now (column_meta_view c.args.meta.now) (leaf_view c.args.leaf.now) c.in_ok-start.start c.from.result.now c.in_ok-start.ensures.alone c.from.ensures c.in_ok-column.ensures.short

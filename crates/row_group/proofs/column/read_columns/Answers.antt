@@ -5,12 +5,12 @@ use Rattle.bits.specs.Refusals.{IsFault}
 use Rattle.bits.proofs.Passing.{passes}
 use Rattle.schema.specs.Stripe.{Leaf, Entry, leaves_of}
 use Rattle.schema.specs.Views.{leaf_view, column_view, columns_view}
-use Rattle.metadata.specs.Views.{chunk_meta_view}
+use Rattle.metadata.specs.Views.{chunk_meta_view, group_meta_view}
 use Rattle.row_group.specs.Chunks.{AreChunks}
 use Rattle.row_group.specs.Moving.{HasCount}
 use Rattle.row_group.proofs.Places.{gets_here}
 use Rattle.row_group.proofs.Passed.{passed}
-use Rattle.row_group.proofs.InOrder.{IsReadUpTo, one_read, all_read, only_these, none_read, as_many, at_place, at_end}
+use Rattle.row_group.proofs.InOrder.{NoneOver, IsReadUpTo, one_read, all_read, only_these, none_read, no_column_over, as_many, at_place, at_end}
 use Rattle.row_group.proofs.column.read_columns.Goals as goal
 
 pub returns-then-len-leaves-clause-only : goal.returns-then-len-leaves-clause-only
@@ -64,7 +64,7 @@ loop-place-preserved c =
     let front = c.args.front.now in
     let so_far = at_place front c.args.count chunk_meta_view leaf_view chunks.items leaves i c.index.result.now c.index-leaves-place.result (columns_view c.loop-place.columns.items) (omega (arith, chunks.ok.0)) (omega arith) c.index.ensures c.index-leaves-place.is c.loop-place.invariant in
     let next = one_read front c.args.count (map chunk_meta_view chunks.items) (map leaf_view leaves) (chunk_meta_view c.index.result.now) (leaf_view c.index-leaves-place.result) _ _ (columns_view c.loop-place.columns.items) (column_view c.in_ok-column.column)
-    c.in_ok-column.ensures.stands c.in_ok-column.ensures.alone c.in_ok-column.ensures.count so_far in
+    c.in_ok-column.ensures.stands c.in_ok-column.ensures.alone c.in_ok-column.ensures.count c.in_ok-column.ensures.short so_far in
     let pushed : columns_view c.push.new.self.items ≡ columns_view c.loop-place.columns.items ++ column_view c.in_ok-column.column ∷ [] = ap columns_view c.in_ok-push.ensures.items ∙ map-append column_view c.loop-place.columns.items (c.in_ok-column.column ∷ []) in
     subst (IsReadUpTo front c.args.count (map chunk_meta_view chunks.items) (map leaf_view leaves) (map chunk_meta_view (drop (i + 1) chunks.items)) (map leaf_view (drop (i + 1) leaves))) (sym pushed) next
 
@@ -83,3 +83,11 @@ returns-clause-alone c = λ others h.
     let so_far = at_end c.args.front.now c.args.count chunk_meta_view leaf_view chunks.items leaves c.loop-place.place (columns_view c.loop-place.columns.items) (omega (arith, chunks.ok.0)) (omega arith) c.loop-place.invariant in
     only_these c.args.front.now c.args.count (map chunk_meta_view chunks.items) (map leaf_view leaves) (columns_view c.loop-place.columns.items) so_far others
     (subst (λ (t : List Leaf). AreChunks c.args.front.now (map chunk_meta_view chunks.items) t others) (sym c.leaves-leaves.ensures.is) h)
+
+pub returns-clause-short : goal.returns-clause-short
+returns-clause-short c =
+    let chunks = c.args.meta.now.columns in
+    let leaves = c.leaves-leaves.result.now in
+    let so_far = at_end c.args.front.now c.args.count chunk_meta_view leaf_view chunks.items leaves c.loop-place.place (columns_view c.loop-place.columns.items) (omega (arith, chunks.ok.0)) (omega arith) c.loop-place.invariant in
+    no_column_over c.args.front.now c.args.schema.now (group_meta_view c.args.meta.now)
+    (subst (λ (t : List Leaf). NoneOver c.args.front.now (map chunk_meta_view chunks.items) t) c.leaves-leaves.ensures.is (so_far.short tt))

@@ -10,7 +10,7 @@ use Rattle.schema.specs.Views.{columns_view}
 use Rattle.metadata.specs.Views.{group_meta_view}
 use Rattle.row_group.specs.Chunks.{GroupMeans}
 use Rattle.row_group.specs.Moving.{IsLeafRead, HasCount, rows_of}
-use Rattle.row_group.proofs.Whole.{IsRead, means, alone, no_rows}
+use Rattle.row_group.proofs.Whole.{IsRead, means, alone, no_rows, not_over}
 use Rattle.row_group.proofs.rows.Rows.of_group.Goals as goal
 use Rattle.row_group.proofs.rows.Rows.of_group.Goals.{In_ok-columns}
 
@@ -56,3 +56,8 @@ returns-clause-alone c = λ others m.
     let n = c.in_ok-left.left in
     alone front fs g n (columns_view c.in_ok-read.read.items) c.columns_determine_rows.ensures (is_read (goal.at.returns-clause-alone c).In_ok-columns) c.in_ok-read.ensures.alone others m
     ∙ ap (rows_of n) (sym c.in_ok-columns.ensures.is)
+
+pub returns-clause-short : goal.returns-clause-short
+returns-clause-short c =
+    let e = c.in_ok-left.ensures.is in
+    not_over c.args.front.now c.args.schema.now (group_meta_view c.args.meta.now) (λ many. c.in_ok-left.ensures.short (omega (arith, ints, many))) c.in_ok-read.ensures.short
