@@ -1,6 +1,6 @@
 -- What a disk holds, and what a stop may leave of it.
 use Rattle.std.specs.Prelude.{◌≡◌, ◌≢◌, ◌≤◌, ◌<◌, ◌⊎◌, ◌+◌, ◌-◌, ◌^◌, ℕ, List, [], Option, Some, None}
-use Rattle.disk.specs.Paths.{folder_of, IsOnTheWay}
+use Rattle.disk.specs.Paths.{folder_of}
 use Rattle.disk.specs.declared.binding.Binding.{Binding}
 use Rattle.disk.specs.declared.binding.Binding.TheVariants.{Nothing, Folder, File}
 
@@ -62,12 +62,6 @@ pub record IsFresh (state : State) (node : ℕ) : Type 0 where
 pub record IsAtRest (state : State) : Type 0 where
   pub firm : (image : Image) → may_leave state image → image ≡ state.seen
   pub sure : (node : ℕ) → state.doubted node → ⊥
-
--- no stop leaves a folder where this file belongs, or a file where a folder on the way to it belongs: what a
--- caller promises of the dataset's folder
-pub record HasRoomFor (state : State) (path : List ℕ) : Type 0 where
-  pub no_folder : (image : Image) → may_leave state image → image.names path ≢ Folder
-  pub no_file : (image : Image) → may_leave state image → (folder : List ℕ) → IsOnTheWay folder path → (node : ℕ) → image.names folder ≢ File node
 
 -- a count that goes up by one, and stays at the greatest u64
 pub record IsOneMore (old new : ℕ) : Type 0 where

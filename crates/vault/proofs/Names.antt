@@ -3,7 +3,7 @@ use Rattle.std.proofs.Common.{◌≡◌, ◌≢◌, ℕ, zero, suc, List, [], �
 use Rattle.std.proofs.lemmas.Bool.Decides.{eqb_tells}
 use Rattle.disk.specs.Paths.{slash, folder_of, IsOnTheWay}
 use Rattle.disk.specs.State.{State}
-use Rattle.vault.specs.Views.{root_path, next_path, AreApart, IsClearWay}
+use Rattle.vault.specs.Views.{root_path, next_path, IsClearWay}
 
 abbrev has_no_slash : List ℕ → Bool
 has_no_slash [] = true
@@ -35,15 +35,8 @@ root_in_top = refl
 pub root_not_next : root_path ≢ next_path
 root_not_next e = let lengths : length root_path ≡ length next_path = ap length e in omega (arith, lengths)
 
--- a name without a slash is apart from each path that it is not on the way to, both ways round
-pub name_apart : (name path : List ℕ) → has_no_slash name ≡ true → (IsOnTheWay name path → ⊥) → AreApart name path × AreApart path name
-name_apart name path plain off = (
-  record { no_folder = nothing_on_the_way name path plain; no_file = off },
-  record { no_folder = off; no_file = nothing_on_the_way name path plain },
-)
+pub next_alone : (path : List ℕ) → IsOnTheWay path next_path → ⊥
+next_alone path on = nothing_on_the_way next_path path refl on
 
-pub root_apart : (path : List ℕ) → (IsOnTheWay root_path path → ⊥) → AreApart root_path path × AreApart path root_path
-root_apart path off = name_apart root_path path refl off
-
-pub next_apart : (path : List ℕ) → (IsOnTheWay next_path path → ⊥) → AreApart next_path path × AreApart path next_path
-next_apart path off = name_apart next_path path refl off
+pub root_alone : (path : List ℕ) → IsOnTheWay path root_path → ⊥
+root_alone path on = nothing_on_the_way root_path path refl on

@@ -1,11 +1,11 @@
 -- What each step of the disk leaves of all that it does not name.
 use Rattle.std.proofs.Common.{◌≡◌, ◌≢◌, ℕ, List, Some, None, ⊎_elim, refl, sym, ◌∙◌, ap, subst}
 use Rattle.disk.specs.Paths.{IsOnTheWay}
-use Rattle.disk.specs.State.{Image, State, HasRoomFor, held, content, may_leave}
+use Rattle.disk.specs.State.{Image, State, held, content, may_leave}
 use Rattle.disk.specs.declared.binding.Binding.{Binding}
 use Rattle.disk.specs.declared.binding.Binding.TheVariants.{Nothing, Folder, File}
 use Rattle.disk.specs.Calls.{Passes, Stays, Binds, Tears, IsStill}
-use Rattle.vault.specs.Views.{Same, AllBut, IsRooted, LeavesAll, root_path}
+use Rattle.vault.specs.Views.{Same, AllBut, IsRooted, IsClearWay, LeavesAll, root_path}
 use Rattle.vault.specs.Files.{Spares}
 use Rattle.vault.proofs.Moments.{one_call, joins, stays_leaves, all_but_same, all_but_twice, same_same}
 
@@ -47,15 +47,11 @@ rooted_on Step old new time names nodes rooted c e n may_c may_e named =
     let was = names one.0 c one.1 one.2 n named in
     nodes one.0 two.0 e n one.1 was two.1 two.2 ∙ rooted one.0 two.0 n one.1 two.1 was ∙ sym (nodes one.0 one.0 c n one.1 was one.1 one.2)
 
--- a step that puts no folder at this path, and no file on the way to it
-pub room_on : (Step : Image → Image → Type 0) (old new : State) (q : List ℕ) → Passes Step old new
-    → ((d c : Image) → may_leave old d → Step d c → c.names q ≡ Folder → d.names q ≡ Folder)
+-- a step that puts no file on the way to this path
+pub clear_on : (Step : Image → Image → Type 0) (old new : State) (q : List ℕ) → Passes Step old new
     → ((d c : Image) → may_leave old d → Step d c → (f : List ℕ) → IsOnTheWay f q → (n : ℕ) → c.names f ≡ File n → d.names f ≡ File n)
-    → HasRoomFor old q → HasRoomFor new q
-room_on Step old new q time folders files had = record {
-  no_folder = λ c may is. let was = time.follows c may in had.no_folder was.0 was.1 (folders was.0 c was.1 was.2 is);
-  no_file = λ c may f on n is. let was = time.follows c may in had.no_file was.0 was.1 f on n (files was.0 c was.1 was.2 f on n is);
-}
+    → IsClearWay old q → IsClearWay new q
+clear_on Step old new q time files had c may f on n is = let was = time.follows c may in had was.0 was.1 f on n (files was.0 c was.1 was.2 f on n is)
 
 pub folder_is_no_file : (n : ℕ) → Folder ≢ File n
 folder_is_no_file n e = cc
@@ -65,35 +61,33 @@ stays_rooted old new time = rooted_on Stays old new time
     (λ d c may is n named. ap (λ (i : Image). i.names root_path) (sym is) ∙ named)
     (λ b d c n may_b named may_d is. ap (λ (i : Image). i.bytes n) is)
 
-pub stays_room : (old new : State) (q : List ℕ) → Passes Stays old new → HasRoomFor old q → HasRoomFor new q
-stays_room old new q time = room_on Stays old new q time
-    (λ d c may is named. ap (λ (i : Image). i.names q) (sym is) ∙ named)
+pub stays_clear : (old new : State) (q : List ℕ) → Passes Stays old new → IsClearWay old q → IsClearWay new q
+stays_clear old new q time = clear_on Stays old new q time
     (λ d c may is f on n named. ap (λ (i : Image). i.names f) (sym is) ∙ named)
 
 pub stays_spares : (path : List ℕ) (old new : State) → Passes Stays old new → new.seen ≡ old.seen → Spares path old new
 stays_spares path old new time seen = record {
   moments = stays_leaves (AllBut path) old new (all_but_same path) time seen;
   rooted = stays_rooted old new time;
-  room = λ q apart. stays_room old new q time;
+  clear = λ q off. stays_clear old new q time;
 }
 
 pub spares_on : (path : List ℕ) (old mid new : State) → Spares path old mid → Spares path mid new → Spares path old new
 spares_on path old mid new first second = record {
   moments = joins (AllBut path) (AllBut path) (AllBut path) old mid new (all_but_twice path) (λ u v same. same) first.moments second.moments;
   rooted = λ r. second.rooted (first.rooted r);
-  room = λ q apart had. second.room q apart (first.room q apart had);
+  clear = λ q off had. second.clear q off (first.clear q off had);
 }
 
--- a name that stands for a file or for nothing
-pub binds_spares : (path : List ℕ) (to : Binding) (old new : State) → path ≢ root_path → to ≢ Folder → Passes (Binds path to) old new → Binds path to old.seen new.seen → Spares path old new
-binds_spares path to old new not_root no_folder time seen = record {
+-- a name that stands for something else
+pub binds_spares : (path : List ℕ) (to : Binding) (old new : State) → path ≢ root_path → Passes (Binds path to) old new → Binds path to old.seen new.seen → Spares path old new
+binds_spares path to old new not_root time seen = record {
   moments = one_call (AllBut path) (Binds path to) old new (all_but_same path) (λ d c may bound. binds_but path to d c bound) (binds_but path to old.seen new.seen seen) time;
   rooted = rooted_on (Binds path to) old new time
       (λ d c may bound n is. ⊎_elim (λ same. sym same ∙ is) (λ m. absurd (not_root (sym m.0))) (bound.names root_path))
       (λ b d c n may_b named may_d bound. bound.nodes n);
-  room = λ q apart. room_on (Binds path to) old new q time
-      (λ d c may bound is. ⊎_elim (λ same. sym same ∙ is) (λ m. absurd (no_folder (sym m.1 ∙ is))) (bound.names q))
-      (λ d c may bound f on n is. ⊎_elim (λ same. sym same ∙ is) (λ m. absurd (apart.no_file (let P : List ℕ → Type 0 = λ g. IsOnTheWay g q in subst P m.0 on))) (bound.names f));
+  clear = λ q off. clear_on (Binds path to) old new q time
+      (λ d c may bound f on n is. ⊎_elim (λ same. sym same ∙ is) (λ m. absurd (off (let P : List ℕ → Type 0 = λ g. IsOnTheWay g q in subst P m.0 on))) (bound.names f));
 }
 
 -- bytes behind a node that this path alone names
@@ -107,8 +101,7 @@ tears_spares path node at count old new not_root alone reads time seen = record 
   rooted = rooted_on (Tears node at count) old new time
       (λ d c may torn n is. sym (torn.names root_path) ∙ is)
       (λ b d c n may_b named may_d torn. torn.nodes n (λ same. alone b may_b root_path (λ e. not_root (sym e)) (named ∙ ap File same)));
-  room = λ q apart. room_on (Tears node at count) old new q time
-      (λ d c may torn is. sym (torn.names q) ∙ is)
+  clear = λ q off. clear_on (Tears node at count) old new q time
       (λ d c may torn f on n is. sym (torn.names f) ∙ is);
 }
 
@@ -116,6 +109,6 @@ pub reads_only : (old new : State) → IsStill old new → LeavesAll old new
 reads_only old new still = record {
   moments = stays_leaves Same old new same_same still.passes still.seen;
   rooted = stays_rooted old new still.passes;
-  room = λ q. stays_room old new q still.passes;
+  clear = λ q. stays_clear old new q still.passes;
   names = λ q. ap (λ (i : Image). i.names q) still.seen;
 }

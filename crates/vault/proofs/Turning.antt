@@ -3,26 +3,20 @@ use Rattle.std.proofs.Common.{◌≡◌, ◌≢◌, ◌⊎◌, ℕ, List, [], So
 use Rattle.std.specs.Prelude.{IfErr}
 use Rattle.std.proofs.lemmas.Result.{on_ok_weaker, IfOk-at_ok}
 use Rattle.disk.specs.Paths.{IsOnTheWay}
-use Rattle.disk.specs.State.{Image, State, IsLawful, HasRoomFor, held, content, may_leave}
-use Rattle.disk.specs.declared.binding.Binding.TheVariants.{Nothing, Folder, File}
+use Rattle.disk.specs.State.{Image, State, IsLawful, held, content, may_leave}
+use Rattle.disk.specs.declared.binding.Binding.TheVariants.{Nothing, File}
 use Rattle.disk.specs.declared.fault.Fault.{Fault}
 use Rattle.disk.specs.declared.fault.Fault.TheVariants.{Absent, Failed}
 use Rattle.disk.specs.Calls.{Passes, Moves, IsStill, Renamed, FolderSynced, IsMovable}
-use Rattle.vault.specs.Views.{Same, View, LeavesAfter, AllBut, Swaps, IsKept, WasKept, IsRooted, IsSettled, AreApart, root_path, next_path}
+use Rattle.vault.specs.Views.{Same, View, LeavesAfter, AllBut, Swaps, IsKept, WasKept, IsRooted, IsSettled, IsClearWay, LeavesClear, root_path, next_path}
 use Rattle.vault.specs.Files.{IsWritten, IsHoused, Turned, Spares}
 use Rattle.vault.proofs.Moments.{one_call, joins, stays_leaves, stays_may, swaps_same}
-use Rattle.vault.proofs.Steps.{content_along, room_on, stays_rooted, stays_room}
+use Rattle.vault.proofs.Steps.{content_along, clear_on, stays_rooted, stays_clear}
 use Rattle.vault.proofs.Answering.{failed_only}
 use Rattle.vault.proofs.Names.{root_not_next, root_in_top}
 
 one_node : (m n : ℕ) → File m ≡ File n → m ≡ n
 one_node m n e = cc
-
-file_is_no_folder : (n : ℕ) → File n ≢ Folder
-file_is_no_folder n e = cc
-
-nothing_is_no_folder : Nothing ≢ Folder
-nothing_is_no_folder e = cc
 
 nothing_is_no_file : (n : ℕ) → Nothing ≢ File n
 nothing_is_no_file n e = cc
@@ -70,18 +64,12 @@ module _ (root : List ℕ) (s0 s1 : State) (r1 : Result (Unit {0}) Fault) (lawfu
       (λ fresh. ap e.bytes fresh ∙ filled e may_e ∙ sym (filled c may_c) ∙ ap c.bytes (sym fresh))
       (named_by one.0 c n one.2 is)
 
-  room : (q : List ℕ) → AreApart root_path q → HasRoomFor s0 q → HasRoomFor s1 q
-  room q apart = room_on (Moves next_path root_path (s0.seen.names next_path)) s0 s1 q moves
-      (λ d c may moved is. ⊎_elim
-      (λ same. sym same ∙ is)
-      (λ changed. ⊎_elim
-      (λ t. absurd (file_is_no_folder file.node (sym file.seen ∙ sym t.1 ∙ is)))
-      (λ s. absurd (nothing_is_no_folder (sym s.1 ∙ is))) changed)
-      (moved.names q))
+  clear : LeavesClear root_path s0 s1
+  clear q off = clear_on (Moves next_path root_path (s0.seen.names next_path)) s0 s1 q moves
       (λ d c may moved f on n is. ⊎_elim
       (λ same. sym same ∙ is)
       (λ changed. ⊎_elim
-      (λ t. absurd (apart.no_file (let P : List ℕ → Type 0 = λ g. IsOnTheWay g q in subst P t.0 on)))
+      (λ t. absurd (off (let P : List ℕ → Type 0 = λ g. IsOnTheWay g q in subst P t.0 on)))
       (λ s. absurd (nothing_is_no_file n (sym s.1 ∙ is))) changed)
       (moved.names f))
 
@@ -89,7 +77,7 @@ module _ (root : List ℕ) (s0 s1 : State) (r1 : Result (Unit {0}) Fault) (lawfu
   turn_refused e is which = record {
     moments = moments;
     rooted = rooted;
-    room = room;
+    clear = clear;
     failed =
         let P : Result (Unit {0}) Fault → Type 0 = λ r. IfErr r (λ f. f ≡ Failed) in
         subst P is (failed_only r1 which (λ a. nothing_is_no_file file.node (sym (renamed.absent a) ∙ file.seen)));
@@ -113,7 +101,7 @@ module _ (root : List ℕ) (s0 s1 : State) (r1 : Result (Unit {0}) Fault) (lawfu
           })
           (λ u v swaps. swaps) moments (stays_leaves Same s1 s2 (λ u q. refl) synced.takes.passes synced.takes.seen);
       rooted = λ old. stays_rooted s1 s2 synced.takes.passes (rooted old);
-      room = λ q apart had. stays_room s1 s2 q synced.takes.passes (room q apart had);
+      clear = λ q off had. stays_clear s1 s2 q synced.takes.passes (clear q off had);
       failed = failed_only r2 which (λ a. synced.absent a (lawful1.whole honest1 s1.moment s1.seen (lawful1.seen_may_stay honest1)).top);
       done = on_ok_weaker r2 (λ done.
           let named = λ (c : Image) (may : may_leave s2 c). done.1 c may (lawful2.whole honest2 s2.moment c may).top root_path root_in_top ∙ now in (
@@ -142,8 +130,8 @@ module _ (root : List ℕ) (s0 s1 s2 : State) (r : Result (Unit {0}) Fault) (pla
   pub swap_rooted : IsRooted s0 → IsRooted s2
   swap_rooted rooted = turned.rooted (placed.rooted rooted)
 
-  pub swap_room : (q : List ℕ) → AreApart root_path q → AreApart next_path q → HasRoomFor s0 q → HasRoomFor s2 q
-  swap_room q root_off next_off had = turned.room q root_off (placed.room q next_off had)
+  pub swap_clear : (q : List ℕ) → (IsOnTheWay root_path q → ⊥) → (IsOnTheWay next_path q → ⊥) → IsClearWay s0 q → IsClearWay s2 q
+  swap_clear q root_off next_off had = turned.clear q root_off (placed.clear q next_off had)
 
   pub swap_was_kept : IsLawful s1 → s1.honest → IsKept s1 next_path root → WasKept next_path root s0 s2
   swap_was_kept lawful honest kept = record {

@@ -13,7 +13,7 @@ use Rattle.disk.specs.Calls.{Passes, Binds, Tears, IsStill, Takes, Removed, Fold
 use Rattle.vault.specs.Views.{Same, AllBut, IsClearWay, root_path}
 use Rattle.vault.specs.Files.{Spares, NoNewFiles, IsHoused, FailsOnly, Cleared, FoldersMade, Written, MadeFirm, Placed}
 use Rattle.vault.proofs.Moments.{one_call, joins, widens, nothing_yet, stays_may, still_on, same_same, same_twice}
-use Rattle.vault.proofs.Steps.{binds_spares, tears_spares, stays_spares, spares_on, folder_same, rooted_on, room_on, folder_is_no_file}
+use Rattle.vault.proofs.Steps.{binds_spares, tears_spares, stays_spares, spares_on, folder_same, rooted_on, folder_is_no_file}
 use Rattle.vault.proofs.Answering.{fails_only, never, failed_only, fails_by_failure}
 
 nothing_is_no_folder : Nothing ≢ Folder
@@ -29,7 +29,7 @@ takes_no_files path old new time c may q n is =
 
 pub cleared : {T : Type 0} (path : List ℕ) (old new : State) (r : Result T Fault) → path ≢ root_path → (IsErrOf r Absent → ⊥) → IfErr r (λ e. e ≢ Exists) → Removed path old new r → Cleared path old new r
 cleared path old new r not_root there which removed = record {
-  spares = binds_spares path Nothing old new not_root nothing_is_no_folder removed.takes.passes removed.takes.seen;
+  spares = binds_spares path Nothing old new not_root removed.takes.passes removed.takes.seen;
   files = takes_no_files path old new removed.takes.passes;
   fails = fails_only r there (never r Exists which);
   gone = on_ok_weaker r (λ done. done.2) removed.done;
@@ -38,7 +38,7 @@ cleared path old new r not_root there which removed = record {
 
 pub cleared_already : {S : Type 0} (path : List ℕ) (old new : State) (r : Result S Fault) → path ≢ root_path → IsErrOf r Absent → Removed path old new r → Cleared {T = Unit {0}} path old new (Ok tt)
 cleared_already path old new r not_root is removed = record {
-  spares = binds_spares path Nothing old new not_root nothing_is_no_folder removed.takes.passes removed.takes.seen;
+  spares = binds_spares path Nothing old new not_root removed.takes.passes removed.takes.seen;
   files = takes_no_files path old new removed.takes.passes;
   fails = tt;
   gone = ⊎_elim (λ same. same ∙ removed.absent is) (λ m. m.1) (removed.takes.seen.names path);
@@ -51,7 +51,6 @@ pub folders_none : (path : List ℕ) (state : State) → IsLawful state → stat
 folders_none path state lawful honest top = record {
   moments = nothing_yet Same state same_same;
   rooted = λ rooted. rooted;
-  room = λ q off had. had;
   files = λ c may q n is. (c, may, is);
   fails = tt;
   housed = ap state.seen.names top ∙ (lawful.whole honest state.moment state.seen (lawful.seen_may_stay honest)).top;
@@ -66,7 +65,6 @@ pub folders_refused : (path folder : List ℕ) (old new : State) (e : Fault) →
 folders_refused path folder old new e is made = record {
   moments = made.moments;
   rooted = made.rooted;
-  room = λ q off. made.room q (λ on. off (further_on path folder q is on));
   files = made.files;
   fails = made.fails;
   housed = tt;
@@ -99,10 +97,6 @@ module _ (path folder : List ℕ) (old mid new : State) (r : Result (Unit {0}) F
     rooted = λ rooted. rooted_on (Binds folder Folder) mid new one.takes.passes
         (λ d c may bound n named. ⊎_elim (λ same. sym same ∙ named) (λ m. absurd (folder_is_no_file n (sym m.1 ∙ named))) (bound.names root_path))
         (λ b d c n may_b named may_d bound. bound.nodes n) (made.rooted rooted);
-    room = λ q off had. room_on (Binds folder Folder) mid new q one.takes.passes
-        (λ d c may bound named. ⊎_elim (λ same. sym same ∙ named) (λ m. absurd (off (let P : List ℕ → Type 0 = λ f. IsOnTheWay f path in subst P (sym m.0) on))) (bound.names q))
-        (λ d c may bound f way n named. ⊎_elim (λ same. sym same ∙ named) (λ m. absurd (folder_is_no_file n (sym m.1 ∙ named))) (bound.names f))
-        (made.room q (λ o. off (further q o)) had);
     files = λ c may q n named.
         let was = one.takes.passes.follows c may in
         made.files was.0 was.1 q n (⊎_elim (λ same. sym same ∙ named) (λ m. absurd (folder_is_no_file n (sym m.1 ∙ named))) (was.2.names q));
@@ -119,13 +113,10 @@ module _ (path folder : List ℕ) (old mid new : State) (r : Result (Unit {0}) F
 file_one : (m n : ℕ) → File m ≡ File n → m ≡ n
 file_one m n e = cc
 
-file_is_no_folder : (n : ℕ) → File n ≢ Folder
-file_is_no_folder n e = cc
-
 module _ (path bytes : List ℕ) (s0 s1 : State) (r1 : Result (Unit {0}) Fault) (not_root : path ≢ root_path)
     (lawful0 : IsLawful s0) (honest0 : s0.honest) (gone : s0.seen.names path ≡ Nothing) (housed : IsHoused s0 path) (created : Created path s0 s1 r1) where
   begun : Spares path s0 s1
-  begun = binds_spares path (File created.node) s0 s1 not_root (file_is_no_folder created.node) created.takes.passes created.takes.seen
+  begun = binds_spares path (File created.node) s0 s1 not_root created.takes.passes created.takes.seen
 
   pub create_fails : FailsOnly r1
   create_fails = fails_only r1 (λ e. created.absent e housed) (λ e. created.exists e gone)
@@ -243,7 +234,7 @@ folders_spare : (path : List ℕ) (old new : State) (r : Result (Unit {0}) Fault
 folders_spare path old new r made = record {
   moments = widens Same (AllBut path) old new (λ u v same q ne. same q) made.moments;
   rooted = made.rooted;
-  room = λ q apart. made.room q apart.no_folder;
+  clear = λ q off. cleared_way q old new made.files;
 }
 
 placed_refused : (path bytes : List ℕ) (old new : State) (e : Fault) → Spares path old new → FailsOnly {T = Unit {0}} (Err e) → Placed {T = Unit {0}} path bytes old new (Err e)

@@ -1,14 +1,14 @@
 -- What the steps of writing one file do.
 use Rattle.std.specs.Prelude.{◌≡◌, ◌≢◌, ◌⊎◌, ℕ, List, Result, OnOk, IfErr}
 use Rattle.disk.specs.Paths.{folder_of, IsOnTheWay}
-use Rattle.disk.specs.State.{Image, State, HasRoomFor, may_leave}
+use Rattle.disk.specs.State.{Image, State, may_leave}
 use Rattle.disk.specs.Calls.{IsStill}
 use Rattle.disk.specs.declared.binding.Binding.TheVariants.{Nothing, Folder, File}
 use Rattle.disk.specs.declared.fault.Fault.{Fault}
 use Rattle.disk.specs.declared.fault.Fault.TheVariants.{Failed, Memory}
 use Rattle.bits.specs.declared.refusal.Refusal.{Refusal}
 use Rattle.bits.specs.declared.refusal.Refusal.TheVariants as refusal
-use Rattle.vault.specs.Views.{LeavesAfter, Same, AllBut, Swaps, IsRooted, LeavesRoom, AreApart, IsKept, root_path}
+use Rattle.vault.specs.Views.{LeavesAfter, Same, AllBut, Swaps, IsRooted, LeavesClear, IsKept, root_path}
 
 -- the folder of this path is there, as the disk reads
 abbrev pub IsHoused : State → List ℕ → Type 0
@@ -22,7 +22,7 @@ NoNewFiles old new = (c : Image) → may_leave new c → (q : List ℕ) (node : 
 pub record Spares (path : List ℕ) (old new : State) : Type 0 where
   pub moments : LeavesAfter (AllBut path) old new
   pub rooted : IsRooted old → IsRooted new
-  pub room : LeavesRoom path old new
+  pub clear : LeavesClear path old new
 
 -- a refusal is a failure of the disk or want of memory
 abbrev pub FailsOnly : {T : Type 0} → Result T Fault → Type 0
@@ -39,7 +39,6 @@ pub record Cleared {T : Type 0} (path : List ℕ) (old new : State) (result : Re
 pub record FoldersMade {T : Type 0} (path : List ℕ) (old new : State) (result : Result T Fault) : Type 0 where
   pub moments : LeavesAfter Same old new
   pub rooted : IsRooted old → IsRooted new
-  pub room : (q : List ℕ) → (IsOnTheWay q path → ⊥) → HasRoomFor old q → HasRoomFor new q
   pub files : NoNewFiles old new
   pub fails : FailsOnly result
   pub housed : OnOk result (IsHoused new path)
@@ -72,7 +71,7 @@ pub record Placed {T : Type 0} (path bytes : List ℕ) (old new : State) (result
 pub record Turned {T : Type 0} (root : List ℕ) (old new : State) (result : Result T Fault) : Type 0 where
   pub moments : LeavesAfter (Swaps root) old new
   pub rooted : IsRooted old → IsRooted new
-  pub room : (q : List ℕ) → AreApart root_path q → HasRoomFor old q → HasRoomFor new q
+  pub clear : LeavesClear root_path old new
   pub failed : IfErr result (λ e. e ≡ Failed)
   pub done : OnOk result (IsKept new root_path root × IsRooted new)
 

@@ -1,7 +1,8 @@
 -- A root with the files that it names, and what a commit of three new files leaves of two tables.
 use Rattle.std.specs.Prelude.{◌≡◌, ◌≢◌, ◌≤◌, ◌⊎◌, ℕ, List, Some, slice_get}
-use Rattle.disk.specs.State.{Image, State, HasRoomFor, content, may_leave}
-use Rattle.vault.specs.Views.{View, AreApart, root_path, next_path}
+use Rattle.disk.specs.Paths.{IsOnTheWay}
+use Rattle.disk.specs.State.{Image, State, content, may_leave}
+use Rattle.vault.specs.Views.{View, IsClearWay, root_path, next_path}
 
 -- a file and its bytes
 pub record Part : Type 0 where
@@ -31,15 +32,15 @@ pub record LeavesEither (before after : Table) (old new : State) : Type 0 where
   pub history : (m : ℕ) (c : Image) → m ≤ old.moment → new.images m c → old.images m c
   pub each : (m : ℕ) (c : Image) → old.moment ≤ m → m ≤ new.moment → new.images m c → Shows before (content c) ⊎ Shows after (content c)
 
--- where the old table is, there is room for three new files
+-- where the old table is, the ways to three new files are clear, and no file is to stand on another's
 pub record IsReady (state : State) (before : Table) (one two three : List ℕ) : Type 0 where
   pub tells : Tells state before
-  pub room_one : HasRoomFor state one
-  pub room_two : HasRoomFor state two
-  pub room_three : HasRoomFor state three
-  pub one_two : AreApart one two
-  pub one_three : AreApart one three
-  pub two_three : AreApart two three
+  pub clear_one : IsClearWay state one
+  pub clear_two : IsClearWay state two
+  pub clear_three : IsClearWay state three
+  pub one_two : IsOnTheWay one two → ⊥
+  pub one_three : IsOnTheWay one three → ⊥
+  pub two_three : IsOnTheWay two three → ⊥
   pub one_not_two : one ≢ two
   pub one_not_three : one ≢ three
   pub two_not_three : two ≢ three

@@ -3,7 +3,7 @@ use Rattle.std.specs.Prelude.{◌≡◌, ◌≢◌, ◌≤◌, ◌<◌, ◌⊎�
 use Rattle.bits.specs.declared.refusal.Refusal.{Refusal}
 use Rattle.bits.specs.declared.refusal.Refusal.TheVariants.{Memory}
 use Rattle.disk.specs.Paths.{IsOnTheWay}
-use Rattle.disk.specs.State.{Image, State, HasRoomFor, content, may_leave}
+use Rattle.disk.specs.State.{Image, State, content, may_leave}
 use Rattle.disk.specs.declared.binding.Binding.TheVariants.{Nothing, File}
 
 -- the bytes of the file at each path, where one is there
@@ -67,14 +67,9 @@ pub record LeavesAfter (Change : View → View → Type 0) (old new : State) : T
   pub each : (m : ℕ) (c : Image) → old.moment ≤ m → m ≤ new.moment → new.images m c → (d : Image) × may_leave old d × Change (content d) (content c)
   pub seen : Change (content old.seen) (content new.seen)
 
--- no file of one path takes the room of the other: neither is on the way to the other
-pub record AreApart (path other : List ℕ) : Type 0 where
-  pub no_folder : IsOnTheWay other path → ⊥
-  pub no_file : IsOnTheWay path other → ⊥
-
--- where there is room for a file at a path that is apart from this one, there is after the call
-abbrev pub LeavesRoom : List ℕ → State → State → Type 0
-LeavesRoom path old new = (q : List ℕ) → AreApart path q → HasRoomFor old q → HasRoomFor new q
+-- a way that is clear stays so, where this path is not on it
+abbrev pub LeavesClear : List ℕ → State → State → Type 0
+LeavesClear path old new = (q : List ℕ) → (IsOnTheWay path q → ⊥) → IsClearWay old q → IsClearWay new q
 
 -- the disk reads the same names but for one
 abbrev pub LeavesNames : List ℕ → State → State → Type 0
@@ -84,7 +79,7 @@ LeavesNames path old new = (q : List ℕ) → q ≢ path → new.seen.names q �
 pub record LeavesAll (old new : State) : Type 0 where
   pub moments : LeavesAfter Same old new
   pub rooted : IsRooted old → IsRooted new
-  pub room : (q : List ℕ) → HasRoomFor old q → HasRoomFor new q
+  pub clear : (q : List ℕ) → IsClearWay old q → IsClearWay new q
   pub names : (q : List ℕ) → new.seen.names q ≡ old.seen.names q
 
 -- the disk's failures grew, or their count stood at the greatest u64

@@ -2,12 +2,12 @@
 
 ghost use Rattle.std.specs.Prelude.{List, ℕ};
 ghost use Rattle.disk.specs.Paths.{IsOnTheWay};
-ghost use Rattle.vault.specs.Views.{AreApart, root_path, next_path};
+ghost use Rattle.vault.specs.Views.{root_path, next_path};
 
-/// A path is apart from itself; each of the root's two names is apart from each path that it is not on the way to, and
-/// that path from it.
+/// No path is on the way to itself, and none is on the way to one of the root's two names: so a call at a path leaves
+/// the way to it clear, and the ways to these are.
 pub fn apart()
-    ensures own { (path : List ℕ) → AreApart path path }
-    ensures root { (path : List ℕ) → (IsOnTheWay root_path path → ⊥) → AreApart root_path path × AreApart path root_path }
-    ensures next { (path : List ℕ) → (IsOnTheWay next_path path → ⊥) → AreApart next_path path × AreApart path next_path }
+    ensures own { (path : List ℕ) → IsOnTheWay path path → ⊥ }
+    ensures root { (path : List ℕ) → IsOnTheWay path root_path → ⊥ }
+    ensures next { (path : List ℕ) → IsOnTheWay path next_path → ⊥ }
 {}

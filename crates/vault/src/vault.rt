@@ -2,9 +2,10 @@
 
 ghost use Rattle.std.specs.Prelude.{◌≡◌, ◌≢◌, ◌↔◌, ◌⊎◌, ◌^◌, ◌-◌, ℕ, List, OnOk, IfOk, IfErr, IfSome, Some, None, Ok, take, drop};
 ghost use Rattle.bits.specs.Refusals.{RefusedOnly};
-ghost use Rattle.disk.specs.State.{HasRoomFor, IsOneMore, content};
+ghost use Rattle.disk.specs.Paths.{IsOnTheWay};
+ghost use Rattle.disk.specs.State.{IsOneMore, content};
 ghost use Rattle.disk.specs.Calls.{CountsFailure, RangeRead};
-ghost use Rattle.vault.specs.Views.{LeavesAfter, AllBut, Swaps, IsKept, WasKept, IsRooted, IsSettled, IsGone, IsClearWay, AreApart, LeavesRoom, LeavesNames, LeavesAll, HasFailed, CountsOnce, root_path, next_path};
+ghost use Rattle.vault.specs.Views.{LeavesAfter, AllBut, Swaps, IsKept, WasKept, IsRooted, IsSettled, IsGone, IsClearWay, LeavesClear, LeavesNames, LeavesAll, HasFailed, CountsOnce, root_path, next_path};
 ghost use Rattle.vault.specs.Files.{IsWritten, Turned, refusal_for};
 
 use crate::files::{clear, make_firm, place};
@@ -82,7 +83,7 @@ impl<D: Disk> Vault<D> {
         ensures moments { (D.state self.old.disk).honest → IsClearWay (D.state self.old.disk) path.now → LeavesAfter (AllBut path.now) (D.state self.old.disk) (D.state self.new.disk) }
         ensures kept { (D.state self.old.disk).honest → IsClearWay (D.state self.old.disk) path.now → OnOk result (IsKept (D.state self.new.disk) path.now bytes.now) }
         ensures rooted { (D.state self.old.disk).honest → IsClearWay (D.state self.old.disk) path.now → IsRooted (D.state self.old.disk) → IsRooted (D.state self.new.disk) }
-        ensures room { (D.state self.old.disk).honest → IsClearWay (D.state self.old.disk) path.now → LeavesRoom path.now (D.state self.old.disk) (D.state self.new.disk) }
+        ensures clear { (D.state self.old.disk).honest → IsClearWay (D.state self.old.disk) path.now → LeavesClear path.now (D.state self.old.disk) (D.state self.new.disk) }
         ensures which { RefusedOnly (λ e. (e ≡ Refusal.Device) × ((D.state self.old.disk).honest → IsClearWay (D.state self.old.disk) path.now → HasFailed (D.state self.old.disk) (D.state self.new.disk))) result }
         ensures counts { CountsOnce result (D.state self.old.disk) (D.state self.new.disk) }
         ensures reads { (D.state self.new.disk).reads ≡ (D.state self.old.disk).reads }
@@ -107,7 +108,7 @@ impl<D: Disk> Vault<D> {
         ensures unchanged { (D.state self.old.disk).honest → IfErr result (λ e. e ≢ Refusal.InDoubt → LeavesAfter (AllBut next_path) (D.state self.old.disk) (D.state self.new.disk)) }
         ensures in_doubt { (D.state self.old.disk).honest → IfErr result (λ e. e ≡ Refusal.InDoubt → WasKept next_path bytes.now (D.state self.old.disk) (D.state self.new.disk)) }
         ensures rooted { (D.state self.old.disk).honest → IsRooted (D.state self.old.disk) → IsRooted (D.state self.new.disk) }
-        ensures room { (D.state self.old.disk).honest → (q : List ℕ) → AreApart root_path q → AreApart next_path q → HasRoomFor (D.state self.old.disk) q → HasRoomFor (D.state self.new.disk) q }
+        ensures clear { (D.state self.old.disk).honest → (q : List ℕ) → (IsOnTheWay root_path q → ⊥) → (IsOnTheWay next_path q → ⊥) → IsClearWay (D.state self.old.disk) q → IsClearWay (D.state self.new.disk) q }
         ensures which { RefusedOnly (λ e. ((e ≡ Refusal.Device) ⊎ (e ≡ Refusal.InDoubt)) × ((D.state self.old.disk).honest → HasFailed (D.state self.old.disk) (D.state self.new.disk))) result }
         ensures counts { CountsOnce result (D.state self.old.disk) (D.state self.new.disk) }
         ensures reads { (D.state self.new.disk).reads ≡ (D.state self.old.disk).reads }
@@ -151,7 +152,7 @@ impl<D: Disk> Vault<D> {
         ensures gone { (D.state self.old.disk).honest → OnOk result (IsGone (D.state self.new.disk) path.now) }
         ensures others { (D.state self.old.disk).honest → LeavesNames path.now (D.state self.old.disk) (D.state self.new.disk) }
         ensures rooted { (D.state self.old.disk).honest → IsRooted (D.state self.old.disk) → IsRooted (D.state self.new.disk) }
-        ensures room { (D.state self.old.disk).honest → LeavesRoom path.now (D.state self.old.disk) (D.state self.new.disk) }
+        ensures clear { (D.state self.old.disk).honest → LeavesClear path.now (D.state self.old.disk) (D.state self.new.disk) }
         ensures which { RefusedOnly (λ e. (e ≡ Refusal.Device) × ((D.state self.old.disk).honest → HasFailed (D.state self.old.disk) (D.state self.new.disk))) result }
         ensures counts { CountsOnce result (D.state self.old.disk) (D.state self.new.disk) }
         ensures reads { (D.state self.new.disk).reads ≡ (D.state self.old.disk).reads }

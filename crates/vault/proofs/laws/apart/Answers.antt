@@ -1,10 +1,6 @@
-use Rattle.vault.proofs.Names.{root_apart, next_apart}
+use Rattle.vault.proofs.Names.{root_alone, next_alone}
 use Rattle.vault.proofs.Writing.{not_on_its_way}
 use Rattle.vault.proofs.laws.apart.Goals as goal
 
 pub returns : goal.returns
-returns c = record {
-  own = λ path. record { no_folder = not_on_its_way path; no_file = not_on_its_way path };
-  root = root_apart;
-  next = next_apart;
-}
+returns c = record { own = not_on_its_way; root = root_alone; next = next_alone }

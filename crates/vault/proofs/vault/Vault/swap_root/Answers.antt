@@ -3,7 +3,7 @@ use Rattle.disk.specs.declared.fault.Fault.TheVariants.{Failed}
 use Rattle.vault.specs.Views.{AllBut, Swaps, next_path}
 use Rattle.vault.proofs.Moments.{widens}
 use Rattle.vault.proofs.Names.{next_clear}
-use Rattle.vault.proofs.Turning.{beside_swaps, swap_moments, swap_rooted, swap_room, swap_was_kept}
+use Rattle.vault.proofs.Turning.{beside_swaps, swap_moments, swap_rooted, swap_clear, swap_was_kept}
 use Rattle.vault.proofs.Answering.{grown}
 use Rattle.vault.proofs.vault.Vault.swap_root.Goals as goal
 
@@ -29,11 +29,11 @@ returns-in-Ok-clause-rooted g c honest =
     let placed = c.in_default.ensures.effect honest (next_clear s0) in
     swap_rooted c.args.bytes.now s0 _ _ _ placed.spares (c.turn.ensures.effect (c.place.ensures.honest.0 honest) c.args.bytes.now placed.written)
 
-pub returns-in-Ok-clause-room : goal.returns-in-Ok-clause-room
-returns-in-Ok-clause-room g c honest =
+pub returns-in-Ok-clause-clear : goal.returns-in-Ok-clause-clear
+returns-in-Ok-clause-clear g c honest =
     let s0 = g.D.Disk.state c.args.self.now.disk in
     let placed = c.in_default.ensures.effect honest (next_clear s0) in
-    swap_room c.args.bytes.now s0 _ _ _ placed.spares (c.turn.ensures.effect (c.place.ensures.honest.0 honest) c.args.bytes.now placed.written)
+    swap_clear c.args.bytes.now s0 _ _ _ placed.spares (c.turn.ensures.effect (c.place.ensures.honest.0 honest) c.args.bytes.now placed.written)
 
 pub returns-in-Err-turn-clause-moments : goal.returns-in-Err-turn-clause-moments
 returns-in-Err-turn-clause-moments g c honest =
@@ -47,11 +47,11 @@ returns-in-Err-turn-clause-rooted g c honest =
     let placed = c.in_default.ensures.effect honest (next_clear s0) in
     swap_rooted c.args.bytes.now s0 _ _ _ placed.spares (c.turn.ensures.effect (c.place.ensures.honest.0 honest) c.args.bytes.now placed.written)
 
-pub returns-in-Err-turn-clause-room : goal.returns-in-Err-turn-clause-room
-returns-in-Err-turn-clause-room g c honest =
+pub returns-in-Err-turn-clause-clear : goal.returns-in-Err-turn-clause-clear
+returns-in-Err-turn-clause-clear g c honest =
     let s0 = g.D.Disk.state c.args.self.now.disk in
     let placed = c.in_default.ensures.effect honest (next_clear s0) in
-    swap_room c.args.bytes.now s0 _ _ _ placed.spares (c.turn.ensures.effect (c.place.ensures.honest.0 honest) c.args.bytes.now placed.written)
+    swap_clear c.args.bytes.now s0 _ _ _ placed.spares (c.turn.ensures.effect (c.place.ensures.honest.0 honest) c.args.bytes.now placed.written)
 
 pub returns-in-Err-turn-clause-in_doubt : goal.returns-in-Err-turn-clause-in_doubt
 returns-in-Err-turn-clause-in_doubt g c honest is =
