@@ -51,7 +51,7 @@ pub record Passes (Step : Image → Image → Type 0) (old new : State) : Type 0
 abbrev pub NoDoubt : State → State → Type 0
 NoDoubt old new = (n : ℕ) → new.doubted n → old.doubted n
 
--- nothing changes, neither what is read nor what a stop may leave
+-- nothing changes that is read, and a stop may leave nothing that it could not leave before
 pub record IsStill (old new : State) : Type 0 where
   pub passes : Passes Stays old new
   pub seen : new.seen ≡ old.seen

@@ -1,12 +1,12 @@
 //! The disk.
 
-ghost use Rattle.std.specs.Prelude.{◌≡◌, ◌≢◌, ◌⊎◌, ◌↔◌, ℕ, length, false, IfErr, IsErrOf};
+ghost use Rattle.std.specs.Prelude.{◌≡◌, ◌≢◌, ◌⊎◌, ◌↔◌, ℕ, length, false, OnOk, IfErr, IsErrOf};
 ghost use Rattle.disk.specs.State.{IsOneMore};
 ghost use Rattle.disk.specs.Calls.{CountsFailure, Created, FolderMade, Appended, Synced, FolderSynced, IsMovable, Renamed, Removed, RangeRead, Measured, Listed};
 ghost use Rattle.disk.specs.declared.binding.Binding.TheVariants.{Folder, File};
 ghost use Rattle.disk.specs.declared.binding.Binding.TheVariants as binding;
-ghost use Rattle.mem_disk.specs.Loose.{Loose, empty, replayed, bound, folder_synced};
-ghost use Rattle.mem_disk.specs.Disks.{state_of, lawful_of, FailsBy};
+ghost use Rattle.mem_disk.specs.Loose.{Loose, bound, appended, node_synced, folder_synced};
+ghost use Rattle.mem_disk.specs.Disks.{state_of, lawful_of, loose_in, FailsBy};
 ghost use Rattle.mem_disk.specs.Fuses.{Burns, trip_of};
 ghost use Rattle.mem_disk.specs.Shortages.{IsNoRename};
 ghost use Rattle.mem_disk.specs.Failing.{taken, written, moved, doubtful, IsVacant, IsFile, IsSureFile, IsToBeDone, StaysUnlessShort};
@@ -33,6 +33,8 @@ impl Disk for MemDisk {
         ensures nothing { trip_of self.old.fuse ≡ case.Fails extent.Nothing → self.new.held.calls.items ≡ self.old.held.calls.items }
         ensures extent { IsVacant (state_of self.old).seen path.now → FailsBy (taken (λ l. bound l path.now (File (length self.old.held.nodes.items)))) self.old self.new }
         ensures ample { StaysUnlessShort (IsToBeDone (trip_of self.old.fuse) (IsVacant (state_of self.old).seen path.now)) result self.old.shortages self.new.shortages }
+        ensures whole { OnOk result (loose_in self.new ≡ bound (loose_in self.old) path.now (File (length self.old.held.nodes.items))) }
+        ensures unable { (IsVacant (state_of self.old).seen path.now → ⊥) → self.new.held.calls.items ≡ self.old.held.calls.items }
     {
         let trip = self.fuse.burn();
         let done = self.held.create_file(trip, path);
@@ -50,6 +52,8 @@ impl Disk for MemDisk {
         ensures nothing { trip_of self.old.fuse ≡ case.Fails extent.Nothing → self.new.held.calls.items ≡ self.old.held.calls.items }
         ensures extent { IsVacant (state_of self.old).seen path.now → FailsBy (taken (λ l. bound l path.now Folder)) self.old self.new }
         ensures ample { StaysUnlessShort (IsToBeDone (trip_of self.old.fuse) (IsVacant (state_of self.old).seen path.now)) result self.old.shortages self.new.shortages }
+        ensures whole { IsVacant (state_of self.old).seen path.now → OnOk result (loose_in self.new ≡ bound (loose_in self.old) path.now Folder) }
+        ensures unable { (IsVacant (state_of self.old).seen path.now → ⊥) → self.new.held.calls.items ≡ self.old.held.calls.items }
     {
         let trip = self.fuse.burn();
         let done = self.held.create_folder(trip, path);
@@ -72,6 +76,7 @@ impl Disk for MemDisk {
         ensures fuse { Burns self.old.fuse self.new.fuse result }
         ensures passes { trip_of self.old.fuse ≡ case.Passes → IsErrOf result Fault.Failed → ⊥ }
         ensures shortages { self.new.shortages ≡ self.old.shortages }
+        ensures calls { self.new.held.calls.items ≡ self.old.held.calls.items }
     {
         self.reads = self.reads.saturating_add(1);
         let trip = self.fuse.burn();
@@ -88,6 +93,7 @@ impl Disk for MemDisk {
         ensures fuse { Burns self.old.fuse self.new.fuse result }
         ensures passes { trip_of self.old.fuse ≡ case.Passes → IsErrOf result Fault.Failed → ⊥ }
         ensures shortages { self.new.shortages ≡ self.old.shortages }
+        ensures calls { self.new.held.calls.items ≡ self.old.held.calls.items }
     {
         let trip = self.fuse.burn();
         let done = self.held.measure_file(path);
@@ -103,6 +109,7 @@ impl Disk for MemDisk {
         ensures fuse { Burns self.old.fuse self.new.fuse result }
         ensures passes { trip_of self.old.fuse ≡ case.Passes → IsErrOf result Fault.Failed → ⊥ }
         ensures shortages { self.new.shortages ≡ self.old.shortages }
+        ensures calls { self.new.held.calls.items ≡ self.old.held.calls.items }
     {
         let trip = self.fuse.burn();
         let done = self.held.list_names(alloc, folder);
@@ -120,6 +127,8 @@ impl Disk for MemDisk {
         ensures nothing { trip_of self.old.fuse ≡ case.Fails extent.Nothing → self.new.held.calls.items ≡ self.old.held.calls.items }
         ensures extent { (n : ℕ) → (state_of self.old).seen.names path.now ≡ File n → FailsBy (written n bytes.now) self.old self.new }
         ensures ample { StaysUnlessShort (IsToBeDone (trip_of self.old.fuse) (IsFile (state_of self.old).seen path.now)) result self.old.shortages self.new.shortages }
+        ensures whole { (n : ℕ) → (state_of self.old).seen.names path.now ≡ File n → OnOk result (loose_in self.new ≡ appended (loose_in self.old) n bytes.now) }
+        ensures unable { (IsFile (state_of self.old).seen path.now → ⊥) → self.new.held.calls.items ≡ self.old.held.calls.items }
     {
         let trip = self.fuse.burn();
         let done = self.held.append_file(trip, path, bytes);
@@ -135,9 +144,11 @@ impl Disk for MemDisk {
         ensures honest { (state_of self.old).honest ↔ (state_of self.new).honest }
         ensures fuse { Burns self.old.fuse self.new.fuse result }
         ensures passes { trip_of self.old.fuse ≡ case.Passes → IsErrOf result Fault.Failed → ⊥ }
-        ensures nothing { trip_of self.old.fuse ≡ case.Fails extent.Nothing → (replayed empty self.new.held.calls.items).synced ≡ (replayed empty self.old.held.calls.items).synced }
-        ensures extent { (n : ℕ) → (state_of self.old).seen.names path.now ≡ File n → (replayed empty self.old.held.calls.items).doubted n ≡ false → FailsBy (doubtful n) self.old self.new }
-        ensures ample { StaysUnlessShort (IsSureFile (replayed empty self.old.held.calls.items) path.now) result self.old.shortages self.new.shortages }
+        ensures nothing { trip_of self.old.fuse ≡ case.Fails extent.Nothing → (loose_in self.new).synced ≡ (loose_in self.old).synced }
+        ensures extent { (n : ℕ) → (state_of self.old).seen.names path.now ≡ File n → (loose_in self.old).doubted n ≡ false → FailsBy (doubtful n) self.old self.new }
+        ensures ample { StaysUnlessShort (IsSureFile (loose_in self.old) path.now) result self.old.shortages self.new.shortages }
+        ensures whole { (n : ℕ) → (state_of self.old).seen.names path.now ≡ File n → (loose_in self.old).doubted n ≡ false → OnOk result (loose_in self.new ≡ node_synced (loose_in self.old) n) }
+        ensures unable { (IsSureFile (loose_in self.old) path.now → ⊥) → self.new.held.calls.items ≡ self.old.held.calls.items }
     {
         let trip = self.fuse.burn();
         let done = self.held.sync_file(trip, path);
@@ -156,6 +167,8 @@ impl Disk for MemDisk {
         ensures passes { trip_of self.old.fuse ≡ case.Passes → IsErrOf result Fault.Failed → IsOneMore self.old.shortages self.new.shortages }
         ensures extent { (state_of self.old).seen.names folder.now ≡ Folder → FailsBy (taken (λ l. folder_synced l folder.now)) self.old self.new }
         ensures ample { StaysUnlessShort (IsToBeDone (trip_of self.old.fuse) ((state_of self.old).seen.names folder.now ≡ Folder)) result self.old.shortages self.new.shortages }
+        ensures whole { OnOk result (loose_in self.new ≡ folder_synced (loose_in self.old) folder.now) }
+        ensures unable { (((state_of self.old).seen.names folder.now ≡ Folder) → ⊥) → self.new.held.calls.items ≡ self.old.held.calls.items }
     {
         let trip = self.fuse.burn();
         let done = self.held.sync_names(trip, folder);
@@ -174,6 +187,8 @@ impl Disk for MemDisk {
         ensures passes { trip_of self.old.fuse ≡ case.Passes → IsErrOf result Fault.Failed → IsNoRename source.now target.now (state_of self.old).seen ⊎ IsOneMore self.old.shortages self.new.shortages }
         ensures extent { IsMovable (state_of self.old).seen source.now target.now → FailsBy (moved source.now target.now) self.old self.new }
         ensures ample { StaysUnlessShort (IsToBeDone (trip_of self.old.fuse) (IsMovable (state_of self.old).seen source.now target.now)) result self.old.shortages self.new.shortages }
+        ensures whole { OnOk result (loose_in self.new ≡ moved source.now target.now extent.Whole (loose_in self.old)) }
+        ensures unable { (IsMovable (state_of self.old).seen source.now target.now → ⊥) → self.new.held.calls.items ≡ self.old.held.calls.items }
     {
         let trip = self.fuse.burn();
         let done = self.held.rename_file(trip, source, target);
@@ -192,6 +207,8 @@ impl Disk for MemDisk {
         ensures passes { trip_of self.old.fuse ≡ case.Passes → IsErrOf result Fault.Failed → (state_of self.old).seen.names path.now ≡ Folder }
         ensures extent { IsFile (state_of self.old).seen path.now → FailsBy (taken (λ l. bound l path.now binding.Nothing)) self.old self.new }
         ensures ample { StaysUnlessShort (IsToBeDone (trip_of self.old.fuse) (IsFile (state_of self.old).seen path.now)) result self.old.shortages self.new.shortages }
+        ensures whole { OnOk result (loose_in self.new ≡ bound (loose_in self.old) path.now binding.Nothing) }
+        ensures unable { (IsFile (state_of self.old).seen path.now → ⊥) → self.new.held.calls.items ≡ self.old.held.calls.items }
     {
         let trip = self.fuse.burn();
         let done = self.held.remove_file(trip, path);

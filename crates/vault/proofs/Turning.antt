@@ -82,12 +82,16 @@ module _ (root : List ℕ) (s0 s1 : State) (r1 : Result (Unit {0}) Fault) (lawfu
         let P : Result (Unit {0}) Fault → Type 0 = λ r. IfErr r (λ f. f ≡ Failed) in
         subst P is (failed_only r1 which (λ a. nothing_is_no_file file.node (sym (renamed.absent a) ∙ file.seen)));
     done = tt;
+    gone = tt;
   }
 
   module _ (s2 : State) (r2 : Result (Unit {0}) Fault) (ok : r1 ≡ Ok tt) (lawful1 : IsLawful s1) (honest1 : s1.honest) (lawful2 : IsLawful s2) (honest2 : s2.honest)
       (which : IfErr r2 (λ f. (f ≡ Absent) ⊎ (f ≡ Failed))) (synced : FolderSynced [] s1 s2 r2) where
     now : s1.seen.names root_path ≡ File file.node
     now = (IfOk-at_ok (λ _. IsMovable s0.seen next_path root_path × (s1.seen.names root_path ≡ s0.seen.names next_path) × (s1.seen.names next_path ≡ Nothing)) ok renamed.done).1 ∙ file.seen
+
+    next_gone : s1.seen.names next_path ≡ Nothing
+    next_gone = (IfOk-at_ok (λ _. IsMovable s0.seen next_path root_path × (s1.seen.names root_path ≡ s0.seen.names next_path) × (s1.seen.names next_path ≡ Nothing)) ok renamed.done).2
 
     still_filled : (c : Image) → may_leave s2 c → c.bytes file.node ≡ root
     still_filled c may = filled c (stays_may s1 s2 synced.takes.passes c may)
@@ -110,6 +114,7 @@ module _ (root : List ℕ) (s0 s1 : State) (r1 : Result (Unit {0}) Fault) (lawfu
                 let one : n ≡ file.node = one_node n file.node (sym is ∙ named c may_c) in
                 ap e.bytes one ∙ still_filled e may_e ∙ sym (still_filled c may_c) ∙ ap c.bytes (sym one)),
           )) synced.done;
+      gone = on_ok_weaker r2 (λ _. ap (λ (i : Image). i.names next_path) synced.takes.seen ∙ next_gone) synced.done;
     }
 
 -- a file beside the root, and then a swap

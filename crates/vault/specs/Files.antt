@@ -8,7 +8,7 @@ use Rattle.disk.specs.declared.fault.Fault.{Fault}
 use Rattle.disk.specs.declared.fault.Fault.TheVariants.{Failed, Memory}
 use Rattle.bits.specs.declared.refusal.Refusal.{Refusal}
 use Rattle.bits.specs.declared.refusal.Refusal.TheVariants as refusal
-use Rattle.vault.specs.Views.{LeavesAfter, Same, AllBut, Swaps, IsRooted, LeavesClear, IsKept, root_path}
+use Rattle.vault.specs.Views.{LeavesAfter, Same, AllBut, Swaps, IsRooted, LeavesClear, IsKept, IsGone, root_path, next_path}
 
 -- the folder of this path is there, as the disk reads
 abbrev pub IsHoused : State → List ℕ → Type 0
@@ -74,6 +74,7 @@ pub record Turned {T : Type 0} (root : List ℕ) (old new : State) (result : Res
   pub clear : LeavesClear root_path old new
   pub failed : IfErr result (λ e. e ≡ Failed)
   pub done : OnOk result (IsKept new root_path root × IsRooted new)
+  pub gone : OnOk result (IsGone new next_path)
 
 -- how a fault is answered
 abbrev pub refusal_for : Fault → Refusal

@@ -99,12 +99,14 @@ impl<D: Disk> Vault<D> {
     /// syncs the dataset's folder.
     ///
     /// At every moment each image has the old root or the new one, whole, and all paths but these two as they were.
-    /// After Ok each has the new one. Refused Device and Memory before the rename, and each image has the old root then;
-    /// refused InDoubt where the disk failed in the rename or behind it, and each image has either: by then the next
-    /// root was whole in whatever a stop could leave. Device and InDoubt come only where the disk failed.
+    /// After Ok each has the new one, and no next root is left, as the disk reads. Refused Device and Memory before the
+    /// rename, and each image has the old root then; refused InDoubt where the disk failed in the rename or behind it,
+    /// and each image has either: by then the next root was whole in whatever a stop could leave. Device and InDoubt
+    /// come only where the disk failed.
     pub fn swap_root(&mut self, bytes: &[u8]) -> R<()>
         ensures moments { (D.state self.old.disk).honest → LeavesAfter (Swaps bytes.now) (D.state self.old.disk) (D.state self.new.disk) }
         ensures done { (D.state self.old.disk).honest → OnOk result (IsKept (D.state self.new.disk) root_path bytes.now × IsRooted (D.state self.new.disk)) }
+        ensures gone { (D.state self.old.disk).honest → OnOk result (IsGone (D.state self.new.disk) next_path) }
         ensures unchanged { (D.state self.old.disk).honest → IfErr result (λ e. e ≢ Refusal.InDoubt → LeavesAfter (AllBut next_path) (D.state self.old.disk) (D.state self.new.disk)) }
         ensures in_doubt { (D.state self.old.disk).honest → IfErr result (λ e. e ≡ Refusal.InDoubt → WasKept next_path bytes.now (D.state self.old.disk) (D.state self.new.disk)) }
         ensures rooted { (D.state self.old.disk).honest → IsRooted (D.state self.old.disk) → IsRooted (D.state self.new.disk) }

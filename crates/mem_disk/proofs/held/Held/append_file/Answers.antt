@@ -45,3 +45,8 @@ returns-clause-extent c n file =
     let node : c.in-File.node ≡ n = file_node c.in-File.node n (c.in-File.ensures ∙ file) in
     goes_in_all (written n c.args.bytes.now) c.args.trip c.args.self.now.calls.items c.append-2.new.self.calls.items none part
     (goes_to _ _ _ c.in_ok-append-2.ensures.ok ∙ ap (λ (k : ℕ). appended (replayed empty c.args.self.now.calls.items) k c.args.bytes.now) node)
+
+pub returns-clause-whole : goal.returns-clause-whole
+returns-clause-whole c n file =
+    let node : c.in-File.node ≡ n = file_node c.in-File.node n (c.in-File.ensures ∙ file) in
+    goes_to _ _ _ c.in_ok-append-2.ensures.ok ∙ ap (λ (k : ℕ). appended (replayed empty c.args.self.now.calls.items) k c.args.bytes.now) node

@@ -4,7 +4,7 @@ use Rattle.disk.specs.declared.binding.Binding.TheVariants.{File}
 use Rattle.mem_disk.specs.declared.fuse.Done.TheVariants as extent
 use Rattle.mem_disk.specs.declared.fuse.Trip.TheVariants.{Fails}
 use Rattle.mem_disk.specs.Loose.{Loose, empty, replayed, bound, GoesOn}
-use Rattle.mem_disk.proofs.Effects.{created_stays, created_bound, goes_from, goes_whole, err_of, ok_of_not, not_exists, not_absent, memory_absent}
+use Rattle.mem_disk.proofs.Effects.{created_stays, created_bound, goes_from, goes_whole, goes_to, err_of, ok_of_not, not_exists, not_absent, memory_absent}
 use Rattle.mem_disk.proofs.held.Held.create_file.Goals as goal
 
 memory_exists : Memory ≡ Exists → ⊥
@@ -74,3 +74,12 @@ returns-clause-extent c _ =
     let is : c.in-Ok.node ≡ length self.nodes.items = c.in-Ok.ensures.node.0 in
     goes_whole (λ (l : Loose). bound l path (File (length self.nodes.items))) c.args.trip _ _ none
     (subst (λ (k : ℕ). GoesOn self.calls.items c.bind.new.self.calls.items (bound (replayed empty self.calls.items) path (File k))) is goes)
+
+pub returns-clause-whole : goal.returns-clause-whole
+returns-clause-whole c =
+    let self = c.args.self.now in
+    let path = c.args.path.now in
+    let goes = goes_from (λ (l : Loose). bound l path (File c.in-Ok.node)) self.calls.items c.add_node.new.self.calls.items c.bind.new.self.calls.items c.add_node.ensures.calls
+    (ok_of_not c.bind.result (sym c.is_err.ensures.value ∙ c.if-is_err.false) c.bind.ensures.ok) in
+    let is : c.in-Ok.node ≡ length self.nodes.items = c.in-Ok.ensures.node.0 in
+    goes_to _ _ _ goes ∙ ap (λ (k : ℕ). bound (replayed empty self.calls.items) path (File k)) is

@@ -4,7 +4,7 @@ use Rattle.mem_disk.specs.declared.fuse.Done.TheVariants as extent
 use Rattle.mem_disk.specs.declared.fuse.Trip.TheVariants.{Fails}
 use Rattle.mem_disk.specs.Loose.{Loose, empty, replayed, bound}
 use Rattle.disk.specs.declared.fault.Fault.TheVariants.{Failed}
-use Rattle.mem_disk.proofs.Effects.{folder_made_bound, goes_whole}
+use Rattle.mem_disk.proofs.Effects.{folder_made_bound, goes_whole, goes_to}
 use Rattle.mem_disk.proofs.held.Held.create_folder.Goals as goal
 
 pub returns-clause-effect : goal.returns-clause-effect
@@ -19,3 +19,6 @@ pub returns-clause-extent : goal.returns-clause-extent
 returns-clause-extent c _ =
     let none : c.args.trip ≡ Fails extent.Nothing → ⊥ = λ e. (search rules) in
     goes_whole (λ (l : Loose). bound l c.args.path.now Folder) c.args.trip _ _ none c.in_ok-bind.ensures.ok
+
+pub returns-clause-whole : goal.returns-clause-whole
+returns-clause-whole c _ = goes_to _ _ _ c.in_ok-bind.ensures.ok

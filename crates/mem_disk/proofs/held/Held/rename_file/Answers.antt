@@ -112,3 +112,9 @@ returns-clause-extent c _ =
     let then = ok_of_not c.bind-2.result (sym c.is_err-2.ensures.value ∙ c.if-is_err-2.false) c.bind-2.ensures.ok in
     goes_in_all (moved c.args.source.now c.args.target.now) c.args.trip c.args.self.now.calls.items c.bind-2.new.self.calls.items none part
     (goes_to _ _ _ then ∙ ap (λ (l : Loose). bound l c.args.source.now Nothing) (named _ _ c.args.source.now c.args.target.now c.in-File.node goes c.in-File.ensures))
+
+pub returns-clause-whole : goal.returns-clause-whole
+returns-clause-whole c =
+    let goes = ok_of_not c.bind.result (sym c.is_err.ensures.value ∙ c.if-is_err.false) c.bind.ensures.ok in
+    let then = ok_of_not c.bind-2.result (sym c.is_err-2.ensures.value ∙ c.if-is_err-2.false) c.bind-2.ensures.ok in
+    goes_to _ _ _ then ∙ ap (λ (l : Loose). bound l c.args.source.now Nothing) (named _ _ c.args.source.now c.args.target.now c.in-File.node goes c.in-File.ensures)

@@ -23,6 +23,11 @@ returns-in-Ok-clause-done g c honest =
     let placed = c.in_default.ensures.effect honest (next_clear (g.D.Disk.state c.args.self.now.disk)) in
     (c.in-Ok.ensures.effect (c.place.ensures.honest.0 honest) c.args.bytes.now placed.written).done
 
+pub returns-in-Ok-clause-gone : goal.returns-in-Ok-clause-gone
+returns-in-Ok-clause-gone g c honest =
+    let placed = c.in_default.ensures.effect honest (next_clear (g.D.Disk.state c.args.self.now.disk)) in
+    (c.in-Ok.ensures.effect (c.place.ensures.honest.0 honest) c.args.bytes.now placed.written).gone
+
 pub returns-in-Ok-clause-rooted : goal.returns-in-Ok-clause-rooted
 returns-in-Ok-clause-rooted g c honest =
     let s0 = g.D.Disk.state c.args.self.now.disk in
