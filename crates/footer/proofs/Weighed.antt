@@ -82,7 +82,7 @@ chunks_weigh (l ∷ ls) (es ∷ cols) old new (c ∷ cs) p =
 
 own_column : (m : ColumnMeta) (l : Leaf) → IsOwn m → m.path_in_schema ≡ l.path → length l.path ≤ 32 → leaf_weight l < 2 ^ 32 → IsOwnColumn m
 own_column m l own path few light = record {
-  encodings = own.encodings;
+  encodings = rw (own.encodings) (omega arith);
   path = rw path few;
   names = rw path (All-from_recursion (λ (name : List ℕ). length name < 2 ^ 32) l.path (short_names (2 ^ 32) l.path (omega (arith, light))));
   statistics = rw (own.statistics) tt;

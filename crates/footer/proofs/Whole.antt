@@ -23,9 +23,10 @@ use Rattle.row_group.specs.Writing as group_limit
 use Rattle.row_group.specs.Writing.{IsGroupTooMuch}
 use Rattle.row_group.proofs.Laid.{each_short}
 use Rattle.footer.specs.declared.limits.TheConstants.{MOST_BYTES_OF_FILE, MOST_BYTES_OF_FOOTER}
+use Rattle.footer.specs.declared.options.Style.TheVariants.{Plain}
 use Rattle.footer.specs.declared.options.WriteOptions.{WriteOptions}
 use Rattle.footer.specs.File.{magic, AreGroups, FileMeans}
-use Rattle.footer.specs.Writing.{IsOutOfRange, empty_groups, large_groups, footer_weight, chunk_weight, group_weight, file_weight, parts_of, IsHeavy, IsTooMuch, many_entries, long_value, heavy, IsToBeWritten, other_leaf}
+use Rattle.footer.specs.Writing.{IsOutOfRange, empty_groups, large_groups, footer_weight, chunk_weight, group_weight, file_weight, parts_of, IsHeavy, IsTooMuch, many_entries, long_value, heavy, IsToBeWritten, many_groups, many_pages, second_version, other_style, other_leaf}
 use Rattle.footer.specs.Own.{groups_of, AppendsGroups, own_record, IsFilled, EndsWith, IsLaidOut}
 use Rattle.footer.proofs.Grouped.{grouped, joined, are_groups, begins}
 use Rattle.footer.proofs.Weighed.{same_weight, of_the_writer}
@@ -111,7 +112,16 @@ too_much fs o [] some few large there (inl (group_limit.heavy h)) = absurd (omeg
 too_much fs o (row ∷ rows) some few large there (inl (group_limit.heavy h)) =
     let less = lighter fs o.page_rows (row ∷ rows) in
     inl (heavy (record { groups = groups_of (row ∷ rows); grouped = grouped o.group_rows (row ∷ rows) some few; over = inr (omega (arith, h, less)) }))
-too_much fs o rows some few large there (inr h) = inr (other_leaf h)
+too_much fs o rows some few large there (inr h) = inr (other_leaf there h)
+
+-- what is written is nothing that is still to be written
+pub all_built : (fs : Fields) (o : WriteOptions) (rows : List ValueTrees) → length rows ≤ o.group_rows → length rows ≤ o.page_rows → (o.page_version ≡ 2 → ⊥) → o.style ≡ Plain
+    → (0 < length rows → Any IsLeafToCome (leaves_of fs) → ⊥) → IsToBeWritten fs o rows → ⊥
+all_built fs o rows few short first plain none (many_groups h) = omega (arith, few, h)
+all_built fs o rows few short first plain none (many_pages h) = omega (arith, short, h)
+all_built fs o rows few short first plain none (second_version h) = first h
+all_built fs o rows few short first plain none (other_style h) = h plain
+all_built fs o rows few short first plain none (other_leaf there h) = none there h
 
 -- options that are not out of range
 pub in_range : (o : WriteOptions) → (IsOutOfRange o → ⊥) → (1 ≤ o.group_rows) × (o.group_rows ≤ 1048576)

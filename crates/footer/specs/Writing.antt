@@ -67,7 +67,7 @@ pub data IsToBeWritten (fs : Fields) (o : WriteOptions) (rows : List ValueTrees)
   many_pages : o.page_rows < length rows → IsToBeWritten fs o rows
   second_version : o.page_version ≡ 2 → IsToBeWritten fs o rows
   other_style : o.style ≢ Plain → IsToBeWritten fs o rows
-  other_leaf : Any IsLeafToCome (leaves_of fs) → IsToBeWritten fs o rows
+  other_leaf : 0 < length rows → Any IsLeafToCome (leaves_of fs) → IsToBeWritten fs o rows
 
 -- a reader takes the file: it is within the limits, and so are its footer, its columns and their values
 pub record IsTaken (fs : Fields) (rows : List ValueTrees) (bytes : List ℕ) : Type 0 where

@@ -42,6 +42,9 @@ fn is_out_of_range(options: &WriteOptions) -> bool
 /// Whether so many rows are not written yet with these options.
 fn is_to_be_written(options: &WriteOptions, rows: usize) -> bool
     ensures few { result ≡ false → rows ≤ options.now.group_rows }
+    ensures short { result ≡ false → rows ≤ options.now.page_rows }
+    ensures first { result ≡ false → options.now.page_version ≡ 2 → ⊥ }
+    ensures plain { result ≡ false → options.now.style ≡ Style.Plain }
     ensures why { result ≡ true → (fs : Fields) (trees : List ValueTrees) → length trees ≡ rows → IsToBeWritten fs options.now trees }
 {
     rows > options.group_rows as usize
@@ -59,6 +62,7 @@ fn write_groups(
 ) -> R<Vec<GroupMeta>>
     ensures stands { IfOk result (λ gs. AppendsGroups schema.now out.old.items out.new.items (map group_meta_view gs.items) (groups_of (rows_view rows.now))) }
     ensures taken { OnOk result (AreTaken schema.now (rows_view rows.now)) }
+    ensures built { OnOk result (0 < length rows.now → Any IsLeafToCome (leaves_of schema.now) → ⊥) }
     ensures only { OnFault result (RowsFit schema.now (rows_view rows.now) → ⊥) }
     ensures limit { result ≡ Err Refusal.Limit → IsGroupTooMuch (length out.old.items) schema.now (rows_view rows.now) ⊎ Any IsLeafToCome (leaves_of schema.now) }
     ensures some { OnErr result (0 < length rows.now) }
@@ -86,9 +90,9 @@ fn write_groups(
 /// Refused RowShape just where a row does not fit the schema, want of memory and Limit aside. Refused Limit
 /// for a number of rows in a group outside 1 to 1,048,576, for pages of no rows, for a version other than
 /// 1 and 2; for a value of more than 16 MiB; for more than 16,777,216 entries in a column; for what is not
-/// written yet: more rows than a group or a page should have, version 2, another style, other columns; and
-/// where the footer is longer than 16 MiB, or the file than 2^31 - 1 bytes, which comes only where it
-/// weighs more.
+/// written yet, which is always refused: more rows than a group or a page should have, version 2, another
+/// style, rows of other columns; and where the footer is longer than 16 MiB, or the file than 2^31 - 1
+/// bytes, which comes only where it weighs more.
 ///
 /// The time is linear in the rows and the schema.
 pub fn write_file(
@@ -101,6 +105,7 @@ pub fn write_file(
     ensures laid_out { IfOk result (λ file. IsLaidOut options.now.group_rows schema.now (rows_view rows.now) file.items) }
     ensures taken { IfOk result (λ file. IsTaken schema.now (rows_view rows.now) file.items) }
     ensures options { OnOk result (IsOutOfRange options.now → ⊥) }
+    ensures built { OnOk result (IsToBeWritten schema.now options.now (rows_view rows.now) → ⊥) }
     ensures only { OnFault result (RowsFit schema.now (rows_view rows.now) → ⊥) }
     ensures limit { result ≡ Err Refusal.Limit → IsOutOfRange options.now ⊎ (IsTooMuch schema.now options.now (rows_view rows.now) ⊎ IsToBeWritten schema.now options.now (rows_view rows.now)) }
     ensures which { RefusedOnly IsOfRows result }

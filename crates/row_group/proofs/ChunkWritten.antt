@@ -1,12 +1,13 @@
 -- A chunk that is written: its pages, and its record.
-use Rattle.std.proofs.Common.{◌≡◌, ℕ, ◌-◌, ◌<◌, List, [], ◌∷◌, ◌++◌, length, Some, None, refl, sym, ap, ◌∙◌, arith}
+use Rattle.std.proofs.Common.{◌≡◌, ℕ, ◌-◌, ◌<◌, List, [], ◌∷◌, ◌++◌, length, Some, None, refl, sym, ap, subst, ◌∙◌, arith}
 use Rattle.std.specs.Prelude.{pos}
-use Rattle.std.proofs.lemmas.List.{append-nil, length-append}
+use Rattle.std.proofs.lemmas.List.{append-nil, append_cancel_left, length-append}
 use Rattle.bits.specs.Codec.{Appends}
 use Rattle.schema.specs.Stripe.{Leaf, Entry}
 use Rattle.metadata.specs.Records.{ColumnMeta}
-use Rattle.pages.specs.Page.{entries}
+use Rattle.pages.specs.Page.{entries, values}
 use Rattle.pages.specs.Chunk.{IsChunk}
+use Rattle.pages.specs.Headers.{IsPlainPage}
 use Rattle.pages.specs.Writing.{page_weight, StandsAsPage}
 use Rattle.row_group.specs.Chunks.{IsChunkOf}
 use Rattle.row_group.specs.Writing.{IsOwn, AppendsChunk}
@@ -34,6 +35,12 @@ nothing_written leaf [] old none = record {
 }
 nothing_written leaf (e ∷ es) old none = absurd (omega (arith, none))
 
+-- what stands behind what was there, in whatever form, is one text
+form_kept : (P : List ℕ → ℕ → Type 0) (most : ℕ) (old new text : List ℕ) → new ≡ old ++ text → Appends P most old new → (more : List ℕ) → P (text ++ more) (length text)
+form_kept P most old new text joined p more =
+    let same : p.text ≡ text = append_cancel_left old p.text text (sym p.joined ∙ joined) in
+    subst (λ (t : List ℕ). P (t ++ more) (length t)) same (p.stands more)
+
 -- ---- the record
 
 -- what the record of a chunk behind so many bytes says, whose pages have so many
@@ -46,14 +53,15 @@ pub record Says (m : ColumnMeta) (leaf : Leaf) (start bytes many : ℕ) : Type 0
   pub own : IsOwn m
 
 pub chunk_written : (m : ColumnMeta) (leaf : Leaf) (old new : List ℕ) (es : List Entry) (size : ℕ) → size ≡ length new - length old → Says m leaf (length old) size (length es)
-    → Appends (StandsAsChunk leaf es) (page_weight es) old new → AppendsChunk leaf old new m es
-chunk_written m leaf old new es size filled s p =
+    → Appends (StandsAsChunk leaf es) (page_weight es) old new → (0 < length es → Appends (IsPlainPage leaf.leaf_type.kind (values es)) (page_weight es) old new) → AppendsChunk leaf old new m es
+chunk_written m leaf old new es size filled s p page =
     let same : size ≡ length p.text = omega (arith, filled, ap length p.joined, length-append old p.text) in
     record {
       text = p.text;
       joined = p.joined;
       starts = record { page = length old; data_page = s.place; begins = rw s.own.dictionary refl };
       fills = λ more. record { is = s.is; count = s.count; held = p.stands more };
+      page = λ some. form_kept (IsPlainPage leaf.leaf_type.kind (values es)) (page_weight es) old new p.text p.joined (page some);
       size = s.size ∙ ap (λ (n : ℕ). Some (pos n)) same;
       plain_size = s.plain_size ∙ ap (λ (n : ℕ). Some (pos n)) same;
       own = s.own;

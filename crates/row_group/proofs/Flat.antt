@@ -1,9 +1,10 @@
 -- Schemas of REQUIRED leaves alone, and their rows: the columns have one entry for each row.
-use Rattle.std.proofs.Common.{◌≡◌, ℕ, zero, suc, ◌<◌, ◌≤◌, Bool, true, false, ◌&&◌, List, [], ◌∷◌, map, length, replicate, Option, Some, None, inl, inr, refl, sym, ap, subst, ◌∙◌, arith}
+use Rattle.std.proofs.Common.{◌≡◌, ℕ, zero, suc, ◌<◌, ◌≤◌, Bool, true, false, ◌&&◌, List, [], ◌∷◌, map, length, get_or, replicate, Option, Some, None, inl, inr, refl, sym, ap, subst, ◌∙◌, arith}
 use Rattle.std.specs.Prelude.{IsTrue, MatchOption}
-use Rattle.std.specs.List.{AllByRecursion}
+use Rattle.std.specs.List.{Any, AllByRecursion}
 use Rattle.std.proofs.lemmas.Bool.{false≢true}
 use Rattle.std.proofs.lemmas.List.{length-map}
+use Rattle.std.proofs.lemmas.List.Elements.{All-from_recursion}
 use Rattle.schema.specs.declared.value.Repetition.TheVariants.{Required, Optional, Repeated}
 use Rattle.schema.specs.Annotations.{LeafType}
 use Rattle.schema.specs.Values.{ValueTree, ValueTrees, no_values, member_at}
@@ -14,6 +15,7 @@ use Rattle.schema.specs.Law.{IsEntryOf, AreValid}
 use Rattle.schema.proofs.LeafLaws.{Way, IsLeafFrom, Mem, Mem-map, Mem-append_left, some_leaf_from, leaf_is_listed_from}
 use Rattle.metadata.specs.Records.{ChunkMeta}
 use Rattle.row_group.specs.Chunks.{AreChunks}
+use Rattle.row_group.specs.Limits.{IsLeafToCome}
 use Rattle.row_group.specs.Moving.{IsLeafRead, HasCount, value_of, before_each, rows_of}
 use Rattle.row_group.specs.Columns.{way_at}
 use Rattle.row_group.proofs.OnePage.{entries_are_of_leaf}
@@ -49,6 +51,14 @@ flat (field (fields n r a gs) fs) i v h =
     let long = way_is_some gs 0 some.0 some.1 in
     let read = all_members IsLeafRead (below i f l.0) (leaves_from i (field f fs)) h (Mem-append_left (below i f l.0) (map (below i f) (leaves f)) (leaves_from (suc i) fs) (Mem-map (below i f) l.0 (leaves f) l.1.0)) in
     absurd (let e = ap length l.1.1 in let short = read.0 in omega (arith, e, short, long))
+
+-- and none of them is to come
+pub none_to_come : (ls : List Leaf) → AllByRecursion IsLeafRead ls → Any IsLeafToCome ls → ⊥
+none_to_come ls read any = apart (get_or ls any.0 any.1) (All-from_recursion IsLeafRead ls read any.0 any.1 any.2) (subst IsLeafToCome (sym any.3) any.4)
+  where
+    apart : (l : Leaf) → IsLeafRead l → IsLeafToCome l → ⊥
+    apart l is (inl deep) = let e = is.0 in omega (arith, e, deep)
+    apart l is (inr some) = let e = is.1 in omega (arith, e, some)
 
 -- ---- entries of such leaves
 

@@ -1,5 +1,5 @@
 -- What a writer of chunks and groups leaves.
-use Rattle.std.specs.Prelude.{◌≡◌, ℕ, ◌+◌, ◌-◌, ◌<◌, ◌<ℤ◌, ◌≤◌, pos, List, [], ◌∷◌, ◌++◌, length, sum_by, IfSome, None, Some}
+use Rattle.std.specs.Prelude.{◌≡◌, ℕ, ◌+◌, ◌-◌, ◌<◌, ◌<ℤ◌, ◌≤◌, pos, List, [], ◌∷◌, ◌++◌, length, sum_by, None, Some}
 use Rattle.std.specs.List.{Any, AllByRecursion}
 use Rattle.bits.specs.declared.refusal.Refusal.{Refusal}
 use Rattle.bits.specs.declared.refusal.Refusal.TheVariants.{RowShape, Limit}
@@ -10,23 +10,25 @@ use Rattle.schema.specs.Stripe.{Leaf, Entry, leaves_of, columns}
 use Rattle.metadata.specs.Records.{ColumnMeta, ChunkMeta, GroupMeta}
 use Rattle.plain.specs.Plain.{IsTooLong}
 use Rattle.pages.specs.Page.{values}
+use Rattle.pages.specs.Headers.{IsPlainPage}
 use Rattle.pages.specs.Writing.{page_weight, AreShort, IsPageTooMuch}
 use Rattle.row_group.specs.declared.limits.TheConstants.{MOST_ENTRIES_OF_CHUNK, MOST_ROWS_OF_GROUP, MOST_BYTES_BEFORE_CHUNK}
 use Rattle.row_group.specs.Chunks.{ChunkMeans, StartsAt}
 
--- what the store's own writer says of a chunk: few encodings, no dictionary, no statistics yet
+-- what the store's own writer says of a chunk: the encodings PLAIN and RLE, no dictionary, no statistics yet
 pub record IsOwn (m : ColumnMeta) : Type 0 where
-  pub encodings : IfSome m.encodings (λ encodings. length encodings ≤ 10)
+  pub encodings : m.encodings ≡ Some (pos 0 ∷ pos 3 ∷ [])
   pub dictionary : m.dictionary_page_offset ≡ None
   pub statistics : m.statistics ≡ None
 
 -- The bytes of `new` are those of `old` and a chunk of these entries, which starts right behind `old` and whose pages fill
--- just what was written, whatever follows it; so says its record.
+-- just what was written, whatever follows it; so says its record. Where there are entries, it is one page, as they are written.
 pub record AppendsChunk (leaf : Leaf) (old new : List ℕ) (m : ColumnMeta) (es : List Entry) : Type 0 where
   pub text : List ℕ
   pub joined : new ≡ old ++ text
   pub starts : StartsAt m (length old)
   pub fills : (more : List ℕ) → ChunkMeans m leaf (text ++ more) es (length text)
+  pub page : 0 < length es → (more : List ℕ) → IsPlainPage leaf.leaf_type.kind (values es) (text ++ more) (length text)
   pub size : m.total_compressed_size ≡ Some (pos (length text))
   pub plain_size : m.total_uncompressed_size ≡ Some (pos (length text))
   pub own : IsOwn m

@@ -1,6 +1,6 @@
 //! From entries to chunks.
 
-ghost use Rattle.std.specs.Prelude.{◌≡◌, ◌⊎◌, ◌<ℤ◌, pos, map, length, IfOk, OnOk, OnErr, Err};
+ghost use Rattle.std.specs.Prelude.{◌≡◌, ◌⊎◌, ◌<◌, ◌<ℤ◌, pos, map, length, IfOk, OnOk, OnErr, Err};
 ghost use Rattle.std.specs.Rc.{rc_str_bytes};
 ghost use Rattle.std.specs.List.{AllByRecursion};
 ghost use Rattle.bits.specs.Codec.{Appends};
@@ -9,6 +9,8 @@ ghost use Rattle.schema.specs.Law.{IsEntryOf};
 ghost use Rattle.schema.specs.Views.{leaf_view};
 ghost use Rattle.metadata.specs.Views.{column_meta_view};
 ghost use Rattle.pages.specs.Chunk.{IsChunk};
+ghost use Rattle.pages.specs.Headers.{IsPlainPage};
+ghost use Rattle.pages.specs.Page.{values};
 ghost use Rattle.pages.specs.Views.{entry_ref_view};
 ghost use Rattle.pages.specs.Writing.{page_weight, AreShort, IsPageTooMuch, IsLeafToBeWritten, IsOfWriting};
 ghost use Rattle.row_group.specs.declared.limits.TheConstants.{MOST_ENTRIES_OF_CHUNK};
@@ -28,8 +30,9 @@ use std::rc::RcStr;
 const ENCODINGS: [i32; 2] = [0, 3];
 
 /// Writes the entries at the end of a file's bytes, as a chunk of the leaf, and answers its record:
-/// one page, or none where there are no entries. The chunk starts where the bytes ended, and both sizes
-/// in the record are those of the bytes that were written. (`parquet.thrift`, ColumnMetaData.)
+/// one page as of [`write_page`], or none where there are no entries. The chunk starts where the bytes
+/// ended, both sizes in the record are those of the bytes that were written, and its encodings are PLAIN
+/// and RLE. (`parquet.thrift`, ColumnMetaData.)
 ///
 /// Refused Levels or Value only where an entry is none of the leaf's. Refused Limit only where there
 /// are more than 16,777,216 entries, where the page is too much for one, where `out` has 2^31 bytes
@@ -90,6 +93,7 @@ fn bytes_of_names(alloc: Global, names: &[RcStr]) -> R<Vec<Vec<u8>>>
 /// Writes the pages of a chunk of these entries: one, or none where there are no entries.
 fn write_pages(alloc: Global, leaf: &Leaf, entries: &[EntryRef<'_>], out: &mut Vec<u8>) -> R<()>
     ensures stands { let es = map entry_ref_view entries.now in OnOk result (Appends (λ bytes used. IsChunk (leaf_view leaf.now) bytes (length es) es used) (page_weight es) out.old.items out.new.items) }
+    ensures written { let es = map entry_ref_view entries.now in OnOk result (0 < length es → Appends (IsPlainPage leaf.now.leaf_type.kind (values es)) (page_weight es) out.old.items out.new.items) }
     ensures short { OnOk result (AreShort (map entry_ref_view entries.now)) }
     ensures only { OnFault result (AllByRecursion (IsEntryOf (leaf_view leaf.now)) (map entry_ref_view entries.now) → ⊥) }
     ensures limit { result ≡ Err Refusal.Limit → IsPageTooMuch (map entry_ref_view entries.now) ⊎ IsLeafToBeWritten (leaf_view leaf.now) }

@@ -25,13 +25,15 @@ use std::alloc::Global;
 /// Refused RowShape only where a row does not fit the schema; Limit only where there are more than
 /// 16,777,216 rows, or entries in a column, where a value has more than 16 MiB, where the bytes before the
 /// group and what it weighs are more than a file may have, or for a leaf that is not written yet: one
-/// below a group, or not REQUIRED. Where both are so, either may come. After a refusal `out` is as it was.
+/// below a group, or not REQUIRED, with which no group is written. Where both are so, either may come. After a
+/// refusal `out` is as it was.
 ///
 /// All rows are compared with the schema before the first chunk; then one column of lent values is
 /// held at a time. The time is linear in the rows for each leaf, and in the bytes of the values.
 pub fn write_group(alloc: Global, schema: &Schema, rows: &[Row], out: &mut Vec<u8>) -> R<GroupMeta>
     ensures stands { IfOk result (λ g. AppendsGroup schema.now out.old.items out.new.items (group_meta_view g) (rows_view rows.now)) }
     ensures taken { OnOk result (AreTaken schema.now (rows_view rows.now)) }
+    ensures built { OnOk result (Any IsLeafToCome (leaves_of schema.now) → ⊥) }
     ensures only { OnFault result (RowsFit schema.now (rows_view rows.now) → ⊥) }
     ensures limit { result ≡ Err Refusal.Limit → IsGroupTooMuch (length out.old.items) schema.now (rows_view rows.now) ⊎ Any IsLeafToCome (leaves_of schema.now) }
     ensures which { RefusedOnly IsOfRows result }

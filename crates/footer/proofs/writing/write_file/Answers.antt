@@ -1,7 +1,9 @@
-use Rattle.std.proofs.Common.{◌≡◌, ◌⊎◌, inl, inr, ℕ, List, length, map, sym, ap, subst, ◌∙◌, Err, arith}
+use Rattle.std.proofs.Common.{◌≡◌, ◌⊎◌, inl, inr, ℕ, List, length, map, sym, ap, subst, ◌∙◌, Result, Ok, Err, arith}
+use Rattle.std.specs.Prelude.{OnOk}
 use Rattle.std.specs.List.{Any}
 use Rattle.std.proofs.lemmas.List.{length-map}
 use Rattle.std.proofs.Common.{Vec, Global}
+use Rattle.bits.specs.declared.refusal.Refusal.{Refusal}
 use Rattle.schema.specs.Stripe.{leaves_of}
 use Rattle.schema.specs.Views.{rows_view, row_view}
 use Rattle.metadata.specs.Views.{group_meta_view, file_meta_view}
@@ -11,7 +13,7 @@ use Rattle.footer.specs.File.{magic, FileMeans}
 use Rattle.footer.specs.Writing.{IsOutOfRange, IsTooMuch, heavy, IsToBeWritten}
 use Rattle.footer.specs.Own.{groups_of, AppendsGroups, own_record, EndsWith, IsLaidOut}
 use Rattle.footer.proofs.Single.{ok_map}
-use Rattle.footer.proofs.Whole.{means, laid_out, is_heavy, too_much, in_range, passes_limit}
+use Rattle.footer.proofs.Whole.{means, laid_out, is_heavy, too_much, all_built, in_range, passes_limit}
 use Rattle.footer.proofs.writing.write_file.Goals as goal
 
 pub returns-then-is_to_be_written-clause-limit : goal.returns-then-is_to_be_written-clause-limit
@@ -54,6 +56,22 @@ returns-clause-laid_out c =
     let p : AppendsGroups fs magic front gs (groups_of rows) = subst (λ (t : List ℕ). AppendsGroups fs t front gs (groups_of rows)) c.in_ok-front.ensures.items c.in_ok-groups.ensures.stands in
     ok_map (λ (file : Vec ℕ Global). EndsWith front meta file.items) (λ (file : Vec ℕ Global). IsLaidOut o.group_rows fs rows file.items) c.ended.result
     (λ file ends. laid_out o.group_rows fs rows front file.items gs meta (c.in_ok-record.ensures.is ∙ ap (λ (n : ℕ). own_record fs n gs) (sym size)) p ends bounds.0 (omega (arith, size, few))) c.ended.ensures.stands
+
+-- what holds whatever the result
+whatever : {X : Type 0} (r : Result X Refusal) {P : Type 0} → P → OnOk r P
+whatever (Ok x) p = p
+whatever (Err e) p = tt
+
+pub returns-clause-built : goal.returns-clause-built
+returns-clause-built c =
+    let rows = rows_view c.args.rows.now in
+    let size : length rows ≡ length c.args.rows.now = length-map c.args.rows.now row_view in
+    let says = c.is_to_be_written.ensures in
+    let is = c.if-is_to_be_written.false in
+    let few = says.few is in
+    let short = says.short is in
+    whatever c.ended.result
+    (all_built c.args.schema.now c.args.options.now rows (omega (arith, size, few)) (omega (arith, size, short)) (says.first is) (says.plain is) (λ there. c.in_ok-groups.ensures.built (omega (arith, size, there))))
 
 pub returns-clause-limit : goal.returns-clause-limit
 returns-clause-limit c = λ is.

@@ -15,6 +15,11 @@ returns-then-is_empty-clause-taken c =
     let none : length c.args.rows.now ≡ 0 = grind (arith, nat_tests) in
     subst (λ (xs : List Row). AreTaken c.args.schema.now (rows_view xs)) (sym (nil_from_length c.args.rows.now none)) (none_taken c.args.schema.now)
 
+pub returns-then-is_empty-clause-built : goal.returns-then-is_empty-clause-built
+returns-then-is_empty-clause-built c = λ some.
+    let none : length c.args.rows.now ≡ 0 = grind (arith, nat_tests) in
+    absurd (omega (arith, some, none))
+
 pub returns-then-is_empty-clause-stands : goal.returns-then-is_empty-clause-stands
 returns-then-is_empty-clause-stands c =
     let none : length c.args.rows.now ≡ 0 = grind (arith, nat_tests) in

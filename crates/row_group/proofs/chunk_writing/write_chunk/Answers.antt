@@ -42,6 +42,6 @@ returns-clause-stands c =
       place = place;
       size = ap (λ (z : ℤ). Some z) sized;
       plain_size = ap (λ (z : ℤ). Some z) sized;
-      own = record { encodings = omega (arith, ap length (c.in_ok-encodings.ensures.items ∙ c.as_slice.ensures)); dictionary = refl; statistics = refl };
+      own = record { encodings = ap Some (c.in_ok-encodings.ensures.items ∙ c.as_slice.ensures); dictionary = refl; statistics = refl };
     })
-    c.in_ok-write_pages.ensures.stands
+    c.in_ok-write_pages.ensures.stands c.in_ok-write_pages.ensures.written

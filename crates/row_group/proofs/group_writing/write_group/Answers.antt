@@ -6,7 +6,7 @@ use Rattle.std.proofs.lemmas.List.{length-map}
 use Rattle.schema.specs.Stripe.{leaves_of, columns}
 use Rattle.schema.specs.Views.{row_view, rows_view}
 use Rattle.row_group.specs.Moving.{IsLeafRead}
-use Rattle.row_group.proofs.Flat.{flat}
+use Rattle.row_group.proofs.Flat.{flat, none_to_come}
 use Rattle.row_group.proofs.Laid.{each_kept}
 use Rattle.row_group.proofs.Lent.{fields_of_rows}
 use Rattle.row_group.proofs.ColumnsWritten.{group_written}
@@ -17,6 +17,9 @@ write_columns-requires-clause-fields c =
     let fs = c.args.schema.now in
     let read = subst (AllByRecursion IsLeafRead) c.leaves.ensures.is (c.is_any_to_come.ensures.none c.if-is_any_to_come.false) in
     fields_of_rows fs (rows_view c.args.rows.now) (flat fs 0 c.leaves.ensures.valid.1 read) (c.all_fit.ensures.all c.if-not-all_fit.false)
+
+pub returns-in-Ok-clause-built : goal.returns-in-Ok-clause-built
+returns-in-Ok-clause-built c = none_to_come (leaves_of c.args.schema.now) (subst (AllByRecursion IsLeafRead) c.leaves.ensures.is (c.is_any_to_come.ensures.none c.if-is_any_to_come.false))
 
 pub overflow_sub-result : goal.overflow_sub-result
 overflow_sub-result c =
