@@ -59,7 +59,8 @@ fn rows_of(alloc: Global, front: &[u8], groups: &[GroupMeta], schema: &Schema) -
 ///
 /// The whole file is accepted before the first row is made: all of its columns are decoded and checked, so
 /// that a row is refused for memory alone. Kept until the rows are made are 48 bytes for each value of
-/// a column, and the bytes of texts; no rows. The time is linear in the bytes.
+/// a column, and the bytes of texts; no rows. Time and memory are linear in the bytes of the file and
+/// in the entries of all its chunks, with their bytes: chunks may share bytes, so these can be more.
 ///
 /// Read today are files of at most one row group whose columns are all REQUIRED and at the top level, each
 /// in one page of version 1 in PLAIN. What the footer says beside its schema, its groups and their chunks'
@@ -92,7 +93,7 @@ pub fn read_rows(alloc: Global, bytes: &[u8]) -> R<(Schema, Rows)>
 }
 
 /// The schema and the rows of a file, which are all kept. Refused as [`read_rows`] is, by which they are
-/// made, and so never answered of a file that goes beyond a limit; the time is linear in the bytes.
+/// made, and so never answered of a file that goes beyond a limit; time and memory are linear as there.
 /// (parquet-format, README.md, "File format".)
 pub fn read_file(alloc: Global, bytes: &[u8]) -> R<(Schema, Vec<Row>)>
     ensures stands { IfOk result (λ x. FileMeans bytes.now x.0 (rows_view x.1.items)) }

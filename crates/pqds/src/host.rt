@@ -109,7 +109,7 @@ fn sync_folder<F: Files>(rt: &F, path: &str) {
 }
 
 /// Gives the whole file at `beside` the name `path`, where nothing has it, and takes its own name away.
-/// Where the host has no links, the file is made once more, at `path`.
+/// Where the link fails otherwise, the file is made once more, at `path`.
 fn give_name<F: Files>(rt: &F, beside: &str, path: &str, bytes: &[u8]) -> io::Result<()> {
     let named = fs::hard_link(rt, beside, path);
     let _ = fs::remove_file(rt, beside);
@@ -121,7 +121,7 @@ fn give_name<F: Files>(rt: &F, beside: &str, path: &str, bytes: &[u8]) -> io::Re
 
 /// Makes a new file of these bytes. It is written and synced under a name of its own beside it, `PATH.new-N`,
 /// and only then called `path`: nothing that is there is replaced, and a stop leaves all of the file, or
-/// none of it, at `path` (a host without links aside). The name of its own is taken away, where the host lets it.
+/// none of it, at `path` (unless the link fails). The name of its own is taken away, where the host lets it.
 ///
 /// Refused Exists where something is at `path`, and Device where no file can be made there; then none is.
 pub fn put_new<F: Files>(rt: &F, alloc: Global, path: &str, bytes: &[u8]) -> R<()>

@@ -1,6 +1,6 @@
 //! Files to lines.
 
-ghost use Rattle.std.specs.Prelude.{◌≡◌, ◌≢◌, ◌⊎◌, ◌++◌, List, [], ◌∷◌, Err, IsTrue, IfErr, OnOk};
+ghost use Rattle.std.specs.Prelude.{◌≡◌, ◌≢◌, ◌⊎◌, ◌++◌, List, [], ◌∷◌, IsTrue, IfErr, OnOk};
 ghost use Rattle.std.specs.Io.KnownBytes.{Appends};
 ghost use Rattle.bits.specs.Refusals.{IsFault, RefusedOnly};
 ghost use Rattle.bits.specs.declared.refusal.Refusal.TheVariants.{Memory, Device};
@@ -54,11 +54,12 @@ fn write_rows<W: Write>(alloc: Global, schema: &Schema, rows: &mut Rows, out: &m
 /// Writes the rows that the bytes of a file mean, each as a line of JSON. Refused as `read_rows` is, and
 /// then nothing is written; Device where a line cannot be written. Once the file was accepted, the rows are
 /// made, written and let go one by one, and for one of them Memory may be answered, where lines before it are
-/// written. The time is linear in the bytes; the memory is that of `read_rows`, and of a row and its line.
+/// written. The time is that of `read_rows`, and linear in the lines; the memory is that of `read_rows`, and of
+/// a row and its line.
 pub fn decode<W: Write>(alloc: Global, bytes: &[u8], out: &mut W) -> R<()>
     ensures stands { OnOk result (WritesRowsOf bytes.now (W.contents out.old) (W.contents out.new)) }
     ensures only { IfErr result (λ e. IsFault e → e ≢ Device → (fs : Fields) (rows : List ValueTrees) → FileMeans bytes.now fs rows → ⊥) }
-    ensures accepted { result ≡ Err Device → (fs : Fields) × ((rows : List ValueTrees) × FileMeans bytes.now fs rows) }
+    ensures accepted { IfErr result (λ e. ((e ≢ Device) × (W.contents out.new ≡ W.contents out.old)) ⊎ ((fs : Fields) × (rows : List ValueTrees) × FileMeans bytes.now fs rows)) }
     ensures which { IfErr result (λ e. (e ≡ Device) ⊎ HasFault bytes.now e) }
     ensures unchanged { IfErr result (λ e. e ≢ Device → e ≢ Memory → W.contents out.new ≡ W.contents out.old) }
 {

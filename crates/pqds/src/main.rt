@@ -16,6 +16,7 @@ mod host_tests;
 mod json_tests;
 mod jsonrows;
 mod lines;
+mod one_line;
 mod schema_notes;
 mod schema_reading;
 #[cfg(test)]

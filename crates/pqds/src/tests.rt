@@ -129,11 +129,18 @@ fn changed(alloc: Global, changes: &[(usize, u8)], length: usize) -> R<Vec<u8>> 
 #[test]
 fn a_file_is_printed_or_refused_by_its_fault(rt: HostRuntime) -> Result<(), Fail> {
     let rows = "{\"x\":1}\n{\"x\":300}\n";
-    let table: [(&[(usize, u8)], usize, u8, &str, &str); 10] = [
+    let table: [(&[(usize, u8)], usize, u8, &str, &str); 11] = [
         (&[], 140, 0, rows, ""),
         (&[(61, 6)], 140, 0, rows, ""),
         (&[(53, 6), (70, 6)], 140, 1, "", "refused 7 Int96 x\n"),
         (&[(53, 10), (70, 10)], 140, 1, "", "refused 6 Float x\n"),
+        (
+            &[(53, 8), (58, 10), (70, 8)],
+            140,
+            1,
+            "",
+            "refused 6 Float \\n\n",
+        ),
         (&[(70, 2)], 140, 1, "", "refused 4 Schema\n"),
         (&[(80, 2)], 140, 1, "", "refused 5 Codec\n"),
         (&[(118, 6)], 140, 1, "", "refused 10 Levels\n"),

@@ -6,9 +6,11 @@ ghost use Rattle.pqds.specs.Words.{first_word, word_of, Does, IsDone};
 use crate::encoding::encode;
 use crate::host::bytes_of;
 use crate::lines::decode;
+use crate::one_line::OneLine;
 use crate::usage::{Call, call_of};
 use bits::{R, Refusal};
 use std::alloc::Global;
+use std::fmt::Write as _;
 use std::io::Write;
 use std::rt::Files;
 
@@ -19,12 +21,15 @@ const REFUSED: u8 = 1;
 /// The words are no call, or ask for help.
 const USAGE: u8 = 2;
 
-/// Says why a call was refused, in one line, and answers the status of that. Where that line cannot be
-/// written nothing is left to be said.
+/// Says why a call was refused, in one line, whatever the names of columns have in them, and answers the
+/// status of that. Where that line cannot be written nothing is left to be said.
 pub fn refuse<E: Write>(err: &mut E, refusal: &Refusal) -> u8
     ensures { result ≡ 1 }
 {
-    let _ = writeln!(err, "refused {refusal}");
+    let mut line = OneLine(err);
+    if write!(line, "refused {refusal}").is_ok() {
+        let _ = err.write_all(b"\n");
+    }
     REFUSED
 }
 
