@@ -1,5 +1,6 @@
 -- What the rules of a disk say of a record that stays or goes on.
 use Rattle.std.proofs.Common.{◌≡◌, ◌≢◌, ◌⊎◌, ◌<◌, ◌≤◌, inl, inr, ⊎_elim, ℕ, List, [], ◌∷◌, ◌++◌, length, take, true, false, IsTrue, refl, sym, ◌∙◌, ap, subst, arith, Result, Ok, Err, Some, None, OnOk, OnErr, IfErr, IsErrOf, is_ok, is_err}
+use Rattle.std.proofs.lemmas.Result.{on_ok_weaker}
 use Rattle.disk.specs.declared.binding.Binding.{Binding}
 use Rattle.disk.specs.declared.binding.Binding.TheVariants.{Nothing, Folder, File}
 use Rattle.disk.specs.Paths.{folder_of}
@@ -205,16 +206,12 @@ module _ (old new : List Call) (f g r s : ℕ) where
     folder_made_stays result path done exists absent = record {
       takes = takes_still (Binds path Folder) (binds_self path Folder) result;
       sure = still.sure;
-      done = on_map result done (λ is. ap (λ (x : Image). x.names path) seen_still ∙ is);
+      done = on_ok_weaker result (λ is. ap (λ (x : Image). x.names path) seen_still ∙ is) done;
       unmoved = λ _. still;
       homeless = λ _. still;
       exists = exists;
       absent = absent;
     }
-      where
-        on_map : {T : Type 0} {P Q : Type 0} (result : Result T Fault) → OnOk result P → (P → Q) → OnOk result Q
-        on_map (Ok x) p f = f p
-        on_map (Err e) p f = tt
 
   -- ---- a path that is bound
 
@@ -285,14 +282,10 @@ module _ (old new : List Call) (f g r s : ℕ) where
         record {
           takes = λ m also. let same : n ≡ m = file_node n m (sym file ∙ also) in subst (λ (k : ℕ). Takes (Tears k (length (l.bytes k)) (length bytes)) was now result) same takes;
           sure = λ m. subst (λ (x : Loose). IsTrue (x.doubted m) → IsTrue (l.doubted m)) (sym is) (λ d. d);
-          done = on_map result ok (λ e. (n, file, ap (λ (x : Loose). x.bytes n) is ∙ appended_bytes l n more ∙ ap (λ (xs : List ℕ). l.bytes n ++ xs) e));
+          done = on_ok_weaker result (λ e. (n, file, ap (λ (x : Loose). x.bytes n) is ∙ appended_bytes l n more ∙ ap (λ (xs : List ℕ). l.bytes n ++ xs) e)) ok;
           unmoved = λ none. absurd (none n file);
           absent = λ x. absurd (no_absent result failed x);
         }
-      where
-        on_map : {T : Type 0} {P Q : Type 0} (result : Result T Fault) → OnOk result P → (P → Q) → OnOk result Q
-        on_map (Ok x) p f = f p
-        on_map (Err e) p f = tt
 
     pub folder_done : (folder : List ℕ) → GoesOn old new (folder_synced l folder) → l.names folder ≡ Folder → FolderSynced folder was now result
     folder_done folder goes there =
@@ -488,14 +481,6 @@ goes_from make old mid new same goes = subst (λ (x : List Call). GoesOn x new (
 pub either : {A E P Q R : Type 0} (res : Result A E) → OnOk res P → OnErr res Q → (P → R) → (Q → R) → R
 either (Ok x) p q ok err = ok p
 either (Err e) p q ok err = err q
-
-pub on_ok : {A E P Q : Type 0} (res : Result A E) → OnOk res P → (P → Q) → OnOk res Q
-on_ok (Ok x) p f = f p
-on_ok (Err e) p f = tt
-
-pub on_refusal : {A E P Q : Type 0} (res : Result A E) → OnErr res P → (P → Q) → OnErr res Q
-on_refusal (Ok x) p f = tt
-on_refusal (Err e) p f = f p
 
 -- a record that stays as it was once it had gone on
 pub stays_at : (old mid new : List Call) (l : Loose) → new ≡ mid → GoesOn old mid l → GoesOn old new l
