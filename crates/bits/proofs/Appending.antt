@@ -1,12 +1,8 @@
 -- What is written piece by piece.
 use Rattle.std.proofs.Common.{◌≡◌, ℕ, ◌+◌, List, [], ◌∷◌, ◌++◌, length, drop, refl, sym, ap, subst, ◌∙◌, arith, append_assoc}
-use Rattle.std.proofs.lemmas.List.{append-nil, length-append, drop_at}
+use Rattle.std.proofs.lemmas.List.{length-append, drop_at}
 use Rattle.bits.specs.Codec.{Appends, InTurn}
 use Rattle.bits.proofs.Turns.{turn_push}
-
--- nothing is written
-pub appends_nothing : (Stands : List ℕ → ℕ → Type 0) (old : List ℕ) → ((bytes : List ℕ) → Stands bytes 0) → Appends Stands 0 old old
-appends_nothing Stands old stands = record { text = []; joined = sym (append-nil old); stands = stands; short = omega arith }
 
 -- one piece behind the other
 pub appends_both : (First Second Both : List ℕ → ℕ → Type 0) (most more : ℕ) (old mid new : List ℕ)

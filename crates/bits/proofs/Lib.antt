@@ -6,3 +6,4 @@ pub mod Facts
 pub mod Loops
 pub mod Turns
 pub mod Appending
+pub mod Loads

@@ -1,6 +1,6 @@
 -- Values that stand one behind the other: the loop over them, and that there is one list of them.
 use Rattle.std.proofs.Common.{◌≡◌, ℕ, ◌+◌, ◌<◌, ◌≤◌, List, [], ◌∷◌, ◌++◌, length, drop, refl, sym, ap, subst, ◌∙◌, arith, append_assoc}
-use Rattle.std.proofs.lemmas.List.{drop-drop, append-nil, length-drop, drop-append-le}
+use Rattle.std.proofs.lemmas.List.{drop-drop, append-nil, length-drop}
 use Rattle.bits.specs.Codec.{NothingStands, IsFunctional, InTurn, AreInTurn}
 use Rattle.bits.proofs.Loops.{Continues}
 use Rattle.bits.proofs.Loops as loops
@@ -22,12 +22,6 @@ one_turn {Y} Each one n = λ bytes ys zs used taken p q. go ys zs bytes used tak
 -- `done` of n values, `front`, are read up to `at`
 abbrev pub Turning : {Y : Type 0} → (List ℕ → Y → ℕ → Type 0) → ℕ → List ℕ → ℕ → ℕ → List Y → Type 0
 Turning {Y} Each n bytes done at front = Continues (λ (tail : List Y) (v : ℕ). (done + length tail ≡ n) × InTurn Each (drop at bytes) tail v) (AreInTurn Each n bytes) (λ (tail : List Y). front ++ tail) at
-
-pub turning_begins : {Y : Type 0} (Each : List ℕ → Y → ℕ → Type 0) (n : ℕ) (bytes : List ℕ) → Turning Each n bytes 0 0 []
-turning_begins Each n bytes = record {
-  forward = λ tail v p. (omega (arith, p.0), subst (λ (u : ℕ). InTurn Each bytes tail u) (let e : v ≡ 0 + v = omega arith in e) p.1);
-  backward = λ whole used p. (whole, (used, (omega (arith, p.0), p.1), refl, omega arith));
-}
 
 -- one more value is read
 step : {Y : Type 0} (Each : List ℕ → Y → ℕ → Type 0) (n : ℕ) (bytes : List ℕ) (done at : ℕ) (y : Y) (u : ℕ) → IsFunctional Each → done < n → Each (drop at bytes) y u
@@ -82,10 +76,3 @@ turn_push {Y} Each (x ∷ ys) y bytes u v p stands =
 pub turn_within : {Y : Type 0} (Each : List ℕ → Y → ℕ → Type 0) → ((bytes : List ℕ) (y : Y) (u : ℕ) → Each bytes y u → u ≤ length bytes) → (ys : List Y) (bytes : List ℕ) (used : ℕ) → InTurn Each bytes ys used → used ≤ length bytes
 turn_within Each within [] bytes used p = omega (arith, p)
 turn_within Each within (y ∷ ys) bytes used p = omega (arith, p.4, within bytes y p.0 p.2, turn_within Each within ys (drop p.0 bytes) p.1 p.3, length-drop p.0 bytes)
-
--- what stands in turn stays, whatever follows
-pub turn_stays : {Y : Type 0} (Each : List ℕ → Y → ℕ → Type 0) → ((bytes : List ℕ) (y : Y) (u : ℕ) → Each bytes y u → u ≤ length bytes) → ((bytes more : List ℕ) (y : Y) (u : ℕ) → Each bytes y u → Each (bytes ++ more) y u)
-    → (ys : List Y) (bytes more : List ℕ) (used : ℕ) → InTurn Each bytes ys used → InTurn Each (bytes ++ more) ys used
-turn_stays Each within stays [] bytes more used p = p
-turn_stays Each within stays (y ∷ ys) bytes more used p =
-    (p.0, p.1, stays bytes more y p.0 p.2, subst (λ (b : List ℕ). InTurn Each b ys p.1) (sym (drop-append-le p.0 bytes more (within bytes y p.0 p.2))) (turn_stays Each within stays ys (drop p.0 bytes) more p.1 p.3), p.4)

@@ -22,6 +22,10 @@ HasCause Cause e = Cause e
 abbrev pub RefusedOnly : {X : Type 0} → (Refusal → Type 0) → Result X Refusal → Type 0
 RefusedOnly Cause r = IfErr r (HasCause Cause)
 
+-- a refusal comes only when out of memory
+abbrev pub RefusedMemoryOnly : {X : Type 0} → Result X Refusal → Type 0
+RefusedMemoryOnly r = RefusedOnly (λ _. ⊥) r
+
 -- it is Limit where the bound is passed, and another one where it is not, want of memory aside
 abbrev pub IsLimitJustWhere : Type 0 → Refusal → Type 0
 IsLimitJustWhere IsOver Limit = IsOver

@@ -1,10 +1,10 @@
 //! What every encoding of a list of values promises.
 
-ghost use Rattle.std.specs.Prelude.{◌≡◌, ℕ, List, map, length, IfOk, OnOk, OnErr};
+ghost use Rattle.std.specs.Prelude.{◌≡◌, ℕ, ◌≤◌, ◌⊎◌, List, map, length, vec_len, IfOk, OnOk, OnErr};
 ghost use Rattle.bits.specs.Refusals.{OnFault, RefusedOnly, LimitJustWhere, IsOfValues};
 ghost use Rattle.bits.specs.Codec.{NothingStands, IsFunctional, Appends};
 
-use crate::refusal::R;
+use crate::refusal::{R, Refusal};
 use std::alloc::Global;
 
 /// An encoding of a list of values as bytes. The law of an implementation is its relation
@@ -17,7 +17,7 @@ pub trait ValueCodec {
 
     ghost shown: { Self.Value → Shown };
 
-    /// The first so many bytes stand for these n values.
+    /// The first `used` bytes stand for these n values.
     ghost stands: { Self → ℕ → List ℕ → List Shown → ℕ → Type 0 };
 
     /// Bytes, for n values, that are over a limit.
@@ -29,20 +29,23 @@ pub trait ValueCodec {
     /// How many bytes the values take at most.
     ghost most: { Self → List Shown → ℕ };
 
-    /// The first `n` values, and how many bytes they take. Refused Truncated, Thrift and Value
-    /// where no n values stand there, and Limit just where the bytes are over one.
+    /// The first `n` values, and how many bytes they take, which the bytes have. Refused Truncated,
+    /// Thrift and Value only where no `n` values stand there, and Limit exactly when the bytes are
+    /// over a limit.
     fn decode(&self, alloc: Global, bytes: &[u8], n: usize) -> R<(Vec<Self::Value>, usize)>
         ensures stands { IfOk result (λ x. stands self.now n bytes.now (map shown x.0.items) x.1) }
+        ensures count { IfOk result (λ x. vec_len x.0 ≡ n) }
+        ensures within { IfOk result (λ x. x.1 ≤ length bytes.now) }
         ensures only { OnFault result (NothingStands (stands self.now n bytes.now)) }
         ensures which { RefusedOnly IsOfValues result }
         ensures limit { LimitJustWhere (reads_over self.now bytes.now n) result };
 
-    /// Writes the values at the end. Refused Value where no bytes stand for them, and Limit just
-    /// where they are over one; then nothing is written.
+    /// Writes the values at the end of `out`. Refused Value only where no bytes stand for them, and
+    /// Limit exactly when they are over a limit; then `out` is unchanged.
     fn encode(&self, values: &[Self::Value], out: &mut Vec<u8>) -> R<()>
         ensures stands { let seen = map shown values.now in OnOk result (Appends (λ bytes. stands self.now (length seen) bytes seen) (most self.now seen) out.old.items out.new.items) }
         ensures only { let seen = map shown values.now in OnFault result ((bytes : List ℕ) (used : ℕ) → stands self.now (length seen) bytes seen used → ⊥) }
-        ensures which { RefusedOnly IsOfValues result }
+        ensures which { RefusedOnly (λ e. (e ≡ Refusal.Value) ⊎ (e ≡ Refusal.Limit)) result }
         ensures limit { LimitJustWhere (writes_over self.now (map shown values.now)) result }
         ensures unchanged { OnErr result (out.new.items ≡ out.old.items) };
 

@@ -6,6 +6,7 @@
 #![tactic(auto)]
 
 mod codec;
+mod lanes;
 mod laws;
 mod packing;
 mod refusal;
@@ -13,11 +14,6 @@ mod varint;
 
 pub use codec::ValueCodec;
 pub use laws::{one_number, one_packing};
-pub use packing::{pack, unpack};
+pub use packing::{pack, unpack, unpack_u32};
 pub use refusal::{R, Refusal};
 pub use varint::{read_uleb, unzigzag, write_uleb, zigzag};
-
-#[cfg(test)]
-mod example;
-#[cfg(test)]
-mod tests;

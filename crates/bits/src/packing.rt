@@ -1,10 +1,11 @@
 //! Numbers of some bits each, side by side.
 
-ghost use Rattle.std.specs.Prelude.{◌≡◌, ℕ, ◌+◌, ◌*◌, ◌^◌, ◌<◌, ◌≤◌, List, length, take, slice_range, All, IfOk, OnOk, OnErr, vec_len};
-ghost use Rattle.bits.specs.Refusals.{OnFault, RefusedOnly};
+ghost use Rattle.std.specs.Prelude.{◌≡◌, ℕ, ◌+◌, ◌*◌, ◌^◌, ◌<◌, ◌≤◌, List, length, map, take, slice_range, All, IfOk, OnOk, OnErr, vec_len};
+ghost use Rattle.bits.specs.Refusals.{OnFault, RefusedOnly, RefusedMemoryOnly};
 ghost use Rattle.bits.specs.Codec.{Appends};
 ghost use Rattle.bits.specs.Bits.{bits, number, IsPacked, IsPadded, packed_size};
 
+use crate::lanes::{Kept, MOST_BITS_OF_A_LANE, unpack_blocks};
 use crate::refusal::{R, Refusal};
 use std::alloc::Global;
 
@@ -34,19 +35,67 @@ pub fn unpack(alloc: Global, bytes: &[u8], width: u32, n: usize) -> R<Vec<u64>>
     ensures only { OnFault result ((numbers : List ℕ) → length numbers ≡ n → IsPacked bytes.now width numbers → ⊥) }
     ensures which { RefusedOnly (λ e. (e ≡ Refusal.Truncated) × (8 * length bytes.now < n * width)) result }
 {
+    unpacked(alloc, bytes, width, n)
+}
+
+/// The same of numbers of at most 32 bits, as `u32`: levels and indexes have no more.
+pub fn unpack_u32(alloc: Global, bytes: &[u8], width: u32, n: usize) -> R<Vec<u32>>
+    requires { width ≤ 32 }
+    ensures stands { IfOk result (λ v. (vec_len v ≡ n) × IsPacked bytes.now width v.items) }
+    ensures only { OnFault result ((numbers : List ℕ) → length numbers ≡ n → IsPacked bytes.now width numbers → ⊥) }
+    ensures which { RefusedOnly (λ e. (e ≡ Refusal.Truncated) × (8 * length bytes.now < n * width)) result }
+{
+    unpacked(alloc, bytes, width, n)
+}
+
+/// The same, kept as the caller wants them.
+fn unpacked<T: Kept>(alloc: Global, bytes: &[u8], width: u32, n: usize) -> R<Vec<T>>
+    requires wide { width ≤ 64 }
+    requires fits { width ≤ T.widest }
+    ensures stands { IfOk result (λ v. (vec_len v ≡ n) × IsPacked bytes.now width (map T.seen v.items)) }
+    ensures only { OnFault result ((numbers : List ℕ) → length numbers ≡ n → IsPacked bytes.now width numbers → ⊥) }
+    ensures which { RefusedOnly (λ e. (e ≡ Refusal.Truncated) × (8 * length bytes.now < n * width)) result }
+{
     if (bytes.len() as u128) * 8 < (n as u128) * u128::from(width) {
         return Err(Refusal::Truncated);
     }
     let mut numbers = Vec::with_capacity(alloc, n)?;
-    let mut at: usize = 0;
+    let at = if width <= MOST_BITS_OF_A_LANE {
+        unpack_blocks(bytes, width, n, &mut numbers)?
+    } else {
+        0
+    };
+    unpack_rest(bytes, at, width, n, &mut numbers)?;
+    Ok(numbers)
+}
+
+/// Appends the numbers that are missing from `n`, bit by bit; the first of them begins with byte `at`.
+fn unpack_rest<T: Kept>(
+    bytes: &[u8],
+    at: usize,
+    width: u32,
+    n: usize,
+    numbers: &mut Vec<T>,
+) -> R<()>
+    requires wide { width ≤ 64 }
+    requires fits { width ≤ T.widest }
+    requires few { length numbers.now.items ≤ n }
+    requires room { n * width ≤ 8 * length bytes.now }
+    requires used { 8 * at ≡ length numbers.now.items * width }
+    requires begun { IsPacked bytes.now width (map T.seen numbers.now.items) }
+    ensures count { OnOk result (length numbers.new.items ≡ n) }
+    ensures stands { OnOk result (IsPacked bytes.now width (map T.seen numbers.new.items)) }
+    ensures which { RefusedMemoryOnly result }
+{
+    let mut at = at;
     let mut offset: u32 = 0;
-    for _ in 0..n {
-        numbers.push(number_at(bytes, at, offset, width))?;
+    for _ in numbers.len()..n {
+        T::put(number_at(bytes, at, offset, width), numbers)?;
         offset += width;
         at += (offset / 8) as usize;
         offset %= 8;
     }
-    Ok(numbers)
+    Ok(())
 }
 
 /// Writes the numbers at the end; where it is refused, some of them may stand there.

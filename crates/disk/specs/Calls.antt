@@ -140,6 +140,8 @@ pub record Renamed {T : Type 0} (source target : List ℕ) (old new : State) (re
   pub done : OnOk result (IsMovable old.seen source target × (new.seen.names target ≡ old.seen.names source) × (new.seen.names source ≡ Nothing))
   pub unmoved : (IsMovable old.seen source target → ⊥) → IsStill old new
   pub absent : IsErrOf result Absent → old.seen.names source ≡ Nothing
+  -- a name is there, and cannot get the other one
+  pub exists : IsErrOf result Exists → (old.seen.names source ≢ Nothing) × (IsMovable old.seen source target → ⊥)
 
 pub record Removed {T : Type 0} (path : List ℕ) (old new : State) (result : Result T Fault) : Type 0 where
   pub takes : Takes (Binds path Nothing) old new result
@@ -148,6 +150,7 @@ pub record Removed {T : Type 0} (path : List ℕ) (old new : State) (result : Re
   -- a folder stays
   pub unmoved : IsNoFile old path → IsStill old new
   pub absent : IsErrOf result Absent → old.seen.names path ≡ Nothing
+  pub exists : IsErrOf result Exists → old.seen.names path ≡ Folder
 
 -- a range of the file's bytes, as much of it as is there
 pub record RangeRead {R : Type 0} (bytes_of : R → List ℕ) (path : List ℕ) (from len : ℕ) (old new : State) (result : Result R Fault) : Type 0 where

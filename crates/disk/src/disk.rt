@@ -14,6 +14,9 @@ use std::alloc::Global;
 /// What a call does is promised of an honest disk (`effect`); that each call keeps honesty, what it may answer and
 /// what it counts are promised of every disk (`honest`, `which`, `counts`, `reads`). A stop may come before or within
 /// any call, and then leaves one of the model's images of that moment.
+///
+/// A call that cannot be done at all may always be answered Absent or Exists; it then changes nothing and counts
+/// nothing. So no caller can make a healthy disk fail: a failure that is counted is the disk's own.
 pub trait Disk {
     ghost state: { Self → State };
 
@@ -88,20 +91,19 @@ pub trait Disk {
         ensures reads { (state self.new).reads ≡ (state self.old).reads }
         ensures honest { (state self.old).honest ↔ (state self.new).honest };
 
-    /// Gives a file another name in its folder, in place of the file that had it. Absent where no name is there; of
-    /// and onto a folder, into another folder and onto itself it fails. Answers no Memory: what it would need counts
-    /// as a failure.
+    /// Gives a file another name in its folder, in place of the file that had it. Absent where no name is there; Exists
+    /// of a folder, onto a folder, into another folder and onto itself. Answers no Memory: what it would need counts as
+    /// a failure.
     fn rename(&mut self, source: &str, target: &str) -> Result<(), Fault>
         ensures effect { (state self.old).honest → Renamed source.now target.now (state self.old) (state self.new) result }
-        ensures which { IfErr result (λ e. (e ≡ Fault.Absent) ⊎ (e ≡ Fault.Failed)) }
+        ensures which { IfErr result (λ e. e ≢ Fault.Memory) }
         ensures counts { CountsFailure result (state self.old).failures (state self.new).failures }
         ensures reads { (state self.new).reads ≡ (state self.old).reads }
         ensures honest { (state self.old).honest ↔ (state self.new).honest };
 
-    /// Takes a file's name away. Absent where no name is there; of a folder it fails.
+    /// Takes a file's name away. Absent where no name is there, Exists where it is a folder's.
     fn remove(&mut self, path: &str) -> Result<(), Fault>
         ensures effect { (state self.old).honest → Removed path.now (state self.old) (state self.new) result }
-        ensures which { IfErr result (λ e. e ≢ Fault.Exists) }
         ensures counts { CountsFailure result (state self.old).failures (state self.new).failures }
         ensures reads { (state self.new).reads ≡ (state self.old).reads }
         ensures honest { (state self.old).honest ↔ (state self.new).honest };

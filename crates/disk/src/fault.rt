@@ -13,7 +13,7 @@ use std::io;
 pub enum Fault {
     /// what was asked for is not there
     Absent,
-    /// the name is there already
+    /// what is there stands in the way: the name is taken, or is a folder's where a file's is wanted
     Exists,
     /// the disk failed: the call may have taken effect, not, or in part. Alone counted as a failure.
     Failed,

@@ -134,21 +134,22 @@ impl<R: Files + Clone + Drop> HostDisk<R> {
     fn try_rename(&self, source: &str, target: &str) -> Result<(), Fault>
         ensures outside { (IsProper source.now → ⊥) → IsErrOf result Fault.Failed }
         ensures onto { (IsProper target.now → ⊥) → IsErrOf result Fault.Failed }
-        ensures apart { source.now ≡ target.now → IsErrOf result Fault.Failed }
-        ensures beside { folder_of source.now ≢ folder_of target.now → IsErrOf result Fault.Failed }
-        ensures which { IfErr result (λ e. e ≢ Fault.Exists) }
+        ensures apart { source.now ≡ target.now → IfOk result (λ _. ⊥) }
+        ensures beside { folder_of source.now ≢ folder_of target.now → IfOk result (λ _. ⊥) }
     {
-        if !is_path(target) || source == target || folder_of(source) != folder_of(target) {
+        if !is_path(target) {
             return Err(Fault::Failed);
         }
         let from = self.reach(source)?;
+        if source == target || folder_of(source) != folder_of(target) {
+            return calls::refuse_rename(&self.files, from.as_str());
+        }
         let to = self.reach(target)?;
         calls::rename(&self.files, from.as_str(), to.as_str())
     }
 
     fn try_remove(&self, path: &str) -> Result<(), Fault>
         ensures outside { (IsProper path.now → ⊥) → IsErrOf result Fault.Failed }
-        ensures which { IfErr result (λ e. e ≢ Fault.Exists) }
     {
         let place = self.reach(path)?;
         calls::remove(&self.files, place.as_str())
@@ -157,10 +158,8 @@ impl<R: Files + Clone + Drop> HostDisk<R> {
 
 /// A want of memory told as a failure, for the calls that answer no Memory.
 fn memory_is_failure(answer: Result<(), Fault>) -> Result<(), Fault>
-    requires { IfErr answer (λ e. e ≢ Fault.Exists) }
     ensures told { IsErrOf answer Fault.Memory → IsErrOf result Fault.Failed }
     ensures others { (IsErrOf answer Fault.Memory → ⊥) → result ≡ answer }
-    ensures which { IfErr result (λ e. (e ≡ Fault.Absent) ⊎ (e ≡ Fault.Failed)) }
 {
     match answer {
         Err(Fault::Memory) => Err(Fault::Failed),
@@ -271,9 +270,9 @@ impl<R: Files + Clone + Drop> Disk for HostDisk<R> {
     fn rename(&mut self, source: &str, target: &str) -> Result<(), Fault>
         ensures outside { (IsProper source.now → ⊥) → IsErrOf result Fault.Failed }
         ensures onto { (IsProper target.now → ⊥) → IsErrOf result Fault.Failed }
-        ensures apart { source.now ≡ target.now → IsErrOf result Fault.Failed }
-        ensures beside { folder_of source.now ≢ folder_of target.now → IsErrOf result Fault.Failed }
-        ensures which { IfErr result (λ e. (e ≡ Fault.Absent) ⊎ (e ≡ Fault.Failed)) }
+        ensures apart { source.now ≡ target.now → IfOk result (λ _. ⊥) }
+        ensures beside { folder_of source.now ≢ folder_of target.now → IfOk result (λ _. ⊥) }
+        ensures which { IfErr result (λ e. e ≢ Fault.Memory) }
         ensures counts { CountsFailure result self.old.failures self.new.failures }
         ensures reads { self.new.reads ≡ self.old.reads }
         ensures same_folder { self.new.folder ≡ self.old.folder }
@@ -284,7 +283,6 @@ impl<R: Files + Clone + Drop> Disk for HostDisk<R> {
 
     fn remove(&mut self, path: &str) -> Result<(), Fault>
         ensures outside { (IsProper path.now → ⊥) → IsErrOf result Fault.Failed }
-        ensures which { IfErr result (λ e. e ≢ Fault.Exists) }
         ensures counts { CountsFailure result self.old.failures self.new.failures }
         ensures reads { self.new.reads ≡ self.old.reads }
         ensures same_folder { self.new.folder ≡ self.old.folder }

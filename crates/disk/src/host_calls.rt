@@ -123,24 +123,35 @@ pub fn sync_folder<R: Files>(files: &R, place: &str) -> Result<(), Fault>
     File::open(files, place)?.sync_all().map_err(failed)
 }
 
-pub fn rename<R: Files>(files: &R, source: &str, target: &str) -> Result<(), Fault>
-    ensures which { IfErr result (λ e. e ≢ Fault.Exists) }
-{
+pub fn rename<R: Files>(files: &R, source: &str, target: &str) -> Result<(), Fault> {
     match (found_at(files, source)?, found_at(files, target)?) {
         (Found::Nothing, _) => Err(Fault::Absent),
+        (Found::Other, _) | (_, Found::Other) => Err(Fault::Failed),
+        (Found::Folder, _) | (_, Found::Folder) => Err(Fault::Exists),
         (Found::File(_), Found::File(_) | Found::Nothing) => fs::rename(
             files, source, target,
         ).map_err(failed),
-        _ => Err(Fault::Failed),
     }
 }
 
-pub fn remove<R: Files>(files: &R, place: &str) -> Result<(), Fault>
-    ensures which { IfErr result (λ e. e ≢ Fault.Exists) }
+/// Refuses a rename that cannot be, by what stands at its source: Absent where nothing does, Failed where another kind
+/// of node does, else Exists.
+pub fn refuse_rename<R: Files>(files: &R, source: &str) -> Result<(), Fault>
+    ensures refused { IfOk result (λ _. ⊥) }
 {
+    match found_at(files, source)? {
+        Found::Nothing => Err(Fault::Absent),
+        Found::Other => Err(Fault::Failed),
+        Found::File(_) | Found::Folder => Err(Fault::Exists),
+    }
+}
+
+/// Removes a file's name. Absent where no name is there, Exists where it is a folder's.
+pub fn remove<R: Files>(files: &R, place: &str) -> Result<(), Fault> {
     match found_at(files, place)? {
         Found::File(_) => fs::remove_file(files, place).map_err(failed),
         Found::Nothing => Err(Fault::Absent),
-        Found::Folder | Found::Other => Err(Fault::Failed),
+        Found::Folder => Err(Fault::Exists),
+        Found::Other => Err(Fault::Failed),
     }
 }

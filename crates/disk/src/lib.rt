@@ -18,8 +18,3 @@ pub use disk::Disk;
 pub use fault::Fault;
 pub use host::HostDisk;
 pub use paths::{folder_of, one_folder, path_in, way_up};
-
-#[cfg(test)]
-mod faulty;
-#[cfg(test)]
-mod tests;

@@ -1,26 +1,28 @@
 -- The end of a file that is written: the footer, its length, and the magic.
 use Rattle.std.proofs.Common.{◌≡◌, ℕ, ◌-◌, ◌<◌, ◌^◌, List, [], ◌++◌, length, drop, sym, ap, subst, ◌∙◌, arith, append_assoc, length-append}
 use Rattle.std.proofs.lemmas.List.{append-nil, drop_at}
+use Rattle.thrift_compact.specs.Compact.{IsThrift}
 use Rattle.byteorder.specs.Endian.{little_bytes, little_number}
 use Rattle.byteorder.specs.Numbers.{little_number-reads_back}
-use Rattle.std.specs.Prelude.{Result, Ok, Err}
+use Rattle.std.specs.Prelude.{Result, Ok, Err, Some}
 use Rattle.bits.specs.declared.refusal.Refusal.{Refusal}
 use Rattle.bits.specs.declared.refusal.Refusal.TheVariants.{Memory}
 use Rattle.bits.specs.Refusals.{RefusedOnly}
 use Rattle.bits.specs.Codec.{Appends}
 use Rattle.metadata.specs.Records.{FileMeta}
 use Rattle.metadata.specs.FromTree.{file_meta}
-use Rattle.metadata.specs.Answers.{StandsFor}
+use Rattle.metadata.specs.ToTree.{file_meta_fields}
 use Rattle.footer.specs.File.{magic, IsFramed}
 use Rattle.footer.specs.Own.{EndsWith}
 use Rattle.footer.proofs.Frames.{announced}
 
 abbrev pub AppendsRecord : FileMeta → ℕ → List ℕ → List ℕ → Type 0
-AppendsRecord meta most old new = Appends (λ bytes used. StandsFor file_meta bytes meta used) most old new
+AppendsRecord meta most old new = Appends (λ bytes used. IsThrift bytes (file_meta_fields meta) used) most old new
 
 -- the record behind the front, its length and the magic make a file
-pub ends : (front mid new : List ℕ) (meta : FileMeta) (most size : ℕ) → AppendsRecord meta most front mid → size ≡ length mid - length front → size < 2 ^ 32 → new ≡ mid ++ little_bytes 4 size ++ magic → EndsWith front meta new
-ends front mid new meta most size p is small joined = λ chunks begins.
+pub ends : (front mid new : List ℕ) (meta : FileMeta) (most size : ℕ) → file_meta (file_meta_fields meta) ≡ Some meta → AppendsRecord meta most front mid → size ≡ length mid - length front → size < 2 ^ 32 → new ≡ mid ++ little_bytes 4 size ++ magic → EndsWith front meta new
+ends front mid new meta most size again p is small joined = λ chunks begins.
+    let bare = subst (λ (t : List ℕ). IsThrift t (file_meta_fields meta) (length p.text)) (append-nil p.text) (p.stands []) in
     let sized : size ≡ length p.text = omega (arith, is, ap length p.joined, length-append front p.text) in
     record {
       footer = p.text;
@@ -30,7 +32,8 @@ ends front mid new meta most size p is small joined = λ chunks begins.
         short = subst (λ (n : ℕ). n < 2 ^ 32) sized small;
         joined = joined ∙ ap (λ (m : List ℕ). m ++ little_bytes 4 size ++ magic) p.joined ∙ ap (λ (n : ℕ). front ++ p.text ++ little_bytes 4 n ++ magic) sized;
       };
-      fills = subst (λ (t : List ℕ). StandsFor file_meta t meta (length p.text)) (append-nil p.text) (p.stands []);
+      fills = record { fields = file_meta_fields meta; spelled = bare; record_of = again };
+      bare = bare;
     }
 
 -- the length of the footer, however the file is parted, is the one that stands at its end

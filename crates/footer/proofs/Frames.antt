@@ -6,7 +6,7 @@ use Rattle.std.proofs.lemmas.Bool.{cases_lt}
 use Rattle.std.proofs.lemmas.Nat.{le_bytes_4}
 use Rattle.byteorder.specs.Endian.{little_bytes, little_number}
 use Rattle.byteorder.specs.Numbers.{little_number-reads_back}
-use Rattle.footer.specs.declared.limits.TheConstants.{MOST_BYTES_OF_FILE, MOST_BYTES_OF_FOOTER}
+use Rattle.footer.specs.Greatest.{most_of_file, most_of_footer}
 use Rattle.footer.specs.File.{magic, IsFramed}
 use Rattle.footer.specs.Faults.{AnnouncesLongFooter, IsLong, long_file, long_footer}
 
@@ -113,7 +113,7 @@ not_framed bytes front footer p size is long =
 
 -- an announced length over the limit
 pub over : (bytes : List ℕ) → ((i : ℕ) → get_or bytes i 0 < 256) → 12 ≤ length bytes → take 4 bytes ≡ magic → drop (length bytes - 4) bytes ≡ magic
-    → (size : ℕ) → size ≡ little_number 4 (drop (length bytes - 8) bytes) → size < 2 ^ 32 → MOST_BYTES_OF_FOOTER < size → AnnouncesLongFooter bytes
+    → (size : ℕ) → size ≡ little_number 4 (drop (length bytes - 8) bytes) → size < 2 ^ 32 → most_of_footer < size → AnnouncesLongFooter bytes
 over bytes are enough first ends size is short much =
     let head = take (length bytes - 8) bytes in
     let tail = drop (length bytes - 8) bytes in
@@ -130,7 +130,7 @@ over bytes are enough first ends size is short much =
     }
 
 -- the announced length is the one that stands before the last magic
-not_over : (bytes : List ℕ) (size : ℕ) → size ≡ little_number 4 (drop (length bytes - 8) bytes) → size ≤ MOST_BYTES_OF_FOOTER → AnnouncesLongFooter bytes → ⊥
+not_over : (bytes : List ℕ) (size : ℕ) → size ≡ little_number 4 (drop (length bytes - 8) bytes) → size ≤ most_of_footer → AnnouncesLongFooter bytes → ⊥
 not_over bytes size is few a =
     let end = little_bytes 4 a.size ++ magic in
     let joined : bytes ≡ (magic ++ a.before) ++ end = a.announced ∙ append_assoc (magic ++ a.before) (little_bytes 4 a.size) magic in
@@ -142,6 +142,6 @@ not_over bytes size is few a =
     omega (arith, same, is, few, over)
 
 -- neither the file nor its footer is too long
-pub not_long : (bytes : List ℕ) (size : ℕ) → length bytes ≤ MOST_BYTES_OF_FILE → size ≡ little_number 4 (drop (length bytes - 8) bytes) → size ≤ MOST_BYTES_OF_FOOTER → IsLong bytes → ⊥
+pub not_long : (bytes : List ℕ) (size : ℕ) → length bytes ≤ most_of_file → size ≡ little_number 4 (drop (length bytes - 8) bytes) → size ≤ most_of_footer → IsLong bytes → ⊥
 not_long bytes size short is few (long_file long) = omega (arith, short, long)
 not_long bytes size short is few (long_footer announced) = not_over bytes size is few announced

@@ -1,5 +1,6 @@
 -- Rows in one group, or none.
-use Rattle.std.proofs.Common.{◌≡◌, ℕ, ◌+◌, ◌-◌, ◌*◌, ◌/◌, ◌<◌, ◌≤◌, List, [], ◌∷◌, ◌++◌, length, take, drop, refl, sym, ap, subst, ◌∙◌, arith, append_assoc}
+use Rattle.std.proofs.Common.{◌≡◌, ℕ, ◌+◌, ◌-◌, ◌*◌, ◌/◌, ◌<◌, ◌≤◌, List, [], ◌∷◌, ◌++◌, length, take, drop, refl, sym, ap, subst, ◌∙◌, arith, append_assoc, inl, inr}
+use Rattle.std.proofs.lemmas.Bool.{cases_lt}
 use Rattle.std.specs.Prelude.{flat_map, None}
 use Rattle.std.specs.List.{AllByRecursion}
 use Rattle.std.proofs.Math.Nat.{div-eq_of_lt}
@@ -10,7 +11,7 @@ use Rattle.schema.specs.Shape.{Fields}
 use Rattle.schema.specs.Stripe.{Leaf, Entry, leaves_of, columns}
 use Rattle.metadata.specs.Records.{GroupMeta, ChunkMeta}
 use Rattle.row_group.specs.Chunks.{GroupMeans}
-use Rattle.row_group.specs.Writing.{AppendsEach, AppendsGroup}
+use Rattle.row_group.specs.Writing.{AppendsEach, AppendsGroup, AreTaken}
 use Rattle.row_group.proofs.Laid.{each_joined, group_means}
 use Rattle.footer.specs.File.{AreGroups}
 use Rattle.footer.specs.Writing.{AreGrouped, parts_of}
@@ -24,6 +25,9 @@ one_part n size some few =
     let e : n + (size - 1) ≡ 1 * size + (n - 1) = omega (arith, some, few) in
     sym (ap (λ (m : ℕ). m / size) e ∙ div-mul-add 1 size (n - 1) (omega (arith, some, few)))
 
+first_group : (g rows : List ValueTrees) → g ∷ [] ≡ rows ∷ [] → g ≡ rows
+first_group g rows e = cc
+
 -- rows that are few enough for one group
 pub grouped : (size : ℕ) (rows : List ValueTrees) → 1 ≤ size → length rows ≤ size → AreGrouped size rows (groups_of rows)
 grouped size [] some few = record { count = no_parts size some; each = λ k below. absurd (omega (arith, below)) }
@@ -36,6 +40,23 @@ grouped size (row ∷ rows) some few = record {
       subst (λ (n : ℕ). take 1 (drop n (groups_of (row ∷ rows))) ≡ take size (drop (k * size) (row ∷ rows)) ∷ []) (sym first)
       (subst (λ (n : ℕ). groups_of (row ∷ rows) ≡ take size (drop n (row ∷ rows)) ∷ []) (sym start) (ap (λ (xs : List ValueTrees). xs ∷ []) (sym all)));
 }
+
+few_parts : (n size : ℕ) → 1 ≤ size → n ≤ size → parts_of n size ≤ 1
+few_parts n size some few =
+    elim (cases_lt 0 n) [
+      | inl there ↦ omega (arith, one_part n size there few)
+      | inr none ↦ let z : n ≡ 0 = omega (arith, none) in omega (arith, no_parts size some, ap (λ (m : ℕ). parts_of m size) z)
+    ]
+
+-- where all of the rows are taken, each of their groups is
+pub each_taken : (size : ℕ) (fs : Fields) (rows : List ValueTrees) → 1 ≤ size → length rows ≤ size → AreTaken fs rows → (groups : List (List ValueTrees)) → AreGrouped size rows groups → AllByRecursion (AreTaken fs) groups
+each_taken size fs rows some few taken [] p = tt
+each_taken size fs rows some few taken (g ∷ []) p =
+    let start : 0 * size ≡ 0 = omega arith in
+    let all : take size (drop (0 * size) rows) ≡ rows = ap (λ (n : ℕ). take size (drop n rows)) start ∙ take_all size rows few in
+    let here : g ∷ [] ≡ rows ∷ [] = p.each 0 (omega arith) ∙ ap (λ (t : List ValueTrees). t ∷ []) all in
+    (subst (AreTaken fs) (sym (first_group g rows here)) taken, tt)
+each_taken size fs rows some few taken (g ∷ h ∷ more) p = absurd (let e = p.count in let m = few_parts (length rows) size some few in omega (arith, e, m))
 
 pub joined : (rows : List ValueTrees) → rows ≡ flat_map (λ g. g) (groups_of rows)
 joined [] = refl

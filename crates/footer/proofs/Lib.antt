@@ -8,3 +8,4 @@ pub mod Grouped
 pub mod Weighed
 pub mod NoRows
 pub mod Whole
+pub mod OneMeaning

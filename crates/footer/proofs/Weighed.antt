@@ -16,7 +16,7 @@ use Rattle.metadata.specs.Records.{ColumnMeta, ChunkMeta, GroupMeta, type_order}
 use Rattle.metadata.specs.Weight as record_weight
 use Rattle.metadata.specs.Weight.{text_weight, IsOwnColumn, IsOfTheWriter}
 use Rattle.row_group.specs.Writing.{IsOwn, AppendsEach}
-use Rattle.footer.specs.declared.limits.TheConstants.{MOST_BYTES_OF_FOOTER}
+use Rattle.footer.specs.Greatest.{most_of_footer}
 use Rattle.footer.specs.Writing.{footer_weight}
 use Rattle.footer.specs.Own.{AppendsGroups, own_record}
 
@@ -119,7 +119,7 @@ pub same_weight : (fs : Fields) (n : ℕ) (old new : List ℕ) (gs : List GroupM
 same_weight fs n old new gs groups p = let weight = groups_weigh fs old new gs groups p in omega (arith, weight)
 
 own_groups : (fs : Fields) (old new : List ℕ) (gs : List GroupMeta) (groups : List (List ValueTrees)) → AppendsGroups fs old new gs groups → IsWithinLimits fs
-    → footer_weight fs (length groups) ≤ MOST_BYTES_OF_FOOTER → AllByRecursion (λ (group : GroupMeta). AllByRecursion (λ (chunk : ChunkMeta). IsOwnColumn chunk.meta_data) group.columns) gs
+    → footer_weight fs (length groups) ≤ most_of_footer → AllByRecursion (λ (group : GroupMeta). AllByRecursion (λ (chunk : ChunkMeta). IsOwnColumn chunk.meta_data) group.columns) gs
 own_groups fs old new [] groups p within light = tt
 own_groups fs old new (g ∷ gs) [] p within light = absurd p
 own_groups fs old new (g ∷ gs) (rows ∷ others) p within light =
@@ -130,7 +130,7 @@ own_groups fs old new (g ∷ gs) (rows ∷ others) p within light =
 
 -- it is one of the writer's
 pub of_the_writer : (fs : Fields) (n : ℕ) (old new : List ℕ) (gs : List GroupMeta) (groups : List (List ValueTrees)) → AppendsGroups fs old new gs groups → IsWithinLimits fs
-    → footer_weight fs (length groups) ≤ MOST_BYTES_OF_FOOTER → IsOfTheWriter [] (own_record fs n gs)
+    → footer_weight fs (length groups) ≤ most_of_footer → IsOfTheWriter [] (own_record fs n gs)
 of_the_writer fs n old new gs groups p within light = record {
   columns = All-from_recursion (λ (group : GroupMeta). All (λ (chunk : ChunkMeta). IsOwnColumn chunk.meta_data) group.columns) gs (all_groups gs (own_groups fs old new gs groups p within light));
   pairs = tt;

@@ -1,6 +1,7 @@
 -- What a written file means, and where its rows are too much.
-use Rattle.std.proofs.Common.{◌≡◌, ◌⊎◌, inl, inr, ℕ, ◌+◌, ◌<◌, ◌≤◌, List, [], ◌∷◌, length, sym, ap, subst, ◌∙◌, arith}
-use Rattle.std.specs.Prelude.{sum_by, Result, Ok, Err}
+use Rattle.std.proofs.Common.{◌≡◌, ◌⊎◌, inl, inr, ℕ, ◌+◌, ◌<◌, ◌≤◌, List, [], ◌∷◌, length, refl, sym, ap, subst, ◌∙◌, arith}
+use Rattle.std.specs.Prelude.{sum_by, Result, Ok, Err, IfOk}
+use Rattle.std.proofs.Common.{Vec, Global}
 use Rattle.std.specs.Result.{IsErrAnd}
 use Rattle.std.specs.List.{Any}
 use Rattle.std.proofs.lemmas.Bool.{cases_lt}
@@ -20,15 +21,15 @@ use Rattle.metadata.specs.Weight.{IsOfTheWriter}
 use Rattle.pages.specs.Writing.{page_weight}
 use Rattle.row_group.specs.Limits.{IsLeafToCome}
 use Rattle.row_group.specs.Writing as group_limit
-use Rattle.row_group.specs.Writing.{IsGroupTooMuch}
+use Rattle.row_group.specs.Writing.{IsGroupTooMuch, AreTaken}
 use Rattle.row_group.proofs.Laid.{each_short}
-use Rattle.footer.specs.declared.limits.TheConstants.{MOST_BYTES_OF_FILE, MOST_BYTES_OF_FOOTER}
+use Rattle.footer.specs.Greatest.{most_of_file, most_of_footer}
 use Rattle.footer.specs.declared.options.Style.TheVariants.{Plain}
 use Rattle.footer.specs.declared.options.WriteOptions.{WriteOptions}
-use Rattle.footer.specs.File.{magic, AreGroups, FileMeans}
-use Rattle.footer.specs.Writing.{IsOutOfRange, empty_groups, large_groups, footer_weight, chunk_weight, group_weight, file_weight, parts_of, IsHeavy, IsTooMuch, many_entries, long_value, heavy, IsToBeWritten, many_groups, many_pages, second_version, other_style, other_leaf}
+use Rattle.footer.specs.File.{magic, IsFramed, AreGroups, FileMeans}
+use Rattle.footer.specs.Writing.{IsOutOfRange, empty_groups, large_groups, footer_weight, chunk_weight, group_weight, file_weight, parts_of, IsHeavy, IsTooMuch, many_entries, long_value, heavy, IsTaken, IsToBeWritten, many_groups, many_pages, second_version, other_style, other_leaf}
 use Rattle.footer.specs.Own.{groups_of, AppendsGroups, own_record, IsFilled, EndsWith, IsLaidOut}
-use Rattle.footer.proofs.Grouped.{grouped, joined, are_groups, begins}
+use Rattle.footer.proofs.Grouped.{grouped, each_taken, joined, are_groups, begins}
 use Rattle.footer.proofs.Weighed.{same_weight, of_the_writer}
 
 -- the file means its rows
@@ -63,6 +64,12 @@ laid_out size fs rows front bytes gs meta is p ends some few =
       chunks = p;
     }
 
+-- a reader takes the file
+pub taken_file : (size : ℕ) (fs : Fields) (rows : List ValueTrees) (r : Result (Vec ℕ Global) Refusal) → 1 ≤ size → length rows ≤ size → AreTaken fs rows → IfOk r (λ file. length file.items ≤ most_of_file)
+    → IfOk r (λ file. (before footer : List ℕ) → IsFramed file.items before footer → length footer ≤ most_of_footer) → IfOk r (λ file. IsTaken size fs rows file.items)
+taken_file size fs rows (Ok file) some few taken short small = record { file_size = short; footer_size = small; columns_taken = each_taken size fs rows some few taken }
+taken_file size fs rows (Err e) some few taken short small = tt
+
 -- the pages of the columns, one each
 abbrev pub pages_weight : Fields → List ValueTrees → ℕ
 pages_weight fs rows = sum_by page_weight (columns fs rows)
@@ -82,8 +89,8 @@ at_most fs old new (g ∷ gs) (rows ∷ others) p =
 -- its footer, or the file, is too long only where it weighs too much
 pub is_heavy : (fs : Fields) (o : WriteOptions) (n : ℕ) (rows : List ValueTrees) (front : List ℕ) (gs : List GroupMeta) (meta : FileMeta) → meta ≡ own_record fs n gs → AppendsGroups fs magic front gs (groups_of rows) → IsWithinLimits fs
     → 1 ≤ o.group_rows → length rows ≤ o.group_rows
-    → (IsOfTheWriter [] meta → (MOST_BYTES_OF_FOOTER < record_weight.footer_weight [] meta) ⊎ (MOST_BYTES_OF_FILE < length front + 8 + record_weight.footer_weight [] meta)) → IsHeavy fs o rows
-is_heavy fs o n rows front gs meta is p within some few long = record { groups = groups_of rows; grouped = grouped o.group_rows rows some few; over = over (cases_lt MOST_BYTES_OF_FOOTER weight) }
+    → (IsOfTheWriter [] meta → (most_of_footer < record_weight.footer_weight [] meta) ⊎ (most_of_file < length front + 8 + record_weight.footer_weight [] meta)) → IsHeavy fs o rows
+is_heavy fs o n rows front gs meta is p within some few long = record { groups = groups_of rows; grouped = grouped o.group_rows rows some few; over = over (cases_lt most_of_footer weight) }
   where
     weight : ℕ
     weight = footer_weight fs (length (groups_of rows))
@@ -91,14 +98,14 @@ is_heavy fs o n rows front gs meta is p within some few long = record { groups =
     same : record_weight.footer_weight [] meta ≡ weight
     same = ap (λ (m : FileMeta). record_weight.footer_weight [] m) is ∙ same_weight fs n magic front gs (groups_of rows) p
 
-    by_length : (MOST_BYTES_OF_FOOTER < record_weight.footer_weight [] meta) ⊎ (MOST_BYTES_OF_FILE < length front + 8 + record_weight.footer_weight [] meta) → (MOST_BYTES_OF_FOOTER < weight) ⊎ (MOST_BYTES_OF_FILE < file_weight fs o (groups_of rows))
+    by_length : (most_of_footer < record_weight.footer_weight [] meta) ⊎ (most_of_file < length front + 8 + record_weight.footer_weight [] meta) → (most_of_footer < weight) ⊎ (most_of_file < file_weight fs o (groups_of rows))
     by_length (inl h) = inl (omega (arith, same, h))
     by_length (inr h) =
         let most = at_most fs magic front gs (groups_of rows) p in
         let less = sum_by-le-sum_by (pages_weight fs) (group_weight fs o.page_rows) (groups_of rows) (lighter fs o.page_rows) in
         inr (omega (arith, same, h, most, less))
 
-    over : (MOST_BYTES_OF_FOOTER < weight) ⊎ (weight ≤ MOST_BYTES_OF_FOOTER) → (MOST_BYTES_OF_FOOTER < weight) ⊎ (MOST_BYTES_OF_FILE < file_weight fs o (groups_of rows))
+    over : (most_of_footer < weight) ⊎ (weight ≤ most_of_footer) → (most_of_footer < weight) ⊎ (most_of_file < file_weight fs o (groups_of rows))
     over (inl h) = inl h
     over (inr h) = by_length (long (subst (λ (m : FileMeta). IsOfTheWriter [] m) (sym is) (of_the_writer fs n magic front gs (groups_of rows) p within h)))
 
@@ -106,7 +113,9 @@ is_heavy fs o n rows front gs meta is p within some few long = record { groups =
 pub too_much : (fs : Fields) (o : WriteOptions) (rows : List ValueTrees) → 1 ≤ o.group_rows → length rows ≤ o.group_rows → o.group_rows ≤ 1048576 → 0 < length rows
     → IsGroupTooMuch 4 fs rows ⊎ Any IsLeafToCome (leaves_of fs) → IsTooMuch fs o rows ⊎ IsToBeWritten fs o rows
 too_much fs o rows some few large there (inl (group_limit.many_rows h)) = absurd (omega (ints, arith, h, few, large))
-too_much fs o rows some few large there (inl (group_limit.many_entries h)) = inl (many_entries h)
+too_much fs o [] some few large there (inl (group_limit.many_entries h)) = absurd (omega (arith, there))
+too_much fs o (row ∷ rows) some few large there (inl (group_limit.many_entries h)) =
+    inl (many_entries (record { groups = groups_of (row ∷ rows); grouped = grouped o.group_rows (row ∷ rows) some few; large = (0, row ∷ rows, omega arith, refl, h) }))
 too_much fs o rows some few large there (inl (group_limit.long_value h)) = inl (long_value h)
 too_much fs o [] some few large there (inl (group_limit.heavy h)) = absurd (omega (arith, there))
 too_much fs o (row ∷ rows) some few large there (inl (group_limit.heavy h)) =

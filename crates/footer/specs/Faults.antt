@@ -7,7 +7,7 @@ use Rattle.schema.specs.Shape.{Fields}
 use Rattle.schema.specs.Listing.{IsSchemaOf, ListHasLeaf, is_floating, is_int96, IsTooLarge}
 use Rattle.metadata.specs.Records.{FileMeta, GroupMeta}
 use Rattle.row_group.specs.Limits.{IsGroupOver, IsGroupToCome, HasCodec, IsOfChunks}
-use Rattle.footer.specs.declared.limits.TheConstants.{MOST_BYTES_OF_FILE, MOST_BYTES_OF_FOOTER}
+use Rattle.footer.specs.Greatest.{most_of_file, most_of_footer}
 use Rattle.footer.specs.File.{magic, IsFile}
 
 -- the first or the last four bytes are not `PAR1`
@@ -20,11 +20,11 @@ pub record AnnouncesLongFooter (bytes : List ℕ) : Type 0 where
   pub size : ℕ
   pub short : size < 2 ^ 32
   pub announced : bytes ≡ magic ++ before ++ little_bytes 4 size ++ magic
-  pub over : MOST_BYTES_OF_FOOTER < size
+  pub over : most_of_footer < size
 
 -- the file, or its footer, is too long
 pub data IsLong (bytes : List ℕ) : Type 0 where
-  long_file : MOST_BYTES_OF_FILE < length bytes → IsLong bytes
+  long_file : most_of_file < length bytes → IsLong bytes
   long_footer : AnnouncesLongFooter bytes → IsLong bytes
 
 -- the footer is so

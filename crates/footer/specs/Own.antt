@@ -5,7 +5,9 @@ use Rattle.schema.specs.Shape.{Fields}
 use Rattle.schema.specs.Stripe.{leaves_of}
 use Rattle.schema.specs.Listed.{elements_of}
 use Rattle.metadata.specs.Records.{FileMeta, GroupMeta, type_order}
+use Rattle.thrift_compact.specs.Compact.{IsThrift}
 use Rattle.metadata.specs.FromTree.{file_meta}
+use Rattle.metadata.specs.ToTree.{file_meta_fields}
 use Rattle.metadata.specs.Answers.{StandsFor}
 use Rattle.row_group.specs.Writing.{AppendsGroup}
 use Rattle.footer.specs.File.{magic, IsFramed}
@@ -26,11 +28,12 @@ AppendsGroups fs old new _ _ = ⊥
 abbrev pub own_record : Fields → ℕ → List GroupMeta → FileMeta
 own_record fs rows groups = record { version = Some (pos 1); schema = elements_of fs; num_rows = Some (pos rows); row_groups = groups; key_value_metadata = None; created_by = Some (codes "pqds"); column_orders = Some (replicate (length (leaves_of fs)) type_order) }
 
--- the same as `IsFile`, and the record fills the footer
+-- the same as `IsFile`, and the record fills the footer, which has just its fields, in the order of their ids
 pub record IsFilled (bytes front : List ℕ) (meta : FileMeta) : Type 0 where
   pub footer : List ℕ
   pub framed : IsFramed bytes front footer
   pub fills : StandsFor file_meta footer meta (length footer)
+  pub bare : IsThrift footer (file_meta_fields meta) (length footer)
 
 -- the file is `PAR1` and the chunks, the footer with this record, its length, and `PAR1`
 abbrev pub EndsWith : List ℕ → FileMeta → List ℕ → Type 0

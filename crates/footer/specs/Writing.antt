@@ -1,6 +1,6 @@
 -- Which options there are, what a written file weighs, and which rows are not written.
 use Rattle.std.specs.Prelude.{◌≡◌, ◌≢◌, ◌⊎◌, ℕ, ◌+◌, ◌-◌, ◌*◌, ◌/◌, ◌<◌, ◌<ℤ◌, pos, ◌≤◌, List, [], ◌∷◌, length, take, drop, sum_by}
-use Rattle.std.specs.List.{Any}
+use Rattle.std.specs.List.{Any, AllByRecursion}
 use Rattle.schema.specs.Values.{ValueTrees}
 use Rattle.schema.specs.Shape.{Fields}
 use Rattle.schema.specs.Stripe.{Leaf, Entry, leaves_of, columns}
@@ -9,10 +9,10 @@ use Rattle.metadata.specs.Weight.{element_weight}
 use Rattle.plain.specs.Plain.{IsTooLong}
 use Rattle.pages.specs.Page.{values}
 use Rattle.pages.specs.Writing.{page_weight}
-use Rattle.row_group.specs.declared.limits.TheConstants.{MOST_ENTRIES_OF_CHUNK}
+use Rattle.row_group.specs.Greatest.{most_entries}
 use Rattle.row_group.specs.Limits.{IsLeafToCome}
 use Rattle.row_group.specs.Writing.{AreTaken}
-use Rattle.footer.specs.declared.limits.TheConstants.{MOST_BYTES_OF_FILE, MOST_BYTES_OF_FOOTER}
+use Rattle.footer.specs.Greatest.{most_of_file, most_of_footer}
 use Rattle.footer.specs.declared.options.Style.TheVariants.{Plain}
 use Rattle.footer.specs.declared.options.WriteOptions.{WriteOptions}
 use Rattle.footer.specs.File.{IsFramed}
@@ -53,11 +53,17 @@ file_weight fs o groups = 1024 + footer_weight fs (length groups) + sum_by (grou
 pub record IsHeavy (fs : Fields) (o : WriteOptions) (rows : List ValueTrees) : Type 0 where
   pub groups : List (List ValueTrees)
   pub grouped : AreGrouped o.group_rows rows groups
-  pub over : (MOST_BYTES_OF_FOOTER < footer_weight fs (length groups)) ⊎ (MOST_BYTES_OF_FILE < file_weight fs o groups)
+  pub over : (most_of_footer < footer_weight fs (length groups)) ⊎ (most_of_file < file_weight fs o groups)
+
+-- a group of the rows has a column of too many entries
+pub record HasLargeGroup (fs : Fields) (size : ℕ) (rows : List ValueTrees) : Type 0 where
+  pub groups : List (List ValueTrees)
+  pub grouped : AreGrouped size rows groups
+  pub large : Any (λ group. Any (λ es. most_entries <ℤ pos (length es)) (columns fs group)) groups
 
 -- why rows are too much for a file
 pub data IsTooMuch (fs : Fields) (o : WriteOptions) (rows : List ValueTrees) : Type 0 where
-  many_entries : Any (λ es. MOST_ENTRIES_OF_CHUNK <ℤ pos (length es)) (columns fs rows) → IsTooMuch fs o rows
+  many_entries : HasLargeGroup fs o.group_rows rows → IsTooMuch fs o rows
   long_value : Any (λ es. Any IsTooLong (values es)) (columns fs rows) → IsTooMuch fs o rows
   heavy : IsHeavy fs o rows → IsTooMuch fs o rows
 
@@ -69,8 +75,9 @@ pub data IsToBeWritten (fs : Fields) (o : WriteOptions) (rows : List ValueTrees)
   other_style : o.style ≢ Plain → IsToBeWritten fs o rows
   other_leaf : 0 < length rows → Any IsLeafToCome (leaves_of fs) → IsToBeWritten fs o rows
 
--- a reader takes the file: it is within the limits, and so are its footer, its columns and their values
-pub record IsTaken (fs : Fields) (rows : List ValueTrees) (bytes : List ℕ) : Type 0 where
-  pub size : length bytes ≤ MOST_BYTES_OF_FILE
-  pub footer_size : (front footer : List ℕ) → IsFramed bytes front footer → length footer ≤ MOST_BYTES_OF_FOOTER
-  pub columns_taken : AreTaken fs rows
+-- a reader takes the file, whose groups have so many rows each: it is within the limits, and so are its footer, the columns
+-- of each group and their values
+pub record IsTaken (size : ℕ) (fs : Fields) (rows : List ValueTrees) (bytes : List ℕ) : Type 0 where
+  pub file_size : length bytes ≤ most_of_file
+  pub footer_size : (front footer : List ℕ) → IsFramed bytes front footer → length footer ≤ most_of_footer
+  pub columns_taken : (groups : List (List ValueTrees)) → AreGrouped size rows groups → AllByRecursion (AreTaken fs) groups

@@ -4,27 +4,26 @@ ghost use Rattle.std.specs.Prelude.{◌≡◌, ◌⊎◌, ◌+◌, ◌<◌, ◌�
 ghost use Rattle.bits.specs.Codec.{Appends};
 ghost use Rattle.bits.specs.Refusals.{RefusedOnly};
 ghost use Rattle.byteorder.specs.Endian.{little_bytes};
-ghost use Rattle.thrift_compact.specs.Length.{most_struct};
-ghost use Rattle.metadata.specs.FromTree.{file_meta};
+ghost use Rattle.thrift_compact.specs.Compact.{IsThrift};
+ghost use Rattle.thrift_compact.specs.Length.{size_struct};
 ghost use Rattle.metadata.specs.ToTree.{file_meta_fields};
-ghost use Rattle.metadata.specs.Answers.{StandsFor};
 ghost use Rattle.metadata.specs.Views.{file_meta_view};
 ghost use Rattle.metadata.specs.Kept.{EachKeepsWritten};
 ghost use Rattle.metadata.specs.Weight.{IsOfTheWriter, footer_weight};
-ghost use Rattle.footer.specs.declared.limits.TheConstants.{MOST_BYTES_OF_FILE, MOST_BYTES_OF_FOOTER};
+ghost use Rattle.footer.specs.Greatest.{most_of_file, most_of_footer};
 ghost use Rattle.footer.specs.File.{magic, IsFramed};
 ghost use Rattle.footer.specs.Own.{EndsWith};
 
 use crate::limits::{MAGIC, MOST_BYTES_OF_FILE, MOST_BYTES_OF_FOOTER};
 use bits::{R, Refusal};
 use byteorder::{ByteOrder, LittleEndian};
-use metadata::FileMeta;
+use metadata::{FileMeta, footer_again};
 use std::alloc::Global;
 
 /// Writes the record at the end of `out`. Refused Memory alone.
 fn write_record(alloc: Global, meta: &FileMeta, out: &mut Vec<u8>) -> R<()>
     requires { EachKeepsWritten (file_meta_view meta.now) }
-    ensures read_again { let fields = file_meta_fields (file_meta_view meta.now) in OnOk result (Appends (λ bytes used. StandsFor file_meta bytes (file_meta_view meta.now) used) (most_struct fields) out.old.items out.new.items) }
+    ensures stands { let fields = file_meta_fields (file_meta_view meta.now) in OnOk result (Appends (λ bytes used. IsThrift bytes fields used) (size_struct fields) out.old.items out.new.items) }
     ensures weight { let seen = file_meta_view meta.now in (keys : List (List ℕ)) → IsOfTheWriter keys seen → OnOk result (length out.new.items ≤ length out.old.items + footer_weight keys seen) }
     ensures which { RefusedOnly (λ _. ⊥) result }
 {
@@ -47,11 +46,12 @@ fn write_length(out: &mut Vec<u8>, size: u32) -> R<()>
 pub fn ended(alloc: Global, front: Vec<u8>, meta: &FileMeta) -> R<Vec<u8>>
     requires { EachKeepsWritten (file_meta_view meta.now) }
     ensures stands { IfOk result (λ file. EndsWith front.items (file_meta_view meta.now) file.items) }
-    ensures size { IfOk result (λ file. length file.items ≤ MOST_BYTES_OF_FILE) }
-    ensures footer_size { IfOk result (λ file. (before footer : List ℕ) → IsFramed file.items before footer → length footer ≤ MOST_BYTES_OF_FOOTER) }
-    ensures limit { result ≡ Err Refusal.Limit → IsOfTheWriter [] (file_meta_view meta.now) → (MOST_BYTES_OF_FOOTER < footer_weight [] (file_meta_view meta.now)) ⊎ (MOST_BYTES_OF_FILE < length front.items + 8 + footer_weight [] (file_meta_view meta.now)) }
+    ensures size { IfOk result (λ file. length file.items ≤ most_of_file) }
+    ensures footer_size { IfOk result (λ file. (before footer : List ℕ) → IsFramed file.items before footer → length footer ≤ most_of_footer) }
+    ensures limit { result ≡ Err Refusal.Limit → IsOfTheWriter [] (file_meta_view meta.now) → (most_of_footer < footer_weight [] (file_meta_view meta.now)) ⊎ (most_of_file < length front.items + 8 + footer_weight [] (file_meta_view meta.now)) }
     ensures which { RefusedOnly (λ e. e ≡ Refusal.Limit) result }
 {
+    footer_again();
     let mut out = front;
     let start = out.len();
     write_record(alloc, meta, &mut out)?;

@@ -3,11 +3,12 @@
 //! `specs/File.antt` says which rows of which schema the bytes of a file mean (`FileMeans`),
 //! `specs/Faults.antt` which refusal comes when,
 //! `specs/Writing.antt` how a file is written, and `specs/Own.antt` what the store's own writer puts
-//! into one.
+//! into one. `specs/Laws.antt` says that a file means one list of rows.
 #![tactic(auto)]
 
 mod ending;
 mod file;
+mod laws;
 mod limits;
 mod options;
 mod reading;
@@ -16,13 +17,9 @@ mod rows;
 mod writing;
 
 pub use file::{read_file, read_rows};
+pub use laws::one_list_of_rows;
 pub use limits::{MOST_BYTES_OF_FILE, MOST_BYTES_OF_FOOTER};
 pub use options::{Style, WriteOptions};
 pub use reading::read_footer;
 pub use rows::Rows;
 pub use writing::write_file;
-
-#[cfg(test)]
-mod tests;
-#[cfg(test)]
-mod writing_tests;

@@ -89,7 +89,7 @@ fn write_groups(
 ///
 /// Refused RowShape just where a row does not fit the schema, want of memory and Limit aside. Refused Limit
 /// for a number of rows in a group outside 1 to 1,048,576, for pages of no rows, for a version other than
-/// 1 and 2; for a value of more than 16 MiB; for more than 16,777,216 entries in a column; for what is not
+/// 1 and 2; for a value of more than 16 MiB; for more than 16,777,216 entries in a column of a group; for what is not
 /// written yet, which is always refused: more rows than a group or a page should have, version 2, another
 /// style, rows of other columns; and where the footer is longer than 16 MiB, or the file than 2^31 - 1
 /// bytes, which comes only where it weighs more.
@@ -103,7 +103,7 @@ pub fn write_file(
 ) -> R<Vec<u8>>
     ensures means { IfOk result (λ file. FileMeans file.items schema.now (rows_view rows.now)) }
     ensures laid_out { IfOk result (λ file. IsLaidOut options.now.group_rows schema.now (rows_view rows.now) file.items) }
-    ensures taken { IfOk result (λ file. IsTaken schema.now (rows_view rows.now) file.items) }
+    ensures taken { IfOk result (λ file. IsTaken options.now.group_rows schema.now (rows_view rows.now) file.items) }
     ensures options { OnOk result (IsOutOfRange options.now → ⊥) }
     ensures built { OnOk result (IsToBeWritten schema.now options.now (rows_view rows.now) → ⊥) }
     ensures only { OnFault result (RowsFit schema.now (rows_view rows.now) → ⊥) }

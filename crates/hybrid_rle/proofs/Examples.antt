@@ -1,24 +1,12 @@
 -- Worked examples.
-use Rattle.std.proofs.Common.{◌≡◌, ℕ, ◌+◌, ◌*◌, ◌<◌, ◌≤◌, List, [], ◌∷◌, length, map, replicate, refl, arith, inl, inr}
-use Rattle.std.specs.List.{range_with_len}
-use Rattle.std.specs.Prelude.{slice_range}
-use Rattle.std.proofs.lemmas.List.FromFn.{length-map-range_with_len, get_or-map-range_with_len}
-use Rattle.bits.specs.Bits.{bits, number, IsPacked}
+use Rattle.std.proofs.Common.{◌≡◌, ℕ, ◌<◌, List, [], ◌∷◌, replicate, refl, arith, inl, inr}
 use Rattle.bits.specs.Varint.{IsUleb}
+use Rattle.bits.specs.Codec.{NothingStands}
+use Rattle.bits.proofs.Facts.{one_uleb, uleb_stays}
 use Rattle.hybrid_rle.specs.Hybrid.{IsRun, IsHybrid}
-
--- the first k numbers of w bits each
-abbrev unpacked : ℕ → ℕ → List ℕ → List ℕ
-unpacked w k bytes = map (λ (i : ℕ). number (slice_range (bits bytes) (i * w) ((i + 1) * w))) (range_with_len 0 k)
-
-length-unpacked : (w k : ℕ) (bytes : List ℕ) → length (unpacked w k bytes) ≡ k
-length-unpacked w k bytes = length-map-range_with_len (λ (i : ℕ). number (slice_range (bits bytes) (i * w) ((i + 1) * w))) 0 k
-
-unpacked_is : (w k : ℕ) (bytes : List ℕ) → k * w ≤ 8 * length bytes → IsPacked bytes w (unpacked w k bytes)
-unpacked_is w k bytes room = record {
-  within = rw (length-unpacked w k bytes) room;
-  each = λ i lt. get_or-map-range_with_len (λ (j : ℕ). number (slice_range (bits bytes) (j * w) ((j + 1) * w))) 0 k i i 0 (omega (arith, length-unpacked w k bytes)) (omega arith);
-}
+use Rattle.hybrid_rle.proofs.Packed.{unpacked_is}
+use Rattle.hybrid_rle.proofs.Taking.{repeated_lacks, run_lacks}
+use Rattle.hybrid_rle.proofs.Hybrids.{reading_begins, reading_fails, nothing_after, nothing_in_none}
 
 short_header : (h : ℕ) → h < 128 → IsUleb (h ∷ []) h 1
 short_header h lt = record { begins = omega arith; within = omega arith; ten = omega arith; more = λ k below. absurd (omega arith); last = lt; number = omega arith; fits = omega arith }
@@ -67,24 +55,59 @@ five_values = record {
   ends = refl;
 }
 
--- 03 88 C6, cut: five values are there whole, and not six
-pub cut_values : IsHybrid 3 (3 ∷ 136 ∷ 198 ∷ []) 5 (0 ∷ 1 ∷ 2 ∷ 3 ∷ 4 ∷ []) 3
+-- nine are not there
+pub not_nine : NothingStands (IsHybrid 3 eight 9)
+not_nine = nothing_after 3 9 eight [] to_seven (omega arith) eight_run (λ values used p. nothing_in_none 3 1 used values (omega arith) p)
+
+abbrev to_four : List ℕ
+to_four = 0 ∷ 1 ∷ 2 ∷ 3 ∷ 4 ∷ []
+
+cut_run : IsRun 3 (3 ∷ 136 ∷ 198 ∷ []) [] to_four
+cut_run = record {
+  varint = 3 ∷ [];
+  header = 3;
+  body = 136 ∷ 198 ∷ [];
+  spelled = refl;
+  says = short_header 3 (omega arith);
+  announced = inr (inr (refl, record { groups = 1; odd = refl; short = omega arith; stands_for = unpacked_is 3 5 (136 ∷ 198 ∷ []) (omega arith); every = omega arith }));
+}
+
+-- 03 88 C6, cut: five values are there whole
+pub cut_values : IsHybrid 3 (3 ∷ 136 ∷ 198 ∷ []) 5 to_four 3
 cut_values = record {
-  runs = (0 ∷ 1 ∷ 2 ∷ 3 ∷ 4 ∷ []) ∷ [];
+  runs = to_four ∷ [];
   text = 3 ∷ 136 ∷ 198 ∷ [];
   rest = [];
   front = refl;
+  spelled = (3 ∷ 136 ∷ 198 ∷ [], [], refl, cut_run, refl);
+  enough = omega arith;
+  shortest = λ k lt. let z : k ≡ 0 = omega arith in rw z (omega arith);
+  first = refl;
+  ends = refl;
+}
+
+-- and not six
+pub not_past_the_cut : NothingStands (IsHybrid 3 (3 ∷ 136 ∷ 198 ∷ []) 6)
+not_past_the_cut = nothing_after 3 6 (3 ∷ 136 ∷ 198 ∷ []) [] to_four (omega arith) cut_run (λ values used p. nothing_in_none 3 1 used values (omega arith) p)
+
+-- 05 88 C6 FA 07, two groups, cut: all bytes are the run's, whatever it is read for
+pub cut_takes_all : IsHybrid 3 (5 ∷ 136 ∷ 198 ∷ 250 ∷ 7 ∷ []) 8 to_seven 5
+cut_takes_all = record {
+  runs = (0 ∷ 1 ∷ 2 ∷ 3 ∷ 4 ∷ 5 ∷ 6 ∷ 7 ∷ 7 ∷ 0 ∷ []) ∷ [];
+  text = 5 ∷ 136 ∷ 198 ∷ 250 ∷ 7 ∷ [];
+  rest = [];
+  front = refl;
   spelled = (
-    3 ∷ 136 ∷ 198 ∷ [],
+    5 ∷ 136 ∷ 198 ∷ 250 ∷ 7 ∷ [],
     [],
     refl,
     record {
-      varint = 3 ∷ [];
-      header = 3;
-      body = 136 ∷ 198 ∷ [];
+      varint = 5 ∷ [];
+      header = 5;
+      body = 136 ∷ 198 ∷ 250 ∷ 7 ∷ [];
       spelled = refl;
-      says = short_header 3 (omega arith);
-      announced = inr (inr (refl, record { groups = 1; odd = refl; short = omega arith; stands_for = unpacked_is 3 5 (136 ∷ 198 ∷ []) (omega arith); every = omega arith }));
+      says = short_header 5 (omega arith);
+      announced = inr (inr (refl, record { groups = 2; odd = refl; short = omega arith; stands_for = unpacked_is 3 10 (136 ∷ 198 ∷ 250 ∷ 7 ∷ []) (omega arith); every = omega arith }));
     },
     refl,
   );
@@ -93,6 +116,40 @@ cut_values = record {
   first = refl;
   ends = refl;
 }
+
+-- 06 2C 01: 300, three times, in two bytes
+pub two_bytes : IsHybrid 9 (6 ∷ 44 ∷ 1 ∷ []) 3 (300 ∷ 300 ∷ 300 ∷ []) 3
+two_bytes = record {
+  runs = (300 ∷ 300 ∷ 300 ∷ []) ∷ [];
+  text = 6 ∷ 44 ∷ 1 ∷ [];
+  rest = [];
+  front = refl;
+  spelled = (
+    6 ∷ 44 ∷ 1 ∷ [],
+    [],
+    refl,
+    record {
+      varint = 6 ∷ [];
+      header = 6;
+      body = 44 ∷ 1 ∷ [];
+      spelled = refl;
+      says = short_header 6 (omega arith);
+      announced = inl (record { count = 3; even = refl; size = refl; narrow = omega arith; stands_for = refl });
+    },
+    refl,
+  );
+  enough = omega arith;
+  shortest = λ k lt. let z : k ≡ 0 = omega arith in rw z (omega arith);
+  first = refl;
+  ends = refl;
+}
+
+-- 00 02, a value of two bits no times, before a one: it is too wide all the same
+pub too_wide : NothingStands (IsHybrid 1 (0 ∷ 2 ∷ 2 ∷ 1 ∷ []) 1)
+too_wide =
+    reading_fails 1 1 0 (0 ∷ 2 ∷ 2 ∷ 1 ∷ []) [] (omega arith) (reading_begins 1 (0 ∷ 2 ∷ 2 ∷ 1 ∷ []) 1)
+    (run_lacks 1 0 1 1 (0 ∷ 2 ∷ 2 ∷ 1 ∷ []) (λ n used p. one_uleb (0 ∷ 2 ∷ 2 ∷ 1 ∷ []) n 0 used 1 p (uleb_stays (0 ∷ []) (2 ∷ 2 ∷ 1 ∷ []) 0 1 (short_header 0 (omega arith))))
+    (repeated_lacks 1 0 1 (2 ∷ 2 ∷ 1 ∷ []) refl (λ within narrow. omega arith)))
 
 abbrev hundred : List ℕ
 hundred = 200 ∷ 1 ∷ 1 ∷ []

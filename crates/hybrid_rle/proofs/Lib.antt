@@ -1,1 +1,8 @@
+pub mod Varints
+pub mod Packed
+pub mod Numbers
+pub mod Runs
+pub mod Taking
+pub mod Hybrids
+pub mod Putting
 pub mod Examples

@@ -183,22 +183,24 @@ module _ (old new : List Call) (f g r s : ℕ) where
         absent = λ x. absent (same_err result e Absent is x);
       }
 
-      pub renamed_stays : (source target : List ℕ) → (e ≡ Absent → l.names source ≡ Nothing) → Renamed source target was now result
-      renamed_stays source target absent = record {
+      pub renamed_stays : (source target : List ℕ) → (e ≡ Absent → l.names source ≡ Nothing) → (e ≡ Exists → (l.names source ≢ Nothing) × (IsMovable (image_of l) source target → ⊥)) → Renamed source target was now result
+      renamed_stays source target absent exists = record {
         takes = takes_still _ (moves_self source target (l.names source)) result;
         sure = still.sure;
         done = on_err _ result e is;
         unmoved = λ _. still;
         absent = λ x. absent (same_err result e Absent is x);
+        exists = λ x. exists (same_err result e Exists is x);
       }
 
-      pub removed_stays : (path : List ℕ) → (e ≡ Absent → l.names path ≡ Nothing) → Removed path was now result
-      removed_stays path absent = record {
+      pub removed_stays : (path : List ℕ) → (e ≡ Absent → l.names path ≡ Nothing) → (e ≡ Exists → l.names path ≡ Folder) → Removed path was now result
+      removed_stays path absent exists = record {
         takes = takes_still _ (binds_self path Nothing) result;
         sure = still.sure;
         done = on_err _ result e is;
         unmoved = λ _. still;
         absent = λ x. absent (same_err result e Absent is x);
+        exists = λ x. exists (same_err result e Exists is x);
       }
 
     -- a folder that is there already
@@ -268,6 +270,7 @@ module _ (old new : List Call) (f g r s : ℕ) where
       done = on_any result (n, file, bound_now count sound path Nothing goes);
       unmoved = λ none. absurd (none n file);
       absent = λ x. absurd (no_absent result failed x);
+      exists = λ x. absurd (no_exists result failed x);
     }
 
     -- ---- bytes that are written, files and folders that are synced
@@ -418,6 +421,7 @@ module _ {T : Type 0} (old : List Call) (f g r s : ℕ) (result : Result T Fault
         done = on_err _ result Failed is;
         unmoved = λ un. absurd (un movable);
         absent = λ x. absurd (no_absent result failed x);
+        exists = λ x. absurd (no_exists result failed x);
       }
 
   pub renamed_whole : (mid new : List Call) → GoesOn old mid (bound start target (File movable.node)) → GoesOn mid new (bound (replayed empty mid) source Nothing) → Renamed source target (state_with old f r) (state_with new g s) result
@@ -446,6 +450,7 @@ module _ {T : Type 0} (old : List Call) (f g r s : ℕ) (result : Result T Fault
         );
         unmoved = λ un. absurd (un movable);
         absent = λ x. absurd (no_absent result failed x);
+        exists = λ x. absurd (no_exists result failed x);
       }
     where
       mid_sound : (mid : List Call) → GoesOn old mid (bound start target (File movable.node)) → IsSound (replayed empty mid) count

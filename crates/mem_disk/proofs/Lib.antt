@@ -10,3 +10,4 @@ pub mod Resting
 pub mod Leaving
 pub mod Picking
 pub mod Shortages
+pub mod Places

@@ -1,6 +1,5 @@
--- Renames that cannot be, and refused growths that are told as failures.
-use Rattle.std.proofs.Common.{◌≡◌, ◌≢◌, ◌⊎◌, inl, inr, ⊎_elim, ℕ, List, Result, Ok, Err, IsErrOf, refl, sym, ◌∙◌, subst}
-use Rattle.disk.specs.Paths.{folder_of}
+-- Refused growths that are told as failures.
+use Rattle.std.proofs.Common.{◌≡◌, ◌≢◌, ◌⊎◌, inl, inr, ⊎_elim, List, Result, Ok, Err, IsErrOf, refl, sym, ◌∙◌, subst}
 use Rattle.disk.specs.declared.fault.Fault.{Fault}
 use Rattle.disk.specs.declared.fault.Fault.TheVariants.{Absent, Exists, Failed, Memory}
 use Rattle.mem_disk.specs.declared.call.Call.{Call}
@@ -11,11 +10,7 @@ use Rattle.mem_disk.specs.Loose.{Loose}
 use Rattle.mem_disk.specs.Failing.{HasDone}
 use Rattle.mem_disk.specs.Shortages.{told_as}
 use Rattle.mem_disk.specs.States.{AlsoFailed, IsAnswer}
-use Rattle.mem_disk.proofs.Choices.{same_or_not}
 use Rattle.mem_disk.proofs.Effects.{either_way}
-
-pub not_beside : (source target : List ℕ) → ((folder_of target ≡ folder_of source) × (target ≢ source) → ⊥) → (folder_of target ≢ folder_of source) ⊎ (target ≡ source)
-not_beside source target none = ⊎_elim (λ same. inr same.0) (λ apart. inl (λ e. none (e, apart.0))) (same_or_not target source)
 
 -- it holds of the answer, since it does of what is told and of a failure
 pub told_way : {T : Type 0} (P : Result T Fault → Type 0) (done told result : Result T Fault) → told ≡ told_as done → AlsoFailed P (told_as done) → IsAnswer told result → P result
@@ -29,10 +24,18 @@ failed_or_short (Err Failed) is = inl refl
 failed_or_short (Err Absent) is = let h : Err Absent ≡ Err Failed = is in cc
 failed_or_short (Err Exists) is = let h : Err Exists ≡ Err Failed = is in cc
 
--- a call that answers Failed had a reason, or was short
-pub reason_or_short : {T Reason Short : Type 0} (done told result : Result T Fault) → told ≡ told_as done → result ≡ told → (IsErrOf done Failed → Reason) → (IsErrOf done Memory → Short) → IsErrOf result Failed → Reason ⊎ Short
-reason_or_short done told result is same failed short of =
-    ⊎_elim (λ e. inl (failed e)) (λ e. inr (short e)) (failed_or_short done (subst (λ (x : Result _ Fault). IsErrOf x Failed) (same ∙ is) of))
+-- a call that answers Failed and was not to fail was short
+pub failed_is_short : {T Short : Type 0} (done told result : Result T Fault) → told ≡ told_as done → result ≡ told → (IsErrOf done Failed → ⊥) → (IsErrOf done Memory → Short) → IsErrOf result Failed → Short
+failed_is_short done told result is same failed short of =
+    ⊎_elim (λ e. absurd (failed e)) short (failed_or_short done (subst (λ (x : Result _ Fault). IsErrOf x Failed) (same ∙ is) of))
+
+-- what is told is no Memory
+told_no_memory : {T : Type 0} (done : Result T Fault) → IsErrOf (told_as done) Memory → ⊥
+told_no_memory (Ok value) is = let h : Ok value ≡ Err Memory = is in cc
+told_no_memory (Err Memory) is = let h : Err Failed ≡ Err Memory = is in cc
+told_no_memory (Err Failed) is = let h : Err Failed ≡ Err Memory = is in cc
+told_no_memory (Err Absent) is = let h : Err Absent ≡ Err Memory = is in cc
+told_no_memory (Err Exists) is = let h : Err Exists ≡ Err Memory = is in cc
 
 passes_or_fails : (trip : Trip) (done : Done) → trip ≡ Passes → trip ≡ Fails done → ⊥
 passes_or_fails trip done one other = let h : Passes ≡ Fails done = sym one ∙ other in cc

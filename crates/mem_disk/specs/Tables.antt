@@ -1,5 +1,5 @@
 -- What a list of names and a list of nodes say.
-use Rattle.std.specs.Prelude.{◌≡◌, ◌≢◌, ◌⊎◌, ℕ, zero, suc, List, [], ◌∷◌, ◌++◌, if◌then◌else◌, bytes_eq, string_bytes}
+use Rattle.std.specs.Prelude.{◌≡◌, ◌≢◌, ◌⊎◌, ℕ, zero, suc, List, [], ◌∷◌, ◌++◌, if◌then◌else◌, bytes_eq, string_bytes, Option, Some, None, option_map, unwrap_or}
 use Rattle.disk.specs.declared.binding.Binding.{Binding}
 use Rattle.disk.specs.declared.binding.Binding.TheVariants.{Nothing, Folder}
 use Rattle.disk.specs.Paths.{folder_of}
@@ -23,6 +23,15 @@ name_in es q = of_name (λ (e : Name). e.now) at_first es q
 -- what else it has named since its folder's last sync
 abbrev pub had_in : List Name → List ℕ → List Binding
 had_in es q = of_name (λ (e : Name). e.had.items) (λ _. []) es q
+
+-- where the first name with a path is
+abbrev pub place_in : List Name → List ℕ → Option ℕ
+place_in [] q = None
+place_in (e ∷ es) q = if bytes_eq q (string_bytes e.path) then Some 0 else option_map suc (place_in es q)
+
+-- the places, and this one for a path that has none
+abbrev pub placed_at : (List ℕ → Option ℕ) → List ℕ → ℕ → List ℕ → Option ℕ
+placed_at places path at q = if bytes_eq path q then Some (unwrap_or (places path) at) else places q
 
 -- no name of the list has this path
 abbrev pub FindsNone : List Name → List ℕ → Type 0

@@ -5,7 +5,7 @@ ghost use Rattle.disk.specs.Paths.{folder_of};
 ghost use Rattle.disk.specs.Calls.{IsStill, Created, FolderMade, Appended, Synced, FolderSynced, IsMovable, Renamed, Removed};
 ghost use Rattle.disk.specs.declared.fault.Fault.TheVariants.{Exists, Failed, Memory};
 ghost use Rattle.mem_disk.specs.Loose.{Loose, empty, replayed, image_of, bound, appended, node_synced, folder_synced};
-ghost use Rattle.mem_disk.specs.Shortages.{IsNoRename, told_as};
+ghost use Rattle.mem_disk.specs.Shortages.{told_as};
 ghost use Rattle.mem_disk.specs.Failing.{taken, written, moved, doubtful, HasDone, IsVacant, IsFile, IsSureFile, IsToBeDone};
 ghost use Rattle.mem_disk.specs.States.{state_with, AlsoFailed, FailsToSync};
 ghost use Rattle.disk.specs.declared.binding.Binding.TheVariants.{Folder, File};
@@ -80,9 +80,8 @@ impl Held {
     /// Takes a file's name away.
     pub fn remove_file(&mut self, trip: Trip, path: &str) -> Result<(), Fault>
         ensures effect { (f g r s : ℕ) → AlsoFailed (Removed path.now (state_with self.old.calls.items f r) (state_with self.new.calls.items g s)) result }
-        ensures which { IfErr result (λ e. e ≢ Exists) }
         ensures nothing { trip ≡ Trip.Fails Done.Nothing → self.new.calls.items ≡ self.old.calls.items }
-        ensures passes { trip ≡ Trip.Passes → IsErrOf result Failed → (replayed empty self.old.calls.items).names path.now ≡ Folder }
+        ensures passes { trip ≡ Trip.Passes → IsErrOf result Failed → ⊥ }
         ensures extent { IsFile (image_of (replayed empty self.old.calls.items)) path.now → HasDone (taken (λ l. bound l path.now binding.Nothing)) trip self.old.calls.items self.new.calls.items (IsErrOf result Memory) }
         ensures short { IsErrOf result Memory → IsToBeDone trip (IsFile (image_of (replayed empty self.old.calls.items)) path.now) }
         ensures whole { OnOk result (replayed empty self.new.calls.items ≡ bound (replayed empty self.old.calls.items) path.now binding.Nothing) }
@@ -93,7 +92,7 @@ impl Held {
         }
         match self.binding(path) {
             Binding::Nothing => return Err(Fault::Absent),
-            Binding::Folder => return Err(Fault::Failed),
+            Binding::Folder => return Err(Fault::Exists),
             Binding::File(_) => {}
         }
         self.bind(path, Binding::Nothing)?;
@@ -103,9 +102,8 @@ impl Held {
     /// Gives a file another name in its folder. After Memory the target's name may be there, as after a failure.
     pub fn rename_file(&mut self, trip: Trip, source: &str, target: &str) -> Result<(), Fault>
         ensures effect { (f g r s : ℕ) → AlsoFailed (Renamed source.now target.now (state_with self.old.calls.items f r) (state_with self.new.calls.items g s)) (told_as result) }
-        ensures which { IfErr result (λ e. e ≢ Exists) }
         ensures nothing { trip ≡ Trip.Fails Done.Nothing → self.new.calls.items ≡ self.old.calls.items }
-        ensures passes { trip ≡ Trip.Passes → IsErrOf result Failed → IsNoRename source.now target.now (image_of (replayed empty self.old.calls.items)) }
+        ensures passes { trip ≡ Trip.Passes → IsErrOf result Failed → ⊥ }
         ensures extent { IsMovable (image_of (replayed empty self.old.calls.items)) source.now target.now → HasDone (moved source.now target.now) trip self.old.calls.items self.new.calls.items (IsErrOf result Memory) }
         ensures short { IsErrOf result Memory → IsToBeDone trip (IsMovable (image_of (replayed empty self.old.calls.items)) source.now target.now) }
         ensures whole { OnOk result (replayed empty self.new.calls.items ≡ moved source.now target.now Done.Whole (replayed empty self.old.calls.items)) }
@@ -116,14 +114,14 @@ impl Held {
         }
         let node = match self.binding(source) {
             Binding::Nothing => return Err(Fault::Absent),
-            Binding::Folder => return Err(Fault::Failed),
+            Binding::Folder => return Err(Fault::Exists),
             Binding::File(node) => node,
         };
         if let Binding::Folder = self.binding(target) {
-            return Err(Fault::Failed);
+            return Err(Fault::Exists);
         }
         if !are_beside(source, target) {
-            return Err(Fault::Failed);
+            return Err(Fault::Exists);
         }
         if self.bind(target, Binding::File(node)).is_err() {
             return Err(Fault::Memory);

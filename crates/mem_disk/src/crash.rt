@@ -16,6 +16,7 @@ use crate::fuse::Fuse;
 use crate::held::Held;
 use crate::left::{copies_of, left_names};
 use crate::name::Name;
+use crate::names::Names;
 use crate::node::Node;
 use disk::{Binding, Fault};
 use std::alloc::{AllocError, Global};
@@ -174,9 +175,10 @@ fn torn_nodes(alloc: Global, nodes: &[Node], picks: &mut Picks<'_>) -> Result<Ve
 fn left_of(held: &Held, picks: &mut Picks<'_>) -> Result<Held, AllocError>
     ensures image { IfOk result (λ left. (f r g s : ℕ) → may_leave (state_with held.now.calls.items f r) (state_with left.calls.items g s).seen) }
     ensures rest { IfOk result (λ left. IsAtRest (state_with left.calls.items 0 0)) }
-    ensures words { IfOk result (λ left. ArePickedBy held.now.names.items held.now.nodes.items (words_left picks.old) (state_with left.calls.items 0 0).seen) }
+    ensures words { IfOk result (λ left. ArePickedBy held.now.names.list.items held.now.nodes.items (words_left picks.old) (state_with left.calls.items 0 0).seen) }
 {
-    let picked = picked_names(held.alloc, &held.names, picks)?;
+    let picked = picked_names(held.alloc, &held.names.list, picks)?;
+    let picked = Names::of(held.alloc, picked)?;
     let nodes = torn_nodes(held.alloc, &held.nodes, picks)?;
     let begin = Call::Begin(
         left_names(held.alloc, &picked)?,
@@ -186,7 +188,7 @@ fn left_of(held: &Held, picks: &mut Picks<'_>) -> Result<Held, AllocError>
     calls.push(begin)?;
     Ok(Held {
         alloc: held.alloc,
-        names: left_names(held.alloc, &picked)?,
+        names: Names::of(held.alloc, left_names(held.alloc, &picked)?)?,
         nodes,
         calls,
     })
@@ -203,7 +205,7 @@ impl MemDisk {
     /// the word gives). Names below a folder that is not there are gone. Refused Memory alone.
     pub fn crash(&self, picks: &[u64]) -> Result<MemDisk, Fault>
         ensures image { IfOk result (λ disk. may_leave (state_of self.now) (state_of disk).seen) }
-        ensures words { IfOk result (λ disk. ArePickedBy self.now.held.names.items self.now.held.nodes.items picks.now (state_of disk).seen) }
+        ensures words { IfOk result (λ disk. ArePickedBy self.now.held.names.list.items self.now.held.nodes.items picks.now (state_of disk).seen) }
         ensures which { IfErr result (λ e. e ≡ Fault.Memory) }
         ensures rest { IfOk result (λ disk. IsAtRest (state_of disk)) }
         ensures failures { IfOk result (λ disk. disk.failures ≡ 0) }

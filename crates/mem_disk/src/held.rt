@@ -7,8 +7,7 @@ ghost use Rattle.mem_disk.specs.Tables.{AreApart, apart_once};
 ghost use Rattle.mem_disk.specs.Loose.{Keeps, GoesOn, empty, replayed, bound, appended, node_synced, node_doubted, folder_synced};
 
 use crate::call::Call;
-use crate::name::Name;
-use crate::names::{binding, rebind, settle};
+use crate::names::Names;
 use crate::node::Node;
 use disk::Binding;
 use std::alloc::{AllocError, Global};
@@ -17,12 +16,12 @@ use std::alloc::{AllocError, Global};
 #[derive(Drop)]
 pub struct Held {
     pub alloc: Global,
-    pub names: Vec<Name>,
+    pub names: Names,
     pub nodes: Vec<Node>,
     /// what has been done since the disk began
     pub calls: Vec<Call>,
-    pub ghost kept: { Keeps names.items nodes.items calls.items },
-    pub ghost apart: { AreApart names.items } by { apart_once names.items },
+    pub ghost kept: { Keeps names.list.items nodes.items calls.items },
+    pub ghost apart: { AreApart names.list.items } by { apart_once names.list.items },
 }
 
 impl Held {
@@ -32,7 +31,7 @@ impl Held {
     {
         Held {
             alloc,
-            names: Vec::new(alloc),
+            names: Names::new(alloc),
             nodes: Vec::new(alloc),
             calls: Vec::new(alloc),
         }
@@ -42,7 +41,7 @@ impl Held {
     pub fn binding(&self, path: &str) -> Binding
         ensures { result ≡ (replayed empty self.now.calls.items).names path.now }
     {
-        binding(&self.names, path)
+        self.names.binding(path)
     }
 
     /// A new node, which is empty.
@@ -66,7 +65,7 @@ impl Held {
     {
         let call = Call::Bind(String::from_str(self.alloc, path)?, to);
         self.calls.push(call)?;
-        match rebind(self.alloc, &mut self.names, path, to) {
+        match self.names.rebind(self.alloc, path, to) {
             Ok(()) => Ok(()),
             Err(e) => {
                 self.calls.pop();
@@ -126,7 +125,7 @@ impl Held {
     {
         let call = Call::SyncFolder(String::from_str(self.alloc, folder)?);
         self.calls.push(call)?;
-        settle(&mut self.names, folder);
+        self.names.settle(folder);
         Ok(())
     }
 }

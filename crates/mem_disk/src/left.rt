@@ -4,30 +4,30 @@ ghost use Rattle.std.specs.Prelude.{◌≡◌, IfOk};
 ghost use Rattle.mem_disk.specs.Left.{EachOf, IsLeft, IsCopy, left_in};
 
 use crate::name::Name;
-use crate::names::binding;
+use crate::names::Names;
 use crate::node::Node;
 use disk::{Binding, folder_of};
 use std::alloc::{AllocError, Global};
 
 // What is there of a path, where each of these names has picked its binding: nothing below a folder that is not there.
-fn left_at(picked: &[Name], path: &str) -> Binding
-    ensures { result ≡ left_in picked.now path.now }
+fn left_at(picked: &Names, path: &str) -> Binding
+    ensures { result ≡ left_in picked.now.list.items path.now }
 {
     if path.is_empty() {
         return Binding::Folder;
     }
     match left_at(picked, folder_of(path)) {
-        Binding::Folder => binding(picked, path),
+        Binding::Folder => picked.binding(path),
         _ => Binding::Nothing,
     }
 }
 
 /// The names, each with what is there of it.
-pub fn left_names(alloc: Global, picked: &[Name]) -> Result<Vec<Name>, AllocError>
-    ensures { IfOk result (λ left. EachOf (IsLeft (left_in picked.now)) picked.now left.items) }
+pub fn left_names(alloc: Global, picked: &Names) -> Result<Vec<Name>, AllocError>
+    ensures { IfOk result (λ left. EachOf (IsLeft (left_in picked.now.list.items)) picked.now.list.items left.items) }
 {
     let mut left = Vec::new(alloc);
-    for name in picked {
+    for name in &picked.list {
         left.push(Name {
             path: String::from_str(alloc, &name.path)?,
             now: left_at(picked, &name.path),

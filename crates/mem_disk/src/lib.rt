@@ -12,10 +12,10 @@
 //! `specs/Shortages.antt` what a call that answers no Memory tells when it is short of it, and `specs/Picks.antt` which
 //! image a list of words picks (`ArePickedBy`).
 //!
-//! A call takes time that grows with the number of names that ever came up, and not with the length of the record.
-//! `crash` looks up each folder above each name, twice: its time grows with that number, times the depth of the names,
-//! times how late their folders came up, and with the bytes of all files. The record is never cut: each byte that is
-//! appended is kept twice.
+//! A call finds its name by a map, so its time depends neither on the number of names nor on the length of the record.
+//! `sync_folder` and `list` pass once over all names that ever came up. `crash` looks up each folder above each name:
+//! its time grows with the number of names times the depth of their folders, and with the bytes of all files. The
+//! record is never cut: each byte that is appended is kept twice.
 #![tactic(auto)]
 
 mod acts;
@@ -107,10 +107,3 @@ impl MemDisk {
         self.shortages
     }
 }
-
-#[cfg(test)]
-mod runs;
-#[cfg(test)]
-mod stops;
-#[cfg(test)]
-mod tests;

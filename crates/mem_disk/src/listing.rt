@@ -102,7 +102,7 @@ impl Held {
         let Binding::Folder = self.binding(folder) else {
             return Err(Fault::Absent)
         };
-        let entries = entries_of(alloc, &self.names, folder)?;
+        let entries = entries_of(alloc, &self.names.list, folder)?;
         Ok(entries)
     }
 }

@@ -8,7 +8,6 @@ ghost use Rattle.disk.specs.declared.binding.Binding.TheVariants as binding;
 ghost use Rattle.mem_disk.specs.Loose.{Loose, bound, appended, node_synced, folder_synced};
 ghost use Rattle.mem_disk.specs.Disks.{state_of, lawful_of, loose_in, FailsBy};
 ghost use Rattle.mem_disk.specs.Fuses.{Burns, trip_of};
-ghost use Rattle.mem_disk.specs.Shortages.{IsNoRename};
 ghost use Rattle.mem_disk.specs.Failing.{taken, written, moved, doubtful, IsVacant, IsFile, IsSureFile, IsToBeDone, StaysUnlessShort};
 ghost use Rattle.mem_disk.specs.declared.fuse.Done.TheVariants as extent;
 ghost use Rattle.mem_disk.specs.declared.fuse.Trip.TheVariants as case;
@@ -178,13 +177,13 @@ impl Disk for MemDisk {
 
     fn rename(&mut self, source: &str, target: &str) -> Result<(), Fault>
         ensures effect { (state_of self.old).honest → Renamed source.now target.now (state_of self.old) (state_of self.new) result }
-        ensures which { IfErr result (λ e. (e ≡ Fault.Absent) ⊎ (e ≡ Fault.Failed)) }
+        ensures which { IfErr result (λ e. e ≢ Fault.Memory) }
         ensures counts { CountsFailure result (state_of self.old).failures (state_of self.new).failures }
         ensures reads { (state_of self.new).reads ≡ (state_of self.old).reads }
         ensures honest { (state_of self.old).honest ↔ (state_of self.new).honest }
         ensures fuse { Burns self.old.fuse self.new.fuse result }
         ensures nothing { trip_of self.old.fuse ≡ case.Fails extent.Nothing → self.new.held.calls.items ≡ self.old.held.calls.items }
-        ensures passes { trip_of self.old.fuse ≡ case.Passes → IsErrOf result Fault.Failed → IsNoRename source.now target.now (state_of self.old).seen ⊎ IsOneMore self.old.shortages self.new.shortages }
+        ensures passes { trip_of self.old.fuse ≡ case.Passes → IsErrOf result Fault.Failed → IsOneMore self.old.shortages self.new.shortages }
         ensures extent { IsMovable (state_of self.old).seen source.now target.now → FailsBy (moved source.now target.now) self.old self.new }
         ensures ample { StaysUnlessShort (IsToBeDone (trip_of self.old.fuse) (IsMovable (state_of self.old).seen source.now target.now)) result self.old.shortages self.new.shortages }
         ensures whole { OnOk result (loose_in self.new ≡ moved source.now target.now extent.Whole (loose_in self.old)) }
@@ -198,13 +197,12 @@ impl Disk for MemDisk {
 
     fn remove(&mut self, path: &str) -> Result<(), Fault>
         ensures effect { (state_of self.old).honest → Removed path.now (state_of self.old) (state_of self.new) result }
-        ensures which { IfErr result (λ e. e ≢ Fault.Exists) }
         ensures counts { CountsFailure result (state_of self.old).failures (state_of self.new).failures }
         ensures reads { (state_of self.new).reads ≡ (state_of self.old).reads }
         ensures honest { (state_of self.old).honest ↔ (state_of self.new).honest }
         ensures fuse { Burns self.old.fuse self.new.fuse result }
         ensures nothing { trip_of self.old.fuse ≡ case.Fails extent.Nothing → self.new.held.calls.items ≡ self.old.held.calls.items }
-        ensures passes { trip_of self.old.fuse ≡ case.Passes → IsErrOf result Fault.Failed → (state_of self.old).seen.names path.now ≡ Folder }
+        ensures passes { trip_of self.old.fuse ≡ case.Passes → IsErrOf result Fault.Failed → ⊥ }
         ensures extent { IsFile (state_of self.old).seen path.now → FailsBy (taken (λ l. bound l path.now binding.Nothing)) self.old self.new }
         ensures ample { StaysUnlessShort (IsToBeDone (trip_of self.old.fuse) (IsFile (state_of self.old).seen path.now)) result self.old.shortages self.new.shortages }
         ensures whole { OnOk result (loose_in self.new ≡ bound (loose_in self.old) path.now binding.Nothing) }

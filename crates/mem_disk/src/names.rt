@@ -1,11 +1,13 @@
-//! Lists of names.
+//! Names in the order in which they came up, found by their paths.
 
-ghost use Rattle.std.specs.Prelude.{◌≡◌, ◌++◌, ◌∷◌, [], ◌<◌, length, MatchOption, IfSome, IfOk, OnOk, OnErr, string_bytes};
-ghost use Rattle.mem_disk.specs.Tables.{at_first, name_in, FindsNone, Finds, Rebinds, AreApart, SaysTheSame, Settles};
+ghost use Rattle.std.specs.Prelude.{◌≡◌, ◌++◌, ◌∷◌, [], ◌<◌, ℕ, List, length, MatchOption, IfSome, IfOk, OnOk, OnErr, string_bytes};
+ghost use Rattle.std.specs.HashMap.{get_by_text};
+ghost use Rattle.mem_disk.specs.Tables.{at_first, name_in, place_in, placed_at, FindsNone, Finds, Rebinds, AreApart, SaysTheSame, Settles};
 
 use crate::name::Name;
 use disk::Binding;
 use std::alloc::{AllocError, Global};
+use std::collections::HashMap;
 
 // What a path names at the beginning: the dataset's own folder alone is there.
 fn first_of(path: &str) -> Binding
@@ -15,29 +17,6 @@ fn first_of(path: &str) -> Binding
         Binding::Folder
     } else {
         Binding::Nothing
-    }
-}
-
-// Where the first name with this path is.
-pub fn find(names: &[Name], path: &str) -> Option<usize>
-    ensures place { MatchOption result (FindsNone names.now path.now) (λ i. Finds names.now path.now i) }
-    ensures within { IfSome result (λ i. i < length names.now) }
-{
-    for (i, name) in names.iter().enumerate() {
-        if name.path.as_str() == path {
-            return Some(i);
-        }
-    }
-    None
-}
-
-/// What a path names.
-pub fn binding(names: &[Name], path: &str) -> Binding
-    ensures { result ≡ name_in names.now path.now }
-{
-    match find(names, path) {
-        Some(i) => names[i].now,
-        None => first_of(path),
     }
 }
 
@@ -53,35 +32,120 @@ fn fresh_name(alloc: Global, path: &str, to: Binding) -> Result<Name, AllocError
     })
 }
 
-/// Binds a path.
-pub fn rebind(
+// The first name with this path is at this place, where none before it has the path.
+fn place(
     alloc: Global,
-    names: &mut Vec<Name>,
+    places: &mut HashMap<String, usize>,
     path: &str,
-    to: Binding,
+    at: usize,
 ) -> Result<(), AllocError>
-    ensures ok { OnOk result (Rebinds path.now to names.old.items names.new.items) }
-    ensures err { OnErr result (SaysTheSame names.old.items names.new.items) }
-    ensures apart { AreApart names.old.items → AreApart names.new.items }
+    ensures { OnOk result ((q : List ℕ) → get_by_text places.new q ≡ placed_at (get_by_text places.old) path.now at q) }
 {
-    match find(names, path) {
-        Some(i) => {
-            let name = &mut names[i];
-            name.turn(to)
-        }
-        None => {
-            let name = fresh_name(alloc, path, to)?;
-            Ok(names.push(name)?)
-        }
+    if !places.contains_key(path) {
+        places.insert(String::from_str(alloc, path)?, at)?;
     }
+    Ok(())
 }
 
-/// The names in a folder are firm.
-pub fn settle(names: &mut Vec<Name>, folder: &str)
+// The names in a folder are firm, and no path changes.
+fn settle(names: &mut Vec<Name>, folder: &str)
     ensures settles { Settles folder.now names.old.items names.new.items }
     ensures apart { AreApart names.old.items → AreApart names.new.items }
+    ensures places { (q : List ℕ) → place_in names.new.items q ≡ place_in names.old.items q }
 {
     for name in names.iter_mut() {
         name.settle(folder);
+    }
+}
+
+/// Names in the order in which they came up, and the place of each path among them.
+#[derive(Drop)]
+pub struct Names {
+    pub list: Vec<Name>,
+    places: HashMap<String, usize>,
+    pub ghost placed: { (q : List ℕ) → get_by_text places q ≡ place_in list.items q },
+}
+
+impl Names {
+    pub fn new(alloc: Global) -> Names
+        ensures { result.list.items ≡ [] }
+    {
+        Names {
+            list: Vec::new(alloc),
+            places: HashMap::new(alloc),
+        }
+    }
+
+    /// These names, and where each stands.
+    pub fn of(alloc: Global, list: Vec<Name>) -> Result<Names, AllocError>
+        ensures { IfOk result (λ names. names.list.items ≡ list.items) }
+    {
+        let mut places = HashMap::new(alloc);
+        for (at, name) in list.iter().enumerate() {
+            place(alloc, &mut places, &name.path, at)?;
+        }
+        Ok(Names { list, places })
+    }
+
+    // Where the first name with this path is.
+    fn find(&self, path: &str) -> Option<usize>
+        ensures place { MatchOption result (FindsNone self.now.list.items path.now) (λ i. Finds self.now.list.items path.now i) }
+        ensures within { IfSome result (λ i. i < length self.now.list.items) }
+    {
+        self.places.get(path).copied()
+    }
+
+    /// What a path names.
+    pub fn binding(&self, path: &str) -> Binding
+        ensures { result ≡ name_in self.now.list.items path.now }
+    {
+        match self.find(path) {
+            Some(i) => self.list[i].now,
+            None => first_of(path),
+        }
+    }
+
+    // A name whose path none has.
+    fn add(&mut self, alloc: Global, name: Name) -> Result<(), AllocError>
+        requires { FindsNone self.old.list.items (string_bytes name.path) }
+        ensures ok { OnOk result (self.new.list.items ≡ self.old.list.items ++ name ∷ []) }
+        ensures err { OnErr result (self.new.list.items ≡ self.old.list.items) }
+    {
+        let key = String::from_str(alloc, &name.path)?;
+        let at = self.list.len();
+        self.list.push(name)?;
+        match self.places.insert(key, at) {
+            Ok(_) => Ok(()),
+            Err(e) => {
+                self.list.pop();
+                Err(e.into())
+            }
+        }
+    }
+
+    /// Binds a path.
+    pub fn rebind(&mut self, alloc: Global, path: &str, to: Binding) -> Result<(), AllocError>
+        ensures ok { OnOk result (Rebinds path.now to self.old.list.items self.new.list.items) }
+        ensures err { OnErr result (SaysTheSame self.old.list.items self.new.list.items) }
+        ensures apart { AreApart self.old.list.items → AreApart self.new.list.items }
+    {
+        match self.find(path) {
+            Some(i) => {
+                let name = &mut self.list[i];
+                name.turn(to)
+            }
+            None => {
+                let name = fresh_name(alloc, path, to)?;
+                self.add(alloc, name)
+            }
+        }
+    }
+
+    /// The names in a folder are firm.
+    pub fn settle(&mut self, folder: &str)
+        ensures settles { Settles folder.now self.old.list.items self.new.list.items }
+        ensures apart { AreApart self.old.list.items → AreApart self.new.list.items }
+    {
+        settle(&mut self.list, folder);
     }
 }

@@ -4,18 +4,7 @@ use Rattle.std.specs.Prelude.{Bool, true, false, is_some, option_map, if◌then�
 use Rattle.thrift_compact.specs.Tree.{Node, i32, i64, binary, struct, Fields, no_fields}
 use Rattle.thrift_compact.specs.Compact.{IsThrift}
 use Rattle.schema.specs.Elements.{Element}
-use Rattle.metadata.specs.declared.ids.file.TheConstants as FileIds
-use Rattle.metadata.specs.declared.ids.pair.TheConstants as PairIds
-use Rattle.metadata.specs.declared.ids.group.TheConstants as GroupIds
-use Rattle.metadata.specs.declared.ids.chunk.TheConstants as ChunkIds
-use Rattle.metadata.specs.declared.ids.column.TheConstants as ColumnIds
-use Rattle.metadata.specs.declared.ids.element.TheConstants as ElementIds
-use Rattle.metadata.specs.declared.ids.statistics.TheConstants as StatisticsIds
-use Rattle.metadata.specs.declared.ids.order.TheConstants as OrderIds
-use Rattle.metadata.specs.declared.ids.page.TheConstants as PageIds
-use Rattle.metadata.specs.declared.ids.data.TheConstants as DataIds
-use Rattle.metadata.specs.declared.ids.dictionary.TheConstants as DictionaryIds
-use Rattle.metadata.specs.declared.ids.data_v2.TheConstants as DataV2Ids
+use Rattle.metadata.specs.Ids as ids
 use Rattle.metadata.specs.Given.{known, needed, int32, int64, boolean, text, tree, any_struct, record_by, list_by}
 use Rattle.metadata.specs.Records.{KeyValue, Statistics, ColumnMeta, ChunkMeta, GroupMeta, ColumnOrder, type_order, other_order, FileMeta, DataPageHeader, DictionaryPageHeader, DataPageHeaderV2, PageHeader}
 use Rattle.metadata.specs.FromTree.{key_value, statistics, column_meta, chunk_meta, group_meta, column_order, element, file_meta, data_page_header, dictionary_page_header, data_page_header_v2, any_page_header, has_own_header, page_header}
@@ -26,104 +15,104 @@ use Rattle.metadata.proofs.Carried.{Good, GoodFields, GoodValue, AllGood, all_go
 
 key_value_good : (fs : Fields) (x : KeyValue) (left : ℕ) → key_value fs ≡ Some x → AllGood left fs → GoodFields left (key_value_fields x)
 key_value_good fs x left e all =
-    let s0 = bind_some (needed text PairIds.KEY fs) _ x e in
-    let s1 = bind_some (known text PairIds.VALUE fs) _ x s0.2 in
+    let s0 = bind_some (needed text ids.pair_key fs) _ x e in
+    let s1 = bind_some (known text ids.pair_value fs) _ x s0.2 in
     let own : KeyValue = record { key = s0.0; value = s1.0 } in
-    let g0 = good_needed text binary text_carries left PairIds.KEY fs s0.0 all s0.1 in
-    let g1 = good_known text binary text_carries left PairIds.VALUE fs s1.0 all s1.1 in
+    let g0 = good_needed text binary text_carries left ids.pair_key fs s0.0 all s0.1 in
+    let g1 = good_known text binary text_carries left ids.pair_value fs s1.0 all s1.1 in
     subst (λ (y : KeyValue). GoodFields left (key_value_fields y)) (some_same own x s1.2) (good_table left (key_value_table own) refl refl refl (g0, (g1, tt)))
 
 statistics_good : (fs : Fields) (x : Statistics) (left : ℕ) → statistics fs ≡ Some x → AllGood left fs → GoodFields left (statistics_fields x)
 statistics_good fs x left e all =
-    let s0 = bind_some (known text StatisticsIds.MAX fs) _ x e in
-    let s1 = bind_some (known text StatisticsIds.MIN fs) _ x s0.2 in
-    let s2 = bind_some (known int64 StatisticsIds.NULL_COUNT fs) _ x s1.2 in
-    let s3 = bind_some (known int64 StatisticsIds.DISTINCT_COUNT fs) _ x s2.2 in
-    let s4 = bind_some (known text StatisticsIds.MAX_VALUE fs) _ x s3.2 in
-    let s5 = bind_some (known text StatisticsIds.MIN_VALUE fs) _ x s4.2 in
-    let s6 = bind_some (known boolean StatisticsIds.IS_MAX_VALUE_EXACT fs) _ x s5.2 in
-    let s7 = bind_some (known boolean StatisticsIds.IS_MIN_VALUE_EXACT fs) _ x s6.2 in
+    let s0 = bind_some (known text ids.statistics_max fs) _ x e in
+    let s1 = bind_some (known text ids.statistics_min fs) _ x s0.2 in
+    let s2 = bind_some (known int64 ids.statistics_null_count fs) _ x s1.2 in
+    let s3 = bind_some (known int64 ids.statistics_distinct_count fs) _ x s2.2 in
+    let s4 = bind_some (known text ids.statistics_max_value fs) _ x s3.2 in
+    let s5 = bind_some (known text ids.statistics_min_value fs) _ x s4.2 in
+    let s6 = bind_some (known boolean ids.statistics_is_max_value_exact fs) _ x s5.2 in
+    let s7 = bind_some (known boolean ids.statistics_is_min_value_exact fs) _ x s6.2 in
     let own : Statistics = record { max = s0.0; min = s1.0; null_count = s2.0; distinct_count = s3.0; max_value = s4.0; min_value = s5.0; is_max_value_exact = s6.0; is_min_value_exact = s7.0 } in
-    let g0 = good_known text binary text_carries left StatisticsIds.MAX fs s0.0 all s0.1 in
-    let g1 = good_known text binary text_carries left StatisticsIds.MIN fs s1.0 all s1.1 in
-    let g2 = good_known int64 i64 int64_carries left StatisticsIds.NULL_COUNT fs s2.0 all s2.1 in
-    let g3 = good_known int64 i64 int64_carries left StatisticsIds.DISTINCT_COUNT fs s3.0 all s3.1 in
-    let g4 = good_known text binary text_carries left StatisticsIds.MAX_VALUE fs s4.0 all s4.1 in
-    let g5 = good_known text binary text_carries left StatisticsIds.MIN_VALUE fs s5.0 all s5.1 in
-    let g6 = good_known boolean truth boolean_carries left StatisticsIds.IS_MAX_VALUE_EXACT fs s6.0 all s6.1 in
-    let g7 = good_known boolean truth boolean_carries left StatisticsIds.IS_MIN_VALUE_EXACT fs s7.0 all s7.1 in
+    let g0 = good_known text binary text_carries left ids.statistics_max fs s0.0 all s0.1 in
+    let g1 = good_known text binary text_carries left ids.statistics_min fs s1.0 all s1.1 in
+    let g2 = good_known int64 i64 int64_carries left ids.statistics_null_count fs s2.0 all s2.1 in
+    let g3 = good_known int64 i64 int64_carries left ids.statistics_distinct_count fs s3.0 all s3.1 in
+    let g4 = good_known text binary text_carries left ids.statistics_max_value fs s4.0 all s4.1 in
+    let g5 = good_known text binary text_carries left ids.statistics_min_value fs s5.0 all s5.1 in
+    let g6 = good_known boolean truth boolean_carries left ids.statistics_is_max_value_exact fs s6.0 all s6.1 in
+    let g7 = good_known boolean truth boolean_carries left ids.statistics_is_min_value_exact fs s7.0 all s7.1 in
     subst (λ (y : Statistics). GoodFields left (statistics_fields y)) (some_same own x s7.2) (good_table left (statistics_table own) refl refl refl (g0, (g1, (g2, (g3, (g4, (g5, (g6, (g7, tt)))))))))
 
 column_meta_good : (fs : Fields) (x : ColumnMeta) (left : ℕ) → column_meta fs ≡ Some x → AllGood left fs → GoodFields left (column_meta_fields x)
 column_meta_good fs x left e all =
-    let s0 = bind_some (needed int32 ColumnIds.KIND fs) _ x e in
-    let s1 = bind_some (known (list_by int32) ColumnIds.ENCODINGS fs) _ x s0.2 in
-    let s2 = bind_some (needed (list_by text) ColumnIds.PATH_IN_SCHEMA fs) _ x s1.2 in
-    let s3 = bind_some (needed int32 ColumnIds.CODEC fs) _ x s2.2 in
-    let s4 = bind_some (needed int64 ColumnIds.NUM_VALUES fs) _ x s3.2 in
-    let s5 = bind_some (known int64 ColumnIds.TOTAL_UNCOMPRESSED_SIZE fs) _ x s4.2 in
-    let s6 = bind_some (known int64 ColumnIds.TOTAL_COMPRESSED_SIZE fs) _ x s5.2 in
-    let s7 = bind_some (needed int64 ColumnIds.DATA_PAGE_OFFSET fs) _ x s6.2 in
-    let s8 = bind_some (known int64 ColumnIds.DICTIONARY_PAGE_OFFSET fs) _ x s7.2 in
-    let s9 = bind_some (known (record_by statistics) ColumnIds.STATISTICS fs) _ x s8.2 in
+    let s0 = bind_some (needed int32 ids.column_kind fs) _ x e in
+    let s1 = bind_some (known (list_by int32) ids.column_encodings fs) _ x s0.2 in
+    let s2 = bind_some (needed (list_by text) ids.column_path_in_schema fs) _ x s1.2 in
+    let s3 = bind_some (needed int32 ids.column_codec fs) _ x s2.2 in
+    let s4 = bind_some (needed int64 ids.column_num_values fs) _ x s3.2 in
+    let s5 = bind_some (known int64 ids.column_total_uncompressed_size fs) _ x s4.2 in
+    let s6 = bind_some (known int64 ids.column_total_compressed_size fs) _ x s5.2 in
+    let s7 = bind_some (needed int64 ids.column_data_page_offset fs) _ x s6.2 in
+    let s8 = bind_some (known int64 ids.column_dictionary_page_offset fs) _ x s7.2 in
+    let s9 = bind_some (known (record_by statistics) ids.column_statistics fs) _ x s8.2 in
     let own : ColumnMeta = record { kind = s0.0; encodings = s1.0; path_in_schema = s2.0; codec = s3.0; num_values = s4.0; total_uncompressed_size = s5.0; total_compressed_size = s6.0; data_page_offset = s7.0; dictionary_page_offset = s8.0; statistics = s9.0 } in
-    let g0 = good_needed int32 i32 int32_carries left ColumnIds.KIND fs s0.0 all s0.1 in
-    let g1 = good_known (list_by int32) (many INT32 i32) (list_carries int32 i32 INT32 (omega arith) int32_carries (λ _. refl)) left ColumnIds.ENCODINGS fs s1.0 all s1.1 in
-    let g2 = good_needed (list_by text) (many BINARY binary) (list_carries text binary BINARY (omega arith) text_carries (λ _. refl)) left ColumnIds.PATH_IN_SCHEMA fs s2.0 all s2.1 in
-    let g3 = good_needed int32 i32 int32_carries left ColumnIds.CODEC fs s3.0 all s3.1 in
-    let g4 = good_needed int64 i64 int64_carries left ColumnIds.NUM_VALUES fs s4.0 all s4.1 in
-    let g5 = good_known int64 i64 int64_carries left ColumnIds.TOTAL_UNCOMPRESSED_SIZE fs s5.0 all s5.1 in
-    let g6 = good_known int64 i64 int64_carries left ColumnIds.TOTAL_COMPRESSED_SIZE fs s6.0 all s6.1 in
-    let g7 = good_needed int64 i64 int64_carries left ColumnIds.DATA_PAGE_OFFSET fs s7.0 all s7.1 in
-    let g8 = good_known int64 i64 int64_carries left ColumnIds.DICTIONARY_PAGE_OFFSET fs s8.0 all s8.1 in
-    let g9 = good_known (record_by statistics) (record_as statistics_fields) (record_carries statistics statistics_fields statistics_good) left ColumnIds.STATISTICS fs s9.0 all s9.1 in
+    let g0 = good_needed int32 i32 int32_carries left ids.column_kind fs s0.0 all s0.1 in
+    let g1 = good_known (list_by int32) (many INT32 i32) (list_carries int32 i32 INT32 (omega arith) int32_carries (λ _. refl)) left ids.column_encodings fs s1.0 all s1.1 in
+    let g2 = good_needed (list_by text) (many BINARY binary) (list_carries text binary BINARY (omega arith) text_carries (λ _. refl)) left ids.column_path_in_schema fs s2.0 all s2.1 in
+    let g3 = good_needed int32 i32 int32_carries left ids.column_codec fs s3.0 all s3.1 in
+    let g4 = good_needed int64 i64 int64_carries left ids.column_num_values fs s4.0 all s4.1 in
+    let g5 = good_known int64 i64 int64_carries left ids.column_total_uncompressed_size fs s5.0 all s5.1 in
+    let g6 = good_known int64 i64 int64_carries left ids.column_total_compressed_size fs s6.0 all s6.1 in
+    let g7 = good_needed int64 i64 int64_carries left ids.column_data_page_offset fs s7.0 all s7.1 in
+    let g8 = good_known int64 i64 int64_carries left ids.column_dictionary_page_offset fs s8.0 all s8.1 in
+    let g9 = good_known (record_by statistics) (record_as statistics_fields) (record_carries statistics statistics_fields statistics_good) left ids.column_statistics fs s9.0 all s9.1 in
     subst (λ (y : ColumnMeta). GoodFields left (column_meta_fields y)) (some_same own x s9.2) (good_table left (column_meta_table own) refl refl refl (g0, (g1, (g2, (g3, (g4, (g5, (g6, (g7, (g8, (g9, tt)))))))))))
 
 chunk_meta_good : (fs : Fields) (x : ChunkMeta) (left : ℕ) → chunk_meta fs ≡ Some x → AllGood left fs → GoodFields left (chunk_meta_fields x)
 chunk_meta_good fs x left e all =
-    let s0 = bind_some (known text ChunkIds.FILE_PATH fs) _ x e in
-    let s1 = bind_some (known int64 ChunkIds.FILE_OFFSET fs) _ x s0.2 in
-    let s2 = bind_some (needed (record_by column_meta) ChunkIds.META_DATA fs) _ x s1.2 in
+    let s0 = bind_some (known text ids.chunk_file_path fs) _ x e in
+    let s1 = bind_some (known int64 ids.chunk_file_offset fs) _ x s0.2 in
+    let s2 = bind_some (needed (record_by column_meta) ids.chunk_meta_data fs) _ x s1.2 in
     let own : ChunkMeta = record { file_path = s0.0; file_offset = s1.0; meta_data = s2.0 } in
-    let g0 = good_known text binary text_carries left ChunkIds.FILE_PATH fs s0.0 all s0.1 in
-    let g1 = good_known int64 i64 int64_carries left ChunkIds.FILE_OFFSET fs s1.0 all s1.1 in
-    let g2 = good_needed (record_by column_meta) (record_as column_meta_fields) (record_carries column_meta column_meta_fields column_meta_good) left ChunkIds.META_DATA fs s2.0 all s2.1 in
+    let g0 = good_known text binary text_carries left ids.chunk_file_path fs s0.0 all s0.1 in
+    let g1 = good_known int64 i64 int64_carries left ids.chunk_file_offset fs s1.0 all s1.1 in
+    let g2 = good_needed (record_by column_meta) (record_as column_meta_fields) (record_carries column_meta column_meta_fields column_meta_good) left ids.chunk_meta_data fs s2.0 all s2.1 in
     subst (λ (y : ChunkMeta). GoodFields left (chunk_meta_fields y)) (some_same own x s2.2) (good_table left (chunk_meta_table own) refl refl refl (g0, (g1, (g2, tt))))
 
 group_meta_good : (fs : Fields) (x : GroupMeta) (left : ℕ) → group_meta fs ≡ Some x → AllGood left fs → GoodFields left (group_meta_fields x)
 group_meta_good fs x left e all =
-    let s0 = bind_some (needed (list_by (record_by chunk_meta)) GroupIds.COLUMNS fs) _ x e in
-    let s1 = bind_some (known int64 GroupIds.TOTAL_BYTE_SIZE fs) _ x s0.2 in
-    let s2 = bind_some (needed int64 GroupIds.NUM_ROWS fs) _ x s1.2 in
+    let s0 = bind_some (needed (list_by (record_by chunk_meta)) ids.group_columns fs) _ x e in
+    let s1 = bind_some (known int64 ids.group_total_byte_size fs) _ x s0.2 in
+    let s2 = bind_some (needed int64 ids.group_num_rows fs) _ x s1.2 in
     let own : GroupMeta = record { columns = s0.0; total_byte_size = s1.0; num_rows = s2.0 } in
-    let g0 = good_needed (list_by (record_by chunk_meta)) (many STRUCT (record_as chunk_meta_fields)) (list_carries (record_by chunk_meta) (record_as chunk_meta_fields) STRUCT (omega arith) (record_carries chunk_meta chunk_meta_fields chunk_meta_good) (λ _. refl)) left GroupIds.COLUMNS fs s0.0 all s0.1 in
-    let g1 = good_known int64 i64 int64_carries left GroupIds.TOTAL_BYTE_SIZE fs s1.0 all s1.1 in
-    let g2 = good_needed int64 i64 int64_carries left GroupIds.NUM_ROWS fs s2.0 all s2.1 in
+    let g0 = good_needed (list_by (record_by chunk_meta)) (many STRUCT (record_as chunk_meta_fields)) (list_carries (record_by chunk_meta) (record_as chunk_meta_fields) STRUCT (omega arith) (record_carries chunk_meta chunk_meta_fields chunk_meta_good) (λ _. refl)) left ids.group_columns fs s0.0 all s0.1 in
+    let g1 = good_known int64 i64 int64_carries left ids.group_total_byte_size fs s1.0 all s1.1 in
+    let g2 = good_needed int64 i64 int64_carries left ids.group_num_rows fs s2.0 all s2.1 in
     subst (λ (y : GroupMeta). GoodFields left (group_meta_fields y)) (some_same own x s2.2) (good_table left (group_meta_table own) refl refl refl (g0, (g1, (g2, tt))))
 
 element_good : (fs : Fields) (x : Element) (left : ℕ) → element fs ≡ Some x → AllGood left fs → GoodFields left (element_fields x)
 element_good fs x left e all =
-    let s0 = bind_some (known int32 ElementIds.KIND fs) _ x e in
-    let s1 = bind_some (known int32 ElementIds.TYPE_LENGTH fs) _ x s0.2 in
-    let s2 = bind_some (known int32 ElementIds.REPETITION_TYPE fs) _ x s1.2 in
-    let s3 = bind_some (needed text ElementIds.NAME fs) _ x s2.2 in
-    let s4 = bind_some (known int32 ElementIds.NUM_CHILDREN fs) _ x s3.2 in
-    let s5 = bind_some (known int32 ElementIds.CONVERTED_TYPE fs) _ x s4.2 in
-    let s6 = bind_some (known int32 ElementIds.SCALE fs) _ x s5.2 in
-    let s7 = bind_some (known int32 ElementIds.PRECISION fs) _ x s6.2 in
-    let s8 = bind_some (known int32 ElementIds.FIELD_ID fs) _ x s7.2 in
-    let s9 = bind_some (known tree ElementIds.LOGICAL_TYPE fs) _ x s8.2 in
+    let s0 = bind_some (known int32 ids.element_kind fs) _ x e in
+    let s1 = bind_some (known int32 ids.element_type_length fs) _ x s0.2 in
+    let s2 = bind_some (known int32 ids.element_repetition_type fs) _ x s1.2 in
+    let s3 = bind_some (needed text ids.element_name fs) _ x s2.2 in
+    let s4 = bind_some (known int32 ids.element_num_children fs) _ x s3.2 in
+    let s5 = bind_some (known int32 ids.element_converted_type fs) _ x s4.2 in
+    let s6 = bind_some (known int32 ids.element_scale fs) _ x s5.2 in
+    let s7 = bind_some (known int32 ids.element_precision fs) _ x s6.2 in
+    let s8 = bind_some (known int32 ids.element_field_id fs) _ x s7.2 in
+    let s9 = bind_some (known tree ids.element_logical_type fs) _ x s8.2 in
     let own : Element = record { kind = s0.0; type_length = s1.0; repetition_type = s2.0; name = s3.0; num_children = s4.0; converted_type = s5.0; scale = s6.0; precision = s7.0; field_id = s8.0; logical_type = s9.0 } in
-    let g0 = good_known int32 i32 int32_carries left ElementIds.KIND fs s0.0 all s0.1 in
-    let g1 = good_known int32 i32 int32_carries left ElementIds.TYPE_LENGTH fs s1.0 all s1.1 in
-    let g2 = good_known int32 i32 int32_carries left ElementIds.REPETITION_TYPE fs s2.0 all s2.1 in
-    let g3 = good_needed text binary text_carries left ElementIds.NAME fs s3.0 all s3.1 in
-    let g4 = good_known int32 i32 int32_carries left ElementIds.NUM_CHILDREN fs s4.0 all s4.1 in
-    let g5 = good_known int32 i32 int32_carries left ElementIds.CONVERTED_TYPE fs s5.0 all s5.1 in
-    let g6 = good_known int32 i32 int32_carries left ElementIds.SCALE fs s6.0 all s6.1 in
-    let g7 = good_known int32 i32 int32_carries left ElementIds.PRECISION fs s7.0 all s7.1 in
-    let g8 = good_known int32 i32 int32_carries left ElementIds.FIELD_ID fs s8.0 all s8.1 in
-    let g9 = good_known tree struct tree_carries left ElementIds.LOGICAL_TYPE fs s9.0 all s9.1 in
+    let g0 = good_known int32 i32 int32_carries left ids.element_kind fs s0.0 all s0.1 in
+    let g1 = good_known int32 i32 int32_carries left ids.element_type_length fs s1.0 all s1.1 in
+    let g2 = good_known int32 i32 int32_carries left ids.element_repetition_type fs s2.0 all s2.1 in
+    let g3 = good_needed text binary text_carries left ids.element_name fs s3.0 all s3.1 in
+    let g4 = good_known int32 i32 int32_carries left ids.element_num_children fs s4.0 all s4.1 in
+    let g5 = good_known int32 i32 int32_carries left ids.element_converted_type fs s5.0 all s5.1 in
+    let g6 = good_known int32 i32 int32_carries left ids.element_scale fs s6.0 all s6.1 in
+    let g7 = good_known int32 i32 int32_carries left ids.element_precision fs s7.0 all s7.1 in
+    let g8 = good_known int32 i32 int32_carries left ids.element_field_id fs s8.0 all s8.1 in
+    let g9 = good_known tree struct tree_carries left ids.element_logical_type fs s9.0 all s9.1 in
     subst (λ (y : Element). GoodFields left (element_fields y)) (some_same own x s9.2) (good_table left (element_table own) refl refl refl (g0, (g1, (g2, (g3, (g4, (g5, (g6, (g7, (g8, (g9, tt)))))))))))
 
 good_empty : (x : Node) (v : Unit {0}) (left : ℕ) → any_struct x ≡ Some v → Good left x → Good left (struct no_fields)
@@ -134,98 +123,98 @@ empty_carries : Carries any_struct (λ _. struct no_fields)
 empty_carries = record { some = λ _. omega arith; few = λ _. omega arith; good = good_empty }
 
 good_order : (found : Option (Unit {0})) (left : ℕ) → GoodValue left (option_map (λ _. struct no_fields) found) → GoodFields left (column_order_fields (if is_some found then type_order else other_order))
-good_order (Some x) left good = good_table left ((OrderIds.TYPE_ORDER, Some (struct no_fields)) ∷ []) refl refl refl (good, tt)
+good_order (Some x) left good = good_table left ((ids.order_type_order, Some (struct no_fields)) ∷ []) refl refl refl (good, tt)
 good_order None left good = record { shallow = omega arith; text = byte_text 0 }
 
 column_order_good : (fs : Fields) (x : ColumnOrder) (left : ℕ) → column_order fs ≡ Some x → AllGood left fs → GoodFields left (column_order_fields x)
 column_order_good fs x left e all =
-    let found = bind_some (known any_struct OrderIds.TYPE_ORDER fs) (λ o. Some (if is_some o then type_order else other_order)) x e in
-    let good = good_known any_struct (λ _. struct no_fields) empty_carries left OrderIds.TYPE_ORDER fs found.0 all found.1 in
+    let found = bind_some (known any_struct ids.order_type_order fs) (λ o. Some (if is_some o then type_order else other_order)) x e in
+    let good = good_known any_struct (λ _. struct no_fields) empty_carries left ids.order_type_order fs found.0 all found.1 in
     subst (λ (o : ColumnOrder). GoodFields left (column_order_fields o)) (some_same (if is_some found.0 then type_order else other_order) x found.2) (good_order found.0 left good)
 
 pub file_meta_good : (fs : Fields) (x : FileMeta) (left : ℕ) → file_meta fs ≡ Some x → AllGood left fs → GoodFields left (file_meta_fields x)
 file_meta_good fs x left e all =
-    let s0 = bind_some (known int32 FileIds.VERSION fs) _ x e in
-    let s1 = bind_some (needed (list_by (record_by element)) FileIds.SCHEMA fs) _ x s0.2 in
-    let s2 = bind_some (known int64 FileIds.NUM_ROWS fs) _ x s1.2 in
-    let s3 = bind_some (needed (list_by (record_by group_meta)) FileIds.ROW_GROUPS fs) _ x s2.2 in
-    let s4 = bind_some (known (list_by (record_by key_value)) FileIds.KEY_VALUE_METADATA fs) _ x s3.2 in
-    let s5 = bind_some (known text FileIds.CREATED_BY fs) _ x s4.2 in
-    let s6 = bind_some (known (list_by (record_by column_order)) FileIds.COLUMN_ORDERS fs) _ x s5.2 in
+    let s0 = bind_some (known int32 ids.file_version fs) _ x e in
+    let s1 = bind_some (needed (list_by (record_by element)) ids.file_schema fs) _ x s0.2 in
+    let s2 = bind_some (known int64 ids.file_num_rows fs) _ x s1.2 in
+    let s3 = bind_some (needed (list_by (record_by group_meta)) ids.file_row_groups fs) _ x s2.2 in
+    let s4 = bind_some (known (list_by (record_by key_value)) ids.file_key_value_metadata fs) _ x s3.2 in
+    let s5 = bind_some (known text ids.file_created_by fs) _ x s4.2 in
+    let s6 = bind_some (known (list_by (record_by column_order)) ids.file_column_orders fs) _ x s5.2 in
     let own : FileMeta = record { version = s0.0; schema = s1.0; num_rows = s2.0; row_groups = s3.0; key_value_metadata = s4.0; created_by = s5.0; column_orders = s6.0 } in
-    let g0 = good_known int32 i32 int32_carries left FileIds.VERSION fs s0.0 all s0.1 in
-    let g1 = good_needed (list_by (record_by element)) (many STRUCT (record_as element_fields)) (list_carries (record_by element) (record_as element_fields) STRUCT (omega arith) (record_carries element element_fields element_good) (λ _. refl)) left FileIds.SCHEMA fs s1.0 all s1.1 in
-    let g2 = good_known int64 i64 int64_carries left FileIds.NUM_ROWS fs s2.0 all s2.1 in
-    let g3 = good_needed (list_by (record_by group_meta)) (many STRUCT (record_as group_meta_fields)) (list_carries (record_by group_meta) (record_as group_meta_fields) STRUCT (omega arith) (record_carries group_meta group_meta_fields group_meta_good) (λ _. refl)) left FileIds.ROW_GROUPS fs s3.0 all s3.1 in
-    let g4 = good_known (list_by (record_by key_value)) (many STRUCT (record_as key_value_fields)) (list_carries (record_by key_value) (record_as key_value_fields) STRUCT (omega arith) (record_carries key_value key_value_fields key_value_good) (λ _. refl)) left FileIds.KEY_VALUE_METADATA fs s4.0 all s4.1 in
-    let g5 = good_known text binary text_carries left FileIds.CREATED_BY fs s5.0 all s5.1 in
-    let g6 = good_known (list_by (record_by column_order)) (many STRUCT (record_as column_order_fields)) (list_carries (record_by column_order) (record_as column_order_fields) STRUCT (omega arith) (record_carries column_order column_order_fields column_order_good) (λ _. refl)) left FileIds.COLUMN_ORDERS fs s6.0 all s6.1 in
+    let g0 = good_known int32 i32 int32_carries left ids.file_version fs s0.0 all s0.1 in
+    let g1 = good_needed (list_by (record_by element)) (many STRUCT (record_as element_fields)) (list_carries (record_by element) (record_as element_fields) STRUCT (omega arith) (record_carries element element_fields element_good) (λ _. refl)) left ids.file_schema fs s1.0 all s1.1 in
+    let g2 = good_known int64 i64 int64_carries left ids.file_num_rows fs s2.0 all s2.1 in
+    let g3 = good_needed (list_by (record_by group_meta)) (many STRUCT (record_as group_meta_fields)) (list_carries (record_by group_meta) (record_as group_meta_fields) STRUCT (omega arith) (record_carries group_meta group_meta_fields group_meta_good) (λ _. refl)) left ids.file_row_groups fs s3.0 all s3.1 in
+    let g4 = good_known (list_by (record_by key_value)) (many STRUCT (record_as key_value_fields)) (list_carries (record_by key_value) (record_as key_value_fields) STRUCT (omega arith) (record_carries key_value key_value_fields key_value_good) (λ _. refl)) left ids.file_key_value_metadata fs s4.0 all s4.1 in
+    let g5 = good_known text binary text_carries left ids.file_created_by fs s5.0 all s5.1 in
+    let g6 = good_known (list_by (record_by column_order)) (many STRUCT (record_as column_order_fields)) (list_carries (record_by column_order) (record_as column_order_fields) STRUCT (omega arith) (record_carries column_order column_order_fields column_order_good) (λ _. refl)) left ids.file_column_orders fs s6.0 all s6.1 in
     subst (λ (y : FileMeta). GoodFields left (file_meta_fields y)) (some_same own x s6.2) (good_table left (file_meta_table own) refl refl refl (g0, (g1, (g2, (g3, (g4, (g5, (g6, tt))))))))
 
 data_page_header_good : (fs : Fields) (x : DataPageHeader) (left : ℕ) → data_page_header fs ≡ Some x → AllGood left fs → GoodFields left (data_page_header_fields x)
 data_page_header_good fs x left e all =
-    let s0 = bind_some (needed int32 DataIds.NUM_VALUES fs) _ x e in
-    let s1 = bind_some (needed int32 DataIds.ENCODING fs) _ x s0.2 in
-    let s2 = bind_some (known int32 DataIds.DEFINITION_LEVEL_ENCODING fs) _ x s1.2 in
-    let s3 = bind_some (known int32 DataIds.REPETITION_LEVEL_ENCODING fs) _ x s2.2 in
-    let s4 = bind_some (known (record_by statistics) DataIds.STATISTICS fs) _ x s3.2 in
+    let s0 = bind_some (needed int32 ids.data_num_values fs) _ x e in
+    let s1 = bind_some (needed int32 ids.data_encoding fs) _ x s0.2 in
+    let s2 = bind_some (known int32 ids.data_definition_level_encoding fs) _ x s1.2 in
+    let s3 = bind_some (known int32 ids.data_repetition_level_encoding fs) _ x s2.2 in
+    let s4 = bind_some (known (record_by statistics) ids.data_statistics fs) _ x s3.2 in
     let own : DataPageHeader = record { num_values = s0.0; encoding = s1.0; definition_level_encoding = s2.0; repetition_level_encoding = s3.0; statistics = s4.0 } in
-    let g0 = good_needed int32 i32 int32_carries left DataIds.NUM_VALUES fs s0.0 all s0.1 in
-    let g1 = good_needed int32 i32 int32_carries left DataIds.ENCODING fs s1.0 all s1.1 in
-    let g2 = good_known int32 i32 int32_carries left DataIds.DEFINITION_LEVEL_ENCODING fs s2.0 all s2.1 in
-    let g3 = good_known int32 i32 int32_carries left DataIds.REPETITION_LEVEL_ENCODING fs s3.0 all s3.1 in
-    let g4 = good_known (record_by statistics) (record_as statistics_fields) (record_carries statistics statistics_fields statistics_good) left DataIds.STATISTICS fs s4.0 all s4.1 in
+    let g0 = good_needed int32 i32 int32_carries left ids.data_num_values fs s0.0 all s0.1 in
+    let g1 = good_needed int32 i32 int32_carries left ids.data_encoding fs s1.0 all s1.1 in
+    let g2 = good_known int32 i32 int32_carries left ids.data_definition_level_encoding fs s2.0 all s2.1 in
+    let g3 = good_known int32 i32 int32_carries left ids.data_repetition_level_encoding fs s3.0 all s3.1 in
+    let g4 = good_known (record_by statistics) (record_as statistics_fields) (record_carries statistics statistics_fields statistics_good) left ids.data_statistics fs s4.0 all s4.1 in
     subst (λ (y : DataPageHeader). GoodFields left (data_page_header_fields y)) (some_same own x s4.2) (good_table left (data_page_header_table own) refl refl refl (g0, (g1, (g2, (g3, (g4, tt))))))
 
 dictionary_page_header_good : (fs : Fields) (x : DictionaryPageHeader) (left : ℕ) → dictionary_page_header fs ≡ Some x → AllGood left fs → GoodFields left (dictionary_page_header_fields x)
 dictionary_page_header_good fs x left e all =
-    let s0 = bind_some (needed int32 DictionaryIds.NUM_VALUES fs) _ x e in
-    let s1 = bind_some (needed int32 DictionaryIds.ENCODING fs) _ x s0.2 in
-    let s2 = bind_some (known boolean DictionaryIds.IS_SORTED fs) _ x s1.2 in
+    let s0 = bind_some (needed int32 ids.dictionary_num_values fs) _ x e in
+    let s1 = bind_some (needed int32 ids.dictionary_encoding fs) _ x s0.2 in
+    let s2 = bind_some (known boolean ids.dictionary_is_sorted fs) _ x s1.2 in
     let own : DictionaryPageHeader = record { num_values = s0.0; encoding = s1.0; is_sorted = s2.0 } in
-    let g0 = good_needed int32 i32 int32_carries left DictionaryIds.NUM_VALUES fs s0.0 all s0.1 in
-    let g1 = good_needed int32 i32 int32_carries left DictionaryIds.ENCODING fs s1.0 all s1.1 in
-    let g2 = good_known boolean truth boolean_carries left DictionaryIds.IS_SORTED fs s2.0 all s2.1 in
+    let g0 = good_needed int32 i32 int32_carries left ids.dictionary_num_values fs s0.0 all s0.1 in
+    let g1 = good_needed int32 i32 int32_carries left ids.dictionary_encoding fs s1.0 all s1.1 in
+    let g2 = good_known boolean truth boolean_carries left ids.dictionary_is_sorted fs s2.0 all s2.1 in
     subst (λ (y : DictionaryPageHeader). GoodFields left (dictionary_page_header_fields y)) (some_same own x s2.2) (good_table left (dictionary_page_header_table own) refl refl refl (g0, (g1, (g2, tt))))
 
 data_page_header_v2_good : (fs : Fields) (x : DataPageHeaderV2) (left : ℕ) → data_page_header_v2 fs ≡ Some x → AllGood left fs → GoodFields left (data_page_header_v2_fields x)
 data_page_header_v2_good fs x left e all =
-    let s0 = bind_some (needed int32 DataV2Ids.NUM_VALUES fs) _ x e in
-    let s1 = bind_some (known int32 DataV2Ids.NUM_NULLS fs) _ x s0.2 in
-    let s2 = bind_some (known int32 DataV2Ids.NUM_ROWS fs) _ x s1.2 in
-    let s3 = bind_some (needed int32 DataV2Ids.ENCODING fs) _ x s2.2 in
-    let s4 = bind_some (needed int32 DataV2Ids.DEFINITION_LEVELS_BYTE_LENGTH fs) _ x s3.2 in
-    let s5 = bind_some (needed int32 DataV2Ids.REPETITION_LEVELS_BYTE_LENGTH fs) _ x s4.2 in
-    let s6 = bind_some (known boolean DataV2Ids.IS_COMPRESSED fs) _ x s5.2 in
-    let s7 = bind_some (known (record_by statistics) DataV2Ids.STATISTICS fs) _ x s6.2 in
+    let s0 = bind_some (needed int32 ids.data_v2_num_values fs) _ x e in
+    let s1 = bind_some (known int32 ids.data_v2_num_nulls fs) _ x s0.2 in
+    let s2 = bind_some (known int32 ids.data_v2_num_rows fs) _ x s1.2 in
+    let s3 = bind_some (needed int32 ids.data_v2_encoding fs) _ x s2.2 in
+    let s4 = bind_some (needed int32 ids.data_v2_definition_levels_byte_length fs) _ x s3.2 in
+    let s5 = bind_some (needed int32 ids.data_v2_repetition_levels_byte_length fs) _ x s4.2 in
+    let s6 = bind_some (known boolean ids.data_v2_is_compressed fs) _ x s5.2 in
+    let s7 = bind_some (known (record_by statistics) ids.data_v2_statistics fs) _ x s6.2 in
     let own : DataPageHeaderV2 = record { num_values = s0.0; num_nulls = s1.0; num_rows = s2.0; encoding = s3.0; definition_levels_byte_length = s4.0; repetition_levels_byte_length = s5.0; is_compressed = s6.0; statistics = s7.0 } in
-    let g0 = good_needed int32 i32 int32_carries left DataV2Ids.NUM_VALUES fs s0.0 all s0.1 in
-    let g1 = good_known int32 i32 int32_carries left DataV2Ids.NUM_NULLS fs s1.0 all s1.1 in
-    let g2 = good_known int32 i32 int32_carries left DataV2Ids.NUM_ROWS fs s2.0 all s2.1 in
-    let g3 = good_needed int32 i32 int32_carries left DataV2Ids.ENCODING fs s3.0 all s3.1 in
-    let g4 = good_needed int32 i32 int32_carries left DataV2Ids.DEFINITION_LEVELS_BYTE_LENGTH fs s4.0 all s4.1 in
-    let g5 = good_needed int32 i32 int32_carries left DataV2Ids.REPETITION_LEVELS_BYTE_LENGTH fs s5.0 all s5.1 in
-    let g6 = good_known boolean truth boolean_carries left DataV2Ids.IS_COMPRESSED fs s6.0 all s6.1 in
-    let g7 = good_known (record_by statistics) (record_as statistics_fields) (record_carries statistics statistics_fields statistics_good) left DataV2Ids.STATISTICS fs s7.0 all s7.1 in
+    let g0 = good_needed int32 i32 int32_carries left ids.data_v2_num_values fs s0.0 all s0.1 in
+    let g1 = good_known int32 i32 int32_carries left ids.data_v2_num_nulls fs s1.0 all s1.1 in
+    let g2 = good_known int32 i32 int32_carries left ids.data_v2_num_rows fs s2.0 all s2.1 in
+    let g3 = good_needed int32 i32 int32_carries left ids.data_v2_encoding fs s3.0 all s3.1 in
+    let g4 = good_needed int32 i32 int32_carries left ids.data_v2_definition_levels_byte_length fs s4.0 all s4.1 in
+    let g5 = good_needed int32 i32 int32_carries left ids.data_v2_repetition_levels_byte_length fs s5.0 all s5.1 in
+    let g6 = good_known boolean truth boolean_carries left ids.data_v2_is_compressed fs s6.0 all s6.1 in
+    let g7 = good_known (record_by statistics) (record_as statistics_fields) (record_carries statistics statistics_fields statistics_good) left ids.data_v2_statistics fs s7.0 all s7.1 in
     subst (λ (y : DataPageHeaderV2). GoodFields left (data_page_header_v2_fields y)) (some_same own x s7.2) (good_table left (data_page_header_v2_table own) refl refl refl (g0, (g1, (g2, (g3, (g4, (g5, (g6, (g7, tt)))))))))
 
 pub page_header_good : (fs : Fields) (x : PageHeader) (left : ℕ) → any_page_header fs ≡ Some x → AllGood left fs → GoodFields left (page_header_fields x)
 page_header_good fs x left e all =
-    let s0 = bind_some (needed int32 PageIds.KIND fs) _ x e in
-    let s1 = bind_some (known int32 PageIds.UNCOMPRESSED_PAGE_SIZE fs) _ x s0.2 in
-    let s2 = bind_some (needed int32 PageIds.COMPRESSED_PAGE_SIZE fs) _ x s1.2 in
-    let s3 = bind_some (known int32 PageIds.CRC fs) _ x s2.2 in
-    let s4 = bind_some (known (record_by data_page_header) PageIds.DATA_PAGE_HEADER fs) _ x s3.2 in
-    let s5 = bind_some (known (record_by dictionary_page_header) PageIds.DICTIONARY_PAGE_HEADER fs) _ x s4.2 in
-    let s6 = bind_some (known (record_by data_page_header_v2) PageIds.DATA_PAGE_HEADER_V2 fs) _ x s5.2 in
+    let s0 = bind_some (needed int32 ids.page_kind fs) _ x e in
+    let s1 = bind_some (known int32 ids.page_uncompressed_page_size fs) _ x s0.2 in
+    let s2 = bind_some (needed int32 ids.page_compressed_page_size fs) _ x s1.2 in
+    let s3 = bind_some (known int32 ids.page_crc fs) _ x s2.2 in
+    let s4 = bind_some (known (record_by data_page_header) ids.page_data_page_header fs) _ x s3.2 in
+    let s5 = bind_some (known (record_by dictionary_page_header) ids.page_dictionary_page_header fs) _ x s4.2 in
+    let s6 = bind_some (known (record_by data_page_header_v2) ids.page_data_page_header_v2 fs) _ x s5.2 in
     let own : PageHeader = record { kind = s0.0; uncompressed_page_size = s1.0; compressed_page_size = s2.0; crc = s3.0; data_page_header = s4.0; dictionary_page_header = s5.0; data_page_header_v2 = s6.0 } in
-    let g0 = good_needed int32 i32 int32_carries left PageIds.KIND fs s0.0 all s0.1 in
-    let g1 = good_known int32 i32 int32_carries left PageIds.UNCOMPRESSED_PAGE_SIZE fs s1.0 all s1.1 in
-    let g2 = good_needed int32 i32 int32_carries left PageIds.COMPRESSED_PAGE_SIZE fs s2.0 all s2.1 in
-    let g3 = good_known int32 i32 int32_carries left PageIds.CRC fs s3.0 all s3.1 in
-    let g4 = good_known (record_by data_page_header) (record_as data_page_header_fields) (record_carries data_page_header data_page_header_fields data_page_header_good) left PageIds.DATA_PAGE_HEADER fs s4.0 all s4.1 in
-    let g5 = good_known (record_by dictionary_page_header) (record_as dictionary_page_header_fields) (record_carries dictionary_page_header dictionary_page_header_fields dictionary_page_header_good) left PageIds.DICTIONARY_PAGE_HEADER fs s5.0 all s5.1 in
-    let g6 = good_known (record_by data_page_header_v2) (record_as data_page_header_v2_fields) (record_carries data_page_header_v2 data_page_header_v2_fields data_page_header_v2_good) left PageIds.DATA_PAGE_HEADER_V2 fs s6.0 all s6.1 in
+    let g0 = good_needed int32 i32 int32_carries left ids.page_kind fs s0.0 all s0.1 in
+    let g1 = good_known int32 i32 int32_carries left ids.page_uncompressed_page_size fs s1.0 all s1.1 in
+    let g2 = good_needed int32 i32 int32_carries left ids.page_compressed_page_size fs s2.0 all s2.1 in
+    let g3 = good_known int32 i32 int32_carries left ids.page_crc fs s3.0 all s3.1 in
+    let g4 = good_known (record_by data_page_header) (record_as data_page_header_fields) (record_carries data_page_header data_page_header_fields data_page_header_good) left ids.page_data_page_header fs s4.0 all s4.1 in
+    let g5 = good_known (record_by dictionary_page_header) (record_as dictionary_page_header_fields) (record_carries dictionary_page_header dictionary_page_header_fields dictionary_page_header_good) left ids.page_dictionary_page_header fs s5.0 all s5.1 in
+    let g6 = good_known (record_by data_page_header_v2) (record_as data_page_header_v2_fields) (record_carries data_page_header_v2 data_page_header_v2_fields data_page_header_v2_good) left ids.page_data_page_header_v2 fs s6.0 all s6.1 in
     subst (λ (y : PageHeader). GoodFields left (page_header_fields y)) (some_same own x s6.2) (good_table left (page_header_table own) refl refl refl (g0, (g1, (g2, (g3, (g4, (g5, (g6, tt))))))))
 
 -- where bytes are this record, its own struct has bytes

@@ -1,4 +1,5 @@
 pub mod Given
+pub mod Ids
 pub mod Records
 pub mod FromTree
 pub mod ToTree

@@ -3,18 +3,7 @@ use Rattle.std.specs.Prelude.{ℕ, ℤ, Bool, List, [], ◌∷◌, ◌++◌, map
 use Rattle.thrift_compact.specs.Tree.{Node, yes, no, i32, i64, binary, list, struct, Fields, no_fields}
 use Rattle.thrift_compact.specs.View.{nodes_of, fields_of}
 use Rattle.schema.specs.Elements.{Element}
-use Rattle.metadata.specs.declared.ids.file.TheConstants as FileIds
-use Rattle.metadata.specs.declared.ids.pair.TheConstants as PairIds
-use Rattle.metadata.specs.declared.ids.group.TheConstants as GroupIds
-use Rattle.metadata.specs.declared.ids.chunk.TheConstants as ChunkIds
-use Rattle.metadata.specs.declared.ids.column.TheConstants as ColumnIds
-use Rattle.metadata.specs.declared.ids.element.TheConstants as ElementIds
-use Rattle.metadata.specs.declared.ids.statistics.TheConstants as StatisticsIds
-use Rattle.metadata.specs.declared.ids.order.TheConstants as OrderIds
-use Rattle.metadata.specs.declared.ids.page.TheConstants as PageIds
-use Rattle.metadata.specs.declared.ids.data.TheConstants as DataIds
-use Rattle.metadata.specs.declared.ids.dictionary.TheConstants as DictionaryIds
-use Rattle.metadata.specs.declared.ids.data_v2.TheConstants as DataV2Ids
+use Rattle.metadata.specs.Ids as ids
 use Rattle.metadata.specs.Records.{KeyValue, Statistics, ColumnMeta, ChunkMeta, GroupMeta, ColumnOrder, type_order, other_order, FileMeta, DataPageHeader, DictionaryPageHeader, DataPageHeaderV2, PageHeader}
 
 -- an id, and the value of its field where that is there
@@ -62,8 +51,8 @@ record_as fields x = struct (fields x)
 
 abbrev pub key_value_table : KeyValue → List Entry
 key_value_table x =
-    there binary PairIds.KEY x.key
-    ∷ given binary PairIds.VALUE x.value
+    there binary ids.pair_key x.key
+    ∷ given binary ids.pair_value x.value
     ∷ []
 
 abbrev pub key_value_fields : KeyValue → Fields
@@ -71,14 +60,14 @@ key_value_fields x = written (key_value_table x)
 
 abbrev pub statistics_table : Statistics → List Entry
 statistics_table x =
-    given binary StatisticsIds.MAX x.max
-    ∷ given binary StatisticsIds.MIN x.min
-    ∷ given i64 StatisticsIds.NULL_COUNT x.null_count
-    ∷ given i64 StatisticsIds.DISTINCT_COUNT x.distinct_count
-    ∷ given binary StatisticsIds.MAX_VALUE x.max_value
-    ∷ given binary StatisticsIds.MIN_VALUE x.min_value
-    ∷ given truth StatisticsIds.IS_MAX_VALUE_EXACT x.is_max_value_exact
-    ∷ given truth StatisticsIds.IS_MIN_VALUE_EXACT x.is_min_value_exact
+    given binary ids.statistics_max x.max
+    ∷ given binary ids.statistics_min x.min
+    ∷ given i64 ids.statistics_null_count x.null_count
+    ∷ given i64 ids.statistics_distinct_count x.distinct_count
+    ∷ given binary ids.statistics_max_value x.max_value
+    ∷ given binary ids.statistics_min_value x.min_value
+    ∷ given truth ids.statistics_is_max_value_exact x.is_max_value_exact
+    ∷ given truth ids.statistics_is_min_value_exact x.is_min_value_exact
     ∷ []
 
 abbrev pub statistics_fields : Statistics → Fields
@@ -86,16 +75,16 @@ statistics_fields x = written (statistics_table x)
 
 abbrev pub column_meta_table : ColumnMeta → List Entry
 column_meta_table x =
-    there i32 ColumnIds.KIND x.kind
-    ∷ given (many INT32 i32) ColumnIds.ENCODINGS x.encodings
-    ∷ there (many BINARY binary) ColumnIds.PATH_IN_SCHEMA x.path_in_schema
-    ∷ there i32 ColumnIds.CODEC x.codec
-    ∷ there i64 ColumnIds.NUM_VALUES x.num_values
-    ∷ given i64 ColumnIds.TOTAL_UNCOMPRESSED_SIZE x.total_uncompressed_size
-    ∷ given i64 ColumnIds.TOTAL_COMPRESSED_SIZE x.total_compressed_size
-    ∷ there i64 ColumnIds.DATA_PAGE_OFFSET x.data_page_offset
-    ∷ given i64 ColumnIds.DICTIONARY_PAGE_OFFSET x.dictionary_page_offset
-    ∷ given (record_as statistics_fields) ColumnIds.STATISTICS x.statistics
+    there i32 ids.column_kind x.kind
+    ∷ given (many INT32 i32) ids.column_encodings x.encodings
+    ∷ there (many BINARY binary) ids.column_path_in_schema x.path_in_schema
+    ∷ there i32 ids.column_codec x.codec
+    ∷ there i64 ids.column_num_values x.num_values
+    ∷ given i64 ids.column_total_uncompressed_size x.total_uncompressed_size
+    ∷ given i64 ids.column_total_compressed_size x.total_compressed_size
+    ∷ there i64 ids.column_data_page_offset x.data_page_offset
+    ∷ given i64 ids.column_dictionary_page_offset x.dictionary_page_offset
+    ∷ given (record_as statistics_fields) ids.column_statistics x.statistics
     ∷ []
 
 abbrev pub column_meta_fields : ColumnMeta → Fields
@@ -103,9 +92,9 @@ column_meta_fields x = written (column_meta_table x)
 
 abbrev pub chunk_meta_table : ChunkMeta → List Entry
 chunk_meta_table x =
-    given binary ChunkIds.FILE_PATH x.file_path
-    ∷ given i64 ChunkIds.FILE_OFFSET x.file_offset
-    ∷ there (record_as column_meta_fields) ChunkIds.META_DATA x.meta_data
+    given binary ids.chunk_file_path x.file_path
+    ∷ given i64 ids.chunk_file_offset x.file_offset
+    ∷ there (record_as column_meta_fields) ids.chunk_meta_data x.meta_data
     ∷ []
 
 abbrev pub chunk_meta_fields : ChunkMeta → Fields
@@ -113,9 +102,9 @@ chunk_meta_fields x = written (chunk_meta_table x)
 
 abbrev pub group_meta_table : GroupMeta → List Entry
 group_meta_table x =
-    there (many STRUCT (record_as chunk_meta_fields)) GroupIds.COLUMNS x.columns
-    ∷ given i64 GroupIds.TOTAL_BYTE_SIZE x.total_byte_size
-    ∷ there i64 GroupIds.NUM_ROWS x.num_rows
+    there (many STRUCT (record_as chunk_meta_fields)) ids.group_columns x.columns
+    ∷ given i64 ids.group_total_byte_size x.total_byte_size
+    ∷ there i64 ids.group_num_rows x.num_rows
     ∷ []
 
 abbrev pub group_meta_fields : GroupMeta → Fields
@@ -123,34 +112,34 @@ group_meta_fields x = written (group_meta_table x)
 
 abbrev pub element_table : Element → List Entry
 element_table x =
-    given i32 ElementIds.KIND x.kind
-    ∷ given i32 ElementIds.TYPE_LENGTH x.type_length
-    ∷ given i32 ElementIds.REPETITION_TYPE x.repetition_type
-    ∷ there binary ElementIds.NAME x.name
-    ∷ given i32 ElementIds.NUM_CHILDREN x.num_children
-    ∷ given i32 ElementIds.CONVERTED_TYPE x.converted_type
-    ∷ given i32 ElementIds.SCALE x.scale
-    ∷ given i32 ElementIds.PRECISION x.precision
-    ∷ given i32 ElementIds.FIELD_ID x.field_id
-    ∷ given struct ElementIds.LOGICAL_TYPE x.logical_type
+    given i32 ids.element_kind x.kind
+    ∷ given i32 ids.element_type_length x.type_length
+    ∷ given i32 ids.element_repetition_type x.repetition_type
+    ∷ there binary ids.element_name x.name
+    ∷ given i32 ids.element_num_children x.num_children
+    ∷ given i32 ids.element_converted_type x.converted_type
+    ∷ given i32 ids.element_scale x.scale
+    ∷ given i32 ids.element_precision x.precision
+    ∷ given i32 ids.element_field_id x.field_id
+    ∷ given struct ids.element_logical_type x.logical_type
     ∷ []
 
 abbrev pub element_fields : Element → Fields
 element_fields x = written (element_table x)
 
 abbrev pub column_order_fields : ColumnOrder → Fields
-column_order_fields type_order = written (there struct OrderIds.TYPE_ORDER no_fields ∷ [])
+column_order_fields type_order = written (there struct ids.order_type_order no_fields ∷ [])
 column_order_fields other_order = no_fields
 
 abbrev pub file_meta_table : FileMeta → List Entry
 file_meta_table x =
-    given i32 FileIds.VERSION x.version
-    ∷ there (many STRUCT (record_as element_fields)) FileIds.SCHEMA x.schema
-    ∷ given i64 FileIds.NUM_ROWS x.num_rows
-    ∷ there (many STRUCT (record_as group_meta_fields)) FileIds.ROW_GROUPS x.row_groups
-    ∷ given (many STRUCT (record_as key_value_fields)) FileIds.KEY_VALUE_METADATA x.key_value_metadata
-    ∷ given binary FileIds.CREATED_BY x.created_by
-    ∷ given (many STRUCT (record_as column_order_fields)) FileIds.COLUMN_ORDERS x.column_orders
+    given i32 ids.file_version x.version
+    ∷ there (many STRUCT (record_as element_fields)) ids.file_schema x.schema
+    ∷ given i64 ids.file_num_rows x.num_rows
+    ∷ there (many STRUCT (record_as group_meta_fields)) ids.file_row_groups x.row_groups
+    ∷ given (many STRUCT (record_as key_value_fields)) ids.file_key_value_metadata x.key_value_metadata
+    ∷ given binary ids.file_created_by x.created_by
+    ∷ given (many STRUCT (record_as column_order_fields)) ids.file_column_orders x.column_orders
     ∷ []
 
 abbrev pub file_meta_fields : FileMeta → Fields
@@ -158,11 +147,11 @@ file_meta_fields x = written (file_meta_table x)
 
 abbrev pub data_page_header_table : DataPageHeader → List Entry
 data_page_header_table x =
-    there i32 DataIds.NUM_VALUES x.num_values
-    ∷ there i32 DataIds.ENCODING x.encoding
-    ∷ given i32 DataIds.DEFINITION_LEVEL_ENCODING x.definition_level_encoding
-    ∷ given i32 DataIds.REPETITION_LEVEL_ENCODING x.repetition_level_encoding
-    ∷ given (record_as statistics_fields) DataIds.STATISTICS x.statistics
+    there i32 ids.data_num_values x.num_values
+    ∷ there i32 ids.data_encoding x.encoding
+    ∷ given i32 ids.data_definition_level_encoding x.definition_level_encoding
+    ∷ given i32 ids.data_repetition_level_encoding x.repetition_level_encoding
+    ∷ given (record_as statistics_fields) ids.data_statistics x.statistics
     ∷ []
 
 abbrev pub data_page_header_fields : DataPageHeader → Fields
@@ -170,9 +159,9 @@ data_page_header_fields x = written (data_page_header_table x)
 
 abbrev pub dictionary_page_header_table : DictionaryPageHeader → List Entry
 dictionary_page_header_table x =
-    there i32 DictionaryIds.NUM_VALUES x.num_values
-    ∷ there i32 DictionaryIds.ENCODING x.encoding
-    ∷ given truth DictionaryIds.IS_SORTED x.is_sorted
+    there i32 ids.dictionary_num_values x.num_values
+    ∷ there i32 ids.dictionary_encoding x.encoding
+    ∷ given truth ids.dictionary_is_sorted x.is_sorted
     ∷ []
 
 abbrev pub dictionary_page_header_fields : DictionaryPageHeader → Fields
@@ -180,14 +169,14 @@ dictionary_page_header_fields x = written (dictionary_page_header_table x)
 
 abbrev pub data_page_header_v2_table : DataPageHeaderV2 → List Entry
 data_page_header_v2_table x =
-    there i32 DataV2Ids.NUM_VALUES x.num_values
-    ∷ given i32 DataV2Ids.NUM_NULLS x.num_nulls
-    ∷ given i32 DataV2Ids.NUM_ROWS x.num_rows
-    ∷ there i32 DataV2Ids.ENCODING x.encoding
-    ∷ there i32 DataV2Ids.DEFINITION_LEVELS_BYTE_LENGTH x.definition_levels_byte_length
-    ∷ there i32 DataV2Ids.REPETITION_LEVELS_BYTE_LENGTH x.repetition_levels_byte_length
-    ∷ given truth DataV2Ids.IS_COMPRESSED x.is_compressed
-    ∷ given (record_as statistics_fields) DataV2Ids.STATISTICS x.statistics
+    there i32 ids.data_v2_num_values x.num_values
+    ∷ given i32 ids.data_v2_num_nulls x.num_nulls
+    ∷ given i32 ids.data_v2_num_rows x.num_rows
+    ∷ there i32 ids.data_v2_encoding x.encoding
+    ∷ there i32 ids.data_v2_definition_levels_byte_length x.definition_levels_byte_length
+    ∷ there i32 ids.data_v2_repetition_levels_byte_length x.repetition_levels_byte_length
+    ∷ given truth ids.data_v2_is_compressed x.is_compressed
+    ∷ given (record_as statistics_fields) ids.data_v2_statistics x.statistics
     ∷ []
 
 abbrev pub data_page_header_v2_fields : DataPageHeaderV2 → Fields
@@ -195,13 +184,13 @@ data_page_header_v2_fields x = written (data_page_header_v2_table x)
 
 abbrev pub page_header_table : PageHeader → List Entry
 page_header_table x =
-    there i32 PageIds.KIND x.kind
-    ∷ given i32 PageIds.UNCOMPRESSED_PAGE_SIZE x.uncompressed_page_size
-    ∷ there i32 PageIds.COMPRESSED_PAGE_SIZE x.compressed_page_size
-    ∷ given i32 PageIds.CRC x.crc
-    ∷ given (record_as data_page_header_fields) PageIds.DATA_PAGE_HEADER x.data_page_header
-    ∷ given (record_as dictionary_page_header_fields) PageIds.DICTIONARY_PAGE_HEADER x.dictionary_page_header
-    ∷ given (record_as data_page_header_v2_fields) PageIds.DATA_PAGE_HEADER_V2 x.data_page_header_v2
+    there i32 ids.page_kind x.kind
+    ∷ given i32 ids.page_uncompressed_page_size x.uncompressed_page_size
+    ∷ there i32 ids.page_compressed_page_size x.compressed_page_size
+    ∷ given i32 ids.page_crc x.crc
+    ∷ given (record_as data_page_header_fields) ids.page_data_page_header x.data_page_header
+    ∷ given (record_as dictionary_page_header_fields) ids.page_dictionary_page_header x.dictionary_page_header
+    ∷ given (record_as data_page_header_v2_fields) ids.page_data_page_header_v2 x.data_page_header_v2
     ∷ []
 
 abbrev pub page_header_fields : PageHeader → Fields

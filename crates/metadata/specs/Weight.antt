@@ -1,7 +1,7 @@
 -- What a footer weighs: a bound on its written length that is told from the record alone.
 use Rattle.std.specs.Prelude.{◌≡◌, ℕ, ◌+◌, ◌*◌, ◌^◌, ◌<◌, ◌≤◌, List, [], ◌∷◌, length, Option, Some, None, IfSome, All, sum_by, codes}
 use Rattle.thrift_compact.specs.Tree.{Fields}
-use Rattle.thrift_compact.specs.Length.{most_struct}
+use Rattle.thrift_compact.specs.Length.{size_struct}
 use Rattle.schema.specs.Elements.{Element}
 use Rattle.metadata.specs.Records.{KeyValue, Statistics, ColumnMeta, ChunkMeta, GroupMeta, FileMeta}
 
@@ -9,9 +9,9 @@ abbrev pub text_weight : Option (List ℕ) → ℕ
 text_weight (Some text) = length text
 text_weight None = 0
 
--- a kept struct: the bytes that it takes at most
+-- a kept struct: the bytes that it takes
 abbrev pub kept_weight : Option Fields → ℕ
-kept_weight (Some kept) = most_struct kept
+kept_weight (Some kept) = size_struct kept
 kept_weight None = 0
 
 abbrev pub element_weight : Element → ℕ

@@ -4,12 +4,10 @@ ghost use Rattle.std.specs.Prelude.{◌≡◌, ◌+◌, ◌≤◌, ◌⊎◌, �
 ghost use Rattle.bits.specs.Refusals.{OnFault, RefusedOnly};
 ghost use Rattle.bits.specs.Codec.{Appends, NothingStands};
 ghost use Rattle.thrift_compact.specs.Compact.{IsThrift};
-ghost use Rattle.thrift_compact.specs.Length.{most_struct};
+ghost use Rattle.thrift_compact.specs.Length.{size_struct};
 ghost use Rattle.thrift_compact.specs.View.{field_views, tree_view};
-ghost use Rattle.metadata.specs.Given.{record_by};
 ghost use Rattle.metadata.specs.ToTree.{file_meta_fields};
 ghost use Rattle.metadata.specs.FromTree.{file_meta};
-ghost use Rattle.metadata.specs.Records.{FileMeta as FileMetaShown};
 ghost use Rattle.metadata.specs.Views.{file_meta_view};
 ghost use Rattle.metadata.specs.Answers.{IsRecordOf, StandsFor};
 ghost use Rattle.metadata.specs.Kept.{EachKeepsWritten};
@@ -19,13 +17,13 @@ use crate::column_order::ColumnOrder;
 use crate::group_meta::GroupMeta;
 use crate::ids::file as ids;
 use crate::key_value::KeyValue;
-use crate::known::{FromNode, known_as, needed_as};
+use crate::known::{known_as, needed_as};
 use crate::put::{put, put_given};
 use bits::{R, Refusal};
 use schema::Element;
 use std::alloc::Global;
 use thrift_compact::{
-    Field, Node, Tree, one_struct, read_struct, structs_with_bytes_have_the_shape, write_struct,
+    Field, Tree, one_struct, read_struct, structs_with_bytes_have_the_shape, write_struct,
 };
 
 /// A FileMetaData (`parquet.thrift`): the footer of a file.
@@ -77,16 +75,16 @@ impl FileMeta {
         Ok(Tree { fields })
     }
 
-    /// Writes the struct of the record at the end of `out`. What is written is read again as this
-    /// record, whatever follows it.
+    /// Writes the struct of the record at the end of `out`, and nothing else, in the fewest bytes that it
+    /// has. What is written is read as this record, whatever follows it.
     ///
     /// The footer of a file that the store writes takes at most the bytes that it weighs.
     ///
     /// Refused Thrift only where no bytes at all are this record: where the logicalType of an
     /// element nests deeper than 29, or no bytes have it. After a refusal `out` is as it was.
     pub fn write(&self, alloc: Global, out: &mut Vec<u8>) -> R<()>
-        ensures stands { let fields = file_meta_fields (file_meta_view self.now) in OnOk result (Appends (λ bytes used. IsThrift bytes fields used) (most_struct fields) out.old.items out.new.items) }
-        ensures read_again { let fields = file_meta_fields (file_meta_view self.now) in OnOk result (Appends (λ bytes used. StandsFor file_meta bytes (file_meta_view self.now) used) (most_struct fields) out.old.items out.new.items) }
+        ensures stands { let fields = file_meta_fields (file_meta_view self.now) in OnOk result (Appends (λ bytes used. IsThrift bytes fields used) (size_struct fields) out.old.items out.new.items) }
+        ensures read_again { let fields = file_meta_fields (file_meta_view self.now) in OnOk result (Appends (λ bytes used. StandsFor file_meta bytes (file_meta_view self.now) used) (size_struct fields) out.old.items out.new.items) }
         ensures weight { let seen = file_meta_view self.now in (keys : List (List ℕ)) → IsOfTheWriter keys seen → OnOk result (length out.new.items ≤ length out.old.items + footer_weight keys seen) }
         ensures only { OnFault result ((bytes : List ℕ) (used : ℕ) → StandsFor file_meta bytes (file_meta_view self.now) used → ⊥) }
         ensures which { RefusedOnly (λ e. (e ≡ Refusal.Thrift) × (EachKeepsWritten (file_meta_view self.now) → ⊥)) result }
@@ -118,21 +116,6 @@ fn file_meta_of(alloc: Global, fields: &[Field]) -> R<FileMeta>
         created_by,
         column_orders,
     })
-}
-
-impl FromNode for FileMeta {
-    ghost Shown = { FileMetaShown };
-
-    ghost shown = { file_meta_view };
-
-    ghost read = { record_by file_meta };
-
-    fn from_node(alloc: Global, value: &Node) -> R<FileMeta> {
-        match value {
-            Node::Struct(fields) => file_meta_of(alloc, fields.as_slice()),
-            _ => Err(Refusal::Thrift),
-        }
-    }
 }
 
 /// The fields of the record.

@@ -1,5 +1,6 @@
-//! The ids of the fields of each struct, as `parquet.thrift` has them. The readers, the writers and
-//! the definitions of `specs/` all take them from here.
+//! The ids of the fields of each struct, as `parquet.thrift` has them. The readers and the writers take
+//! them from here; the definitions have a table of their own, `specs/Ids.antt`, which they are compared
+//! with.
 
 /// FileMetaData.
 pub mod file {

@@ -1,7 +1,7 @@
 //! The records of the footer of a Parquet file and of page headers (`parquet.thrift`), between
 //! structs of the compact protocol and bytes.
 //!
-//! `specs/FromTree.antt` says which record a struct is, by the tables of ids of `src/ids.rt`;
+//! `specs/FromTree.antt` says which record a struct is, by the table of ids in `specs/Ids.antt`;
 //! `specs/Records.antt` has the records apart from where they lie in memory, and `specs/Views.antt`
 //! sees those of the program as these.
 //!
@@ -44,8 +44,3 @@ pub use key_value::KeyValue;
 pub use laws::{footer_again, one_footer, one_page_header, page_header_again, records_again};
 pub use page_header::{DATA_PAGE, DATA_PAGE_V2, DICTIONARY_PAGE, PageHeader};
 pub use statistics::Statistics;
-
-#[cfg(test)]
-mod byte_tests;
-#[cfg(test)]
-mod tests;

@@ -5,12 +5,10 @@ ghost use Rattle.bits.specs.Refusals.{OnFault, RefusedOnly};
 ghost use Rattle.bits.specs.Codec.{Appends, NothingStands};
 ghost use Rattle.thrift_compact.specs.Tree.{Fields};
 ghost use Rattle.thrift_compact.specs.Compact.{IsThrift};
-ghost use Rattle.thrift_compact.specs.Length.{most_struct};
+ghost use Rattle.thrift_compact.specs.Length.{size_struct};
 ghost use Rattle.thrift_compact.specs.View.{field_views, tree_view};
-ghost use Rattle.metadata.specs.Given.{record_by};
 ghost use Rattle.metadata.specs.ToTree.{page_header_fields};
 ghost use Rattle.metadata.specs.FromTree.{page_header, any_page_header, has_own_header};
-ghost use Rattle.metadata.specs.Records.{PageHeader as PageHeaderShown};
 ghost use Rattle.metadata.specs.Views.{page_header_view};
 ghost use Rattle.metadata.specs.Answers.{IsRecordOf, StandsFor};
 
@@ -18,11 +16,11 @@ use crate::data_page_header::DataPageHeader;
 use crate::data_page_header_v2::DataPageHeaderV2;
 use crate::dictionary_page_header::DictionaryPageHeader;
 use crate::ids::page as ids;
-use crate::known::{FromNode, known_as, needed_as};
+use crate::known::{known_as, needed_as};
 use crate::put::{put, put_given};
 use bits::{R, Refusal};
 use std::alloc::Global;
-use thrift_compact::{Field, Node, Tree, one_struct, read_struct, write_struct};
+use thrift_compact::{Field, Tree, one_struct, read_struct, write_struct};
 
 /// The `kind` of a page of version 1.
 pub const DATA_PAGE: i32 = 0;
@@ -90,14 +88,14 @@ impl PageHeader {
         Ok(Tree { fields })
     }
 
-    /// Writes the struct of the record at the end of `out`. What is written is read again as this
-    /// record, whatever follows it.
+    /// Writes the struct of the record at the end of `out`, and nothing else, in the fewest bytes that it
+    /// has. What is written is read as this record, whatever follows it.
     ///
     /// Refused Thrift only where no bytes at all are this record: where the header that `kind` names is
     /// not there. After a refusal `out` is as it was.
     pub fn write(&self, alloc: Global, out: &mut Vec<u8>) -> R<()>
-        ensures stands { let fields = page_header_fields (page_header_view self.now) in OnOk result (Appends (λ bytes used. IsThrift bytes fields used) (most_struct fields) out.old.items out.new.items) }
-        ensures read_again { let fields = page_header_fields (page_header_view self.now) in OnOk result (Appends (λ bytes used. StandsFor page_header bytes (page_header_view self.now) used) (most_struct fields) out.old.items out.new.items) }
+        ensures stands { let fields = page_header_fields (page_header_view self.now) in OnOk result (Appends (λ bytes used. IsThrift bytes fields used) (size_struct fields) out.old.items out.new.items) }
+        ensures read_again { let fields = page_header_fields (page_header_view self.now) in OnOk result (Appends (λ bytes used. StandsFor page_header bytes (page_header_view self.now) used) (size_struct fields) out.old.items out.new.items) }
         ensures only { OnFault result ((bytes : List ℕ) (used : ℕ) → StandsFor page_header bytes (page_header_view self.now) used → ⊥) }
         ensures which { RefusedOnly (λ e. (e ≡ Refusal.Thrift) × (has_own_header (page_header_view self.now) ≡ false)) result }
         ensures unchanged { OnErr result (out.new.items ≡ out.old.items) }
@@ -151,21 +149,6 @@ fn any_page_header_of(alloc: Global, fields: &[Field]) -> R<PageHeader>
         dictionary_page_header,
         data_page_header_v2,
     })
-}
-
-impl FromNode for PageHeader {
-    ghost Shown = { PageHeaderShown };
-
-    ghost shown = { page_header_view };
-
-    ghost read = { record_by page_header };
-
-    fn from_node(alloc: Global, value: &Node) -> R<PageHeader> {
-        match value {
-            Node::Struct(fields) => page_header_of(alloc, fields.as_slice()),
-            _ => Err(Refusal::Thrift),
-        }
-    }
 }
 
 /// The fields of the record.

@@ -25,11 +25,11 @@ body_alone leaf d h own body es one alone (entries fs) (inl p) =
 body_alone leaf d h own body es one alone (entries fs) (inr p) = let a = one.kind in let b = p.1 in cc
 
 pub body_over_or_to_come : (leaf : Leaf) (d : Option (List ValueTree)) (h : PageHeader) (own : DataPageHeader) (body : List ℕ) → IsVersionOne h own
-    → IsDataOver leaf own body ⊎ IsDataToCome leaf d own → IsBodyOver leaf h body ⊎ IsBodyToCome leaf d h
+    → IsDataOver leaf own body ⊎ IsDataToCome leaf d own body → IsBodyOver leaf h body ⊎ IsBodyToCome leaf d h body
 body_over_or_to_come leaf d h own body one (inl p) = inl (in_version_1 own p.repetitions p.definitions p.text one.kind one.header p.levels p.over)
 body_over_or_to_come leaf d h own body one (inr (flat.with_repetitions p)) = inr (with_repetitions one.kind p)
 body_over_or_to_come leaf d h own body one (inr (flat.with_definitions p)) = inr (with_definitions one.kind p)
-body_over_or_to_come leaf d h own body one (inr (flat.other_encoding p)) = inr (other_encoding own one.kind one.header p)
+body_over_or_to_come leaf d h own body one (inr (flat.other_encoding rs ds text levels some p)) = inr (other_encoding own rs ds text one.kind one.header levels some p)
 
 pub body_short : (leaf : Leaf) (h : PageHeader) (own : DataPageHeader) (body : List ℕ) → IsVersionOne h own → (IsDataOver leaf own body → ⊥) → IsBodyOver leaf h body → ⊥
 body_short leaf h own body one short (in_version_1 other rs ds text kind header levels over) =

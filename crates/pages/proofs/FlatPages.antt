@@ -209,10 +209,18 @@ page_unfit leaf d own encoding body n vs has alone unfit es p =
     unfit (subst (λ (t : List ValueTree). AllByRecursion (λ v. IsTrue (fits_leaf leaf.leaf_type v)) t)
     (alone (values es) (cc) (respelled d leaf.leaf_type.kind (encoding_of own.encoding) encoding body (values es) (sym has.encoding_is) known.spelled)) known.flat.fit)
 
+is_to_come : (leaf : Leaf) (d : Option (List ValueTree)) (own : DataPageHeader) (body : List ℕ) (n : ℕ) → leaf.greatest_repetition ≡ 0 → leaf.greatest_definition ≡ 0 → own.num_values ≡ pos n → 0 < n
+    → IsEncodingToCome d leaf.leaf_type.kind (encoding_of own.encoding) → IsDataToCome leaf d own body
+is_to_come leaf d own body n r g count some later =
+    let z = are_zeros n in
+    let many : full leaf (zeros n) ≡ n = all_full leaf (zeros n) g z.0 ∙ z.1 in
+    other_encoding (zeros n) (zeros n) body (to_levels leaf own body (zeros n) (zeros n) r g (count ∙ ap pos (sym z.1)) refl z.0 z.0) (omega (arith, many, some)) later
+
 pub over_or_to_come : (leaf : Leaf) (d : Option (List ValueTree)) (own : DataPageHeader) (encoding : Option Encoding) (body : List ℕ) (n : ℕ) → HasCount leaf own encoding n
-    → IsValueOver leaf.leaf_type.kind encoding body n ⊎ IsEncodingToCome d leaf.leaf_type.kind encoding → IsDataOver leaf own body ⊎ IsDataToCome leaf d own
+    → IsValueOver leaf.leaf_type.kind encoding body n ⊎ ((0 < n) × IsEncodingToCome d leaf.leaf_type.kind encoding) → IsDataOver leaf own body ⊎ IsDataToCome leaf d own body
 over_or_to_come leaf d own encoding body n has (inl over) = inl (is_over leaf own body n has.no_repetition has.no_definition has.count (subst (λ (e : Option Encoding). IsValueOver leaf.leaf_type.kind e body n) has.encoding_is over))
-over_or_to_come leaf d own encoding body n has (inr later) = inr (other_encoding (subst (λ (e : Option Encoding). IsEncodingToCome d leaf.leaf_type.kind e) has.encoding_is later))
+over_or_to_come leaf d own encoding body n has (inr (some, later)) =
+    inr (is_to_come leaf d own body n has.no_repetition has.no_definition has.count some (subst (λ (e : Option Encoding). IsEncodingToCome d leaf.leaf_type.kind e) has.encoding_is later))
 
 pub page_short : (leaf : Leaf) (own : DataPageHeader) (encoding : Option Encoding) (body : List ℕ) (n : ℕ) → HasCount leaf own encoding n → (IsValueOver leaf.leaf_type.kind encoding body n → ⊥) → IsDataOver leaf own body → ⊥
 page_short leaf own encoding body n has short =

@@ -114,6 +114,6 @@ framed_short leaf bytes h body used one framed short p =
     short (subst (λ (k : PageHeader). IsBodyOver leaf k body) same.header (subst (λ (t : List ℕ). IsBodyOver leaf p.header t) same.inside p.over))
 
 pub framed_limit : (leaf : Leaf) (d : Option (List ValueTree)) (bytes : List ℕ) (h : PageHeader) (body : List ℕ) (used : ℕ) → IsFramed bytes h body used
-    → IsBodyOver leaf h body ⊎ IsBodyToCome leaf d h → IsPageOver leaf bytes ⊎ IsPageToCome leaf d bytes
+    → IsBodyOver leaf h body ⊎ IsBodyToCome leaf d h body → IsPageOver leaf bytes ⊎ IsPageToCome leaf d bytes
 framed_limit leaf d bytes h body used framed (inl p) = inl (record { header = h; body = body; used = used; framed = framed; over = p })
 framed_limit leaf d bytes h body used framed (inr p) = inr (record { header = h; body = body; used = used; framed = framed; why = p })

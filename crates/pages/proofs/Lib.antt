@@ -6,5 +6,9 @@ pub mod PlainValues
 pub mod Passed
 pub mod Texts
 mod Lent
+mod HeaderSize
 mod WrittenPages
+pub mod OneList
+pub mod OneBody
+pub mod OneChunk
 pub mod Worked

@@ -11,23 +11,41 @@ use Rattle.schema.specs.declared.value.Kind.TheVariants.{Boolean, Int32, Int64, 
 use Rattle.schema.specs.Fits.{fits_kind, fits_leaf}
 use Rattle.schema.specs.Values.{ValueTree, bytes as byte_value}
 use Rattle.schema.specs.Stripe.{Leaf, Entry}
-use Rattle.metadata.specs.Records.{DataPageHeader}
+use Rattle.thrift_compact.specs.Length.{size_struct}
+use Rattle.metadata.specs.Records.{DataPageHeader, PageHeader}
+use Rattle.thrift_compact.specs.Compact.{IsThrift}
 use Rattle.metadata.specs.FromTree.{page_header}
-use Rattle.metadata.specs.Answers.{StandsFor}
+use Rattle.metadata.specs.ToTree.{page_header_fields}
 use Rattle.plain.specs.Plain.{IsPlain, HasZeroPadding, IsOfKind, IsTooLong, plain_size, text_size}
-use Rattle.pages.specs.declared.limits.TheConstants.{MOST_BYTES_OF_PAGE}
+use Rattle.pages.specs.Greatest.{most_of_page}
 use Rattle.pages.specs.Page.{values}
 use Rattle.pages.specs.Flat.{flat}
 use Rattle.pages.specs.Headers.{written_header, IsPlainPage}
 use Rattle.pages.specs.Writing.{page_weight, AreShort, IsPageTooMuch, long_value, heavy_page, StandsAsPage}
+use Rattle.pages.proofs.HeaderSize.{header_size}
 use Rattle.pages.proofs.Texts.{kinds_of_fit}
 use Rattle.pages.proofs.FlatPages.{flat_values, flat_body}
 
+within : (n most : ℕ) → n ≤ most → most ≤ 1024 → n ≤ 1024
+within n most le few = omega (arith, le, few)
+
+-- the header of a page, as its record is written
+pub header_put : (h : PageHeader) (size count : ℕ) (old new : List ℕ) → h ≡ written_header size count → Appends (λ bytes. IsThrift bytes (page_header_fields h)) (size_struct (page_header_fields h)) old new
+    → Appends (λ bytes. IsThrift bytes (page_header_fields (written_header size count))) 1024 old new
+header_put h size count old new is p =
+    let most : length p.text ≤ size_struct (page_header_fields (written_header size count)) = subst (λ (x : PageHeader). length p.text ≤ size_struct (page_header_fields x)) is p.short in
+    record {
+      text = p.text;
+      joined = p.joined;
+      stands = λ more. subst (λ (x : PageHeader). IsThrift (p.text ++ more) (page_header_fields x) (length p.text)) is (p.stands more);
+      short = within (length p.text) (size_struct (page_header_fields (written_header size count))) most (header_size size count);
+    }
+
 -- the header says the length of what is written behind it
-pub page_put : (kind : Kind) (vs : List ValueTree) (size count : ℕ) (old mid new : List ℕ) → count ≡ length vs → size ≡ min (plain_size kind vs) (2 ^ 64 - 1) → size ≤ MOST_BYTES_OF_PAGE
-    → Appends (λ bytes. StandsFor page_header bytes (written_header size count)) 1024 old mid → Appends (λ bytes. IsPlain kind (length vs) bytes vs) (plain_size kind vs) mid new
+pub page_put : (kind : Kind) (vs : List ValueTree) (size count : ℕ) (old mid new : List ℕ) → count ≡ length vs → size ≡ min (plain_size kind vs) (2 ^ 64 - 1) → size ≤ most_of_page
+    → ((m n : ℕ) → page_header (page_header_fields (written_header m n)) ≡ Some (written_header m n)) → Appends (λ bytes. IsThrift bytes (page_header_fields (written_header size count))) 1024 old mid → Appends (λ bytes. IsPlain kind (length vs) bytes vs) (plain_size kind vs) mid new
     → Appends (HasZeroPadding kind (length vs)) (plain_size kind vs) mid new → length new ≡ length mid + plain_size kind vs → Appends (IsPlainPage kind vs) (1024 + plain_size kind vs) old new
-page_put kind vs size count old mid new many sized few p q z total =
+page_put kind vs size count old mid new many sized few again p q z total =
     let long : size ≡ length q.text = omega (arith, sized, few, total, ap length q.joined, length-append mid q.text) in
     let spelled : IsPlain kind (length vs) q.text vs (length q.text) = subst (λ (t : List ℕ). IsPlain kind (length vs) t vs (length q.text)) (append-nil q.text) (q.stands []) in
     let same : z.text ++ [] ≡ q.text = append-nil z.text ∙ append_cancel_left mid z.text q.text (sym z.joined ∙ q.joined) in
@@ -37,16 +55,18 @@ page_put kind vs size count old mid new many sized few p q z total =
       joined = q.joined ∙ ap (λ (t : List ℕ). t ++ q.text) p.joined ∙ append_assoc old p.text q.text;
       stands = λ more.
           let whole : (p.text ++ q.text) ++ more ≡ p.text ++ (q.text ++ more) = append_assoc p.text q.text more in
-          let named = subst (λ (n : ℕ). StandsFor page_header (p.text ++ (q.text ++ more)) (written_header n count) (length p.text)) long (p.stands (q.text ++ more)) in
-          let counted = subst (λ (n : ℕ). StandsFor page_header (p.text ++ (q.text ++ more)) (written_header (length q.text) n) (length p.text)) many named in
+          let named = subst (λ (n : ℕ). IsThrift (p.text ++ (q.text ++ more)) (page_header_fields (written_header n count)) (length p.text)) long (p.stands (q.text ++ more)) in
+          let counted = subst (λ (n : ℕ). IsThrift (p.text ++ (q.text ++ more)) (page_header_fields (written_header (length q.text) n)) (length p.text)) many named in
+          let here = subst (λ (t : List ℕ). IsThrift t (page_header_fields (written_header (length q.text) (length vs))) (length p.text)) (sym whole) counted in
           record {
             body = q.text;
             spelled = spelled;
             padding = padding;
+            bare = here;
             framed = record {
               header_end = length p.text;
               rest = more;
-              begins = subst (λ (t : List ℕ). StandsFor page_header t (written_header (length q.text) (length vs)) (length p.text)) (sym whole) counted;
+              begins = record { fields = page_header_fields (written_header (length q.text) (length vs)); spelled = here; record_of = again (length q.text) (length vs) };
               follows = ap (λ (t : List ℕ). drop (length p.text) t) whole ∙ drop_at p.text (q.text ++ more) (length p.text) refl;
               size = refl;
               ends = length-append p.text q.text;
@@ -130,7 +150,7 @@ page_written leaf es vs old new has p = record {
 pub page_short : (leaf : Leaf) (es : List Entry) (vs : List ValueTree) → AreOfLeaf leaf es vs → All (λ v. IsTooLong v → ⊥) vs → AreShort es
 page_short leaf es vs has short = subst (λ (t : List ValueTree). AllByRecursion (λ v. IsTooLong v → ⊥) t) (sym (values_are leaf es vs has)) (recursion_from_All (λ v. IsTooLong v → ⊥) vs short)
 
-pub page_too_much : (leaf : Leaf) (es : List Entry) (vs : List ValueTree) → AreOfLeaf leaf es vs → Any IsTooLong vs ⊎ (MOST_BYTES_OF_PAGE < plain_size leaf.leaf_type.kind vs) ⊎ (MOST_BYTES_OF_PAGE < length vs) → IsPageTooMuch es
+pub page_too_much : (leaf : Leaf) (es : List Entry) (vs : List ValueTree) → AreOfLeaf leaf es vs → Any IsTooLong vs ⊎ (most_of_page < plain_size leaf.leaf_type.kind vs) ⊎ (most_of_page < length vs) → IsPageTooMuch es
 page_too_much leaf es vs has (inl long) = long_value (subst (λ (t : List ValueTree). Any IsTooLong t) (sym (values_are leaf es vs has)) long)
 page_too_much leaf es vs has (inr (inl big)) = heavy_page (omega (arith, big, light leaf.leaf_type.kind vs has.of_kind, weight_is vs, ap (λ (t : List Entry). page_weight t) has.are))
 page_too_much leaf es vs has (inr (inr many)) = heavy_page (omega (arith, many, weight_is vs, ap (λ (t : List Entry). page_weight t) has.are))

@@ -19,8 +19,8 @@ pub record IsDataOver (leaf : Leaf) (own : DataPageHeader) (body : List ℕ) : T
   pub levels : AreLevelsV1 leaf own body repetitions definitions text
   pub over : IsValueOver leaf.leaf_type.kind (encoding_of own.encoding) text (full leaf definitions)
 
--- why the page is not read yet
-pub data IsDataToCome (leaf : Leaf) (d : Option (List ValueTree)) (own : DataPageHeader) : Type 0 where
-  with_repetitions : 0 < leaf.greatest_repetition → IsDataToCome leaf d own
-  with_definitions : 0 < leaf.greatest_definition → IsDataToCome leaf d own
-  other_encoding : IsEncodingToCome d leaf.leaf_type.kind (encoding_of own.encoding) → IsDataToCome leaf d own
+-- why the page is not read yet; where no value is there, its encoding is not looked at
+pub data IsDataToCome (leaf : Leaf) (d : Option (List ValueTree)) (own : DataPageHeader) (body : List ℕ) : Type 0 where
+  with_repetitions : 0 < leaf.greatest_repetition → IsDataToCome leaf d own body
+  with_definitions : 0 < leaf.greatest_definition → IsDataToCome leaf d own body
+  other_encoding : (rs ds text : List ℕ) → AreLevelsV1 leaf own body rs ds text → 0 < full leaf ds → IsEncodingToCome d leaf.leaf_type.kind (encoding_of own.encoding) → IsDataToCome leaf d own body

@@ -5,6 +5,7 @@ pub mod Limits
 pub mod Views
 pub mod Flat
 pub mod Apart
+pub mod Greatest
 pub mod Writing
 pub mod Headers
 pub mod Worked

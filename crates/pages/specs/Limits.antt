@@ -38,13 +38,15 @@ pub record IsPageOver (leaf : Leaf) (bytes : List ℕ) : Type 0 where
   pub framed : IsFramed bytes header body used
   pub over : IsBodyOver leaf header body
 
--- Why a page is not read yet. (Each that is built is taken away, and with the last the type.)
-pub data IsBodyToCome (leaf : Leaf) (d : Option (List ValueTree)) (h : PageHeader) : Type 0 where
-  dictionary_page : h.kind ≡ pos 2 → IsBodyToCome leaf d h
-  version_2 : h.kind ≡ pos 3 → IsBodyToCome leaf d h
-  with_repetitions : h.kind ≡ pos 0 → 0 < leaf.greatest_repetition → IsBodyToCome leaf d h
-  with_definitions : h.kind ≡ pos 0 → 0 < leaf.greatest_definition → IsBodyToCome leaf d h
-  other_encoding : (own : DataPageHeader) → h.kind ≡ pos 0 → h.data_page_header ≡ Some own → IsEncodingToCome d leaf.leaf_type.kind (encoding_of own.encoding) → IsBodyToCome leaf d h
+-- Why a page is not read yet; where no value is there, its encoding is not looked at. (Each that is built is taken away,
+-- and with the last the type.)
+pub data IsBodyToCome (leaf : Leaf) (d : Option (List ValueTree)) (h : PageHeader) (body : List ℕ) : Type 0 where
+  dictionary_page : h.kind ≡ pos 2 → IsBodyToCome leaf d h body
+  version_2 : h.kind ≡ pos 3 → IsBodyToCome leaf d h body
+  with_repetitions : h.kind ≡ pos 0 → 0 < leaf.greatest_repetition → IsBodyToCome leaf d h body
+  with_definitions : h.kind ≡ pos 0 → 0 < leaf.greatest_definition → IsBodyToCome leaf d h body
+  other_encoding : (own : DataPageHeader) (rs ds text : List ℕ) → h.kind ≡ pos 0 → h.data_page_header ≡ Some own → AreLevelsV1 leaf own body rs ds text
+      → 0 < full leaf ds → IsEncodingToCome d leaf.leaf_type.kind (encoding_of own.encoding) → IsBodyToCome leaf d h body
 
 -- the page that begins here is not read yet
 pub record IsPageToCome (leaf : Leaf) (d : Option (List ValueTree)) (bytes : List ℕ) : Type 0 where
@@ -52,7 +54,7 @@ pub record IsPageToCome (leaf : Leaf) (d : Option (List ValueTree)) (bytes : Lis
   pub body : List ℕ
   pub used : ℕ
   pub framed : IsFramed bytes header body used
-  pub why : IsBodyToCome leaf d header
+  pub why : IsBodyToCome leaf d header body
 
 -- what a page is refused for
 abbrev pub IsOfPages : Refusal → Type 0

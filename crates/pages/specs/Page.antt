@@ -1,7 +1,6 @@
 -- Which entries the bytes of a page stand for: parquet-format, README.md, "Data Pages"; parquet.thrift, PageHeader.
 use Rattle.std.specs.Prelude.{◌≡◌, ◌≢◌, ◌⊎◌, ℕ, zero, suc, ◌+◌, ◌*◌, ◌^◌, ◌<◌, ◌≤◌, ℤ, pos, List, [], ◌++◌, map, length, drop, Option, Some, None}
 use Rattle.std.specs.List.{AllByRecursion, filter_map}
-use Rattle.byteorder.specs.Endian.{little_bytes}
 use Rattle.schema.specs.declared.value.Kind.{Kind}
 use Rattle.schema.specs.Values.{ValueTree}
 use Rattle.schema.specs.Stripe.{Leaf, Entry}
@@ -10,18 +9,13 @@ use Rattle.hybrid_rle.specs.Hybrid.{IsHybrid}
 use Rattle.metadata.specs.Records.{PageHeader, DataPageHeader, DictionaryPageHeader, DataPageHeaderV2}
 use Rattle.metadata.specs.FromTree.{page_header}
 use Rattle.metadata.specs.Answers.{StandsFor}
-use Rattle.pages.specs.Encodings.{encoding_of, ArePlain, AreValues}
+use Rattle.pages.specs.Encodings.{encoding_of, IsPrefixed, ArePlain, AreValues}
 
 -- a page, by what it stands for
 pub data Page : Type 0 where
   skipped : Page
   dictionary : List ValueTree → Page
   entries : List Entry → Page
-
--- a length in four bytes, the lowest first, that many bytes, and the rest
-pub record IsPrefixed (text inside rest : List ℕ) : Type 0 where
-  pub short : length inside < 2 ^ 32
-  pub joined : text ≡ little_bytes 4 (length inside) ++ inside ++ rest
 
 -- levels by the hybrid, in as many bits as the greatest has binary digits
 pub record AreLevels (greatest : ℕ) (text levels : List ℕ) : Type 0 where

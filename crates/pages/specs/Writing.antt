@@ -6,7 +6,7 @@ use Rattle.bits.specs.declared.refusal.Refusal.TheVariants.{Levels, Value, Limit
 use Rattle.schema.specs.Values.{ValueTree}
 use Rattle.schema.specs.Stripe.{Leaf, Entry}
 use Rattle.plain.specs.Plain.{IsTooLong, text_size}
-use Rattle.pages.specs.declared.limits.TheConstants.{MOST_BYTES_OF_PAGE}
+use Rattle.pages.specs.Greatest.{most_of_page}
 use Rattle.pages.specs.Page.{IsPage, entries, values}
 
 -- a page weighs 1,024 bytes, 64 an entry, and the bytes of its byte values
@@ -20,7 +20,7 @@ AreShort es = AllByRecursion (λ v. IsTooLong v → ⊥) (values es)
 -- a value is too long, or the page weighs more than a page may have
 pub data IsPageTooMuch (es : List Entry) : Type 0 where
   long_value : Any IsTooLong (values es) → IsPageTooMuch es
-  heavy_page : MOST_BYTES_OF_PAGE < page_weight es → IsPageTooMuch es
+  heavy_page : most_of_page < page_weight es → IsPageTooMuch es
 
 -- A leaf whose pages are not written yet: they have levels. (Taken away once they are.)
 abbrev pub IsLeafToBeWritten : Leaf → Type 0

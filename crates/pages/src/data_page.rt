@@ -1,6 +1,6 @@
 //! The body of a data page of version 1.
 
-ghost use Rattle.std.specs.Prelude.{◌≡◌, ◌⊎◌, ◌≤◌, ◌↔◌, ℕ, pos, List, All, map, option_map, length, IfOk, OnOk, IsTrue, Err};
+ghost use Rattle.std.specs.Prelude.{◌≡◌, ◌⊎◌, ◌<◌, ◌≤◌, ◌↔◌, ℕ, pos, List, All, map, option_map, length, IfOk, OnOk, IsTrue, Err};
 ghost use Rattle.bits.specs.Refusals.{OnFault, RefusedOnly};
 ghost use Rattle.std.specs.List.{list_all, AllByRecursion};
 ghost use Rattle.std.specs.Str.{is_utf8};
@@ -40,7 +40,7 @@ pub fn read_data_page(
     ensures few { IfOk result (λ es. length (map entry_view es.items) ≤ left) }
     ensures short { OnOk result (IsDataOver (leaf_view leaf.now) (data_page_header_view header.now) body.now → ⊥) }
     ensures only { OnFault result ((fs : List EntryShown) → IsBodyV1 (leaf_view leaf.now) (option_map (λ d. map view d.now) dictionary.entry) (data_page_header_view header.now) body.now fs → length fs ≤ left → ⊥) }
-    ensures limit { result ≡ Err Refusal.Limit → IsDataOver (leaf_view leaf.now) (data_page_header_view header.now) body.now ⊎ IsDataToCome (leaf_view leaf.now) (option_map (λ d. map view d.now) dictionary.entry) (data_page_header_view header.now) }
+    ensures limit { result ≡ Err Refusal.Limit → IsDataOver (leaf_view leaf.now) (data_page_header_view header.now) body.now ⊎ IsDataToCome (leaf_view leaf.now) (option_map (λ d. map view d.now) dictionary.entry) (data_page_header_view header.now) body.now }
     ensures which { RefusedOnly IsOfPages result }
 {
     let count = checked_count(header.num_values, left)?;
@@ -84,7 +84,7 @@ fn read_values(
     ensures alone { IfOk result (λ es. (ws : List ValueTree) → length ws ≡ count → Spell (AreValues (option_map (λ d. map view d.now) dictionary.entry) kind encoding) text.now ws → ws ≡ map entry_value es.items) }
     ensures short { OnOk result (IsValueOver kind encoding text.now count → ⊥) }
     ensures only { OnFault result ((ws : List ValueTree) → length ws ≡ count → Spell (AreValues (option_map (λ d. map view d.now) dictionary.entry) kind encoding) text.now ws → ⊥) }
-    ensures limit { result ≡ Err Refusal.Limit → IsValueOver kind encoding text.now count ⊎ IsEncodingToCome (option_map (λ d. map view d.now) dictionary.entry) kind encoding }
+    ensures limit { result ≡ Err Refusal.Limit → IsValueOver kind encoding text.now count ⊎ ((0 < count) × IsEncodingToCome (option_map (λ d. map view d.now) dictionary.entry) kind encoding) }
     ensures which { RefusedOnly (λ e. (e ≡ Refusal.Truncated) ⊎ (e ≡ Refusal.Encoding) ⊎ (e ≡ Refusal.Limit)) result }
 {
     if count == 0 {
@@ -104,7 +104,7 @@ fn read_values(
 /// Whether the format has the encoding for the type and it is not read yet; a dictionary's indexes
 /// stand only where there is a dictionary.
 fn is_to_come(encoding: Encoding, kind: Kind, dictionary: Option<&[Value]>) -> bool
-    ensures { IsTrue result → IsEncodingToCome (option_map (λ d. map view d.now) dictionary.entry) kind (Some encoding) }
+    ensures { IsTrue result ↔ IsEncodingToCome (option_map (λ d. map view d.now) dictionary.entry) kind (Some encoding) }
 {
     match encoding {
         Encoding::PlainDictionary | Encoding::RleDictionary => dictionary.is_some(),

@@ -1,14 +1,18 @@
 //! What holds of the definitions.
 
-ghost use Rattle.std.specs.Prelude.{Option, List, [], ◌∷◌, codes};
+ghost use Rattle.std.specs.Prelude.{ℕ, Option, List, [], ◌∷◌, codes};
+ghost use Rattle.bits.specs.Codec.{IsFunctional};
 ghost use Rattle.schema.specs.declared.value.Repetition.TheVariants.{Optional, Repeated};
 ghost use Rattle.schema.specs.Values.{ValueTree, bytes};
+ghost use Rattle.schema.specs.Stripe.{Leaf};
 ghost use Rattle.pages.specs.Page.{IsPage, dictionary};
+ghost use Rattle.pages.specs.Chunk.{IsChunk};
 ghost use Rattle.pages.specs.Writing.{StandsAsPage};
 ghost use Rattle.pages.specs.Worked.{number_leaf, text_leaf, five_null_six, three_lists, page_of_version_1, page_of_version_2, page_of_texts, page_of_lists};
 ghost use Rattle.pages.specs.Apart.{DictionaryIsNotRead, EntriesStandAlone, NoPageOfNoBytes};
 
 use metadata::one_page_header;
+use plain::one_list;
 
 /// Skipped pages and dictionary pages are the same pages whatever dictionary the chunk has. Where a
 /// data page stands, neither of them does, under any dictionary. Nothing is a page of no bytes.
@@ -18,6 +22,17 @@ pub fn pages_of_a_dictionary()
     ensures some_bytes { NoPageOfNoBytes }
 {
     one_page_header();
+}
+
+/// A front of the bytes is at most one page of a chunk that has this dictionary, and holds at most one
+/// list of so many entries as the pages of a chunk: also of bytes that nobody has read.
+pub fn one_page()
+    ensures page { (leaf : Leaf) (d : Option (List ValueTree)) → IsFunctional (IsPage leaf d) }
+    ensures chunk { (leaf : Leaf) (n : ℕ) → IsFunctional (λ bytes. IsChunk leaf bytes n) }
+{
+    one_page_header();
+    one_list();
+    hybrid_rle::one_list();
 }
 
 /// Pages made by hand from the standard: 5, null and 6 of an OPTIONAL leaf as a page of version 1 and as

@@ -18,11 +18,8 @@ mod writing;
 
 pub use encoding::Encoding;
 pub use entry::EntryRef;
-pub use laws::{pages_of_a_dictionary, worked_examples};
+pub use laws::{one_page, pages_of_a_dictionary, worked_examples};
 pub use limits::MOST_BYTES_OF_PAGE;
 pub use page::PageRef;
 pub use reading::read_page;
 pub use writing::write_page;
-
-#[cfg(test)]
-mod tests;

@@ -30,8 +30,8 @@ use std::alloc::Global;
 /// Room is asked for only for values that the bytes hold.
 ///
 /// Refused Limit only where a value is announced with more than 16 MiB, or where the page is not read
-/// yet: a dictionary, a page of version 2, a leaf that an OPTIONAL or REPEATED field leads to, an
-/// encoding other than PLAIN. For any other fault, want of memory aside, only where no page with at
+/// yet: a dictionary, a page of version 2, a leaf that an OPTIONAL or REPEATED field leads to, a value
+/// in another encoding than PLAIN. For any other fault, want of memory aside, only where no page with at
 /// most `left` entries stands at the front: Thrift where the header is no record, Page where the page
 /// goes beyond the bytes, where its size or its count is below 0, and where it has more than `left`
 /// entries, Encoding where the format has no such values, Truncated where the body ends before its
@@ -111,7 +111,7 @@ fn read_body<'a>(
     ensures few { IfOk result (λ p. length (entries_of (page_view p)) ≤ left) }
     ensures short { OnOk result (IsBodyOver (leaf_view leaf.now) (page_header_view header.now) body.now → ⊥) }
     ensures only { OnFault result ((page : Page) → IsBody (leaf_view leaf.now) (option_map (λ d. map view d.now) dictionary.entry) (page_header_view header.now) body.now page → length (entries_of page) ≤ left → ⊥) }
-    ensures limit { result ≡ Err Refusal.Limit → IsBodyOver (leaf_view leaf.now) (page_header_view header.now) body.now ⊎ IsBodyToCome (leaf_view leaf.now) (option_map (λ d. map view d.now) dictionary.entry) (page_header_view header.now) }
+    ensures limit { result ≡ Err Refusal.Limit → IsBodyOver (leaf_view leaf.now) (page_header_view header.now) body.now ⊎ IsBodyToCome (leaf_view leaf.now) (option_map (λ d. map view d.now) dictionary.entry) (page_header_view header.now) body.now }
     ensures which { RefusedOnly IsOfPages result }
 {
     match header.kind {

@@ -8,13 +8,14 @@ ghost use Rattle.schema.specs.Values.{view};
 ghost use Rattle.schema.specs.Fits.{fits_leaf};
 ghost use Rattle.schema.specs.Law.{IsEntry, IsEntryOf};
 ghost use Rattle.schema.specs.Views.{leaf_type_view, leaf_view};
-ghost use Rattle.metadata.specs.FromTree.{page_header};
-ghost use Rattle.metadata.specs.Answers.{StandsFor};
+ghost use Rattle.thrift_compact.specs.Compact.{IsThrift};
+ghost use Rattle.metadata.specs.ToTree.{page_header_fields};
 ghost use Rattle.metadata.specs.Views.{page_header_view};
 ghost use Rattle.plain.specs.Plain.{IsOfKind, IsTooLong, plain_size};
 ghost use Rattle.pages.specs.Page.{values};
 ghost use Rattle.pages.specs.Flat.{flat};
 ghost use Rattle.pages.specs.Headers.{written_header, IsPlainPage};
+ghost use Rattle.pages.specs.Greatest.{most_of_page};
 ghost use Rattle.pages.specs.Views.{entry_ref_view};
 ghost use Rattle.pages.specs.Writing.{page_weight, AreShort, IsPageTooMuch, IsLeafToBeWritten, StandsAsPage, IsOfWriting};
 
@@ -35,7 +36,8 @@ const RLE: i32 = 3;
 /// Writes the entries at the end of `out`, as one page of version 1 with PLAIN values, of a chunk of
 /// this leaf: a page header and the body. (parquet-format, README.md, "Data Pages".)
 ///
-/// The levels' encodings are said to be RLE; no statistics and no checksum are written. The values
+/// The levels' encodings are said to be RLE; no statistics and no checksum are written, and no field
+/// that is not the header's. The values
 /// are written where they lie: room is asked for a reference to each, and in `out`. The time is linear
 /// in the entries and the bytes of their values.
 ///
@@ -107,11 +109,12 @@ fn put_page(alloc: Global, kind: Kind, values: &[&Value], out: &mut Vec<u8>) -> 
     requires { All (IsOfKind kind) (map (λ v. view v.now) values.now) }
     ensures stands { let vs = map (λ v. view v.now) values.now in OnOk result (Appends (IsPlainPage kind vs) (1024 + plain_size kind vs) out.old.items out.new.items) }
     ensures short { OnOk result (All (λ v. IsTooLong v → ⊥) (map (λ v. view v.now) values.now)) }
-    ensures size { OnOk result (length out.new.items ≤ length out.old.items + 1024 + MOST_BYTES_OF_PAGE) }
-    ensures limit { let vs = map (λ v. view v.now) values.now in result ≡ Err Refusal.Limit → Any IsTooLong vs ⊎ (MOST_BYTES_OF_PAGE < plain_size kind vs) ⊎ (MOST_BYTES_OF_PAGE < length vs) }
+    ensures size { OnOk result (length out.new.items ≤ length out.old.items + 1024 + most_of_page) }
+    ensures limit { let vs = map (λ v. view v.now) values.now in result ≡ Err Refusal.Limit → Any IsTooLong vs ⊎ (most_of_page < plain_size kind vs) ⊎ (most_of_page < length vs) }
     ensures which { RefusedOnly (λ e. e ≡ Refusal.Limit) result }
     ensures front { OnErr result (take (length out.old.items) out.new.items ≡ out.old.items) }
 {
+    page_header_again();
     let size = encoded_size(kind, values)?;
     put_header(alloc, size, values.len(), out)?;
     encode(kind, values, out)
@@ -120,13 +123,12 @@ fn put_page(alloc: Global, kind: Kind, values: &[&Value], out: &mut Vec<u8>) -> 
 /// Writes the header of a page with so many bytes of body and so many PLAIN values. Refused Limit where
 /// one of them is more than an i32 holds. After a refusal `out` is as it was.
 fn put_header(alloc: Global, size: usize, count: usize, out: &mut Vec<u8>) -> R<()>
-    ensures stands { OnOk result (Appends (λ bytes. StandsFor page_header bytes (written_header size count)) 1024 out.old.items out.new.items) }
-    ensures fits { OnOk result ((size ≤ MOST_BYTES_OF_PAGE) × (count ≤ MOST_BYTES_OF_PAGE)) }
-    ensures limit { result ≡ Err Refusal.Limit → (MOST_BYTES_OF_PAGE < size) ⊎ (MOST_BYTES_OF_PAGE < count) }
+    ensures stands { OnOk result (Appends (λ bytes. IsThrift bytes (page_header_fields (written_header size count))) 1024 out.old.items out.new.items) }
+    ensures fits { OnOk result ((size ≤ most_of_page) × (count ≤ most_of_page)) }
+    ensures limit { result ≡ Err Refusal.Limit → (most_of_page < size) ⊎ (most_of_page < count) }
     ensures which { RefusedOnly (λ e. e ≡ Refusal.Limit) result }
     ensures unchanged { OnErr result (out.new.items ≡ out.old.items) }
 {
-    page_header_again();
     let header = header_of(size, count)?;
     header.write(alloc, out)
 }
@@ -135,8 +137,8 @@ fn put_header(alloc: Global, size: usize, count: usize, out: &mut Vec<u8>) -> R<
 /// of them is more than an i32 holds.
 fn header_of(size: usize, count: usize) -> R<PageHeader>
     ensures stands { IfOk result (λ header. page_header_view header ≡ written_header size count) }
-    ensures fits { OnOk result ((size ≤ MOST_BYTES_OF_PAGE) × (count ≤ MOST_BYTES_OF_PAGE)) }
-    ensures limit { OnErr result ((MOST_BYTES_OF_PAGE < size) ⊎ (MOST_BYTES_OF_PAGE < count)) }
+    ensures fits { OnOk result ((size ≤ most_of_page) × (count ≤ most_of_page)) }
+    ensures limit { OnErr result ((most_of_page < size) ⊎ (most_of_page < count)) }
     ensures which { IfErr result (λ e. e ≡ Refusal.Limit) }
 {
     if size > MOST_BYTES_OF_PAGE || count > MOST_BYTES_OF_PAGE {

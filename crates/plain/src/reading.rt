@@ -1,6 +1,6 @@
 //! From bytes to values.
 
-ghost use Rattle.std.specs.Prelude.{◌≡◌, ℕ, ◌≤◌, ◌⊎◌, All, map, length, IfOk};
+ghost use Rattle.std.specs.Prelude.{◌≡◌, ℕ, ◌≤◌, ◌⊎◌, All, map, length, vec_len, IfOk};
 ghost use Rattle.bits.specs.Refusals.{OnFault, RefusedOnly, LimitJustWhere};
 ghost use Rattle.bits.specs.Codec.{NothingStands, AreInTurn};
 ghost use Rattle.schema.specs.Values.{view};
@@ -31,6 +31,7 @@ pub const MOST_BYTES_OF_VALUE: usize = 16_777_216;
 /// length of 0, which no schema has, is the one whose values no bytes count.)
 pub fn decode(alloc: Global, kind: Kind, bytes: &[u8], n: usize) -> R<(Vec<Value>, usize)>
     ensures stands { IfOk result (λ x. IsPlain kind n bytes.now (map view x.0.items) x.1) }
+    ensures count { IfOk result (λ x. vec_len x.0 ≡ n) }
     ensures of_kind { IfOk result (λ x. All (IsOfKind kind) (map view x.0.items)) }
     ensures within { IfOk result (λ x. x.1 ≤ length bytes.now) }
     ensures only { OnFault result (NothingStands (IsPlain kind n bytes.now)) }
@@ -45,6 +46,7 @@ pub fn decode(alloc: Global, kind: Kind, bytes: &[u8], n: usize) -> R<(Vec<Value
 /// lie, with no other list of them.
 pub fn decode_to<T: Holds>(alloc: Global, kind: Kind, bytes: &[u8], n: usize) -> R<(Vec<T>, usize)>
     ensures stands { IfOk result (λ x. IsPlain kind n bytes.now (map T.held x.0.items) x.1) }
+    ensures count { IfOk result (λ x. vec_len x.0 ≡ n) }
     ensures of_kind { IfOk result (λ x. All (IsOfKind kind) (map T.held x.0.items)) }
     ensures made { IfOk result (λ x. All T.IsMade x.0.items) }
     ensures within { IfOk result (λ x. x.1 ≤ length bytes.now) }
@@ -64,6 +66,7 @@ pub fn decode_to<T: Holds>(alloc: Global, kind: Kind, bytes: &[u8], n: usize) ->
 /// The first `n` bits as booleans.
 fn booleans<T: Holds>(alloc: Global, bytes: &[u8], n: usize) -> R<(Vec<T>, usize)>
     ensures stands { IfOk result (λ x. AreBooleans n bytes.now (map T.held x.0.items) x.1) }
+    ensures count { IfOk result (λ x. vec_len x.0 ≡ n) }
     ensures made { IfOk result (λ x. All T.IsMade x.0.items) }
     ensures only { OnFault result (NothingStands (AreBooleans n bytes.now)) }
     ensures which { RefusedOnly (λ e. e ≡ Refusal.Truncated) result }
@@ -89,6 +92,7 @@ fn sized_values<T: Holds>(
 ) -> R<(Vec<T>, usize)>
     requires { HasSize kind size }
     ensures stands { IfOk result (λ x. AreInTurn (IsSpelled kind) n bytes.now (map T.held x.0.items) x.1) }
+    ensures count { IfOk result (λ x. vec_len x.0 ≡ n) }
     ensures made { IfOk result (λ x. All T.IsMade x.0.items) }
     ensures only { OnFault result (NothingStands (AreInTurn (IsSpelled kind) n bytes.now)) }
     ensures which { RefusedOnly (λ e. (e ≡ Refusal.Truncated) ⊎ (e ≡ Refusal.Limit)) result }
@@ -127,6 +131,7 @@ fn sized_value(alloc: Global, kind: Kind, text: &[u8]) -> R<Value>
 /// The first `n` byte arrays.
 fn byte_arrays<T: Holds>(alloc: Global, bytes: &[u8], n: usize) -> R<(Vec<T>, usize)>
     ensures stands { IfOk result (λ x. AreInTurn (IsSpelled Kind.ByteArray) n bytes.now (map T.held x.0.items) x.1) }
+    ensures count { IfOk result (λ x. vec_len x.0 ≡ n) }
     ensures made { IfOk result (λ x. All T.IsMade x.0.items) }
     ensures only { OnFault result (NothingStands (AreInTurn (IsSpelled Kind.ByteArray) n bytes.now)) }
     ensures which { RefusedOnly (λ e. (e ≡ Refusal.Truncated) ⊎ (e ≡ Refusal.Limit)) result }

@@ -1,16 +1,20 @@
 -- The elements of what is said: there is one list of them, or none.
-use Rattle.std.proofs.Common.{◌≡◌, ℕ, List, [], ◌∷◌, ◌++◌, length, Option, Some, None, Result, Ok, Err, refl, sym, ap, ap₂, subst, ◌∙◌}
+use Rattle.std.proofs.Common.{◌≡◌, ℕ, List, [], ◌∷◌, ◌++◌, ◌≤◌, length, Option, Some, None, Result, Ok, Err, refl, sym, ap, ap₂, subst, ◌∙◌}
 use Rattle.bits.specs.declared.refusal.Refusal.{Refusal}
 use Rattle.bits.specs.Refusals.{OnFault}
 use Rattle.bits.specs.Codec.{IsFunctional}
 use Rattle.thrift_compact.specs.Tree.{Fields as Struct}
 use Rattle.thrift_compact.specs.Compact.{IsThrift}
 use Rattle.schema.specs.declared.element.Element.{Element as CodeElement}
+use Rattle.serde_json.specs.Data.{Data, depth}
+use Rattle.serde_json.specs.Read.{read}
 use Rattle.schema.specs.Shape.{Fields}
 use Rattle.schema.specs.Elements.{Element, element_view, elements_view}
 use Rattle.schema.specs.Listing.{IsSchemaOf}
-use Rattle.pqds.specs.SchemaReading.{Said, said_in, HasStruct, IsElementOf, AreElementsOf, IsSchemaText}
-use Rattle.pqds.proofs.Said.{same_value, elements-push}
+use Rattle.pqds.specs.SchemaJson.{IsSchemaText}
+use Rattle.pqds.specs.inner.SchemaReading.{Said, all_said, HasStruct, IsElementOf, AreElementsOf}
+use Rattle.pqds.proofs.Said.{elements-push}
+use Rattle.pqds.proofs.SchemaFields.{same_elements}
 
 -- the elements so far, and one more
 pub goes_on_with : (all now said : List Said) (s : Said) (es news : List CodeElement) (e : CodeElement) → now ≡ s ∷ said → news ≡ es ++ e ∷ [] → IsElementOf s (element_view e)
@@ -49,7 +53,7 @@ one_kept one (Some s) (Some a) None h k = absurd k
 one_kept one (Some s) (Some a) (Some b) h k = ap Some (one s a b (length s) (length s) h k).0
 
 one_element : IsFunctional IsThrift → (s : Said) (e d : Element) → IsElementOf s e → IsElementOf s d → e ≡ d
-one_element one s e d p q = p.is ∙ ap (λ t. record s.element { logical_type = t }) (one_kept one s.logical e.logical_type d.logical_type p.kept q.kept) ∙ sym q.is
+one_element one s e d p q = p.same ∙ ap (λ t. record s.element { logical_type = t }) (one_kept one s.logical e.logical_type d.logical_type p.kept q.kept) ∙ sym q.same
 
 one_list : IsFunctional IsThrift → (said : List Said) (es ds : List Element) → AreElementsOf said es → AreElementsOf said ds → es ≡ ds
 one_list one [] [] [] p q = refl
@@ -59,13 +63,14 @@ one_list one (s ∷ said) [] ds p q = absurd p
 one_list one (s ∷ said) (e ∷ es) [] p q = absurd q
 one_list one (s ∷ said) (e ∷ es) (d ∷ ds) p q = ap₂ (λ x xs. x ∷ xs) (one_element one s e d p.0 q.0) (one_list one said es ds p.1 q.1)
 
-no_text : IsFunctional IsThrift → (text : List ℕ) (said : List Said) (es : List Element) → said_in text ≡ Some said → AreElementsOf said es → ((fs : Fields) → IsSchemaOf es fs → ⊥) → (fs : Fields) → IsSchemaText text fs → ⊥
-no_text one text said es says are none fs p =
-    let its = subst (λ xs. AreElementsOf xs p.0) (same_value p.1.0 said (sym p.1.1 ∙ says)) p.1.2 in
+no_text : IsFunctional IsThrift → (text : List ℕ) (d : Data) (said : List Said) (es : List Element) → read text ≡ Some d → depth d ≤ 127 → Some said ≡ all_said d → AreElementsOf said es
+    → ((fs : Fields) → IsSchemaOf es fs → ⊥) → (fs : Fields) → IsSchemaText text fs → ⊥
+no_text one text d said es reads low says are none fs p =
+    let its = same_elements text d said p.0 reads low says p.1 in
     none fs (subst (λ xs. IsSchemaOf xs fs) (one_list one said p.0 es its are) p.2)
 
 -- the elements that a text says are refused as those of no schema
-pub no_schema : {X : Type 0} → IsFunctional IsThrift → (text : List ℕ) (said : List Said) (es : List Element) (r : Result X Refusal) → said_in text ≡ Some said → AreElementsOf said es
+pub no_schema : {X : Type 0} → IsFunctional IsThrift → (text : List ℕ) (d : Data) (said : List Said) (es : List Element) (r : Result X Refusal) → read text ≡ Some d → depth d ≤ 127 → Some said ≡ all_said d → AreElementsOf said es
     → OnFault r ((fs : Fields) → IsSchemaOf es fs → ⊥) → OnFault r ((fs : Fields) → IsSchemaText text fs → ⊥)
-no_schema one text said es (Ok x) says are none = tt
-no_schema one text said es (Err e) says are none = λ fault. no_text one text said es says are (none fault)
+no_schema one text d said es (Ok x) reads low says are none = tt
+no_schema one text d said es (Err e) reads low says are none = λ fault. no_text one text d said es reads low says are (none fault)

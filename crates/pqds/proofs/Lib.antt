@@ -10,3 +10,8 @@ pub mod Elements
 pub mod Told
 pub mod Refused
 pub mod Printed
+pub mod SchemaMembers
+pub mod SchemaNotes
+pub mod SchemaLeaves
+pub mod SchemaFields
+pub mod SchemaTexts

@@ -1,6 +1,6 @@
 -- What two texts are refused for: a line of the one, or all rows together.
 use Rattle.std.proofs.Common.{◌≡◌, ◌⊎◌, inl, inr, ℕ, List, Result, Ok, Err, refl, ap}
-use Rattle.std.specs.Prelude.{IfErr}
+use Rattle.std.specs.Prelude.{IfErr, IfOk, OnOk}
 use Rattle.std.specs.Str.Lines.{lines}
 use Rattle.bits.specs.declared.refusal.Refusal.{Refusal}
 use Rattle.bits.specs.declared.refusal.Refusal.TheVariants.{RowShape, Script, Limit, Memory, Exists, Device}
@@ -10,8 +10,10 @@ use Rattle.schema.specs.Shape.{Fields}
 use Rattle.schema.specs.Fits.{RowsFit}
 use Rattle.footer.specs.declared.options.WriteOptions.{WriteOptions}
 use Rattle.footer.specs.Writing.{IsOutOfRange, IsTooMuch, IsToBeWritten}
-use Rattle.pqds.specs.SchemaReading.{IsSchemaText}
-use Rattle.pqds.specs.Program.{AreRowTexts, HasFirstFault, AreRefusedTexts, AreRefusedFiles}
+use Rattle.pqds.specs.SchemaJson.{IsSchemaText}
+use Rattle.footer.specs.File.{FileMeans}
+use Rattle.footer.specs.Own.{IsLaidOut}
+use Rattle.pqds.specs.Program.{AreRowTexts, HasFirstFault, AreRefusedTexts, AreRefusedFiles, IsFileOf}
 
 -- the first line that is refused
 pub by_line : (options : WriteOptions) (schema_text rows_text : List ℕ) (fs : Fields) (e : Refusal) → IsSchemaText schema_text fs → HasCause (HasFirstFault fs (lines rows_text)) e → AreRefusedTexts options schema_text rows_text e
@@ -36,9 +38,21 @@ cause_or_memory : (Cause : Refusal → Type 0) (e : Refusal) → HasCause Cause 
 cause_or_memory Cause Memory h = inl refl
 cause_or_memory Cause e h = inr h
 
--- a file that cannot be read, or is no text
-pub by_file : (options : WriteOptions) (e : Refusal) → HasCause (λ x. (x ≡ Device) ⊎ (x ≡ Script)) e → HasCause (AreRefusedFiles options) e
-by_file options e h = elim (cause_or_memory (λ x. (x ≡ Device) ⊎ (x ≡ Script)) e h) [ inl m ↦ rw m tt | inr c ↦ elim c [ inl d ↦ rw d tt | inr s ↦ rw s tt ] ]
+-- a file that cannot be read
+pub by_file : (options : WriteOptions) (e : Refusal) → HasCause (λ x. x ≡ Device) e → HasCause (AreRefusedFiles options) e
+by_file options e h = elim (cause_or_memory (λ x. x ≡ Device) e h) [ inl m ↦ rw m tt | inr d ↦ rw d tt ]
+
+-- one that is no text
+pub by_bytes : (options : WriteOptions) (e : Refusal) → e ≡ Script → HasCause (AreRefusedFiles options) e
+by_bytes options e is = rw is tt
+
+-- what the texts are refused for
+pub by_texts : (options : WriteOptions) (schema_text rows_text : List ℕ) (e : Refusal) → AreRefusedTexts options schema_text rows_text e → HasCause (AreRefusedFiles options) e
+by_texts options schema_text rows_text Memory h = tt
+by_texts options schema_text rows_text Exists h = tt
+by_texts options schema_text rows_text Device h = tt
+by_texts options schema_text rows_text Script h = tt
+by_texts options schema_text rows_text e h = (schema_text, rows_text, h)
 
 -- a file that cannot be made
 pub by_name : (options : WriteOptions) (e : Refusal) → HasCause (λ x. (x ≡ Exists) ⊎ (x ≡ Device)) e → HasCause (AreRefusedFiles options) e
@@ -47,3 +61,15 @@ by_name options e h = elim (cause_or_memory (λ x. (x ≡ Exists) ⊎ (x ≡ Dev
 pub by_names : {X : Type 0} (options : WriteOptions) (r : Result X Refusal) → IfErr r (HasCause (λ x. (x ≡ Exists) ⊎ (x ≡ Device))) → IfErr r (HasCause (AreRefusedFiles options))
 by_names options (Ok x) h = tt
 by_names options (Err e) h = by_name options e h
+
+-- what holds whatever is answered
+pub on_ok_anyway : {X E : Type 0} (P : Type 0) (r : Result X E) → P → OnOk r P
+on_ok_anyway P (Ok x) p = p
+on_ok_anyway P (Err e) p = tt
+
+-- what is written is a file of the two texts
+pub file_of : {X : Type 0} (items : X → List ℕ) (options : WriteOptions) (schema_text rows_text : List ℕ) (fs : Fields) (rows : List ValueTrees) (r : Result X Refusal) → IsSchemaText schema_text fs → AreRowTexts fs (lines rows_text) rows
+    → IfOk r (λ file. FileMeans (items file) fs rows) → IfOk r (λ file. IsLaidOut options.group_rows fs rows (items file)) → OnOk r (IsOutOfRange options → ⊥) → OnOk r (IsToBeWritten fs options rows → ⊥)
+    → IfOk r (λ file. IsFileOf options schema_text rows_text (items file))
+file_of items options schema_text rows_text fs rows (Ok file) says read means laid range made = record { fs = fs; rows = rows; schema = says; read = read; means = means; laid_out = laid; in_range = range; built = made }
+file_of items options schema_text rows_text fs rows (Err e) says read means laid range made = tt

@@ -9,8 +9,9 @@ use Rattle.serde_json.specs.Events.{items_len}
 use Rattle.schema.specs.declared.element.Element.{Element as CodeElement}
 use Rattle.schema.specs.Elements.{Element, element_view, elements_view}
 use Rattle.pqds.specs.declared.schema_reading.Said.{Said as CodeSaid}
-use Rattle.pqds.specs.SchemaReading.{Said, word_of, repetitions, group_said, said_of_group, said_by, field_said, fields_said, said_below, all_said}
-use Rattle.pqds.specs.SchemaViews.{said_view, saids, Says}
+use Rattle.pqds.specs.SchemaJson.{repetitions}
+use Rattle.pqds.specs.inner.SchemaReading.{Said, word_of, group_said, said_of_group, said_by, field_said, fields_said, said_below, all_said}
+use Rattle.pqds.specs.inner.SchemaViews.{said_view, saids, Says}
 
 -- those, and then what is said
 abbrev pub after : List Said → Option (List Said) → Option (List Said)

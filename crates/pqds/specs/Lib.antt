@@ -1,6 +1,7 @@
 pub mod Json
 pub mod Reading
-pub mod SchemaReading
-pub mod SchemaViews
+pub mod SchemaJson
+pub mod SchemaPrinted
 pub mod Program
 pub mod Words
+pub mod inner

@@ -13,10 +13,15 @@ use Rattle.schema.specs.Fits.{fits_each}
 use Rattle.schema.specs.Views.{row_view}
 use Rattle.footer.specs.declared.options.WriteOptions.{WriteOptions}
 use Rattle.footer.specs.File.{FileMeans}
+use Rattle.footer.specs.Own.{IsLaidOut}
 use Rattle.footer.specs.Writing.{IsOutOfRange, IsTooMuch, IsToBeWritten}
 use Rattle.pqds.specs.Json.{lines_of}
 use Rattle.pqds.specs.Reading.{row_of, line_of, members_read}
-use Rattle.pqds.specs.SchemaReading.{IsSchemaText, IsRefusedSchema}
+use Rattle.pqds.specs.SchemaJson.{IsSchemaText, IsRefusedSchema}
+
+-- the bytes of the greatest file that is read: 2^31 - 1
+abbrev pub greatest_file : ℕ
+greatest_file = 2147483647
 
 -- behind what a writer held, where that is known, stand the lines of the rows that the bytes of a file mean
 pub record WritesRowsOf (bytes : List ℕ) (old new : Option (List ℕ)) : Type 0 where
@@ -58,13 +63,21 @@ pub record HasFirstFault (fs : Fields) (texts : List (List ℕ)) (e : Refusal) :
   pub read : AreRowTexts fs before rows
   pub refused : IsRefusedLine fs text e
 
--- the bytes of a file mean, in the schema of one text, the rows of another, one of each of its lines
-pub record IsFileOf (schema_text rows_text bytes : List ℕ) : Type 0 where
+-- The bytes of a file mean, in the schema of one text, the rows of another, one for each of its lines. They are laid out
+-- as these options say, which are in range, and of which each that the rows need is built.
+pub record IsFileOf (options : WriteOptions) (schema_text rows_text bytes : List ℕ) : Type 0 where
   pub fs : Fields
   pub rows : List ValueTrees
   pub schema : IsSchemaText schema_text fs
   pub read : AreRowTexts fs (lines rows_text) rows
   pub means : FileMeans bytes fs rows
+  pub laid_out : IsLaidOut options.group_rows fs rows bytes
+  pub in_range : IsOutOfRange options → ⊥
+  pub built : IsToBeWritten fs options rows → ⊥
+
+-- some texts have a file by these options
+abbrev pub HaveFile : WriteOptions → Type 0
+HaveFile options = (schema_text rows_text bytes : List ℕ) × IsFileOf options schema_text rows_text bytes
 
 -- in the schema of one text, some line of the other is the first that is refused, and so
 abbrev pub HasRefusedLine : List ℕ → List ℕ → Refusal → Type 0

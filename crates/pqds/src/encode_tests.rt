@@ -43,7 +43,8 @@ const FILES: [(&[u8], &[u8]); 4] = [
 /// A schema and rows, where they are there, and the fault that is told: the first of several.
 const FAULTS: [(Option<&[u8]>, Option<&[u8]>, &str); 14] = [
     (None, Some(b"\xFF"), DEVICE),
-    (Some(b"\xFF"), None, SCRIPT),
+    // Both files are read before either is looked at.
+    (Some(b"\xFF"), None, DEVICE),
     (Some(b"no schema"), None, DEVICE),
     (Some(b"[]"), Some(b"\xFF"), SCRIPT),
     (Some(b"[]"), Some(b"no row"), "refused 4 Schema\n"),
@@ -175,6 +176,18 @@ fn a_file_is_made_of_the_lines_of_rows(rt: HostRuntime) -> Result<(), Fail> {
 }
 
 #[test]
+fn a_row_file_of_more_than_a_mebibyte_is_read(rt: HostRuntime) -> Result<(), Fail> {
+    let alloc = rt.alloc();
+    let mut rows = String::from_str(alloc, "{\"x\":1")?;
+    rows.push_str(" ".repeat(alloc, 1_100_000)?.as_str())?;
+    rows.push_str("}\n{\"x\":300}\n")?;
+    let files = [Some(SCHEMA), Some(rows.as_bytes()), None];
+    let is_made = is_answered(&rt, "large", files, &[], "", Some(MADE.as_slice()))?;
+    assert!(rt; is_made);
+    Ok(())
+}
+
+#[test]
 fn the_first_fault_is_told_and_nothing_is_made(rt: HostRuntime) -> Result<(), Fail> {
     for (schema, rows, err) in &FAULTS {
         // A file at OUT is found last, and is left.
@@ -239,6 +252,8 @@ fn the_help_of_encode_names_its_refusals_and_an_example(rt: HostRuntime) -> Resu
     let said = answer_to(&rt, &["encode", "--help"])?;
     let text = std::str::from_utf8(said.err.as_slice())?;
     for wanted in [
+        "[default: 131072]",
+        "[default: 20000]",
         "Usage: pqds encode [OPTIONS] <SCHEMA> <ROWS> <OUT>",
         "14 RowShape",
         "24 Exists",

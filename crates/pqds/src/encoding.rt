@@ -5,9 +5,9 @@ ghost use Rattle.std.specs.Str.Lines.{lines};
 ghost use Rattle.bits.specs.Refusals.{RefusedOnly};
 ghost use Rattle.schema.specs.Fits.{RowsFit};
 ghost use Rattle.schema.specs.Views.{rows_view};
-ghost use Rattle.pqds.specs.Program.{IsRefusedLine, AddsRow, AreRowTexts, HasFirstFault, IsFileOf, AreRefusedTexts, AreRefusedFiles};
+ghost use Rattle.pqds.specs.Program.{IsRefusedLine, AddsRow, AreRowTexts, HasFirstFault, IsFileOf, HaveFile, AreRefusedTexts, AreRefusedFiles};
 
-use crate::host::{put_new, text_of};
+use crate::host::{put_new, text_of, whole_of};
 use crate::jsonrows::row_from;
 use crate::schema_reading::schema_from;
 use bits::R;
@@ -47,8 +47,8 @@ fn rows_from(alloc: Global, schema: &Schema, text: &str) -> R<Vec<Row>>
     Ok(rows)
 }
 
-/// The bytes of a file that means, in the schema of one text, the rows of the other, one of each line (an
-/// empty line is no row; a last line needs no line feed).
+/// The bytes of a file that means, in the schema of one text, the rows of the other, one for each line (an
+/// empty line is no row; a last line needs no line feed), laid out as the options say.
 ///
 /// Refused as `schema_from` refuses the schema, or else as `row_from` does the first line that is no row, or
 /// else as `write_file` does. The time is linear in the texts.
@@ -58,7 +58,7 @@ pub fn encoded(
     rows_text: &str,
     options: &WriteOptions,
 ) -> R<Vec<u8>>
-    ensures stands { IfOk result (λ file. IsFileOf schema_text.now rows_text.now file.items) }
+    ensures stands { IfOk result (λ file. IsFileOf options.now schema_text.now rows_text.now file.items) }
     ensures which { IfErr result (AreRefusedTexts options.now schema_text.now rows_text.now) }
 {
     let schema = schema_from(alloc, schema_text)?;
@@ -66,14 +66,18 @@ pub fn encoded(
     write_file(alloc, &schema, options, rows.as_slice())
 }
 
-/// Makes the file at `path` of the texts. Both are read whole before either is looked into, and the file is
-/// begun when its bytes are there. Refused Device or Script where a text cannot be read, as `encoded` refuses
-/// the texts, or as `put_new` refuses the path; then no file is made.
+/// Makes the file at `path` of the texts. The bytes of both files are read before either is looked at, and
+/// the new file is begun when all of its bytes are there. Refused Device where a file cannot be read, Script
+/// where it is not UTF-8, as `encoded` refuses the texts, or as `put_new` refuses the path; then no file is
+/// made.
 pub fn encode<F: Files>(rt: &F, alloc: Global, sources: &Sources<'_>, path: &str) -> R<()>
+    ensures options { OnOk result (HaveFile sources.now.options) }
     ensures which { RefusedOnly (AreRefusedFiles sources.now.options) result }
 {
-    let schema_text = text_of(rt, alloc, sources.schema)?;
-    let rows_text = text_of(rt, alloc, sources.rows)?;
+    let schema_bytes = whole_of(rt, alloc, sources.schema)?;
+    let rows_bytes = whole_of(rt, alloc, sources.rows)?;
+    let schema_text = text_of(schema_bytes)?;
+    let rows_text = text_of(rows_bytes)?;
     let file = encoded(
         alloc,
         schema_text.as_str(),

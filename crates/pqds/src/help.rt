@@ -3,9 +3,13 @@
 pub const ABOUT: &str =
     "Reads Parquet files and prints their rows as JSON, and makes such files of JSON";
 
+/// The version, and the logic of the checker that it is proved with.
+pub const VERSION: &str = "0.1.0, proved with rattle-kit-13b logic dac8208d650f15bf";
+
 pub const AFTER: &str = "\
-Answers with status 0 where all was done, and 1 where the call was refused: then standard error has one line,
-`refused`, a number, a name, and for 6 and 7 the column. Status 2 is this text, or what is wrong with the words.
+Returns status 0 when all was done, and 1 when the call was refused: then standard error has one line, `refused`,
+a number, a name, and for 6 and 7 the column. Status 2 is a wrong call, or a call for this help or the version, which
+are printed on standard error too.
 
 Example, at the top of the repository:
 
@@ -25,7 +29,11 @@ the names. Numbers are printed as they are (unsigned ones unsigned), booleans as
 other bytes as hexadecimal digits in lower case.
 
 The file is read whole, and no line is printed before all of it was accepted. Standard output has the lines and
-nothing else.";
+nothing else. Where its reader closes it early, as head does, the call ends with `refused 25 Device` and status 1.
+
+There are no FLOAT, DOUBLE, FLOAT16 or INT96 columns: their values have no order that all tools share. An annotation
+over a type that it is not meant for is kept without meaning, and ranges are not checked: an int_8 column takes any
+INT32.";
 
 pub const DECODE_REFUSALS: &str = "\
 The file is refused, with status 1 and one line on standard error, by one of these:

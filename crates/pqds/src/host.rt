@@ -1,10 +1,12 @@
 //! Files of the host, read whole or made whole.
 
-ghost use Rattle.std.specs.Prelude.{◌≡◌, ◌⊎◌, ◌↔◌, ◌≤◌, OnOk};
+ghost use Rattle.std.specs.Prelude.{◌≡◌, ◌⊎◌, ◌↔◌, ◌≤◌, ◌+◌, OnOk, IfOk, IfErr, string_bytes};
+ghost use Rattle.std.specs.Str.{IsUtf8};
 ghost use Rattle.std.specs.IoError.{error_kind};
 ghost use Rattle.std.specs.Io.KnownBytes.{Appends};
 ghost use Rattle.bits.specs.Refusals.{RefusedOnly};
 ghost use Rattle.bits.specs.declared.refusal.Refusal.TheVariants.{Memory, Exists, Device, Script};
+ghost use Rattle.pqds.specs.Program.{greatest_file};
 
 use bits::{R, Refusal};
 use std::alloc::Global;
@@ -43,7 +45,7 @@ fn refusal_of_new(error: io::Error) -> Refusal
 /// How much room to ask for before a file is read: for the bytes that it has, but no more than are read,
 /// and for one more, so that its end is seen without growth. None where its length is not known.
 fn room_for<O: OpenFile>(file: &O) -> usize
-    ensures limit { result ≤ 2147483649 }
+    ensures limit { result ≤ greatest_file + 2 }
 {
     match file.metadata() {
         Ok(metadata) => metadata.len().min(MORE_THAN_A_FILE) as usize + 1,
@@ -54,6 +56,7 @@ fn room_for<O: OpenFile>(file: &O) -> usize
 /// The bytes of a file of the host, but no more than are needed to see that it is too long. Refused
 /// Device where it cannot be read. Room for as many bytes as it is said to have is asked for at once.
 pub fn bytes_of<F: Files>(rt: &F, alloc: Global, path: &str) -> R<Vec<u8>>
+    ensures limit { MORE_THAN_A_FILE ≡ greatest_file + 1 }
     ensures which { RefusedOnly (λ e. e ≡ Device) result }
 {
     let file = File::open(rt, path).map_err(refusal_of)?;
@@ -63,14 +66,21 @@ pub fn bytes_of<F: Files>(rt: &F, alloc: Global, path: &str) -> R<Vec<u8>>
     Ok(bytes)
 }
 
-/// The text of a file of the host, all of it. Refused Device where it cannot be read, and Script where
-/// it is not UTF-8.
-pub fn text_of<F: Files>(rt: &F, alloc: Global, path: &str) -> R<String>
-    ensures which { RefusedOnly (λ e. (e ≡ Device) ⊎ (e ≡ Script)) result }
+/// The bytes of a file of the host, all of them. Refused Device where it cannot be read.
+pub fn whole_of<F: Files>(rt: &F, alloc: Global, path: &str) -> R<Vec<u8>>
+    ensures which { RefusedOnly (λ e. e ≡ Device) result }
 {
     let mut file = File::open(rt, path).map_err(refusal_of)?;
     let mut bytes = Vec::new(alloc);
     file.read_to_end(&mut bytes).map_err(refusal_of)?;
+    Ok(bytes)
+}
+
+/// The text that bytes are. Refused Script where they are not UTF-8. Takes no memory.
+pub fn text_of(bytes: Vec<u8>) -> R<String>
+    ensures stands { IfOk result (λ text. string_bytes text ≡ bytes.items) }
+    ensures which { IfErr result (λ e. (e ≡ Script) × (IsUtf8 bytes.items → ⊥)) }
+{
     match String::from_utf8(bytes) {
         Ok(text) => Ok(text),
         Err(_) => Err(Refusal::Script),

@@ -1,11 +1,15 @@
 //! Files of the host, also on a host whose writes and syncs fail, and which has no links.
 
-use crate::host::put_new;
+use crate::host::{put_new, text_of};
 use bits::{R, Refusal};
 use std::alloc::{Allocator, Global};
 use std::fs::{self, File, Files, Metadata, OpenFile, OpenOptions};
 use std::io::{self, ErrorKind, Read, Seek, SeekFrom, Write};
 use std::test::*;
+
+const TEXTS: &[&[u8]] = &[b"", b"a\n", b"\xC3\xA9", b"\xF0\x9F\x92\xBE", b"\0"];
+
+const NO_TEXTS: &[&[u8]] = &[b"\xFF", b"\xC3", b"a\xC3\x28", b"\xED\xA0\x80", b"\xC0\x80"];
 
 /// The host's files without its links, each of which takes so many bytes, and is synced or not.
 #[derive(Drop)]
@@ -205,5 +209,18 @@ fn a_host_without_links_has_the_file_in_place(rt: HostRuntime) -> Result<(), Fai
     assert!(rt; !is_there(&rt, "linkless.bytes.new-0"));
     let bytes = taken(&rt, "linkless.bytes")?;
     assert_eq!(rt; bytes.as_slice(), b"whole".as_slice());
+    Ok(())
+}
+
+#[test]
+fn text_is_utf_8(rt: HostRuntime) -> Result<(), Fail> {
+    for bytes in TEXTS {
+        let text = text_of(Vec::from_slice(rt.alloc(), bytes)?)?;
+        assert!(rt; text.as_bytes() == *bytes);
+    }
+    for bytes in NO_TEXTS {
+        let text = text_of(Vec::from_slice(rt.alloc(), bytes)?);
+        assert!(rt; matches!(text, Err(Refusal::Script)));
+    }
     Ok(())
 }

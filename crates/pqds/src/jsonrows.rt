@@ -1,10 +1,10 @@
 //! Rows as JSON text, and back.
 
 ghost use Rattle.std.specs.BTreeMap.{btree_map_len};
-ghost use Rattle.std.specs.Prelude.{◌≡◌, ◌⊎◌, ◌&&◌, ◌↔◌, false, is_some, Option, option_map, IfSome, IfOk, IfErr, OnOk, IsTrue, string_bytes};
+ghost use Rattle.std.specs.Prelude.{◌≡◌, ◌⊎◌, ◌&&◌, ◌↔◌, ◌≤◌, false, is_some, Option, option_map, IfSome, IfOk, IfErr, OnOk, IsTrue, string_bytes};
 ghost use Rattle.std.specs.Str.{is_utf8};
 ghost use Rattle.bits.specs.declared.refusal.Refusal.TheVariants.{Memory, RowShape, Script};
-ghost use Rattle.serde_json.specs.Data.{Data, Members, number, string, object};
+ghost use Rattle.serde_json.specs.Data.{Data, Members, depth, number, string, object};
 ghost use Rattle.serde_json.specs.Read.{read};
 ghost use Rattle.serde_json.specs.View.{view, number_view, items_view, members_view};
 ghost use Rattle.schema.specs.Annotations.{order_of, is_text};
@@ -352,9 +352,11 @@ fn members_from(
     }
 }
 
-/// The JSON value that a text is. Refused Script where it is none.
+/// The JSON value that a text is, its arrays and objects nested at most 127 deep. Refused Script where it is
+/// none, or where it nests deeper.
 pub fn json_of(alloc: Global, text: &str) -> R<Json>
     ensures stands { IfOk result (λ json. read text.now ≡ Some (view json)) }
+    ensures nests { IfOk result (λ json. depth (view json) ≤ 127) }
     ensures which { IfErr result (λ e. (e ≡ Memory) ⊎ ((e ≡ Script) × (read text.now ≡ None))) }
 {
     match Json::from_str(alloc, text) {

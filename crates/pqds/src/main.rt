@@ -2,7 +2,8 @@
 //!
 //! [`working::work`] is all of it, over two writers; `main` hands it the words of the command line.
 //! `specs/Json.antt` says which line a row has, `specs/Reading.antt` which row a line is,
-//! `specs/SchemaReading.antt` which schema a text is, `specs/Program.antt` and `specs/Words.antt` what a call does.
+//! `specs/SchemaJson.antt` which schema a text is, `specs/SchemaPrinted.antt` how one is printed,
+//! `specs/Program.antt` and `specs/Words.antt` what a call does.
 #![tactic(auto)]
 
 #[cfg(test)]
@@ -24,6 +25,8 @@ mod schema_reading_tests;
 #[cfg(test)]
 mod tests;
 mod usage;
+#[cfg(test)]
+mod usage_tests;
 mod working;
 
 use bits::{R, Refusal};

@@ -1,12 +1,15 @@
 //! Words, numbers and notes of a schema's JSON text.
 
-ghost use Rattle.std.specs.Prelude.{◌≡◌, map, option_map, option_and_then, IfOk, Some};
+ghost use Rattle.std.specs.Prelude.{◌≡◌, map, option_map, option_and_then, IfOk, Some, None, not, if◌then◌else◌};
 ghost use Rattle.serde_json.specs.Find.{as_str};
 ghost use Rattle.serde_json.specs.View.{view};
-ghost use Rattle.pqds.specs.SchemaReading.{number_of, is_one_of, word_of, int32_of, optional, other_of, named_of, note_by, note_of};
-ghost use Rattle.pqds.specs.SchemaViews.{note_view};
+ghost use Rattle.schema.specs.Views.{annotation_view};
+ghost use Rattle.pqds.specs.SchemaJson.{number_of, is_one_of, is_known};
+ghost use Rattle.pqds.specs.inner.SchemaReading.{word_of, int32_of, optional, other_of, named_of, note_by, note_of, is_unnamed};
+ghost use Rattle.pqds.specs.inner.SchemaViews.{note_view};
 
 use crate::jsonrows::bytes_of_digits;
+use schema::{Annotation, Kind};
 use serde_json::Value as Json;
 use std::alloc::{AllocError, Global};
 
@@ -109,22 +112,51 @@ pub fn optional_int32(member: Option<&Json>) -> Option<Option<i32>>
     }
 }
 
+/// Whether an annotation has no name over the type of its leaf.
+fn has_no_name(annotation: &Annotation) -> bool
+    ensures { result ≡ not (is_known (annotation_view annotation.now)) }
+{
+    !matches!(annotation, Annotation::Known(_))
+}
+
+/// The number of a ConvertedType, where it has no name over the type.
+fn unnamed_number(kind: Option<Kind>, number: i32) -> Option<i32>
+    ensures { result ≡ (if is_unnamed kind (Some number) None then Some number else None) }
+{
+    match kind {
+        Some(kind) => {
+            if has_no_name(&Annotation::of_element(kind, Some(number), None)) {
+                Some(number)
+            } else {
+                None
+            }
+        }
+        None => Some(number),
+    }
+}
+
 /// The note `other`, by its number or the digits of its struct.
 fn other_of(
     alloc: Global,
+    kind: Option<Kind>,
     converted: Option<&Json>,
     logical: Option<&Json>,
 ) -> Result<Option<Note>, AllocError>
-    ensures { IfOk result (λ found. option_map note_view found ≡ other_of (option_map (λ json. view json.now) converted.entry) (option_map (λ json. view json.now) logical.entry)) }
+    ensures { IfOk result (λ found. option_map note_view found ≡ other_of kind (option_map (λ json. view json.now) converted.entry) (option_map (λ json. view json.now) logical.entry)) }
 {
     match (converted, logical) {
-        (Some(json), None) => match int32_of(json) {
-            Some(number) => Ok(Some(Note {
-                converted: Some(number),
-                logical: None,
-            })),
-            None => Ok(None),
-        },
+        (Some(json), None) => {
+            let Some(number) = int32_of(json) else {
+                return Ok(None);
+            };
+            match unnamed_number(kind, number) {
+                Some(number) => Ok(Some(Note {
+                    converted: Some(number),
+                    logical: None,
+                })),
+                None => Ok(None),
+            }
+        }
         (None, Some(json)) => match json.as_str() {
             Some(digits) => match bytes_of_digits(alloc, digits)? {
                 Some(bytes) => Ok(Some(Note {
@@ -155,14 +187,15 @@ fn named_of(number: Option<i32>, converted: Option<&Json>, logical: Option<&Json
 /// The note of this word.
 fn note_by(
     alloc: Global,
+    kind: Option<Kind>,
     word: &str,
     converted: Option<&Json>,
     logical: Option<&Json>,
 ) -> Result<Option<Note>, AllocError>
-    ensures { IfOk result (λ found. option_map note_view found ≡ note_by (Some (Some word.now)) (option_map (λ json. view json.now) converted.entry) (option_map (λ json. view json.now) logical.entry)) }
+    ensures { IfOk result (λ found. option_map note_view found ≡ note_by kind (Some (Some word.now)) (option_map (λ json. view json.now) converted.entry) (option_map (λ json. view json.now) logical.entry)) }
 {
     if word == OTHER {
-        return other_of(alloc, converted, logical);
+        return other_of(alloc, kind, converted, logical);
     }
     match number_of(&NOTES, word) {
         Some(number) => Ok(named_of(Some(number), converted, logical)),
@@ -170,16 +203,16 @@ fn note_by(
     }
 }
 
-/// The note of a leaf's object.
-pub fn note_of(alloc: Global, json: &Json) -> Result<Option<Note>, AllocError>
-    ensures { IfOk result (λ found. option_map note_view found ≡ note_of (view json.now)) }
+/// The note of a leaf's object, whose type this is.
+pub fn note_of(alloc: Global, kind: Option<Kind>, json: &Json) -> Result<Option<Note>, AllocError>
+    ensures { IfOk result (λ found. option_map note_view found ≡ note_of kind (view json.now)) }
 {
     let converted = json.get("converted");
     let logical = json.get("logical");
     match json.get("note") {
         None => Ok(named_of(None, converted, logical)),
         Some(member) => match member.as_str() {
-            Some(word) => note_by(alloc, word, converted, logical),
+            Some(word) => note_by(alloc, kind, word, converted, logical),
             None => Ok(None),
         },
     }

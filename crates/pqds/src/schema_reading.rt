@@ -1,6 +1,6 @@
 //! Schemas from JSON text.
 
-ghost use Rattle.std.specs.Prelude.{◌≡◌, ◌∷◌, [], pos, nat_abs, ◌≤ℤ◌, List, length, map, option_map, IfOk, IfErr};
+ghost use Rattle.std.specs.Prelude.{◌≡◌, ◌∷◌, [], pos, nat_abs, ◌≤ℤ◌, List, length, map, option_map, Some, None, true, IfOk, IfErr};
 ghost use Rattle.bits.specs.Refusals.{OnFault, RefusedOnly};
 ghost use Rattle.bits.specs.declared.refusal.Refusal.TheVariants.{Script};
 ghost use Rattle.thrift_compact.specs.Tree.{Fields as Struct};
@@ -9,15 +9,17 @@ ghost use Rattle.thrift_compact.specs.View.{tree_view};
 ghost use Rattle.serde_json.specs.View.{view, items_view};
 ghost use Rattle.schema.specs.Shape.{Fields};
 ghost use Rattle.schema.specs.Elements.{Element as Listed, element_view, elements_view};
-ghost use Rattle.pqds.specs.SchemaReading.{has_only, length_of, numbers_of, leaf_said, said_of_group, group_said, field_said, fields_said, said_below, all_said, IsElementOf, AreElementsOf, IsSchemaText, IsRefusedSchema};
-ghost use Rattle.pqds.specs.SchemaViews.{said_view, saids, Says};
+ghost use Rattle.pqds.specs.SchemaJson.{IsSchemaText, IsRefusedSchema};
+ghost use Rattle.pqds.specs.SchemaPrinted.{SchemasReadBack};
+ghost use Rattle.pqds.specs.inner.SchemaReading.{has_only, kind_of, is_unnamed, length_of, numbers_of, leaf_said, said_of_group, group_said, field_said, fields_said, said_below, all_said, IsElementOf, AreElementsOf};
+ghost use Rattle.pqds.specs.inner.SchemaViews.{said_view, saids, Says};
 
 use crate::jsonrows::json_of;
 use crate::schema_notes::{
     int32_of, is_one_of, note_of, optional_int32, optional_word, text_of, word_of,
 };
 use bits::{R, Refusal};
-use schema::{Element, Schema};
+use schema::{Annotation, Element, Kind, Schema};
 use serde_json::Value as Json;
 use std::alloc::{AllocError, Global};
 use thrift_compact::{Tree, one_struct, read_struct};
@@ -104,6 +106,23 @@ fn length_of(kind: i32, member: Option<&Json>) -> Option<Option<i32>>
     }
 }
 
+/// The physical type by the numbers of an element, where there is one of ours.
+fn kind_of(number: Option<i32>, length: Option<i32>) -> Option<Kind>
+    ensures { result ≡ kind_of number length }
+{
+    match number? {
+        0 => Some(Kind::Boolean),
+        1 => Some(Kind::Int32),
+        2 => Some(Kind::Int64),
+        6 => Some(Kind::ByteArray),
+        7 => match length {
+            Some(length) if length > 0 => Some(Kind::FixedLenByteArray(length as u32)),
+            _ => None,
+        },
+        _ => None,
+    }
+}
+
 /// The numbers of the leaf that an object is.
 fn numbers_of(json: &Json) -> Option<Numbers>
     ensures { result ≡ numbers_of (view json.now) }
@@ -132,7 +151,8 @@ fn leaf_said(
     let Some(numbers) = numbers_of(json) else {
         return Ok(None);
     };
-    let Some(note) = note_of(alloc, json)? else {
+    let kind = kind_of(Some(numbers.kind), numbers.length);
+    let Some(note) = note_of(alloc, kind, json)? else {
         return Ok(None);
     };
     if !has_only(json, &LEAF_MEMBERS) {
@@ -289,15 +309,36 @@ fn struct_of(alloc: Global, bytes: &[u8]) -> R<Tree>
     }
 }
 
-/// The element of what an object says. Refused Script where the bytes of its logicalType are no struct.
+/// The struct that bytes are, which has no name over the type of its leaf. Refused Script where they are
+/// none, or where it has one.
+fn unnamed_struct(alloc: Global, kind: Option<Kind>, bytes: &[u8]) -> R<Tree>
+    ensures stands { IfOk result (λ t. IsThrift bytes.now (tree_view t) (length bytes.now)) }
+    ensures unnamed { IfOk result (λ t. is_unnamed kind None (Some (tree_view t)) ≡ true) }
+    ensures only { OnFault result ((t : Struct) → IsThrift bytes.now t (length bytes.now) → is_unnamed kind None (Some t) ≡ true → ⊥) }
+    ensures which { RefusedOnly (λ e. e ≡ Script) result }
+{
+    one_struct();
+    let tree = struct_of(alloc, bytes)?;
+    let Some(kind) = kind else {
+        return Ok(tree);
+    };
+    match Annotation::of_element(kind, None, Some(tree)) {
+        Annotation::OtherLogical(tree) => Ok(tree),
+        _ => Err(Refusal::Script),
+    }
+}
+
+/// The element of what an object says. Refused Script where the bytes of its logicalType are no struct, or
+/// where it has a name over the type.
 fn element_of(alloc: Global, said: Said) -> R<Element>
     ensures stands { IfOk result (λ e. IsElementOf (said_view said) (element_view e)) }
     ensures only { OnFault result ((e : Listed) → IsElementOf (said_view said) e → ⊥) }
     ensures which { RefusedOnly (λ e. e ≡ Script) result }
 {
     let Said { element, logical } = said;
+    let kind = kind_of(element.kind, element.type_length);
     let logical_type = match logical {
-        Some(bytes) => Some(struct_of(alloc, bytes.as_slice())?),
+        Some(bytes) => Some(unnamed_struct(alloc, kind, bytes.as_slice())?),
         None => None,
     };
     Ok(Element {
@@ -363,3 +404,8 @@ pub fn schema_from(alloc: Global, text: &str) -> R<Schema>
     let elements = elements_of(alloc, all)?;
     Schema::new(alloc, elements.as_slice())
 }
+
+/// What is printed of a schema is read as that schema, however its text is laid out.
+pub fn schemas_read_back()
+    ensures { SchemasReadBack }
+{}

@@ -7,7 +7,7 @@ use std::test::*;
 
 /// A text, and the numbers of its first field: of its type, its length, its FieldRepetitionType and its
 /// ConvertedType (`parquet.thrift`), and -1 where there is none.
-const FIELDS: [(&str, [i32; 4]); 29] = [
+const FIELDS: [(&str, [i32; 4]); 34] = [
     (
         r#"[{"name":"x","rep":"required","type":"boolean"}]"#,
         [0, -1, 0, -1],
@@ -109,6 +109,29 @@ const FIELDS: [(&str, [i32; 4]); 29] = [
         r#"[{"name":"x","rep":"required","type":"fixed","length":16,"note":"other","logical":"ec0000"}]"#,
         [7, 16, 0, -1],
     ),
+    // What has no name over its type: UTF8 over INT32, INTERVAL over 11 bytes, no ConvertedType at all.
+    (
+        r#"[{"name":"x","rep":"required","type":"int32","note":"other","converted":0}]"#,
+        [1, -1, 0, 0],
+    ),
+    (
+        r#"[{"name":"x","rep":"required","type":"fixed","length":11,"note":"other","converted":21}]"#,
+        [7, 11, 0, 21],
+    ),
+    (
+        r#"[{"name":"x","rep":"required","type":"bytes","note":"other","converted":22}]"#,
+        [6, -1, 0, 22],
+    ),
+    // STRING over other bytes.
+    (
+        r#"[{"name":"x","rep":"required","type":"fixed","length":3,"note":"other","logical":"1c0000"}]"#,
+        [7, 3, 0, -1],
+    ),
+    // A name over a type where it is not known keeps its number.
+    (
+        r#"[{"name":"x","rep":"required","type":"int32","note":"utf8"}]"#,
+        [1, -1, 0, 0],
+    ),
     // Groups, and their notes.
     (
         r#"[{"name":"x","rep":"optional","fields":[{"name":"x","rep":"required","type":"int32"},{"name":"y","rep":"required","type":"int32"}]}]"#,
@@ -129,7 +152,7 @@ const FIELDS: [(&str, [i32; 4]); 29] = [
 ];
 
 /// A text, and what it is refused for.
-const FAULTS: [(&str, &str); 40] = [
+const FAULTS: [(&str, &str); 44] = [
     // A struct whose field 15, FLOAT16, is an empty struct.
     (
         r#"[{"name":"x","rep":"required","type":"fixed","length":2,"note":"other","logical":"fc0000"}]"#,
@@ -235,6 +258,23 @@ const FAULTS: [(&str, &str); 40] = [
     ),
     (
         r#"[{"name":"x","rep":"required","type":"int32","note":"other","logical":"ec000000"}]"#,
+        "29 Script",
+    ),
+    // What has a name over its type: UTF8, DATE, INTERVAL, and STRING.
+    (
+        r#"[{"name":"x","rep":"required","type":"bytes","note":"other","converted":0}]"#,
+        "29 Script",
+    ),
+    (
+        r#"[{"name":"x","rep":"required","type":"int32","note":"other","converted":6}]"#,
+        "29 Script",
+    ),
+    (
+        r#"[{"name":"x","rep":"required","type":"fixed","length":12,"note":"other","converted":21}]"#,
+        "29 Script",
+    ),
+    (
+        r#"[{"name":"x","rep":"required","type":"bytes","note":"other","logical":"1c0000"}]"#,
         "29 Script",
     ),
     (r#"[{"name":"x","rep":"required","fields":1}]"#, "29 Script"),

@@ -105,6 +105,15 @@ fn help_names_the_refusals_and_an_example(rt: HostRuntime) -> Result<(), Fail> {
 }
 
 #[test]
+fn the_version_names_the_logic(rt: HostRuntime) -> Result<(), Fail> {
+    let said = answer_to(&rt, &["--version"])?;
+    let text = std::str::from_utf8(said.err.as_slice())?;
+    assert_eq!(rt; (said.status, said.out.len()), (2, 0));
+    assert!(rt; text.contains("logic dac8208d650f15bf"), "{text}");
+    Ok(())
+}
+
+#[test]
 fn a_file_that_cannot_be_read_is_refused(rt: HostRuntime) -> Result<(), Fail> {
     for path in ["nowhere.parquet", ".", ""] {
         let said = answer_to(&rt, &["decode", path])?;

@@ -1,7 +1,8 @@
 //! The words that the program knows.
 
-ghost use Rattle.std.specs.Prelude.{◌≡◌, Some, IfSome, IfOk, codes};
-ghost use Rattle.pqds.specs.Words.{first_word, word_of};
+ghost use Rattle.std.specs.Prelude.{◌≡◌, Some, IfSome, IfOk, codes, option_map};
+ghost use Rattle.clap.specs.Matches.{first_value, found_of};
+ghost use Rattle.pqds.specs.Words.{first_word, word_of, style_named};
 
 use crate::encoding::Sources;
 use crate::help;
@@ -46,22 +47,26 @@ fn with_options<'a>(alloc: Global, command: Command<'a>) -> Result<Command<'a>, 
         .long("group-rows")
         .value_name("N")
         .value_parser(value_parser!(u32))
-        .help("How many rows a row group has at most; 131072 where it is not said");
+        .default_value("131072")
+        .help("How many rows a row group has at most: 1 to 1048576");
     let page_rows = Arg::new(alloc, "page-rows")
         .long("page-rows")
         .value_name("N")
         .value_parser(value_parser!(u32))
-        .help("How many rows a page has at most; 20000 where it is not said");
+        .default_value("20000")
+        .help("How many rows a page has at most: 1 or more");
     let page_version = Arg::new(alloc, "page-version")
         .long("page-version")
         .value_name("N")
         .value_parser(value_parser!(u8))
-        .help("The version of the pages; 1 where it is not said");
+        .default_value("1")
+        .help("The version of the pages: 1 or 2");
     let style = Arg::new(alloc, "style")
         .long("style")
         .value_name("STYLE")
         .value_parser(STYLES.as_slice())
-        .help("The encodings of the values; plain where it is not said");
+        .default_value("plain")
+        .help("The encodings of the values");
     let command = command
         .arg(group_rows)?
         .arg(page_rows)?
@@ -85,6 +90,7 @@ fn encode_command<'a>(alloc: Global) -> Result<Command<'a>, Error> {
 fn program<'a>(alloc: Global) -> Result<Command<'a>, Error> {
     let program = Command::new(alloc, "pqds")
         .about(help::ABOUT)
+        .version(help::VERSION)
         .after_help(help::AFTER)
         .no_binary_name(true)
         .disable_help_subcommand(true)
@@ -106,7 +112,9 @@ fn error_text(alloc: Global, error: &Error) -> R<String> {
 }
 
 /// The style that a word of [`STYLES`] says; `plain` where none is said.
-fn style_of(word: Option<&str>) -> Style {
+fn style_of(word: Option<&str>) -> Style
+    ensures { result ≡ style_named (option_map (λ text. text.now) word.entry) }
+{
     match word {
         Some("dictionary") => Style::Dictionary,
         Some("delta") => Style::Delta,
@@ -116,7 +124,9 @@ fn style_of(word: Option<&str>) -> Style {
 }
 
 /// How files are written, by the words.
-fn options_in(matches: &ArgMatches<'_>) -> WriteOptions {
+fn options_in(matches: &ArgMatches<'_>) -> WriteOptions
+    ensures { result.style ≡ style_named (first_value (found_of matches.now) (codes "style")) }
+{
     let standard = WriteOptions::standard();
     let group_rows = matches.get_one::<u32>("group-rows");
     let page_rows = matches.get_one::<u32>("page-rows");

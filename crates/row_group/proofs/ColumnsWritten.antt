@@ -13,7 +13,7 @@ use Rattle.metadata.specs.Records.{ChunkMeta, GroupMeta}
 use Rattle.plain.specs.Plain.{IsTooLong}
 use Rattle.pages.specs.Page.{values}
 use Rattle.pages.specs.Writing.{page_weight, AreShort, IsPageTooMuch}
-use Rattle.row_group.specs.declared.limits.TheConstants.{MOST_ENTRIES_OF_CHUNK}
+use Rattle.row_group.specs.Greatest.{most_entries}
 use Rattle.row_group.specs.Writing.{IsOwnChunk, AppendsChunk, AppendsEach, AppendsGroup, IsChunkTooMuch, IsGroupTooMuch}
 use Rattle.row_group.specs.Columns.{column_of, AppendsChunks}
 use Rattle.row_group.proofs.Places.{any_here}
@@ -30,18 +30,18 @@ all_more P rows leaves leaf h p =
     subst (AllByRecursion P) (sym (columns_more rows leaves leaf)) (all_joined P (map (column_of rows) leaves) (column_of rows leaf ∷ []) h (p, tt))
 
 pub chunk_more : (leaves : List Leaf) (leaf : Leaf) (rows : List ValueTrees) (old mid new : List ℕ) (cs : List ChunkMeta) (c : ChunkMeta) → IsOwnChunk c
-    → AreShort (column_of rows leaf) → (MOST_ENTRIES_OF_CHUNK <ℤ pos (length (column_of rows leaf)) → ⊥)
+    → AreShort (column_of rows leaf) → (most_entries <ℤ pos (length (column_of rows leaf)) → ⊥)
     → AppendsChunk leaf mid new c.meta_data (column_of rows leaf) → AppendsChunks leaves rows old mid cs → AppendsChunks (leaves ++ leaf ∷ []) rows old new (cs ++ c ∷ [])
 chunk_more leaves leaf rows old mid new cs c own short few p q = record {
   each = subst (λ (cols : List (List Entry)). AppendsEach (leaves ++ leaf ∷ []) cols old new (cs ++ c ∷ [])) (sym (columns_more rows leaves leaf))
       (each_more leaves (map (column_of rows) leaves) old mid new cs leaf (column_of rows leaf) c q.each p own);
-  few = all_more (λ es. MOST_ENTRIES_OF_CHUNK <ℤ pos (length es) → ⊥) rows leaves leaf q.few few;
+  few = all_more (λ es. most_entries <ℤ pos (length es) → ⊥) rows leaves leaf q.few few;
   values_short = all_more AreShort rows leaves leaf q.values_short short;
 }
 
 -- the same, at a place of the leaves
 pub chunk_more_at : (leaves : List Leaf) (i : ℕ) (leaf : Leaf) (rows : List ValueTrees) (old mid new : List ℕ) (cs : List ChunkMeta) (c : ChunkMeta) → i < length leaves → leaf ≡ get_or leaves i leaf → IsOwnChunk c
-    → AreShort (column_of rows leaf) → (MOST_ENTRIES_OF_CHUNK <ℤ pos (length (column_of rows leaf)) → ⊥)
+    → AreShort (column_of rows leaf) → (most_entries <ℤ pos (length (column_of rows leaf)) → ⊥)
     → AppendsChunk leaf mid new c.meta_data (column_of rows leaf) → AppendsChunks (take i leaves) rows old mid cs → AppendsChunks (take (i + 1) leaves) rows old new (cs ++ c ∷ [])
 chunk_more_at leaves i leaf rows old mid new cs c lt e own short few p q =
     let more : take (i + 1) leaves ≡ take i leaves ++ leaf ∷ [] = take_more leaves i leaf lt ∙ ap (λ (l : Leaf). take i leaves ++ l ∷ []) (sym e) in
@@ -67,7 +67,7 @@ weights_up_to rows leaves i leaf lt e =
 pub too_much : (fs : Fields) (rows : List ValueTrees) (i : ℕ) (leaf : Leaf) (old mid : List ℕ) (cs : List ChunkMeta) → i < length (leaves_of fs) → leaf ≡ get_or (leaves_of fs) i leaf
     → AppendsChunks (take i (leaves_of fs)) rows old mid cs → IsChunkTooMuch (length mid) (column_of rows leaf) → IsGroupTooMuch (length old) fs rows
 too_much fs rows i leaf old mid cs lt e so_far (IsChunkTooMuch.many_entries many) =
-    IsGroupTooMuch.many_entries (any_here (λ es. MOST_ENTRIES_OF_CHUNK <ℤ pos (length es)) (column_of rows) (leaves_of fs) i leaf lt e many)
+    IsGroupTooMuch.many_entries (any_here (λ es. most_entries <ℤ pos (length es)) (column_of rows) (leaves_of fs) i leaf lt e many)
 too_much fs rows i leaf old mid cs lt e so_far (IsChunkTooMuch.large_page (IsPageTooMuch.long_value long)) =
     IsGroupTooMuch.long_value (any_here (λ es. Any IsTooLong (values es)) (column_of rows) (leaves_of fs) i leaf lt e long)
 too_much fs rows i leaf old mid cs lt e so_far (IsChunkTooMuch.large_page (IsPageTooMuch.heavy_page heavy)) =

@@ -11,3 +11,4 @@ pub mod Laid
 pub mod ChunkWritten
 pub mod Lent
 pub mod ColumnsWritten
+pub mod OneMeaning

@@ -8,8 +8,8 @@ use Rattle.schema.specs.Stripe.{Entry, columns, leaves_of}
 use Rattle.schema.specs.Law.{IsSchema, ColumnsDetermineRows}
 use Rattle.metadata.specs.Records.{GroupMeta}
 use Rattle.row_group.specs.Chunks.{AreChunks, GroupMeans}
-use Rattle.row_group.specs.declared.limits.TheConstants.{MOST_ROWS_OF_GROUP}
-use Rattle.row_group.specs.Limits.{HasColumn, BeginsWith, IsChunkOver, IsGroupOver, many_rows, large_chunk, IsGroupToCome, with_dictionary, other_chunk}
+use Rattle.row_group.specs.Greatest.{most_rows}
+use Rattle.row_group.specs.Limits.{HasColumn, BeginsWith, IsChunkOver, IsGroupOver, many_rows, large_chunk, IsGroupToCome, other_chunk}
 use Rattle.row_group.specs.Moving.{IsLeafRead, IsColumnLimit, HasCount, rows_of}
 use Rattle.row_group.proofs.RowsOf.{length-rows_of}
 use Rattle.row_group.proofs.Flat.{AreFlat, flat, chunks_are_whole, rows_fit, columns_are, columns_count}
@@ -54,11 +54,10 @@ pub limit_of_column : (front : List ℕ) (fs : Fields) (g : GroupMeta) → HasCo
 limit_of_column front fs g h = by h.is
   where
     by : IsColumnLimit front h.chunk.meta_data h.leaf → IsGroupOver front fs g ⊎ IsGroupToCome front fs g
-    by (inl d) = inr (with_dictionary (record { k = h.k; chunk = h.chunk; leaf = h.leaf; of_group = h.of_group; of_schema = h.of_schema; is = d }))
-    by (inr (inl over)) = inl (large_chunk (record { k = h.k; chunk = h.chunk; leaf = h.leaf; of_group = h.of_group; of_schema = h.of_schema; is = over }))
-    by (inr (inr come)) = inr (other_chunk (record { k = h.k; chunk = h.chunk; leaf = h.leaf; of_group = h.of_group; of_schema = h.of_schema; is = come }))
+    by (inl over) = inl (large_chunk (record { k = h.k; chunk = h.chunk; leaf = h.leaf; of_group = h.of_group; of_schema = h.of_schema; is = over }))
+    by (inr come) = inr (other_chunk (record { k = h.k; chunk = h.chunk; leaf = h.leaf; of_group = h.of_group; of_schema = h.of_schema; is = come }))
 
 -- a group whose count and whose columns are within the limits
-pub not_over : (front : List ℕ) (fs : Fields) (g : GroupMeta) → (MOST_ROWS_OF_GROUP <ℤ g.num_rows → ⊥) → (HasColumn fs g (BeginsWith front IsChunkOver) → ⊥) → IsGroupOver front fs g → ⊥
+pub not_over : (front : List ℕ) (fs : Fields) (g : GroupMeta) → (most_rows <ℤ g.num_rows → ⊥) → (HasColumn fs g (BeginsWith front IsChunkOver) → ⊥) → IsGroupOver front fs g → ⊥
 not_over front fs g few short (many_rows many) = few many
 not_over front fs g few short (large_chunk over) = short over

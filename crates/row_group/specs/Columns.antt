@@ -6,7 +6,7 @@ use Rattle.schema.specs.Values.{ValueTrees, no_values, value as item}
 use Rattle.schema.specs.Stripe.{Step, Leaf, Entry, column}
 use Rattle.metadata.specs.Records.{ChunkMeta}
 use Rattle.pages.specs.Writing.{AreShort}
-use Rattle.row_group.specs.declared.limits.TheConstants.{MOST_ENTRIES_OF_CHUNK}
+use Rattle.row_group.specs.Greatest.{most_entries}
 use Rattle.row_group.specs.Writing.{AppendsEach}
 
 -- how many values a row has
@@ -37,5 +37,5 @@ column_of rows leaf = column rows leaf.steps
 -- the bytes of `new` are those of `old` and the chunks of these leaves' columns; none of the columns is too much
 pub record AppendsChunks (leaves : List Leaf) (rows : List ValueTrees) (old new : List ℕ) (chunks : List ChunkMeta) : Type 0 where
   pub each : AppendsEach leaves (map (column_of rows) leaves) old new chunks
-  pub few : AllByRecursion (λ es. MOST_ENTRIES_OF_CHUNK <ℤ pos (length es) → ⊥) (map (column_of rows) leaves)
+  pub few : AllByRecursion (λ es. most_entries <ℤ pos (length es) → ⊥) (map (column_of rows) leaves)
   pub values_short : AllByRecursion AreShort (map (column_of rows) leaves)

@@ -11,7 +11,7 @@ use Rattle.metadata.specs.Records.{ColumnMeta, ChunkMeta, GroupMeta}
 use Rattle.pages.specs.Page.{Page, entries, IsPage}
 use Rattle.pages.specs.Chunk.{is_read, dictionary_page, entries_of, all_entries}
 use Rattle.pages.specs.Limits.{IsPageOver, IsPageToCome, IsOfPages}
-use Rattle.row_group.specs.declared.limits.TheConstants.{MOST_ENTRIES_OF_CHUNK, MOST_ROWS_OF_GROUP}
+use Rattle.row_group.specs.Greatest.{most_entries, most_rows}
 use Rattle.row_group.specs.Chunks.{IsChunkOf, StartsAt}
 
 -- Behind pages that stand as the first ones of a chunk, with its dictionary where they have one, and that hold fewer entries
@@ -28,22 +28,13 @@ pub record HasPageOver (count : ℤ) (leaf : Leaf) (bytes : List ℕ) : Type 0 w
 
 -- the chunk that begins here announces too many entries, or has a value that is too long
 pub data IsChunkOver (m : ColumnMeta) (leaf : Leaf) (bytes : List ℕ) : Type 0 where
-  many_entries : MOST_ENTRIES_OF_CHUNK <ℤ m.num_values → IsChunkOver m leaf bytes
+  many_entries : most_entries <ℤ m.num_values → IsChunkOver m leaf bytes
   long_value : IsChunkOf m leaf → HasPageOver m.num_values leaf bytes → IsChunkOver m leaf bytes
 
 -- Why a chunk is not read yet. (Each that is built is taken away, and with the last the type.)
 pub data IsChunkToCome (m : ColumnMeta) (leaf : Leaf) (bytes : List ℕ) : Type 0 where
   other_page : IsChunkOf m leaf → pos 0 <ℤ m.num_values → IsPageToCome leaf None bytes → IsChunkToCome m leaf bytes
-  many_pages : (page : Page) (used : ℕ) → IsChunkOf m leaf → IsPage leaf None bytes page used → pos (length (entries_of page)) <ℤ m.num_values → IsChunkToCome m leaf bytes
-
--- a dictionary page's offset is given, above 0 and below the data page's
-pub record HasDictionary (m : ColumnMeta) : Type 0 where
-  pub offset : ℕ
-  pub page : ℕ
-  pub given : m.dictionary_page_offset ≡ Some (pos offset)
-  pub data_page : m.data_page_offset ≡ pos page
-  pub above : 0 < offset
-  pub below : offset < page
+  many_pages : (page : Page) (used : ℕ) → IsChunkOf m leaf → IsPage leaf None bytes page used → used < length bytes → pos (length (entries_of page)) <ℤ m.num_values → IsChunkToCome m leaf bytes
 
 -- chunk k of the group, with leaf k of the schema
 pub record HasColumn (fs : Fields) (g : GroupMeta) (Is : ColumnMeta → Leaf → Type 0) : Type 0 where
@@ -60,7 +51,7 @@ BeginsWith front Is m leaf = (start : ℕ) × StartsAt m start × Is m leaf (dro
 
 -- the group announces too many rows, or a chunk of it goes beyond a limit
 pub data IsGroupOver (front : List ℕ) (fs : Fields) (g : GroupMeta) : Type 0 where
-  many_rows : MOST_ROWS_OF_GROUP <ℤ g.num_rows → IsGroupOver front fs g
+  many_rows : most_rows <ℤ g.num_rows → IsGroupOver front fs g
   large_chunk : HasColumn fs g (BeginsWith front IsChunkOver) → IsGroupOver front fs g
 
 -- a leaf that is not read yet: it is below a group, or not REQUIRED
@@ -70,7 +61,6 @@ IsLeafToCome leaf = (1 < length leaf.steps) ⊎ (0 < leaf.greatest_definition)
 -- Why a group is not read yet. (Each that is built is taken away, and with the last the type.)
 pub data IsGroupToCome (front : List ℕ) (fs : Fields) (g : GroupMeta) : Type 0 where
   other_leaf : Any IsLeafToCome (leaves_of fs) → IsGroupToCome front fs g
-  with_dictionary : HasColumn fs g (λ m leaf. HasDictionary m) → IsGroupToCome front fs g
   other_chunk : HasColumn fs g (BeginsWith front IsChunkToCome) → IsGroupToCome front fs g
 
 -- a chunk of the group is compressed

@@ -11,13 +11,14 @@ use Rattle.metadata.specs.Records.{ColumnMeta}
 use Rattle.pages.specs.Page.{Page, IsPage}
 use Rattle.pages.specs.Chunk.{entries_of}
 use Rattle.pages.specs.Limits.{IsPageOver, IsPageToCome}
-use Rattle.row_group.specs.Limits.{IsChunkOver, IsChunkToCome, BeginsWith, HasDictionary}
+use Rattle.row_group.specs.Limits.{IsChunkOver, IsChunkToCome, BeginsWith}
 
--- the first page holds fewer entries than are wanted
+-- the first page holds fewer entries than are wanted, and a byte comes after it
 pub record HasFewer (leaf : Leaf) (bytes : List ℕ) (n : ℕ) : Type 0 where
   pub page : Page
   pub used : ℕ
   pub stands : IsPage leaf None bytes page used
+  pub followed : used < length bytes
   pub fewer : length (entries_of page) < n
 
 -- why pages that hold n entries are refused Limit
@@ -26,7 +27,7 @@ IsPagesLimit leaf bytes n = (0 < n) × (IsPageOver leaf bytes ⊎ (IsPageToCome 
 
 -- why a chunk of a file is
 abbrev pub IsColumnLimit : List ℕ → ColumnMeta → Leaf → Type 0
-IsColumnLimit front m leaf = HasDictionary m ⊎ (BeginsWith front IsChunkOver m leaf ⊎ BeginsWith front IsChunkToCome m leaf)
+IsColumnLimit front m leaf = BeginsWith front IsChunkOver m leaf ⊎ BeginsWith front IsChunkToCome m leaf
 
 -- a leaf that is read
 abbrev pub IsLeafRead : Leaf → Type 0

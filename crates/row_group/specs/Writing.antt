@@ -12,7 +12,7 @@ use Rattle.plain.specs.Plain.{IsTooLong}
 use Rattle.pages.specs.Page.{values}
 use Rattle.pages.specs.Headers.{IsPlainPage}
 use Rattle.pages.specs.Writing.{page_weight, AreShort, IsPageTooMuch}
-use Rattle.row_group.specs.declared.limits.TheConstants.{MOST_ENTRIES_OF_CHUNK, MOST_ROWS_OF_GROUP, MOST_BYTES_BEFORE_CHUNK}
+use Rattle.row_group.specs.Greatest.{most_entries, most_rows, most_bytes_before}
 use Rattle.row_group.specs.Chunks.{ChunkMeans, StartsAt}
 
 -- what the store's own writer says of a chunk: the encodings PLAIN and RLE, no dictionary, no statistics yet
@@ -36,9 +36,9 @@ pub record AppendsChunk (leaf : Leaf) (old new : List ℕ) (m : ColumnMeta) (es 
 
 -- why entries are too much for a chunk behind so many bytes
 pub data IsChunkTooMuch (before : ℕ) (es : List Entry) : Type 0 where
-  many_entries : MOST_ENTRIES_OF_CHUNK <ℤ pos (length es) → IsChunkTooMuch before es
+  many_entries : most_entries <ℤ pos (length es) → IsChunkTooMuch before es
   large_page : IsPageTooMuch es → IsChunkTooMuch before es
-  far_behind : MOST_BYTES_BEFORE_CHUNK < before → IsChunkTooMuch before es
+  far_behind : most_bytes_before < before → IsChunkTooMuch before es
 
 -- a chunk of this file: no path is given, and 0 for the offset that parquet.thrift deprecates
 pub record IsOwnChunk (c : ChunkMeta) : Type 0 where
@@ -61,15 +61,15 @@ pub record AppendsGroup (fs : Fields) (old new : List ℕ) (g : GroupMeta) (rows
 
 -- none of the columns has too many entries, or a value that is longer than a value may be
 pub record AreTaken (fs : Fields) (rows : List ValueTrees) : Type 0 where
-  pub few : AllByRecursion (λ es. MOST_ENTRIES_OF_CHUNK <ℤ pos (length es) → ⊥) (columns fs rows)
+  pub few : AllByRecursion (λ es. most_entries <ℤ pos (length es) → ⊥) (columns fs rows)
   pub values_short : AllByRecursion AreShort (columns fs rows)
 
 -- why rows are too much for a group behind so many bytes
 pub data IsGroupTooMuch (before : ℕ) (fs : Fields) (rows : List ValueTrees) : Type 0 where
-  many_rows : MOST_ROWS_OF_GROUP <ℤ pos (length rows) → IsGroupTooMuch before fs rows
-  many_entries : Any (λ es. MOST_ENTRIES_OF_CHUNK <ℤ pos (length es)) (columns fs rows) → IsGroupTooMuch before fs rows
+  many_rows : most_rows <ℤ pos (length rows) → IsGroupTooMuch before fs rows
+  many_entries : Any (λ es. most_entries <ℤ pos (length es)) (columns fs rows) → IsGroupTooMuch before fs rows
   long_value : Any (λ es. Any IsTooLong (values es)) (columns fs rows) → IsGroupTooMuch before fs rows
-  heavy : MOST_BYTES_BEFORE_CHUNK < before + sum_by page_weight (columns fs rows) → IsGroupTooMuch before fs rows
+  heavy : most_bytes_before < before + sum_by page_weight (columns fs rows) → IsGroupTooMuch before fs rows
 
 -- what rows are refused for that should make a group
 abbrev pub IsOfRows : Refusal → Type 0

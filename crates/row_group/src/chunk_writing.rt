@@ -13,7 +13,7 @@ ghost use Rattle.pages.specs.Headers.{IsPlainPage};
 ghost use Rattle.pages.specs.Page.{values};
 ghost use Rattle.pages.specs.Views.{entry_ref_view};
 ghost use Rattle.pages.specs.Writing.{page_weight, AreShort, IsPageTooMuch, IsLeafToBeWritten, IsOfWriting};
-ghost use Rattle.row_group.specs.declared.limits.TheConstants.{MOST_ENTRIES_OF_CHUNK};
+ghost use Rattle.row_group.specs.Greatest.{most_entries};
 ghost use Rattle.row_group.specs.Writing.{AppendsChunk, IsChunkTooMuch};
 
 use crate::chunk::UNCOMPRESSED;
@@ -49,7 +49,7 @@ pub fn write_chunk(
 ) -> R<ColumnMeta>
     ensures stands { IfOk result (λ m. AppendsChunk (leaf_view leaf.now) out.old.items out.new.items (column_meta_view m) (map entry_ref_view entries.now)) }
     ensures short { OnOk result (AreShort (map entry_ref_view entries.now)) }
-    ensures few { OnOk result (MOST_ENTRIES_OF_CHUNK <ℤ pos (length (map entry_ref_view entries.now)) → ⊥) }
+    ensures few { OnOk result (most_entries <ℤ pos (length (map entry_ref_view entries.now)) → ⊥) }
     ensures only { OnFault result (AllByRecursion (IsEntryOf (leaf_view leaf.now)) (map entry_ref_view entries.now) → ⊥) }
     ensures limit { result ≡ Err Refusal.Limit → IsChunkTooMuch (length out.old.items) (map entry_ref_view entries.now) ⊎ IsLeafToBeWritten (leaf_view leaf.now) }
     ensures which { RefusedOnly IsOfWriting result }

@@ -8,7 +8,7 @@ ghost use Rattle.schema.specs.Views.{leaf_view, column_view, columns_view};
 ghost use Rattle.metadata.specs.Views.{column_meta_view, group_meta_view};
 ghost use Rattle.pages.specs.Limits.{IsOfPages};
 ghost use Rattle.row_group.specs.Chunks.{StartsAt, ColumnMeans, AreChunks};
-ghost use Rattle.row_group.specs.Limits.{IsChunkOver, HasDictionary, HasColumn, BeginsWith, HasCodec, IsOfChunks};
+ghost use Rattle.row_group.specs.Limits.{IsChunkOver, HasColumn, BeginsWith, HasCodec, IsOfChunks};
 ghost use Rattle.row_group.specs.Moving.{IsColumnLimit, HasCount};
 
 use crate::chunk::read_chunk;
@@ -18,13 +18,13 @@ use metadata::{ColumnMeta, GroupMeta};
 use schema::{Column, Leaf, Schema};
 use std::alloc::Global;
 
-/// Where a chunk starts in its file. Refused Page for a negative place, and Limit where a dictionary's
-/// page comes first.
+/// Where a chunk starts in its file: at its dictionary's page, where the place of one is given above 0
+/// and before the data page; else at the data page. Refused Page for a negative place.
 fn start_of(meta: &ColumnMeta) -> R<usize>
     ensures stands { IfOk result (λ start. StartsAt (column_meta_view meta.now) start) }
     ensures alone { IfOk result (λ start. (other : ℕ) → StartsAt (column_meta_view meta.now) other → other ≡ start) }
     ensures only { OnFault result ((start : ℕ) → StartsAt (column_meta_view meta.now) start → ⊥) }
-    ensures limit { result ≡ Err Refusal.Limit → HasDictionary (column_meta_view meta.now) }
+    ensures limit { result ≡ Err Refusal.Limit → ⊥ }
     ensures which { RefusedOnly IsOfPages result }
 {
     let Some(page) = natural(meta.data_page_offset) else {
@@ -37,7 +37,7 @@ fn start_of(meta: &ColumnMeta) -> R<usize>
         return Err(Refusal::Page);
     };
     if dictionary > 0 && dictionary < page {
-        return Err(Refusal::Limit);
+        return Ok(dictionary);
     }
     Ok(page)
 }

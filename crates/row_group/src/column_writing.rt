@@ -9,7 +9,7 @@ ghost use Rattle.schema.specs.Views.{leaf_view, rows_view};
 ghost use Rattle.metadata.specs.Views.{column_meta_view, chunk_meta_view};
 ghost use Rattle.pages.specs.Views.{entry_ref_view};
 ghost use Rattle.pages.specs.Writing.{AreShort};
-ghost use Rattle.row_group.specs.declared.limits.TheConstants.{MOST_ENTRIES_OF_CHUNK};
+ghost use Rattle.row_group.specs.Greatest.{most_entries};
 ghost use Rattle.row_group.specs.Writing.{AppendsChunk, IsChunkTooMuch, IsGroupTooMuch};
 ghost use Rattle.row_group.specs.Columns.{AreFilled, way_at, IsFieldOf, column_of, AppendsChunks};
 
@@ -44,7 +44,7 @@ fn write_column(alloc: Global, leaf: &Leaf, rows: &[Row], out: &mut Vec<u8>) -> 
     requires entries { AllByRecursion (IsEntryOf (leaf_view leaf.now)) (column_of (rows_view rows.now) (leaf_view leaf.now)) }
     ensures stands { IfOk result (λ m. AppendsChunk (leaf_view leaf.now) out.old.items out.new.items (column_meta_view m) (column_of (rows_view rows.now) (leaf_view leaf.now))) }
     ensures short { OnOk result (AreShort (column_of (rows_view rows.now) (leaf_view leaf.now))) }
-    ensures few { OnOk result (MOST_ENTRIES_OF_CHUNK <ℤ pos (length (column_of (rows_view rows.now) (leaf_view leaf.now))) → ⊥) }
+    ensures few { OnOk result (most_entries <ℤ pos (length (column_of (rows_view rows.now) (leaf_view leaf.now))) → ⊥) }
     ensures limit { result ≡ Err Refusal.Limit → IsChunkTooMuch (length out.old.items) (column_of (rows_view rows.now) (leaf_view leaf.now)) }
     ensures which { RefusedOnly (λ e. e ≡ Refusal.Limit) result }
     ensures unchanged { OnErr result (out.new.items ≡ out.old.items) }

@@ -17,7 +17,7 @@ use std::alloc::Global;
 /// The rows of a group, from the bytes of its file before the footer.
 ///
 /// Refused Page for a negative number of rows, or a chunk's negative place; Limit for more than
-/// [`MOST_ROWS_OF_GROUP`] rows, a leaf that is below a group or not REQUIRED, or a dictionary's page;
+/// [`MOST_ROWS_OF_GROUP`] rows, a leaf that is below a group or not REQUIRED;
 /// Schema where there are not as many chunks as leaves; Levels where a chunk has not as many entries
 /// as the group has rows; else as a chunk is. No rows are answered of a group that goes beyond a limit.
 ///

@@ -1,11 +1,27 @@
-//! Laws over what is written.
+//! What holds of the definitions.
 
 ghost use Rattle.std.specs.Prelude.{List, ℕ, ◌++◌};
 ghost use Rattle.schema.specs.Values.{ValueTrees};
 ghost use Rattle.schema.specs.Shape.{Fields};
 ghost use Rattle.metadata.specs.Records.{GroupMeta};
 ghost use Rattle.row_group.specs.Chunks.{GroupMeans};
+ghost use Rattle.row_group.specs.Laws.{ChunksHoldOneColumn, FilesHoldOneColumn, GroupsHaveOneList};
 ghost use Rattle.row_group.specs.Writing.{AppendsGroup};
+
+use pages::one_page;
+use schema::columns_determine_rows;
+
+/// The bytes of a chunk hold at most one column of a leaf, and those of a file at most one column where
+/// a chunk's record says; a group of a schema has at most one list of rows. So it is also of bytes that
+/// nobody has read.
+pub fn one_meaning()
+    ensures chunk { ChunksHoldOneColumn }
+    ensures column { FilesHoldOneColumn }
+    ensures group { GroupsHaveOneList }
+{
+    one_page();
+    columns_determine_rows();
+}
 
 /// A group that was written at the end of a file's bytes has its rows there, whatever follows it.
 pub fn an_appended_group_has_its_rows()

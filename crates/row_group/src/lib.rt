@@ -2,7 +2,8 @@
 //!
 //! `specs/Chunks.antt` says which entries a chunk holds (`ChunkMeans`) and which rows a group
 //! (`GroupMeans`), `specs/Left.antt` which rows of a group are still to come, `specs/Limits.antt` what is
-//! beyond a limit and what is not read yet, `specs/Writing.antt` what a writer leaves.
+//! beyond a limit and what is not read yet, `specs/Writing.antt` what a writer leaves. `specs/Laws.antt`
+//! says that they hold one column, and one list of rows.
 #![tactic(auto)]
 
 mod chunk;
@@ -22,11 +23,6 @@ pub use chunk::read_chunk;
 pub use chunk_writing::write_chunk;
 pub use group::read_group;
 pub use group_writing::write_group;
-pub use laws::an_appended_group_has_its_rows;
+pub use laws::{an_appended_group_has_its_rows, one_meaning};
 pub use limits::{MOST_BYTES_BEFORE_CHUNK, MOST_ENTRIES_OF_CHUNK, MOST_ROWS_OF_GROUP};
 pub use rows::Rows;
-
-#[cfg(test)]
-mod tests;
-#[cfg(test)]
-mod writing_tests;

@@ -25,3 +25,5 @@ pub mod Faultless
 pub mod CutSteps
 pub mod Marks
 pub mod Again
+mod Besides
+pub mod LeafPlaces

@@ -27,7 +27,7 @@ pub record LeafType : Type 0 where
   pub scale : Option ℤ
   pub precision : Option ℤ
 
--- the numbers of the converted types of leaves
+-- parquet.thrift, enum ConvertedType: the numbers of those of leaves
 abbrev pub number_of : ConvertedType → ℕ
 number_of converted.Utf8 = 0
 number_of converted.Enum = 4
@@ -55,7 +55,7 @@ converted_types =
     ∷ converted.TimestampMicros ∷ converted.Uint8 ∷ converted.Uint16 ∷ converted.Uint32 ∷ converted.Uint64 ∷ converted.Int8 ∷ converted.Int16
     ∷ converted.Int32 ∷ converted.Int64 ∷ converted.Json ∷ converted.Bson ∷ converted.Interval ∷ []
 
--- the numbers of the converted types of groups
+-- and of those of groups
 abbrev pub group_number_of : GroupAnnotation → ℕ
 group_number_of Map = 1
 group_number_of MapKeyValue = 2

@@ -15,3 +15,4 @@ pub mod Code
 pub mod Leafing
 pub mod Listed
 pub mod Cutting
+pub mod Keys

@@ -9,7 +9,7 @@ use Rattle.schema.specs.Annotations.{LeafType, converted_number, logical_struct,
 use Rattle.schema.specs.Elements.{Element}
 use Rattle.schema.specs.Shape.{Field, leaf, fields, Fields, no_fields, field, count}
 
--- Type, FieldRepetitionType, ConvertedType
+-- parquet.thrift, enum Type
 abbrev pub type_number : Kind → ℕ
 type_number Boolean = 0
 type_number Int32 = 1
@@ -21,6 +21,7 @@ abbrev pub type_length : Kind → Option ℤ
 type_length (FixedLenByteArray n) = Some (pos n)
 type_length _ = None
 
+-- parquet.thrift, enum FieldRepetitionType
 abbrev pub repetition_number : Repetition → ℕ
 repetition_number Required = 0
 repetition_number Optional = 1

@@ -54,7 +54,7 @@ pub record IsTreeOf (es : List Element) (root : Element) (below : Branches) : Ty
   pub counted : IsCounted (branch root below)
   pub group : root.kind ≡ None
 
--- FieldRepetitionType
+-- parquet.thrift, enum FieldRepetitionType
 abbrev pub repetition : Option ℤ → Option Repetition
 repetition None = None
 repetition (Some z) = if int_eq z (pos 0) then Some Required else if int_eq z (pos 1) then Some Optional else if int_eq z (pos 2) then Some Repeated else None
@@ -64,7 +64,7 @@ abbrev pub fixed : Option ℤ → Option Typed
 fixed (Some (pos (suc n))) = Some (Stored (FixedLenByteArray (suc n)))
 fixed _ = None
 
--- Type: what the values of a leaf are by the type and the length of its element
+-- parquet.thrift, enum Type: what the values of a leaf are by the type and the length of its element
 abbrev pub typed : ℤ → Option ℤ → Option Typed
 typed z length =
     if int_eq z (pos 0) then Some (Stored Boolean)

@@ -13,6 +13,7 @@ ghost use Rattle.schema.specs.Views.{field_view, field_views, leaf_type_view};
 use crate::annotation::{Annotation, GroupAnnotation, LeafType};
 use crate::element::Element;
 use crate::field::Field;
+use crate::numbers::{repetitions, types};
 use crate::value::{Kind, Repetition};
 use bits::{R, Refusal};
 use std::alloc::Global;
@@ -39,9 +40,9 @@ pub fn repetition_of(number: Option<i32>) -> Option<Repetition>
     ensures { result ≡ repetition number }
 {
     match number? {
-        0 => Some(Repetition::Required),
-        1 => Some(Repetition::Optional),
-        2 => Some(Repetition::Repeated),
+        repetitions::REQUIRED => Some(Repetition::Required),
+        repetitions::OPTIONAL => Some(Repetition::Optional),
+        repetitions::REPEATED => Some(Repetition::Repeated),
         _ => None,
     }
 }
@@ -52,13 +53,13 @@ fn type_of(number: i32, type_length: Option<i32>) -> Option<Typed>
     ensures length { HasTypedLength result }
 {
     match number {
-        0 => Some(Typed::Stored(Kind::Boolean)),
-        1 => Some(Typed::Stored(Kind::Int32)),
-        2 => Some(Typed::Stored(Kind::Int64)),
-        3 => Some(Typed::Int96),
-        4 | 5 => Some(Typed::Floating),
-        6 => Some(Typed::Stored(Kind::ByteArray)),
-        7 => {
+        types::BOOLEAN => Some(Typed::Stored(Kind::Boolean)),
+        types::INT32 => Some(Typed::Stored(Kind::Int32)),
+        types::INT64 => Some(Typed::Stored(Kind::Int64)),
+        types::INT96 => Some(Typed::Int96),
+        types::FLOAT | types::DOUBLE => Some(Typed::Floating),
+        types::BYTE_ARRAY => Some(Typed::Stored(Kind::ByteArray)),
+        types::FIXED_LEN_BYTE_ARRAY => {
             let length = type_length?;
             if length < 1 {
                 return None;

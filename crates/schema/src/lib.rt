@@ -2,7 +2,8 @@
 //!
 //! `specs/Values.antt` sees a [`Value`] as a tree and `specs/Views.antt` all else; `specs/Annotations.antt`
 //! has the annotations and which order they give, `specs/Fits.antt` what fits a schema,
-//! `specs/Stripe.antt` the columns of rows, `specs/Law.antt` what a schema is.
+//! `specs/Stripe.antt` the columns of rows, `specs/Law.antt` what a schema is, `specs/Keys.antt` what key
+//! columns are, and a row with and without its key.
 #![tactic(auto)]
 
 mod annotation;
@@ -13,10 +14,12 @@ mod element;
 mod field;
 mod fits;
 mod key;
+mod key_laws;
 mod laws;
 mod leaves;
 mod listing;
 mod listing_laws;
+mod numbers;
 mod order;
 mod reading;
 mod row;
@@ -29,6 +32,7 @@ pub use element::Element;
 pub use field::{Field, Leaf, Step};
 pub use fits::fits_row;
 pub use key::{Key, KeyColumn, KeyKind};
+pub use key_laws::{a_row_is_its_key_and_the_rest, rows_without_keys_fit};
 pub use laws::{
     annotations_are_kept, at_most_laws, columns_determine_rows, entries_are_of_leaves,
     levels_are_of_steps, orders_are_total, unsigned_order_is_of_bits, worked_examples,
@@ -40,8 +44,3 @@ pub use order::{Order, compare, compare_by};
 pub use row::{Column, Entry, Row};
 pub use schema::Schema;
 pub use value::{Kind, Repetition, Value, copied_values, same};
-
-#[cfg(test)]
-mod schema_tests;
-#[cfg(test)]
-mod tests;

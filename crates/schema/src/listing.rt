@@ -13,6 +13,7 @@ ghost use Rattle.schema.specs.Views.{annotation_view, leaf_type_view, field_view
 use crate::annotation::{Annotation, GroupAnnotation, LeafType};
 use crate::element::Element;
 use crate::field::Field;
+use crate::numbers::repetitions;
 use crate::value::{Kind, Repetition};
 use bits::R;
 use std::alloc::Global;
@@ -35,9 +36,9 @@ fn repetition_type(repetition: Repetition) -> Option<i32>
     ensures { result ≡ Some (pos (repetition_number repetition)) }
 {
     match repetition {
-        Repetition::Required => Some(0),
-        Repetition::Optional => Some(1),
-        Repetition::Repeated => Some(2),
+        Repetition::Required => Some(repetitions::REQUIRED),
+        Repetition::Optional => Some(repetitions::OPTIONAL),
+        Repetition::Repeated => Some(repetitions::REPEATED),
     }
 }
 

@@ -5,6 +5,7 @@ ghost use Rattle.bits.specs.Refusals.{RefusedOnly};
 ghost use Rattle.schema.specs.Listed.{type_number};
 ghost use Rattle.schema.specs.Values.{view, views};
 
+use crate::numbers::types;
 use bits::R;
 use std::alloc::{AllocError, Global};
 
@@ -32,11 +33,11 @@ impl Kind {
         ensures { result ≡ pos (type_number self) }
     {
         match self {
-            Kind::Boolean => 0,
-            Kind::Int32 => 1,
-            Kind::Int64 => 2,
-            Kind::ByteArray => 6,
-            Kind::FixedLenByteArray(_) => 7,
+            Kind::Boolean => types::BOOLEAN,
+            Kind::Int32 => types::INT32,
+            Kind::Int64 => types::INT64,
+            Kind::ByteArray => types::BYTE_ARRAY,
+            Kind::FixedLenByteArray(_) => types::FIXED_LEN_BYTE_ARRAY,
         }
     }
 }

@@ -17,15 +17,6 @@ keeps_then old mid new p q = record { text = p.text ++ q.text; joined = q.joined
 pub keeps : (Stands : List ℕ → ℕ → Type 0) (most : ℕ) (old new : List ℕ) → Appends Stands most old new → Keeps old new
 keeps Stands most old new p = record { text = p.text; joined = p.joined }
 
-pub keeps_more : (old new text : List ℕ) → new ≡ old ++ text → Keeps old new
-keeps_more old new text e = record { text = text; joined = e }
-
-pub appends_more : (Stands : List ℕ → ℕ → Type 0) (most : ℕ) (old new text : List ℕ) → new ≡ old ++ text → ((more : List ℕ) → Stands (text ++ more) (length text)) → length text ≤ most → Appends Stands most old new
-appends_more Stands most old new text e stands short = record { text = text; joined = e; stands = stands; short = short }
-
-pub appends_same : (Stands : List ℕ → ℕ → Type 0) (most : ℕ) (old : List ℕ) → ((more : List ℕ) → Stands more 0) → Appends Stands most old old
-appends_same Stands most old stands = record { text = []; joined = sym (append-nil old); stands = stands; short = omega arith }
-
 -- what stands so stands otherwise too, and is no longer than this
 pub appends_as : (Stands Others : List ℕ → ℕ → Type 0) (most other : ℕ) (old new : List ℕ) → ((bytes : List ℕ) (used : ℕ) → Stands bytes used → Others bytes used) → ((bytes : List ℕ) (used : ℕ) → Stands bytes used → used ≤ other)
     → Appends Stands most old new → Appends Others other old new

@@ -9,6 +9,8 @@ pub mod Within
 pub mod MapRead
 pub mod Appending
 pub mod Sizes
+pub mod Least
+pub mod Most
 pub mod Spelled
 pub mod Steps
 pub mod Writes

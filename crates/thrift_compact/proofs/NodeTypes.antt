@@ -1,6 +1,6 @@
 -- Which values have a type, and what elements of a type are.
-use Rattle.std.proofs.Common.{◌≡◌, ◌⊎◌, ℕ, ◌<◌, ◌≤◌, List, refl, sym, ◌∙◌, arith, inl, inr}
-use Rattle.std.specs.Prelude.{ℤ, ◌≢◌}
+use Rattle.std.proofs.Common.{◌≡◌, ◌⊎◌, ℕ, ◌≤◌, List, refl, sym, ◌∙◌, arith, inl, inr}
+use Rattle.std.specs.Prelude.{ℤ}
 use Rattle.thrift_compact.specs.Tree.{Node, yes, no, flag, i8, i16, i32, i64, double, binary, list, set, empty_map, map, struct, Nodes, Pairs, Fields}
 use Rattle.thrift_compact.specs.Compact.{IsElement, kind}
 
@@ -58,18 +58,6 @@ pub is_struct : (y : Node) → kind y ≡ 12 → (fs : Fields) × (y ≡ struct 
 is_struct (struct fs) e = (fs, refl)
 is_struct y e = absurd (omega arith)
 
-kind_range : (y : Node) → (1 ≤ kind y) × ((kind y ≤ 12) ⊎ (kind y ≡ 16))
-kind_range (flag b) = (omega arith, inr refl)
-kind_range y = (omega arith, inl (omega arith))
-
--- a code without a name is no value's
-pub no_kind : (y : Node) (code : ℕ) → (code ≡ 0) ⊎ ((12 < code) × (code < 16)) → kind y ≡ code → ⊥
-no_kind y code or e = go (kind_range y) or
-  where
-    go : (1 ≤ kind y) × ((kind y ≤ 12) ⊎ (kind y ≡ 16)) → (code ≡ 0) ⊎ ((12 < code) × (code < 16)) → ⊥
-    go r (inl z) = omega (arith, r.0, e, z)
-    go r (inr z) = elim r.1 [ inl a ↦ omega (arith, a, e, z) | inr a ↦ omega (arith, a, e, z) ]
-
 element_code : (k : ℕ) (x : Node) → IsElement k x → ((kind x ≡ 16) × (k ≤ 2)) ⊎ ((kind x ≡ k) × (3 ≤ k))
 element_code k yes e = absurd e
 element_code k no e = absurd e
@@ -86,24 +74,3 @@ alike k x y p q = go (element_code k x p) (element_code k y q)
     go (inl a) (inr b) = absurd (omega arith)
     go (inr a) (inl b) = absurd (omega arith)
     go (inr a) (inr b) = a.0 ∙ sym b.0
-
--- an element of a type that is not boolean is a value of it
-pub value_element : (x : Node) (code : ℕ) → code < 16 → code ≢ 1 → code ≢ 2 → kind x ≡ code → IsElement code x
-value_element yes code small a b e = a (sym e)
-value_element no code small a b e = b (sym e)
-value_element (flag f) code small a b e = absurd (omega arith)
-value_element x code small a b e = sym e
-
-pub element_is : (x : Node) (code : ℕ) → code ≢ 1 → code ≢ 2 → IsElement code x → kind x ≡ code
-element_is yes code a b e = absurd e
-element_is no code a b e = absurd e
-element_is (flag f) code a b (inl e) = absurd (a e)
-element_is (flag f) code a b (inr e) = absurd (b e)
-element_is x code a b e = sym e
-
--- an element of a boolean type is a byte
-pub is_flag_element : (x : Node) (code : ℕ) → (code ≡ 1) ⊎ (code ≡ 2) → IsElement code x → (b : ℕ) × (x ≡ flag b)
-is_flag_element (flag b) code or e = (b, refl)
-is_flag_element yes code or e = absurd e
-is_flag_element no code or e = absurd e
-is_flag_element x code or e = absurd (elim or [ inl h ↦ omega arith | inr h ↦ omega arith ])

@@ -53,13 +53,6 @@ list_head_within bytes k n u p = go p.1
     go (inl a) = (omega (arith, a.1.one), omega (arith, a.1.some, a.1.one))
     go (inr a) = (omega (arith, a.total), omega (arith, a.total, a.byte.some, a.is.within, length-drop 1 bytes))
 
-pub list_head_byte : (bytes : List ℕ) (k n used : ℕ) → IsListHead bytes k n used → (b : ℕ) × IsByte bytes b 1
-list_head_byte bytes k n used h = go h.1
-  where
-    go : ((n ≤ 14) × IsByte bytes (16 * n + k) used) ⊎ IsLongList bytes k n used → (b : ℕ) × IsByte bytes b 1
-    go (inl a) = (16 * n + k, record { some = a.1.some; is = a.1.is; one = refl })
-    go (inr a) = (240 + k, a.byte)
-
 pub long_list : (bytes : List ℕ) (k n used b : ℕ) → IsByte bytes b 1 → 240 ≤ b → IsListHead bytes k n used → IsLongList bytes k n used
 long_list bytes k n used b byte big h = go h.1
   where
@@ -81,9 +74,6 @@ one_map_head bytes k l n u i j m v p q =
     let b = subst (λ (h : ℕ). IsByte (drop h bytes) (16 * i + j) 1) (sym r.1) q.byte in
     let o = one_byte (drop p.head bytes) (16 * k + l) (16 * i + j) 1 1 p.byte b in
     record { key = omega (arith, o.0, p.value, q.value); value = omega (arith, o.0, p.value, q.value); size = r.0; used = omega (arith, p.total, q.total, r.1) }
-
-pub map_head_within : (bytes : List ℕ) (k l n u : ℕ) → IsMapHead bytes k l n u → u ≤ length bytes
-map_head_within bytes k l n u p = omega (arith, p.total, p.byte.some, length-drop p.head bytes)
 
 -- ---- fields
 

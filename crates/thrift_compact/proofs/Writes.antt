@@ -1,8 +1,7 @@
 -- What was written value by value.
-use Rattle.std.proofs.Common.{◌≡◌, ℕ, zero, suc, ◌+◌, ◌<◌, ◌≤◌, List, [], ◌∷◌, ◌++◌, length, get_or, take, drop, refl, sym, ap, subst, ◌∙◌, arith, Result, Ok, Err}
+use Rattle.std.proofs.Common.{◌≡◌, ℕ, zero, suc, ◌+◌, ◌<◌, ◌≤◌, List, [], ◌∷◌, ◌++◌, length, get_or, take, drop, refl, sym, ap, subst, ◌∙◌, arith, Result}
 use Rattle.std.specs.Prelude.{ℤ, pos, ◌-◌, FitsSigned}
 use Rattle.std.specs.Int.{w16, w32}
-use Rattle.bits.specs.Varint.{zigzag_of}
 use Rattle.std.specs.Result.{IsErrAnd}
 use Rattle.std.proofs.lemmas.List.{drop-drop, take_more, take_all, take-append-le, length-append}
 use Rattle.bits.specs.declared.refusal.Refusal.{Refusal}
@@ -15,13 +14,13 @@ use Rattle.thrift_compact.specs.declared.tree.Node.{Node as CodeNode}
 use Rattle.thrift_compact.specs.Tree.{Node, i16, i32, double, binary, list, map, struct, Nodes, no_nodes, node, Pairs, no_pairs, pair, Fields, no_fields, field, fields_nest, count, count_pairs}
 use Rattle.thrift_compact.specs.Compact.{IsByte, IsBinary, IsListHead, IsMapHead, IsThrift, IsFieldHead, IsValue, AreFields, kind}
 use Rattle.thrift_compact.specs.View.{view, views, pair_views, field_view, field_views}
-use Rattle.thrift_compact.specs.Length.{most_size, most_list_head, most_struct, most_value, most_elements, most_pairs, most_field_head, most_fields}
+use Rattle.thrift_compact.specs.Length.{size_length, size_i64, size_i32, size_i16, size_list_head, size_struct, size_value, size_elements, size_pairs, size_field_head, size_fields}
 use Rattle.thrift_compact.specs.Writing.{IsWithoutBytes, SpellsValue, SpellsElement, SpellsElements, SpellsPair, SpellsPairs, SpellsField, SpellsFields, IsShortestSigned}
 use Rattle.thrift_compact.proofs.Elements.{append, views_push}
 use Rattle.thrift_compact.proofs.PairsRead.{append_pairs, pair_views_push}
 use Rattle.thrift_compact.proofs.FieldsRead.{append_fields, field_views_push}
 use Rattle.thrift_compact.proofs.Appending.{appends_then, appends_so, appends_as}
-use Rattle.thrift_compact.proofs.Sizes.{uleb_short, short_fits, int_fits}
+use Rattle.thrift_compact.proofs.Sizes.{short_size, int_size}
 
 -- ---- refusals
 
@@ -32,10 +31,6 @@ HasPart Whole Part = (bytes : List ℕ) (used : ℕ) → Whole bytes used → (b
 because : (Part Whole : List ℕ → ℕ → Type 0) (e : Refusal) → HasPart Whole Part → HasCause (IsWithoutBytes Part) e → HasCause (IsWithoutBytes Whole) e
 because Part Whole Memory part p = p
 because Part Whole e part p = (p.0, λ bytes used s. let q = part bytes used s in p.1 q.0 q.1.0 q.1.1)
-
-pub refused_as : {X : Type 0} (Part Whole : List ℕ → ℕ → Type 0) (r : Result X Refusal) → HasPart Whole Part → RefusedOnly (IsWithoutBytes Part) r → RefusedOnly (IsWithoutBytes Whole) r
-refused_as Part Whole (Ok x) part p = p
-refused_as Part Whole (Err e) part p = because Part Whole e part p
 
 pub refused_by : {X : Type 0} (Part Whole : List ℕ → ℕ → Type 0) (r : Result X Refusal) (e : Refusal) → HasPart Whole Part → IsErrAnd r (λ f. f ≡ e) → HasCause (IsWithoutBytes Part) e → RefusedOnly (IsWithoutBytes Whole) r
 refused_by Part Whole r e part is p = passes (HasCause (IsWithoutBytes Whole)) r e is (because Part Whole e part p)
@@ -56,26 +51,22 @@ push (node y ys) x code left bytes u v p q =
     let r = push ys x code left (drop p.1.1.0 bytes) p.1.1.1 v (omega (arith, p.0), p.1.1.3) (q.0, q.1, q2) in
     (omega (arith, p.0, r.0), (p.1.0, (p.1.1.0, p.1.1.1 + v, p.1.1.2, r.1, omega (arith, p.1.1.4))))
 
-most_push : (xs : Nodes) (x : Node) → most_elements (append xs (node x no_nodes)) ≡ most_elements xs + most_value x
-most_push no_nodes x = omega arith
-most_push (node y ys) x = omega (arith, most_push ys x)
+size_push : (xs : Nodes) (x : Node) → size_elements (append xs (node x no_nodes)) ≡ size_elements xs + size_value x
+size_push no_nodes x = omega arith
+size_push (node y ys) x = omega (arith, size_push ys x)
 
 pub elements_more : (xs : List CodeNode) (i : ℕ) (d : CodeNode) (code left : ℕ) (old mid new : List ℕ) → i < length xs
-    → Appends (SpellsElements code left (views (take i xs))) (most_elements (views (take i xs))) old mid
-    → Appends (SpellsElement code left (view (get_or xs i d))) (most_value (view (get_or xs i d))) mid new
-    → Appends (SpellsElements code left (views (take (i + 1) xs))) (most_elements (views (take (i + 1) xs))) old new
+    → Appends (SpellsElements code left (views (take i xs))) (size_elements (views (take i xs))) old mid
+    → Appends (SpellsElement code left (view (get_or xs i d))) (size_value (view (get_or xs i d))) mid new
+    → Appends (SpellsElements code left (views (take (i + 1) xs))) (size_elements (views (take (i + 1) xs))) old new
 elements_more xs i d code left old mid new lt p q =
     let x = get_or xs i d in
     let front = views (take i xs) in
     let e : views (take (i + 1) xs) ≡ append front (node (view x) no_nodes) = ap views (take_more xs i d lt) ∙ views_push (take i xs) x in
-    let a = appends_then (SpellsElements code left front) (SpellsElement code left (view x)) (SpellsElements code left (append front (node (view x) no_nodes))) (most_elements front) (most_value (view x)) old mid new
+    let a = appends_then (SpellsElements code left front) (SpellsElement code left (view x)) (SpellsElements code left (append front (node (view x) no_nodes))) (size_elements front) (size_value (view x)) old mid new
     (λ bytes u v. push front (view x) code left bytes u v) p q in
-    let b = subst (λ (m : ℕ). Appends (SpellsElements code left (append front (node (view x) no_nodes))) m old new) (sym (most_push front (view x))) a in
-    subst (λ (ys : Nodes). Appends (SpellsElements code left ys) (most_elements ys) old new) (sym e) b
-
-pub elements_all : (xs : List CodeNode) (i : ℕ) (code left : ℕ) (old new : List ℕ) → length xs ≤ i → Appends (SpellsElements code left (views (take i xs))) (most_elements (views (take i xs))) old new
-    → Appends (SpellsElements code left (views xs)) (most_elements (views xs)) old new
-elements_all xs i code left old new le p = subst (λ (ys : List CodeNode). Appends (SpellsElements code left (views ys)) (most_elements (views ys)) old new) (take_all i xs le) p
+    let b = subst (λ (m : ℕ). Appends (SpellsElements code left (append front (node (view x) no_nodes))) m old new) (sym (size_push front (view x))) a in
+    subst (λ (ys : Nodes). Appends (SpellsElements code left ys) (size_elements ys) old new) (sym e) b
 
 pub element_of : (xs : List CodeNode) (i : ℕ) (d : CodeNode) (code left : ℕ) → i < length xs → HasPart (SpellsElements code left (views xs)) (SpellsElement code left (view (get_or xs i d)))
 element_of [] i d code left lt bytes used p = absurd (omega (arith, lt))
@@ -99,27 +90,23 @@ push_pair (pair a b ps) x y k l left bytes u v p q =
     let r = push_pair ps x y k l left (drop (f.0 + f.1) bytes) f.2 v (omega (arith, p.0), f.5) q2 in
     (omega (arith, p.0, r.0), (p.1.0, p.1.1, (f.0, f.1, f.2 + v, f.3, f.4, r.1, omega (arith, f.6))))
 
-most_push_pair : (ps : Pairs) (x y : Node) → most_pairs (append_pairs ps (pair x y no_pairs)) ≡ most_pairs ps + (most_value x + most_value y)
-most_push_pair no_pairs x y = omega arith
-most_push_pair (pair a b ps) x y = omega (arith, most_push_pair ps x y)
+size_push_pair : (ps : Pairs) (x y : Node) → size_pairs (append_pairs ps (pair x y no_pairs)) ≡ size_pairs ps + (size_value x + size_value y)
+size_push_pair no_pairs x y = omega arith
+size_push_pair (pair a b ps) x y = omega (arith, size_push_pair ps x y)
 
 pub pairs_more : (ps : List (CodeNode × CodeNode)) (i : ℕ) (d : CodeNode × CodeNode) (k l left : ℕ) (old mid new : List ℕ) → i < length ps
-    → Appends (SpellsPairs k l left (pair_views (take i ps))) (most_pairs (pair_views (take i ps))) old mid
-    → Appends (SpellsPair k l left (view (get_or ps i d).0) (view (get_or ps i d).1)) (most_value (view (get_or ps i d).0) + most_value (view (get_or ps i d).1)) mid new
-    → Appends (SpellsPairs k l left (pair_views (take (i + 1) ps))) (most_pairs (pair_views (take (i + 1) ps))) old new
+    → Appends (SpellsPairs k l left (pair_views (take i ps))) (size_pairs (pair_views (take i ps))) old mid
+    → Appends (SpellsPair k l left (view (get_or ps i d).0) (view (get_or ps i d).1)) (size_value (view (get_or ps i d).0) + size_value (view (get_or ps i d).1)) mid new
+    → Appends (SpellsPairs k l left (pair_views (take (i + 1) ps))) (size_pairs (pair_views (take (i + 1) ps))) old new
 pairs_more ps i d k l left old mid new lt p q =
     let x = view (get_or ps i d).0 in
     let y = view (get_or ps i d).1 in
     let front = pair_views (take i ps) in
     let e : pair_views (take (i + 1) ps) ≡ append_pairs front (pair x y no_pairs) = ap pair_views (take_more ps i d lt) ∙ pair_views_push (take i ps) (get_or ps i d).0 (get_or ps i d).1 in
-    let a = appends_then (SpellsPairs k l left front) (SpellsPair k l left x y) (SpellsPairs k l left (append_pairs front (pair x y no_pairs))) (most_pairs front) (most_value x + most_value y) old mid new
+    let a = appends_then (SpellsPairs k l left front) (SpellsPair k l left x y) (SpellsPairs k l left (append_pairs front (pair x y no_pairs))) (size_pairs front) (size_value x + size_value y) old mid new
     (λ bytes u v. push_pair front x y k l left bytes u v) p q in
-    let b = subst (λ (m : ℕ). Appends (SpellsPairs k l left (append_pairs front (pair x y no_pairs))) m old new) (sym (most_push_pair front x y)) a in
-    subst (λ (qs : Pairs). Appends (SpellsPairs k l left qs) (most_pairs qs) old new) (sym e) b
-
-pub pairs_all : (ps : List (CodeNode × CodeNode)) (i : ℕ) (k l left : ℕ) (old new : List ℕ) → length ps ≤ i → Appends (SpellsPairs k l left (pair_views (take i ps))) (most_pairs (pair_views (take i ps))) old new
-    → Appends (SpellsPairs k l left (pair_views ps)) (most_pairs (pair_views ps)) old new
-pairs_all ps i k l left old new le p = subst (λ (qs : List (CodeNode × CodeNode)). Appends (SpellsPairs k l left (pair_views qs)) (most_pairs (pair_views qs)) old new) (take_all i ps le) p
+    let b = subst (λ (m : ℕ). Appends (SpellsPairs k l left (append_pairs front (pair x y no_pairs))) m old new) (sym (size_push_pair front x y)) a in
+    subst (λ (qs : Pairs). Appends (SpellsPairs k l left qs) (size_pairs qs) old new) (sym e) b
 
 pub pair_of : (ps : List (CodeNode × CodeNode)) (i : ℕ) (d : CodeNode × CodeNode) (k l left : ℕ) → i < length ps → HasPart (SpellsPairs k l left (pair_views ps)) (SpellsPair k l left (view (get_or ps i d).0) (view (get_or ps i d).1))
 pair_of [] i d k l left lt bytes used p = absurd (omega (arith, lt))
@@ -135,9 +122,9 @@ abbrev pub Begun : ℕ → Fields → ℤ → ℤ → List ℕ → ℕ → Type 
 Begun left no_fields previous last bytes used = (used ≡ 0) × (last ≡ previous)
 Begun left (field id x fs) previous last bytes used = (u v w : ℕ) × IsFieldHead previous bytes id (kind x) u × SpellsValue left x (drop u bytes) v × Begun left fs id last (drop (u + v) bytes) w × (used ≡ u + v + w)
 
-abbrev pub most_begun : Fields → ℤ → ℕ
-most_begun no_fields previous = 0
-most_begun (field id x fs) previous = most_field_head previous id + most_value x + most_begun fs id
+abbrev pub size_begun : Fields → ℤ → ℕ
+size_begun no_fields previous = 0
+size_begun (field id x fs) previous = size_field_head previous id + size_value x + size_begun fs id
 
 push_field : (fs : Fields) (id : ℤ) (x : Node) (left : ℕ) (previous last : ℤ) (bytes : List ℕ) (u v : ℕ) → Begun left fs previous last bytes u → SpellsField last left id x (drop u bytes) v
     → Begun left (append_fields fs (field id x no_fields)) previous id bytes (u + v)
@@ -150,8 +137,8 @@ push_field (field jd y fs) id x left previous last bytes u v p q =
     let q2 = subst (λ (c : List ℕ). SpellsField last left id x c v) (sym e) q in
     (p.0, p.1, p.2 + v, p.3, p.4, push_field fs id x left jd last (drop (p.0 + p.1) bytes) p.2 v p.5 q2, omega (arith, p.6))
 
-last_of : (fs : Fields) (left : ℕ) (previous last : ℤ) (bytes : List ℕ) (u : ℕ) → Begun left fs previous last bytes u → (id : ℤ) (x : Node) → most_begun (append_fields fs (field id x no_fields)) previous ≡ most_begun fs previous + (most_field_head last id + most_value x)
-last_of no_fields left previous last bytes u p id x = let e : most_field_head previous id ≡ most_field_head last id = ap (λ (z : ℤ). most_field_head z id) (sym p.1) in omega (arith, e)
+last_of : (fs : Fields) (left : ℕ) (previous last : ℤ) (bytes : List ℕ) (u : ℕ) → Begun left fs previous last bytes u → (id : ℤ) (x : Node) → size_begun (append_fields fs (field id x no_fields)) previous ≡ size_begun fs previous + (size_field_head last id + size_value x)
+last_of no_fields left previous last bytes u p id x = let e : size_field_head previous id ≡ size_field_head last id = ap (λ (z : ℤ). size_field_head z id) (sym p.1) in omega (arith, e)
 last_of (field jd y fs) left previous last bytes u p id x = omega (arith, last_of fs left jd last (drop (p.0 + p.1) bytes) p.2 p.5 id x)
 
 finish : (fs : Fields) (left : ℕ) (previous last : ℤ) (bytes : List ℕ) (u v : ℕ) → Begun left fs previous last bytes u → IsByte (drop u bytes) 0 v → (fields_nest fs ≤ left) × AreFields fs previous bytes (u + v)
@@ -163,38 +150,38 @@ finish (field id x fs) left previous last bytes u v p q =
     let r = finish fs left id last (drop (p.0 + p.1) bytes) p.2 v p.5 (subst (λ (c : List ℕ). IsByte c 0 v) (sym e) q) in
     (omega (arith, r.0, p.4.0), (p.0, p.1, p.2 + v, p.3, p.4.1, r.1, omega (arith, p.6)))
 
-most_end : (fs : Fields) (previous : ℤ) → most_fields fs previous ≡ most_begun fs previous + 1
-most_end no_fields previous = refl
-most_end (field id x fs) previous = omega (arith, most_end fs id)
+size_end : (fs : Fields) (previous : ℤ) → size_fields fs previous ≡ size_begun fs previous + 1
+size_end no_fields previous = refl
+size_end (field id x fs) previous = omega (arith, size_end fs id)
 
-pub field_all : (previous id : ℤ) (x : Node) (k left : ℕ) (old mid new : List ℕ) → k ≡ kind x → Appends (λ bytes. IsFieldHead previous bytes id k) (most_field_head previous id) old mid → Appends (SpellsValue left x) (most_value x) mid new
-    → Appends (SpellsField previous left id x) (most_field_head previous id + most_value x) old new
+pub field_all : (previous id : ℤ) (x : Node) (k left : ℕ) (old mid new : List ℕ) → k ≡ kind x → Appends (λ bytes. IsFieldHead previous bytes id k) (size_field_head previous id) old mid → Appends (SpellsValue left x) (size_value x) mid new
+    → Appends (SpellsField previous left id x) (size_field_head previous id + size_value x) old new
 field_all previous id x k left old mid new is p q =
-    appends_then (λ bytes. IsFieldHead previous bytes id k) (SpellsValue left x) (SpellsField previous left id x) (most_field_head previous id) (most_value x) old mid new
+    appends_then (λ bytes. IsFieldHead previous bytes id k) (SpellsValue left x) (SpellsField previous left id x) (size_field_head previous id) (size_value x) old mid new
     (λ bytes u v a b. (u, v, subst (λ (j : ℕ). IsFieldHead previous bytes id j u) is a, b, refl)) p q
 
 pub fields_more : (fs : List Field) (i : ℕ) (d : Field) (left : ℕ) (last : ℤ) (old mid new : List ℕ) → i < length fs
-    → Appends (Begun left (field_views (take i fs)) (pos 0) last) (most_begun (field_views (take i fs)) (pos 0)) old mid
-    → Appends (SpellsField last left (field_view (get_or fs i d)).0 (field_view (get_or fs i d)).1) (most_field_head last (field_view (get_or fs i d)).0 + most_value (field_view (get_or fs i d)).1) mid new
-    → Appends (Begun left (field_views (take (i + 1) fs)) (pos 0) (field_view (get_or fs i d)).0) (most_begun (field_views (take (i + 1) fs)) (pos 0)) old new
+    → Appends (Begun left (field_views (take i fs)) (pos 0) last) (size_begun (field_views (take i fs)) (pos 0)) old mid
+    → Appends (SpellsField last left (field_view (get_or fs i d)).0 (field_view (get_or fs i d)).1) (size_field_head last (field_view (get_or fs i d)).0 + size_value (field_view (get_or fs i d)).1) mid new
+    → Appends (Begun left (field_views (take (i + 1) fs)) (pos 0) (field_view (get_or fs i d)).0) (size_begun (field_views (take (i + 1) fs)) (pos 0)) old new
 fields_more fs i d left last old mid new lt p q =
     let id = (field_view (get_or fs i d)).0 in
     let x = (field_view (get_or fs i d)).1 in
     let front = field_views (take i fs) in
     let e : field_views (take (i + 1) fs) ≡ append_fields front (field id x no_fields) = ap field_views (take_more fs i d lt) ∙ field_views_push (take i fs) (get_or fs i d) in
-    let a = appends_then (Begun left front (pos 0) last) (SpellsField last left id x) (Begun left (append_fields front (field id x no_fields)) (pos 0) id) (most_begun front (pos 0)) (most_field_head last id + most_value x) old mid new
+    let a = appends_then (Begun left front (pos 0) last) (SpellsField last left id x) (Begun left (append_fields front (field id x no_fields)) (pos 0) id) (size_begun front (pos 0)) (size_field_head last id + size_value x) old mid new
     (λ bytes u v. push_field front id x left (pos 0) last bytes u v) p q in
     let m = last_of front left (pos 0) last (p.text ++ []) (length p.text) (p.stands []) id x in
     let b = subst (λ (n : ℕ). Appends (Begun left (append_fields front (field id x no_fields)) (pos 0) id) n old new) (sym m) a in
-    subst (λ (gs : Fields). Appends (Begun left gs (pos 0) id) (most_begun gs (pos 0)) old new) (sym e) b
+    subst (λ (gs : Fields). Appends (Begun left gs (pos 0) id) (size_begun gs (pos 0)) old new) (sym e) b
 
-pub fields_all : (fs : List Field) (i : ℕ) (left : ℕ) (last : ℤ) (old mid new : List ℕ) → length fs ≤ i → Appends (Begun left (field_views (take i fs)) (pos 0) last) (most_begun (field_views (take i fs)) (pos 0)) old mid
-    → Appends (λ bytes. IsByte bytes 0) 1 mid new → Appends (SpellsFields left (field_views fs)) (most_fields (field_views fs) (pos 0)) old new
+pub fields_all : (fs : List Field) (i : ℕ) (left : ℕ) (last : ℤ) (old mid new : List ℕ) → length fs ≤ i → Appends (Begun left (field_views (take i fs)) (pos 0) last) (size_begun (field_views (take i fs)) (pos 0)) old mid
+    → Appends (λ bytes. IsByte bytes 0) 1 mid new → Appends (SpellsFields left (field_views fs)) (size_fields (field_views fs) (pos 0)) old new
 fields_all fs i left last old mid new le p q =
-    let whole = subst (λ (gs : List Field). Appends (Begun left (field_views gs) (pos 0) last) (most_begun (field_views gs) (pos 0)) old mid) (take_all i fs le) p in
-    let a = appends_then (Begun left (field_views fs) (pos 0) last) (λ bytes. IsByte bytes 0) (SpellsFields left (field_views fs)) (most_begun (field_views fs) (pos 0)) 1 old mid new
+    let whole = subst (λ (gs : List Field). Appends (Begun left (field_views gs) (pos 0) last) (size_begun (field_views gs) (pos 0)) old mid) (take_all i fs le) p in
+    let a = appends_then (Begun left (field_views fs) (pos 0) last) (λ bytes. IsByte bytes 0) (SpellsFields left (field_views fs)) (size_begun (field_views fs) (pos 0)) 1 old mid new
     (λ bytes u v. finish (field_views fs) left (pos 0) last bytes u v) whole q in
-    subst (λ (n : ℕ). Appends (SpellsFields left (field_views fs)) n old new) (sym (most_end (field_views fs) (pos 0))) a
+    subst (λ (n : ℕ). Appends (SpellsFields left (field_views fs)) n old new) (sym (size_end (field_views fs) (pos 0))) a
 
 -- the last id that was written is the last field's
 abbrev pub last_id : Fields → ℤ → ℤ
@@ -205,7 +192,7 @@ last_is : (fs : Fields) (left : ℕ) (previous last : ℤ) (bytes : List ℕ) (u
 last_is no_fields left previous last bytes u p = p.1
 last_is (field id x fs) left previous last bytes u p = last_is fs left id last (drop (p.0 + p.1) bytes) p.2 p.5
 
-pub begun_last : (fs : List Field) (i : ℕ) (left : ℕ) (last : ℤ) (old mid : List ℕ) → Appends (Begun left (field_views (take i fs)) (pos 0) last) (most_begun (field_views (take i fs)) (pos 0)) old mid → last ≡ last_id (field_views (take i fs)) (pos 0)
+pub begun_last : (fs : List Field) (i : ℕ) (left : ℕ) (last : ℤ) (old mid : List ℕ) → Appends (Begun left (field_views (take i fs)) (pos 0) last) (size_begun (field_views (take i fs)) (pos 0)) old mid → last ≡ last_id (field_views (take i fs)) (pos 0)
 begun_last fs i left last old mid p = last_is (field_views (take i fs)) left (pos 0) last (p.text ++ []) (length p.text) (p.stands [])
 
 field_there : (fs : List Field) (i : ℕ) (d : Field) (left : ℕ) (previous last : ℤ) → i < length fs → last ≡ last_id (field_views (take i fs)) previous → (bytes : List ℕ) (used : ℕ) → (fields_nest (field_views fs) ≤ left) × AreFields (field_views fs) previous bytes used
@@ -222,51 +209,36 @@ field_of fs i d left last lt is = λ bytes used p. field_there fs i d left (pos 
 
 -- ---- containers
 
-pub list_all : (k : ℕ) (xs : List CodeNode) (left : ℕ) (old mid new : List ℕ) → 0 < left → Appends (λ bytes. IsListHead bytes k (length xs)) (most_list_head (length xs)) old mid
-    → Appends (SpellsElements k (left - 1) (views xs)) (most_elements (views xs)) mid new → Appends (SpellsValue left (list k (views xs))) (most_value (list k (views xs))) old new
+pub list_all : (k : ℕ) (xs : List CodeNode) (left : ℕ) (old mid new : List ℕ) → 0 < left → Appends (λ bytes. IsListHead bytes k (length xs)) (size_list_head (length xs)) old mid
+    → Appends (SpellsElements k (left - 1) (views xs)) (size_elements (views xs)) mid new → Appends (SpellsValue left (list k (views xs))) (size_value (list k (views xs))) old new
 list_all k xs left old mid new some p q =
     let n = count_views xs in
-    let p2 = subst (λ (m : ℕ). Appends (λ bytes. IsListHead bytes k m) (most_list_head m) old mid) (sym n) p in
-    appends_then (λ bytes. IsListHead bytes k (count (views xs))) (SpellsElements k (left - 1) (views xs)) (SpellsValue left (list k (views xs))) (most_list_head (count (views xs))) (most_elements (views xs)) old mid new
+    let p2 = subst (λ (m : ℕ). Appends (λ bytes. IsListHead bytes k m) (size_list_head m) old mid) (sym n) p in
+    appends_then (λ bytes. IsListHead bytes k (count (views xs))) (SpellsElements k (left - 1) (views xs)) (SpellsValue left (list k (views xs))) (size_list_head (count (views xs))) (size_elements (views xs)) old mid new
     (λ bytes u v a b. (omega (arith, b.0, some), (u, v, a, b.1, refl))) p2 q
 
-pub list_part : (k : ℕ) (xs : Nodes) (left : ℕ) → HasPart (SpellsValue left (list k xs)) (SpellsElements k (left - 1) xs)
-list_part k xs left = λ bytes used s. (drop s.1.0 bytes, (s.1.1, (omega (arith, s.0), s.1.3)))
-
-pub map_all : (k l : ℕ) (ps : List (CodeNode × CodeNode)) (left : ℕ) (old mid new : List ℕ) → 0 < left → Appends (λ bytes. IsMapHead bytes k l (length ps)) (most_size (length ps) + 1) old mid
-    → Appends (SpellsPairs k l (left - 1) (pair_views ps)) (most_pairs (pair_views ps)) mid new → Appends (SpellsValue left (map k l (pair_views ps))) (most_value (map k l (pair_views ps))) old new
+pub map_all : (k l : ℕ) (ps : List (CodeNode × CodeNode)) (left : ℕ) (old mid new : List ℕ) → 0 < left → Appends (λ bytes. IsMapHead bytes k l (length ps)) (size_length (length ps) + 1) old mid
+    → Appends (SpellsPairs k l (left - 1) (pair_views ps)) (size_pairs (pair_views ps)) mid new → Appends (SpellsValue left (map k l (pair_views ps))) (size_value (map k l (pair_views ps))) old new
 map_all k l ps left old mid new some p q =
     let n = count_pair_views ps in
-    let p2 = subst (λ (m : ℕ). Appends (λ bytes. IsMapHead bytes k l m) (most_size m + 1) old mid) (sym n) p in
-    appends_then (λ bytes. IsMapHead bytes k l (count_pairs (pair_views ps))) (SpellsPairs k l (left - 1) (pair_views ps)) (SpellsValue left (map k l (pair_views ps))) (most_size (count_pairs (pair_views ps)) + 1) (most_pairs (pair_views ps)) old mid new
+    let p2 = subst (λ (m : ℕ). Appends (λ bytes. IsMapHead bytes k l m) (size_length m + 1) old mid) (sym n) p in
+    appends_then (λ bytes. IsMapHead bytes k l (count_pairs (pair_views ps))) (SpellsPairs k l (left - 1) (pair_views ps)) (SpellsValue left (map k l (pair_views ps))) (size_length (count_pairs (pair_views ps)) + 1) (size_pairs (pair_views ps)) old mid new
     (λ bytes u v a b. (omega (arith, b.0, some), (u, v, a, b.1, refl))) p2 q
 
-pub map_part : (k l : ℕ) (ps : Pairs) (left : ℕ) → HasPart (SpellsValue left (map k l ps)) (SpellsPairs k l (left - 1) ps)
-map_part k l ps left = λ bytes used s. (drop s.1.0 bytes, (s.1.1, (omega (arith, s.0), s.1.3)))
+pub struct_all : (fs : Fields) (left : ℕ) (old new : List ℕ) → 0 < left → Appends (SpellsFields (left - 1) fs) (size_fields fs (pos 0)) old new → Appends (SpellsValue left (struct fs)) (size_value (struct fs)) old new
+struct_all fs left old new some p = appends_so (SpellsFields (left - 1) fs) (SpellsValue left (struct fs)) (size_fields fs (pos 0)) old new (λ bytes u s. (omega (arith, s.0, some), s.1)) p
 
-pub map_some : (k l : ℕ) (ps : List (CodeNode × CodeNode)) (left : ℕ) (bytes : List ℕ) (used : ℕ) → SpellsValue left (map k l (pair_views ps)) bytes used → (k < 16) × (l < 16) × (0 < length ps)
-map_some k l ps left bytes used s = (s.1.2.key, s.1.2.value, omega (arith, s.1.2.some, count_pair_views ps))
-
-pub struct_all : (fs : Fields) (left : ℕ) (old new : List ℕ) → 0 < left → Appends (SpellsFields (left - 1) fs) (most_fields fs (pos 0)) old new → Appends (SpellsValue left (struct fs)) (most_value (struct fs)) old new
-struct_all fs left old new some p = appends_so (SpellsFields (left - 1) fs) (SpellsValue left (struct fs)) (most_fields fs (pos 0)) old new (λ bytes u s. (omega (arith, s.0, some), s.1)) p
-
-pub struct_part : (fs : Fields) (left : ℕ) → HasPart (SpellsValue left (struct fs)) (SpellsFields (left - 1) fs)
-struct_part fs left = λ bytes used s. (bytes, (used, (omega (arith, s.0), s.1)))
-
-pub seen_as : (x y : Node) (left : ℕ) (old new : List ℕ) → x ≡ y → Appends (SpellsValue left y) (most_value y) old new → Appends (SpellsValue left x) (most_value x) old new
-seen_as x y left old new is p = subst (λ (z : Node). Appends (SpellsValue left z) (most_value z) old new) (sym is) p
-
-pub thrift_stands : (fs : Fields) (old new : List ℕ) → Appends (SpellsFields 32 fs) (most_fields fs (pos 0)) old new → Appends (λ bytes used. IsThrift bytes fs used) (most_struct fs) old new
-thrift_stands fs old new p = appends_so (SpellsFields 32 fs) (λ bytes used. IsThrift bytes fs used) (most_fields fs (pos 0)) old new (λ bytes u s. record { spelled = s.1; shallow = s.0 }) p
+pub thrift_stands : (fs : Fields) (old new : List ℕ) → Appends (SpellsFields 32 fs) (size_fields fs (pos 0)) old new → Appends (λ bytes used. IsThrift bytes fs used) (size_struct fs) old new
+thrift_stands fs old new p = appends_so (SpellsFields 32 fs) (λ bytes used. IsThrift bytes fs used) (size_fields fs (pos 0)) old new (λ bytes u s. record { spelled = s.1; shallow = s.0 }) p
 
 -- ---- values that hold no others
 
-pub binary_stands : (x : Node) (text : List ℕ) (left : ℕ) (old new : List ℕ) → x ≡ binary text → Appends (λ bytes. IsBinary bytes text) (most_size (length text) + length text) old new → Appends (SpellsValue left x) (most_value x) old new
-binary_stands x text left old new is p = subst (λ (y : Node). Appends (SpellsValue left y) (most_value y) old new) (sym is)
-    (appends_so (λ bytes. IsBinary bytes text) (SpellsValue left (binary text)) (most_size (length text) + length text) old new (λ bytes u s. (omega arith, s)) p)
+pub binary_stands : (x : Node) (text : List ℕ) (left : ℕ) (old new : List ℕ) → x ≡ binary text → Appends (λ bytes. IsBinary bytes text) (size_length (length text) + length text) old new → Appends (SpellsValue left x) (size_value x) old new
+binary_stands x text left old new is p = subst (λ (y : Node). Appends (SpellsValue left y) (size_value y) old new) (sym is)
+    (appends_so (λ bytes. IsBinary bytes text) (SpellsValue left (binary text)) (size_length (length text) + length text) old new (λ bytes u s. (omega arith, s)) p)
 
-pub double_stands : (x : Node) (text : List ℕ) (left : ℕ) (old new : List ℕ) → x ≡ double text → length text ≡ 8 → new ≡ old ++ text → Appends (SpellsValue left x) (most_value x) old new
-double_stands x text left old new is size e = subst (λ (y : Node). Appends (SpellsValue left y) (most_value y) old new) (sym is)
+pub double_stands : (x : Node) (text : List ℕ) (left : ℕ) (old new : List ℕ) → x ≡ double text → length text ≡ 8 → new ≡ old ++ text → Appends (SpellsValue left x) (size_value x) old new
+double_stands x text left old new is size e = subst (λ (y : Node). Appends (SpellsValue left y) (size_value y) old new) (sym is)
     (record {
       text = text;
       joined = e;
@@ -276,10 +248,10 @@ double_stands x text left old new is size e = subst (λ (y : Node). Appends (Spe
       short = omega (arith, size);
     })
 
-pub short_stands : (x : Node) (z : ℤ) (left : ℕ) (old new : List ℕ) → x ≡ i16 z → FitsSigned w16 z → Appends (IsShortestSigned z) 10 old new → Appends (SpellsValue left x) (most_value x) old new
-short_stands x z left old new is fits p = subst (λ (y : Node). Appends (SpellsValue left y) (most_value y) old new) (sym is)
-    (appends_as (IsShortestSigned z) (SpellsValue left (i16 z)) 10 3 old new (λ bytes u s. (omega arith, (s.spelled, fits))) (λ bytes u s. uleb_short bytes (zigzag_of z) u 3 (omega arith) (short_fits z fits) s) p)
+pub short_stands : (x : Node) (z : ℤ) (left : ℕ) (old new : List ℕ) → x ≡ i16 z → FitsSigned w16 z → Appends (IsShortestSigned z) (size_i64 z) old new → Appends (SpellsValue left x) (size_value x) old new
+short_stands x z left old new is fits p = subst (λ (y : Node). Appends (SpellsValue left y) (size_value y) old new) (sym is)
+    (appends_as (IsShortestSigned z) (SpellsValue left (i16 z)) (size_i64 z) (size_i16 z) old new (λ bytes u s. (omega arith, (s.spelled, fits))) (λ bytes u s. short_size bytes z u fits s) p)
 
-pub int_stands : (x : Node) (z : ℤ) (left : ℕ) (old new : List ℕ) → x ≡ i32 z → FitsSigned w32 z → Appends (IsShortestSigned z) 10 old new → Appends (SpellsValue left x) (most_value x) old new
-int_stands x z left old new is fits p = subst (λ (y : Node). Appends (SpellsValue left y) (most_value y) old new) (sym is)
-    (appends_as (IsShortestSigned z) (SpellsValue left (i32 z)) 10 5 old new (λ bytes u s. (omega arith, (s.spelled, fits))) (λ bytes u s. uleb_short bytes (zigzag_of z) u 5 (omega arith) (int_fits z fits) s) p)
+pub int_stands : (x : Node) (z : ℤ) (left : ℕ) (old new : List ℕ) → x ≡ i32 z → FitsSigned w32 z → Appends (IsShortestSigned z) (size_i64 z) old new → Appends (SpellsValue left x) (size_value x) old new
+int_stands x z left old new is fits p = subst (λ (y : Node). Appends (SpellsValue left y) (size_value y) old new) (sym is)
+    (appends_as (IsShortestSigned z) (SpellsValue left (i32 z)) (size_i64 z) (size_i32 z) old new (λ bytes u s. (omega arith, (s.spelled, fits))) (λ bytes u s. int_size bytes z u fits s) p)

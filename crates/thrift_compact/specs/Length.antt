@@ -1,53 +1,73 @@
--- How many bytes the writer takes at most: sizes and numbers by the greatest varint that their type needs.
-use Rattle.std.specs.Prelude.{ℕ, ◌+◌, ◌^◌, ℤ, pos, negsuc, ◌-ℤ◌, Bool, false, length, nat_lt, nat_le, ◌&&◌, if◌then◌else◌}
+-- How many bytes the shortest spelling of a struct takes: Thrift's compact protocol, "Integer encoding", "Struct Encoding", "List and Set", "Map".
+use Rattle.std.specs.Prelude.{ℕ, zero, suc, ◌+◌, ◌^◌, ◌≤◌, ℤ, pos, negsuc, ◌-ℤ◌, Bool, false, List, length, nat_le, nat_lt, ◌&&◌, if◌then◌else◌}
+use Rattle.bits.specs.Varint.{zigzag_of}
 use Rattle.thrift_compact.specs.Tree.{Node, yes, no, flag, i8, i16, i32, i64, double, binary, list, set, empty_map, map, struct, Nodes, no_nodes, node, Pairs, no_pairs, pair, Fields, no_fields, field, count, count_pairs}
+use Rattle.thrift_compact.specs.Compact.{IsThrift}
 
--- the varint of a size
-abbrev pub most_size : ℕ → ℕ
-most_size n = if nat_lt n (2 ^ 32) then 5 else 10
+-- the shortest varint of n, which has at most so many groups of seven bits: a further byte is needed from each power of 128 on
+unfoldable pub size_varint : ℕ → ℕ → ℕ
+size_varint zero n = 1
+size_varint (suc k) n = if nat_le (128 ^ k) n then suc k else size_varint k n
+
+-- a number of 64 bits has at most ten groups, one of 32 bits five, one of 16 bits three
+abbrev pub size_length : ℕ → ℕ
+size_length n = size_varint 10 n
+
+abbrev pub size_i64 : ℤ → ℕ
+size_i64 z = size_varint 10 (zigzag_of z)
+
+abbrev pub size_i32 : ℤ → ℕ
+size_i32 z = size_varint 5 (zigzag_of z)
+
+abbrev pub size_i16 : ℤ → ℕ
+size_i16 z = size_varint 3 (zigzag_of z)
 
 -- the header of a list or a set
-abbrev pub most_list_head : ℕ → ℕ
-most_list_head n = if nat_le n 14 then 1 else 1 + most_size n
+abbrev pub size_list_head : ℕ → ℕ
+size_list_head n = if nat_le n 14 then 1 else 1 + size_length n
 
 -- 1 to 15, the steps of a short header
 abbrev pub is_step : ℤ → Bool
 is_step (pos n) = nat_lt 0 n && nat_le n 15
 is_step (negsuc n) = false
 
--- the header of a field: a byte where the step is 1 to 15, else a byte and an i16
-abbrev pub most_field_head : ℤ → ℤ → ℕ
-most_field_head previous id = if is_step (id -ℤ previous) then 1 else 4
+-- the header of a field: a byte where the step is 1 to 15, else a byte and the id
+abbrev pub size_field_head : ℤ → ℤ → ℕ
+size_field_head previous id = if is_step (id -ℤ previous) then 1 else 1 + size_i16 id
 
 abbrev mutual
-  pub most_value : Node → ℕ
-  most_value yes = 0
-  most_value no = 0
-  most_value (flag b) = 1
-  most_value (i8 z) = 1
-  most_value (i16 z) = 3
-  most_value (i32 z) = 5
-  most_value (i64 z) = 10
-  most_value (double text) = 8
-  most_value (binary text) = most_size (length text) + length text
-  most_value (list k xs) = most_list_head (count xs) + most_elements xs
-  most_value (set k xs) = most_list_head (count xs) + most_elements xs
-  most_value empty_map = 1
-  most_value (map k v ps) = most_size (count_pairs ps) + 1 + most_pairs ps
-  most_value (struct fs) = most_fields fs (pos 0)
+  pub size_value : Node → ℕ
+  size_value yes = 0
+  size_value no = 0
+  size_value (flag b) = 1
+  size_value (i8 z) = 1
+  size_value (i16 z) = size_i16 z
+  size_value (i32 z) = size_i32 z
+  size_value (i64 z) = size_i64 z
+  size_value (double text) = 8
+  size_value (binary text) = size_length (length text) + length text
+  size_value (list k xs) = size_list_head (count xs) + size_elements xs
+  size_value (set k xs) = size_list_head (count xs) + size_elements xs
+  size_value empty_map = 1
+  size_value (map k v ps) = size_length (count_pairs ps) + 1 + size_pairs ps
+  size_value (struct fs) = size_fields fs (pos 0)
 
-  pub most_elements : Nodes → ℕ
-  most_elements no_nodes = 0
-  most_elements (node x xs) = most_value x + most_elements xs
+  pub size_elements : Nodes → ℕ
+  size_elements no_nodes = 0
+  size_elements (node x xs) = size_value x + size_elements xs
 
-  pub most_pairs : Pairs → ℕ
-  most_pairs no_pairs = 0
-  most_pairs (pair x y ps) = most_value x + most_value y + most_pairs ps
+  pub size_pairs : Pairs → ℕ
+  size_pairs no_pairs = 0
+  size_pairs (pair x y ps) = size_value x + size_value y + size_pairs ps
 
-  -- the fields behind a previous one, and the byte that ends them
-  pub most_fields : Fields → ℤ → ℕ
-  most_fields no_fields previous = 1
-  most_fields (field id x fs) previous = most_field_head previous id + most_value x + most_fields fs id
+  -- the fields after a previous one, and the byte that ends them
+  pub size_fields : Fields → ℤ → ℕ
+  size_fields no_fields previous = 1
+  size_fields (field id x fs) previous = size_field_head previous id + size_value x + size_fields fs id
 
-abbrev pub most_struct : Fields → ℕ
-most_struct fs = most_fields fs (pos 0)
+abbrev pub size_struct : Fields → ℕ
+size_struct fs = size_fields fs (pos 0)
+
+-- no bytes of a struct are fewer
+abbrev pub NoSpellingIsShorter : Type 0
+NoSpellingIsShorter = (bytes : List ℕ) (fields : Fields) (used : ℕ) → IsThrift bytes fields used → size_struct fields ≤ used

@@ -1,5 +1,5 @@
 -- The tree of a value, apart from where it lies in memory.
-use Rattle.std.specs.Prelude.{ℕ, ℤ, List, [], ◌∷◌, map, if◌then◌else◌}
+use Rattle.std.specs.Prelude.{ℕ, ◌+◌, ℤ, Bool, nat_le, ◌&&◌, List, [], ◌∷◌, map, if◌then◌else◌}
 use Rattle.thrift_compact.specs.declared.tree.ElementType.{ElementType}
 use Rattle.thrift_compact.specs.declared.tree.ElementType.TheVariants.{True, False, I8, I16, I32, I64, Double, Binary, List as ListType, Set, Map, Struct, Other}
 use Rattle.thrift_compact.specs.declared.tree.Node.{Node as CodeNode}
@@ -11,7 +11,11 @@ use Rattle.thrift_compact.specs.declared.tree.Tree.{Tree}
 use Rattle.thrift_compact.specs.Tree as tree
 use Rattle.thrift_compact.specs.Tree.{Node, Nodes, no_nodes, node, Pairs, no_pairs, pair, Fields, no_fields, field}
 
--- the protocol's number of a type
+-- 1 to 12, the numbers of the types
+abbrev pub is_type : ℕ → Bool
+is_type code = nat_le 1 code && nat_le code 12
+
+-- The protocol's number of a type. One of 1 to 12 that has not the name of its type is none: no bytes have a number from 16 on.
 abbrev pub code_of : ElementType → ℕ
 code_of True = 1
 code_of False = 2
@@ -25,7 +29,7 @@ code_of ListType = 9
 code_of Set = 10
 code_of Map = 11
 code_of Struct = 12
-code_of (Other code) = code
+code_of (Other code) = if is_type code then 16 + code else code
 
 abbrev pub nodes_of : List Node → Nodes
 nodes_of [] = no_nodes

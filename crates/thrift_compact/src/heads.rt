@@ -7,7 +7,7 @@ ghost use Rattle.bits.specs.Codec.{Appends};
 ghost use Rattle.thrift_compact.specs.View.{code_of};
 ghost use Rattle.thrift_compact.specs.Compact.{IsListHead, IsMapHead, IsFieldHead};
 ghost use Rattle.thrift_compact.specs.Reading.{IsNamed, IsRefusedFor};
-ghost use Rattle.thrift_compact.specs.Length.{most_size, most_list_head, most_field_head, is_step};
+ghost use Rattle.thrift_compact.specs.Length.{size_length, size_list_head, size_field_head, is_step};
 ghost use Rattle.thrift_compact.specs.Writing.{Keeps, IsStep};
 
 use crate::numbers::{byte_at, i16_at, put_signed, put_size};
@@ -76,7 +76,7 @@ pub(crate) fn field_head_at(previous: i16, bytes: &[u8]) -> R<((i16, ElementType
 /// The header of a list or a set of `size` elements.
 pub(crate) fn put_list_head(code: u8, size: usize, out: &mut Vec<u8>) -> R<()>
     requires { code < 16 }
-    ensures stands { OnOk result (Appends (λ bytes. IsListHead bytes code size) (most_list_head size) out.old.items out.new.items) }
+    ensures stands { OnOk result (Appends (λ bytes. IsListHead bytes code size) (size_list_head size) out.old.items out.new.items) }
     ensures which { RefusedOnly (λ _. ⊥) result }
     ensures kept { Keeps out.old.items out.new.items }
 {
@@ -92,7 +92,7 @@ pub(crate) fn put_map_head(keys: u8, values: u8, size: usize, out: &mut Vec<u8>)
     requires keys { keys < 16 }
     requires values { values < 16 }
     requires some { 1 ≤ size }
-    ensures stands { OnOk result (Appends (λ bytes. IsMapHead bytes keys values size) (most_size size + 1) out.old.items out.new.items) }
+    ensures stands { OnOk result (Appends (λ bytes. IsMapHead bytes keys values size) (size_length size + 1) out.old.items out.new.items) }
     ensures which { RefusedOnly (λ _. ⊥) result }
     ensures kept { Keeps out.old.items out.new.items }
 {
@@ -116,7 +116,7 @@ fn short_step(previous: i16, id: i16) -> Option<u8>
 pub(crate) fn put_field_head(previous: i16, id: i16, code: u8, out: &mut Vec<u8>) -> R<()>
     requires low { 1 ≤ code }
     requires high { code < 16 }
-    ensures stands { OnOk result (Appends (λ bytes. IsFieldHead previous bytes id code) (most_field_head previous id) out.old.items out.new.items) }
+    ensures stands { OnOk result (Appends (λ bytes. IsFieldHead previous bytes id code) (size_field_head previous id) out.old.items out.new.items) }
     ensures which { RefusedOnly (λ _. ⊥) result }
     ensures kept { Keeps out.old.items out.new.items }
 {

@@ -4,6 +4,7 @@ ghost use Rattle.std.specs.Prelude.{◌≡◌, ℕ, List, ◌++◌, length, drop
 ghost use Rattle.bits.specs.Codec.{IsFunctional, Appends};
 ghost use Rattle.thrift_compact.specs.Tree.{Fields};
 ghost use Rattle.thrift_compact.specs.Compact.{IsThrift};
+ghost use Rattle.thrift_compact.specs.Length.{NoSpellingIsShorter};
 ghost use Rattle.thrift_compact.specs.Shapes.{StructsWithBytesHaveTheShape};
 
 /// A front of the bytes stands for at most one struct.
@@ -25,4 +26,12 @@ pub fn what_is_written_is_read_again()
 /// [`write_struct`](crate::write_struct) is refused Thrift only where that is missing.
 pub fn structs_with_bytes_have_the_shape()
     ensures { StructsWithBytesHaveTheShape }
+{}
+
+/// No bytes of a struct are fewer than its shortest spelling takes. So what
+/// [`write_struct`](crate::write_struct) adds, which is no longer than that, takes exactly as many:
+/// each number and size in the fewest groups of seven bits, and each header in its short form where
+/// there is one.
+pub fn no_spelling_is_shorter()
+    ensures { NoSpellingIsShorter }
 {}

@@ -14,11 +14,11 @@ mod writable;
 mod writing;
 
 pub use copying::copied_fields;
-pub use laws::{one_struct, structs_with_bytes_have_the_shape, what_is_written_is_read_again};
+pub use laws::{
+    no_spelling_is_shorter, one_struct, structs_with_bytes_have_the_shape,
+    what_is_written_is_read_again,
+};
 pub use reading::read_struct;
 pub use tree::{ElementType, Field, Node, Tree};
 pub use writable::has_bytes;
 pub use writing::write_struct;
-
-#[cfg(test)]
-mod tests;

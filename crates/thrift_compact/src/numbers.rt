@@ -7,7 +7,7 @@ ghost use Rattle.bits.specs.Refusals.{RefusedOnly};
 ghost use Rattle.bits.specs.Codec.{Appends};
 ghost use Rattle.thrift_compact.specs.Compact.{IsByte, IsSignedByte, IsSigned, IsDouble, IsBinary};
 ghost use Rattle.thrift_compact.specs.Reading.{IsRefusedFor, IsShortNumber, IsNumber};
-ghost use Rattle.thrift_compact.specs.Length.{most_size};
+ghost use Rattle.thrift_compact.specs.Length.{size_length, size_i64};
 ghost use Rattle.thrift_compact.specs.Writing.{Keeps, IsShortestSigned};
 
 use bits::{R, Refusal, read_uleb, unzigzag, write_uleb, zigzag};
@@ -89,7 +89,7 @@ pub(crate) fn binary_at(alloc: Global, bytes: &[u8]) -> R<(Vec<u8>, usize)>
 
 /// A zigzag varint.
 pub(crate) fn put_signed(z: i64, out: &mut Vec<u8>) -> R<()>
-    ensures stands { OnOk result (Appends (IsShortestSigned z) 10 out.old.items out.new.items) }
+    ensures stands { OnOk result (Appends (IsShortestSigned z) (size_i64 z) out.old.items out.new.items) }
     ensures which { RefusedOnly (λ _. ⊥) result }
     ensures kept { Keeps out.old.items out.new.items }
 {
@@ -98,7 +98,7 @@ pub(crate) fn put_signed(z: i64, out: &mut Vec<u8>) -> R<()>
 
 /// The varint of a size.
 pub(crate) fn put_size(size: usize, out: &mut Vec<u8>) -> R<()>
-    ensures stands { OnOk result (Appends (λ bytes. IsUleb bytes size) (most_size size) out.old.items out.new.items) }
+    ensures stands { OnOk result (Appends (λ bytes. IsUleb bytes size) (size_length size) out.old.items out.new.items) }
     ensures which { RefusedOnly (λ _. ⊥) result }
     ensures kept { Keeps out.old.items out.new.items }
 {
@@ -107,7 +107,7 @@ pub(crate) fn put_size(size: usize, out: &mut Vec<u8>) -> R<()>
 
 /// A length, and the bytes.
 pub(crate) fn put_binary(text: &[u8], out: &mut Vec<u8>) -> R<()>
-    ensures stands { OnOk result (Appends (λ bytes. IsBinary bytes text.now) (most_size (length text.now) + length text.now) out.old.items out.new.items) }
+    ensures stands { OnOk result (Appends (λ bytes. IsBinary bytes text.now) (size_length (length text.now) + length text.now) out.old.items out.new.items) }
     ensures which { RefusedOnly (λ _. ⊥) result }
     ensures kept { Keeps out.old.items out.new.items }
 {

@@ -25,7 +25,8 @@ pub enum ElementType {
     Set,
     Map,
     Struct,
-    /// A code that stands for no type, which only a list or a set without elements may announce.
+    /// A code that stands for no type: 0 or 13 to 15, which only a list or a set without elements may
+    /// announce. With any other code no bytes have it: those of 1 to 12 have names of their own.
     Other(u8),
 }
 
@@ -53,7 +54,8 @@ impl ElementType {
         }
     }
 
-    /// The protocol's number of the type: 1 to 12, and for `Other` its own.
+    /// The protocol's number of the type: 1 to 12, and for `Other` its own. Where that is 1 to 12, and
+    /// so the number of a type with another name, it is 16 more: no type is announced by that.
     pub fn code(self) -> u8
         ensures { result ≡ code_of self }
     {
@@ -70,6 +72,7 @@ impl ElementType {
             ElementType::Set => 10,
             ElementType::Map => 11,
             ElementType::Struct => 12,
+            ElementType::Other(code) if code >= 1 && code <= 12 => code + 16,
             ElementType::Other(code) => code,
         }
     }

@@ -4,7 +4,7 @@ use Rattle.std.specs.Prelude.{IfErr, IsErrOf, IsErrAnd}
 use Rattle.disk.specs.Calls.{CountsFailure}
 use Rattle.disk.specs.declared.fault.Fault.{Fault}
 use Rattle.disk.specs.declared.fault.Fault.TheVariants.{Absent, Exists, Failed, Memory}
-use Rattle.vault.specs.Files.{FailsOnly}
+use Rattle.vault.specs.inner.Files.{FailsOnly}
 
 two_left : (e : Fault) → e ≢ Absent → e ≢ Exists → (e ≡ Failed) ⊎ (e ≡ Memory)
 two_left Absent a x = absurd (a refl)
@@ -23,6 +23,11 @@ never (Err f) e which is = which (cc is)
 pub failed_only : {T : Type 0} (r : Result T Fault) → IfErr r (λ e. (e ≡ Absent) ⊎ (e ≡ Failed)) → (IsErrOf r Absent → ⊥) → IfErr r (λ e. e ≡ Failed)
 failed_only (Ok x) which a = tt
 failed_only (Err f) which a = ⊎_elim (λ is. absurd (a (cc is))) (λ is. is) which
+
+-- a fault that is not out of memory, and neither that nothing is there nor that something stands in the way
+pub failed_left : {T : Type 0} (r : Result T Fault) → IfErr r (λ e. e ≢ Memory) → (IsErrOf r Absent → ⊥) → (IsErrOf r Exists → ⊥) → IfErr r (λ e. e ≡ Failed)
+failed_left (Ok x) which a there = tt
+failed_left (Err f) which a there = ⊎_elim (λ is. is) (λ m. absurd (which m)) (two_left f (λ is. a (cc is)) (λ is. there (cc is)))
 
 pub fails_by_failure : {T : Type 0} (r : Result T Fault) → IfErr r (λ e. e ≡ Failed) → FailsOnly r
 fails_by_failure (Ok x) failed = tt

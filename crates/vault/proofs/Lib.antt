@@ -4,4 +4,10 @@ pub mod Answering
 pub mod Writing
 pub mod Names
 pub mod Turning
-pub mod Commits
+pub mod Calls
+pub mod Chained
+pub mod Plurals
+pub mod Puts
+pub mod Committed
+pub mod Opened
+pub mod Slashes

@@ -3,7 +3,8 @@ use Rattle.std.proofs.Common.{◌≡◌, ◌≢◌, ℕ, zero, suc, List, [], �
 use Rattle.std.proofs.lemmas.Bool.Decides.{eqb_tells}
 use Rattle.disk.specs.Paths.{slash, folder_of, IsOnTheWay}
 use Rattle.disk.specs.State.{State}
-use Rattle.vault.specs.Views.{root_path, next_path, IsClearWay}
+use Rattle.vault.specs.Views.{root_path, next_path}
+use Rattle.vault.specs.Ways.{IsOpenWay}
 
 abbrev has_no_slash : List ℕ → Bool
 has_no_slash [] = true
@@ -26,8 +27,8 @@ no_slash_at (b ∷ rest) none (suc i) is = no_slash_at rest (if_false (b == slas
 pub nothing_on_the_way : (path folder : List ℕ) → has_no_slash path ≡ true → IsOnTheWay folder path → ⊥
 nothing_on_the_way path folder none on = no_slash_at path none on.0 on.2
 
-pub next_clear : (state : State) → IsClearWay state next_path
-next_clear state c may folder on node is = nothing_on_the_way next_path folder refl on
+pub next_open : (state : State) → IsOpenWay state next_path
+next_open state c may folder on node is = nothing_on_the_way next_path folder refl on
 
 pub root_in_top : folder_of root_path ≡ []
 root_in_top = refl

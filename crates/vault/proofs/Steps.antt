@@ -1,13 +1,15 @@
 -- What each step of the disk leaves of all that it does not name.
-use Rattle.std.proofs.Common.{◌≡◌, ◌≢◌, ℕ, List, Some, None, ⊎_elim, refl, sym, ◌∙◌, ap, subst}
+use Rattle.std.proofs.Common.{◌≡◌, ◌≢◌, ◌⊎◌, ◌≤◌, ℕ, List, Some, None, ⊎_elim, inl, inr, refl, sym, ◌∙◌, ap, subst}
 use Rattle.disk.specs.Paths.{IsOnTheWay}
 use Rattle.disk.specs.State.{Image, State, held, content, may_leave}
 use Rattle.disk.specs.declared.binding.Binding.{Binding}
 use Rattle.disk.specs.declared.binding.Binding.TheVariants.{Nothing, Folder, File}
 use Rattle.disk.specs.Calls.{Passes, Stays, Binds, Tears, IsStill}
-use Rattle.vault.specs.Views.{Same, AllBut, IsRooted, IsClearWay, LeavesAll, root_path}
-use Rattle.vault.specs.Files.{Spares}
-use Rattle.vault.proofs.Moments.{one_call, joins, stays_leaves, all_but_same, all_but_twice, same_same}
+use Rattle.vault.specs.Views.{View, Same, AllBut, ReadsAs, IsRooted, StaysRooted, root_path}
+use Rattle.vault.specs.Ways.{IsClearIn, IsClearWay, StaysClear, LeavesWays}
+use Rattle.vault.specs.Calls.{LeavesAll}
+use Rattle.vault.specs.inner.Files.{Spares, LeavesBelow, LeavesAbove}
+use Rattle.vault.proofs.Moments.{came, rooted_joins, clear_joins, one_call, joins, stays_leaves, all_but_same, all_but_twice, same_same}
 
 held_same : (c d : Image) (b : Binding) → ((n : ℕ) → b ≡ File n → c.bytes n ≡ d.bytes n) → held c b ≡ held d b
 held_same c d Nothing same = refl
@@ -40,54 +42,109 @@ folder_same folder d c no_file bound q = ⊎_elim
 pub rooted_on : (Step : Image → Image → Type 0) (old new : State) → Passes Step old new
     → ((d c : Image) → may_leave old d → Step d c → (n : ℕ) → c.names root_path ≡ File n → d.names root_path ≡ File n)
     → ((b d c : Image) (n : ℕ) → may_leave old b → b.names root_path ≡ File n → may_leave old d → Step d c → c.bytes n ≡ d.bytes n)
-    → IsRooted old → IsRooted new
-rooted_on Step old new time names nodes rooted c e n may_c may_e named =
-    let one = time.follows c may_c in
-    let two = time.follows e may_e in
-    let was = names one.0 c one.1 one.2 n named in
-    nodes one.0 two.0 e n one.1 was two.1 two.2 ∙ rooted one.0 two.0 n one.1 two.1 was ∙ sym (nodes one.0 one.0 c n one.1 was one.1 one.2)
+    → IsRooted old → StaysRooted old new
+rooted_on Step old new time names nodes rooted m lo hi c e n at_c at_e named =
+    let one = came Step old new time m lo hi c at_c in
+    let two = came Step old new time m lo hi e at_e in
+    let was : one.0.names root_path ≡ File n = ⊎_elim
+    (λ same. ap (λ (i : Image). i.names root_path) (sym same) ∙ named)
+    (λ step. names one.0 c one.1 step n named) one.2 in
+    let moved = λ (d x : Image) (may : may_leave old d) (from : (x ≡ d) ⊎ Step d x). ⊎_elim
+    (λ same. ap (λ (i : Image). i.bytes n) same)
+    (λ step. nodes one.0 d x n one.1 was may step) from in
+    moved two.0 e two.1 two.2 ∙ rooted one.0 two.0 n one.1 two.1 was ∙ sym (moved one.0 c one.1 one.2)
 
--- a step that puts no file on the way to this path
+-- a step that leaves a clear way clear
 pub clear_on : (Step : Image → Image → Type 0) (old new : State) (q : List ℕ) → Passes Step old new
-    → ((d c : Image) → may_leave old d → Step d c → (f : List ℕ) → IsOnTheWay f q → (n : ℕ) → c.names f ≡ File n → d.names f ≡ File n)
-    → IsClearWay old q → IsClearWay new q
-clear_on Step old new q time files had c may f on n is = let was = time.follows c may in had was.0 was.1 f on n (files was.0 c was.1 was.2 f on n is)
+    → ((d c : Image) → Step d c → IsClearIn d q → IsClearIn c q)
+    → IsClearWay old q → StaysClear old new q
+clear_on Step old new q time step had m c lo hi at =
+    let was = came Step old new time m lo hi c at in
+    ⊎_elim
+    (λ same. let P : Image → Type 0 = λ i. IsClearIn i q in subst P (sym same) (had was.0 was.1))
+    (λ from. step was.0 c from (had was.0 was.1))
+    was.2
 
 pub folder_is_no_file : (n : ℕ) → Folder ≢ File n
 folder_is_no_file n e = cc
 
-pub stays_rooted : (old new : State) → Passes Stays old new → IsRooted old → IsRooted new
+pub nothing_is_no_folder : Nothing ≢ Folder
+nothing_is_no_folder e = cc
+
+pub nothing_is_no_file : (n : ℕ) → Nothing ≢ File n
+nothing_is_no_file n e = cc
+
+-- Where a name that changes is one of a file, and not on the way to this path, the way stays clear.
+pub clear_by_names : (d c : Image) (q : List ℕ)
+    → ((f : List ℕ) → (c.names f ≡ d.names f) ⊎ ((c.names f ≢ Folder) × ((IsOnTheWay f q) → (n : ℕ) → c.names f ≢ File n)))
+    → IsClearIn d q → IsClearIn c q
+clear_by_names d c q names had = record {
+  open_way = λ f on n is. ⊎_elim (λ same. had.open_way f on n (sym same ∙ is)) (λ other. other.1 on n is) (names f);
+  no_folder = λ is. ⊎_elim (λ same. had.no_folder (sym same ∙ is)) (λ other. other.0 is) (names q);
+}
+
+pub binds_nothing_clear : (path q : List ℕ) (d c : Image) → Binds path Nothing d c → IsClearIn d q → IsClearIn c q
+binds_nothing_clear path q d c bound = clear_by_names d c q (λ f. ⊎_elim
+    (λ same. inl same)
+    (λ m. inr ((λ is. nothing_is_no_folder (sym m.1 ∙ is)), (λ on n is. nothing_is_no_file n (sym m.1 ∙ is))))
+    (bound.names f))
+
+pub binds_file_clear : (path q : List ℕ) (node : ℕ) → (IsOnTheWay path q → ⊥) → (d c : Image) → Binds path (File node) d c → IsClearIn d q → IsClearIn c q
+binds_file_clear path q node off d c bound = clear_by_names d c q (λ f. ⊎_elim
+    (λ same. inl same)
+    (λ m. inr (
+      (λ is. folder_is_no_file node (sym is ∙ m.1)),
+      (λ on n is. off (let P : List ℕ → Type 0 = λ g. IsOnTheWay g q in subst P m.0 on)),
+    ))
+    (bound.names f))
+
+-- a folder that is made is no file, and not at this path
+pub binds_folder_clear : (folder q : List ℕ) → q ≢ folder → (d c : Image) → Binds folder Folder d c → IsClearIn d q → IsClearIn c q
+binds_folder_clear folder q ne d c bound had = record {
+  open_way = λ f on n is. ⊎_elim (λ same. had.open_way f on n (sym same ∙ is)) (λ m. folder_is_no_file n (sym m.1 ∙ is)) (bound.names f);
+  no_folder = λ is. ⊎_elim (λ same. had.no_folder (sym same ∙ is)) (λ m. ne m.0) (bound.names q);
+}
+
+pub tears_clear : (node at count : ℕ) (q : List ℕ) (d c : Image) → Tears node at count d c → IsClearIn d q → IsClearIn c q
+tears_clear node at count q d c torn = clear_by_names d c q (λ f. inl (torn.names f))
+
+pub stays_rooted : (old new : State) → Passes Stays old new → IsRooted old → StaysRooted old new
 stays_rooted old new time = rooted_on Stays old new time
     (λ d c may is n named. ap (λ (i : Image). i.names root_path) (sym is) ∙ named)
     (λ b d c n may_b named may_d is. ap (λ (i : Image). i.bytes n) is)
 
-pub stays_clear : (old new : State) (q : List ℕ) → Passes Stays old new → IsClearWay old q → IsClearWay new q
-stays_clear old new q time = clear_on Stays old new q time
-    (λ d c may is f on n named. ap (λ (i : Image). i.names f) (sym is) ∙ named)
+pub stays_clear : (old new : State) → Passes Stays old new → LeavesWays old new
+stays_clear old new time q = clear_on Stays old new q time (λ d c is. clear_by_names d c q (λ f. inl (ap (λ (i : Image). i.names f) is)))
+
+pub stays_reads : (S : View → View → Type 0) (old new : State) → ((u : View) → S u u) → new.seen ≡ old.seen → ReadsAs S old new
+stays_reads S old new same is = let P : Image → Type 0 = λ i. S (content old.seen) (content i) in subst P (sym is) (same (content old.seen))
 
 pub stays_spares : (path : List ℕ) (old new : State) → Passes Stays old new → new.seen ≡ old.seen → Spares path old new
 stays_spares path old new time seen = record {
-  moments = stays_leaves (AllBut path) old new (all_but_same path) time seen;
+  moments = stays_leaves (AllBut path) old new (all_but_same path) time;
+  seen = stays_reads (AllBut path) old new (all_but_same path) seen;
   rooted = stays_rooted old new time;
-  clear = λ q off. stays_clear old new q time;
 }
 
 pub spares_on : (path : List ℕ) (old mid new : State) → Spares path old mid → Spares path mid new → Spares path old new
 spares_on path old mid new first second = record {
   moments = joins (AllBut path) (AllBut path) (AllBut path) old mid new (all_but_twice path) (λ u v same. same) first.moments second.moments;
-  rooted = λ r. second.rooted (first.rooted r);
-  clear = λ q off had. second.clear q off (first.clear q off had);
+  seen = all_but_twice path _ _ _ first.seen second.seen;
+  rooted = λ r. rooted_joins (AllBut path) (AllBut path) old mid new first.moments second.moments (first.rooted r) second.rooted;
 }
+
+-- ways over one call at a path after another
+pub clear_spared : (path : List ℕ) (old mid new : State) → Spares path old mid → Spares path mid new → (q : List ℕ) → StaysClear old mid q → (IsClearWay mid q → StaysClear mid new q) → StaysClear old new q
+clear_spared path old mid new first second q = clear_joins (AllBut path) (AllBut path) old mid new q first.moments second.moments
 
 -- a name that stands for something else
 pub binds_spares : (path : List ℕ) (to : Binding) (old new : State) → path ≢ root_path → Passes (Binds path to) old new → Binds path to old.seen new.seen → Spares path old new
 binds_spares path to old new not_root time seen = record {
-  moments = one_call (AllBut path) (Binds path to) old new (all_but_same path) (λ d c may bound. binds_but path to d c bound) (binds_but path to old.seen new.seen seen) time;
+  moments = one_call (AllBut path) (Binds path to) old new (all_but_same path) (λ d c may bound. binds_but path to d c bound) time;
+  seen = binds_but path to old.seen new.seen seen;
   rooted = rooted_on (Binds path to) old new time
       (λ d c may bound n is. ⊎_elim (λ same. sym same ∙ is) (λ m. absurd (not_root (sym m.0))) (bound.names root_path))
       (λ b d c n may_b named may_d bound. bound.nodes n);
-  clear = λ q off. clear_on (Binds path to) old new q time
-      (λ d c may bound f on n is. ⊎_elim (λ same. sym same ∙ is) (λ m. absurd (off (let P : List ℕ → Type 0 = λ g. IsOnTheWay g q in subst P m.0 on))) (bound.names f));
 }
 
 -- bytes behind a node that this path alone names
@@ -96,19 +153,18 @@ pub tears_spares : (path : List ℕ) (node at count : ℕ) (old new : State) →
     → may_leave old old.seen → Passes (Tears node at count) old new → Tears node at count old.seen new.seen → Spares path old new
 tears_spares path node at count old new not_root alone reads time seen = record {
   moments = one_call (AllBut path) (Tears node at count) old new (all_but_same path)
-      (λ d c may torn. tears_but path node at count d c (alone d may) torn)
-      (tears_but path node at count old.seen new.seen (alone old.seen reads) seen) time;
+      (λ d c may torn. tears_but path node at count d c (alone d may) torn) time;
+  seen = tears_but path node at count old.seen new.seen (alone old.seen reads) seen;
   rooted = rooted_on (Tears node at count) old new time
       (λ d c may torn n is. sym (torn.names root_path) ∙ is)
       (λ b d c n may_b named may_d torn. torn.nodes n (λ same. alone b may_b root_path (λ e. not_root (sym e)) (named ∙ ap File same)));
-  clear = λ q off. clear_on (Tears node at count) old new q time
-      (λ d c may torn f on n is. sym (torn.names f) ∙ is);
 }
 
 pub reads_only : (old new : State) → IsStill old new → LeavesAll old new
 reads_only old new still = record {
-  moments = stays_leaves Same old new same_same still.passes still.seen;
+  moments = stays_leaves Same old new same_same still.passes;
   rooted = stays_rooted old new still.passes;
-  clear = λ q. stays_clear old new q still.passes;
+  clear = stays_clear old new still.passes;
   names = λ q. ap (λ (i : Image). i.names q) still.seen;
+  seen = stays_reads Same old new same_same still.seen;
 }

@@ -10,28 +10,29 @@ use Rattle.disk.specs.declared.binding.Binding.TheVariants.{Nothing, Folder, Fil
 use Rattle.disk.specs.declared.fault.Fault.{Fault}
 use Rattle.disk.specs.declared.fault.Fault.TheVariants.{Absent, Exists, Failed}
 use Rattle.disk.specs.Calls.{Passes, Binds, Tears, IsStill, Takes, Removed, FolderMade, Created, Appended, Synced, FolderSynced}
-use Rattle.vault.specs.Views.{Same, AllBut, IsClearWay, root_path}
-use Rattle.vault.specs.Files.{Spares, NoNewFiles, IsHoused, FailsOnly, Cleared, FoldersMade, Written, MadeFirm, Placed}
-use Rattle.vault.proofs.Moments.{one_call, joins, widens, nothing_yet, stays_may, still_on, same_same, same_twice}
-use Rattle.vault.proofs.Steps.{binds_spares, tears_spares, stays_spares, spares_on, folder_same, rooted_on, folder_is_no_file}
+use Rattle.vault.specs.Views.{LeavesAfter, Same, AllBut, root_path}
+use Rattle.vault.specs.Ways.{IsOpenWay, LeavesClear, LeavesWays}
+use Rattle.vault.specs.inner.Files.{Spares, LeavesBelow, LeavesAbove, NoNewFiles, IsHoused, IsNoFolder, FailsOnly, Cleared, FoldersMade, Written, MadeFirm, Placed}
+use Rattle.vault.proofs.Moments.{rooted_joins, stays_rooted_here, clear_joins, stays_clear_here, one_call, joins, widens, nothing_yet, stays_may, still_on, same_same, same_twice}
+use Rattle.vault.proofs.Steps.{binds_spares, tears_spares, stays_spares, spares_on, clear_spared, clear_on, stays_clear, binds_nothing_clear, binds_file_clear, binds_folder_clear, tears_clear, folder_same, rooted_on, folder_is_no_file, nothing_is_no_folder, nothing_is_no_file}
 use Rattle.vault.proofs.Answering.{fails_only, never, failed_only, fails_by_failure}
 
-nothing_is_no_folder : Nothing ≢ Folder
-nothing_is_no_folder e = cc
-
-nothing_is_no_file : (n : ℕ) → Nothing ≢ File n
-nothing_is_no_file n e = cc
+-- A name that is taken away.
 
 takes_no_files : (path : List ℕ) (old new : State) → Passes (Binds path Nothing) old new → NoNewFiles old new
 takes_no_files path old new time c may q n is =
     let was = time.follows c may in
     (was.0, was.1, ⊎_elim (λ same. sym same ∙ is) (λ m. absurd (nothing_is_no_file n (sym m.1 ∙ is))) (was.2.names q))
 
-pub cleared : {T : Type 0} (path : List ℕ) (old new : State) (r : Result T Fault) → path ≢ root_path → (IsErrOf r Absent → ⊥) → IfErr r (λ e. e ≢ Exists) → Removed path old new r → Cleared path old new r
-cleared path old new r not_root there which removed = record {
+takes_clear : (path : List ℕ) (old new : State) → Passes (Binds path Nothing) old new → LeavesWays old new
+takes_clear path old new time q = clear_on (Binds path Nothing) old new q time (binds_nothing_clear path q)
+
+pub cleared : {T : Type 0} (path : List ℕ) (old new : State) (r : Result T Fault) → path ≢ root_path → (IsErrOf r Absent → ⊥) → Removed path old new r → Cleared path old new r
+cleared path old new r not_root there removed = record {
   spares = binds_spares path Nothing old new not_root removed.takes.passes removed.takes.seen;
+  clear = takes_clear path old new removed.takes.passes;
   files = takes_no_files path old new removed.takes.passes;
-  fails = fails_only r there (never r Exists which);
+  fails = λ no_folder. fails_only r there (λ e. no_folder (removed.exists e));
   gone = on_ok_weaker r (λ done. done.2) removed.done;
   others = λ q ne. ⊎_elim (λ same. same) (λ m. absurd (ne m.0)) (removed.takes.seen.names q);
 }
@@ -39,8 +40,9 @@ cleared path old new r not_root there which removed = record {
 pub cleared_already : {S : Type 0} (path : List ℕ) (old new : State) (r : Result S Fault) → path ≢ root_path → IsErrOf r Absent → Removed path old new r → Cleared {T = Unit {0}} path old new (Ok tt)
 cleared_already path old new r not_root is removed = record {
   spares = binds_spares path Nothing old new not_root removed.takes.passes removed.takes.seen;
+  clear = takes_clear path old new removed.takes.passes;
   files = takes_no_files path old new removed.takes.passes;
-  fails = tt;
+  fails = λ _. tt;
   gone = ⊎_elim (λ same. same ∙ removed.absent is) (λ m. m.1) (removed.takes.seen.names path);
   others = λ q ne. ⊎_elim (λ same. same) (λ m. absurd (ne m.0)) (removed.takes.seen.names q);
 }
@@ -50,21 +52,25 @@ cleared_already path old new r not_root is removed = record {
 pub folders_none : (path : List ℕ) (state : State) → IsLawful state → state.honest → folder_of path ≡ [] → FoldersMade {T = Unit {0}} path state state (Ok tt)
 folders_none path state lawful honest top = record {
   moments = nothing_yet Same state same_same;
-  rooted = λ rooted. rooted;
+  seen = same_same _;
+  rooted = stays_rooted_here state;
+  clear = λ q off. stays_clear_here state q;
   files = λ c may q n is. (c, may, is);
   fails = tt;
   housed = ap state.seen.names top ∙ (lawful.whole honest state.moment state.seen (lawful.seen_may_stay honest)).top;
   others = λ q off. refl;
 }
 
-pub clear_above : (path folder : List ℕ) (state : State) → folder ≡ folder_of path → IsClearWay state path → IsClearWay state folder
-clear_above path folder state is clear c may f on n = clear c may f (further-on_the_way f path (subst (λ (g : List ℕ). IsOnTheWay f g) is on)) n
+pub open_above : (path folder : List ℕ) (state : State) → folder ≡ folder_of path → IsOpenWay state path → IsOpenWay state folder
+open_above path folder state is clear c may f on n = clear c may f (further-on_the_way f path (subst (λ (g : List ℕ). IsOnTheWay f g) is on)) n
 
 -- the folders on the way to a folder of this path
 pub folders_refused : (path folder : List ℕ) (old new : State) (e : Fault) → folder ≡ folder_of path → FoldersMade {T = Unit {0}} folder old new (Err e) → FoldersMade {T = Unit {0}} path old new (Err e)
 folders_refused path folder old new e is made = record {
   moments = made.moments;
+  seen = made.seen;
   rooted = made.rooted;
+  clear = λ q off. made.clear q (λ on. off (further_on path folder q is on));
   files = made.files;
   fails = made.fails;
   housed = tt;
@@ -75,7 +81,7 @@ folders_refused path folder old new e is made = record {
     further_on path folder q is on = further-on_the_way q path (subst (λ (f : List ℕ). IsOnTheWay q f) is on)
 
 module _ (path folder : List ℕ) (old mid new : State) (r : Result (Unit {0}) Fault) (lawful : IsLawful mid) (honest : mid.honest)
-    (is : folder ≡ folder_of path) (some : folder ≢ []) (clear : IsClearWay old path)
+    (is : folder ≡ folder_of path) (some : folder ≢ []) (clear : IsOpenWay old path)
     (made : FoldersMade {T = Unit {0}} folder old mid (Ok tt)) (one : FolderMade folder mid new r) where
   on : IsOnTheWay folder path
   on = let P : List ℕ → Type 0 = λ f. IsOnTheWay f path in subst P (sym is) (folder-on_the_way path (λ e. some (is ∙ e)))
@@ -89,14 +95,21 @@ module _ (path folder : List ℕ) (old mid new : State) (r : Result (Unit {0}) F
   reads : may_leave mid mid.seen
   reads = lawful.seen_may_stay honest
 
+  call : LeavesAfter Same mid new
+  call = one_call Same (Binds folder Folder) mid new same_same (λ d c may bound. folder_same folder d c (no_file d may) bound) one.takes.passes
+
+  on_if : (q : List ℕ) → q ≡ folder → IsOnTheWay q path
+  on_if q e = let P : List ℕ → Type 0 = λ f. IsOnTheWay f path in subst P (sym e) on
+
   pub folders_more : FoldersMade path old new r
   folders_more = record {
-    moments = joins Same Same Same old mid new same_twice (λ u v same. same) made.moments
-        (one_call Same (Binds folder Folder) mid new same_same (λ d c may bound. folder_same folder d c (no_file d may) bound)
-        (folder_same folder mid.seen new.seen (no_file mid.seen reads) one.takes.seen) one.takes.passes);
-    rooted = λ rooted. rooted_on (Binds folder Folder) mid new one.takes.passes
+    moments = joins Same Same Same old mid new same_twice (λ u v same. same) made.moments call;
+    seen = same_twice _ _ _ made.seen (folder_same folder mid.seen new.seen (no_file mid.seen reads) one.takes.seen);
+    clear = λ q off had. clear_joins Same Same old mid new q made.moments call (made.clear q (λ o. off (further q o)) had)
+        (clear_on (Binds folder Folder) mid new q one.takes.passes (binds_folder_clear folder q (λ e. off (on_if q e))));
+    rooted = λ rooted. rooted_joins Same Same old mid new made.moments call (made.rooted rooted) (rooted_on (Binds folder Folder) mid new one.takes.passes
         (λ d c may bound n named. ⊎_elim (λ same. sym same ∙ named) (λ m. absurd (folder_is_no_file n (sym m.1 ∙ named))) (bound.names root_path))
-        (λ b d c n may_b named may_d bound. bound.nodes n) (made.rooted rooted);
+        (λ b d c n may_b named may_d bound. bound.nodes n));
     files = λ c may q n named.
         let was = one.takes.passes.follows c may in
         made.files was.0 was.1 q n (⊎_elim (λ same. sym same ∙ named) (λ m. absurd (folder_is_no_file n (sym m.1 ∙ named))) (was.2.names q));
@@ -104,7 +117,7 @@ module _ (path folder : List ℕ) (old mid new : State) (r : Result (Unit {0}) F
     housed = on_ok_weaker r (λ done. ap new.seen.names (sym is) ∙ done) one.done;
     others = λ q off. ⊎_elim
         (λ same. same)
-        (λ m. absurd (off (let P : List ℕ → Type 0 = λ f. IsOnTheWay f path in subst P (sym m.0) on)))
+        (λ m. absurd (off (on_if q m.0)))
         (one.takes.seen.names q) ∙ made.others q (λ o. off (further q o));
   }
 
@@ -118,11 +131,14 @@ module _ (path bytes : List ℕ) (s0 s1 : State) (r1 : Result (Unit {0}) Fault) 
   begun : Spares path s0 s1
   begun = binds_spares path (File created.node) s0 s1 not_root created.takes.passes created.takes.seen
 
+  begun_clear : LeavesBelow path s0 s1
+  begun_clear q off = clear_on (Binds path (File created.node)) s0 s1 q created.takes.passes (binds_file_clear path q created.node off)
+
   pub create_fails : FailsOnly r1
   create_fails = fails_only r1 (λ e. created.absent e housed) (λ e. created.exists e gone)
 
   pub create_refused : (e : Fault) → FailsOnly {T = Unit {0}} (Err e) → Written {T = Unit {0}} path bytes s0 s1 (Err e)
-  create_refused e fails = record { spares = begun; fails = fails; written = tt }
+  create_refused e fails = record { spares = begun; clear = begun_clear; fails = fails; written = tt }
 
   module _ (s2 : State) (r2 : Result (Unit {0}) Fault) (lawful1 : IsLawful s1) (honest1 : s1.honest) (named : s1.seen.names path ≡ File created.node)
       (appended : Appended path bytes s1 s2 r2) where
@@ -134,12 +150,20 @@ module _ (path bytes : List ℕ) (s0 s1 : State) (r1 : Result (Unit {0}) Fault) 
         let was = created.takes.passes.follows d may in
         ⊎_elim (λ same. created.fresh.unnamed was.0 was.1 q (sym same ∙ is)) (λ m. ne m.0) (was.2.names q)
 
+    filling : Spares path s1 s2
+    filling = tears_spares path created.node _ _ s1 s2 not_root alone (lawful1.seen_may_stay honest1) torn.passes torn.seen
+
     filled : Spares path s0 s2
-    filled = spares_on path s0 s1 s2 begun (tears_spares path created.node _ _ s1 s2 not_root alone (lawful1.seen_may_stay honest1) torn.passes torn.seen)
+    filled = spares_on path s0 s1 s2 begun filling
+
+    filled_clear : LeavesBelow path s0 s2
+    filled_clear q off had = clear_spared path s0 s1 s2 begun filling q (begun_clear q off had)
+        (clear_on (Tears created.node (length (s1.seen.bytes created.node)) (length bytes)) s1 s2 q torn.passes (tears_clear created.node _ _ q))
 
     pub append_refused : (e : Fault) → r2 ≡ Err e → IfErr r2 (λ f. f ≢ Exists) → Written {T = Unit {0}} path bytes s0 s2 (Err e)
     append_refused e is which = record {
       spares = filled;
+      clear = filled_clear;
       fails = let P : Result (Unit {0}) Fault → Type 0 = λ r. FailsOnly r in subst P is (fails_only r2 (λ a. appended.absent a created.node named) (never r2 Exists which));
       written = tt;
     }
@@ -163,6 +187,8 @@ module _ (path bytes : List ℕ) (s0 s1 : State) (r1 : Result (Unit {0}) Fault) 
       pub written_file : Written path bytes s0 s3 r3
       written_file = record {
         spares = spares_on path s0 s2 s3 filled (stays_spares path s2 s3 synced.takes.passes synced.takes.seen);
+        clear = λ q off had. clear_spared path s0 s2 s3 filled (stays_spares path s2 s3 synced.takes.passes synced.takes.seen) q (filled_clear q off had)
+            (stays_clear s2 s3 synced.takes.passes q);
         fails = fails_only r3 (λ a. synced.absent a created.node still_named) (never r3 Exists which);
         written = on_ok_weaker r3 (λ done.
             let one : done.0 ≡ created.node = file_one done.0 created.node (sym done.1 ∙ still_named) in
@@ -222,8 +248,8 @@ module _ (path folder : List ℕ) (s0 s1 : State) (r1 : Result (Unit {0}) Fault)
 
 -- The whole.
 
-cleared_way : (path : List ℕ) (old new : State) → NoNewFiles old new → IsClearWay old path → IsClearWay new path
-cleared_way path old new files clear c may f on n is = let was = files c may f n is in clear was.0 was.1 f on n was.2
+stays_open : (path : List ℕ) (old new : State) → NoNewFiles old new → IsOpenWay old path → IsOpenWay new path
+stays_open path old new files way c may f on n is = let was = files c may f n is in way was.0 was.1 f on n was.2
 
 pub not_on_its_way : (path : List ℕ) → IsOnTheWay path path → ⊥
 not_on_its_way path on =
@@ -233,39 +259,51 @@ not_on_its_way path on =
 folders_spare : (path : List ℕ) (old new : State) (r : Result (Unit {0}) Fault) → FoldersMade path old new r → Spares path old new
 folders_spare path old new r made = record {
   moments = widens Same (AllBut path) old new (λ u v same q ne. same q) made.moments;
+  seen = λ q ne. made.seen q;
   rooted = made.rooted;
-  clear = λ q off. cleared_way q old new made.files;
 }
 
-placed_refused : (path bytes : List ℕ) (old new : State) (e : Fault) → Spares path old new → FailsOnly {T = Unit {0}} (Err e) → Placed {T = Unit {0}} path bytes old new (Err e)
-placed_refused path bytes old new e spares fails = record { spares = spares; fails = fails; written = tt; kept = tt }
-
 pub clear_refused : (path bytes : List ℕ) (s0 s1 : State) (e : Fault) → Cleared {T = Unit {0}} path s0 s1 (Err e) → Placed {T = Unit {0}} path bytes s0 s1 (Err e)
-clear_refused path bytes s0 s1 e cleared = placed_refused path bytes s0 s1 e cleared.spares cleared.fails
+clear_refused path bytes s0 s1 e cleared = record { spares = cleared.spares; clear = λ q apart. cleared.clear q; fails = cleared.fails; written = tt; kept = tt }
 
 module _ (path bytes : List ℕ) (s0 s1 : State) (cleared : Cleared {T = Unit {0}} path s0 s1 (Ok tt)) where
-  pub still_clear : IsClearWay s0 path → IsClearWay s1 path
-  still_clear = cleared_way path s0 s1 cleared.files
+  pub still_open : IsOpenWay s0 path → IsOpenWay s1 path
+  still_open = stays_open path s0 s1 cleared.files
+
+  made_spares : (s2 : State) (r : Result (Unit {0}) Fault) → FoldersMade path s1 s2 r → Spares path s0 s2
+  made_spares s2 r made = spares_on path s0 s1 s2 cleared.spares (folders_spare path s1 s2 r made)
+
+  made_clear : (s2 : State) (r : Result (Unit {0}) Fault) → FoldersMade path s1 s2 r → LeavesClear path s0 s2
+  made_clear s2 r made q apart had = clear_spared path s0 s1 s2 cleared.spares (folders_spare path s1 s2 r made) q (cleared.clear q had) (made.clear q apart.above)
 
   pub make_refused : (s2 : State) (e : Fault) → FoldersMade {T = Unit {0}} path s1 s2 (Err e) → Placed {T = Unit {0}} path bytes s0 s2 (Err e)
-  make_refused s2 e made = placed_refused path bytes s0 s2 e (spares_on path s0 s1 s2 cleared.spares (folders_spare path s1 s2 (Err e) made)) made.fails
+  make_refused s2 e made = record { spares = made_spares s2 (Err e) made; clear = made_clear s2 (Err e) made; fails = λ _. made.fails; written = tt; kept = tt }
 
   module _ (s2 : State) (made : FoldersMade {T = Unit {0}} path s1 s2 (Ok tt)) where
     pub still_gone : s2.seen.names path ≡ Nothing
     still_gone = made.others path (not_on_its_way path) ∙ cleared.gone
 
     so_far : Spares path s0 s2
-    so_far = spares_on path s0 s1 s2 cleared.spares (folders_spare path s1 s2 (Ok tt) made)
+    so_far = made_spares s2 (Ok tt) made
+
+    module _ (s3 : State) (r3 : Result (Unit {0}) Fault) (written : Written {T = Unit {0}} path bytes s2 s3 r3) where
+      put_spares : Spares path s0 s3
+      put_spares = spares_on path s0 s2 s3 so_far written.spares
+
+      put_clear : LeavesClear path s0 s3
+      put_clear q apart had = clear_spared path s0 s2 s3 so_far written.spares q (made_clear s2 (Ok tt) made q apart had) (written.clear q apart.below)
 
     pub write_refused : (s3 : State) (e : Fault) → Written {T = Unit {0}} path bytes s2 s3 (Err e) → Placed {T = Unit {0}} path bytes s0 s3 (Err e)
-    write_refused s3 e written = placed_refused path bytes s0 s3 e (spares_on path s0 s2 s3 so_far written.spares) written.fails
+    write_refused s3 e written = record { spares = put_spares s3 (Err e) written; clear = put_clear s3 (Err e) written; fails = λ _. written.fails; written = tt; kept = tt }
 
     pub placed_file : (s3 s4 : State) (r : Result (Unit {0}) Fault) → Written {T = Unit {0}} path bytes s2 s3 (Ok tt) → MadeFirm path s3 s4 r → Placed path bytes s0 s4 r
     placed_file s3 s4 r written firm =
         let file = written.written.0 in
+        let firmed : Spares path s3 s4 = stays_spares path s3 s4 firm.still.passes firm.still.seen in
         record {
-          spares = spares_on path s0 s2 s4 so_far (spares_on path s2 s3 s4 written.spares (stays_spares path s3 s4 firm.still.passes firm.still.seen));
-          fails = firm.fails;
+          spares = spares_on path s0 s3 s4 (put_spares s3 (Ok tt) written) firmed;
+          clear = λ q apart had. clear_spared path s0 s3 s4 (put_spares s3 (Ok tt) written) firmed q (put_clear s3 (Ok tt) written q apart had) (stays_clear s3 s4 firm.still.passes q);
+          fails = λ _. firm.fails;
           written = on_ok_weaker r (λ named. record {
             node = file.node;
             seen = ap (λ (i : Image). i.names path) firm.still.seen ∙ file.seen;

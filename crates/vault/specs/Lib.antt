@@ -1,3 +1,5 @@
 pub mod Views
-pub mod Files
-pub mod Tables
+pub mod Ways
+pub mod Calls
+pub mod Commit
+pub mod inner

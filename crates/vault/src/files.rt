@@ -1,9 +1,10 @@
-//! The steps of writing one file so that no stop tears it.
+//! The steps of writing one file so that no crash tears it.
 
 ghost use Rattle.std.specs.Prelude.{◌≡◌, ◌≢◌, ◌⊎◌, ◌↔◌, IfErr};
 ghost use Rattle.disk.specs.Calls.{CountsFailure, Synced};
-ghost use Rattle.vault.specs.Views.{IsGone, IsClearWay, root_path};
-ghost use Rattle.vault.specs.Files.{Cleared, FoldersMade, Written, MadeFirm, Placed, IsHoused};
+ghost use Rattle.vault.specs.Views.{IsGone, root_path};
+ghost use Rattle.vault.specs.Ways.{IsOpenWay};
+ghost use Rattle.vault.specs.inner.Files.{Cleared, FoldersMade, Written, MadeFirm, Placed, IsHoused};
 
 use disk::{Disk, Fault, folder_of};
 
@@ -26,7 +27,7 @@ pub(crate) fn clear<D: Disk>(disk: &mut D, path: &str) -> Result<(), Fault>
 
 /// Makes the folders on the way to a path, the outermost first.
 pub(crate) fn make_folders<D: Disk>(disk: &mut D, path: &str) -> Result<(), Fault>
-    ensures effect { (D.state disk.old).honest → IsClearWay (D.state disk.old) path.now → FoldersMade path.now (D.state disk.old) (D.state disk.new) result }
+    ensures effect { (D.state disk.old).honest → IsOpenWay (D.state disk.old) path.now → FoldersMade path.now (D.state disk.old) (D.state disk.new) result }
     ensures counts { CountsFailure result (D.state disk.old).failures (D.state disk.new).failures }
     ensures reads { (D.state disk.new).reads ≡ (D.state disk.old).reads }
     ensures honest { (D.state disk.old).honest ↔ (D.state disk.new).honest }
@@ -79,10 +80,10 @@ pub(crate) fn make_firm<D: Disk>(disk: &mut D, path: &str) -> Result<(), Fault>
     make_firm(disk, folder)
 }
 
-/// Writes a file in the place of what its name stood for, with the folders on the way, and makes all of them firm.
+/// Writes a file in the place of what its name stood for, with the folders on the way, and makes all of them durable.
 pub(crate) fn place<D: Disk>(disk: &mut D, path: &str, bytes: &[u8]) -> Result<(), Fault>
     requires { path.now ≢ root_path }
-    ensures effect { (D.state disk.old).honest → IsClearWay (D.state disk.old) path.now → Placed path.now bytes.now (D.state disk.old) (D.state disk.new) result }
+    ensures effect { (D.state disk.old).honest → IsOpenWay (D.state disk.old) path.now → Placed path.now bytes.now (D.state disk.old) (D.state disk.new) result }
     ensures counts { CountsFailure result (D.state disk.old).failures (D.state disk.new).failures }
     ensures reads { (D.state disk.new).reads ≡ (D.state disk.old).reads }
     ensures honest { (D.state disk.old).honest ↔ (D.state disk.new).honest }

@@ -1,23 +1,18 @@
-//! Files that a stop leaves whole, and a root that is swapped for another in one step.
+//! Files that a crash leaves whole, and a root that is swapped for another in one step.
 //!
-//! What a stop may leave of the files and of the root stands in `specs/Views.antt`, over the bytes that each path has in
-//! each image of the disk's model; a caller needs to know nothing of nodes, sectors or names that are not firm.
+//! What each call leaves stands in `specs/Calls.antt` and `specs/Commit.antt`, over the bytes that each path has in
+//! whatever a crash may leave (`specs/Views.antt`), and where a file can stand (`specs/Ways.antt`). A caller needs to know
+//! nothing of nodes, sectors or names that are not durable. What a caller's proof joins calls by stands in
+//! `proofs/Moments.antt`, `Chained.antt` and `Plurals.antt`.
 #![tactic(auto)]
 
+mod commits;
 mod files;
 mod laws;
+mod opening;
 mod vault;
 
-pub use laws::apart;
+pub use commits::{NewFile, commit};
+pub use laws::{apart, way_down};
+pub use opening::open_root;
 pub use vault::Vault;
-
-#[cfg(test)]
-mod example;
-#[cfg(test)]
-mod fake;
-#[cfg(test)]
-mod real_folder;
-#[cfg(test)]
-mod stops;
-#[cfg(test)]
-mod tests;

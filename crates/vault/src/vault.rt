@@ -1,32 +1,33 @@
-//! The root, and the files that are kept beside it.
+//! The root, and the files that are kept next to it.
 
 ghost use Rattle.std.specs.Prelude.{◌≡◌, ◌≢◌, ◌↔◌, ◌⊎◌, ◌^◌, ◌-◌, ℕ, List, OnOk, IfOk, IfErr, IfSome, Some, None, Ok, take, drop};
 ghost use Rattle.bits.specs.Refusals.{RefusedOnly};
-ghost use Rattle.disk.specs.Paths.{IsOnTheWay};
 ghost use Rattle.disk.specs.State.{IsOneMore, content};
-ghost use Rattle.disk.specs.Calls.{CountsFailure, RangeRead};
-ghost use Rattle.vault.specs.Views.{LeavesAfter, AllBut, Swaps, IsKept, WasKept, IsRooted, IsSettled, IsGone, IsClearWay, LeavesClear, LeavesNames, LeavesAll, HasFailed, CountsOnce, root_path, next_path};
-ghost use Rattle.vault.specs.Files.{IsWritten, Turned, refusal_for};
+ghost use Rattle.disk.specs.Calls.{CountsFailure, RangeRead, AreNamesIn};
+ghost use Rattle.vault.specs.Views.{IsNoRoot, IsKept, IsRooted, IsSettled, root_path, next_path};
+ghost use Rattle.vault.specs.Ways.{IsClearWay};
+ghost use Rattle.vault.specs.Calls.{LeavesAll, HasFailed, CountsOnce, Puts, SwapsRoot, Forgets};
+ghost use Rattle.vault.specs.inner.Files.{IsWritten, Turned, refusal_for};
 
 use crate::files::{clear, make_firm, place};
 use bits::{R, Refusal};
-use disk::{Disk, Fault};
+use disk::{Binding, Disk, Entry, Fault};
 use std::alloc::Global;
 
 const ROOT: &str = "_metadata";
 
 const NEXT: &str = "_metadata.new";
 
-/// Files that a stop leaves whole, on a disk.
+/// Files that a crash leaves whole, on a disk.
 ///
-/// A path is *kept* where whatever a stop leaves has its bytes; the vault remembers none of these, since each call
-/// leaves what it does not name as it was.
+/// A path is *kept* where whatever a crash leaves has its bytes. The vault remembers none of these: each call leaves what
+/// it does not name as it was.
 #[derive(Drop)]
 pub struct Vault<D: Disk> {
     pub disk: D,
 }
 
-// The refusal for a fault that the rules of the disk leave.
+// The refusal for a fault.
 fn refusal_of(e: Fault) -> Refusal
     ensures { result ≡ refusal_for e }
 {
@@ -44,7 +45,7 @@ impl<D: Disk> Vault<D> {
         Vault { disk }
     }
 
-    /// Lends the disk.
+    /// The disk.
     pub fn disk(&self) -> &D
         ensures { result.now ≡ self.now.disk }
     {
@@ -58,11 +59,11 @@ impl<D: Disk> Vault<D> {
         self.disk
     }
 
-    /// Takes over a file that is firm already: it is the caller's duty that whatever a stop leaves has it with its
+    /// Takes over a file that is durable already: it is the caller's duty that whatever a crash leaves has it with its
     /// bytes. Nothing is asked of the disk, and no memory is taken.
     pub fn adopt(&mut self, path: &str) -> R<()>
-        requires file { (path.now ≢ root_path) × (path.now ≢ next_path) }
-        requires firm { (D.state self.old.disk).honest → (bytes : List ℕ) × IsKept (D.state self.old.disk) path.now bytes }
+        requires file { IsNoRoot path.now }
+        requires durable { (D.state self.old.disk).honest → (bytes : List ℕ) × IsKept (D.state self.old.disk) path.now bytes }
         ensures done { result ≡ Ok tt }
         ensures unchanged { self.new.disk ≡ self.old.disk }
     {
@@ -73,18 +74,15 @@ impl<D: Disk> Vault<D> {
     /// Makes a file of these bytes kept, in the place of what its name stood for: takes the name away, makes the
     /// folders on the way that are absent, writes and syncs a fresh file, then syncs its folder and those above.
     ///
-    /// It is the caller's duty that the path is not one of the root's two. What is said of the disk holds where it is
-    /// honest and no stop leaves a file where a folder on the way belongs. At every moment each other path has what it
-    /// had, in each image by itself. Refused Device where the disk failed, as it does where the path is a folder's, and
-    /// Memory; nothing is said of the path then. Costs one write of the bytes, and two calls of the disk for each folder
-    /// on the way.
+    /// It is the caller's duty that the path is not one of the root's two. What is said of the disk (`Puts`) holds where
+    /// it is honest and no crash leaves a file where a folder on the way belongs, nor a folder at the path. At every
+    /// moment each other path has what it had, in each image by itself. Refused Device only where the disk failed, and
+    /// Memory; nothing or a file stands at the path then. Costs one write of the bytes, and two calls of the disk for
+    /// each folder on the way.
     pub fn put(&mut self, path: &str, bytes: &[u8]) -> R<()>
-        requires { (path.now ≢ root_path) × (path.now ≢ next_path) }
-        ensures moments { (D.state self.old.disk).honest → IsClearWay (D.state self.old.disk) path.now → LeavesAfter (AllBut path.now) (D.state self.old.disk) (D.state self.new.disk) }
-        ensures kept { (D.state self.old.disk).honest → IsClearWay (D.state self.old.disk) path.now → OnOk result (IsKept (D.state self.new.disk) path.now bytes.now) }
-        ensures rooted { (D.state self.old.disk).honest → IsClearWay (D.state self.old.disk) path.now → IsRooted (D.state self.old.disk) → IsRooted (D.state self.new.disk) }
-        ensures clear { (D.state self.old.disk).honest → IsClearWay (D.state self.old.disk) path.now → LeavesClear path.now (D.state self.old.disk) (D.state self.new.disk) }
-        ensures which { RefusedOnly (λ e. (e ≡ Refusal.Device) × ((D.state self.old.disk).honest → IsClearWay (D.state self.old.disk) path.now → HasFailed (D.state self.old.disk) (D.state self.new.disk))) result }
+        requires { IsNoRoot path.now }
+        ensures effect { (D.state self.old.disk).honest → IsClearWay (D.state self.old.disk) path.now → Puts path.now bytes.now (D.state self.old.disk) (D.state self.new.disk) result }
+        ensures which { RefusedOnly (λ e. e ≡ Refusal.Device) result }
         ensures counts { CountsOnce result (D.state self.old.disk) (D.state self.new.disk) }
         ensures reads { (D.state self.new.disk).reads ≡ (D.state self.old.disk).reads }
         ensures honest { (D.state self.old.disk).honest ↔ (D.state self.new.disk).honest }
@@ -100,18 +98,12 @@ impl<D: Disk> Vault<D> {
     ///
     /// At every moment each image has the old root or the new one, whole, and all paths but these two as they were.
     /// After Ok each has the new one, and no next root is left, as the disk reads. Refused Device and Memory before the
-    /// rename, and each image has the old root then; refused InDoubt where the disk failed in the rename or behind it,
-    /// and each image has either: by then the next root was whole in whatever a stop could leave. Device and InDoubt
-    /// come only where the disk failed.
+    /// rename, and each image has the old root then; refused InDoubt from the rename on, and each image has either: by
+    /// then the next root was whole in whatever a crash could leave. No folder comes to stand at the root's two names;
+    /// where none stood there, Device and InDoubt come only where the disk failed.
     pub fn swap_root(&mut self, bytes: &[u8]) -> R<()>
-        ensures moments { (D.state self.old.disk).honest → LeavesAfter (Swaps bytes.now) (D.state self.old.disk) (D.state self.new.disk) }
-        ensures done { (D.state self.old.disk).honest → OnOk result (IsKept (D.state self.new.disk) root_path bytes.now × IsRooted (D.state self.new.disk)) }
-        ensures gone { (D.state self.old.disk).honest → OnOk result (IsGone (D.state self.new.disk) next_path) }
-        ensures unchanged { (D.state self.old.disk).honest → IfErr result (λ e. e ≢ Refusal.InDoubt → LeavesAfter (AllBut next_path) (D.state self.old.disk) (D.state self.new.disk)) }
-        ensures in_doubt { (D.state self.old.disk).honest → IfErr result (λ e. e ≡ Refusal.InDoubt → WasKept next_path bytes.now (D.state self.old.disk) (D.state self.new.disk)) }
-        ensures rooted { (D.state self.old.disk).honest → IsRooted (D.state self.old.disk) → IsRooted (D.state self.new.disk) }
-        ensures clear { (D.state self.old.disk).honest → (q : List ℕ) → (IsOnTheWay root_path q → ⊥) → (IsOnTheWay next_path q → ⊥) → IsClearWay (D.state self.old.disk) q → IsClearWay (D.state self.new.disk) q }
-        ensures which { RefusedOnly (λ e. ((e ≡ Refusal.Device) ⊎ (e ≡ Refusal.InDoubt)) × ((D.state self.old.disk).honest → HasFailed (D.state self.old.disk) (D.state self.new.disk))) result }
+        ensures effect { (D.state self.old.disk).honest → SwapsRoot bytes.now (D.state self.old.disk) (D.state self.new.disk) result }
+        ensures which { RefusedOnly (λ e. (e ≡ Refusal.Device) ⊎ (e ≡ Refusal.InDoubt)) result }
         ensures counts { CountsOnce result (D.state self.old.disk) (D.state self.new.disk) }
         ensures reads { (D.state self.new.disk).reads ≡ (D.state self.old.disk).reads }
         ensures honest { (D.state self.old.disk).honest ↔ (D.state self.new.disk).honest }
@@ -125,13 +117,13 @@ impl<D: Disk> Vault<D> {
         }
     }
 
-    /// Makes the root that is read the root of whatever a stop leaves, by one sync of the dataset's folder: so that an
-    /// opening after a stop can go on from what it reads. That holds where the root's file has the same bytes in
-    /// whatever a stop leaves (`IsRooted`), which the other calls keep. Nothing that is read changes. Refused Device
-    /// alone, where the disk failed.
+    /// Makes the root that is read the root of whatever a crash leaves, by one sync of the dataset's folder: so that an
+    /// opening after a crash can go on from what it reads. That holds where the root's file has the same bytes in
+    /// whatever a crash leaves (`IsRooted`), which the other calls keep. Nothing that is read changes. Refused only
+    /// Device, and only where the disk failed.
     pub fn settle(&mut self) -> R<()>
         ensures unchanged { (D.state self.old.disk).honest → LeavesAll (D.state self.old.disk) (D.state self.new.disk) }
-        ensures firm { (D.state self.old.disk).honest → IsRooted (D.state self.old.disk) → OnOk result (IsSettled (D.state self.new.disk)) }
+        ensures durable { (D.state self.old.disk).honest → IsRooted (D.state self.old.disk) → OnOk result (IsSettled (D.state self.new.disk)) }
         ensures which { IfErr result (λ e. (e ≡ Refusal.Device) × ((D.state self.old.disk).honest → HasFailed (D.state self.old.disk) (D.state self.new.disk))) }
         ensures counts { CountsOnce result (D.state self.old.disk) (D.state self.new.disk) }
         ensures reads { (D.state self.new.disk).reads ≡ (D.state self.old.disk).reads }
@@ -146,22 +138,50 @@ impl<D: Disk> Vault<D> {
     /// Lets a path go: takes its name away. A name that is not there is no fault.
     ///
     /// It is the caller's duty that the path is not one of the root's two. No other name changes. After Ok the name is
-    /// gone, as the disk reads; until its folder is synced a stop may still leave it. Refused Device where the disk
-    /// failed, and Memory.
+    /// gone, as the disk reads; until its folder is synced a crash may still leave it. Refused Device only where the disk
+    /// failed, or where the path is a folder's, as the disk reads, which then stays; and Memory.
     pub fn forget(&mut self, path: &str) -> R<()>
-        requires { (path.now ≢ root_path) × (path.now ≢ next_path) }
-        ensures moments { (D.state self.old.disk).honest → LeavesAfter (AllBut path.now) (D.state self.old.disk) (D.state self.new.disk) }
-        ensures gone { (D.state self.old.disk).honest → OnOk result (IsGone (D.state self.new.disk) path.now) }
-        ensures others { (D.state self.old.disk).honest → LeavesNames path.now (D.state self.old.disk) (D.state self.new.disk) }
-        ensures rooted { (D.state self.old.disk).honest → IsRooted (D.state self.old.disk) → IsRooted (D.state self.new.disk) }
-        ensures clear { (D.state self.old.disk).honest → LeavesClear path.now (D.state self.old.disk) (D.state self.new.disk) }
-        ensures which { RefusedOnly (λ e. (e ≡ Refusal.Device) × ((D.state self.old.disk).honest → HasFailed (D.state self.old.disk) (D.state self.new.disk))) result }
+        requires { IsNoRoot path.now }
+        ensures effect { (D.state self.old.disk).honest → Forgets path.now (D.state self.old.disk) (D.state self.new.disk) result }
+        ensures which { RefusedOnly (λ e. e ≡ Refusal.Device) result }
         ensures counts { CountsOnce result (D.state self.old.disk) (D.state self.new.disk) }
         ensures reads { (D.state self.new.disk).reads ≡ (D.state self.old.disk).reads }
         ensures honest { (D.state self.old.disk).honest ↔ (D.state self.new.disk).honest }
     {
         match clear(&mut self.disk, path) {
             Ok(()) => Ok(()),
+            Err(e) => Err(refusal_of(e)),
+        }
+    }
+
+    /// Lets the next root go that a crash may have left. A name that is not there is no fault. Refused Device only where
+    /// the disk failed, or where a folder stands there, as the disk reads, and Memory.
+    pub fn forget_next(&mut self) -> R<()>
+        ensures effect { (D.state self.old.disk).honest → Forgets next_path (D.state self.old.disk) (D.state self.new.disk) result }
+        ensures which { RefusedOnly (λ e. e ≡ Refusal.Device) result }
+        ensures counts { CountsOnce result (D.state self.old.disk) (D.state self.new.disk) }
+        ensures reads { (D.state self.new.disk).reads ≡ (D.state self.old.disk).reads }
+        ensures honest { (D.state self.old.disk).honest ↔ (D.state self.new.disk).honest }
+    {
+        match clear(&mut self.disk, NEXT) {
+            Ok(()) => Ok(()),
+            Err(e) => Err(refusal_of(e)),
+        }
+    }
+
+    /// The names in a folder, each once, in any order. Refused Truncated where no folder is there, as the disk reads,
+    /// Device where the disk failed, and Memory.
+    pub fn list(&mut self, alloc: Global, folder: &str) -> R<Vec<Entry>>
+        ensures stands { (D.state self.old.disk).honest → IfOk result (λ entries. AreNamesIn (D.state self.old.disk).seen folder.now entries.items) }
+        ensures unchanged { (D.state self.old.disk).honest → LeavesAll (D.state self.old.disk) (D.state self.new.disk) }
+        ensures which { RefusedOnly (λ e. ((e ≡ Refusal.Device) × HasFailed (D.state self.old.disk) (D.state self.new.disk)) ⊎ ((e ≡ Refusal.Truncated) × ((D.state self.old.disk).honest → (D.state self.old.disk).seen.names folder.now ≢ Binding.Folder))) result }
+        ensures counts { CountsOnce result (D.state self.old.disk) (D.state self.new.disk) }
+        ensures reads { (D.state self.new.disk).reads ≡ (D.state self.old.disk).reads }
+        ensures honest { (D.state self.old.disk).honest ↔ (D.state self.new.disk).honest }
+    {
+        match self.disk.list(alloc, folder) {
+            Ok(entries) => Ok(entries),
+            Err(Fault::Absent) => Err(Refusal::Truncated),
             Err(e) => Err(refusal_of(e)),
         }
     }

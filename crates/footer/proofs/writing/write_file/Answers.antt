@@ -13,7 +13,7 @@ use Rattle.footer.specs.File.{magic, FileMeans}
 use Rattle.footer.specs.Writing.{IsOutOfRange, IsTooMuch, heavy, IsToBeWritten}
 use Rattle.footer.specs.Own.{groups_of, AppendsGroups, own_record, EndsWith, IsLaidOut}
 use Rattle.footer.proofs.Single.{ok_map}
-use Rattle.footer.proofs.Whole.{means, laid_out, is_heavy, too_much, all_built, in_range, passes_limit}
+use Rattle.footer.proofs.Whole.{taken_file, means, laid_out, is_heavy, too_much, all_built, in_range, passes_limit}
 use Rattle.footer.proofs.writing.write_file.Goals as goal
 
 pub returns-then-is_to_be_written-clause-limit : goal.returns-then-is_to_be_written-clause-limit
@@ -56,6 +56,16 @@ returns-clause-laid_out c =
     let p : AppendsGroups fs magic front gs (groups_of rows) = subst (λ (t : List ℕ). AppendsGroups fs t front gs (groups_of rows)) c.in_ok-front.ensures.items c.in_ok-groups.ensures.stands in
     ok_map (λ (file : Vec ℕ Global). EndsWith front meta file.items) (λ (file : Vec ℕ Global). IsLaidOut o.group_rows fs rows file.items) c.ended.result
     (λ file ends. laid_out o.group_rows fs rows front file.items gs meta (c.in_ok-record.ensures.is ∙ ap (λ (n : ℕ). own_record fs n gs) (sym size)) p ends bounds.0 (omega (arith, size, few))) c.ended.ensures.stands
+
+pub returns-clause-taken : goal.returns-clause-taken
+returns-clause-taken c =
+    let fs = c.args.schema.now in
+    let o = c.args.options.now in
+    let rows = rows_view c.args.rows.now in
+    let size : length rows ≡ length c.args.rows.now = length-map c.args.rows.now row_view in
+    let bounds = in_range o (c.is_out_of_range.ensures.within c.if-is_out_of_range.false) in
+    let few = c.is_to_be_written.ensures.few c.if-is_to_be_written.false in
+    taken_file o.group_rows fs rows c.ended.result bounds.0 (omega (arith, size, few)) c.in_ok-groups.ensures.taken c.ended.ensures.size c.ended.ensures.footer_size
 
 -- what holds whatever the result
 whatever : {X : Type 0} (r : Result X Refusal) {P : Type 0} → P → OnOk r P

@@ -10,13 +10,13 @@ some_of xs is e = not_true (sym is ∙ ap (λ (ys : List ℕ). length ys == 0) e
 
 pub returns-in-Folder : goal.returns-in-Folder
 returns-in-Folder t c =
-    let names = c.args.picked.now in
+    let names = c.args.picked.now.list.items in
     let some = some_of c.args.path.now (sym c.is_empty.ensures ∙ c.if-is_empty.false) in
     let there : left_in names c.folder_of.result.now ≡ Folder = sym c.in-Folder.ensures in
     c.binding.ensures ∙ sym (left_there_of names c.args.path.now some (ap (left_in names) (sym c.folder_of.ensures.value) ∙ there))
 
 pub returns-in_default : goal.returns-in_default
 returns-in_default t c =
-    let names = c.args.picked.now in
+    let names = c.args.picked.now.list.items in
     let some = some_of c.args.path.now (sym c.is_empty.ensures ∙ c.if-is_empty.false) in
     sym (left_gone_of names c.args.path.now some (λ there. c.in_default.not-Folder (c.left_at.ensures ∙ ap (left_in names) c.folder_of.ensures.value ∙ there)))

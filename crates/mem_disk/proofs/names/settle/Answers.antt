@@ -1,8 +1,9 @@
 use Rattle.std.proofs.Common.{◌≡◌, ◌≤◌, ◌<◌, arith, sym, ap, subst, drop, add-one, length, List, ℕ, set}
 use Rattle.std.proofs.lemmas.List.{take_at}
 use Rattle.mem_disk.specs.declared.name.Name.{Name}
-use Rattle.mem_disk.specs.Tables.{Settles, AreApart}
+use Rattle.mem_disk.specs.Tables.{Settles, AreApart, place_in}
 use Rattle.mem_disk.proofs.Keeping.{SettledTo, settled_more, settled_all, apart_settled}
+use Rattle.mem_disk.proofs.Places.{place_settled}
 use Rattle.mem_disk.proofs.names.settle.Goals as goal
 
 pub loop-name-preserved : goal.loop-name-preserved
@@ -26,3 +27,10 @@ returns-clause-apart c was =
     let olds = c.args.names.now.items in
     let long : length items ≡ c.args.names.now.len = let one = c.loop-name.auto.name-items in let two = c.deref_mut-name-items.ensures.len in omega (arith, one, two) in
     subst AreApart (sym (take_at items (drop (length items) olds) c.args.names.now.len long)) (apart_settled c.args.folder.now c.loop-name.name-index olds items c.loop-name.invariant was)
+
+pub returns-clause-places : goal.returns-clause-places
+returns-clause-places c q =
+    let items = c.loop-name.name-items in
+    let olds = c.args.names.now.items in
+    let long : length items ≡ c.args.names.now.len = let one = c.loop-name.auto.name-items in let two = c.deref_mut-name-items.ensures.len in omega (arith, one, two) in
+    subst (λ (xs : List Name). place_in xs q ≡ place_in olds q) (sym (take_at items (drop (length items) olds) c.args.names.now.len long)) (place_settled c.args.folder.now c.loop-name.name-index olds items c.loop-name.invariant q)

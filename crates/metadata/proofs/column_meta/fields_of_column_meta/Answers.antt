@@ -4,7 +4,7 @@ use Rattle.std.proofs.lemmas.Iterator.Adapters.{option_map_id}
 use Rattle.std.proofs.lemmas.List.{map-id}
 use Rattle.thrift_compact.specs.Tree.{i32}
 use Rattle.thrift_compact.specs.View.{field_view, fields_of}
-use Rattle.metadata.specs.declared.ids.column.TheConstants.{ENCODINGS}
+use Rattle.metadata.specs.Ids.{column_encodings}
 use Rattle.metadata.specs.ToTree.{present, many, INT32}
 use Rattle.metadata.proofs.Written.{put_by_ten}
 use Rattle.metadata.proofs.column_meta.fields_of_column_meta.Goals as goal
@@ -18,7 +18,7 @@ numbers_shown (Some v) = ap Some (map-id v.items)
 pub returns-clause-stands : goal.returns-clause-stands
 returns-clause-stands c =
     let before = map field_view c.put.new.fields.items in
-    let encodings = subst (λ (o : Option (List ℤ)). map field_view c.put_given.new.fields.items ≡ before ++ present ENCODINGS (option_map (many INT32 i32) o)) (numbers_shown c.args.column_meta.now.encodings) c.in_ok-put_given.ensures.stands in
+    let encodings = subst (λ (o : Option (List ℤ)). map field_view c.put_given.new.fields.items ≡ before ++ present column_encodings (option_map (many INT32 i32) o)) (numbers_shown c.args.column_meta.now.encodings) c.in_ok-put_given.ensures.stands in
     let uncompressed = rw option_map_id at c.in_ok-put_given-2.ensures.stands in
     let compressed = rw option_map_id at c.in_ok-put_given-3.ensures.stands in
     let dictionary = rw option_map_id at c.in_ok-put_given-4.ensures.stands in

@@ -43,7 +43,7 @@ returns-in_err-entries-clause-limit c =
     let count_is : to_z w32 (of_z w32 c.args.header.now.num_values) ≡ c.args.header.now.num_values = search rules in
     let number_is : to_z w32 (of_z w32 c.args.header.now.encoding) ≡ c.args.header.now.encoding = search rules in
     let has : HasCount leaf own c.of_number-encoding.result c.in_ok-count.count = record { no_repetition = omega arith; no_definition = omega arith; encoding_is = c.of_number-encoding.ensures ∙ ap encoding_of number_is; count = sym count_is ∙ c.in_ok-count.ensures.stands } in
-    passes_over (IsDataOver leaf own c.args.body.now ⊎ IsDataToCome leaf d own) c.from_residual-in_err-entries.result c.in_err-entries.field-0.0 c.from_residual-in_err-entries.ensures.1
+    passes_over (IsDataOver leaf own c.args.body.now ⊎ IsDataToCome leaf d own c.args.body.now) c.from_residual-in_err-entries.result c.in_err-entries.field-0.0 c.from_residual-in_err-entries.ensures.1
     (λ is. over_or_to_come leaf d own c.of_number-encoding.result c.args.body.now c.in_ok-count.count has (c.in_err-entries.ensures.limit (ap Err is)))
 
 pub returns-in_err-check_texts-clause-only : goal.returns-in_err-check_texts-clause-only

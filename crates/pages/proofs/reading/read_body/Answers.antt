@@ -16,7 +16,7 @@ returns-in_err-entries-in-Some-clause-limit c =
     let h = page_header_view c.args.header.now in
     let own = data_page_header_view c.in-Some.own in
     let one : IsVersionOne h own = record { kind = search rules; header = ap (λ (o : Option CodeHeader). option_map data_page_header_view o) c.in-Some.is } in
-    passes_over (IsBodyOver leaf h c.args.body.now ⊎ IsBodyToCome leaf d h) c.from_residual.result c.in_err-entries-in-Some.field-0.0 c.from_residual.ensures.1
+    passes_over (IsBodyOver leaf h c.args.body.now ⊎ IsBodyToCome leaf d h c.args.body.now) c.from_residual.result c.in_err-entries-in-Some.field-0.0 c.from_residual.ensures.1
     (λ is. body_over_or_to_come leaf d h own c.args.body.now one (c.in_err-entries-in-Some.ensures.limit (ap Err is)))
 
 pub returns-in_ok-entries-in-Some-clause-stands : goal.returns-in_ok-entries-in-Some-clause-stands

@@ -1,5 +1,5 @@
 use Rattle.std.proofs.Common.{◌≡◌, drop, map}
-use Rattle.pqds.specs.SchemaReading.{is_one_of}
+use Rattle.pqds.specs.SchemaJson.{is_one_of}
 use Rattle.pqds.proofs.schema_notes.is_one_of.Given as goal
 
 -- the names that are left give the answer

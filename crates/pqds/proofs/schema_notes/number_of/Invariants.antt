@@ -1,5 +1,5 @@
 use Rattle.std.proofs.Common.{◌≡◌, drop, map}
-use Rattle.pqds.specs.SchemaReading.{number_of}
+use Rattle.pqds.specs.SchemaJson.{number_of}
 use Rattle.pqds.proofs.schema_notes.number_of.Given as goal
 
 -- the words that are left give the answer

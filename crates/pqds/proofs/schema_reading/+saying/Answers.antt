@@ -3,8 +3,9 @@ use Rattle.std.proofs.lemmas.List.{drop_more}
 use Rattle.serde_json.specs.Find.{as_str}
 use Rattle.serde_json.specs.View.{view, items_view}
 use Rattle.serde_json.proofs.Views.{items_len-items_view}
-use Rattle.pqds.specs.SchemaReading.{word_of, repetitions, group_said, fields_said, said_below}
-use Rattle.pqds.specs.SchemaViews.{said_view, saids}
+use Rattle.pqds.specs.SchemaJson.{repetitions}
+use Rattle.pqds.specs.inner.SchemaReading.{word_of, group_said, fields_said, said_below}
+use Rattle.pqds.specs.inner.SchemaViews.{said_view, saids}
 use Rattle.pqds.proofs.Said.{after, said_more, said_below-more, says_group, saids-push, group_says}
 use Rattle.pqds.proofs.schema_reading.+saying.Goals as goal
 

@@ -1,7 +1,7 @@
 use Rattle.std.proofs.Common.{◌≡◌, ◌+◌, ◌*◌, drop}
 use Rattle.serde_json.specs.View.{items_view}
-use Rattle.pqds.specs.SchemaReading.{fields_said, said_below}
-use Rattle.pqds.specs.SchemaViews.{saids}
+use Rattle.pqds.specs.inner.SchemaReading.{fields_said, said_below}
+use Rattle.pqds.specs.inner.SchemaViews.{saids}
 use Rattle.pqds.proofs.Said.{after}
 use Rattle.pqds.proofs.schema_reading.+saying.Given as goal
 

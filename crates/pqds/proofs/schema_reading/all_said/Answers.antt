@@ -2,8 +2,8 @@ use Rattle.std.proofs.Common.{◌<◌, ◌∷◌, [], None, codes, nat_abs, w32,
 use Rattle.std.proofs.lemmas.Int.{to_z_pos}
 use Rattle.serde_json.specs.View.{view, items_view}
 use Rattle.serde_json.proofs.Views.{items_len-items_view}
-use Rattle.pqds.specs.SchemaReading.{said_of_group, fields_said, said_below}
-use Rattle.pqds.specs.SchemaViews.{saids}
+use Rattle.pqds.specs.inner.SchemaReading.{said_of_group, fields_said, said_below}
+use Rattle.pqds.specs.inner.SchemaViews.{saids}
 use Rattle.pqds.proofs.Said.{after, all_say, too_many_say}
 use Rattle.pqds.proofs.schema_reading.all_said.Goals as goal
 

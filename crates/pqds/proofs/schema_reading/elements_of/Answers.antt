@@ -3,8 +3,8 @@ use Rattle.std.specs.Vec.Iter.{into_iter_items}
 use Rattle.bits.specs.Refusals.{IsFault}
 use Rattle.bits.proofs.Passing.{passes}
 use Rattle.schema.specs.Elements.{Element, elements_view}
-use Rattle.pqds.specs.SchemaReading.{AreElementsOf}
-use Rattle.pqds.specs.SchemaViews.{said_view, saids}
+use Rattle.pqds.specs.inner.SchemaReading.{AreElementsOf}
+use Rattle.pqds.specs.inner.SchemaViews.{said_view, saids}
 use Rattle.pqds.proofs.Elements.{goes_on_with, goes_on_below, no_elements}
 use Rattle.pqds.proofs.Taken.{nothing_left}
 use Rattle.pqds.proofs.schema_reading.elements_of.Goals as goal

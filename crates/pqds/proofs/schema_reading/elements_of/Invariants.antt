@@ -1,8 +1,8 @@
 use Rattle.std.proofs.Common.{◌≡◌, ◌++◌, List, length}
 use Rattle.std.specs.Vec.Iter.{into_iter_items, into_iter_len}
 use Rattle.schema.specs.Elements.{Element, elements_view}
-use Rattle.pqds.specs.SchemaReading.{AreElementsOf}
-use Rattle.pqds.specs.SchemaViews.{saids}
+use Rattle.pqds.specs.inner.SchemaReading.{AreElementsOf}
+use Rattle.pqds.specs.inner.SchemaViews.{saids}
 use Rattle.pqds.proofs.schema_reading.elements_of.Given as goal
 
 -- the elements so far, and those of what is left, are all; where all have elements, so has what is left

@@ -1,6 +1,6 @@
 use Rattle.std.proofs.Common.{◌≡◌, map}
 use Rattle.serde_json.specs.View.{members_view}
-use Rattle.pqds.specs.SchemaReading.{are_called}
+use Rattle.pqds.specs.SchemaJson.{are_called}
 use Rattle.pqds.proofs.schema_reading.has_only.Given as goal
 
 -- the members that are left give the answer

@@ -5,6 +5,7 @@ use Rattle.schema.specs.Stripe.{Entry}
 use Rattle.schema.specs.Views.{leaf_view}
 use Rattle.metadata.specs.Views.{column_meta_view}
 use Rattle.row_group.specs.Chunks.{ColumnMeans}
+use Rattle.row_group.proofs.Passed.{passed}
 use Rattle.row_group.proofs.Means.{at_start, not_over_at_start}
 use Rattle.row_group.proofs.column.read_column.Goals as goal
 
@@ -13,6 +14,9 @@ returns-in_err-start-clause-only c =
     passes (λ e. IsFault e → (es : List Entry) → ColumnMeans c.args.front.now (column_meta_view c.args.meta.now) (leaf_view c.args.leaf.now) es → length es ≡ c.args.count → ⊥)
     c.from_residual.result c.in_err-start.field-0.0 c.from_residual.ensures.1
     (λ fault es m size. c.in_err-start.ensures.only fault m.start m.starts)
+
+pub returns-in_err-start-clause-limit : goal.returns-in_err-start-clause-limit
+returns-in_err-start-clause-limit c = λ limit. absurd (c.in_err-start.ensures.limit (passed c.from_residual.result c.in_err-start.field-0.0 _ c.from_residual.ensures.1 limit))
 
 pub returns-in_err-column-clause-only : goal.returns-in_err-column-clause-only
 returns-in_err-column-clause-only c =

@@ -10,7 +10,7 @@ use Rattle.std.proofs.lemmas.Int.{to_z-of_z}
 use Rattle.thrift_compact.specs.declared.tree.Field.{Field}
 use Rattle.thrift_compact.specs.Compact.{IsFieldHead}
 use Rattle.thrift_compact.specs.View.{view, views, pair_views, field_view, field_views}
-use Rattle.thrift_compact.specs.Length.{most_value, most_field_head}
+use Rattle.thrift_compact.specs.Length.{size_i64, size_value, size_field_head}
 use Rattle.thrift_compact.specs.Writing.{SpellsValue, SpellsElement, SpellsElements, SpellsPair, SpellsPairs, SpellsField, SpellsFields, IsWithoutBytes, IsShortestSigned}
 use Rattle.thrift_compact.proofs.Appending.{ok_then, appends_so, appends_then, keeps_then, pushed}
 use Rattle.thrift_compact.proofs.Writes as writes
@@ -26,7 +26,7 @@ pub put_element-returns-clause-stands : goal.put_element-returns-clause-stands
 put_element-returns-clause-stands t c =
     let x = view c.args.value.now in
     ok_then c.put_value.result
-    (appends_so (SpellsValue c.args.left x) (SpellsElement c.args.code c.args.left x) (most_value x) c.args.out.now.items c.put_value.new.out.items (λ bytes used s. (c.if-not-is_element.ensures.0 refl, s.0, s.1))) c.put_value.ensures.stands
+    (appends_so (SpellsValue c.args.left x) (SpellsElement c.args.code c.args.left x) (size_value x) c.args.out.now.items c.put_value.new.out.items (λ bytes used s. (c.if-not-is_element.ensures.0 refl, s.0, s.1))) c.put_value.ensures.stands
 
 pub put_elements-returns-in_err-put_element-clause-which : goal.put_elements-returns-in_err-put_element-clause-which
 put_elements-returns-in_err-put_element-clause-which t c =
@@ -36,7 +36,7 @@ put_elements-returns-in_err-put_element-clause-which t c =
 
 pub put_elements-loop-value-preserved : goal.put_elements-loop-value-preserved
 put_elements-loop-value-preserved t c =
-    let one = subst (λ y. Appends (SpellsElement c.args.code c.args.left (view y)) (most_value (view y)) c.loop-value.out.items c.put_element.new.out.items) c.value-item.is c.in_ok-put_element.ensures.stands in
+    let one = subst (λ y. Appends (SpellsElement c.args.code c.args.left (view y)) (size_value (view y)) c.loop-value.out.items c.put_element.new.out.items) c.value-item.is c.in_ok-put_element.ensures.stands in
     writes.elements_more c.args.values.now c.loop-value.value-index c.value-item.result c.args.code c.args.left c.args.out.now.items c.loop-value.out.items c.put_element.new.out.items c.loop-value-test.true c.loop-value.invariant one
 
 -- ---- lists and sets
@@ -61,7 +61,7 @@ put_pair-returns-clause-stands t c =
     let x = view c.args.pair.now.0 in
     let y = view c.args.pair.now.1 in
     ok_then c.put_element-2.result
-    (appends_then (SpellsElement c.args.keys c.args.left x) (SpellsElement c.args.values c.args.left y) (SpellsPair c.args.keys c.args.values c.args.left x y) (most_value x) (most_value y) c.args.out.now.items c.put_element.new.out.items c.put_element-2.new.out.items
+    (appends_then (SpellsElement c.args.keys c.args.left x) (SpellsElement c.args.values c.args.left y) (SpellsPair c.args.keys c.args.values c.args.left x y) (size_value x) (size_value y) c.args.out.now.items c.put_element.new.out.items c.put_element-2.new.out.items
     (λ bytes u v a b. (u, v, a, b, refl)) c.in_ok-put_element.ensures.stands) c.put_element-2.ensures.stands
 
 pub put_pairs-returns-in_err-put_pair-clause-which : goal.put_pairs-returns-in_err-put_pair-clause-which
@@ -72,7 +72,7 @@ put_pairs-returns-in_err-put_pair-clause-which t c =
 
 pub put_pairs-loop-pair-preserved : goal.put_pairs-loop-pair-preserved
 put_pairs-loop-pair-preserved t c =
-    let one = subst (λ y. Appends (SpellsPair c.args.keys c.args.values c.args.left (view y.0) (view y.1)) (most_value (view y.0) + most_value (view y.1)) c.loop-pair.out.items c.put_pair.new.out.items) c.pair-item.is c.in_ok-put_pair.ensures.stands in
+    let one = subst (λ y. Appends (SpellsPair c.args.keys c.args.values c.args.left (view y.0) (view y.1)) (size_value (view y.0) + size_value (view y.1)) c.loop-pair.out.items c.put_pair.new.out.items) c.pair-item.is c.in_ok-put_pair.ensures.stands in
     writes.pairs_more c.args.pairs.now c.loop-pair.pair-index c.pair-item.result c.args.keys c.args.values c.args.left c.args.out.now.items c.loop-pair.out.items c.put_pair.new.out.items c.loop-pair-test.true c.loop-pair.invariant one
 
 -- ---- fields
@@ -86,10 +86,10 @@ put_field-returns-clause-stands t c =
     let new = c.put_value.new.out.items in
     let e : field_view f ≡ (f.id, view f.value) = search (rules, the_lemmas) in
     let fits : FitsSigned w16 f.id = search rules in
-    let h1 = subst (λ (z : ℤ). Appends (λ bytes. IsFieldHead z bytes (to_z w16 (of_z w16 f.id)) k) (most_field_head z (to_z w16 (of_z w16 f.id))) old mid) (to_z-of_z w16 c.args.previous c.ranges.previous) c.in_ok-put_field_head.ensures.stands in
-    let h2 = subst (λ (z : ℤ). Appends (λ bytes. IsFieldHead c.args.previous bytes z k) (most_field_head c.args.previous z) old mid) (to_z-of_z w16 f.id fits) h1 in
+    let h1 = subst (λ (z : ℤ). Appends (λ bytes. IsFieldHead z bytes (to_z w16 (of_z w16 f.id)) k) (size_field_head z (to_z w16 (of_z w16 f.id))) old mid) (to_z-of_z w16 c.args.previous c.ranges.previous) c.in_ok-put_field_head.ensures.stands in
+    let h2 = subst (λ (z : ℤ). Appends (λ bytes. IsFieldHead c.args.previous bytes z k) (size_field_head c.args.previous z) old mid) (to_z-of_z w16 f.id fits) h1 in
     let all = ok_then c.put_value.result (writes.field_all c.args.previous f.id (view f.value) k c.args.left old mid new c.type_code-code.ensures h2) c.put_value.ensures.stands in
-    subst (λ (p : ℤ × Node). OnOk c.put_value.result (Appends (SpellsField c.args.previous c.args.left p.0 p.1) (most_field_head c.args.previous p.0 + most_value p.1) old new)) (sym e) all
+    subst (λ (p : ℤ × Node). OnOk c.put_value.result (Appends (SpellsField c.args.previous c.args.left p.0 p.1) (size_field_head c.args.previous p.0 + size_value p.1) old new)) (sym e) all
 
 pub put_fields-returns-in_err-put_field-clause-which : goal.put_fields-returns-in_err-put_field-clause-which
 put_fields-returns-in_err-put_field-clause-which t c =
@@ -102,14 +102,14 @@ put_fields-returns-in_err-put_field-clause-which t c =
 pub put_fields-loop-field-preserved : goal.put_fields-loop-field-preserved
 put_fields-loop-field-preserved t c =
     let last = to_z w16 c.loop-field.previous-bits in
-    let one = subst (λ y. Appends (SpellsField last c.args.left (field_view y).0 (field_view y).1) (most_field_head last (field_view y).0 + most_value (field_view y).1) c.loop-field.out.items c.put_field.new.out.items) c.field-item.is c.in_ok-put_field.ensures.stands in
+    let one = subst (λ y. Appends (SpellsField last c.args.left (field_view y).0 (field_view y).1) (size_field_head last (field_view y).0 + size_value (field_view y).1) c.loop-field.out.items c.put_field.new.out.items) c.field-item.is c.in_ok-put_field.ensures.stands in
     let m = writes.fields_more c.args.fields.now c.loop-field.field-index c.field-item.result c.args.left last c.args.out.now.items c.loop-field.out.items c.put_field.new.out.items c.loop-field-test.true c.loop-field.invariant one in
     let f = c.field-item.result in
     let e : field_view f ≡ (f.id, view f.value) = search (rules, the_lemmas) in
     let fits : FitsSigned w16 f.id = search rules in
     let last_is = ap (λ (y : Field). (field_view y).0) (sym c.field-item.is) ∙ ap (λ (p : ℤ × Node). p.0) e ∙ sym (to_z-of_z w16 f.id fits) in
     let front = field_views (take (c.loop-field.field-index + 1) c.args.fields.now) in
-    subst (λ (z : ℤ). Appends (writes.Begun c.args.left front (pos 0) z) (writes.most_begun front (pos 0)) c.args.out.now.items c.put_field.new.out.items) last_is m
+    subst (λ (z : ℤ). Appends (writes.Begun c.args.left front (pos 0) z) (writes.size_begun front (pos 0)) c.args.out.now.items c.put_field.new.out.items) last_is m
 
 pub put_fields-returns-clause-stands : goal.put_fields-returns-clause-stands
 put_fields-returns-clause-stands t c =
@@ -130,7 +130,7 @@ put_value-returns-in-List-clause-which t c =
 pub put_value-returns-in-Set-clause-stands : goal.put_value-returns-in-Set-clause-stands
 put_value-returns-in-Set-clause-stands t c =
     let e : view c.args.value.now ≡ set c.code-in-Set.result (views c.deref-in-Set.result.now) = grind (arith, the_lemmas) in
-    subst (λ y. OnOk c.put_list-in-Set.result (Appends (SpellsValue c.args.left y) (most_value y) c.args.out.now.items c.put_list-in-Set.new.out.items)) (sym e) c.put_list-in-Set.ensures.stands
+    subst (λ y. OnOk c.put_list-in-Set.result (Appends (SpellsValue c.args.left y) (size_value y) c.args.out.now.items c.put_list-in-Set.new.out.items)) (sym e) c.put_list-in-Set.ensures.stands
 
 pub put_value-returns-in-Set-clause-which : goal.put_value-returns-in-Set-clause-which
 put_value-returns-in-Set-clause-which t c =
@@ -140,7 +140,7 @@ put_value-returns-in-Set-clause-which t c =
 pub put_value-returns-in-Map-clause-stands : goal.put_value-returns-in-Map-clause-stands
 put_value-returns-in-Map-clause-stands t c =
     let e : view c.args.value.now ≡ map c.code-in-Map.result c.code-in-Map-2.result (pair_views c.deref-in-Map.result.now) = grind (arith, the_lemmas) in
-    subst (λ y. OnOk c.put_map.result (Appends (SpellsValue c.args.left y) (most_value y) c.args.out.now.items c.put_map.new.out.items)) (sym e) c.put_map.ensures.stands
+    subst (λ y. OnOk c.put_map.result (Appends (SpellsValue c.args.left y) (size_value y) c.args.out.now.items c.put_map.new.out.items)) (sym e) c.put_map.ensures.stands
 
 pub put_value-returns-in-Map-clause-which : goal.put_value-returns-in-Map-clause-which
 put_value-returns-in-Map-clause-which t c =
@@ -167,7 +167,7 @@ put_value-returns-in-I32-clause-stands t c =
     let fits : FitsSigned w32 z = grind (arith, the_lemmas) in
     let w = wide_int z c.from-in-I32.result fits c.from-in-I32.ensures in
     ok_then c.put_signed-in-I32.result (writes.int_stands (view c.args.value.now) z c.args.left c.args.out.now.items c.put_signed-in-I32.new.out.items e fits)
-    (subst (λ y. OnOk c.put_signed-in-I32.result (Appends (IsShortestSigned y) 10 c.args.out.now.items c.put_signed-in-I32.new.out.items)) w c.put_signed-in-I32.ensures.stands)
+    (subst (λ y. OnOk c.put_signed-in-I32.result (Appends (IsShortestSigned y) (size_i64 y) c.args.out.now.items c.put_signed-in-I32.new.out.items)) w c.put_signed-in-I32.ensures.stands)
 
 pub put_value-returns-in-I16-clause-stands : goal.put_value-returns-in-I16-clause-stands
 put_value-returns-in-I16-clause-stands t c =
@@ -176,7 +176,7 @@ put_value-returns-in-I16-clause-stands t c =
     let fits : FitsSigned w16 z = grind (arith, the_lemmas) in
     let w = wide_is z c.from.result fits c.from.ensures in
     ok_then c.put_signed.result (writes.short_stands (view c.args.value.now) z c.args.left c.args.out.now.items c.put_signed.new.out.items e fits)
-    (subst (λ y. OnOk c.put_signed.result (Appends (IsShortestSigned y) 10 c.args.out.now.items c.put_signed.new.out.items)) w c.put_signed.ensures.stands)
+    (subst (λ y. OnOk c.put_signed.result (Appends (IsShortestSigned y) (size_i64 y) c.args.out.now.items c.put_signed.new.out.items)) w c.put_signed.ensures.stands)
 
 -- ---- shapes
 

@@ -2,9 +2,9 @@ use Rattle.std.proofs.Common.{◌+◌, ◌*◌, take}
 use Rattle.std.specs.Prelude.{pos}
 use Rattle.bits.specs.Codec.{Appends}
 use Rattle.thrift_compact.specs.View.{views, pair_views, field_views}
-use Rattle.thrift_compact.specs.Length.{most_elements, most_pairs}
+use Rattle.thrift_compact.specs.Length.{size_elements, size_pairs}
 use Rattle.thrift_compact.specs.Writing.{SpellsElements, SpellsPairs}
-use Rattle.thrift_compact.proofs.Writes.{Begun, most_begun}
+use Rattle.thrift_compact.proofs.Writes.{Begun, size_begun}
 use Rattle.thrift_compact.proofs.writing.+write.Given as goal
 
 abbrev pub decreases-put_value : goal.decreases-put_value
@@ -38,10 +38,10 @@ abbrev pub decreases-put_fields : goal.decreases-put_fields
 decreases-put_fields l = 5 * l.left + 3
 
 abbrev pub invariant-put_elements-loop-value : goal.invariant-put_elements-loop-value
-invariant-put_elements-loop-value l = let front = views (take l.value-index l.values) in Appends (SpellsElements l.code l.left front) (most_elements front) l.fn.out.items l.out.items
+invariant-put_elements-loop-value l = let front = views (take l.value-index l.values) in Appends (SpellsElements l.code l.left front) (size_elements front) l.fn.out.items l.out.items
 
 abbrev pub invariant-put_pairs-loop-pair : goal.invariant-put_pairs-loop-pair
-invariant-put_pairs-loop-pair l = let front = pair_views (take l.pair-index l.pairs) in Appends (SpellsPairs l.keys l.values l.left front) (most_pairs front) l.fn.out.items l.out.items
+invariant-put_pairs-loop-pair l = let front = pair_views (take l.pair-index l.pairs) in Appends (SpellsPairs l.keys l.values l.left front) (size_pairs front) l.fn.out.items l.out.items
 
 abbrev pub invariant-put_fields-loop-field : goal.invariant-put_fields-loop-field
-invariant-put_fields-loop-field l = let front = field_views (take l.field-index l.fields) in Appends (Begun l.left front (pos 0) l.previous) (most_begun front (pos 0)) l.fn.out.items l.out.items
+invariant-put_fields-loop-field l = let front = field_views (take l.field-index l.fields) in Appends (Begun l.left front (pos 0) l.previous) (size_begun front (pos 0)) l.fn.out.items l.out.items

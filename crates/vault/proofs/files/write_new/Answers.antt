@@ -1,5 +1,5 @@
 use Rattle.std.proofs.Common.{Ok, Err}
-use Rattle.vault.specs.Files.{Written}
+use Rattle.vault.specs.inner.Files.{Written}
 use Rattle.vault.proofs.Answering.{exit}
 use Rattle.vault.proofs.Writing.{create_fails, create_refused, append_refused, written_file}
 use Rattle.vault.proofs.files.write_new.Goals as goal

@@ -1,4 +1,4 @@
-use Rattle.vault.specs.Files.{Turned}
+use Rattle.vault.specs.inner.Files.{Turned}
 use Rattle.vault.proofs.Answering.{exit}
 use Rattle.vault.proofs.Turning.{turn_refused, turned}
 use Rattle.vault.proofs.vault.turn.Goals as goal

@@ -13,7 +13,7 @@ invariant_of-self-in-Ok c =
     let same = c.index_mut-to.ensures.value in
     let copy = c.in_ok-from_slice.field-0 in
     record {
-      kept = keeps_appended self.names.items self.nodes.items self.calls.items self.kept c.args.node v was c.requires c.push.new.self.items (Append c.args.node copy) c.args.bytes.now
+      kept = keeps_appended self.names.list.items self.nodes.items self.calls.items self.kept c.args.node v was c.requires c.push.new.self.items (Append c.args.node copy) c.args.bytes.now
           c.in_ok-push.ensures.items
           (ap (appended (replayed empty self.calls.items) c.args.node) c.in_ok-from_slice.ensures.items)
           (c.in-Ok.ensures.items ∙ ap (λ (x : Node). x.bytes.items ++ c.args.bytes.now) same)
@@ -30,7 +30,7 @@ invariant_of-self-in-Err c =
     let same = c.index_mut-to.ensures.value in
     let calls : c.pop.new.self.items ≡ self.calls.items = popped self.calls.items c.push.new.self.items c.pop.new.self.items _ _ c.in_ok-push.ensures.items c.pop.ensures.rest (let more = c.in_ok-push.ensures.len in let ok = self.calls.ok.0 in omega (arith, more, ok)) in
     record {
-      kept = keeps_unwritten self.names.items self.nodes.items self.calls.items self.kept c.args.node v was c.requires
+      kept = keeps_unwritten self.names.list.items self.nodes.items self.calls.items self.kept c.args.node v was c.requires
           (c.in-Err.ensures.items ∙ ap (λ (x : Node). x.bytes.items) same)
           (ap (λ (x : Node). x.synced) same)
           (ap (λ (x : Node). x.doubted) same)

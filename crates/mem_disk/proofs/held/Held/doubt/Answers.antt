@@ -11,7 +11,7 @@ invariant_of-self-2 c =
     let v : Node = record { bytes = was.bytes; synced = was.synced; doubted = true } in
     let same = c.index_mut-at.ensures.value in
     record {
-      kept = keeps_doubted self.names.items self.nodes.items self.calls.items self.kept c.args.node v was c.requires c.push.new.self.items (Doubt c.args.node)
+      kept = keeps_doubted self.names.list.items self.nodes.items self.calls.items self.kept c.args.node v was c.requires c.push.new.self.items (Doubt c.args.node)
           c.in_ok-push.ensures.items refl
           (ap (λ (x : Node). x.bytes.items) same)
           (ap (λ (x : Node). x.synced) same)

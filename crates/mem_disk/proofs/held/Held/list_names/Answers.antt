@@ -16,7 +16,7 @@ returns-clause-effect c f g r s =
     let so = subst (λ (xs : List Name). AreListed folder xs entries) c.deref.ensures.value c.in_ok-entries.ensures in (
       record {
         still = reads_still calls f g r s;
-        done = (sym c.in-Folder.ensures, names_in folder (image_of (replayed empty calls)) self.names.items entries self.kept.shows.names self.apart so);
+        done = (sym c.in-Folder.ensures, names_in folder (image_of (replayed empty calls)) self.names.list.items entries self.kept.shows.names self.apart so);
         absent = λ x. absurd (ok_is_no_err _ Absent x);
       },
       record {

@@ -1,4 +1,4 @@
-use Rattle.std.proofs.Common.{inr, ◌≡◌, ◌≢◌, sym, ◌∙◌, ap, subst, refl, Ok, Err, arith, List, ℕ, rules}
+use Rattle.std.proofs.Common.{◌≡◌, ◌≢◌, sym, ◌∙◌, ap, subst, refl, Ok, Err, arith, List, ℕ, rules}
 use Rattle.disk.specs.declared.fault.Fault.TheVariants.{Failed}
 use Rattle.disk.specs.declared.binding.Binding.{Binding}
 use Rattle.disk.specs.declared.binding.Binding.TheVariants.{Nothing, Folder, File}
@@ -9,9 +9,8 @@ use Rattle.mem_disk.specs.declared.fuse.Done.TheVariants as extent
 use Rattle.mem_disk.specs.declared.fuse.Trip.TheVariants.{Fails}
 use Rattle.mem_disk.specs.Loose.{Loose, empty, replayed, image_of, bound, GoesOn}
 use Rattle.mem_disk.specs.Failing.{moved}
-use Rattle.mem_disk.proofs.Choices.{not_true, file_is_no_folder, file_is_something}
-use Rattle.mem_disk.proofs.Effects.{goes_to, goes_in_all, goes_in_part, file_within, renamed_stays, renamed_part, renamed_whole, err_of, ok_of_not, not_absent, later_name}
-use Rattle.mem_disk.proofs.Shortages.{not_beside}
+use Rattle.mem_disk.proofs.Choices.{file_is_no_folder, file_is_something}
+use Rattle.mem_disk.proofs.Effects.{goes_to, goes_in_all, goes_in_part, file_within, renamed_stays, renamed_part, renamed_whole, err_of, ok_of_not, not_absent, not_exists, later_name}
 use Rattle.mem_disk.proofs.held.Held.rename_file.Goals as goal
 
 abbrev movable : (calls : List Call) (source target : List ℕ) (n : ℕ) (over : Binding) → File n ≡ (replayed empty calls).names source → over ≡ (replayed empty calls).names target → (over ≡ Folder → ⊥) → (folder_of target ≡ folder_of source) × (target ≢ source) → IsMovable (image_of (replayed empty calls)) source target
@@ -35,7 +34,7 @@ bind-requires-clause-node c n e =
 pub returns-then-is_err-clause-effect : goal.returns-then-is_err-clause-effect
 returns-then-is_err-clause-effect c f g r s =
     let same = err_of c.bind.result (sym c.is_err.ensures.value ∙ c.if-is_err.true) c.bind.ensures.err in
-    let x = renamed_stays _ _ f g r s same (Err Failed) Failed refl c.args.source.now c.args.target.now (λ e. absurd (not_absent e)) in
+    let x = renamed_stays _ _ f g r s same (Err Failed) Failed refl c.args.source.now c.args.target.now (λ e. absurd (not_absent e)) (λ e. absurd (not_exists e)) in
     (x, x)
 
 pub returns-then-eq-2-clause-effect : goal.returns-then-eq-2-clause-effect
@@ -78,9 +77,6 @@ returns-clause-effect c f g r s =
       renamed_whole _ f g r s (Ok tt) tt _ sound c.args.source.now c.args.target.now moves c.bind.new.self.calls.items c.bind-2.new.self.calls.items goes then,
       renamed_whole _ f g r s (Err Failed) refl _ sound c.args.source.now c.args.target.now moves c.bind.new.self.calls.items c.bind-2.new.self.calls.items goes then,
     )
-
-pub returns-then-not-are_beside-clause-passes : goal.returns-then-not-are_beside-clause-passes
-returns-then-not-are_beside-clause-passes c _ _ = inr (inr (not_beside c.args.source.now c.args.target.now (λ both. not_true (sym c.if-not-are_beside.true ∙ c.are_beside.ensures.1 both))))
 
 pub returns-then-is_err-clause-short : goal.returns-then-is_err-clause-short
 returns-then-is_err-clause-short c _ =

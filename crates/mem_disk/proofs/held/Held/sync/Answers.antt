@@ -10,7 +10,7 @@ invariant_of-self-2 c =
     let was = c.index_mut-at.result.now in
     let same = c.index_mut-at.ensures.value in
     record {
-      kept = keeps_synced self.names.items self.nodes.items self.calls.items self.kept c.args.node c.sync.new.self was c.requires c.push.new.self.items (Sync c.args.node)
+      kept = keeps_synced self.names.list.items self.nodes.items self.calls.items self.kept c.args.node c.sync.new.self was c.requires c.push.new.self.items (Sync c.args.node)
           c.in_ok-push.ensures.items refl
           (ap (λ x. x.items) c.sync.ensures.bytes ∙ ap (λ (x : Node). x.bytes.items) same)
           (c.sync.ensures.synced ∙ ap (λ (x : Node). length x.bytes.items) same)

@@ -8,7 +8,7 @@ pub invariant_of-self-2 : goal.invariant_of-self-2
 invariant_of-self-2 c =
     let self = c.args.self.now in
     record {
-      kept = keeps_settled self.names.items self.nodes.items self.calls.items self.kept c.settle.new.names.items c.push.new.self.items (SyncFolder c.in_ok-from_str.field-0) c.args.folder.now
+      kept = keeps_settled self.names.list.items self.nodes.items self.calls.items self.kept c.settle.new.self.list.items c.push.new.self.items (SyncFolder c.in_ok-from_str.field-0) c.args.folder.now
           c.in_ok-push.ensures.items
           (ap (folder_synced (replayed empty self.calls.items)) c.in_ok-from_str.ensures.ok)
           c.settle.ensures.settles;

@@ -1,7 +1,7 @@
 use Rattle.std.proofs.Common.{◌∙◌}
 use Rattle.disk.specs.Calls.{Renamed}
 use Rattle.mem_disk.specs.States.{state_with}
-use Rattle.mem_disk.proofs.Shortages.{told_way, reason_or_short}
+use Rattle.mem_disk.proofs.Shortages.{told_way, failed_is_short}
 use Rattle.mem_disk.proofs.mem_disk_impl.MemDiskDisk.rename.Goals as goal
 
 pub returns-clause-effect : goal.returns-clause-effect
@@ -13,4 +13,4 @@ returns-clause-effect c _ =
 pub returns-clause-passes : goal.returns-clause-passes
 returns-clause-passes c passes =
     let trip = c.burn-trip.ensures.trip ∙ passes in
-    reason_or_short c.rename_file-done.result c.tell_shortage-told.result c.answer.result c.tell_shortage-told.ensures.told (c.answer.ensures.passes trip) (c.rename_file-done.ensures.passes trip) c.tell_shortage-told.ensures.short
+    failed_is_short c.rename_file-done.result c.tell_shortage-told.result c.answer.result c.tell_shortage-told.ensures.told (c.answer.ensures.passes trip) (c.rename_file-done.ensures.passes trip) c.tell_shortage-told.ensures.short

@@ -6,8 +6,8 @@ pub returns-in-Ok-clause-unchanged : goal.returns-in-Ok-clause-unchanged
 returns-in-Ok-clause-unchanged g c honest =
     reads_only _ _ (c.make_firm.ensures.effect honest (root_housed _ (g.met.D.Disk.lawful c.args.self.now.disk) honest)).still
 
-pub returns-in-Ok-clause-firm : goal.returns-in-Ok-clause-firm
-returns-in-Ok-clause-firm g c honest rooted =
+pub returns-in-Ok-clause-durable : goal.returns-in-Ok-clause-durable
+returns-in-Ok-clause-durable g c honest rooted =
     let lawful = g.met.D.Disk.lawful c.args.self.now.disk in
     let made = c.in-Ok.ensures.effect honest (root_housed _ lawful honest) in
     settles _ _ lawful honest made.still rooted made.firm

@@ -1,0 +1,12 @@
+pub mod Tests
+pub mod Keys
+pub mod Members
+pub mod Same
+pub mod AtMost
+pub mod Columns
+pub mod Relations
+pub mod Soundness
+pub mod TermTests
+pub mod CutTests
+pub mod Made
+pub mod Places

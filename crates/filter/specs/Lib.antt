@@ -1,0 +1,6 @@
+pub mod Test
+pub mod Satisfies
+pub mod Terms
+pub mod RuledOut
+pub mod Law
+pub mod inner

@@ -1,0 +1,55 @@
+-- A filter as contracts see it: an OR of ANDs of terms, each at its leaf (fastparquet, "filters").
+use Rattle.std.specs.Prelude.{ℕ, Bool, true, false, not, List, [], ◌∷◌, map, Option, Vec}
+use Rattle.std.specs.declared.alloc.Global.{Global}
+use Rattle.schema.specs.declared.order.Order.{Order}
+use Rattle.schema.specs.declared.value.Repetition.{Repetition}
+use Rattle.schema.specs.declared.value.Repetition.TheVariants.{Required, Optional, Repeated}
+use Rattle.schema.specs.declared.field.Step.{Step as CodeStep}
+use Rattle.schema.specs.Values.{ValueTree, group, ValueTrees, member, view}
+use Rattle.schema.specs.Stripe.{Step}
+use Rattle.schema.specs.Views.{step_view}
+use Rattle.filter.specs.declared.term.Op.{Op}
+use Rattle.filter.specs.declared.test.Test.{Test as CodeTest}
+use Rattle.filter.specs.declared.filter.Filter.{Filter}
+
+-- a term at its leaf: the leaf's index among the leaves, the path to it as its first step and the rest, and its order
+pub record Test : Type 0 where
+  pub leaf : ℕ
+  pub first : Step
+  pub rest : List Step
+  pub order : Option Order
+  pub op : Op
+  pub operand : ValueTree
+
+abbrev pub way_view : List CodeStep → List Step
+way_view steps = map step_view steps
+
+abbrev pub test_view : CodeTest → Test
+test_view t = record { leaf = t.leaf; first = step_view t.first; rest = way_view t.rest.items; order = t.order; op = t.op; operand = view t.operand.value }
+
+abbrev pub ands_view : List (Vec CodeTest Global) → List (List Test)
+ands_view ands = map (λ terms. map test_view terms.items) ands
+
+abbrev pub tests_in : Filter → List (List Test)
+tests_in f = ands_view f.ands.items
+
+-- the field of a step is not REPEATED
+abbrev pub is_repeated : Repetition → Bool
+is_repeated Repeated = true
+is_repeated Required = false
+is_repeated Optional = false
+
+abbrev pub is_single : Step → Bool
+is_single s = not (is_repeated s.repetition)
+
+-- the value at the end of a path: null where one on the path is
+abbrev pub value_at : List Step → ValueTree → ValueTree
+value_at [] v = v
+value_at (s ∷ p) v = value_at p (member s.place v)
+
+-- the path to a term's leaf, and the value that a row has there
+abbrev pub steps_of : Test → List Step
+steps_of t = t.first ∷ t.rest
+
+abbrev pub value_of : Test → ValueTrees → ValueTree
+value_of t row = value_at (steps_of t) (group row)

@@ -1,0 +1,4 @@
+pub mod Same
+pub mod Tests
+pub mod Excluded
+pub mod Sets

@@ -1,0 +1,72 @@
+//! Filters.
+
+ghost use Rattle.std.specs.Prelude.{◌≡◌, ◌↔◌, Ok, Err, IfOk, IsTrue};
+ghost use Rattle.bits.specs.Refusals.{RefusedOnly};
+ghost use Rattle.schema.specs.Keys.{places_of, key_columns_view};
+ghost use Rattle.schema.specs.Stripe.{leaves_of};
+ghost use Rattle.schema.specs.Views.{row_view, key_view};
+ghost use Rattle.statistics.specs.Bounds.{known_of};
+ghost use Rattle.filter.specs.RuledOut.{RuledOut};
+ghost use Rattle.filter.specs.Satisfies.{Satisfies};
+ghost use Rattle.filter.specs.Terms.{terms_view, tests_of};
+ghost use Rattle.filter.specs.Test.{tests_in};
+
+use crate::holding::some_holds;
+use crate::making::all_ands;
+use crate::pruning::all_out;
+use crate::term::Term;
+use crate::test::Test;
+use bits::R;
+use schema::{Key, KeyColumn, Row, Schema};
+use statistics::GroupStats;
+use std::alloc::Global;
+
+/// An OR of ANDs of terms, each at its leaf.
+#[derive(Drop)]
+pub struct Filter {
+    ands: Vec<Vec<Test>>,
+}
+
+impl Filter {
+    /// The filter of terms over the leaves of a schema: an OR of ANDs. The empty filter, and an empty AND, are
+    /// satisfied by every row.
+    ///
+    /// Refused for the first term that has a fault: NoColumn where its column is not there, is a group, or is
+    /// or lies below a REPEATED field; else Unordered for an order operator on a leaf without an order; else
+    /// RowShape for a value that the leaf cannot have. For `in` and `not in` the value is a list, and the leaf
+    /// can have each value in it.
+    ///
+    /// The terms are borrowed, and their values are copied. Takes time linear in the terms and their values
+    /// and, for each term, in the names of the leaves.
+    pub fn new(alloc: Global, schema: &Schema, ands: &[Vec<Term>]) -> R<Filter>
+        ensures made { IfOk result (λ f. tests_of (leaves_of schema.now) (terms_view ands.now) ≡ Ok (tests_in f)) }
+        ensures which { RefusedOnly (λ e. tests_of (leaves_of schema.now) (terms_view ands.now) ≡ Err e) result }
+    {
+        let leaves = schema.leaves();
+        match all_ands(alloc, leaves, ands) {
+            Ok(ands) => Ok(Filter { ands }),
+            Err(refusal) => Err(refusal),
+        }
+    }
+
+    /// Whether a row of the filter's schema satisfies it. Takes no memory. The time is linear in the terms and
+    /// in the bytes of the values that they look at; a long list of `in` is searched by hash.
+    pub fn satisfies(&self, row: &Row) -> bool
+        ensures { IsTrue result ↔ Satisfies (tests_in self.now) (row_view row.now) }
+    {
+        self.ands.is_empty() || some_holds(self.ands.as_slice(), row.values.as_slice())
+    }
+
+    /// Whether the key and the statistics of a group rule out that one of its rows satisfies the filter (the
+    /// law is [`ruled_out_holds_no_row`]). That they are of the filter's table is the caller's duty: `keys`
+    /// are the table's key columns, `key` is the group's key, and `known` has the leaves of the group's file,
+    /// which has no key columns.
+    ///
+    /// Takes no memory. The time is linear in the terms and the values of their lists, and for each term in
+    /// the key columns.
+    pub fn ruled_out(&self, keys: &[KeyColumn], key: &Key, known: &GroupStats) -> bool
+        ensures { IsTrue result ↔ RuledOut (tests_in self.now) (places_of (key_columns_view keys.now)) (key_view key.now) (known_of known.now) }
+    {
+        !self.ands.is_empty() && all_out(self.ands.as_slice(), keys, key.values.as_slice(), known)
+    }
+}

@@ -1,0 +1,114 @@
+//! What a filter says of rows.
+
+ghost use Rattle.std.specs.Prelude.{◌≡◌, map, MatchOption};
+ghost use Rattle.std.specs.List.{list_any, list_all};
+ghost use Rattle.schema.specs.Values.{null, view, views, member, member_at};
+ghost use Rattle.filter.specs.Test.{way_view, test_view, ands_view, value_at, value_of};
+ghost use Rattle.filter.specs.inner.Tests.{passes, holds};
+
+use crate::equality::same;
+use crate::term::Op;
+use crate::test::Test;
+use schema::{Step, Value, compare_by};
+
+/// Whether one of the ANDs has all its terms true.
+pub fn some_holds(ands: &[Vec<Test>], row: &[Value]) -> bool
+    ensures { result ≡ list_any (λ terms. list_all (λ t. holds t (value_of t (views row.now))) terms) (ands_view ands.now) }
+{
+    for terms in ands {
+        if all_hold(terms.as_slice(), row) {
+            return true;
+        }
+    }
+    false
+}
+
+/// Whether all terms are true of a row.
+fn all_hold(terms: &[Test], row: &[Value]) -> bool
+    ensures { result ≡ list_all (λ t. holds t (value_of t (views row.now))) (map test_view terms.now) }
+{
+    for term in terms {
+        if !term.holds_of(row) {
+            return false;
+        }
+    }
+    true
+}
+
+impl Test {
+    /// Whether the term is true of a row.
+    fn holds_of(&self, row: &[Value]) -> bool
+        ensures { result ≡ holds (test_view self.now) (value_of (test_view self.now) (views row.now)) }
+    {
+        match member_at(row, self.first.place) {
+            Some(value) => match value_at(self.rest.as_slice(), value) {
+                Some(value) => self.holds(value),
+                None => false,
+            },
+            None => false,
+        }
+    }
+
+    /// Whether the term is true of a value.
+    pub fn holds(&self, value: &Value) -> bool
+        ensures { result ≡ holds (test_view self.now) (view value.now) }
+    {
+        !matches!(value, Value::Null) && self.passes(value)
+    }
+
+    /// Whether the operator is true of a value that is not null.
+    fn passes(&self, value: &Value) -> bool
+        ensures { result ≡ passes (test_view self.now).order (test_view self.now).op (view value.now) (test_view self.now).operand }
+    {
+        let operand = &self.operand.value;
+        match self.op {
+            Op::Equal => same(value, operand),
+            Op::NotEqual => !same(value, operand),
+            Op::Less => compare_by(self.order, value, operand).is_some_and(|o| o.is_lt()),
+            Op::LessOrEqual => compare_by(self.order, value, operand).is_some_and(|o| o.is_le()),
+            Op::Greater => compare_by(self.order, value, operand).is_some_and(|o| o.is_gt()),
+            Op::GreaterOrEqual => compare_by(self.order, value, operand).is_some_and(|o| o.is_ge()),
+            Op::In => self.operand.lists(value),
+            Op::NotIn => !self.operand.lists(value),
+        }
+    }
+}
+
+/// The value at the end of a path, where there is one.
+fn value_at<'a>(steps: &[Step], value: &'a Value) -> Option<&'a Value>
+    ensures { MatchOption result (value_at (way_view steps.now) (view value.now) ≡ null)
+        (λ v. view v.now ≡ value_at (way_view steps.now) (view value.now)) }
+{
+    let mut value = value;
+    for step in steps {
+        match member(value, step.place) {
+            Some(inner) => value = inner,
+            None => return None,
+        }
+    }
+    Some(value)
+}
+
+/// The member of a group at a place, where there is one.
+fn member(value: &Value, place: usize) -> Option<&Value>
+    ensures { MatchOption result (member place (view value.now) ≡ null)
+        (λ v. view v.now ≡ member place (view value.now)) }
+{
+    match value {
+        Value::Group(values) => member_at(values.as_slice(), place),
+        _ => None,
+    }
+}
+
+/// The value at a place of a group, where there is one.
+#[tactic(auto, using(crate::proofs::Members::member_at_none, crate::proofs::Members::member_at_some))]
+fn member_at(values: &[Value], place: usize) -> Option<&Value>
+    ensures { MatchOption result (member_at place (views values.now) ≡ null)
+        (λ v. view v.now ≡ member_at place (views values.now)) }
+{
+    if place < values.len() {
+        Some(&values[place])
+    } else {
+        None
+    }
+}

@@ -1,0 +1,32 @@
+//! A caller that knows nothing of an encoding but that it is a value codec.
+
+ghost use Rattle.std.specs.Prelude.{◌≡◌, map, IfOk};
+
+use bits::{R, ValueCodec};
+use plain::Plain;
+use schema::{Kind, Value, same};
+use std::alloc::Global;
+use std::test::*;
+
+/// Writes the values and reads them again: they are the same.
+fn reread<C: ValueCodec>(codec: &C, alloc: Global, values: &[C::Value]) -> R<Vec<C::Value>>
+    ensures { IfOk result (λ v. map C.shown v.items ≡ map C.shown values.now) }
+{
+    let mut out = Vec::new(alloc);
+    codec.encode(values, &mut out)?;
+    let (read, _) = codec.decode(alloc, out.as_slice(), values.len())?;
+    codec.one_meaning();
+    Ok(read)
+}
+
+#[test]
+fn values_come_back_through_a_codec(rt: HostRuntime) -> Result<(), Fail> {
+    let values = [Value::Int(0), Value::Int(300), Value::Int(i64::MAX)];
+    let plain = Plain { kind: Kind::Int64 };
+    let read = reread(&plain, rt.alloc(), values.as_slice())?;
+    assert_eq!(rt; read.len(), 3);
+    for (value, wanted) in read.iter().zip(values.iter()) {
+        assert!(rt; same(value, wanted));
+    }
+    Ok(())
+}

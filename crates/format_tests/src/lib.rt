@@ -1,0 +1,50 @@
+//! Tests of the format's crates, from varints to whole files, over their public calls.
+//!
+//! They hold what no contract says: bytes that were made elsewhere, printed texts, and that each public call succeeds
+//! with ample memory. Each file has one subject.
+#![tactic(auto)]
+
+#[cfg(test)]
+mod chunks_and_groups;
+#[cfg(test)]
+mod codecs;
+#[cfg(test)]
+mod copies;
+#[cfg(test)]
+mod element_types;
+#[cfg(test)]
+mod faults;
+#[cfg(test)]
+mod files;
+#[cfg(test)]
+mod filters;
+#[cfg(test)]
+mod hybrid_runs;
+#[cfg(test)]
+mod key_columns;
+#[cfg(test)]
+mod keys_and_folders;
+#[cfg(test)]
+mod page_bytes;
+#[cfg(test)]
+mod pages_not_read_yet;
+#[cfg(test)]
+mod plain_values;
+#[cfg(test)]
+mod record_bytes;
+#[cfg(test)]
+mod records;
+#[cfg(test)]
+mod schemas;
+#[cfg(test)]
+mod statistics_of_columns;
+#[cfg(test)]
+mod thrift_structs;
+#[cfg(test)]
+mod values_and_orders;
+#[cfg(test)]
+mod varints_and_bits;
+#[cfg(test)]
+mod written_files;
+#[cfg(test)]
+mod written_groups;

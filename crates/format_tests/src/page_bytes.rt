@@ -1,0 +1,263 @@
+use bits::{R, Refusal};
+use pages::{Encoding, EntryRef, PageRef, read_page, write_page};
+use schema::{Annotation, Entry, Kind, Leaf, LeafType, Value, same};
+use std::alloc::Global;
+use std::test::*;
+
+/// A page of version 1 with the INT64 values 1 and 300.
+const NUMBERS: [u8; 33] = [
+    0x15, 0x00, 0x15, 0x20, 0x15, 0x20, 0x2C, 0x15, 0x04, 0x15, 0x00, 0x15, 0x06, 0x15, 0x06, 0x00,
+    0x00, 0x01, 0x00, 0x00, 0x00, 0x00, 0x00, 0x00, 0x00, 0x2C, 0x01, 0x00, 0x00, 0x00, 0x00, 0x00,
+    0x00,
+];
+
+/// A page of version 1 with the BYTE_ARRAY values a and the empty one.
+const TEXTS: [u8; 26] = [
+    0x15, 0x00, 0x15, 0x12, 0x15, 0x12, 0x2C, 0x15, 0x04, 0x15, 0x00, 0x15, 0x06, 0x15, 0x06, 0x00,
+    0x00, 0x01, 0x00, 0x00, 0x00, 0x61, 0x00, 0x00, 0x00, 0x00,
+];
+
+/// A REQUIRED leaf at the top; converted type 0 is UTF8.
+fn leaf_of(alloc: Global, kind: Kind, converted_type: Option<i32>) -> Leaf {
+    Leaf {
+        path: Vec::new(alloc),
+        steps: Vec::new(alloc),
+        leaf_type: LeafType {
+            kind,
+            annotation: Annotation::of_element(kind, converted_type, None),
+            scale: None,
+            precision: None,
+        },
+        greatest_repetition: 0,
+        greatest_definition: 0,
+    }
+}
+
+/// How many entries and bytes a page of numbers has.
+fn counted(alloc: Global, bytes: &[u8], dictionary: Option<&[Value]>) -> R<(usize, usize)> {
+    let leaf = leaf_of(alloc, Kind::Int64, None);
+    let (page, used) = read_page(alloc, bytes, &leaf, dictionary, 2)?;
+    match page {
+        PageRef::Data(entries) => Ok((entries.len(), used)),
+        _ => Ok((0, used)),
+    }
+}
+
+/// The page of numbers with another byte at a place.
+fn changed(place: usize, byte: u8) -> [u8; 33] {
+    let mut bytes = NUMBERS;
+    if place < 33 {
+        bytes[place] = byte;
+    }
+    bytes
+}
+
+#[test]
+fn a_page_of_two_numbers_is_read(rt: HostRuntime) -> Result<(), Fail> {
+    let leaf = leaf_of(rt.alloc(), Kind::Int64, None);
+    let (page, used) = read_page(rt.alloc(), NUMBERS.as_slice(), &leaf, None, 5)?;
+    assert_eq!(rt; used, 33);
+    let is_right = match page {
+        PageRef::Data(entries) => match entries.as_slice() {
+            [one, other] => {
+                matches!(one.value, Some(Value::Int(1)))
+                    && matches!(other.value, Some(Value::Int(300)))
+            }
+            _ => false,
+        },
+        _ => false,
+    };
+    assert!(rt; is_right);
+    Ok(())
+}
+
+#[test]
+fn a_page_of_two_texts_is_read(rt: HostRuntime) -> Result<(), Fail> {
+    let leaf = leaf_of(rt.alloc(), Kind::ByteArray, Some(0));
+    let (page, used) = read_page(rt.alloc(), TEXTS.as_slice(), &leaf, None, 2)?;
+    assert_eq!(rt; used, 26);
+    let is_right = match page {
+        PageRef::Data(entries) => match entries.as_slice() {
+            [one, other] => {
+                matches!(&one.value, Some(Value::Bytes(text)) if text.as_slice() == b"a".as_slice())
+                    && matches!(&other.value, Some(Value::Bytes(text)) if text.is_empty())
+            }
+            _ => false,
+        },
+        _ => false,
+    };
+    assert!(rt; is_right);
+    Ok(())
+}
+
+#[test]
+fn bytes_that_are_not_text_are_refused_where_text_is_asked(rt: HostRuntime) {
+    let mut bytes = TEXTS;
+    bytes[21] = 0xFF;
+    let text = leaf_of(rt.alloc(), Kind::ByteArray, Some(0));
+    let refused = read_page(rt.alloc(), bytes.as_slice(), &text, None, 2);
+    assert!(rt; matches!(refused, Err(Refusal::Utf8)));
+    let plain = leaf_of(rt.alloc(), Kind::ByteArray, None);
+    assert!(rt; read_page(rt.alloc(), bytes.as_slice(), &plain, None, 2).is_ok());
+}
+
+#[test]
+fn a_changed_page_size_is_refused(rt: HostRuntime) {
+    let cut = counted(rt.alloc(), changed(5, 0x1E).as_slice(), None);
+    assert!(rt; matches!(cut, Err(Refusal::Truncated)));
+    for size in [0x22, 0x40, 0x1F] {
+        let beyond = counted(rt.alloc(), changed(5, size).as_slice(), None);
+        assert!(rt; matches!(beyond, Err(Refusal::Page)));
+    }
+}
+
+#[test]
+fn each_front_of_a_page_goes_beyond_its_bytes(rt: HostRuntime) {
+    for end in 0..33 {
+        let front = counted(rt.alloc(), NUMBERS.split_at(end).0, None);
+        assert!(rt; matches!(front, Err(Refusal::Page)));
+    }
+}
+
+#[test]
+fn more_entries_than_are_lacking_are_refused(rt: HostRuntime) {
+    for count in [0x06, 0x03] {
+        let many = counted(rt.alloc(), changed(8, count).as_slice(), None);
+        assert!(rt; matches!(many, Err(Refusal::Page)));
+    }
+    let none = counted(rt.alloc(), changed(8, 0x00).as_slice(), None);
+    assert!(rt; matches!(none, Ok((0, 33))));
+}
+
+#[test]
+fn other_encodings_are_refused(rt: HostRuntime) {
+    // PLAIN_DICTIONARY without a dictionary, DELTA_LENGTH_BYTE_ARRAY, RLE, and a number of none.
+    for encoding in [0x04, 0x0C, 0x06, 0x02] {
+        let other = counted(rt.alloc(), changed(10, encoding).as_slice(), None);
+        assert!(rt; matches!(other, Err(Refusal::Encoding)));
+    }
+    let delta = counted(rt.alloc(), changed(10, 0x0A).as_slice(), None);
+    assert!(rt; matches!(delta, Err(Refusal::Limit)));
+    let indexes = counted(rt.alloc(), changed(10, 0x10).as_slice(), Some(&[]));
+    assert!(rt; matches!(indexes, Err(Refusal::Limit)));
+}
+
+#[test]
+fn a_page_of_another_type_is_passed_over(rt: HostRuntime) {
+    let index = counted(rt.alloc(), changed(1, 0x02).as_slice(), None);
+    assert!(rt; matches!(index, Ok((0, 33))));
+    let dictionary = counted(rt.alloc(), changed(1, 0x04).as_slice(), None);
+    assert!(rt; matches!(dictionary, Err(Refusal::Thrift)));
+}
+
+/// The entry of a value of a leaf without levels.
+fn entry_of(value: &Value) -> EntryRef<'_> {
+    EntryRef {
+        repetition: 0,
+        definition: 0,
+        value: Some(value),
+    }
+}
+
+/// A page of the values.
+fn written(alloc: Global, leaf: &Leaf, values: &[Value]) -> R<Vec<u8>> {
+    let mut entries = Vec::new(alloc);
+    for value in values {
+        entries.push(entry_of(value))?;
+    }
+    let mut out = Vec::new(alloc);
+    write_page(alloc, leaf, entries.as_slice(), &mut out)?;
+    Ok(out)
+}
+
+#[test]
+fn two_numbers_are_written(rt: HostRuntime) -> Result<(), Fail> {
+    let leaf = leaf_of(rt.alloc(), Kind::Int64, None);
+    let page = written(rt.alloc(), &leaf, &[Value::Int(1), Value::Int(300)])?;
+    assert_eq!(rt; page.as_slice(), NUMBERS.as_slice());
+    Ok(())
+}
+
+#[test]
+fn two_texts_are_written(rt: HostRuntime) -> Result<(), Fail> {
+    let leaf = leaf_of(rt.alloc(), Kind::ByteArray, Some(0));
+    let one = Value::Bytes(Vec::from_slice(rt.alloc(), b"a")?);
+    let values = vec![in rt.alloc(); one, Value::Bytes(Vec::new(rt.alloc()))]?;
+    let page = written(rt.alloc(), &leaf, values.as_slice())?;
+    assert_eq!(rt; page.as_slice(), TEXTS.as_slice());
+    Ok(())
+}
+
+/// Whether the entries are those of the values.
+fn are_entries_of(entries: &[Entry], values: &[Value]) -> bool {
+    if entries.len() != values.len() {
+        return false;
+    }
+    for (i, entry) in entries.iter().enumerate() {
+        let is_right = match &entry.value {
+            Some(value) => same(value, &values[i]),
+            None => false,
+        };
+        if !is_right {
+            return false;
+        }
+    }
+    true
+}
+
+/// Whether a page of the values is read as their entries.
+fn is_read_back(alloc: Global, kind: Kind, values: &[Value]) -> R<bool> {
+    let leaf = leaf_of(alloc, kind, None);
+    let page = written(alloc, &leaf, values)?;
+    let (read, used) = read_page(alloc, page.as_slice(), &leaf, None, values.len())?;
+    match read {
+        PageRef::Data(entries) => {
+            Ok(used == page.len() && are_entries_of(entries.as_slice(), values))
+        }
+        _ => Ok(false),
+    }
+}
+
+#[test]
+fn written_pages_are_read_back(rt: HostRuntime) -> Result<(), Fail> {
+    let numbers = [
+        Value::Int(-2147483648),
+        Value::Int(2147483647),
+        Value::Int(0),
+    ];
+    assert!(rt; is_read_back(rt.alloc(), Kind::Int32, &numbers)?);
+    assert!(rt; is_read_back(rt.alloc(), Kind::Int64, &numbers)?);
+    let truths = [Value::Bool(true), Value::Bool(false), Value::Bool(true)];
+    assert!(rt; is_read_back(rt.alloc(), Kind::Boolean, &truths)?);
+    let one = Value::Bytes(Vec::from_slice(rt.alloc(), b"abc")?);
+    let other = Value::Bytes(Vec::from_slice(rt.alloc(), &[0, 255, 7])?);
+    let fixed = vec![in rt.alloc(); one, other]?;
+    assert!(rt; is_read_back(rt.alloc(), Kind::FixedLenByteArray(3), fixed.as_slice())?);
+    for kind in [Kind::Boolean, Kind::Int32, Kind::ByteArray] {
+        assert!(rt; is_read_back(rt.alloc(), kind, &[])?);
+    }
+    Ok(())
+}
+
+#[test]
+fn entries_that_are_not_of_the_leaf_are_refused(rt: HostRuntime) -> Result<(), Fail> {
+    let mut out = Vec::from_slice(rt.alloc(), &[7])?;
+    let leaf = leaf_of(rt.alloc(), Kind::Int32, None);
+    let (right, wide) = (Value::Int(1), Value::Int(2147483648));
+    let mut missing = entry_of(&right);
+    missing.value = None;
+    for bad in [entry_of(&wide), missing] {
+        let wrong = write_page(rt.alloc(), &leaf, &[entry_of(&right), bad], &mut out);
+        assert!(rt; matches!(wrong, Err(Refusal::Value)));
+    }
+    let mut above = entry_of(&right);
+    above.definition = 1;
+    let wrong = write_page(rt.alloc(), &leaf, &[above], &mut out);
+    assert!(rt; matches!(wrong, Err(Refusal::Levels)));
+    let mut optional = leaf_of(rt.alloc(), Kind::Int32, None);
+    optional.greatest_definition = 1;
+    let wrong = write_page(rt.alloc(), &optional, &[above], &mut out);
+    assert!(rt; matches!(wrong, Err(Refusal::Limit)));
+    assert_eq!(rt; out.as_slice(), [7].as_slice());
+    Ok(())
+}

@@ -1,0 +1,185 @@
+ghost use Rattle.std.specs.Prelude.{option_map};
+ghost use Rattle.schema.specs.Stripe.{Entry as Shown};
+ghost use Rattle.schema.specs.Values.{view};
+
+use bits::{R, Refusal};
+use schema::{Column, Element, Entry, Kind, Schema, Value};
+use statistics::{HasValue, Stats, bounds, bounds_of};
+use std::alloc::Global;
+use std::test::*;
+
+/// UINT_32 and UTF8 (`parquet.thrift`, ConvertedType), and INTERVAL.
+const UINT_32: i32 = 13;
+
+const UTF8: i32 = 0;
+
+const INTERVAL: i32 = 21;
+
+/// A schema with one REQUIRED leaf.
+fn schema_of(alloc: Global, kind: i32, length: Option<i32>, converted: Option<i32>) -> R<Schema> {
+    let mut elements = Vec::new(alloc);
+    elements.push(element(alloc, None, None, None, Some(1))?)?;
+    elements.push(element(alloc, Some(kind), length, converted, None)?)?;
+    Schema::new(alloc, elements.as_slice())
+}
+
+fn element(
+    alloc: Global,
+    kind: Option<i32>,
+    length: Option<i32>,
+    converted: Option<i32>,
+    children: Option<i32>,
+) -> R<Element> {
+    Ok(Element {
+        kind,
+        type_length: length,
+        repetition_type: Some(0),
+        name: Vec::from_slice(alloc, b"x".as_slice())?,
+        num_children: children,
+        converted_type: converted,
+        scale: None,
+        precision: None,
+        field_id: None,
+        logical_type: None,
+    })
+}
+
+/// The statistics of a column of these values in the only leaf of a schema.
+fn statistics_of(alloc: Global, schema: &Schema, values: Vec<Option<Value>>) -> R<Stats> {
+    let mut entries = Vec::new(alloc);
+    for value in values {
+        entries.push(Entry {
+            repetition: 0,
+            definition: 0,
+            value,
+        })?;
+    }
+    match schema.leaves().first() {
+        Some(leaf) => bounds(alloc, leaf, &Column { entries }),
+        None => Err(Refusal::NoColumn),
+    }
+}
+
+fn text(alloc: Global, bytes: &[u8]) -> R<Option<Value>> {
+    Ok(Some(Value::Bytes(Vec::from_slice(alloc, bytes)?)))
+}
+
+fn has_bytes(found: &Option<Vec<u8>>, wanted: &[u8]) -> bool {
+    match found {
+        Some(found) => found.as_slice() == wanted,
+        None => false,
+    }
+}
+
+#[test]
+fn unsigned_numbers_are_bounded_as_unsigned(rt: HostRuntime) -> Result<(), Fail> {
+    let alloc = rt.alloc();
+    let schema = schema_of(alloc, 1, None, Some(UINT_32))?;
+    let mut values = Vec::new(alloc);
+    values.push(Some(Value::Int(1)))?;
+    values.push(Some(Value::Int(-1)))?;
+    let found = statistics_of(alloc, &schema, values)?;
+    let bytes = found.to_bytes(alloc, Kind::Int32)?;
+    assert!(rt; has_bytes(&bytes.min, [1u8, 0, 0, 0].as_slice()));
+    assert!(rt; has_bytes(&bytes.max, [255u8, 255, 255, 255].as_slice()));
+    Ok(())
+}
+
+#[test]
+fn a_bound_of_65_bytes_is_left_out(rt: HostRuntime) -> Result<(), Fail> {
+    let alloc = rt.alloc();
+    let schema = schema_of(alloc, 6, None, Some(UTF8))?;
+    let mut values = Vec::new(alloc);
+    values.push(text(alloc, [b'z'; 65].as_slice())?)?;
+    values.push(text(alloc, b"a".as_slice())?)?;
+    let found = statistics_of(alloc, &schema, values)?;
+    let bytes = found.to_bytes(alloc, Kind::ByteArray)?;
+    assert!(rt; has_bytes(&bytes.min, b"a".as_slice()));
+    assert!(rt; bytes.max.is_none());
+    Ok(())
+}
+
+#[test]
+fn nulls_are_counted(rt: HostRuntime) -> Result<(), Fail> {
+    let alloc = rt.alloc();
+    let schema = schema_of(alloc, 2, None, None)?;
+    let mut values = Vec::new(alloc);
+    values.push(None)?;
+    values.push(Some(Value::Int(7)))?;
+    values.push(None)?;
+    let found = statistics_of(alloc, &schema, values)?;
+    assert_eq!(rt; found.nulls, 2);
+    let bytes = found.to_bytes(alloc, Kind::Int64)?;
+    assert!(rt; has_bytes(&bytes.min, [7u8, 0, 0, 0, 0, 0, 0, 0].as_slice()));
+    assert!(rt; has_bytes(&bytes.max, [7u8, 0, 0, 0, 0, 0, 0, 0].as_slice()));
+    Ok(())
+}
+
+#[test]
+fn a_leaf_without_an_order_has_no_bounds(rt: HostRuntime) -> Result<(), Fail> {
+    let alloc = rt.alloc();
+    let schema = schema_of(alloc, 7, Some(12), Some(INTERVAL))?;
+    let mut values = Vec::new(alloc);
+    values.push(text(alloc, [1u8; 12].as_slice())?)?;
+    let found = statistics_of(alloc, &schema, values)?;
+    assert!(rt; found.min.is_none() && found.max.is_none());
+    assert_eq!(rt; found.nulls, 0);
+    Ok(())
+}
+
+#[test]
+fn bounds_are_read_from_their_bytes(rt: HostRuntime) -> Result<(), Fail> {
+    let alloc = rt.alloc();
+    let low = [254u8, 255, 255, 255];
+    let high = [3u8, 0, 0, 0];
+    let found = Stats::from_bytes(
+        alloc,
+        Kind::Int32,
+        Some(low.as_slice()),
+        Some(high.as_slice()),
+        4,
+    )?;
+    assert!(rt; matches!(found.min, Some(Value::Int(-2))));
+    assert!(rt; matches!(found.max, Some(Value::Int(3))));
+    assert_eq!(rt; found.nulls, 4);
+    let long = [0u8; 5];
+    let refused = Stats::from_bytes(alloc, Kind::Int32, Some(long.as_slice()), None, 0);
+    assert!(rt; matches!(refused, Err(Refusal::Value)));
+    let short = [0u8; 3];
+    let refused = Stats::from_bytes(alloc, Kind::Int32, None, Some(short.as_slice()), 0);
+    assert!(rt; matches!(refused, Err(Refusal::Truncated)));
+    Ok(())
+}
+
+/// An entry that borrows its value.
+#[derive(Drop)]
+struct Borrowed<'a> {
+    value: Option<&'a Value>,
+}
+
+impl<'a> HasValue for Borrowed<'a> {
+    ghost shown = { λ e. record { repetition = 0; definition = 0; value = option_map (λ v. view v.now) e.value } };
+
+    fn value(&self) -> Option<&Value> {
+        self.value
+    }
+}
+
+#[test]
+fn entries_may_borrow_their_values(rt: HostRuntime) -> Result<(), Fail> {
+    let alloc = rt.alloc();
+    let schema = schema_of(alloc, 1, None, None)?;
+    let low = Value::Int(-5);
+    let high = Value::Int(9);
+    let entries = [
+        Borrowed { value: Some(&high) },
+        Borrowed { value: None },
+        Borrowed { value: Some(&low) },
+    ];
+    assert_eq!(rt; schema.leaves().len(), 1);
+    let found = bounds_of(alloc, &schema.leaves()[0], entries.as_slice())?;
+    assert!(rt; matches!(found.min, Some(Value::Int(-5))));
+    assert!(rt; matches!(found.max, Some(Value::Int(9))));
+    assert_eq!(rt; found.nulls, 1);
+    Ok(())
+}

@@ -1,0 +1,17 @@
+pub mod Escapes
+pub mod Digits
+pub mod SameKeys
+pub mod WithKeys
+pub mod Splits
+pub mod KeyParts
+pub mod Places
+pub mod KeyColumns
+pub mod Seen
+pub mod Joining
+pub mod Cutting
+pub mod ReadingBack
+pub mod Partitioning
+pub mod Naming
+pub mod PartNaming
+pub mod Roots
+pub mod Ends

@@ -1,0 +1,4 @@
+pub mod Folders
+pub mod Order
+pub mod Splitting
+pub mod inner

@@ -1,0 +1,27 @@
+//! What holds of the definitions.
+
+ghost use Rattle.partition.specs.Folders.{PathsNameKeys, PartPathsNameParts, PartPathsAreNotRoots, KeysCanPartition};
+
+/// A path names one key: the paths of different keys differ.
+#[tactic(auto, using(crate::proofs::Naming::paths_name_keys))]
+pub fn paths_name_keys()
+    ensures { PathsNameKeys }
+{}
+
+/// The path of a part file names one key and one number: those of other keys or with other numbers differ.
+#[tactic(auto, using(crate::proofs::PartNaming::part_paths_name_parts))]
+pub fn part_paths_name_parts()
+    ensures { PartPathsNameParts }
+{}
+
+/// The path of a part file is not that of the table's description, of the file that this is written to first, or of a
+/// folder on the way to either; and neither of these is a folder on the way to a part file.
+pub fn part_paths_are_not_roots()
+    ensures { PartPathsAreNotRoots }
+{}
+
+/// Key columns that can partition a schema whose fields have names of their own can partition a key.
+#[tactic(auto, using(crate::proofs::KeyColumns::keys_can))]
+pub fn schema_keys_can_partition()
+    ensures { KeysCanPartition }
+{}

@@ -1,0 +1,2 @@
+pub mod SchemaReading
+pub mod SchemaViews

@@ -1,0 +1,21 @@
+-- That chunks and groups hold one column, and one list of rows, also where nobody has read them.
+use Rattle.std.specs.Prelude.{◌≡◌, ℕ, List}
+use Rattle.bits.specs.Codec.{IsFunctional}
+use Rattle.schema.specs.Values.{ValueTrees}
+use Rattle.schema.specs.Shape.{Fields}
+use Rattle.schema.specs.Stripe.{Leaf, Entry}
+use Rattle.schema.specs.Law.{IsSchema}
+use Rattle.metadata.specs.Records.{ColumnMeta, GroupMeta}
+use Rattle.row_group.specs.Chunks.{ChunkMeans, ColumnMeans, GroupMeans}
+
+-- a chunk's bytes hold at most one column
+abbrev pub ChunksHoldOneColumn : Type 0
+ChunksHoldOneColumn = (m : ColumnMeta) (leaf : Leaf) → IsFunctional (ChunkMeans m leaf)
+
+-- so do the bytes of its file
+abbrev pub FilesHoldOneColumn : Type 0
+FilesHoldOneColumn = (front : List ℕ) (m : ColumnMeta) (leaf : Leaf) (es fs : List Entry) → ColumnMeans front m leaf es → ColumnMeans front m leaf fs → es ≡ fs
+
+-- a group of a schema has at most one list of rows
+abbrev pub GroupsHaveOneList : Type 0
+GroupsHaveOneList = (front : List ℕ) (fs : Fields) (g : GroupMeta) (rows others : List ValueTrees) → IsSchema fs → GroupMeans front fs g rows → GroupMeans front fs g others → rows ≡ others

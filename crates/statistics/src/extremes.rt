@@ -1,0 +1,149 @@
+//! The statistics of columns.
+
+ghost use Rattle.std.specs.Prelude.{map, ◌≡◌, IfOk, option_map};
+ghost use Rattle.std.specs.List.{list_all};
+ghost use Rattle.bits.specs.Refusals.{RefusedMemoryOnly};
+ghost use Rattle.schema.specs.Orders.{is_compared};
+ghost use Rattle.schema.specs.Values.{view};
+ghost use Rattle.schema.specs.Views.{column_view, leaf_order};
+ghost use Rattle.statistics.specs.Bounds.{statistics_of, values, null_count, Bounds, AreLeastAndGreatest};
+ghost use Rattle.statistics.specs.inner.Extremes.{is_within_limit, lesser, greater, picked, pick_from, kept};
+
+use crate::entry::HasValue;
+use crate::stats::Stats;
+use bits::R;
+use schema::{Column, Leaf, Order, Value, compare_by};
+use std::alloc::Global;
+use std::cmp::Ordering;
+
+/// How many bytes a value that is kept as a bound has at most.
+const MOST_BYTES_OF_BOUND: usize = 64;
+
+/// The statistics of a column: its minimum and its maximum in the leaf's order, and how many entries have
+/// no value (`parquet.thrift`, Statistics).
+///
+/// Each bound is there by itself, exactly when the leaf has an order, a value is there, and the bound has
+/// at most 64 bytes. It fails only when out of memory. Takes one pass over the entries, and copies the two
+/// bounds.
+pub fn bounds(alloc: Global, leaf: &Leaf, column: &Column) -> R<Stats>
+    ensures which { RefusedMemoryOnly result }
+    ensures bounds_hold { IfOk result (λ s. Bounds (leaf_order leaf.now) (statistics_of s) (column_view column.now)) }
+    ensures bounds_are { IfOk result (λ s. AreLeastAndGreatest (leaf_order leaf.now) (statistics_of s) (column_view column.now)) }
+{
+    bounds_of(alloc, leaf, column.entries.as_slice())
+}
+
+/// The statistics of a column of entries that lend their values, as of [`bounds`].
+pub fn bounds_of<E: HasValue>(alloc: Global, leaf: &Leaf, entries: &[E]) -> R<Stats>
+    ensures which { RefusedMemoryOnly result }
+    ensures bounds_hold { IfOk result (λ s. Bounds (leaf_order leaf.now) (statistics_of s) (map E.shown entries.now)) }
+    ensures bounds_are { IfOk result (λ s. AreLeastAndGreatest (leaf_order leaf.now) (statistics_of s) (map E.shown entries.now)) }
+{
+    let found = extremes_of(leaf.leaf_type.order(), entries);
+    let min = bound(alloc, found.all_compared, found.least)?;
+    let max = bound(alloc, found.all_compared, found.greatest)?;
+    Ok(Stats {
+        min,
+        max,
+        nulls: found.nulls,
+    })
+}
+
+/// What one pass over a column finds.
+#[derive(Clone, Copy)]
+struct Extremes<'a> {
+    least: Option<&'a Value>,
+    greatest: Option<&'a Value>,
+    /// Whether the order compares each value.
+    all_compared: bool,
+    /// How many entries have no value.
+    nulls: u64,
+}
+
+fn extremes_of<'a, E: HasValue>(order: Option<Order>, entries: &'a [E]) -> Extremes<'a>
+    ensures least { option_map (λ m. view m.now) result.least ≡ pick_from (lesser order) None (values (map E.shown entries.now)) }
+    ensures greatest { option_map (λ m. view m.now) result.greatest ≡ pick_from (greater order) None (values (map E.shown entries.now)) }
+    ensures all_compared { result.all_compared ≡ list_all (is_compared order) (values (map E.shown entries.now)) }
+    ensures nulls { result.nulls ≡ null_count (map E.shown entries.now) }
+{
+    let mut least: Option<&'a Value> = None;
+    let mut greatest: Option<&'a Value> = None;
+    let mut all_compared = true;
+    let mut nulls = 0u64;
+    for entry in entries {
+        match entry.value() {
+            Some(value) => {
+                all_compared = all_compared && is_compared(order, value);
+                least = Some(lesser(order, value, least));
+                greatest = Some(greater(order, value, greatest));
+            }
+            None => nulls += 1,
+        }
+    }
+    Extremes {
+        least,
+        greatest,
+        all_compared,
+        nulls,
+    }
+}
+
+/// Whether the order compares a value.
+fn is_compared(order: Option<Order>, value: &Value) -> bool
+    ensures { result ≡ is_compared order (view value.now) }
+{
+    match (order, value) {
+        (Some(Order::Signed), Value::Int(_)) => true,
+        (Some(Order::Unsigned), Value::Int(_)) => true,
+        (Some(Order::FalseFirst), Value::Bool(_)) => true,
+        (Some(Order::Bytewise), Value::Bytes(_)) => true,
+        _ => false,
+    }
+}
+
+/// The lesser of two values.
+fn lesser<'a>(order: Option<Order>, value: &'a Value, other: Option<&'a Value>) -> &'a Value
+    ensures { view result.now ≡ picked (lesser order) (view value.now) (option_map (λ m. view m.now) other.entry) }
+{
+    match other {
+        None => value,
+        Some(m) => match compare_by(order, value, m) {
+            Some(Ordering::Less) => value,
+            _ => m,
+        },
+    }
+}
+
+/// The greater of two values.
+fn greater<'a>(order: Option<Order>, value: &'a Value, other: Option<&'a Value>) -> &'a Value
+    ensures { view result.now ≡ picked (greater order) (view value.now) (option_map (λ m. view m.now) other.entry) }
+{
+    match other {
+        None => value,
+        Some(m) => match compare_by(order, value, m) {
+            Some(Ordering::Greater) => value,
+            _ => m,
+        },
+    }
+}
+
+/// A copy of a value that is kept as a bound.
+fn bound(alloc: Global, all_compared: bool, value: Option<&Value>) -> R<Option<Value>>
+    ensures which { RefusedMemoryOnly result }
+    ensures copies { IfOk result (λ b. option_map view b ≡ kept all_compared (option_map (λ m. view m.now) value.entry)) }
+{
+    match value {
+        Some(value) if all_compared && is_within_limit(value) => Ok(Some(value.copied(alloc)?)),
+        _ => Ok(None),
+    }
+}
+
+/// Whether a value has few enough bytes to be kept as a bound.
+fn is_within_limit(value: &Value) -> bool
+    ensures { result ≡ is_within_limit (view value.now) }
+{
+    match value {
+        Value::Bytes(bytes) => bytes.len() <= MOST_BYTES_OF_BOUND,
+        _ => true,
+    }
+}

@@ -1,0 +1,15 @@
+//! Minimum, maximum and null count of columns (`parquet.thrift`, Statistics).
+//!
+//! `specs/Bounds.antt` says what statistics say of a column, and which value is a bound; `specs/Bytes.antt`
+//! which bytes a bound has.
+#![tactic(auto)]
+
+mod bytes;
+mod entry;
+mod extremes;
+mod stats;
+
+pub use bytes::{BoundBytes, one_bound};
+pub use entry::HasValue;
+pub use extremes::{bounds, bounds_of};
+pub use stats::{GroupStats, Stats};

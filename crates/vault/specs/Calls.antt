@@ -1,0 +1,79 @@
+-- What each call of the vault leaves.
+use Rattle.std.specs.Prelude.{◌≡◌, ◌≢◌, ◌≤◌, ◌<◌, ◌⊎◌, ◌^◌, ◌-◌, ◌+◌, ℕ, List, Result, OnOk, IfErr, IsErrOf}
+use Rattle.bits.specs.Refusals.{RefusedOnly}
+use Rattle.bits.specs.declared.refusal.Refusal.{Refusal}
+use Rattle.bits.specs.declared.refusal.Refusal.TheVariants.{Memory, InDoubt}
+use Rattle.disk.specs.State.{State, may_leave}
+use Rattle.disk.specs.declared.binding.Binding.TheVariants.{Folder}
+use Rattle.vault.specs.Views.{Same, AllBut, Swaps, LeavesAfter, LeavesNames, ReadsAs, WasKept, IsKept, IsRooted, StaysRooted, IsGone, root_path, next_path}
+use Rattle.vault.specs.Ways.{IsClearWay, StaysClear, AreRootsClear, LeavesWays, LeavesClear, IsOffTheRoots}
+
+-- the disk's failures grew, or their count stood at the greatest u64
+abbrev pub HasFailed : State → State → Type 0
+HasFailed old new = (old.failures < new.failures) ⊎ (2 ^ 64 - 1 ≤ old.failures)
+
+-- a call ends at its first failure; after Ok, and where it is refused out of memory, it met none
+pub record CountsOnce {T : Type 0} (result : Result T Refusal) (old new : State) : Type 0 where
+  pub later : old.failures ≤ new.failures
+  pub no_more : new.failures ≤ old.failures + 1
+  pub none : OnOk result (new.failures ≡ old.failures)
+  pub memory : IsErrOf result Memory → new.failures ≡ old.failures
+
+-- a refusal, out of memory aside, comes only where the disk failed
+abbrev pub OnlyFailed : {T : Type 0} → Result T Refusal → State → State → Type 0
+OnlyFailed result old new = RefusedOnly (λ _. HasFailed old new) result
+
+-- a call that only reads
+pub record LeavesAll (old new : State) : Type 0 where
+  pub moments : LeavesAfter Same old new
+  pub rooted : IsRooted old → StaysRooted old new
+  pub clear : LeavesWays old new
+  pub names : (q : List ℕ) → new.seen.names q ≡ old.seen.names q
+  pub seen : ReadsAs Same old new
+
+-- A file of these bytes is put at a path.
+pub record Puts {T : Type 0} (path bytes : List ℕ) (old new : State) (result : Result T Refusal) : Type 0 where
+  -- at every moment each other path has what it had
+  pub moments : LeavesAfter (AllBut path) old new
+  pub seen : ReadsAs (AllBut path) old new
+  pub kept : OnOk result (IsKept new path bytes)
+  pub rooted : IsRooted old → StaysRooted old new
+  -- nothing or a file stands at the path, whatever is answered
+  pub own : StaysClear old new path
+  pub clear : LeavesClear path old new
+  pub cause : OnlyFailed result old new
+
+-- The root is swapped for this one.
+pub record SwapsRoot {T : Type 0} (root : List ℕ) (old new : State) (result : Result T Refusal) : Type 0 where
+  -- at every moment the old root or the new one, whole
+  pub moments : LeavesAfter (Swaps root) old new
+  pub seen : ReadsAs (Swaps root) old new
+  pub done : OnOk result (IsKept new root_path root)
+  pub fresh : OnOk result (IsRooted new)
+  pub gone : OnOk result (IsGone new next_path)
+  -- refused before the rename: the old root, at every moment
+  pub unchanged : IfErr result (λ e. e ≢ InDoubt → LeavesAfter (AllBut next_path) old new)
+  -- by then the next root was whole in whatever a stop could leave
+  pub in_doubt : IfErr result (λ e. e ≡ InDoubt → WasKept next_path root old new)
+  pub rooted : IsRooted old → StaysRooted old new
+  -- no folder comes to stand at the root's two names, nor a file where a folder belongs
+  pub clear : (q : List ℕ) → IsOffTheRoots q → IsClearWay old q → StaysClear old new q
+  pub cause : AreRootsClear old → OnlyFailed result old new
+
+-- A path is let go.
+pub record Forgets {T : Type 0} (path : List ℕ) (old new : State) (result : Result T Refusal) : Type 0 where
+  pub moments : LeavesAfter (AllBut path) old new
+  pub seen : ReadsAs (AllBut path) old new
+  pub gone : OnOk result (IsGone new path)
+  pub others : LeavesNames path old new
+  pub rooted : IsRooted old → StaysRooted old new
+  pub clear : LeavesWays old new
+  -- a folder stays, and this is no failure of the disk
+  pub cause : old.seen.names path ≢ Folder → OnlyFailed result old new
+
+-- An opening: nothing changes at any moment but what stands at the next root's path.
+pub record Opens (old new : State) : Type 0 where
+  pub moments : LeavesAfter (AllBut next_path) old new
+  pub seen : ReadsAs (AllBut next_path) old new
+  pub rooted : IsRooted old → StaysRooted old new
+  pub clear : LeavesWays old new

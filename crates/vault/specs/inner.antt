@@ -1,0 +1,3 @@
+-- Definitions for private functions alone.
+pub mod Files
+pub mod Lists
