@@ -77,7 +77,7 @@ pub fn unpack_blocks<T: Kept>(bytes: &[u8], width: u32, n: usize, numbers: &mut 
     requires fits { width ≤ T.widest }
     requires empty { numbers.now.items ≡ [] }
     ensures stands { OnOk result (IsPacked bytes.now width (map T.seen numbers.new.items)) }
-    ensures few { OnOk result (length numbers.new.items ≤ n) }
+    ensures at_most { OnOk result (length numbers.new.items ≤ n) }
     ensures used { IfOk result (λ at. 8 * at ≡ length numbers.new.items * width) }
     ensures which { RefusedMemoryOnly result }
 {

@@ -47,7 +47,7 @@ pub fn zigzag(n: i64) -> u64
 
 /// The signed number at a place in 0, -1, 1, -2, 2 and so on: the one whose [`zigzag`] is `n`.
 pub fn unzigzag(n: u64) -> i64
-    ensures there { zigzag_of result ≡ n }
+    ensures undone { zigzag_of result ≡ n }
     ensures alone { (z : ℤ) → zigzag_of z ≡ n → result ≡ z }
 {
     let half = (n / 2) as i64;

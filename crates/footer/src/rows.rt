@@ -35,7 +35,7 @@ impl Rows {
 
     /// All rows that are left. Refused for memory alone. Time and memory are linear in their values.
     pub fn collected(self) -> R<Vec<Row>>
-        ensures is { IfOk result (λ rows. rows_view rows.items ≡ rows_left self) }
+        ensures rows_are { IfOk result (λ rows. rows_view rows.items ≡ rows_left self) }
         ensures which { RefusedOnly (λ _. ⊥) result }
     {
         match self.group {

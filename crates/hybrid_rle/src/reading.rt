@@ -51,8 +51,8 @@ fn take_run<T: Number>(
 ) -> R<usize>
     requires wide { width ≤ T.widest }
     requires room { vec_len numbers.old + left < 2 ^ 64 }
-    ensures taken { IfOk result (IsTaken (IsRun width) bytes.now left (map T.seen numbers.old.items) (map T.seen numbers.new.items)) }
-    ensures some { IfOk result (λ used. 0 < used) }
+    ensures numbers { IfOk result (IsTaken (IsRun width) bytes.now left (map T.seen numbers.old.items) (map T.seen numbers.new.items)) }
+    ensures progress { IfOk result (λ used. 0 < used) }
     ensures only { OnFault result (Lacks (IsRun width) bytes.now left) }
     ensures which { RefusedOnly (λ e. (e ≡ Refusal.Truncated) ⊎ (e ≡ Refusal.Thrift) ⊎ (e ≡ Refusal.Value)) result }
 {
@@ -78,7 +78,7 @@ fn take_repeated<T: Number>(
     requires wide { width ≤ T.widest }
     requires even { header % 2 ≡ 0 }
     requires room { vec_len numbers.old + left < 2 ^ 64 }
-    ensures taken { IfOk result (IsTaken (IsBody width header) bytes.now left (map T.seen numbers.old.items) (map T.seen numbers.new.items)) }
+    ensures numbers { IfOk result (IsTaken (IsBody width header) bytes.now left (map T.seen numbers.old.items) (map T.seen numbers.new.items)) }
     ensures only { OnFault result (Lacks (IsBody width header) bytes.now left) }
     ensures which { RefusedOnly (λ e. (e ≡ Refusal.Truncated) ⊎ (e ≡ Refusal.Value)) result }
 {
@@ -107,7 +107,7 @@ fn take_packed<T: Number>(
 ) -> R<usize>
     requires wide { width ≤ T.widest }
     requires odd { header % 2 ≡ 1 }
-    ensures taken { IfOk result (IsTaken (IsBody width header) bytes.now left (map T.seen numbers.old.items) (map T.seen numbers.new.items)) }
+    ensures numbers { IfOk result (IsTaken (IsBody width header) bytes.now left (map T.seen numbers.old.items) (map T.seen numbers.new.items)) }
     ensures only { OnFault result (Lacks (IsBody width header) bytes.now left) }
     ensures which { RefusedOnly (λ e. e ≡ Refusal.Truncated) result }
 {

@@ -88,7 +88,7 @@ fn count_equal<T: Number>(numbers: &[T]) -> usize
 /// numbers, or all.
 fn count_to_pack<T: Number>(numbers: &[T]) -> usize
     ensures within { result ≤ length numbers.now }
-    ensures some { 0 < length numbers.now → 0 < result }
+    ensures progress { 0 < length numbers.now → 0 < result }
     ensures groups { result < length numbers.now → result % 8 ≡ 0 }
 {
     for group in 1..numbers.len().div_ceil(8) {

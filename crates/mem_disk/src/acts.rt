@@ -30,7 +30,7 @@ impl Held {
         ensures passes { trip ≡ Trip.Passes → IsErrOf result Failed → ⊥ }
         ensures nothing { trip ≡ Trip.Fails Done.Nothing → self.new.calls.items ≡ self.old.calls.items }
         ensures extent { IsVacant (image_of (replayed empty self.old.calls.items)) path.now → HasDone (taken (λ l. bound l path.now (File (length self.old.nodes.items)))) trip self.old.calls.items self.new.calls.items (IsErrOf result Memory) }
-        ensures short { IsErrOf result Memory → IsToBeDone trip (IsVacant (image_of (replayed empty self.old.calls.items)) path.now) }
+        ensures out_of_memory { IsErrOf result Memory → IsToBeDone trip (IsVacant (image_of (replayed empty self.old.calls.items)) path.now) }
         ensures whole { OnOk result (replayed empty self.new.calls.items ≡ bound (replayed empty self.old.calls.items) path.now (File (length self.old.nodes.items))) }
         ensures unable { (IsVacant (image_of (replayed empty self.old.calls.items)) path.now → ⊥) → self.new.calls.items ≡ self.old.calls.items }
     {
@@ -58,7 +58,7 @@ impl Held {
         ensures passes { trip ≡ Trip.Passes → IsErrOf result Failed → ⊥ }
         ensures nothing { trip ≡ Trip.Fails Done.Nothing → self.new.calls.items ≡ self.old.calls.items }
         ensures extent { IsVacant (image_of (replayed empty self.old.calls.items)) path.now → HasDone (taken (λ l. bound l path.now Folder)) trip self.old.calls.items self.new.calls.items (IsErrOf result Memory) }
-        ensures short { IsErrOf result Memory → IsToBeDone trip (IsVacant (image_of (replayed empty self.old.calls.items)) path.now) }
+        ensures out_of_memory { IsErrOf result Memory → IsToBeDone trip (IsVacant (image_of (replayed empty self.old.calls.items)) path.now) }
         ensures whole { IsVacant (image_of (replayed empty self.old.calls.items)) path.now → OnOk result (replayed empty self.new.calls.items ≡ bound (replayed empty self.old.calls.items) path.now Folder) }
         ensures unable { (IsVacant (image_of (replayed empty self.old.calls.items)) path.now → ⊥) → self.new.calls.items ≡ self.old.calls.items }
     {
@@ -83,7 +83,7 @@ impl Held {
         ensures nothing { trip ≡ Trip.Fails Done.Nothing → self.new.calls.items ≡ self.old.calls.items }
         ensures passes { trip ≡ Trip.Passes → IsErrOf result Failed → ⊥ }
         ensures extent { IsFile (image_of (replayed empty self.old.calls.items)) path.now → HasDone (taken (λ l. bound l path.now binding.Nothing)) trip self.old.calls.items self.new.calls.items (IsErrOf result Memory) }
-        ensures short { IsErrOf result Memory → IsToBeDone trip (IsFile (image_of (replayed empty self.old.calls.items)) path.now) }
+        ensures out_of_memory { IsErrOf result Memory → IsToBeDone trip (IsFile (image_of (replayed empty self.old.calls.items)) path.now) }
         ensures whole { OnOk result (replayed empty self.new.calls.items ≡ bound (replayed empty self.old.calls.items) path.now binding.Nothing) }
         ensures unable { (IsFile (image_of (replayed empty self.old.calls.items)) path.now → ⊥) → self.new.calls.items ≡ self.old.calls.items }
     {
@@ -105,7 +105,7 @@ impl Held {
         ensures nothing { trip ≡ Trip.Fails Done.Nothing → self.new.calls.items ≡ self.old.calls.items }
         ensures passes { trip ≡ Trip.Passes → IsErrOf result Failed → ⊥ }
         ensures extent { IsMovable (image_of (replayed empty self.old.calls.items)) source.now target.now → HasDone (moved source.now target.now) trip self.old.calls.items self.new.calls.items (IsErrOf result Memory) }
-        ensures short { IsErrOf result Memory → IsToBeDone trip (IsMovable (image_of (replayed empty self.old.calls.items)) source.now target.now) }
+        ensures out_of_memory { IsErrOf result Memory → IsToBeDone trip (IsMovable (image_of (replayed empty self.old.calls.items)) source.now target.now) }
         ensures whole { OnOk result (replayed empty self.new.calls.items ≡ moved source.now target.now Done.Whole (replayed empty self.old.calls.items)) }
         ensures unable { (IsMovable (image_of (replayed empty self.old.calls.items)) source.now target.now → ⊥) → self.new.calls.items ≡ self.old.calls.items }
     {
@@ -142,7 +142,7 @@ impl Held {
         ensures passes { trip ≡ Trip.Passes → IsErrOf result Failed → ⊥ }
         ensures nothing { trip ≡ Trip.Fails Done.Nothing → self.new.calls.items ≡ self.old.calls.items }
         ensures extent { (n : ℕ) → (replayed empty self.old.calls.items).names path.now ≡ File n → HasDone (written n bytes.now) trip self.old.calls.items self.new.calls.items (IsErrOf result Memory) }
-        ensures short { IsErrOf result Memory → IsToBeDone trip (IsFile (image_of (replayed empty self.old.calls.items)) path.now) }
+        ensures out_of_memory { IsErrOf result Memory → IsToBeDone trip (IsFile (image_of (replayed empty self.old.calls.items)) path.now) }
         ensures whole { (n : ℕ) → (replayed empty self.old.calls.items).names path.now ≡ File n → OnOk result (replayed empty self.new.calls.items ≡ appended (replayed empty self.old.calls.items) n bytes.now) }
         ensures unable { (IsFile (image_of (replayed empty self.old.calls.items)) path.now → ⊥) → self.new.calls.items ≡ self.old.calls.items }
     {
@@ -177,7 +177,7 @@ impl Held {
         ensures doubt { IsErrOf result Failed → (n : ℕ) × ((replayed empty self.old.calls.items).names path.now ≡ File n) × ((replayed empty self.new.calls.items).doubted n ≡ true) }
         ensures nothing { trip ≡ Trip.Fails Done.Nothing → (replayed empty self.new.calls.items).synced ≡ (replayed empty self.old.calls.items).synced }
         ensures extent { (n : ℕ) → (replayed empty self.old.calls.items).names path.now ≡ File n → (replayed empty self.old.calls.items).doubted n ≡ false → HasDone (doubtful n) trip self.old.calls.items self.new.calls.items (IsErrOf result Memory) }
-        ensures short { IsErrOf result Memory → IsSureFile (replayed empty self.old.calls.items) path.now }
+        ensures out_of_memory { IsErrOf result Memory → IsSureFile (replayed empty self.old.calls.items) path.now }
         ensures whole { (n : ℕ) → (replayed empty self.old.calls.items).names path.now ≡ File n → (replayed empty self.old.calls.items).doubted n ≡ false → OnOk result (replayed empty self.new.calls.items ≡ node_synced (replayed empty self.old.calls.items) n) }
         ensures unable { (IsSureFile (replayed empty self.old.calls.items) path.now → ⊥) → self.new.calls.items ≡ self.old.calls.items }
     {
@@ -223,7 +223,7 @@ impl Held {
         ensures passes { trip ≡ Trip.Passes → IsErrOf result Failed → ⊥ }
         ensures nothing { trip ≡ Trip.Fails Done.Nothing → self.new.calls.items ≡ self.old.calls.items }
         ensures extent { (replayed empty self.old.calls.items).names folder.now ≡ Folder → HasDone (taken (λ l. folder_synced l folder.now)) trip self.old.calls.items self.new.calls.items (IsErrOf result Memory) }
-        ensures short { IsErrOf result Memory → IsToBeDone trip ((replayed empty self.old.calls.items).names folder.now ≡ Folder) }
+        ensures out_of_memory { IsErrOf result Memory → IsToBeDone trip ((replayed empty self.old.calls.items).names folder.now ≡ Folder) }
         ensures whole { OnOk result (replayed empty self.new.calls.items ≡ folder_synced (replayed empty self.old.calls.items) folder.now) }
         ensures unable { (((replayed empty self.old.calls.items).names folder.now ≡ Folder) → ⊥) → self.new.calls.items ≡ self.old.calls.items }
     {

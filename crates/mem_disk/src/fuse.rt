@@ -77,7 +77,7 @@ impl Fuse {
 
 /// Counts a refused growth, where the call is to fail.
 pub fn count_shortage(shortages: &mut u64, trip: Trip, done: &Result<(), Fault>)
-    ensures short { trip ≢ Trip.Passes → IsErrOf done.now Memory → IsOneMore shortages.old shortages.new }
+    ensures out_of_memory { trip ≢ Trip.Passes → IsErrOf done.now Memory → IsOneMore shortages.old shortages.new }
     ensures passes { trip ≡ Trip.Passes → shortages.new ≡ shortages.old }
     ensures others { (IsErrOf done.now Memory → ⊥) → shortages.new ≡ shortages.old }
 {
@@ -92,7 +92,7 @@ pub fn count_shortage(shortages: &mut u64, trip: Trip, done: &Result<(), Fault>)
 /// What a call that answers no Memory tells: a refused growth as a failure, which is counted as a shortage.
 pub fn tell_shortage(shortages: &mut u64, done: Result<(), Fault>) -> Result<(), Fault>
     ensures told { result ≡ told_as done }
-    ensures short { IsErrOf done Memory → IsOneMore shortages.old shortages.new }
+    ensures out_of_memory { IsErrOf done Memory → IsOneMore shortages.old shortages.new }
     ensures others { (IsErrOf done Memory → ⊥) → shortages.new ≡ shortages.old }
 {
     let Err(Fault::Memory) = done else {

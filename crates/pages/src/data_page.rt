@@ -37,8 +37,8 @@ pub fn read_data_page(
 ) -> R<Vec<Entry>>
     ensures stands { IfOk result (λ es. IsBodyV1 (leaf_view leaf.now) (option_map (λ d. map view d.now) dictionary.entry) (data_page_header_view header.now) body.now (map entry_view es.items)) }
     ensures alone { IfOk result (λ es. (fs : List EntryShown) → IsBodyV1 (leaf_view leaf.now) (option_map (λ d. map view d.now) dictionary.entry) (data_page_header_view header.now) body.now fs → fs ≡ map entry_view es.items) }
-    ensures few { IfOk result (λ es. length (map entry_view es.items) ≤ left) }
-    ensures short { OnOk result (IsDataOver (leaf_view leaf.now) (data_page_header_view header.now) body.now → ⊥) }
+    ensures at_most_left { IfOk result (λ es. length (map entry_view es.items) ≤ left) }
+    ensures within_limits { OnOk result (IsDataOver (leaf_view leaf.now) (data_page_header_view header.now) body.now → ⊥) }
     ensures only { OnFault result ((fs : List EntryShown) → IsBodyV1 (leaf_view leaf.now) (option_map (λ d. map view d.now) dictionary.entry) (data_page_header_view header.now) body.now fs → length fs ≤ left → ⊥) }
     ensures limit { result ≡ Err Refusal.Limit → IsDataOver (leaf_view leaf.now) (data_page_header_view header.now) body.now ⊎ IsDataToCome (leaf_view leaf.now) (option_map (λ d. map view d.now) dictionary.entry) (data_page_header_view header.now) body.now }
     ensures which { RefusedOnly IsOfPages result }
@@ -57,7 +57,7 @@ pub fn read_data_page(
 /// How many entries the page has. Refused Page where that is below 0 or above `left`.
 fn checked_count(number: i32, left: usize) -> R<usize>
     ensures stands { IfOk result (λ count. number ≡ pos count) }
-    ensures few { IfOk result (λ count. count ≤ left) }
+    ensures at_most_left { IfOk result (λ count. count ≤ left) }
     ensures only { OnFault result ((count : ℕ) → number ≡ pos count → count ≤ left → ⊥) }
     ensures which { RefusedOnly (λ e. e ≡ Refusal.Page) result }
 {
@@ -82,7 +82,7 @@ fn read_values(
     ensures count { IfOk result (λ es. length (map entry_value es.items) ≡ count) }
     ensures of_kind { IfOk result (λ es. All (IsOfKind kind) (map entry_value es.items)) }
     ensures alone { IfOk result (λ es. (ws : List ValueTree) → length ws ≡ count → Spell (AreValues (option_map (λ d. map view d.now) dictionary.entry) kind encoding) text.now ws → ws ≡ map entry_value es.items) }
-    ensures short { OnOk result (IsValueOver kind encoding text.now count → ⊥) }
+    ensures within_limits { OnOk result (IsValueOver kind encoding text.now count → ⊥) }
     ensures only { OnFault result ((ws : List ValueTree) → length ws ≡ count → Spell (AreValues (option_map (λ d. map view d.now) dictionary.entry) kind encoding) text.now ws → ⊥) }
     ensures limit { result ≡ Err Refusal.Limit → IsValueOver kind encoding text.now count ⊎ ((0 < count) × IsEncodingToCome (option_map (λ d. map view d.now) dictionary.entry) kind encoding) }
     ensures which { RefusedOnly (λ e. (e ≡ Refusal.Truncated) ⊎ (e ≡ Refusal.Encoding) ⊎ (e ≡ Refusal.Limit)) result }

@@ -13,13 +13,13 @@ mod entry;
 mod laws;
 mod limits;
 mod page;
-mod reading;
-mod writing;
+mod read_page;
+mod write_page;
 
 pub use encoding::Encoding;
 pub use entry::EntryRef;
 pub use laws::{one_page, pages_of_a_dictionary, worked_examples};
 pub use limits::MOST_BYTES_OF_PAGE;
 pub use page::PageRef;
-pub use reading::read_page;
-pub use writing::write_page;
+pub use read_page::read_page;
+pub use write_page::write_page;

@@ -2,8 +2,8 @@
 use Rattle.std.specs.Prelude.{◌≡◌, ℕ, List, [], ◌∷◌, Option, Some, None, String, string_bytes, codes, bytes_eq, if◌then◌else◌}
 use Rattle.footer.specs.declared.options.Style.{Style}
 use Rattle.footer.specs.declared.options.Style.TheVariants.{Plain, Dictionary, Delta, Lengths}
-use Rattle.pqds.specs.declared.usage.Call.{Call}
-use Rattle.pqds.specs.declared.usage.Call.TheVariants.{Decode, Encode}
+use Rattle.pqds.specs.declared.arguments.Call.{Call}
+use Rattle.pqds.specs.declared.arguments.Call.TheVariants.{Decode, Encode}
 use Rattle.pqds.specs.Program.{WritesRowsOf, HaveFile}
 
 -- the first of the words

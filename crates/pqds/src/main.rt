@@ -1,14 +1,16 @@
 //! The program `pqds`.
 //!
-//! [`working::work`] is all of it, over two writers; `main` hands it the words of the command line.
+//! [`work::work`] is all of it, over two writers; `main` hands it the words of the command line.
 //! `specs/Json.antt` says which line a row has, `specs/Reading.antt` which row a line is,
 //! `specs/SchemaJson.antt` which schema a text is, `specs/SchemaPrinted.antt` how one is printed,
 //! `specs/Program.antt` and `specs/Words.antt` what a call does.
 #![tactic(auto)]
 
+mod arguments;
+mod decode;
+mod encode;
 #[cfg(test)]
 mod encode_tests;
-mod encoding;
 mod help;
 mod host;
 #[cfg(test)]
@@ -16,7 +18,6 @@ mod host_tests;
 #[cfg(test)]
 mod json_tests;
 mod jsonrows;
-mod lines;
 mod one_line;
 mod schema_notes;
 mod schema_reading;
@@ -24,10 +25,9 @@ mod schema_reading;
 mod schema_reading_tests;
 #[cfg(test)]
 mod tests;
-mod usage;
 #[cfg(test)]
 mod usage_tests;
-mod working;
+mod work;
 
 use bits::{R, Refusal};
 use std::env;
@@ -44,7 +44,7 @@ fn run(rt: &HostRuntime) -> R<u8> {
     let words: Vec<String> = words.skip(1).collect(alloc)?;
     let gathered = BufWriter::with_capacity(alloc, GATHERED, rt.stdout());
     let mut out = gathered.map_err(host::refusal_of)?;
-    let status = working::work(rt, alloc, words.as_slice(), &mut out, &mut rt.stderr());
+    let status = work::work(rt, alloc, words.as_slice(), &mut out, &mut rt.stderr());
     // What could not be written is not tried once more.
     drop(out.into_parts());
     Ok(status)
@@ -53,7 +53,7 @@ fn run(rt: &HostRuntime) -> R<u8> {
 fn main(rt: HostRuntime) -> ExitCode {
     let status = match run(&rt) {
         Ok(status) => status,
-        Err(refusal) => working::refuse(&mut rt.stderr(), &refusal),
+        Err(refusal) => work::refuse(&mut rt.stderr(), &refusal),
     };
     ExitCode::from(status)
 }

@@ -1,6 +1,6 @@
 //! The program, called as `work`.
 
-use crate::working::work;
+use crate::work::work;
 use bits::R;
 use std::alloc::Global;
 use std::fs;

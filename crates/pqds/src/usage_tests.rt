@@ -1,7 +1,7 @@
 //! What the arguments say.
 
+use crate::arguments::{Call, call_of};
 use crate::tests::owned;
-use crate::usage::{Call, call_of};
 use bits::R;
 use footer::{Style, WriteOptions};
 use std::alloc::Global;

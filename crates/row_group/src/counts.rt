@@ -18,8 +18,8 @@ pub fn natural(number: i64) -> Option<usize>
 
 /// A count of at most so many. Refused Page below 0, and Limit above.
 pub fn count_of(number: i64, most: i64) -> R<usize>
-    ensures is { IfOk result (λ n. number ≡ pos n) }
-    ensures short { OnOk result (most <ℤ number → ⊥) }
+    ensures count_is { IfOk result (λ n. number ≡ pos n) }
+    ensures within_limits { OnOk result (most <ℤ number → ⊥) }
     ensures only { OnFault result ((n : ℕ) → number ≡ pos n → ⊥) }
     ensures limit { result ≡ Err Refusal.Limit → most <ℤ number }
     ensures which { RefusedOnly IsOfPages result }

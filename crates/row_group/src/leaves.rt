@@ -10,7 +10,7 @@ use schema::Leaf;
 
 /// Whether a leaf is below a group, or not REQUIRED.
 pub fn is_any_to_come(leaves: &[Leaf]) -> bool
-    ensures some { result ≡ true → Any IsLeafToCome (map leaf_view leaves.now) }
+    ensures to_come { result ≡ true → Any IsLeafToCome (map leaf_view leaves.now) }
     ensures none { result ≡ false → AllByRecursion IsLeafRead (map leaf_view leaves.now) }
 {
     for leaf in leaves {

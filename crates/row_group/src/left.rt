@@ -13,7 +13,7 @@ use std::vec::IntoIter;
 
 /// The entries of each column, all of them left; they are moved, not copied.
 pub fn entries_of_each(alloc: Global, columns: Vec<Column>) -> R<Vec<IntoIter<Entry>>>
-    ensures is { IfOk result (λ left. columns_left left.items ≡ columns_view columns.items) }
+    ensures left_are { IfOk result (λ left. columns_left left.items ≡ columns_view columns.items) }
     ensures which { RefusedOnly (λ _. ⊥) result }
 {
     let left = columns

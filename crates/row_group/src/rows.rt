@@ -12,11 +12,11 @@ ghost use Rattle.row_group.specs.Chunks.{GroupMeans};
 ghost use Rattle.row_group.specs.Limits.{IsGroupOver, IsGroupToCome, HasCodec, IsOfChunks};
 ghost use Rattle.row_group.specs.Moving.{HasCount, columns_left};
 
-use crate::column::read_columns;
 use crate::counts::count_of;
 use crate::leaves::is_any_to_come;
 use crate::left::{entries_of_each, next_row};
 use crate::limits::MOST_ROWS_OF_GROUP;
+use crate::read_columns::read_columns;
 use bits::{R, Refusal};
 use metadata::GroupMeta;
 use schema::{Entry, Row, Schema, columns_determine_rows};
@@ -51,7 +51,7 @@ impl Rows {
     pub fn of_group(alloc: Global, front: &[u8], meta: &GroupMeta, schema: &Schema) -> R<Rows>
         ensures stands { IfOk result (λ rows. GroupMeans front.now schema.now (group_meta_view meta.now) (rows_left rows)) }
         ensures alone { IfOk result (λ rows. (others : List ValueTrees) → GroupMeans front.now schema.now (group_meta_view meta.now) others → others ≡ rows_left rows) }
-        ensures short { OnOk result (IsGroupOver front.now schema.now (group_meta_view meta.now) → ⊥) }
+        ensures within_limits { OnOk result (IsGroupOver front.now schema.now (group_meta_view meta.now) → ⊥) }
         ensures only { OnFault result ((rows : List ValueTrees) → GroupMeans front.now schema.now (group_meta_view meta.now) rows → ⊥) }
         ensures limit { result ≡ Err Refusal.Limit → IsGroupOver front.now schema.now (group_meta_view meta.now) ⊎ IsGroupToCome front.now schema.now (group_meta_view meta.now) }
         ensures codec { result ≡ Err Refusal.Codec → HasCodec (group_meta_view meta.now) }
@@ -93,7 +93,7 @@ impl Rows {
     /// for at the start, and room for each row's values as it is made; refused for memory alone. The time
     /// is linear in their values.
     pub fn collected(mut self) -> R<Vec<Row>>
-        ensures is { IfOk result (λ rows. rows_view rows.items ≡ rows_left self) }
+        ensures rows_are { IfOk result (λ rows. rows_view rows.items ≡ rows_left self) }
         ensures which { RefusedOnly (λ _. ⊥) result }
     {
         let mut rows = Vec::with_capacity(self.alloc, self.left)?;

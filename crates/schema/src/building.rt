@@ -49,7 +49,7 @@ pub fn repetition_of(number: Option<i32>) -> Option<Repetition>
 
 /// The type by its number, and by the length of fixed values, which is at least 1.
 fn type_of(number: i32, type_length: Option<i32>) -> Option<Typed>
-    ensures is { result ≡ typed number type_length }
+    ensures type_is { result ≡ typed number type_length }
     ensures length { HasTypedLength result }
 {
     match number {

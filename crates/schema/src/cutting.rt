@@ -30,7 +30,7 @@ pub fn are_below(places: &[usize], count: usize) -> bool
 /// Marks at these places, each of which is below the count.
 pub fn marks_at(alloc: Global, places: &[usize], count: usize) -> R<Vec<bool>>
     requires { AllByRecursion (λ place. place < count) places.now }
-    ensures are { IfOk result (λ marks. AreMarks places.now count marks.items) }
+    ensures marked { IfOk result (λ marks. AreMarks places.now count marks.items) }
     ensures which { RefusedOnly (λ _. ⊥) result }
 {
     let mut marks = vec![in alloc; false; count]?;
@@ -62,7 +62,7 @@ fn group_of(
     annotation: Option<GroupAnnotation>,
     fields: Vec<Field>,
 ) -> R<Option<Field>>
-    ensures is { IfOk result (λ f. option_map field_view f ≡ group_of name.now repetition annotation (field_views fields.items)) }
+    ensures group_is { IfOk result (λ f. option_map field_view f ≡ group_of name.now repetition annotation (field_views fields.items)) }
     ensures which { RefusedOnly (λ _. ⊥) result }
 {
     if fields.is_empty() {
@@ -93,7 +93,7 @@ fn push_kept(out: &mut Vec<Field>, field: Option<Field>) -> R<()>
 #[cycle(cutting)]
 fn cut(alloc: Global, wanted: &[bool], at: usize, field: &Field) -> R<(Option<Field>, usize)>
     requires few { at + count_leaves (field_view field.now) ≤ length wanted.now }
-    ensures is { IfOk result (λ x. option_map field_view x.0 ≡ cut (is_marked wanted.now) at (field_view field.now)) }
+    ensures cut_is { IfOk result (λ x. option_map field_view x.0 ≡ cut (is_marked wanted.now) at (field_view field.now)) }
     ensures behind { IfOk result (λ x. x.1 ≡ at + count_leaves (field_view field.now)) }
     ensures which { RefusedOnly (λ _. ⊥) result }
 {
@@ -132,7 +132,7 @@ pub fn cut_each(
     fields: &[Field],
 ) -> R<(Vec<Field>, usize)>
     requires few { at + count_leaves_each (field_views fields.now) ≤ length wanted.now }
-    ensures is { IfOk result (λ x. field_views x.0.items ≡ cut_each (is_marked wanted.now) at (field_views fields.now)) }
+    ensures fields_are { IfOk result (λ x. field_views x.0.items ≡ cut_each (is_marked wanted.now) at (field_views fields.now)) }
     ensures behind { IfOk result (λ x. x.1 ≡ at + count_leaves_each (field_views fields.now)) }
     ensures which { RefusedOnly (λ _. ⊥) result }
 {

@@ -17,7 +17,7 @@ use std::rc::RcStr;
 
 /// What a field adds to the greatest definition level of the leaves below it.
 fn definitions(repetition: Repetition) -> u32
-    ensures is { result ≡ definitions repetition }
+    ensures level_is { result ≡ definitions repetition }
     ensures small { result ≤ 1 }
 {
     match repetition {
@@ -28,7 +28,7 @@ fn definitions(repetition: Repetition) -> u32
 
 /// What a field adds to the greatest repetition level of the leaves below it.
 fn repetitions(repetition: Repetition) -> u32
-    ensures is { result ≡ repetitions repetition }
+    ensures level_is { result ≡ repetitions repetition }
     ensures small { result ≤ 1 }
 {
     match repetition {
@@ -90,7 +90,7 @@ pub fn copied_type(alloc: Global, leaf_type: &LeafType) -> R<LeafType>
 /// The names, which are shared and not copied, and one more.
 fn path_down(alloc: Global, path: &[RcStr], name: &str) -> R<Vec<RcStr>>
     requires { length path.now < 2 ^ 32 }
-    ensures is { IfOk result (λ down. map rc_str_bytes down.items ≡ map rc_str_bytes path.now ++ name.now ∷ []) }
+    ensures path_is { IfOk result (λ down. map rc_str_bytes down.items ≡ map rc_str_bytes path.now ++ name.now ∷ []) }
     ensures len { IfOk result (λ down. length down.items ≡ length path.now + 1) }
     ensures which { RefusedOnly (λ _. ⊥) result }
 {
@@ -104,7 +104,7 @@ fn path_down(alloc: Global, path: &[RcStr], name: &str) -> R<Vec<RcStr>>
 
 /// The steps, and one more.
 fn steps_down(alloc: Global, steps: &[Step], step: Step) -> R<Vec<Step>>
-    ensures is { IfOk result (λ down. down.items ≡ steps.now ++ step ∷ []) }
+    ensures steps_are { IfOk result (λ down. down.items ≡ steps.now ++ step ∷ []) }
     ensures which { RefusedOnly (λ _. ⊥) result }
 {
     let mut down = Vec::from_slice(alloc, steps)?;
@@ -115,7 +115,7 @@ fn steps_down(alloc: Global, steps: &[Step], step: Step) -> R<Vec<Step>>
 /// The leaf at the end of a way.
 fn leaf_of(alloc: Global, path: Vec<RcStr>, steps: Vec<Step>, leaf_type: &LeafType) -> R<Leaf>
     requires { length steps.items < 2 ^ 32 }
-    ensures is { IfOk result (λ l. leaf_view l ≡ leaf_at (map rc_str_bytes path.items) (map step_view steps.items) (leaf_type_view leaf_type.now)) }
+    ensures leaf_is { IfOk result (λ l. leaf_view l ≡ leaf_at (map rc_str_bytes path.items) (map step_view steps.items) (leaf_type_view leaf_type.now)) }
     ensures which { RefusedOnly (λ _. ⊥) result }
 {
     let leaf_type = copied_type(alloc, leaf_type)?;
@@ -191,7 +191,7 @@ fn push_each(
 /// The leaves below the fields of a root.
 pub fn leaves_of(alloc: Global, fields: &[Field]) -> R<Vec<Leaf>>
     requires { tallest (field_views fields.now) ≤ 32 }
-    ensures is { IfOk result (λ leaves. map leaf_view leaves.items ≡ leaves_of (field_views fields.now)) }
+    ensures leaves_are { IfOk result (λ leaves. map leaf_view leaves.items ≡ leaves_of (field_views fields.now)) }
     ensures which { RefusedOnly (λ _. ⊥) result }
 {
     let mut leaves = Vec::new(alloc);

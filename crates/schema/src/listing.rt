@@ -62,7 +62,7 @@ fn converted_number(annotation: &Annotation) -> Option<i32>
 }
 
 fn logical_struct(alloc: Global, annotation: &Annotation) -> R<Option<Tree>>
-    ensures is { IfOk result (λ tree. option_map tree_view tree ≡ logical_struct (annotation_view annotation.now)) }
+    ensures tree_is { IfOk result (λ tree. option_map tree_view tree ≡ logical_struct (annotation_view annotation.now)) }
     ensures which { RefusedOnly (λ _. ⊥) result }
 {
     match annotation {
@@ -82,7 +82,7 @@ fn leaf_element(
     leaf_type: &LeafType,
 ) -> R<Element>
     requires { HasLength leaf_type.now.kind }
-    ensures is { IfOk result (λ e. element_view e ≡ leaf_element name.now repetition (leaf_type_view leaf_type.now)) }
+    ensures element_is { IfOk result (λ e. element_view e ≡ leaf_element name.now repetition (leaf_type_view leaf_type.now)) }
     ensures which { RefusedOnly (λ _. ⊥) result }
 {
     let name = Vec::from_slice(alloc, name.as_bytes())?;
@@ -110,7 +110,7 @@ fn group_element(
     children: usize,
 ) -> R<Element>
     requires { children < 2 ^ 31 }
-    ensures is { IfOk result (λ e. element_view e ≡ group_element name.now repetition_type converted_type children) }
+    ensures element_is { IfOk result (λ e. element_view e ≡ group_element name.now repetition_type converted_type children) }
     ensures which { RefusedOnly (λ _. ⊥) result }
 {
     let name = Vec::from_slice(alloc, name.as_bytes())?;
@@ -186,7 +186,7 @@ fn push_listings(alloc: Global, out: &mut Vec<Element>, fields: &[Field]) -> R<(
 pub fn elements_of(alloc: Global, fields: &[Field]) -> R<Vec<Element>>
     requires valid { AreValid (field_views fields.now) }
     requires within { length (leaves_of (field_views fields.now)) ≤ 1024 }
-    ensures is { IfOk result (λ elements. elements_view elements.items ≡ elements_of (field_views fields.now)) }
+    ensures elements_are { IfOk result (λ elements. elements_view elements.items ≡ elements_of (field_views fields.now)) }
     ensures which { RefusedOnly (λ _. ⊥) result }
 {
     let root = group_element(alloc, ROOT, None, None, fields.len())?;

@@ -49,7 +49,7 @@ fn may_have(element: &Element) -> bool
 
 /// How many trees a list is, one behind the other, where each element has the children that it says.
 fn count_trees(elements: &[Element]) -> Option<usize>
-    ensures some { MatchOption result (well_formed (elements_view elements.now) ≡ false) (λ n. (well_formed (elements_view elements.now) ≡ true) × (n ≡ count_branches (forest (elements_view elements.now)))) }
+    ensures counted { MatchOption result (well_formed (elements_view elements.now) ≡ false) (λ n. (well_formed (elements_view elements.now) ≡ true) × (n ≡ count_branches (forest (elements_view elements.now)))) }
 {
     let mut trees = 0;
     let mut at = elements.len();
@@ -93,7 +93,7 @@ impl Field {
 /// Whether no two of the fields have one name. Each name is looked up, in order, among those behind it: for n
 /// names about n log n comparisons.
 pub fn names_differ(alloc: Global, fields: &[Field]) -> R<bool>
-    ensures is { IfOk result (λ b. IsTrue b ↔ AllDiffer (names (field_views fields.now))) }
+    ensures names_differ { IfOk result (λ b. IsTrue b ↔ AllDiffer (names (field_views fields.now))) }
     ensures which { RefusedOnly (λ _. ⊥) result }
 {
     let mut behind = BTreeSet::new(alloc);
@@ -152,7 +152,7 @@ fn read_field(alloc: Global, elements: &[Element], at: usize, deep: u32) -> R<(F
     requires some { at < length elements.now }
     requires well { well_formed (elements_view (drop at elements.now)) ≡ true }
     ensures stands { IfOk result (λ x. OnFirst (forest (elements_view (drop at elements.now))) (λ b bs. IsRead deep b (field_view x.0) × (forest (elements_view (drop x.1 elements.now)) ≡ bs))) }
-    ensures well { IfOk result (λ x. well_formed (elements_view (drop x.1 elements.now)) ≡ true) }
+    ensures well_formed { IfOk result (λ x. well_formed (elements_view (drop x.1 elements.now)) ≡ true) }
     ensures which { IfErr result (λ e. OnFirst (forest (elements_view (drop at elements.now))) (λ b bs. IsFaultOf deep b e)) }
 {
     let element = &elements[at];
@@ -188,7 +188,7 @@ pub fn read_fields(
     requires well { well_formed (elements_view (drop at elements.now)) ≡ true }
     ensures stands { IfOk result (λ x. AreRead deep (take_branches count (forest (elements_view (drop at elements.now)))) (field_views x.0.items)) }
     ensures behind { IfOk result (λ x. forest (elements_view (drop x.1 elements.now)) ≡ drop_branches count (forest (elements_view (drop at elements.now)))) }
-    ensures well { IfOk result (λ x. well_formed (elements_view (drop x.1 elements.now)) ≡ true) }
+    ensures well_formed { IfOk result (λ x. well_formed (elements_view (drop x.1 elements.now)) ≡ true) }
     ensures which { IfErr result (IsFaultAmong deep (take_branches count (forest (elements_view (drop at elements.now))))) }
 {
     let mut fields = Vec::new(alloc);
@@ -215,7 +215,7 @@ fn is_tree(elements: &[Element]) -> bool
 pub fn fields_of(alloc: Global, elements: &[Element]) -> R<Vec<Field>>
     ensures stands { IfOk result (λ fields. IsSchemaOf (elements_view elements.now) (field_views fields.items)) }
     ensures within { IfOk result (λ fields. IsWithinLimits (field_views fields.items)) }
-    ensures short { IfOk result (λ fields. tallest (field_views fields.items) ≤ 32) }
+    ensures shallow { IfOk result (λ fields. tallest (field_views fields.items) ≤ 32) }
     ensures which { IfErr result (HasFault (elements_view elements.now)) }
 {
     if !is_tree(elements) {

@@ -74,7 +74,7 @@ impl Schema {
     pub fn new(alloc: Global, elements: &[Element]) -> R<Schema>
         ensures stands { IfOk result (λ fs. IsSchemaOf (elements_view elements.now) fs) }
         ensures within { IfOk result (λ fs. IsWithinLimits fs) }
-        ensures short { OnOk result (IsTooLarge (elements_view elements.now) → ⊥) }
+        ensures within_limits { OnOk result (IsTooLarge (elements_view elements.now) → ⊥) }
         ensures only { OnFault result ((fs : Fields) → IsSchemaOf (elements_view elements.now) fs → ⊥) }
         ensures which { IfErr result (HasFault (elements_view elements.now)) }
     {
@@ -86,8 +86,8 @@ impl Schema {
     fn of_fields(alloc: Global, fields: Vec<Field>) -> R<Schema>
         requires valid { IsSchema (field_views fields.items) }
         requires within { IsWithinLimits (field_views fields.items) }
-        requires short { tallest (field_views fields.items) ≤ 32 }
-        ensures is { IfOk result (λ fs. fs ≡ field_views fields.items) }
+        requires shallow { tallest (field_views fields.items) ≤ 32 }
+        ensures fields_are { IfOk result (λ fs. fs ≡ field_views fields.items) }
         ensures which { RefusedOnly (λ _. ⊥) result }
     {
         let leaves = leaves_of(alloc, fields.as_slice())?;
@@ -117,7 +117,7 @@ impl Schema {
 
     /// Its leaves, depth first. Takes no memory.
     pub fn leaves(&self) -> &[Leaf]
-        ensures is { map leaf_view result.now ≡ leaves_of self.now }
+        ensures leaves_are { map leaf_view result.now ≡ leaves_of self.now }
         ensures valid { IsSchema self.now }
         ensures within { IsWithinLimits self.now }
     {

@@ -86,7 +86,7 @@ fn plain_from_bytes(alloc: Global, kind: Kind, text: &[u8]) -> R<Value>
 
 /// The value of a list of one.
 fn only_value(values: Vec<Value>) -> R<Value>
-    ensures is { IfOk result (λ v. (view v ∷ []) ≡ map view values.items) }
+    ensures value_is { IfOk result (λ v. (view v ∷ []) ≡ map view values.items) }
     ensures only { OnErr result (length values.items ≢ 1) }
     ensures which { RefusedOnly (λ e. e ≡ Refusal.Value) result }
 {

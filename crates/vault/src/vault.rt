@@ -209,7 +209,7 @@ impl<D: Disk> Vault<D> {
     /// The bytes of `_metadata` as the disk reads them, None where it is not there, by one `read_range`. Refused Device
     /// where the disk failed, and Memory.
     pub fn root(&mut self, alloc: Global) -> R<Option<Vec<u8>>>
-        ensures there { (D.state self.old.disk).honest → IfOk result (λ root. IfSome root (λ bytes. content (D.state self.old.disk).seen root_path ≡ Some bytes.items)) }
+        ensures root_stands { (D.state self.old.disk).honest → IfOk result (λ root. IfSome root (λ bytes. content (D.state self.old.disk).seen root_path ≡ Some bytes.items)) }
         ensures absent { (D.state self.old.disk).honest → result ≡ Ok None → content (D.state self.old.disk).seen root_path ≡ None }
         ensures unchanged { (D.state self.old.disk).honest → LeavesAll (D.state self.old.disk) (D.state self.new.disk) }
         ensures which { RefusedOnly (λ e. (e ≡ Refusal.Device) × HasFailed (D.state self.old.disk) (D.state self.new.disk)) result }

@@ -33,7 +33,7 @@ runs-preserved g c =
     let left : c.args.n - c.len-in-runs.result ≡ c.args.n - length items = omega (arith, size, c.len-in-runs.ensures) in
     let some : length items < c.args.n = omega (arith, size, c.len.ensures, c.runs-test.true) in
     let taken : IsTaken (IsRun w) (drop c.runs.at c.args.bytes.now) (c.args.n - c.len-in-runs.result) items new c.in_ok-at.field-0 =
-    subst (λ (t : List ℕ). IsTaken (IsRun w) t (c.args.n - c.len-in-runs.result) items new c.in_ok-at.field-0) c.split_at.ensures.back c.in_ok-at.ensures.taken in
+    subst (λ (t : List ℕ). IsTaken (IsRun w) t (c.args.n - c.len-in-runs.result) items new c.in_ok-at.field-0) c.split_at.ensures.back c.in_ok-at.ensures.numbers in
     reading_goes_on w c.args.n c.runs.at c.in_ok-at.field-0 c.args.bytes.now items new some c.runs.invariant
     (subst (λ (k : ℕ). IsTaken (IsRun w) (drop c.runs.at c.args.bytes.now) k items new c.in_ok-at.field-0) left taken)
 

@@ -27,8 +27,8 @@ returns-in_err-packed-clause-only g c =
     passes (λ e. IsFault e → Lacks (IsBody w h) bytes c.args.left) c.from_residual.result c.in_err-packed.field-0.0 c.from_residual.ensures.1
     (λ fault. packed_lacks w h c.args.left size count bytes c.requires.odd wanted (subst (λ (t : List ℕ). (numbers : List ℕ) → length numbers ≡ count → IsPacked t w numbers → ⊥) c.split_at.ensures.front (c.in_err-packed.ensures.only fault)))
 
-pub returns-clause-taken : goal.returns-clause-taken
-returns-clause-taken g c =
+pub returns-clause-numbers : goal.returns-clause-numbers
+returns-clause-numbers g c =
     let w = c.args.width in
     let h = c.args.header in
     let bytes = c.args.bytes.now in

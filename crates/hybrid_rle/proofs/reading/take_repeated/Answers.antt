@@ -11,8 +11,8 @@ from_number-requires g c =
     let most : 2 ^ c.args.width ≤ 2 ^ g.T.Number.widest = pow_mono {i = c.args.width} {j = g.T.Number.widest} c.requires.wide in
     omega (arith, narrow, most)
 
-pub returns-clause-taken : goal.returns-clause-taken
-returns-clause-taken g c =
+pub returns-clause-numbers : goal.returns-clause-numbers
+returns-clause-numbers g c =
     let w = c.args.width in
     let h = c.args.header in
     let seen = g.T.Number.seen in

@@ -26,7 +26,7 @@ returns-then-equal-lt8-clause-put g c =
     let count = c.count_to_pack-count.result in
     let size : length xs ≡ length c.args.numbers.now = length-map c.args.numbers.now seen in
     let front : map seen c.split_at.result.0.now ≡ take count xs = ap (λ t. map seen t) c.split_at.ensures.front ∙ sym (take-map seen count c.args.numbers.now) in
-    packed_put w count xs c.args.out.now.items c.put_packed.new.out.items c.requires.wide (c.count_to_pack-count.ensures.some c.requires.some) (omega (arith, size, c.count_to_pack-count.ensures.within))
+    packed_put w count xs c.args.out.now.items c.put_packed.new.out.items c.requires.wide (c.count_to_pack-count.ensures.progress c.requires.some) (omega (arith, size, c.count_to_pack-count.ensures.within))
     (λ lt. c.count_to_pack-count.ensures.groups (omega (arith, lt, size))) (subst (λ (t : List ℕ). IsPacking w t c.args.out.now.items c.put_packed.new.out.items) front c.in_ok-put_packed.ensures.put)
 
 pub returns-in_err-put_repeated-clause-unfit : goal.returns-in_err-put_repeated-clause-unfit

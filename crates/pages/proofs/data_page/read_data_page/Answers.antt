@@ -82,16 +82,16 @@ returns-clause-alone c =
     let has : HasCount leaf own c.of_number-encoding.result c.in_ok-count.count = record { no_repetition = omega arith; no_definition = omega arith; encoding_is = c.of_number-encoding.ensures ∙ ap encoding_of number_is; count = sym count_is ∙ c.in_ok-count.ensures.stands } in
     λ fs p. page_alone leaf d own c.of_number-encoding.result c.args.body.now c.in_ok-count.count vs has c.in_ok-entries.ensures.alone fs p ∙ sym c.in_ok-entries.ensures.made
 
-pub returns-clause-few : goal.returns-clause-few
-returns-clause-few c =
+pub returns-clause-at_most_left : goal.returns-clause-at_most_left
+returns-clause-at_most_left c =
     let vs = map entry_value c.in_ok-entries.entries.items in
-    omega (arith, ap length c.in_ok-entries.ensures.made, length-map vs flat, c.in_ok-entries.ensures.count, c.in_ok-count.ensures.few)
+    omega (arith, ap length c.in_ok-entries.ensures.made, length-map vs flat, c.in_ok-entries.ensures.count, c.in_ok-count.ensures.at_most_left)
 
-pub returns-clause-short : goal.returns-clause-short
-returns-clause-short c =
+pub returns-clause-within_limits : goal.returns-clause-within_limits
+returns-clause-within_limits c =
     let leaf = leaf_view c.args.leaf.now in
     let own = data_page_header_view c.args.header.now in
     let count_is : to_z w32 (of_z w32 c.args.header.now.num_values) ≡ c.args.header.now.num_values = search rules in
     let number_is : to_z w32 (of_z w32 c.args.header.now.encoding) ≡ c.args.header.now.encoding = search rules in
     let has : HasCount leaf own c.of_number-encoding.result c.in_ok-count.count = record { no_repetition = omega arith; no_definition = omega arith; encoding_is = c.of_number-encoding.ensures ∙ ap encoding_of number_is; count = sym count_is ∙ c.in_ok-count.ensures.stands } in
-    page_short leaf own c.of_number-encoding.result c.args.body.now c.in_ok-count.count has c.in_ok-entries.ensures.short
+    page_short leaf own c.of_number-encoding.result c.args.body.now c.in_ok-count.count has c.in_ok-entries.ensures.within_limits

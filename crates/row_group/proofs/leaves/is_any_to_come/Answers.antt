@@ -6,8 +6,8 @@ use Rattle.row_group.proofs.Places.{any_here}
 use Rattle.row_group.proofs.leaves.is_any_to_come.Goals as goal
 use Rattle.row_group.proofs.leaves.is_any_to_come.Goals.{then-len-gt1-via-then-len-gt1, then-len-gt1-via-else-len-gt1+then-leaf-gt0}
 
-pub returns-then-len-gt1-clause-some : goal.returns-then-len-gt1-clause-some
-returns-then-len-gt1-clause-some c = λ e.
+pub returns-then-len-gt1-clause-to_come : goal.returns-then-len-gt1-clause-to_come
+returns-then-len-gt1-clause-to_come c = λ e.
     let x = c.leaf-item.result in
     let size = length-map x.steps.items step_view in
     let is : IsLeafToCome (leaf_view x) = elim c.then-len-gt1.branch [

@@ -7,8 +7,8 @@ use Rattle.schema.specs.Views.{column_view, columns_view}
 use Rattle.row_group.specs.Moving.{entries_left, columns_left}
 use Rattle.row_group.proofs.left.entries_of_each.Goals as goal
 
-pub returns-clause-is : goal.returns-clause-is
-returns-clause-is c =
+pub returns-clause-left_are : goal.returns-clause-left_are
+returns-clause-left_are c =
     let each : IfOk c.collect.result (λ left. columns_left left.items ≡ columns_view c.args.columns.items) =
     map_from_collect _ c.collect.ensures.ran
     (YieldsList-from_map_by _ entries_left column_view

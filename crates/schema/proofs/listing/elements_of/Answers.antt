@@ -1,8 +1,8 @@
 use Rattle.schema.proofs.Few.{root_listed, few_each, few_fields}
 use Rattle.schema.proofs.listing.elements_of.Goals as goal
 
-pub returns-clause-is : goal.returns-clause-is
-returns-clause-is c = root_listed _ _ _ c.in_ok-root.root c.args.fields.now c.new-elements.ensures.items c.in_ok-push.ensures.items c.in_ok-root.ensures.is c.in_ok-push_listings.ensures.adds
+pub returns-clause-elements_are : goal.returns-clause-elements_are
+returns-clause-elements_are c = root_listed _ _ _ c.in_ok-root.root c.args.fields.now c.new-elements.ensures.items c.in_ok-push.ensures.items c.in_ok-root.ensures.element_is c.in_ok-push_listings.ensures.adds
 
 pub group_element-requires : goal.group_element-requires
 group_element-requires c = few_fields c.args.fields.now c.requires.valid c.requires.within

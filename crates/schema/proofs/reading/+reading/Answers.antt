@@ -28,7 +28,7 @@ read_fields-loop-preserved t c =
     let behind = first_behind P k m F G _ e c.loop.invariant.enough c.in_ok-field.ensures.stands c.loop.invariant.behind in
     record {
       in_range = omega arith;
-      well = c.in_ok-field.ensures.well;
+      well = c.in_ok-field.ensures.well_formed;
       enough = behind.1;
       behind = behind.0;
       read = λ gs r. subst (λ xs. AreRead c.args.deep whole (join_fields (field_views xs) gs)) (sym c.in_ok-push.ensures.items)

@@ -24,12 +24,12 @@ returns-in_err-fields-clause-which c =
 pub returns-then-not-branch-clause-which : goal.returns-then-not-branch-clause-which
 returns-then-not-branch-clause-which c =
     twins_list c.args.elements.now c.index-elements-0.result c.children.result (field_views c.in_ok-fields.fields.items) c.index-elements-0.is (c.is_tree.ensures.0 c.if-not-is_tree.false) c.children.ensures c.in_ok-fields.ensures.stands
-    (λ d. false≢true (sym c.if-not-branch.true ∙ c.in_ok-names_differ.ensures.is.1 (subst (λ xs. AllDiffer (names (field_views xs))) (sym c.as_slice.ensures.value) d)))
+    (λ d. false≢true (sym c.if-not-branch.true ∙ c.in_ok-names_differ.ensures.names_differ.1 (subst (λ xs. AllDiffer (names (field_views xs))) (sym c.as_slice.ensures.value) d)))
 
 pub returns-clause-stands : goal.returns-clause-stands
 returns-clause-stands c =
     made_list c.args.elements.now c.index-elements-0.result c.children.result (field_views c.in_ok-fields.fields.items) c.index-elements-0.is (c.is_tree.ensures.0 c.if-not-is_tree.false) c.children.ensures c.in_ok-fields.ensures.stands
-    (subst (λ xs. AllDiffer (names (field_views xs))) c.as_slice.ensures.value (c.in_ok-names_differ.ensures.is.0 c.if-not-branch.false))
+    (subst (λ xs. AllDiffer (names (field_views xs))) c.as_slice.ensures.value (c.in_ok-names_differ.ensures.names_differ.0 c.if-not-branch.false))
 
 pub returns-clause-within : goal.returns-clause-within
 returns-clause-within c =
@@ -37,9 +37,9 @@ returns-clause-within c =
     let few = c.if-count_typed-gt-LEAVES.false in
     within (elements_view c.args.elements.now) (field_views c.in_ok-fields.fields.items)
     (made_list c.args.elements.now c.index-elements-0.result c.children.result (field_views c.in_ok-fields.fields.items) c.index-elements-0.is (c.is_tree.ensures.0 c.if-not-is_tree.false) c.children.ensures c.in_ok-fields.ensures.stands
-    (subst (λ xs. AllDiffer (names (field_views xs))) c.as_slice.ensures.value (c.in_ok-names_differ.ensures.is.0 c.if-not-branch.false)))
+    (subst (λ xs. AllDiffer (names (field_views xs))) c.as_slice.ensures.value (c.in_ok-names_differ.ensures.names_differ.0 c.if-not-branch.false)))
     (tallest-read 32 _ (field_views c.in_ok-fields.fields.items) c.in_ok-fields.ensures.stands)
     (omega (arith, n, few))
 
-pub returns-clause-short : goal.returns-clause-short
-returns-clause-short c = tallest-read 32 _ (field_views c.in_ok-fields.fields.items) c.in_ok-fields.ensures.stands
+pub returns-clause-shallow : goal.returns-clause-shallow
+returns-clause-shallow c = tallest-read 32 _ (field_views c.in_ok-fields.fields.items) c.in_ok-fields.ensures.stands

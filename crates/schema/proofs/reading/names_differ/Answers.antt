@@ -3,8 +3,8 @@ use Rattle.std.proofs.lemmas.Bool.{false≢true}
 use Rattle.schema.proofs.Names.{name_met, met_twice}
 use Rattle.schema.proofs.reading.names_differ.Goals as goal
 
-pub returns-then-not-branch-clause-is : goal.returns-then-not-branch-clause-is
-returns-then-not-branch-clause-is c = (
+pub returns-then-not-branch-clause-names_differ : goal.returns-then-not-branch-clause-names_differ
+returns-then-not-branch-clause-names_differ c = (
   (λ h. absurd (false≢true h)),
   λ all.
       let i : ℕ = c.loop-at.at - 1 in

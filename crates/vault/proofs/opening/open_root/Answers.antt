@@ -26,4 +26,4 @@ returns-clause-durable g c honest rooted =
     let h1 = c.settle.ensures.honest.0 honest in
     let h2 = c.root.ensures.honest.0 h1 in
     root_stands s1 s2 s3 c.in_ok-root.root (c.in_ok-settle.ensures.durable honest rooted) (c.root.ensures.unchanged h1) (c.forget_next.ensures.effect h2).moments
-    (c.in_ok-root.ensures.there h1) (λ none. c.in_ok-root.ensures.absent h1 (ap (λ r. Ok r) none))
+    (c.in_ok-root.ensures.root_stands h1) (λ none. c.in_ok-root.ensures.absent h1 (ap (λ r. Ok r) none))

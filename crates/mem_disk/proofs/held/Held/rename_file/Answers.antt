@@ -78,14 +78,14 @@ returns-clause-effect c f g r s =
       renamed_whole _ f g r s (Err Failed) refl _ sound c.args.source.now c.args.target.now moves c.bind.new.self.calls.items c.bind-2.new.self.calls.items goes then,
     )
 
-pub returns-then-is_err-clause-short : goal.returns-then-is_err-clause-short
-returns-then-is_err-clause-short c _ =
+pub returns-then-is_err-clause-out_of_memory : goal.returns-then-is_err-clause-out_of_memory
+returns-then-is_err-clause-out_of_memory c _ =
     let none : c.args.trip ≡ Fails extent.Nothing → ⊥ = λ e. (search rules) in
     let beside : (folder_of c.args.target.now ≡ folder_of c.args.source.now) × (c.args.target.now ≢ c.args.source.now) = c.are_beside.ensures.0 (search rules) in
     (movable c.args.self.now.calls.items c.args.source.now c.args.target.now c.in-File.node c.binding-2.result c.in-File.ensures c.binding-2.ensures c.in_default.not-Folder beside, none)
 
-pub returns-then-is_err-2-clause-short : goal.returns-then-is_err-2-clause-short
-returns-then-is_err-2-clause-short c _ =
+pub returns-then-is_err-2-clause-out_of_memory : goal.returns-then-is_err-2-clause-out_of_memory
+returns-then-is_err-2-clause-out_of_memory c _ =
     let none : c.args.trip ≡ Fails extent.Nothing → ⊥ = λ e. (search rules) in
     let beside : (folder_of c.args.target.now ≡ folder_of c.args.source.now) × (c.args.target.now ≢ c.args.source.now) = c.are_beside.ensures.0 (search rules) in
     (movable c.args.self.now.calls.items c.args.source.now c.args.target.now c.in-File.node c.binding-2.result c.in-File.ensures c.binding-2.ensures c.in_default.not-Folder beside, none)

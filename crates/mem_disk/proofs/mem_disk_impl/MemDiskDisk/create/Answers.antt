@@ -19,4 +19,4 @@ pub returns-clause-extent : goal.returns-clause-extent
 returns-clause-extent c can =
     let self = c.args.self.now in
     done_or_short (taken (λ (l : Loose). bound l c.args.path.now (File (length self.held.nodes.items)))) c.burn-trip.result (trip_of self.fuse) self.held.calls.items c.create_file-done.new.self.calls.items c.burn-trip.ensures.trip (c.create_file-done.ensures.extent can)
-    (c.count_shortage.ensures.short)
+    (c.count_shortage.ensures.out_of_memory)

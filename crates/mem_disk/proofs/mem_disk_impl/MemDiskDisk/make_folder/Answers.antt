@@ -18,4 +18,4 @@ pub returns-clause-extent : goal.returns-clause-extent
 returns-clause-extent c can =
     let self = c.args.self.now in
     done_or_short (taken (λ (l : Loose). bound l c.args.path.now Folder)) c.burn-trip.result (trip_of self.fuse) self.held.calls.items c.create_folder-done.new.self.calls.items c.burn-trip.ensures.trip (c.create_folder-done.ensures.extent can)
-    (c.count_shortage.ensures.short)
+    (c.count_shortage.ensures.out_of_memory)

@@ -13,4 +13,4 @@ returns-clause-effect c _ =
 pub returns-clause-passes : goal.returns-clause-passes
 returns-clause-passes c passes =
     let trip = c.burn-trip.ensures.trip ∙ passes in
-    failed_is_short c.rename_file-done.result c.tell_shortage-told.result c.answer.result c.tell_shortage-told.ensures.told (c.answer.ensures.passes trip) (c.rename_file-done.ensures.passes trip) c.tell_shortage-told.ensures.short
+    failed_is_short c.rename_file-done.result c.tell_shortage-told.result c.answer.result c.tell_shortage-told.ensures.told (c.answer.ensures.passes trip) (c.rename_file-done.ensures.passes trip) c.tell_shortage-told.ensures.out_of_memory

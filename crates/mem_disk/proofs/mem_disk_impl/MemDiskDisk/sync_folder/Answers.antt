@@ -16,4 +16,4 @@ pub returns-clause-extent : goal.returns-clause-extent
 returns-clause-extent c can =
     let self = c.args.self.now in
     done_or_short (taken (λ (l : Loose). folder_synced l c.args.folder.now)) c.burn-trip.result (trip_of self.fuse) self.held.calls.items c.sync_names-done.new.self.calls.items c.burn-trip.ensures.trip (c.sync_names-done.ensures.extent can)
-    (λ _ was. c.tell_shortage-told.ensures.short was)
+    (λ _ was. c.tell_shortage-told.ensures.out_of_memory was)

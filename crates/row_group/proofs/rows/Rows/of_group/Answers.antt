@@ -17,20 +17,20 @@ use Rattle.row_group.proofs.rows.Rows.of_group.Goals.{In_ok-columns}
 pub returns-in_err-read-clause-only : goal.returns-in_err-read-clause-only
 returns-in_err-read-clause-only c =
     let fs = c.args.schema.now in
-    let e = c.in_ok-left.ensures.is in
+    let e = c.in_ok-left.ensures.left_are in
     let number : c.args.meta.now.num_rows ≡ pos c.in_ok-left.left = omega (arith, ints) in
-    let leaves : AllByRecursion IsLeafRead (leaves_of fs) = subst (AllByRecursion IsLeafRead) c.leaves.ensures.is (c.is_any_to_come.ensures.none c.if-is_any_to_come.false) in
+    let leaves : AllByRecursion IsLeafRead (leaves_of fs) = subst (AllByRecursion IsLeafRead) c.leaves.ensures.leaves_are (c.is_any_to_come.ensures.none c.if-is_any_to_come.false) in
     passes (λ r. IsFault r → (rows : List ValueTrees) → GroupMeans c.args.front.now fs (group_meta_view c.args.meta.now) rows → ⊥)
     c.from_residual-in_err-read.result c.in_err-read.field-0.0 c.from_residual-in_err-read.ensures.1
     (λ fault rows m. no_rows c.args.front.now fs (group_meta_view c.args.meta.now) c.in_ok-left.left c.leaves.ensures.valid leaves number (c.in_err-read.ensures.only fault) rows m)
 
 is_read : (c : In_ok-columns) → IsRead c.args.front.now c.args.schema.now (group_meta_view c.args.meta.now) c.in_ok-left.left (columns_view c.in_ok-read.read.items)
 is_read c =
-    let e = c.in_ok-left.ensures.is in
+    let e = c.in_ok-left.ensures.left_are in
     let number : c.args.meta.now.num_rows ≡ pos c.in_ok-left.left = omega (arith, ints) in
     record {
       schema = c.leaves.ensures.valid;
-      leaves = subst (AllByRecursion IsLeafRead) c.leaves.ensures.is (c.is_any_to_come.ensures.none c.if-is_any_to_come.false);
+      leaves = subst (AllByRecursion IsLeafRead) c.leaves.ensures.leaves_are (c.is_any_to_come.ensures.none c.if-is_any_to_come.false);
       rows = number;
       chunks = c.in_ok-read.ensures.stands;
       counts = c.in_ok-read.ensures.count;
@@ -57,7 +57,7 @@ returns-clause-alone c = λ others m.
     alone front fs g n (columns_view c.in_ok-read.read.items) c.columns_determine_rows.ensures (is_read (goal.at.returns-clause-alone c).In_ok-columns) c.in_ok-read.ensures.alone others m
     ∙ ap (rows_of n) (sym c.in_ok-columns.ensures.is)
 
-pub returns-clause-short : goal.returns-clause-short
-returns-clause-short c =
-    let e = c.in_ok-left.ensures.is in
-    not_over c.args.front.now c.args.schema.now (group_meta_view c.args.meta.now) (λ many. c.in_ok-left.ensures.short (omega (arith, ints, many))) c.in_ok-read.ensures.short
+pub returns-clause-within_limits : goal.returns-clause-within_limits
+returns-clause-within_limits c =
+    let e = c.in_ok-left.ensures.left_are in
+    not_over c.args.front.now c.args.schema.now (group_meta_view c.args.meta.now) (λ many. c.in_ok-left.ensures.within_limits (omega (arith, ints, many))) c.in_ok-read.ensures.within_limits

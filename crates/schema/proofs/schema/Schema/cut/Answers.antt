@@ -15,7 +15,7 @@ pub cut_each-requires : goal.cut_each-requires
 cut_each-requires c =
     let n = counts_are 0 (field_views c.self.inside.fields.items) in
     let size = sym (length-each leaf_view c.self.inside.leaves.items) ∙ ap length c.self.invariant.2 in
-    let marks = ap length c.as_slice.ensures.value ∙ c.in_ok-wanted.ensures.are.size in
+    let marks = ap length c.as_slice.ensures.value ∙ c.in_ok-wanted.ensures.marked.size in
     let same = ap (λ xs. count_leaves_each (field_views xs)) c.as_slice-2.ensures.value in
     record { few = omega (arith, n, size, marks, same, c.len.ensures) }
 
@@ -23,7 +23,7 @@ there : (c : goal.In_ok-fields) → ArePlaces (field_views c.self.inside.fields.
 there c = places_there (field_views c.self.inside.fields.items) c.self.inside.leaves.items c.len.result c.args.places.now c.self.invariant.2 (grind (arith, c.len.ensures)) (grind (arith, c.is_empty.ensures, c.if-is_empty.false)) (c.are_below.ensures.0 c.if-not-are_below.false)
 
 made : (c : goal.In_ok-fields) → field_views c.in_ok-fields.fields.items ≡ cut_to c.args.places.now (field_views c.self.inside.fields.items)
-made c = cut_by_marks c.args.places.now _ c.in_ok-wanted.wanted.items c.as_slice.result.now (field_views c.as_slice-2.result.now) (field_views c.self.inside.fields.items) _ c.in_ok-wanted.ensures.are c.as_slice.ensures.value (ap field_views c.as_slice-2.ensures.value) c.in_ok-fields.ensures.is
+made c = cut_by_marks c.args.places.now _ c.in_ok-wanted.wanted.items c.as_slice.result.now (field_views c.as_slice-2.result.now) (field_views c.self.inside.fields.items) _ c.in_ok-wanted.ensures.marked c.as_slice.ensures.value (ap field_views c.as_slice-2.ensures.value) c.in_ok-fields.ensures.fields_are
 
 pub of_fields-requires-clause-valid : goal.of_fields-requires-clause-valid
 of_fields-requires-clause-valid c = subst IsSchema (sym (made c)) (cut_schema c.args.places.now (field_views c.self.inside.fields.items) c.self.invariant.0 (there c))
@@ -31,8 +31,8 @@ of_fields-requires-clause-valid c = subst IsSchema (sym (made c)) (cut_schema c.
 pub of_fields-requires-clause-within : goal.of_fields-requires-clause-within
 of_fields-requires-clause-within c = subst IsWithinLimits (sym (made c)) (cut_within c.args.places.now (field_views c.self.inside.fields.items) c.self.invariant.1)
 
-pub of_fields-requires-clause-short : goal.of_fields-requires-clause-short
-of_fields-requires-clause-short c =
+pub of_fields-requires-clause-shallow : goal.of_fields-requires-clause-shallow
+of_fields-requires-clause-shallow c =
     let less = each_cut_short (is_among c.args.places.now) 0 (field_views c.self.inside.fields.items) in
     let short = c.self.invariant.4 in
     let same = ap tallest (made c) in
@@ -44,6 +44,6 @@ returns-clause-stands c =
     let places : ArePlaces whole c.args.places.now =
     places_there whole c.self.inside.leaves.items c.len.result c.args.places.now c.self.invariant.2 (grind (arith, c.len.ensures)) (grind (arith, c.is_empty.ensures, c.if-is_empty.false)) (c.are_below.ensures.0 c.if-not-are_below.false) in
     let is : field_views c.in_ok-fields.fields.items ≡ cut_to c.args.places.now whole =
-    cut_by_marks c.args.places.now _ c.in_ok-wanted.wanted.items c.as_slice.result.now (field_views c.as_slice-2.result.now) whole _ c.in_ok-wanted.ensures.are c.as_slice.ensures.value (ap field_views c.as_slice-2.ensures.value) c.in_ok-fields.ensures.is in
+    cut_by_marks c.args.places.now _ c.in_ok-wanted.wanted.items c.as_slice.result.now (field_views c.as_slice-2.result.now) whole _ c.in_ok-wanted.ensures.marked c.as_slice.ensures.value (ap field_views c.as_slice-2.ensures.value) c.in_ok-fields.ensures.fields_are in
     subst (λ fs. IfOk c.of_fields.result (IsCutTo c.args.places.now fs)) c.self.view_is
-    (ok_more c.of_fields.result (λ gs. gs ≡ field_views c.in_ok-fields.fields.items) (IsCutTo c.args.places.now whole) (λ gs e. record { places_are = places; is = e ∙ is }) c.of_fields.ensures.is)
+    (ok_more c.of_fields.result (λ gs. gs ≡ field_views c.in_ok-fields.fields.items) (IsCutTo c.args.places.now whole) (λ gs e. record { places_are = places; is = e ∙ is }) c.of_fields.ensures.fields_are)

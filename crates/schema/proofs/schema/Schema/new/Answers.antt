@@ -15,9 +15,9 @@ returns-in_err-fields-clause-only c =
     passes (λ e. IsFault e → (fs : Fields) → IsSchemaOf (elements_view c.args.elements.now) fs → ⊥) c.from_residual.result c.in_err-fields.field-0.0 c.from_residual.ensures.1
     (no_fault (elements_view c.args.elements.now) c.in_err-fields.field-0.0 c.in_err-fields.ensures.which)
 
-pub returns-clause-short : goal.returns-clause-short
-returns-clause-short c =
+pub returns-clause-within_limits : goal.returns-clause-within_limits
+returns-clause-within_limits c =
     let es = elements_view c.args.elements.now in
     let fs = field_views c.in_ok-fields.fields.items in
     IfOk-weaker c.of_fields.result (λ made. made ≡ fs) (λ made. IsTooLarge es → ⊥)
-    (λ made is. not_too_large es fs c.in_ok-fields.ensures.stands c.in_ok-fields.ensures.short c.in_ok-fields.ensures.within) c.of_fields.ensures.is
+    (λ made is. not_too_large es fs c.in_ok-fields.ensures.stands c.in_ok-fields.ensures.shallow c.in_ok-fields.ensures.within) c.of_fields.ensures.fields_are
