@@ -27,7 +27,7 @@ fn number_at(bytes: &[u8], at: usize, offset: u32, width: u32) -> u64
 
 /// The first `n` numbers of `width` bits each (at most 64), the lowest bit first.
 ///
-/// Refused Truncated just where the bytes have fewer than `n * width` bits. (parquet-format,
+/// Refused Truncated exactly when the bytes have fewer than `n * width` bits. (parquet-format,
 /// Encodings.md, bit-packed runs.)
 pub fn unpack(alloc: Global, bytes: &[u8], width: u32, n: usize) -> R<Vec<u64>>
     requires { width ≤ 64 }
@@ -126,10 +126,10 @@ fn put_all(numbers: &[u64], width: u32, out: &mut Vec<u8>) -> R<()>
 }
 
 /// Writes the numbers at the end of `out`, `width` bits each (at most 64), the lowest bit first,
-/// in as few bytes as hold them; the bits behind the last number are 0. Each number is below
+/// in as few bytes as hold them; the bits after the last number are 0. Each number is below
 /// `2^width`.
 ///
-/// Refused Memory alone; then `out` is as it was.
+/// Refused only Memory; then `out` is as it was.
 pub fn pack(numbers: &[u64], width: u32, out: &mut Vec<u8>) -> R<()>
     requires wide { width ≤ 64 }
     requires fit { All (λ x. x < 2 ^ width) numbers.now }

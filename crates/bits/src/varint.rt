@@ -10,7 +10,7 @@ use crate::refusal::{R, Refusal};
 /// The unsigned varint at the front of `bytes`, and how many bytes it takes (1 to 10; a longer
 /// spelling than is needed is read). Takes no memory.
 ///
-/// Refused Truncated just where the bytes end within it: fewer than ten, all with the high bit.
+/// Refused Truncated exactly when the bytes end within it: fewer than ten, all with the high bit.
 /// Refused Thrift where the tenth byte is not 0 or 1. (Thrift's compact protocol, "Integer
 /// encoding".)
 pub fn read_uleb(bytes: &[u8]) -> R<(u64, usize)>
@@ -54,7 +54,7 @@ pub fn unzigzag(n: u64) -> i64
     if n % 2 == 0 { half } else { -half - 1 }
 }
 
-/// Writes the shortest varint of `n` (1 to 10 bytes) at the end of `out`. Refused Memory alone;
+/// Writes the shortest varint of `n` (1 to 10 bytes) at the end of `out`. Refused only Memory;
 /// then `out` is as it was.
 pub fn write_uleb(n: u64, out: &mut Vec<u8>) -> R<()>
     ensures stands { OnOk result (Appends (λ bytes used. IsShortestUleb bytes n used) 10 out.old.items out.new.items) }

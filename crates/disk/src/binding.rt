@@ -19,7 +19,7 @@ pub enum Kind {
 /// A name in a folder that was listed.
 #[derive(Debug, PartialEq, Eq, Drop)]
 pub struct Entry {
-    /// the name alone, without its folder
+    /// only the name, without its folder
     pub name: String,
     pub kind: Kind,
 }

@@ -65,7 +65,7 @@ pub trait Disk {
         ensures reads { (state self.new).reads ≡ (state self.old).reads }
         ensures honest { (state self.old).honest ↔ (state self.new).honest };
 
-    /// Writes behind a file's end. Absent where no file is there.
+    /// Writes after a file's end. Absent where no file is there.
     fn append(&mut self, path: &str, bytes: &[u8]) -> Result<(), Fault>
         ensures effect { (state self.old).honest → Appended path.now bytes.now (state self.old) (state self.new) result }
         ensures which { IfErr result (λ e. e ≢ Fault.Exists) }

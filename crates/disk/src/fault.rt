@@ -37,8 +37,8 @@ impl<T: Drop> From<AllocFailed<T>> for Fault {
     }
 }
 
-// The system's own want of memory comes in the midst of a call, so it is a failure of the disk. That a name is there
-// is told by the calls that make names.
+// The system's own lack of memory comes in the midst of a call, so it is a failure of the disk. That a name is there
+// is reported by the calls that make names.
 impl From<io::Error> for Fault {
     ghost from_gives = { λ error e. (e ≢ Exists) × (e ≡ fault_of (error_kind error) (is_some (raw_os_error error))) };
 

@@ -35,7 +35,7 @@ pub struct HostDisk<R: Files + Clone + Drop> {
 
 impl<R: Files + Clone + Drop> HostDisk<R> {
     /// The disk of a folder of the host; the empty text is the folder that the program runs in. Asks nothing of the
-    /// system. Refused Memory alone.
+    /// system. Refused only Memory.
     pub fn new(alloc: Global, files: R, folder: &str) -> Result<HostDisk<R>, Fault>
         ensures starts { IfOk result (λ disk. (disk.failures ≡ 0) × (disk.reads ≡ 0)) }
         ensures folder { IfOk result (λ disk. string_bytes disk.folder ≡ folder_or_dot folder.now) }
@@ -156,7 +156,7 @@ impl<R: Files + Clone + Drop> HostDisk<R> {
     }
 }
 
-/// A want of memory told as a failure, for the calls that answer no Memory.
+/// A lack of memory told as a failure, for the calls that answer no Memory.
 fn memory_is_failure(answer: Result<(), Fault>) -> Result<(), Fault>
     ensures told { IsErrOf answer Fault.Memory → IsErrOf result Fault.Failed }
     ensures others { (IsErrOf answer Fault.Memory → ⊥) → result ≡ answer }

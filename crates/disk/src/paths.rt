@@ -17,7 +17,7 @@ pub fn folder_of(path: &str) -> &str
     }
 }
 
-/// The path of a name in a folder. Refused Memory alone.
+/// The path of a name in a folder. Refused only Memory.
 pub fn path_in(alloc: Global, folder: &str, name: &str) -> Result<String, Fault>
     ensures value { IfOk result (λ path. string_bytes path ≡ path_in folder.now name.now) }
     ensures which { IfErr result (λ e. e ≡ Fault.Memory) }

@@ -12,7 +12,7 @@ use std::fs::{self, Files};
 #[derive(Clone, Copy, Debug, PartialEq, Eq)]
 pub enum Found {
     Nothing,
-    /// a file of so many bytes
+    /// a file of this many bytes
     File(u64),
     Folder,
     /// a link, a pipe or another kind of node
@@ -69,7 +69,7 @@ fn check_way<R: Files>(files: &R, alloc: Global, root: &str, path: &str) -> Resu
 }
 
 /// Where a path stands on the host. Refused Failed for a path that would leave its folder, or that has a link or
-/// another kind of node on its way; Absent where a folder on its way is not there. Of the folder itself Memory alone.
+/// another kind of node on its way; Absent where a folder on its way is not there. Of the folder itself only Memory.
 pub fn reach<R: Files>(files: &R, alloc: Global, root: &str, path: &str) -> Result<String, Fault>
     ensures inside { IfOk result (λ place. string_bytes place ≡ host_path root.now path.now) }
     ensures outside { (IsProper path.now → ⊥) → IsErrOf result Fault.Failed }

@@ -73,7 +73,7 @@ fn a_fuse_lets_so_many_calls_pass(rt: HostRuntime) {
     }
 }
 
-// 600 bytes that are firm, and 10 that are not.
+// 600 bytes that are durable, and 10 that are not.
 fn with_torn_file(alloc: Global) -> Result<MemDisk, Fault> {
     let mut disk = MemDisk::new(alloc);
     disk.create("a")?;

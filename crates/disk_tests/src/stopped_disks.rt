@@ -25,7 +25,7 @@ fn step(disk: &mut MemDisk, alloc: Global, at: u64) -> Result<(), Fault> {
     }
 }
 
-// What a stop may leave after so many calls, by the model. An image is told by its names, `-` where the folder is
+// What a stop may leave after this many calls, by the model. An image is reported by its names, `-` where the folder is
 // gone; a byte of a file is as it was written, `0` for a zero, or `?` for any other.
 fn images_after(calls: u64) -> &'static str {
     match calls {
@@ -44,7 +44,7 @@ fn images_after(calls: u64) -> &'static str {
     }
 }
 
-// Where the last call was done in part: half of what it appends is there, or the target's name alone.
+// Where the last call was done in part: half of what it appends is there, or the target's name only.
 fn images_within(calls: u64) -> &'static str {
     match calls {
         3 => "-|f|f a=|f a=0|f a=x|f a=?",
@@ -53,7 +53,7 @@ fn images_within(calls: u64) -> &'static str {
     }
 }
 
-// A byte of a file as it is told.
+// A byte of a file as it is reported.
 fn told(byte: u8) -> char {
     match byte {
         0 => '0',
@@ -121,7 +121,7 @@ fn images(disk: &MemDisk, alloc: Global) -> Result<Vec<String>, Fault> {
     Ok(images)
 }
 
-// Whether the images are just those that are told.
+// Whether the images are just those that are reported.
 fn are(images: &[String], wanted: &str) -> bool {
     images.iter().all(|image| wanted.split('|').any(|want| want == image.as_str()))
         && wanted

@@ -25,7 +25,7 @@ fn words(list: u64) -> [u64; 64] {
     words
 }
 
-// A disk with the root `first` and the file `kept`, both firm.
+// A disk with the root `first` and the file `kept`, both durable.
 fn start(alloc: Global) -> R<Vault<MemDisk>> {
     let mut vault = Vault::start(MemDisk::new(alloc));
     vault.put("kept", b"old")?;

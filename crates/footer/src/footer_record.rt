@@ -69,7 +69,7 @@ fn copied_elements(alloc: Global, elements: &[Element]) -> R<Vec<Element>>
     Ok(copies)
 }
 
-/// The order of its type, for each of so many columns.
+/// The order of its type, for each of this many columns.
 fn type_orders(alloc: Global, columns: usize) -> R<Vec<ColumnOrder>>
     ensures orders_are { IfOk result (λ orders. map column_order_view orders.items ≡ replicate columns type_order) }
     ensures which { RefusedOnly (λ _. ⊥) result }
@@ -81,7 +81,7 @@ fn type_orders(alloc: Global, columns: usize) -> R<Vec<ColumnOrder>>
     Ok(orders)
 }
 
-/// The record of a file with this schema, so many rows, and these groups.
+/// The record of a file with this schema, this many rows, and these groups.
 pub fn record_of(
     alloc: Global,
     schema: &Schema,

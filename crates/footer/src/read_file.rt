@@ -58,7 +58,7 @@ fn rows_of(alloc: Global, front: &[u8], groups: &[GroupMeta], schema: &Schema) -
 /// The schema of a file, and its rows, all of them still to be made.
 ///
 /// The whole file is accepted before the first row is made: all of its columns are decoded and checked, so
-/// that a row is refused for memory alone. Kept until the rows are made are 48 bytes for each value of
+/// that a row is refused only for memory. Kept until the rows are made are 48 bytes for each value of
 /// a column, and the bytes of texts; no rows. Time and memory are linear in the bytes of the file and
 /// in the entries of all its chunks, with their bytes: chunks may share bytes, so these can be more.
 ///

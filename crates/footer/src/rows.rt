@@ -19,7 +19,7 @@ pub struct Rows {
 }
 
 impl Rows {
-    /// The next row; none behind the last. Refused for memory alone, and then no row is lost. The values
+    /// The next row; none after the last. Refused only for memory, and then no row is lost. The values
     /// move out of the columns; the time is linear in how many there are.
     pub fn next(&mut self) -> R<Option<Row>>
         ensures takes { IfOk result (λ row. rows_left self.old ≡ map row_view (option_to_list row) ++ rows_left self.new) }
@@ -33,7 +33,7 @@ impl Rows {
         }
     }
 
-    /// All rows that are left. Refused for memory alone. Time and memory are linear in their values.
+    /// All rows that are left. Refused only for memory. Time and memory are linear in their values.
     pub fn collected(self) -> R<Vec<Row>>
         ensures rows_are { IfOk result (λ rows. rows_view rows.items ≡ rows_left self) }
         ensures which { RefusedOnly (λ _. ⊥) result }

@@ -39,7 +39,7 @@ fn is_out_of_range(options: &WriteOptions) -> bool
         || (options.page_version != 1 && options.page_version != 2)
 }
 
-/// Whether so many rows are not written yet with these options.
+/// Whether this many rows are not written yet with these options.
 fn is_to_be_written(options: &WriteOptions, rows: usize) -> bool
     ensures one_group { result ≡ false → rows ≤ options.now.group_rows }
     ensures one_page { result ≡ false → rows ≤ options.now.page_rows }
@@ -79,7 +79,7 @@ fn write_groups(
 
 /// The bytes of a file that means these rows of this schema (parquet-format, README.md, "File
 /// format"): `PAR1`, the row groups, each with a chunk for each leaf in the order of the leaves, the
-/// footer, its length, and `PAR1`, each right behind the other. The rows are lent; their values are copied
+/// footer, its length, and `PAR1`, each right after the other. The rows are borrowed; their values are copied
 /// into the bytes alone.
 ///
 /// Written today are files of at most one row group whose columns are all REQUIRED and at the top
@@ -87,7 +87,7 @@ fn write_groups(
 /// The footer names its writer `pqds`, and the order of each column as its type's; no statistics are
 /// written yet.
 ///
-/// Refused RowShape just where a row does not fit the schema, want of memory and Limit aside. Refused Limit
+/// Refused RowShape exactly when a row does not fit the schema, lack of memory and Limit aside. Refused Limit
 /// for a number of rows in a group outside 1 to 1,048,576, for pages of no rows, for a version other than
 /// 1 and 2; for a value of more than 16 MiB; for more than 16,777,216 entries in a column of a group; for what is not
 /// written yet, which is always refused: more rows than a group or a page should have, version 2, another

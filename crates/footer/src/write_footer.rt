@@ -20,7 +20,7 @@ use byteorder::{ByteOrder, LittleEndian};
 use metadata::{FileMeta, footer_again};
 use std::alloc::Global;
 
-/// Writes the record at the end of `out`. Refused Memory alone.
+/// Writes the record at the end of `out`. Refused only Memory.
 fn write_record(alloc: Global, meta: &FileMeta, out: &mut Vec<u8>) -> R<()>
     requires { EachKeepsWritten (file_meta_view meta.now) }
     ensures stands { let fields = file_meta_fields (file_meta_view meta.now) in OnOk result (Appends (λ bytes used. IsThrift bytes fields used) (size_struct fields) out.old.items out.new.items) }

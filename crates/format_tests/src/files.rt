@@ -48,7 +48,7 @@ const CONVERTED: [u8; 100] = [
 ];
 
 /// The same as UTF8 by its converted_type and as STRING, with what other tools write beside: a checksum of the page, an index
-/// behind it, statistics, sorting columns, key-values, column orders, and bytes behind the struct of the footer.
+/// after it, statistics, sorting columns, key-values, column orders, and bytes after the struct of the footer.
 const FOREIGN: [u8; 162] = [
     0x50, 0x41, 0x52, 0x31, 0x15, 0x00, 0x15, 0x12, 0x15, 0x12, 0x15, 0x99, 0x01, 0x1C, 0x15, 0x04,
     0x15, 0x00, 0x15, 0x06, 0x15, 0x06, 0x00, 0x00, 0x01, 0x00, 0x00, 0x00, 0x61, 0x00, 0x00, 0x00,
@@ -74,7 +74,7 @@ const LOGICAL: [u8; 102] = [
     0x00, 0x00, 0x50, 0x41, 0x52, 0x31,
 ];
 
-/// A value as text, with a stop behind it.
+/// A value as text, with a stop after it.
 fn shown(alloc: Global, value: &Value) -> R<String> {
     match value {
         Value::Int(number) => Ok(format!(in alloc; "{number};")?),
@@ -86,7 +86,7 @@ fn shown(alloc: Global, value: &Value) -> R<String> {
     }
 }
 
-/// The values of rows, one behind the other.
+/// The values of rows, one after the other.
 fn text_of(alloc: Global, rows: &[Row]) -> R<String> {
     let mut text = String::new(alloc);
     for row in rows {
@@ -98,7 +98,7 @@ fn text_of(alloc: Global, rows: &[Row]) -> R<String> {
     Ok(text)
 }
 
-/// What reading a file answers: its values, or the refusal's text.
+/// What reading a file returns: its values, or the refusal's text.
 fn answer(alloc: Global, bytes: &[u8]) -> R<String> {
     let read = read_file(alloc, bytes);
     match &read {
@@ -143,7 +143,7 @@ fn two_rows_and_no_rows_are_read(rt: HostRuntime) -> Result<(), Fail> {
     Ok(())
 }
 
-/// The values of so many rows of a file, made one by one, and those of the rows that are left.
+/// The values of this many rows of a file, made one by one, and those of the rows that are left.
 fn parted(alloc: Global, bytes: &[u8], count: usize) -> R<(String, String)> {
     let (_, mut rows) = read_rows(alloc, bytes)?;
     let mut taken = Vec::new(alloc);

@@ -77,7 +77,7 @@ fn least_and_greatest_numbers(rt: HostRuntime) -> Result<(), Fail> {
 
 #[test]
 fn nine_booleans_over_two_bytes(rt: HostRuntime) -> Result<(), Fail> {
-    // The bits behind the ninth are not looked at.
+    // The bits after the ninth are not looked at.
     let (values, used) = decode(rt.alloc(), Kind::Boolean, &[0b1000_0101, 0b1111_0001, 9], 9)?;
     assert_eq!(rt; (values.len(), used), (9, 2));
     for (i, value) in values.iter().enumerate() {

@@ -47,7 +47,7 @@ const PAGE_V2: [u8; 22] = [
     0x00, 0x15, 0x00, 0x12, 0x00, 0x00,
 ];
 
-/// Parts one behind another.
+/// Parts one after another.
 fn joined(alloc: Global, parts: &[&[u8]]) -> R<Vec<u8>> {
     let mut bytes = Vec::new(alloc);
     for part in parts {
@@ -56,7 +56,7 @@ fn joined(alloc: Global, parts: &[&[u8]]) -> R<Vec<u8>> {
     Ok(bytes)
 }
 
-/// A footer's bytes, as it is written again behind the byte 7.
+/// A footer's bytes, as it is written again after the byte 7.
 fn footer_rewritten(alloc: Global, bytes: &[u8]) -> R<Vec<u8>> {
     let (footer, _) = FileMeta::read(alloc, bytes)?;
     let mut out = Vec::from_array(alloc, [7])?;
@@ -64,7 +64,7 @@ fn footer_rewritten(alloc: Global, bytes: &[u8]) -> R<Vec<u8>> {
     Ok(out)
 }
 
-/// A page header's bytes, as it is written again behind the byte 7.
+/// A page header's bytes, as it is written again after the byte 7.
 fn header_rewritten(alloc: Global, bytes: &[u8]) -> R<Vec<u8>> {
     let (header, _) = PageHeader::read(alloc, bytes)?;
     let mut out = Vec::from_array(alloc, [7])?;
@@ -138,7 +138,7 @@ fn the_footers_of_both_files_are_written_byte_for_byte(rt: HostRuntime) -> Resul
 
 #[test]
 fn unknown_fields_of_each_type_are_passed_over(rt: HostRuntime) -> Result<(), Fail> {
-    // Behind the id 82 the first field has its id in whole.
+    // After the id 82 the first field has its id in whole.
     let (_, rest) = NO_ROWS.split_at(1);
     let parts: [&[u8]; 5] = [&EACH_TYPE, &[0x05, 0x02], rest, &EACH_TYPE, &[0]];
     assert!(rt; becomes(rt.alloc(), &parts, &[&[7], &NO_ROWS, &[0]])?);

@@ -20,7 +20,7 @@ fn element(alloc: Global, name: &str, kind: Option<i32>, children: Option<i32>) 
     })
 }
 
-/// A chain of so many groups, and an INT32 leaf.
+/// A chain of this many groups, and an INT32 leaf.
 fn chain(alloc: Global, groups: u32) -> R<Vec<Element>> {
     let mut elements = Vec::new(alloc);
     for _ in 0..groups {
@@ -41,7 +41,7 @@ fn three_leaves(alloc: Global) -> R<Vec<Element>> {
     Ok(elements)
 }
 
-/// A root that says it has so many children, and so many INT32 leaves.
+/// A root that says it has this many children, and this many INT32 leaves.
 fn wide(alloc: Global, children: i32, leaves: i32) -> R<Vec<Element>> {
     let mut elements = Vec::new(alloc);
     elements.push(element(alloc, "root", None, Some(children))?)?;

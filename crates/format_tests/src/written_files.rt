@@ -103,7 +103,7 @@ fn row_of_four(alloc: Global, b: bool, n: i64, t: &str, f: &str) -> R<Row> {
     Ok(Row { values })
 }
 
-/// What writing answers: `written`, or the refusal's text.
+/// What writing returns: `written`, or the refusal's text.
 fn answer(alloc: Global, schema: &Schema, options: &WriteOptions, rows: &[Row]) -> R<String> {
     let file = write_file(alloc, schema, options, rows);
     match &file {

@@ -32,7 +32,7 @@ fn pair(alloc: Global, number: i64, text: &[u8]) -> R<Row> {
     Ok(row)
 }
 
-/// The record of a group of these rows, behind what is in `out`.
+/// The record of a group of these rows, after what is in `out`.
 fn written(alloc: Global, schema: &Schema, rows: [Row; 2], out: &mut Vec<u8>) -> R<GroupMeta> {
     let rows = Vec::from_array(alloc, rows)?;
     write_group(alloc, schema, rows.as_slice(), out)
@@ -47,7 +47,7 @@ fn entry_of(value: &Value) -> EntryRef<'_> {
     }
 }
 
-/// The record of a chunk of these two values, behind what is in `out`.
+/// The record of a chunk of these two values, after what is in `out`.
 fn chunk_of(alloc: Global, leaf: &Leaf, values: [&Value; 2], out: &mut Vec<u8>) -> R<ColumnMeta> {
     let mut entries = Vec::new(alloc);
     for value in values {

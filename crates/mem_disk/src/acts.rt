@@ -135,7 +135,7 @@ impl Held {
         Ok(())
     }
 
-    /// Writes behind a file's end.
+    /// Writes after a file's end.
     pub fn append_file(&mut self, trip: Trip, path: &str, bytes: &[u8]) -> Result<(), Fault>
         ensures effect { (f g r s : ℕ) → AlsoFailed (Appended path.now bytes.now (state_with self.old.calls.items f r) (state_with self.new.calls.items g s)) result }
         ensures which { IfErr result (λ e. e ≢ Exists) }
@@ -169,7 +169,7 @@ impl Held {
         self.nodes[node].doubted
     }
 
-    /// Makes a file's bytes firm, where no sync of it has failed.
+    /// Makes a file's bytes durable, where no sync of it has failed.
     pub fn sync_file(&mut self, trip: Trip, path: &str) -> Result<(), Fault>
         ensures effect { (f g r s : ℕ) → AlsoFailed (Synced path.now (state_with self.old.calls.items f r) (state_with self.new.calls.items g s)) result }
         ensures which { IfErr result (λ e. e ≢ Exists) }
@@ -216,7 +216,7 @@ impl Held {
         }
     }
 
-    /// Makes a folder's names firm.
+    /// Makes a folder's names durable.
     pub fn sync_names(&mut self, trip: Trip, folder: &str) -> Result<(), Fault>
         ensures effect { (f g r s : ℕ) → AlsoFailed (FolderSynced folder.now (state_with self.old.calls.items f r) (state_with self.new.calls.items g s)) (told_as result) }
         ensures which { IfErr result (λ e. e ≢ Exists) }

@@ -42,7 +42,7 @@ impl Picks<'_> {
         word
     }
 
-    // One of so many outcomes.
+    // One of this many outcomes.
     fn one_of(&mut self, outcomes: usize) -> usize
         ensures word { 0 < outcomes → result ≡ next_word (words_left self.old) % outcomes }
         ensures left { 0 < outcomes → words_left self.new ≡ drop 1 (words_left self.old) }
@@ -56,7 +56,7 @@ impl Picks<'_> {
 }
 
 // The binding that a stop leaves to a name, by itself: those that it had since its folder's last sync, in the order of
-// time, so that the first is that of the last sync. A name that is firm asks for no word.
+// time, so that the first is that of the last sync. A name that is durable asks for no word.
 fn chosen(name: &Name, picks: &mut Picks<'_>) -> Binding
     ensures may { (result ≡ name.entry.now.now) ⊎ Among result name.entry.now.had.items }
     ensures word { result ≡ binding_by name.entry.now (next_word (words_left picks.old)) }
@@ -100,7 +100,7 @@ fn sector_word(at: usize, word: u64, picks: &mut Picks<'_>) -> u64
 }
 
 // The bytes that a stop leaves to a node: first its length, between the shortest and the longest since its last sync,
-// the shortest first; then each touched sector below that length, in turn. A node that is firm asks for no word.
+// the shortest first; then each touched sector below that length, in turn. A node that is durable asks for no word.
 fn torn(alloc: Global, node: &Node, picks: &mut Picks<'_>) -> Result<Vec<u8>, AllocError>
     ensures may { IfOk result (λ bytes. node.now.synced ≤ length node.now.bytes.items → MayHold node.now.synced node.now.bytes.items bytes.items) }
     ensures words { IfOk result (λ bytes. PicksBytes node.now (words_left picks.old) bytes.items) }
@@ -201,8 +201,8 @@ impl MemDisk {
     /// The choices are, in this order: each loose name, in the order in which the names came up (outcomes: what it
     /// stood for since its folder's last sync, in the order of time); then each node with unsynced bytes, in the
     /// order in which the nodes were made: its length (the shortest since its last sync first), and then each touched
-    /// sector below that length (0 as at the last sync, with zeros behind, 1 as written, 2 zeros, 3 other bytes that
-    /// the word gives). Names below a folder that is not there are gone. Refused Memory alone.
+    /// sector below that length (0 as at the last sync, with zeros after, 1 as written, 2 zeros, 3 other bytes that
+    /// the word gives). Names below a folder that is not there are gone. Refused only Memory.
     pub fn crash(&self, picks: &[u64]) -> Result<MemDisk, Fault>
         ensures image { IfOk result (λ disk. may_leave (state_of self.now) (state_of disk).seen) }
         ensures words { IfOk result (λ disk. ArePickedBy self.now.held.names.list.items self.now.held.nodes.items picks.now (state_of disk).seen) }

@@ -15,7 +15,7 @@ use disk::Fault;
 pub enum Done {
     Nothing,
     Whole,
-    /// the first half of what is appended, rounded down to whole bytes, or the target's name alone of a rename; of
+    /// the first half of what is appended, rounded down to whole bytes, or the target's name only of a rename; of
     /// any other call the whole
     Part,
 }
@@ -24,9 +24,9 @@ pub enum Done {
 #[derive(Clone, Copy, Debug, PartialEq, Eq)]
 pub enum Fuse {
     Never,
-    /// so many calls pass, and all later ones fail
+    /// this many calls pass, and all later ones fail
     After(u64, Done),
-    /// so many calls pass, and one fails
+    /// this many calls pass, and one fails
     Once(u64, Done),
 }
 

@@ -74,7 +74,7 @@ impl Held {
         }
     }
 
-    /// Writes behind a node's end.
+    /// Writes after a node's end.
     pub fn append(&mut self, node: usize, bytes: &[u8]) -> Result<(), AllocError>
         requires { node < length self.old.nodes.items }
         ensures ok { OnOk result (GoesOn self.old.calls.items self.new.calls.items (appended (replayed empty self.old.calls.items) node bytes.now)) }
@@ -92,7 +92,7 @@ impl Held {
         }
     }
 
-    /// Makes a node's bytes firm.
+    /// Makes a node's bytes durable.
     pub fn sync(&mut self, node: usize) -> Result<(), AllocError>
         requires { node < length self.old.nodes.items }
         ensures ok { OnOk result (GoesOn self.old.calls.items self.new.calls.items (node_synced (replayed empty self.old.calls.items) node)) }
@@ -118,7 +118,7 @@ impl Held {
         Ok(())
     }
 
-    /// Makes a folder's names firm.
+    /// Makes a folder's names durable.
     pub fn sync_folder(&mut self, folder: &str) -> Result<(), AllocError>
         ensures ok { OnOk result (GoesOn self.old.calls.items self.new.calls.items (folder_synced (replayed empty self.old.calls.items) folder.now)) }
         ensures err { OnErr result (self.new.calls.items ≡ self.old.calls.items) }

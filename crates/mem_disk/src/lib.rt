@@ -75,7 +75,7 @@ impl MemDisk {
     /// From now on `k` calls pass, and all later ones fail. Each call of the disk counts, those that read too, but for
     /// `failures` and `reads`; what was set before is forgotten. A call that fails answers Failed, whatever it would
     /// have answered. The pick, modulo 3, says what a failed call has done: 0 nothing, 1 the whole, 2 a part (of an
-    /// append the first half, rounded down to whole bytes, of a rename the target's name alone, of any other call the
+    /// append the first half, rounded down to whole bytes, of a rename the target's name only, of any other call the
     /// whole).
     pub fn fuse(&mut self, k: u64, pick: u64)
         ensures fuse { self.new.fuse ≡ plan.After k (Fuses.done_of pick) }

@@ -37,7 +37,7 @@ fn is_name(bytes: &[u8]) -> bool
     !bytes.is_empty()
 }
 
-// What stands behind a folder and its slash.
+// What stands after a folder and its slash.
 fn behind<'a>(path: &'a str, folder: &str) -> Option<&'a str>
     ensures { MatchOption result ((name : List ℕ) → path.now ≢ path_in folder.now name) (λ name. path.now ≡ path_in folder.now name.now) }
 {

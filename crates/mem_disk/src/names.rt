@@ -47,7 +47,7 @@ fn place(
     Ok(())
 }
 
-// The names in a folder are firm, and no path changes.
+// The names in a folder are durable, and no path changes.
 fn settle(names: &mut Vec<Name>, folder: &str)
     ensures settles { Settles folder.now names.old.items names.new.items }
     ensures apart { AreApart names.old.items → AreApart names.new.items }
@@ -141,7 +141,7 @@ impl Names {
         }
     }
 
-    /// The names in a folder are firm.
+    /// The names in a folder are durable.
     pub fn settle(&mut self, folder: &str)
         ensures settles { Settles folder.now self.old.list.items self.new.list.items }
         ensures apart { AreApart self.old.list.items → AreApart self.new.list.items }

@@ -10,7 +10,7 @@ pub struct Node {
     pub bytes: Vec<u8>,
     /// how many of them were there at the last sync
     pub synced: usize,
-    /// a sync has failed; later ones make nothing firm
+    /// a sync has failed; later ones make nothing durable
     pub doubted: bool,
 }
 
@@ -27,7 +27,7 @@ impl Node {
         }
     }
 
-    // Its bytes are firm.
+    // Its bytes are durable.
     pub fn sync(&mut self)
         ensures bytes { self.new.bytes ≡ self.old.bytes }
         ensures synced { self.new.synced ≡ length self.old.bytes.items }

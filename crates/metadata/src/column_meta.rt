@@ -35,17 +35,17 @@ pub struct ColumnMeta {
 }
 
 impl ColumnMeta {
-    /// The record that a struct is. Refused Thrift just where it is none: a known field is of another
+    /// The record that a struct is. Refused Thrift exactly when it is none: a known field is of another
     /// type, also where a later one of its id is not, or a needed one is not there. Of a field that
-    /// comes twice the last counts; others are passed over.
+    /// comes twice the last counts; others are skipped.
     pub fn from_tree(alloc: Global, tree: &Tree) -> R<ColumnMeta>
         ensures stands { IsRecordOf column_meta_view (column_meta (tree_view tree.now)) result }
     {
         column_meta_of(alloc, tree.fields.as_slice())
     }
 
-    /// The struct of the record, in the order of the ids; what is absent is left out. Refused Memory
-    /// alone.
+    /// The struct of the record, in the order of the ids; what is absent is left out. Refused only
+    /// Memory.
     pub fn to_tree(&self, alloc: Global) -> R<Tree>
         ensures stands { IfOk result (λ tree. tree_view tree ≡ column_meta_fields (column_meta_view self.now)) }
         ensures which { RefusedOnly (λ _. ⊥) result }

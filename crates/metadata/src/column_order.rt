@@ -27,8 +27,8 @@ pub enum ColumnOrder {
 }
 
 impl ColumnOrder {
-    /// The order that a struct is. Refused Thrift just where a field TYPE_ORDER is no struct; other
-    /// members of the union are passed over.
+    /// The order that a struct is. Refused Thrift exactly when a field TYPE_ORDER is no struct; other
+    /// members of the union are skipped.
     pub fn from_tree(alloc: Global, tree: &Tree) -> R<ColumnOrder>
         ensures stands { IsRecordOf column_order_view (column_order (tree_view tree.now)) result }
     {
@@ -36,7 +36,7 @@ impl ColumnOrder {
     }
 
     /// The struct of the order: TYPE_ORDER is an empty struct; another order is written as a union
-    /// with no member, as whoever does not know a member reads it. Refused Memory alone.
+    /// with no member, as whoever does not know a member reads it. Refused only Memory.
     pub fn to_tree(&self, alloc: Global) -> R<Tree>
         ensures stands { IfOk result (λ tree. tree_view tree ≡ column_order_fields (column_order_view self.now)) }
         ensures which { RefusedOnly (λ _. ⊥) result }

@@ -17,17 +17,17 @@ use schema::Element;
 use std::alloc::Global;
 use thrift_compact::{ElementType, Field, Node, Tree};
 
-/// The element that a struct is; its logicalType is kept as the tree that it is. Refused Thrift just
-/// where it is none: a known field is of another type, also where a later one of its id is not, or
-/// the name is not there. Of a field that comes twice the last counts; others are passed over.
+/// The element that a struct is; its logicalType is kept as the tree that it is. Refused Thrift exactly
+/// when it is none: a known field is of another type, also where a later one of its id is not, or
+/// the name is not there. Of a field that comes twice the last counts; others are skipped.
 pub fn element_from_tree(alloc: Global, tree: &Tree) -> R<Element>
     ensures stands { IsRecordOf element_view (element (tree_view tree.now)) result }
 {
     element_of(alloc, tree.fields.as_slice())
 }
 
-/// The struct of an element, in the order of the ids; what is absent is left out. Refused Memory
-/// alone.
+/// The struct of an element, in the order of the ids; what is absent is left out. Refused only
+/// Memory.
 pub fn element_to_tree(alloc: Global, element: &Element) -> R<Tree>
     ensures stands { IfOk result (λ tree. tree_view tree ≡ element_fields (element_view element.now)) }
     ensures which { RefusedOnly (λ _. ⊥) result }

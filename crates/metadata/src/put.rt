@@ -139,7 +139,7 @@ impl<T: ToElement> ToNode for Vec<T> {
     }
 }
 
-/// Puts a field behind the others.
+/// Puts a field after the others.
 pub fn put<T: ToNode>(alloc: Global, fields: &mut Vec<Field>, id: i16, value: &T) -> R<()>
     ensures stands { OnOk result (map field_view fields.new.items ≡ map field_view fields.old.items ++ present id (Some (T.write (T.shown value.now)))) }
     ensures which { RefusedOnly (λ _. ⊥) result }
@@ -149,7 +149,7 @@ pub fn put<T: ToNode>(alloc: Global, fields: &mut Vec<Field>, id: i16, value: &T
     Ok(())
 }
 
-/// Puts a field behind the others where its value is there.
+/// Puts a field after the others where its value is there.
 pub fn put_given<T: ToNode>(
     alloc: Global,
     fields: &mut Vec<Field>,

@@ -2,7 +2,7 @@
 
 use schema::Value;
 
-/// An entry of a column, as [`schema::Entry`]; the value is lent, so that a column of rows can be written
+/// An entry of a column, as [`schema::Entry`]; the value is borrowed, so that a column of rows can be written
 /// with no copy of them.
 #[derive(Debug, Clone, Copy)]
 pub struct EntryRef<'a> {
@@ -10,6 +10,6 @@ pub struct EntryRef<'a> {
     pub repetition: u32,
     /// How many of the OPTIONAL and REPEATED fields of the leaf's path are there.
     pub definition: u32,
-    /// There just where the definition level is the leaf's greatest.
+    /// There exactly when the definition level is the leaf's greatest.
     pub value: Option<&'a Value>,
 }

@@ -25,7 +25,7 @@ pub fn pages_of_a_dictionary()
 }
 
 /// A front of the bytes is at most one page of a chunk that has this dictionary, and holds at most one
-/// list of so many entries as the pages of a chunk: also of bytes that nobody has read.
+/// list of this many entries as the pages of a chunk: also of bytes that nobody has read.
 pub fn one_page()
     ensures page { (leaf : Leaf) (d : Option (List ValueTree)) → IsFunctional (IsPage leaf d) }
     ensures chunk { (leaf : Leaf) (n : ℕ) → IsFunctional (λ bytes. IsChunk leaf bytes n) }

@@ -5,7 +5,7 @@ use schema::{Entry, Value};
 /// A page, by what it stands for.
 #[derive(Debug, Drop)]
 pub enum PageRef<'a> {
-    /// A page of a type that is passed over, with its body.
+    /// A page of a type that is skipped, with its body.
     Skipped(&'a [u8]),
     /// The values of a dictionary page.
     Dictionary(Vec<Value>),

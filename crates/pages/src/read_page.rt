@@ -25,13 +25,13 @@ use std::alloc::Global;
 /// entries, and how many bytes the page takes, its header among them. What follows is not looked at.
 /// (parquet-format, README.md, "Data Pages".)
 ///
-/// Pages of a type other than DATA_PAGE, DICTIONARY_PAGE and DATA_PAGE_V2 are passed over. Each byte of
+/// Pages of a type other than DATA_PAGE, DICTIONARY_PAGE and DATA_PAGE_V2 are skipped. Each byte of
 /// the page is read once, but for the fields of its header and text, which is checked to be UTF-8.
 /// Room is asked for only for values that the bytes hold.
 ///
 /// Refused Limit only where a value is announced with more than 16 MiB, or where the page is not read
 /// yet: a dictionary, a page of version 2, a leaf that an OPTIONAL or REPEATED field leads to, a value
-/// in another encoding than PLAIN. For any other fault, want of memory aside, only where no page with at
+/// in another encoding than PLAIN. For any other fault, lack of memory aside, only where no page with at
 /// most `left` entries stands at the front: Thrift where the header is no record, Page where the page
 /// goes beyond the bytes, where its size or its count is below 0, and where it has more than `left`
 /// entries, Encoding where the format has no such values, Truncated where the body ends before its
@@ -58,7 +58,7 @@ pub fn read_page<'a>(
     Ok((page, used))
 }
 
-/// The header at the front of the bytes, the body behind it, and how many bytes both take.
+/// The header at the front of the bytes, the body after it, and how many bytes both take.
 fn read_frame<'a>(alloc: Global, bytes: &'a [u8]) -> R<(PageHeader, &'a [u8], usize)>
     ensures stands { IfOk result (λ x. IsFramed bytes.now (page_header_view x.0) x.1.now x.2) }
     ensures within { IfOk result (λ x. x.2 ≤ length bytes.now) }

@@ -104,7 +104,7 @@ fn lent_value<'a>(leaf_type: &LeafType, entry: &EntryRef<'a>) -> R<&'a Value>
     }
 }
 
-/// Writes a header and the values behind it; where it is refused, some of them may stand there.
+/// Writes a header and the values after it; where it is refused, some of them may stand there.
 fn put_page(alloc: Global, kind: Kind, values: &[&Value], out: &mut Vec<u8>) -> R<()>
     requires { All (IsOfKind kind) (map (λ v. view v.now) values.now) }
     ensures stands { let vs = map (λ v. view v.now) values.now in OnOk result (Appends (IsPlainPage kind vs) (1024 + plain_size kind vs) out.old.items out.new.items) }
@@ -120,7 +120,7 @@ fn put_page(alloc: Global, kind: Kind, values: &[&Value], out: &mut Vec<u8>) -> 
     encode(kind, values, out)
 }
 
-/// Writes the header of a page with so many bytes of body and so many PLAIN values. Refused Limit where
+/// Writes the header of a page with this many bytes of body and this many PLAIN values. Refused Limit where
 /// one of them is more than an i32 holds. After a refusal `out` is as it was.
 fn put_header(alloc: Global, size: usize, count: usize, out: &mut Vec<u8>) -> R<()>
     ensures stands { OnOk result (Appends (λ bytes. IsThrift bytes (page_header_fields (written_header size count))) 1024 out.old.items out.new.items) }
@@ -133,7 +133,7 @@ fn put_header(alloc: Global, size: usize, count: usize, out: &mut Vec<u8>) -> R<
     header.write(alloc, out)
 }
 
-/// The header of a page with so many bytes of body and so many PLAIN values. Refused Limit where one
+/// The header of a page with this many bytes of body and this many PLAIN values. Refused Limit where one
 /// of them is more than an i32 holds.
 fn header_of(size: usize, count: usize) -> R<PageHeader>
     ensures stands { IfOk result (λ header. page_header_view header ≡ written_header size count) }

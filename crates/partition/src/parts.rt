@@ -27,7 +27,7 @@ pub fn part_name(alloc: Global, number: u64) -> R<String>
 }
 
 /// The path of the part file of a group with this key and number, seen from the dataset's folder: in the folders of the
-/// key, and without key columns the name alone.
+/// key, and without key columns only the name.
 ///
 /// Refused Key exactly when [`can_partition`](crate::can_partition) says no, out of memory aside.
 pub fn part_path(alloc: Global, columns: &[KeyColumn], key: &Key, number: u64) -> R<String>

@@ -15,16 +15,16 @@ use std::alloc::Global;
 /// The most bytes that a value may have: 16 MiB.
 pub const MOST_BYTES_OF_VALUE: usize = 16_777_216;
 
-/// The first `n` values of the type, and how many bytes they take. Bytes behind them are left.
+/// The first `n` values of the type, and how many bytes they take. Bytes after them are left.
 ///
 /// Booleans are bits, the lowest of a byte first, in `(n + 7) / 8` bytes whose last bits are not
-/// looked at; numbers are little-endian; a BYTE_ARRAY stands behind its length in four bytes, a
+/// looked at; numbers are little-endian; a BYTE_ARRAY stands after its length in four bytes, a
 /// FIXED_LEN_BYTE_ARRAY alone. Each value is of the type: a number within its bits, bytes below 256,
 /// a fixed length kept. (parquet-format, Encodings.md, "Plain".)
 ///
-/// Refused Limit just where one of the `n` values is announced with more than 16 MiB, by the four
-/// bytes before it or by the length of its type, and those before it stand; else Truncated just
-/// where the bytes end before the `n` values do.
+/// Refused Limit exactly when one of the `n` values is announced with more than 16 MiB, by the four
+/// bytes before it or by the length of its type, and those before it stand; else Truncated exactly
+/// when the bytes end before the `n` values do.
 ///
 /// Takes one pass and copies the bytes of each text once. Room is asked for only for values that
 /// the bytes can hold, whatever `n` is, and of a BYTE_ARRAY for none before one stands. (A fixed

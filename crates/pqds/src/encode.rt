@@ -24,7 +24,7 @@ pub struct Sources<'a> {
     pub options: WriteOptions,
 }
 
-/// Puts the row of a line behind the rows so far. Refused as `row_from` refuses the line.
+/// Puts the row of a line after the rows so far. Refused as `row_from` refuses the line.
 fn read_line(alloc: Global, schema: &Schema, line: &str, rows: &mut Vec<Row>) -> R<()>
     ensures stands { OnOk result (AddsRow schema.now line.now rows.old.items rows.new.items) }
     ensures which { RefusedOnly (IsRefusedLine schema.now line.now) result }

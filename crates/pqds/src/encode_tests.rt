@@ -40,7 +40,7 @@ const FILES: [(&[u8], &[u8]); 4] = [
     (b"", &NO_ROWS),
 ];
 
-/// A schema and rows, where they are there, and the fault that is told: the first of several.
+/// A schema and rows, where they are there, and the fault that is reported: the first of several.
 const FAULTS: [(Option<&[u8]>, Option<&[u8]>, &str); 14] = [
     (None, Some(b"\xFF"), DEVICE),
     // Both files are read before either is looked at.
@@ -63,7 +63,7 @@ const FAULTS: [(Option<&[u8]>, Option<&[u8]>, &str); 14] = [
     (Some(OPTIONAL), Some(b"{\"x\":1}"), LIMIT),
 ];
 
-/// Options for the two rows, and the fault that is told, where there is one.
+/// Options for the two rows, and the fault that is reported, where there is one.
 const OPTIONS: [(&[&str], &str); 14] = [
     (&["--group-rows", "2", "--page-rows", "2"], ""),
     (&["--group-rows=1048576", "--page-rows=4294967295"], ""),

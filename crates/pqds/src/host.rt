@@ -87,7 +87,7 @@ pub fn text_of(bytes: Vec<u8>) -> R<String>
     }
 }
 
-/// Writes all of the bytes, and has them firm.
+/// Writes all of the bytes and makes them durable.
 fn fill<O: Write + OpenFile>(file: &mut O, bytes: &[u8]) -> io::Result<()>
     ensures stands { OnOk result (Appends (O.contents file.old) (O.contents file.new) bytes.now) }
 {
@@ -106,7 +106,7 @@ fn make<F: Files>(rt: &F, path: &str, bytes: &[u8]) -> io::Result<()> {
     filled
 }
 
-/// Has the name of a file firm, where the host can: a folder that cannot be opened or synced is left.
+/// Makes the name of a file durable where the host can: a folder that cannot be opened or synced is ignored.
 fn sync_folder<F: Files>(rt: &F, path: &str) {
     let folder = match path.rsplit_once('/') {
         Some(("", _)) => "/",

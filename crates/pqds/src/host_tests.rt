@@ -11,7 +11,7 @@ const TEXTS: &[&[u8]] = &[b"", b"a\n", b"\xC3\xA9", b"\xF0\x9F\x92\xBE", b"\0"];
 
 const NO_TEXTS: &[&[u8]] = &[b"\xFF", b"\xC3", b"a\xC3\x28", b"\xED\xA0\x80", b"\xC0\x80"];
 
-/// The host's files without its links, each of which takes so many bytes, and is synced or not.
+/// The host's files without its links, each of which takes this many bytes, and is synced or not.
 #[derive(Drop)]
 struct Faulty {
     rt: HostRuntime,

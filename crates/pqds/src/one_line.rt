@@ -13,7 +13,7 @@ fn is_control(character: char) -> bool {
 pub struct OneLine<'a, W: Write>(pub &'a mut W);
 
 impl<'a, W: Write> OneLine<'a, W> {
-    /// Writes what stands in one line, and then the character behind it, escaped.
+    /// Writes what stands in one line, and then the character after it, escaped.
     fn write_escaped(&mut self, plain: &str, control: Option<char>) -> fmt::Result {
         self.0.write_all(plain.as_bytes()).map_err(|_| fmt::Error)?;
         match control {

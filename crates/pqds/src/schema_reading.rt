@@ -205,7 +205,7 @@ fn said_of_group(
     })
 }
 
-/// What the object of a group of so many fields says.
+/// What the object of a group of this many fields says.
 fn group_said(
     alloc: Global,
     json: &Json,
@@ -360,7 +360,7 @@ fn elements_of(alloc: Global, all: Vec<Said>) -> R<Vec<Element>>
     Ok(elements)
 }
 
-/// What an array of fields says, behind the root; none where it is not of the form.
+/// What an array of fields says, after the root; none where it is not of the form.
 fn all_said(alloc: Global, json: &Json) -> Result<Option<Vec<Said>>, AllocError>
     ensures { IfOk result (λ found. option_map (λ all. saids all.items) found ≡ all_said (view json.now)) }
 {

@@ -336,7 +336,7 @@ fn a_text_is_refused_by_its_fault(rt: HostRuntime) -> Result<(), Fail> {
     Ok(())
 }
 
-/// The text of a leaf below so many groups.
+/// The text of a leaf below this many groups.
 fn nested(alloc: Global, groups: usize) -> R<String> {
     let mut text = r#"[{"name":"g","rep":"optional","fields":"#.repeat(alloc, groups)?;
     text.push_str(r#"[{"name":"x","rep":"required","type":"int32"}]"#)?;

@@ -24,7 +24,7 @@ pub const NO_ROWS: [u8; 51] = [
     82, 49,
 ];
 
-/// What the program answers, and what it writes to both of its writers.
+/// What the program returns, and what it writes to both of its writers.
 #[derive(Drop)]
 pub struct Said {
     pub status: u8,
@@ -50,7 +50,7 @@ pub fn answer(rt: &HostRuntime, words: &[String]) -> Said {
     Said { status, out, err }
 }
 
-/// The same, where they are lent.
+/// The same, where they are borrowed.
 pub fn answer_to(rt: &HostRuntime, words: &[&str]) -> R<Said> {
     let words = owned(rt.alloc(), words)?;
     Ok(answer(rt, words.as_slice()))
@@ -123,7 +123,7 @@ fn a_file_that_cannot_be_read_is_refused(rt: HostRuntime) -> Result<(), Fail> {
     Ok(())
 }
 
-/// The front of so many bytes of the file, with these bytes at these places.
+/// The front of this many bytes of the file, with these bytes at these places.
 fn changed(alloc: Global, changes: &[(usize, u8)], length: usize) -> R<Vec<u8>> {
     let mut bytes = Vec::from_slice(alloc, &TWO_ROWS)?;
     for (place, byte) in changes {

@@ -21,7 +21,7 @@ const REFUSED: u8 = 1;
 /// The words are no call, or ask for help.
 const USAGE: u8 = 2;
 
-/// Says why a call was refused, in one line, whatever the names of columns have in them, and answers the
+/// Says why a call was refused, in one line, whatever the names of columns have in them, and returns the
 /// status of that. Where that line cannot be written nothing is left to be said.
 pub fn refuse<E: Write>(err: &mut E, refusal: &Refusal) -> u8
     ensures { result ≡ 1 }
@@ -47,7 +47,7 @@ fn make<F: Files, W: Write>(rt: &F, alloc: Global, call: &Call<'_>, out: &mut W)
     }
 }
 
-/// What the program does for these words, which begin behind its name; answers its status.
+/// What the program does for these words, which begin after its name; answers its status.
 ///
 /// Status 0: done, and `out` has what was asked for; of `encode` it has nothing, and the new file is there.
 /// Status 1: refused, with one line on `err`, such as `refused 6 Float a.b`; `out` has nothing new where the

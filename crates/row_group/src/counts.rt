@@ -16,7 +16,7 @@ pub fn natural(number: i64) -> Option<usize>
     Some(number as usize)
 }
 
-/// A count of at most so many. Refused Page below 0, and Limit above.
+/// A count of at most this many. Refused Page below 0, and Limit above.
 pub fn count_of(number: i64, most: i64) -> R<usize>
     ensures count_is { IfOk result (λ n. number ≡ pos n) }
     ensures within_limits { OnOk result (most <ℤ number → ⊥) }

@@ -85,7 +85,7 @@ fn entries_of(alloc: Global, page: PageRef<'_>) -> Vec<schema::Entry>
     }
 }
 
-/// The column of so many entries whose pages begin here, and how many bytes they take.
+/// The column of this many entries whose pages begin here, and how many bytes they take.
 fn read_pages(alloc: Global, bytes: &[u8], leaf: &Leaf, count: usize) -> R<(Column, usize)>
     ensures stands { IfOk result (λ x. IsChunk (leaf_view leaf.now) bytes.now count (column_view x.0) x.1) }
     ensures alone { IfOk result (λ x. (es : List Entry) (used : ℕ) → IsChunk (leaf_view leaf.now) bytes.now count es used → (es ≡ column_view x.0) × (used ≡ x.1)) }

@@ -52,7 +52,7 @@ fn from(bytes: &[u8], start: usize) -> &[u8]
     bytes.split_at(start).1
 }
 
-/// The column of a chunk, which has so many entries. Refused Levels where it has another number of
+/// The column of a chunk, which has this many entries. Refused Levels where it has another number of
 /// them, and else as the chunk is.
 fn read_column(
     alloc: Global,
@@ -78,7 +78,7 @@ fn read_column(
     Ok(column)
 }
 
-/// The columns of the group's chunks, which have so many entries each. Refused Schema where there are
+/// The columns of the group's chunks, which have this many entries each. Refused Schema where there are
 /// not as many chunks as leaves, and else as a chunk is.
 pub fn read_columns(
     alloc: Global,

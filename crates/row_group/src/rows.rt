@@ -71,10 +71,10 @@ impl Rows {
         })
     }
 
-    /// The next row; none behind the last, however often it is asked for. The values move into the row:
+    /// The next row; none after the last, however often it is asked for. The values move into the row:
     /// the time is linear in its columns, whatever their size.
     ///
-    /// Refused for memory alone, and then no row is lost: the same row comes when it is asked for again.
+    /// Refused only for memory, and then no row is lost: the same row comes when it is asked for again.
     pub fn next(&mut self) -> R<Option<Row>>
         ensures takes { IfOk result (λ row. rows_left self.old ≡ map row_view (option_to_list row) ++ rows_left self.new) }
         ensures ends { IfOk result (λ row. row ≡ None → rows_left self.old ≡ []) }
@@ -90,7 +90,7 @@ impl Rows {
     }
 
     /// All rows that are left, in their order, which then stand beside the columns. Room for them is asked
-    /// for at the start, and room for each row's values as it is made; refused for memory alone. The time
+    /// for at the start, and room for each row's values as it is made; refused only for memory. The time
     /// is linear in their values.
     pub fn collected(mut self) -> R<Vec<Row>>
         ensures rows_are { IfOk result (λ rows. rows_view rows.items ≡ rows_left self) }

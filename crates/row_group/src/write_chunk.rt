@@ -29,7 +29,7 @@ use std::rc::RcStr;
 /// and RLE.
 const ENCODINGS: [i32; 2] = [0, 3];
 
-/// Writes the entries at the end of a file's bytes, as a chunk of the leaf, and answers its record:
+/// Writes the entries at the end of a file's bytes, as a chunk of the leaf, and returns its record:
 /// one page as of [`write_page`], or none where there are no entries. The chunk starts where the bytes
 /// ended, both sizes in the record are those of the bytes that were written, and its encodings are PLAIN
 /// and RLE. (`parquet.thrift`, ColumnMetaData.)
@@ -39,7 +39,7 @@ const ENCODINGS: [i32; 2] = [0, 3];
 /// already, or where the leaf's pages are not written yet; of no entries any leaf's chunk is written.
 /// After a refusal `out` is as it was.
 ///
-/// The entries are passed over as often as by [`write_page`]; beside what that takes, memory is asked
+/// The entries are gone through as often as by [`write_page`]; beside what that takes, memory is asked
 /// for the record alone, and before anything is written.
 pub fn write_chunk(
     alloc: Global,

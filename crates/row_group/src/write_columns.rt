@@ -54,7 +54,7 @@ fn write_column(alloc: Global, leaf: &Leaf, rows: &[Row], out: &mut Vec<u8>) -> 
 }
 
 /// Writes the columns of all leaves, REQUIRED top-level ones, each as a chunk. Refused Limit where the
-/// group is too much; then some of the chunks may stand behind what was there.
+/// group is too much; then some of the chunks may stand after what was there.
 pub fn write_columns(
     alloc: Global,
     schema: &Schema,

@@ -19,7 +19,7 @@ use schema::{Row, Schema, entries_are_of_leaves};
 use std::alloc::Global;
 
 /// Writes the rows at the end of a file's bytes, as one group: a chunk for each leaf of the schema, in
-/// the order of the leaves, one behind the other; and answers its record. The rows are lent, their
+/// the order of the leaves, one after the other; and returns its record. The rows are borrowed, their
 /// values are not copied. (`parquet.thrift`, RowGroup.)
 ///
 /// Refused RowShape only where a row does not fit the schema; Limit only where there are more than
@@ -28,7 +28,7 @@ use std::alloc::Global;
 /// below a group, or not REQUIRED, with which no group is written. Where both are so, either may come. After a
 /// refusal `out` is as it was.
 ///
-/// All rows are compared with the schema before the first chunk; then one column of lent values is
+/// All rows are compared with the schema before the first chunk; then one column of borrowed values is
 /// held at a time. The time is linear in the rows for each leaf, and in the bytes of the values.
 pub fn write_group(alloc: Global, schema: &Schema, rows: &[Row], out: &mut Vec<u8>) -> R<GroupMeta>
     ensures stands { IfOk result (λ g. AppendsGroup schema.now out.old.items out.new.items (group_meta_view g) (rows_view rows.now)) }

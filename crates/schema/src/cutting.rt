@@ -89,7 +89,7 @@ fn push_kept(out: &mut Vec<Field>, field: Option<Field>) -> R<()>
 }
 
 /// What is kept of a field: a leaf just if it is wanted, a group just if something in it is kept. The
-/// first leaf below it has this place; answers the place behind the last one too.
+/// first leaf below it has this place; answers the place after the last one too.
 #[cycle(cutting)]
 fn cut(alloc: Global, wanted: &[bool], at: usize, field: &Field) -> R<(Option<Field>, usize)>
     requires few { at + count_leaves (field_view field.now) ≤ length wanted.now }
@@ -122,7 +122,7 @@ fn cut(alloc: Global, wanted: &[bool], at: usize, field: &Field) -> R<(Option<Fi
     }
 }
 
-/// What is kept of some fields. The first leaf below them has this place; answers the place behind the
+/// What is kept of some fields. The first leaf below them has this place; answers the place after the
 /// last one too.
 #[cycle(cutting)]
 pub fn cut_each(

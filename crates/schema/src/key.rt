@@ -15,7 +15,7 @@ pub struct Key {
 }
 
 impl Key {
-    /// A copy. Refused for memory alone; time and room are linear in what the key holds.
+    /// A copy. Refused only for memory; time and room are linear in what the key holds.
     pub fn copied(&self, alloc: Global) -> R<Key>
         ensures copies { IfOk result (λ copy. key_view copy ≡ key_view self.now) }
         ensures which { RefusedOnly (λ _. ⊥) result }

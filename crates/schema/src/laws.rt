@@ -35,7 +35,7 @@ pub fn levels_are_of_steps()
 {}
 
 /// The columns of rows that fit have entries within their leaves' greatest levels, with a value that fits
-/// just where the definition level is the greatest.
+/// exactly when the definition level is the greatest.
 #[tactic(auto, using(crate::proofs::Entries::entries_are_of_leaves))]
 pub fn entries_are_of_leaves()
     ensures { EntriesAreOfLeaves }

@@ -101,7 +101,7 @@ fn leaf_element(
     })
 }
 
-/// The element of a group with so many children.
+/// The element of a group with this many children.
 fn group_element(
     alloc: Global,
     name: &str,

@@ -19,10 +19,10 @@ use bits::{R, Refusal};
 use std::alloc::Global;
 use std::collections::BTreeSet;
 
-/// A schema has at most so many leaves.
+/// A schema has at most this many leaves.
 const LEAVES: usize = 1024;
 
-/// And at most so many fields are on the way to each.
+/// And at most this many fields are on the way to each.
 const FIELDS_ON_A_WAY: u32 = 32;
 
 /// How many children an element says that it has. A leaf has none.
@@ -35,7 +35,7 @@ pub fn children(element: &Element) -> usize
     }
 }
 
-/// Whether an element may say that it has so many children: a leaf none, a group some.
+/// Whether an element may say that it has this many children: a leaf none, a group some.
 fn may_have(element: &Element) -> bool
     ensures { result ≡ may_have element.now.kind element.now.num_children }
 {
@@ -47,7 +47,7 @@ fn may_have(element: &Element) -> bool
     }
 }
 
-/// How many trees a list is, one behind the other, where each element has the children that it says.
+/// How many trees a list is, one after the other, where each element has the children that it says.
 fn count_trees(elements: &[Element]) -> Option<usize>
     ensures counted { MatchOption result (well_formed (elements_view elements.now) ≡ false) (λ n. (well_formed (elements_view elements.now) ≡ true) × (n ≡ count_branches (forest (elements_view elements.now)))) }
 {
@@ -90,7 +90,7 @@ impl Field {
     }
 }
 
-/// Whether no two of the fields have one name. Each name is looked up, in order, among those behind it: for n
+/// Whether no two of the fields have one name. Each name is looked up, in order, among those after it: for n
 /// names about n log n comparisons.
 pub fn names_differ(alloc: Global, fields: &[Field]) -> R<bool>
     ensures names_differ { IfOk result (λ b. IsTrue b ↔ AllDiffer (names (field_views fields.now))) }
@@ -146,7 +146,7 @@ fn group(
     })
 }
 
-/// The field at a place of the list, with at most so many fields on a way, and the place behind it.
+/// The field at a place of the list, with at most this many fields on a way, and the place after it.
 #[cycle(reading)]
 fn read_field(alloc: Global, elements: &[Element], at: usize, deep: u32) -> R<(Field, usize)>
     requires some { at < length elements.now }
@@ -174,8 +174,8 @@ fn read_field(alloc: Global, elements: &[Element], at: usize, deep: u32) -> R<(F
     Ok((field, next))
 }
 
-/// So many fields that stand one behind the other, the first at this place of the list, and the place
-/// behind them.
+/// This many fields that stand one after the other, the first at this place of the list, and the place
+/// after them.
 #[cycle(reading)]
 pub fn read_fields(
     alloc: Global,

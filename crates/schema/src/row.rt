@@ -15,7 +15,7 @@ pub struct Row {
 }
 
 impl Row {
-    /// A copy. Refused for memory alone; time and room are linear in what the row holds.
+    /// A copy. Refused only for memory; time and room are linear in what the row holds.
     pub fn copied(&self, alloc: Global) -> R<Row>
         ensures copies { IfOk result (λ copy. row_view copy ≡ row_view self.now) }
         ensures which { RefusedOnly (λ _. ⊥) result }
@@ -32,7 +32,7 @@ pub struct Entry {
     pub repetition: u32,
     /// How many of the OPTIONAL and REPEATED fields of the leaf's path are there.
     pub definition: u32,
-    /// There just where the definition level is the leaf's greatest.
+    /// There exactly when the definition level is the leaf's greatest.
     pub value: Option<Value>,
 }
 

@@ -92,7 +92,7 @@ fn copy(alloc: Global, value: &Value) -> Result<Value, AllocError>
     }
 }
 
-/// Copies of the values, in their order. Refused for memory alone; time and room are linear in what the
+/// Copies of the values, in their order. Refused only for memory; time and room are linear in what the
 /// values hold.
 pub fn copied_values(alloc: Global, values: &[Value]) -> R<Vec<Value>>
     ensures copies { IfOk result (λ copies. map view copies.items ≡ map view values.now) }
@@ -103,7 +103,7 @@ pub fn copied_values(alloc: Global, values: &[Value]) -> R<Vec<Value>>
 }
 
 impl Value {
-    /// A copy, with all that is in it. Refused for memory alone; time and room are linear in what the
+    /// A copy, with all that is in it. Refused only for memory; time and room are linear in what the
     /// value holds.
     pub fn copied(&self, alloc: Global) -> R<Value>
         ensures copies { IfOk result (λ copy. view copy ≡ view self.now) }
