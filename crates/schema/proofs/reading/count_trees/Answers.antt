@@ -12,7 +12,7 @@ not_true false h = refl
 
 pub returns-then-not-may_have : goal.returns-then-not-may_have
 returns-then-not-may_have c = record {
-  some = not_true _ (λ h.
+  counted = not_true _ (λ h.
       let i : ℕ = c.loop-at.at - 1 in
       let k : c.loop-at.at ≡ i + 1 = omega arith in
       let below : i < length c.args.elements.now = omega arith in
