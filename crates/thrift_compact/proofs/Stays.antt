@@ -1,5 +1,5 @@
 -- What stands at the front of bytes stands there whatever follows.
-use Rattle.std.proofs.Common.{◌≡◌, ℕ, ◌+◌, ◌*◌, ◌≤◌, List, ◌++◌, length, take, drop, sym, ap, subst, ◌∙◌, arith, inl, inr}
+use Rattle.std.proofs.Common.{◌≡◌, ℕ, ◌+◌, ◌*◌, ◌<◌, ◌≤◌, List, ◌++◌, length, take, drop, sym, ap, subst, ◌∙◌, arith, inl, inr}
 use Rattle.std.specs.Prelude.{ℤ, pos}
 use Rattle.std.proofs.lemmas.List.{length-append, length-drop, get_or_append_left, take-append-le, drop-append-le}
 use Rattle.bits.specs.Codec.{NothingStands}
@@ -8,7 +8,8 @@ use Rattle.bits.proofs.Facts.{uleb_stays}
 use Rattle.thrift_compact.specs.Tree.{Node, yes, no, flag, i8, i16, i32, i64, double, binary, list, set, empty_map, map, struct, Nodes, no_nodes, node, Pairs, no_pairs, pair, Fields, no_fields, field, count, count_pairs}
 use Rattle.thrift_compact.specs.Compact.{IsByte, IsDouble, IsBinary, IsSigned, IsShort, IsLong, IsFieldHead, IsLongList, IsListHead, IsMapHead, IsValue, AreElements, ArePairs, AreFields, IsThrift, kind}
 use Rattle.thrift_compact.proofs.Parts.{one_signed, list_head_within, field_head_within}
-use Rattle.thrift_compact.proofs.Within.{value_within}
+use Rattle.thrift_compact.proofs.Within.{value_within, fields_within}
+use Rattle.thrift_compact.proofs.One.{one_thrift}
 
 -- what comes after the first n bytes, with more after it
 pub dropped : (S : List ℕ → Type 0) (n : ℕ) (bytes more : List ℕ) → n ≤ length bytes → S (drop n bytes ++ more) → S (drop n (bytes ++ more))
@@ -145,3 +146,9 @@ field_head_later previous at bytes more id k u le p = dropped (λ b. IsFieldHead
 -- a struct
 pub thrift_stays : (bytes more : List ℕ) (fields : Fields) (used : ℕ) → IsThrift bytes fields used → IsThrift (bytes ++ more) fields used
 thrift_stays bytes more fields used p = record { spelled = fields_stay fields (pos 0) bytes more used p.spelled; shallow = p.shallow }
+
+-- where one is cut, none is there
+pub none_where_cut : (bytes more : List ℕ) (fields : Fields) (used : ℕ) → IsThrift (bytes ++ more) fields used → length bytes < used → NothingStands (IsThrift bytes)
+none_where_cut bytes more fields used p cut seen taken s =
+    let same = (one_thrift (bytes ++ more) fields seen used taken p (thrift_stays bytes more seen taken s)).1 in
+    omega (arith, cut, same, fields_within seen (pos 0) bytes taken s.spelled)
