@@ -13,13 +13,13 @@ use Rattle.bits.proofs.Passing.{passes}
 use Rattle.thrift_compact.specs.Reading.{IsRefusedFor}
 
 -- what holds whatever follows holds where nothing does
-pub now : {Y : Type 0} (Stands : List ℕ → Y → ℕ → Type 0) (bytes : List ℕ) → NothingStands (Stands (bytes ++ [])) → NothingStands (Stands bytes)
-now Stands bytes nothing = subst (λ b. NothingStands (Stands b)) (append-nil bytes) nothing
+pub with_nothing_more : {Y : Type 0} (Stands : List ℕ → Y → ℕ → Type 0) (bytes : List ℕ) → NothingStands (Stands (bytes ++ [])) → NothingStands (Stands bytes)
+with_nothing_more Stands bytes nothing = subst (λ b. NothingStands (Stands b)) (append-nil bytes) nothing
 
 because : {Y Z : Type 0} (Part : List ℕ → Y → ℕ → Type 0) (part : List ℕ) (Whole : List ℕ → Z → ℕ → Type 0) (whole : List ℕ) (e : Refusal) → HasCause (IsRefusedFor Part part) e
     → ((more : List ℕ) → NothingStands (Part (part ++ more)) → NothingStands (Whole (whole ++ more))) → HasCause (IsRefusedFor Whole whole) e
 because Part part Whole whole Memory p nothing = p
-because Part part Whole whole Truncated p nothing = now Whole whole (nothing [] (subst (λ b. NothingStands (Part b)) (sym (append-nil part)) p))
+because Part part Whole whole Truncated p nothing = with_nothing_more Whole whole (nothing [] (subst (λ b. NothingStands (Part b)) (sym (append-nil part)) p))
 because Part part Whole whole Thrift p nothing = λ more. nothing more (p more)
 because Part part Whole whole e p nothing = absurd p
 
@@ -47,6 +47,7 @@ none_ever bytes nothing whole more n u p = elim (cases_lt (length bytes) u) [
   | inr le ↦ nothing n u (uleb_within bytes more n u le p)
 ]
 
+-- a result, with the type of what it holds
 abbrev result_of : (X : Type 0) → Result X Refusal → Result X Refusal
 result_of X r = r
 

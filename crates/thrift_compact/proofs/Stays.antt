@@ -16,11 +16,11 @@ pub dropped : (S : List ℕ → Type 0) (n : ℕ) (bytes more : List ℕ) → n 
 dropped S n bytes more le s = subst S (sym (drop-append-le n bytes more le)) s
 
 -- and the other way round
-pub behind : (S : List ℕ → Type 0) (n : ℕ) (bytes rest more : List ℕ) → rest ≡ drop n bytes → n ≤ length bytes → S (drop n (bytes ++ more)) → S (rest ++ more)
-behind S n bytes rest more e le s = subst S (drop-append-le n bytes more le ∙ ap (λ b. b ++ more) (sym e)) s
+pub in_rest : (S : List ℕ → Type 0) (n : ℕ) (bytes rest more : List ℕ) → rest ≡ drop n bytes → n ≤ length bytes → S (drop n (bytes ++ more)) → S (rest ++ more)
+in_rest S n bytes rest more e le s = subst S (drop-append-le n bytes more le ∙ ap (λ b. b ++ more) (sym e)) s
 
-pub nothing_behind : {Y : Type 0} (Stands : List ℕ → Y → ℕ → Type 0) (n : ℕ) (bytes rest more : List ℕ) → rest ≡ drop n bytes → n ≤ length bytes → NothingStands (Stands (rest ++ more)) → NothingStands (Stands (drop n (bytes ++ more)))
-nothing_behind Stands n bytes rest more e le nothing y used s = nothing y used (behind (λ b. Stands b y used) n bytes rest more e le s)
+pub nothing_after : {Y : Type 0} (Stands : List ℕ → Y → ℕ → Type 0) (n : ℕ) (bytes rest more : List ℕ) → rest ≡ drop n bytes → n ≤ length bytes → NothingStands (Stands (rest ++ more)) → NothingStands (Stands (drop n (bytes ++ more)))
+nothing_after Stands n bytes rest more e le nothing y used s = nothing y used (in_rest (λ b. Stands b y used) n bytes rest more e le s)
 
 -- ---- values that hold no others, and headers
 

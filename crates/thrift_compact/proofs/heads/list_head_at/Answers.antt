@@ -3,7 +3,7 @@ use Rattle.bits.specs.Varint.{IsUleb}
 use Rattle.thrift_compact.specs.Compact.{IsByte, IsListHead}
 use Rattle.thrift_compact.proofs.Parts.{list_head_byte, long_list}
 use Rattle.thrift_compact.proofs.Refused.{refused, uleb_refused}
-use Rattle.thrift_compact.proofs.Stays.{byte_stays, behind}
+use Rattle.thrift_compact.proofs.Stays.{byte_stays, in_rest}
 use Rattle.thrift_compact.proofs.heads.list_head_at.Goals as goal
 
 pub returns-in_err-byte-clause-which : goal.returns-in_err-byte-clause-which
@@ -20,4 +20,4 @@ returns-in_err-size-clause-which c =
     (uleb_refused rest c.in_err-size.field-0.0 c.in_err-size.ensures.only c.in_err-size.ensures.which c.in_err-size.ensures.truncated)
     (λ more nothing h used s.
     let r = long_list (bytes ++ more) h.0 h.1 used c.in_ok-byte.byte (byte_stays bytes more c.in_ok-byte.byte 1 c.in_ok-byte.ensures.stands) c.if-byte-lt240.false s in
-    nothing h.1 r.rest (behind (λ b. IsUleb b h.1 r.rest) 1 bytes rest more c.split_at.ensures.back c.in_ok-byte.ensures.stands.some r.is))
+    nothing h.1 r.rest (in_rest (λ b. IsUleb b h.1 r.rest) 1 bytes rest more c.split_at.ensures.back c.in_ok-byte.ensures.stands.some r.is))

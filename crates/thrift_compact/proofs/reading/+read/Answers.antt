@@ -16,8 +16,8 @@ use Rattle.thrift_compact.proofs.Elements as elements
 use Rattle.thrift_compact.proofs.PairsRead as pairs
 use Rattle.thrift_compact.proofs.MapRead.{has_pairs, map_size}
 use Rattle.thrift_compact.proofs.FieldsRead as fields
-use Rattle.thrift_compact.proofs.Refused.{now, refused, uleb_refused}
-use Rattle.thrift_compact.proofs.Stays.{behind, nothing_behind, list_head_stays, map_head_stays}
+use Rattle.thrift_compact.proofs.Refused.{with_nothing_more, refused, uleb_refused}
+use Rattle.thrift_compact.proofs.Stays.{in_rest, nothing_after, list_head_stays, map_head_stays}
 use Rattle.thrift_compact.proofs.reading.+read.Goals as goal
 
 -- ---- elements
@@ -30,7 +30,7 @@ elements_at-returns-in_err-value-clause-which t c =
     let left = c.args.left in
     refused (ElementOf kind left) rest (ElementsOf kind left c.args.size) bytes c.from_residual.result c.in_err-value.field-0.0 c.from_residual.ensures.1 c.in_err-value.ensures.which
     (λ more nothing. elements.none bytes kind left c.args.size c.loop.counter c.loop.at (views c.loop.values.items) more c.loop-test.true
-    (nothing_behind (ElementOf kind left) c.loop.at bytes rest more c.split_at.ensures.back c.loop.invariant.within nothing) c.loop.invariant)
+    (nothing_after (ElementOf kind left) c.loop.at bytes rest more c.split_at.ensures.back c.loop.invariant.within nothing) c.loop.invariant)
 
 pub elements_at-loop-preserved : goal.elements_at-loop-preserved
 elements_at-loop-preserved t c =
@@ -73,7 +73,7 @@ list_at-returns-in_err-values-clause-which t c =
     let h = one_list_head whole l.0 (count l.1) s.1.0 kind c.in_ok-kind.size head s.1.2 (list_head_stays bytes more kind c.in_ok-kind.size head c.in_ok-kind.ensures.stands) in
     let e1 = subst (λ k. AreElements l.1 k (drop s.1.0 whole) s.1.1) h.code s.1.3 in
     let e2 = subst (λ n. AreElements l.1 kind (drop n whole) s.1.1) h.used e1 in
-    let e3 = behind (λ b. AreElements l.1 kind b s.1.1) head bytes rest more c.split_at.ensures.back c.in_ok-kind.ensures.within e2 in
+    let e3 = in_rest (λ b. AreElements l.1 kind b s.1.1) head bytes rest more c.split_at.ensures.back c.in_ok-kind.ensures.within e2 in
     nothing l.1 s.1.1 (h.size, s.0, e3))
 
 -- ---- maps
@@ -119,7 +119,7 @@ map_at-returns-in_err-pairs-clause-which t c =
     let e1 = subst (λ k. ArePairs m.pairs k m.value (drop m.front whole) m.rest) h.key m.stand in
     let e2 = subst (λ k. ArePairs m.pairs keys k (drop m.front whole) m.rest) h.value e1 in
     let e3 = subst (λ n. ArePairs m.pairs keys values (drop n whole) m.rest) h.used e2 in
-    let e4 = behind (λ b. ArePairs m.pairs keys values b m.rest) (head + 1) bytes rest more c.split_at.ensures.back c.in_ok-keys.ensures.within e3 in
+    let e4 = in_rest (λ b. ArePairs m.pairs keys values b m.rest) (head + 1) bytes rest more c.split_at.ensures.back c.in_ok-keys.ensures.within e3 in
     nothing m.pairs m.rest (m.many, omega (arith, m.shallow), e4))
 
 pub pairs_at-returns-in_err-key-clause-which : goal.pairs_at-returns-in_err-key-clause-which
@@ -131,7 +131,7 @@ pairs_at-returns-in_err-key-clause-which t c =
     let left = c.args.left in
     refused (ElementOf keys left) rest (PairsOf keys values left c.args.size) bytes c.from_residual.result c.in_err-key.field-0.0 c.from_residual.ensures.1 c.in_err-key.ensures.which
     (λ more nothing. pairs.no_key bytes keys values left c.args.size c.loop.counter c.loop.at (pair_views c.loop.pairs.items) more c.loop-test.true
-    (nothing_behind (ElementOf keys left) c.loop.at bytes rest more c.split_at.ensures.back c.loop.invariant.within nothing) c.loop.invariant)
+    (nothing_after (ElementOf keys left) c.loop.at bytes rest more c.split_at.ensures.back c.loop.invariant.within nothing) c.loop.invariant)
 
 pub pairs_at-returns-in_err-value-clause-which : goal.pairs_at-returns-in_err-value-clause-which
 pairs_at-returns-in_err-value-clause-which t c =
@@ -146,7 +146,7 @@ pairs_at-returns-in_err-value-clause-which t c =
     let within : c.loop.at + head ≤ length bytes = omega (arith, fits, length-drop c.loop.at bytes, c.loop.invariant.within) in
     refused (ElementOf values left) rest (PairsOf keys values left c.args.size) bytes c.from_residual-in_err-value.result c.in_err-value.field-0.0 c.from_residual-in_err-value.ensures.1 c.in_err-value.ensures.which
     (λ more nothing. pairs.no_value bytes keys values left c.args.size c.loop.counter c.loop.at (pair_views c.loop.pairs.items) (view c.in_ok-key.key) head more c.loop-test.true first
-    (nothing_behind (ElementOf values left) (c.loop.at + head) bytes rest more c.split_at-in-loop.ensures.back within nothing) c.loop.invariant)
+    (nothing_after (ElementOf values left) (c.loop.at + head) bytes rest more c.split_at-in-loop.ensures.back within nothing) c.loop.invariant)
 
 pub pairs_at-loop-preserved : goal.pairs_at-loop-preserved
 pairs_at-loop-preserved t c =
@@ -224,7 +224,7 @@ fields_at-returns-in_err-id-clause-which t c =
     refused (λ bytes (h : ℤ × ℕ). IsFieldHead previous bytes h.0 h.1) rest (FieldsOf c.args.left) bytes c.from_residual.result c.in_err-id.field-0.0 c.from_residual.ensures.1 c.in_err-id.ensures.which
     (λ more nothing. fields.none bytes c.args.left at previous (field_views c.loop-at.fields.items) more
     (λ v p. c.if-bytes-at-eq0.false (sym (fields.byte_later bytes more at c.loop-at-test.true) ∙ p.is))
-    (λ id x h u head n v. nothing (id, kind x) h (behind (λ b. IsFieldHead previous b id (kind x) h) at bytes rest more c.split_at.ensures.back c.loop-at.invariant.within head)) c.loop-at.invariant)
+    (λ id x h u head n v. nothing (id, kind x) h (in_rest (λ b. IsFieldHead previous b id (kind x) h) at bytes rest more c.split_at.ensures.back c.loop-at.invariant.within head)) c.loop-at.invariant)
 
 pub fields_at-returns-in_err-value-clause-which : goal.fields_at-returns-in_err-value-clause-which
 fields_at-returns-in_err-value-clause-which t c =
@@ -240,7 +240,7 @@ fields_at-returns-in_err-value-clause-which t c =
     let within : at + head ≤ length bytes = omega (arith, fits, length-drop at bytes, c.loop-at.invariant.within) in
     refused (ValueOf kind left) rest (FieldsOf left) bytes c.from_residual-in_err-value.result c.in_err-value.field-0.0 c.from_residual-in_err-value.ensures.1 c.in_err-value.ensures.which
     (λ more nothing. fields.no_value bytes left at previous (field_views c.loop-at.fields.items) c.in_ok-id.id kind head more mine
-    (nothing_behind (ValueOf kind left) (at + head) bytes rest more c.split_at-in-loop-at.ensures.back within nothing) c.loop-at.invariant)
+    (nothing_after (ValueOf kind left) (at + head) bytes rest more c.split_at-in-loop-at.ensures.back within nothing) c.loop-at.invariant)
 
 pub fields_at-loop-at-preserved : goal.fields_at-loop-at-preserved
 fields_at-loop-at-preserved t c =
@@ -261,7 +261,7 @@ fields_at-returns-clause-which t c =
     let at = c.loop-at.at in
     let previous = to_z w16 c.loop-at.previous-bits in
     let past : length (drop at (bytes ++ [])) ≡ 0 = omega (arith, length-drop at (bytes ++ []), length-append bytes [], c.loop-at-test.false) in
-    now (FieldsOf c.args.left) bytes
+    with_nothing_more (FieldsOf c.args.left) bytes
     (fields.none bytes c.args.left at previous (field_views c.loop-at.fields.items) []
     (λ v p. omega (arith, p.some, past))
     (λ id x h u head n v. let b = field_head_byte previous (drop at (bytes ++ [])) id (kind x) h head in omega (arith, b.1.some, past)) c.loop-at.invariant)
