@@ -6,6 +6,10 @@ use Rattle.std.specs.Prelude.{◌≡◌, ℕ, ◌+◌, ◌≤◌, List, [], ◌�
 abbrev pub NothingStands : {Y : Type 0} → (Y → ℕ → Type 0) → Type 0
 NothingStands {Y} Stands = (y : Y) (used : ℕ) → Stands y used → ⊥
 
+-- nothing stands at the front of the bytes, whatever follows them
+abbrev pub NothingStandsEver : {Y : Type 0} → (List ℕ → Y → ℕ → Type 0) → List ℕ → Type 0
+NothingStandsEver Stands bytes = (more : List ℕ) → NothingStands (Stands (bytes ++ more))
+
 -- a front of the bytes stands for at most one y, in one number of bytes
 abbrev pub IsFunctional : {Y : Type 0} → (List ℕ → Y → ℕ → Type 0) → Type 0
 IsFunctional {Y} Stands = (bytes : List ℕ) (y z : Y) (used taken : ℕ) → Stands bytes y used → Stands bytes z taken → (y ≡ z) × (used ≡ taken)

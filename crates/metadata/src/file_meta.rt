@@ -2,7 +2,7 @@
 
 ghost use Rattle.std.specs.Prelude.{◌≡◌, ◌+◌, ◌≤◌, ◌⊎◌, ℕ, List, length, IfOk, OnOk, OnErr};
 ghost use Rattle.bits.specs.Refusals.{OnFault, RefusedOnly};
-ghost use Rattle.bits.specs.Codec.{Appends, NothingStands};
+ghost use Rattle.bits.specs.Codec.{Appends, NothingStands, NothingStandsEver};
 ghost use Rattle.thrift_compact.specs.Compact.{IsThrift};
 ghost use Rattle.thrift_compact.specs.Length.{size_struct};
 ghost use Rattle.thrift_compact.specs.View.{field_views, tree_view};
@@ -23,7 +23,8 @@ use bits::{R, Refusal};
 use schema::Element;
 use std::alloc::Global;
 use thrift_compact::{
-    Field, Tree, one_struct, read_struct, structs_with_bytes_have_the_shape, write_struct,
+    Field, Tree, one_struct, read_struct, structs_with_bytes_have_the_shape,
+    what_follows_changes_nothing, write_struct,
 };
 
 /// A FileMetaData (`parquet.thrift`): the footer of a file.
@@ -52,14 +53,17 @@ impl FileMeta {
     /// what follows is not looked at. By one pass over the struct's bytes, and one over its fields
     /// for each id.
     ///
-    /// Refused Truncated or Thrift only where no front of the bytes is such a record.
+    /// Refused Truncated or Thrift only where no front of the bytes is such a record, and Thrift only
+    /// where none is whatever follows the bytes: a record that is cut is refused Truncated.
     pub fn read(alloc: Global, bytes: &[u8]) -> R<(FileMeta, usize)>
         ensures stands { IfOk result (λ x. StandsFor file_meta bytes.now (file_meta_view x.0) x.1) }
         ensures within { IfOk result (λ x. x.1 ≤ length bytes.now) }
         ensures only { OnFault result (NothingStands (StandsFor file_meta bytes.now)) }
         ensures which { RefusedOnly (λ e. (e ≡ Refusal.Truncated) ⊎ (e ≡ Refusal.Thrift)) result }
+        ensures whatever_follows { (result ≡ Err Refusal.Thrift) → NothingStandsEver (StandsFor file_meta) bytes.now }
     {
         one_struct();
+        what_follows_changes_nothing();
         let (tree, used) = read_struct(alloc, bytes)?;
         let record = FileMeta::from_tree(alloc, &tree)?;
         Ok((record, used))

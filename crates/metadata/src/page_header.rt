@@ -2,7 +2,7 @@
 
 ghost use Rattle.std.specs.Prelude.{◌≡◌, ◌≤◌, ◌⊎◌, ℕ, List, length, IfOk, OnOk, OnErr, IsTrue, true, false};
 ghost use Rattle.bits.specs.Refusals.{OnFault, RefusedOnly};
-ghost use Rattle.bits.specs.Codec.{Appends, NothingStands};
+ghost use Rattle.bits.specs.Codec.{Appends, NothingStands, NothingStandsEver};
 ghost use Rattle.thrift_compact.specs.Tree.{Fields};
 ghost use Rattle.thrift_compact.specs.Compact.{IsThrift};
 ghost use Rattle.thrift_compact.specs.Length.{size_struct};
@@ -20,7 +20,9 @@ use crate::known::{known_as, needed_as};
 use crate::put::{put, put_given};
 use bits::{R, Refusal};
 use std::alloc::Global;
-use thrift_compact::{Field, Tree, one_struct, read_struct, write_struct};
+use thrift_compact::{
+    Field, Tree, one_struct, read_struct, what_follows_changes_nothing, write_struct,
+};
 
 /// The `kind` of a page of version 1.
 pub const DATA_PAGE: i32 = 0;
@@ -58,14 +60,17 @@ impl PageHeader {
     /// what follows is not looked at. By one pass over the struct's bytes, and one over its fields
     /// for each id.
     ///
-    /// Refused Truncated or Thrift only where no front of the bytes is such a record.
+    /// Refused Truncated or Thrift only where no front of the bytes is such a record, and Thrift only
+    /// where none is whatever follows the bytes: a record that is cut is refused Truncated.
     pub fn read(alloc: Global, bytes: &[u8]) -> R<(PageHeader, usize)>
         ensures stands { IfOk result (λ x. StandsFor page_header bytes.now (page_header_view x.0) x.1) }
         ensures within { IfOk result (λ x. x.1 ≤ length bytes.now) }
         ensures only { OnFault result (NothingStands (StandsFor page_header bytes.now)) }
         ensures which { RefusedOnly (λ e. (e ≡ Refusal.Truncated) ⊎ (e ≡ Refusal.Thrift)) result }
+        ensures whatever_follows { (result ≡ Err Refusal.Thrift) → NothingStandsEver (StandsFor page_header) bytes.now }
     {
         one_struct();
+        what_follows_changes_nothing();
         let (tree, used) = read_struct(alloc, bytes)?;
         let record = PageHeader::from_tree(alloc, &tree)?;
         Ok((record, used))

@@ -11,6 +11,7 @@ use Rattle.thrift_compact.specs.View.{view, views}
 use Rattle.thrift_compact.proofs.NodeTypes.{alike}
 use Rattle.thrift_compact.proofs.Parts.{list_head_within, field_head_within}
 use Rattle.thrift_compact.proofs.One.{Same, one_value}
+use Rattle.thrift_compact.proofs.Stays.{value_later}
 
 -- ---- an element takes a byte at least
 
@@ -57,17 +58,18 @@ pub views_push : (vs : List CodeNode) (v : CodeNode) → views (vs ++ v ∷ []) 
 views_push [] v = refl
 views_push (w ∷ vs) v = ap (node (view w)) (views_push vs v)
 
--- what stands in the rest: `done` elements, `front`, are read up to `at`
+-- what stands in the rest, whatever follows it: `done` elements, `front`, are read up to `at`
 pub record Going (bytes : List ℕ) (code left size done at : ℕ) (front : Nodes) : Type 0 where
   pub within : at ≤ length bytes
   pub forward : (tail : Nodes) (v : ℕ) → count tail + done ≡ size → nodes_nest tail ≤ left → AreElements tail code (drop at bytes) v → ElementsOf code left size bytes (append front tail) (at + v)
-  pub backward : (xs : Nodes) (used : ℕ) → ElementsOf code left size bytes xs used → (tail : Nodes) × ((v : ℕ) × (count tail + done ≡ size) × (nodes_nest tail ≤ left) × AreElements tail code (drop at bytes) v)
+  pub backward : (after : List ℕ) (xs : Nodes) (used : ℕ) → ElementsOf code left size (bytes ++ after) xs used
+      → (tail : Nodes) × ((v : ℕ) × (count tail + done ≡ size) × (nodes_nest tail ≤ left) × AreElements tail code (drop at (bytes ++ after)) v)
 
 pub begins : (bytes : List ℕ) (code left size : ℕ) → Going bytes code left size 0 0 no_nodes
 begins bytes code left size = record {
   within = omega arith;
   forward = λ tail v n d e. (omega (arith, n), d, subst (λ u. AreElements tail code bytes u) (omega arith) e);
-  backward = λ xs used p. (xs, (used, omega (arith, p.0), p.1, p.2));
+  backward = λ after xs used p. (xs, (used, omega (arith, p.0), p.1, p.2));
 }
 
 -- an element was read
@@ -82,16 +84,17 @@ goes_on bytes code left size done at front x u more fits stands p = record {
       let f = p.forward (node x tail) (u + v) n2 (omega (arith, stands.1)) (stands.0, (u, v, stands.2, e2, refl)) in
       let g = subst (λ t. ElementsOf code left size bytes t (at + (u + v))) (sym (append_one front x tail)) f in
       subst (λ w. ElementsOf code left size bytes (append (append front (node x no_nodes)) tail) w) (let q : at + (u + v) ≡ at + u + v = omega arith in q) g;
-  backward = λ xs used stands. let b = p.backward xs used stands in back b.0 b.1;
+  backward = λ after xs used stands. let b = p.backward after xs used stands in back after b.0 b.1;
 }
   where
-    back : (tail : Nodes) → (v : ℕ) × (count tail + done ≡ size) × (nodes_nest tail ≤ left) × AreElements tail code (drop at bytes) v
-        → (rest : Nodes) × ((v : ℕ) × (count rest + (done + 1) ≡ size) × (nodes_nest rest ≤ left) × AreElements rest code (drop (at + u) bytes) v)
-    back no_nodes b = absurd (omega (arith, b.1))
-    back (node y rest) b =
-        let o = one_value x y (drop at bytes) u b.3.1.0 (alike code x y stands.0 b.3.0) stands.2 b.3.1.2 in
-        let e2 = subst (λ w. AreElements rest code (drop w (drop at bytes)) b.3.1.1) (sym o.1) b.3.1.3 in
-        (rest, (b.3.1.1, omega (arith, b.1), omega (arith, b.2), subst (λ t. AreElements rest code t b.3.1.1) (drop-drop u at bytes) e2))
+    back : (after : List ℕ) (tail : Nodes) → (v : ℕ) × (count tail + done ≡ size) × (nodes_nest tail ≤ left) × AreElements tail code (drop at (bytes ++ after)) v
+        → (rest : Nodes) × ((v : ℕ) × (count rest + (done + 1) ≡ size) × (nodes_nest rest ≤ left) × AreElements rest code (drop (at + u) (bytes ++ after)) v)
+    back after no_nodes b = absurd (omega (arith, b.1))
+    back after (node y rest) b =
+        let there = drop at (bytes ++ after) in
+        let o = one_value x y there u b.3.1.0 (alike code x y stands.0 b.3.0) (value_later x at bytes after u p.within stands.2) b.3.1.2 in
+        let e2 = subst (λ w. AreElements rest code (drop w there) b.3.1.1) (sym o.1) b.3.1.3 in
+        (rest, (b.3.1.1, omega (arith, b.1), omega (arith, b.2), subst (λ t. AreElements rest code t b.3.1.1) (drop-drop u at (bytes ++ after)) e2))
 
 -- all are read
 pub ends : (bytes : List ℕ) (code left size at : ℕ) (front : Nodes) → Going bytes code left size size at front → ElementsOf code left size bytes front at
@@ -101,10 +104,10 @@ ends bytes code left size at front p =
     subst (λ w. ElementsOf code left size bytes front w) (let q : at + 0 ≡ at = omega arith in q) g
 
 -- no element stands there
-pub none : (bytes : List ℕ) (code left size done at : ℕ) (front : Nodes) → done < size → NothingStands (ElementOf code left (drop at bytes))
-    → Going bytes code left size done at front → NothingStands (ElementsOf code left size bytes)
-none bytes code left size done at front more no_element p xs used stands = let b = p.backward xs used stands in go b.0 b.1
+pub none : (bytes : List ℕ) (code left size done at : ℕ) (front : Nodes) (after : List ℕ) → done < size → NothingStands (ElementOf code left (drop at (bytes ++ after)))
+    → Going bytes code left size done at front → NothingStands (ElementsOf code left size (bytes ++ after))
+none bytes code left size done at front after more no_element p xs used stands = let b = p.backward after xs used stands in go b.0 b.1
   where
-    go : (tail : Nodes) → (v : ℕ) × (count tail + done ≡ size) × (nodes_nest tail ≤ left) × AreElements tail code (drop at bytes) v → ⊥
+    go : (tail : Nodes) → (v : ℕ) × (count tail + done ≡ size) × (nodes_nest tail ≤ left) × AreElements tail code (drop at (bytes ++ after)) v → ⊥
     go no_nodes b = omega (arith, b.1)
     go (node y rest) b = no_element y b.3.1.0 (b.3.0, omega (arith, b.2), b.3.1.2)

@@ -6,6 +6,7 @@ pub mod PairsRead
 pub mod FieldsRead
 pub mod Refused
 pub mod Within
+pub mod Stays
 pub mod MapRead
 pub mod Appending
 pub mod Sizes

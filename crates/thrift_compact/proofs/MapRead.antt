@@ -37,3 +37,12 @@ has_pairs x bytes used size head left uleb some s = elim (is_map x s.0) [
         stand = r.3;
       }
 ]
+
+-- a map begins with a size
+pub map_size : (x : Node) (bytes : List ℕ) (used left : ℕ) → ValueOf 11 left bytes x used → (n u : ℕ) × IsUleb bytes n u
+map_size x bytes used left s = elim (is_map x s.0) [
+  | inl i ↦ (0, used, subst (λ z. IsValue z bytes used) i s.2)
+  | inr i ↦
+      let r = subst (λ z. IsValue z bytes used) i.1.1.1 s.2 in
+      (count_pairs i.1.1.0, r.2.head, r.2.size)
+]

@@ -1,7 +1,7 @@
 -- There is one of each value that holds no others, and one header of each kind; and headers begin with a byte.
 use Rattle.std.proofs.Common.{◌≡◌, ◌⊎◌, ℕ, ◌+◌, ◌*◌, ◌<◌, ◌≤◌, List, length, take, drop, refl, sym, ap, subst, ◌∙◌, arith, inl, inr}
-use Rattle.std.specs.Prelude.{ℤ, pos, ◌+ℤ◌}
-use Rattle.std.specs.Int.{w8, cast_signed}
+use Rattle.std.specs.Prelude.{ℤ, pos, negsuc, ◌+ℤ◌, ◌^◌, FitsSigned}
+use Rattle.std.specs.Int.{w8, w64, cast_signed}
 use Rattle.std.proofs.lemmas.List.{length-drop}
 use Rattle.bits.specs.Varint.{zigzag_of}
 use Rattle.bits.proofs.Facts.{one_uleb, one_zigzag}
@@ -20,6 +20,11 @@ one_double bytes a b u v p q = (sym p.is ∙ q.is, p.total ∙ sym q.total)
 
 pub one_signed : (bytes : List ℕ) (a b : ℤ) (u v : ℕ) → IsSigned bytes a u → IsSigned bytes b v → (a ≡ b) × (u ≡ v)
 one_signed bytes a b u v p q = let o = one_uleb bytes (zigzag_of a) (zigzag_of b) u v p q in (one_zigzag a b o.0, o.1)
+
+-- a number that a varint has takes 64 bits
+pub signed_fits : (z : ℤ) → zigzag_of z < 2 ^ 64 → FitsSigned w64 z
+signed_fits (pos n) h = record { sfits = omega (arith, h) }
+signed_fits (negsuc n) h = record { sfits = omega (arith, h) }
 
 pub one_binary : (bytes a b : List ℕ) (u v : ℕ) → IsBinary bytes a u → IsBinary bytes b v → (a ≡ b) × (u ≡ v)
 one_binary bytes a b u v p q =
@@ -52,6 +57,13 @@ list_head_within bytes k n u p = go p.1
     go : ((n ≤ 14) × IsByte bytes (16 * n + k) u) ⊎ IsLongList bytes k n u → (1 ≤ u) × (u ≤ length bytes)
     go (inl a) = (omega (arith, a.1.one), omega (arith, a.1.some, a.1.one))
     go (inr a) = (omega (arith, a.total), omega (arith, a.total, a.byte.some, a.is.within, length-drop 1 bytes))
+
+pub list_head_byte : (bytes : List ℕ) (k n used : ℕ) → IsListHead bytes k n used → (b : ℕ) × IsByte bytes b 1
+list_head_byte bytes k n used h = go h.1
+  where
+    go : ((n ≤ 14) × IsByte bytes (16 * n + k) used) ⊎ IsLongList bytes k n used → (b : ℕ) × IsByte bytes b 1
+    go (inl a) = (16 * n + k, record { some = a.1.some; is = a.1.is; one = refl })
+    go (inr a) = (240 + k, a.byte)
 
 pub long_list : (bytes : List ℕ) (k n used b : ℕ) → IsByte bytes b 1 → 240 ≤ b → IsListHead bytes k n used → IsLongList bytes k n used
 long_list bytes k n used b byte big h = go h.1

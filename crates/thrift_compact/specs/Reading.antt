@@ -3,7 +3,7 @@ use Rattle.std.specs.Prelude.{◌≡◌, ◌⊎◌, ℕ, ◌<◌, ◌≤◌, ℤ
 use Rattle.std.specs.Int.{w16, w32}
 use Rattle.bits.specs.declared.refusal.Refusal.{Refusal}
 use Rattle.bits.specs.declared.refusal.Refusal.TheVariants.{Truncated, Thrift}
-use Rattle.bits.specs.Codec.{NothingStands}
+use Rattle.bits.specs.Codec.{NothingStands, NothingStandsEver}
 use Rattle.thrift_compact.specs.declared.tree.ElementType.{ElementType}
 use Rattle.thrift_compact.specs.declared.tree.ElementType.TheVariants.{List as ListType, Set, Map, Struct, Other}
 use Rattle.thrift_compact.specs.Tree.{Node, Nodes, list, Pairs, Fields, nest, nodes_nest, pairs_nest, fields_nest, count, count_pairs}
@@ -15,9 +15,11 @@ IsOfBytes Truncated = Unit {0}
 IsOfBytes Thrift = Unit {0}
 IsOfBytes _ = ⊥
 
--- it is refused for its bytes, and nothing stands there
-abbrev pub IsRefusedFor : {Y : Type 0} → (Y → ℕ → Type 0) → Refusal → Type 0
-IsRefusedFor Stands e = IsOfBytes e × NothingStands Stands
+-- it is refused for its bytes: Truncated where nothing stands there, Thrift where nothing does whatever follows
+abbrev pub IsRefusedFor : {Y : Type 0} → (List ℕ → Y → ℕ → Type 0) → List ℕ → Refusal → Type 0
+IsRefusedFor Stands bytes Truncated = NothingStands (Stands bytes)
+IsRefusedFor Stands bytes Thrift = NothingStandsEver Stands bytes
+IsRefusedFor Stands bytes _ = ⊥
 
 -- an i16 and an i32
 abbrev pub IsShortNumber : List ℕ → ℤ → ℕ → Type 0

@@ -19,7 +19,7 @@ pub(crate) fn list_head_at(bytes: &[u8]) -> R<((ElementType, u64), usize)>
     ensures stands { IfOk result (λ x. IsListHead bytes.now (code_of x.0.0) x.0.1 x.1) }
     ensures named { IfOk result (λ x. IsNamed x.0.0) }
     ensures within { IfOk result (λ x. x.1 ≤ length bytes.now) }
-    ensures which { RefusedOnly (IsRefusedFor (λ (h : ℕ × ℕ). IsListHead bytes.now h.0 h.1)) result }
+    ensures which { RefusedOnly (IsRefusedFor (λ bytes (h : ℕ × ℕ). IsListHead bytes h.0 h.1) bytes.now) result }
 {
     let byte = byte_at(bytes)?;
     let kind = ElementType::of_code(byte % 16);
@@ -38,7 +38,7 @@ pub(crate) fn map_types_at(bytes: &[u8], size: u64, head: usize) -> R<(ElementTy
     ensures stands { IfOk result (λ x. IsMapHead bytes.now (code_of x.0) (code_of x.1) size (head + 1)) }
     ensures named { IfOk result (λ x. IsNamed x.0 × IsNamed x.1) }
     ensures within { IfOk result (λ x. head + 1 ≤ length bytes.now) }
-    ensures which { RefusedOnly (IsRefusedFor (λ (h : ℕ × ℕ). IsMapHead bytes.now h.0 h.1 size)) result }
+    ensures which { RefusedOnly (IsRefusedFor (λ bytes (h : ℕ × ℕ). IsMapHead bytes h.0 h.1 size) bytes.now) result }
 {
     let (_, rest) = bytes.split_at(head);
     let byte = byte_at(rest)?;
@@ -53,7 +53,7 @@ pub(crate) fn field_head_at(previous: i16, bytes: &[u8]) -> R<((i16, ElementType
     ensures stands { IfOk result (λ x. IsFieldHead previous bytes.now x.0.0 (code_of x.0.1) x.1) }
     ensures named { IfOk result (λ x. IsNamed x.0.1) }
     ensures within { IfOk result (λ x. (1 ≤ x.1) × (x.1 ≤ length bytes.now)) }
-    ensures which { RefusedOnly (IsRefusedFor (λ (h : ℤ × ℕ). IsFieldHead previous bytes.now h.0 h.1)) result }
+    ensures which { RefusedOnly (IsRefusedFor (λ bytes (h : ℤ × ℕ). IsFieldHead previous bytes h.0 h.1) bytes.now) result }
 {
     let byte = byte_at(bytes)?;
     let code = byte % 16;

@@ -1,7 +1,7 @@
 //! What holds of the definitions.
 
-ghost use Rattle.std.specs.Prelude.{◌≡◌, ℕ, List, ◌++◌, length, drop};
-ghost use Rattle.bits.specs.Codec.{IsFunctional, Appends};
+ghost use Rattle.std.specs.Prelude.{◌≡◌, ℕ, ◌<◌, List, ◌++◌, length, drop};
+ghost use Rattle.bits.specs.Codec.{IsFunctional, NothingStands, Appends};
 ghost use Rattle.thrift_compact.specs.Tree.{Fields};
 ghost use Rattle.thrift_compact.specs.Compact.{IsThrift};
 ghost use Rattle.thrift_compact.specs.Length.{NoSpellingIsShorter};
@@ -10,6 +10,14 @@ ghost use Rattle.thrift_compact.specs.Shapes.{StructsWithBytesHaveTheShape};
 /// A front of the bytes stands for at most one struct.
 pub fn one_struct()
     ensures { IsFunctional IsThrift }
+{}
+
+/// A struct at the front of the bytes is there whatever follows them. So where one is cut, none is
+/// there: [`read_struct`](crate::read_struct) is refused Truncated then, as `which` and
+/// `whatever_follows` leave no other fault.
+pub fn what_follows_changes_nothing()
+    ensures stays { (bytes more : List ℕ) (fields : Fields) (used : ℕ) → IsThrift bytes fields used → IsThrift (bytes ++ more) fields used }
+    ensures cut { (bytes more : List ℕ) (fields : Fields) (used : ℕ) → IsThrift (bytes ++ more) fields used → length bytes < used → NothingStands (IsThrift bytes) }
 {}
 
 /// What was written is read again, whatever follows: the bytes that the writing of a struct added

@@ -16,7 +16,7 @@ mod writing;
 pub use copying::copied_fields;
 pub use laws::{
     no_spelling_is_shorter, one_struct, structs_with_bytes_have_the_shape,
-    what_is_written_is_read_again,
+    what_follows_changes_nothing, what_is_written_is_read_again,
 };
 pub use reading::read_struct;
 pub use tree::{ElementType, Field, Node, Tree};

@@ -15,7 +15,7 @@ use std::alloc::Global;
 
 pub(crate) fn byte_at(bytes: &[u8]) -> R<u8>
     ensures stands { IfOk result (λ b. IsByte bytes.now b 1) }
-    ensures which { RefusedOnly (IsRefusedFor (IsByte bytes.now)) result }
+    ensures which { RefusedOnly (IsRefusedFor IsByte bytes.now) result }
 {
     match bytes {
         [] => Err(Refusal::Truncated),
@@ -25,7 +25,7 @@ pub(crate) fn byte_at(bytes: &[u8]) -> R<u8>
 
 pub(crate) fn i8_at(bytes: &[u8]) -> R<i8>
     ensures stands { IfOk result (λ z. IsSignedByte bytes.now z 1) }
-    ensures which { RefusedOnly (IsRefusedFor (IsSignedByte bytes.now)) result }
+    ensures which { RefusedOnly (IsRefusedFor IsSignedByte bytes.now) result }
 {
     let byte = byte_at(bytes)?;
     Ok(byte.cast_signed())
@@ -34,7 +34,7 @@ pub(crate) fn i8_at(bytes: &[u8]) -> R<i8>
 pub(crate) fn i64_at(bytes: &[u8]) -> R<(i64, usize)>
     ensures stands { IfOk result (λ x. IsSigned bytes.now x.0 x.1) }
     ensures within { IfOk result (λ x. x.1 ≤ length bytes.now) }
-    ensures which { RefusedOnly (IsRefusedFor (IsSigned bytes.now)) result }
+    ensures which { RefusedOnly (IsRefusedFor IsSigned bytes.now) result }
 {
     let (n, used) = read_uleb(bytes)?;
     Ok((unzigzag(n), used))
@@ -43,7 +43,7 @@ pub(crate) fn i64_at(bytes: &[u8]) -> R<(i64, usize)>
 pub(crate) fn i32_at(bytes: &[u8]) -> R<(i32, usize)>
     ensures stands { IfOk result (λ x. IsNumber bytes.now x.0 x.1) }
     ensures within { IfOk result (λ x. x.1 ≤ length bytes.now) }
-    ensures which { RefusedOnly (IsRefusedFor (IsNumber bytes.now)) result }
+    ensures which { RefusedOnly (IsRefusedFor IsNumber bytes.now) result }
 {
     let (z, used) = i64_at(bytes)?;
     match i32::try_from(z) {
@@ -55,7 +55,7 @@ pub(crate) fn i32_at(bytes: &[u8]) -> R<(i32, usize)>
 pub(crate) fn i16_at(bytes: &[u8]) -> R<(i16, usize)>
     ensures stands { IfOk result (λ x. IsShortNumber bytes.now x.0 x.1) }
     ensures within { IfOk result (λ x. x.1 ≤ length bytes.now) }
-    ensures which { RefusedOnly (IsRefusedFor (IsShortNumber bytes.now)) result }
+    ensures which { RefusedOnly (IsRefusedFor IsShortNumber bytes.now) result }
 {
     let (z, used) = i64_at(bytes)?;
     match i16::try_from(z) {
@@ -66,7 +66,7 @@ pub(crate) fn i16_at(bytes: &[u8]) -> R<(i16, usize)>
 
 pub(crate) fn double_at(bytes: &[u8]) -> R<[u8; 8]>
     ensures stands { IfOk result (λ text. IsDouble bytes.now text 8) }
-    ensures which { RefusedOnly (IsRefusedFor (IsDouble bytes.now)) result }
+    ensures which { RefusedOnly (IsRefusedFor IsDouble bytes.now) result }
 {
     match bytes {
         [a, b, c, d, e, f, g, h, ..] => Ok([*a, *b, *c, *d, *e, *f, *g, *h]),
@@ -77,7 +77,7 @@ pub(crate) fn double_at(bytes: &[u8]) -> R<[u8; 8]>
 pub(crate) fn binary_at(alloc: Global, bytes: &[u8]) -> R<(Vec<u8>, usize)>
     ensures stands { IfOk result (λ x. IsBinary bytes.now x.0.items x.1) }
     ensures within { IfOk result (λ x. x.1 ≤ length bytes.now) }
-    ensures which { RefusedOnly (IsRefusedFor (IsBinary bytes.now)) result }
+    ensures which { RefusedOnly (IsRefusedFor IsBinary bytes.now) result }
 {
     let (size, head) = read_uleb(bytes)?;
     if size > (bytes.len() - head) as u64 {

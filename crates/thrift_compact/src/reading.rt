@@ -2,7 +2,7 @@
 
 ghost use Rattle.std.specs.Prelude.{◌≡◌, ℕ, ◌+◌, ◌<◌, ◌≤◌, length, IfOk};
 ghost use Rattle.bits.specs.Refusals.{OnFault, RefusedOnly};
-ghost use Rattle.bits.specs.Codec.{NothingStands};
+ghost use Rattle.bits.specs.Codec.{NothingStands, NothingStandsEver};
 ghost use Rattle.thrift_compact.specs.Compact.{IsThrift};
 ghost use Rattle.thrift_compact.specs.View.{code_of, view, views, pair_views, field_views, tree_view};
 ghost use Rattle.thrift_compact.specs.Reading.{IsOfBytes, IsRefusedFor, IsNamed, IsNesting, ValueOf, ElementOf, ElementsOf, ListOf, PairsOf, FieldsOf};
@@ -19,7 +19,7 @@ fn value_at(alloc: Global, kind: ElementType, left: u32, bytes: &[u8]) -> R<(Nod
     requires { IsNamed kind }
     ensures stands { IfOk result (λ x. ValueOf (code_of kind) left bytes.now (view x.0) x.1) }
     ensures within { IfOk result (λ x. x.1 ≤ length bytes.now) }
-    ensures which { RefusedOnly (IsRefusedFor (ValueOf (code_of kind) left bytes.now)) result }
+    ensures which { RefusedOnly (IsRefusedFor (ValueOf (code_of kind) left) bytes.now) result }
 {
     match kind {
         ElementType::True => Ok((Node::Bool(true), 0)),
@@ -53,7 +53,7 @@ fn nested_at(alloc: Global, kind: ElementType, left: u32, bytes: &[u8]) -> R<(No
     requires { IsNesting kind }
     ensures stands { IfOk result (λ x. ValueOf (code_of kind) left bytes.now (view x.0) x.1) }
     ensures within { IfOk result (λ x. x.1 ≤ length bytes.now) }
-    ensures which { RefusedOnly (IsRefusedFor (ValueOf (code_of kind) left bytes.now)) result }
+    ensures which { RefusedOnly (IsRefusedFor (ValueOf (code_of kind) left) bytes.now) result }
 {
     if left == 0 {
         return Err(Refusal::Thrift);
@@ -80,7 +80,7 @@ fn nested_at(alloc: Global, kind: ElementType, left: u32, bytes: &[u8]) -> R<(No
 fn list_at(alloc: Global, left: u32, bytes: &[u8]) -> R<((ElementType, Vec<Node>), usize)>
     ensures stands { IfOk result (λ x. ListOf left bytes.now (code_of x.0.0, views x.0.1.items) x.1) }
     ensures within { IfOk result (λ x. x.1 ≤ length bytes.now) }
-    ensures which { RefusedOnly (IsRefusedFor (ListOf left bytes.now)) result }
+    ensures which { RefusedOnly (IsRefusedFor (ListOf left) bytes.now) result }
 {
     let ((kind, size), head) = list_head_at(bytes)?;
     let (_, rest) = bytes.split_at(head);
@@ -105,7 +105,7 @@ fn elements_at(
     requires { IsNamed kind }
     ensures stands { IfOk result (λ x. ElementsOf (code_of kind) left size bytes.now (views x.0.items) x.1) }
     ensures within { IfOk result (λ x. x.1 ≤ length bytes.now) }
-    ensures which { RefusedOnly (IsRefusedFor (ElementsOf (code_of kind) left size bytes.now)) result }
+    ensures which { RefusedOnly (IsRefusedFor (ElementsOf (code_of kind) left size) bytes.now) result }
 {
     let mut values = Vec::new(alloc);
     let mut at = 0;
@@ -124,7 +124,7 @@ fn element_at(alloc: Global, kind: ElementType, left: u32, bytes: &[u8]) -> R<(N
     requires { IsNamed kind }
     ensures stands { IfOk result (λ x. ElementOf (code_of kind) left bytes.now (view x.0) x.1) }
     ensures within { IfOk result (λ x. x.1 ≤ length bytes.now) }
-    ensures which { RefusedOnly (IsRefusedFor (ElementOf (code_of kind) left bytes.now)) result }
+    ensures which { RefusedOnly (IsRefusedFor (ElementOf (code_of kind) left) bytes.now) result }
 {
     match kind {
         ElementType::True | ElementType::False => Ok((Node::Flag(byte_at(bytes)?), 1)),
@@ -137,7 +137,7 @@ fn element_at(alloc: Global, kind: ElementType, left: u32, bytes: &[u8]) -> R<(N
 fn map_at(alloc: Global, left: u32, bytes: &[u8]) -> R<(Node, usize)>
     ensures stands { IfOk result (λ x. ValueOf 11 (left + 1) bytes.now (view x.0) x.1) }
     ensures within { IfOk result (λ x. x.1 ≤ length bytes.now) }
-    ensures which { RefusedOnly (IsRefusedFor (ValueOf 11 (left + 1) bytes.now)) result }
+    ensures which { RefusedOnly (IsRefusedFor (ValueOf 11 (left + 1)) bytes.now) result }
 {
     let (size, head) = read_uleb(bytes)?;
     if size == 0 {
@@ -166,7 +166,7 @@ fn pairs_at(
     requires values { IsNamed values }
     ensures stands { IfOk result (λ x. PairsOf (code_of keys) (code_of values) left size bytes.now (pair_views x.0.items) x.1) }
     ensures within { IfOk result (λ x. x.1 ≤ length bytes.now) }
-    ensures which { RefusedOnly (IsRefusedFor (PairsOf (code_of keys) (code_of values) left size bytes.now)) result }
+    ensures which { RefusedOnly (IsRefusedFor (PairsOf (code_of keys) (code_of values) left size) bytes.now) result }
 {
     let mut pairs = Vec::new(alloc);
     let mut at = 0;
@@ -186,7 +186,7 @@ fn pairs_at(
 fn fields_at(alloc: Global, left: u32, bytes: &[u8]) -> R<(Vec<Field>, usize)>
     ensures stands { IfOk result (λ x. FieldsOf left bytes.now (field_views x.0.items) x.1) }
     ensures within { IfOk result (λ x. x.1 ≤ length bytes.now) }
-    ensures which { RefusedOnly (IsRefusedFor (FieldsOf left bytes.now)) result }
+    ensures which { RefusedOnly (IsRefusedFor (FieldsOf left) bytes.now) result }
 {
     let mut fields = Vec::new(alloc);
     let mut previous: i16 = 0;
@@ -212,14 +212,16 @@ fn fields_at(alloc: Global, left: u32, bytes: &[u8]) -> R<(Vec<Field>, usize)>
 /// depth of 32 in it. What follows it is not looked at. Time and memory are linear in the bytes
 /// that it takes.
 ///
-/// Refused Truncated where the bytes end within it or a size is above the bytes left, and Thrift
-/// where a type is none, a number does not fit its type, a field's id does not fit 16 bits, or
-/// it nests deeper. (Thrift's compact protocol, "Struct Encoding".)
+/// Refused Truncated where the bytes end within it or a size is above the number of remaining bytes,
+/// and Thrift where a type is none, a number does not fit its type, a field's id does not fit 16
+/// bits, or it nests deeper: no struct is there then, whatever follows the bytes. So a struct that
+/// is cut is refused Truncated. (Thrift's compact protocol, "Struct Encoding".)
 pub fn read_struct(alloc: Global, bytes: &[u8]) -> R<(Tree, usize)>
     ensures stands { IfOk result (λ x. IsThrift bytes.now (tree_view x.0) x.1) }
     ensures within { IfOk result (λ x. x.1 ≤ length bytes.now) }
     ensures only { OnFault result (NothingStands (IsThrift bytes.now)) }
     ensures which { RefusedOnly IsOfBytes result }
+    ensures whatever_follows { (result ≡ Err Refusal.Thrift) → NothingStandsEver IsThrift bytes.now }
 {
     let (fields, used) = fields_at(alloc, DEEPEST, bytes)?;
     Ok((Tree { fields }, used))
