@@ -6,20 +6,20 @@
 //! into one. `specs/Laws.antt` says that a file means one list of rows.
 #![tactic(auto)]
 
+mod file_reading;
+mod file_writing;
+mod footer_reading;
 mod footer_record;
+mod footer_writing;
 mod laws;
 mod limits;
 mod options;
-mod read_file;
-mod read_footer;
 mod rows;
-mod write_file;
-mod write_footer;
 
+pub use file_reading::{read_file, read_rows};
+pub use file_writing::write_file;
+pub use footer_reading::read_footer;
 pub use laws::one_list_of_rows;
 pub use limits::{MOST_BYTES_OF_FILE, MOST_BYTES_OF_FOOTER};
 pub use options::{Style, WriteOptions};
-pub use read_file::{read_file, read_rows};
-pub use read_footer::read_footer;
 pub use rows::Rows;
-pub use write_file::write_file;

@@ -13,13 +13,13 @@ mod entry;
 mod laws;
 mod limits;
 mod page;
-mod read_page;
-mod write_page;
+mod page_reading;
+mod page_writing;
 
 pub use encoding::Encoding;
 pub use entry::EntryRef;
 pub use laws::{one_page, pages_of_a_dictionary, worked_examples};
 pub use limits::MOST_BYTES_OF_PAGE;
 pub use page::PageRef;
-pub use read_page::read_page;
-pub use write_page::write_page;
+pub use page_reading::read_page;
+pub use page_writing::write_page;

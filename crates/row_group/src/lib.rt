@@ -6,23 +6,23 @@
 //! says that they hold one column, and one list of rows.
 #![tactic(auto)]
 
+mod chunk_reading;
+mod chunk_writing;
+mod column_reading;
+mod column_writing;
 mod counts;
+mod group_reading;
+mod group_writing;
 mod laws;
 mod leaves;
 mod left;
 mod limits;
-mod read_chunk;
-mod read_columns;
-mod read_group;
 mod rows;
-mod write_chunk;
-mod write_columns;
-mod write_group;
 
+pub use chunk_reading::read_chunk;
+pub use chunk_writing::write_chunk;
+pub use group_reading::read_group;
+pub use group_writing::write_group;
 pub use laws::{an_appended_group_has_its_rows, one_meaning};
 pub use limits::{MOST_BYTES_BEFORE_CHUNK, MOST_ENTRIES_OF_CHUNK, MOST_ROWS_OF_GROUP};
-pub use read_chunk::read_chunk;
-pub use read_group::read_group;
 pub use rows::Rows;
-pub use write_chunk::write_chunk;
-pub use write_group::write_group;

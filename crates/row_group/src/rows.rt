@@ -12,11 +12,11 @@ ghost use Rattle.row_group.specs.Chunks.{GroupMeans};
 ghost use Rattle.row_group.specs.Limits.{IsGroupOver, IsGroupToCome, HasCodec, IsOfChunks};
 ghost use Rattle.row_group.specs.Moving.{HasCount, columns_left};
 
+use crate::column_reading::read_columns;
 use crate::counts::count_of;
 use crate::leaves::is_any_to_come;
 use crate::left::{entries_of_each, next_row};
 use crate::limits::MOST_ROWS_OF_GROUP;
-use crate::read_columns::read_columns;
 use bits::{R, Refusal};
 use metadata::GroupMeta;
 use schema::{Entry, Row, Schema, columns_determine_rows};

@@ -1,4 +1,0 @@
-use Rattle.footer.proofs.read_footer.read_footer.Goals as goal
-
-pub returns-clause-alone : goal.returns-clause-alone
-returns-clause-alone c = λ front other p. (c.in_ok-record.ensures.alone front other p).1
