@@ -78,8 +78,8 @@ returns-clause-built c =
     let size : length rows ≡ length c.args.rows.now = length-map c.args.rows.now row_view in
     let says = c.is_to_be_written.ensures in
     let is = c.if-is_to_be_written.false in
-    let few = says.few is in
-    let short = says.short is in
+    let few = says.one_group is in
+    let short = says.one_page is in
     whatever c.ended.result
     (all_built c.args.schema.now c.args.options.now rows (omega (arith, size, few)) (omega (arith, size, short)) (says.first is) (says.plain is) (λ there. c.in_ok-groups.ensures.built (omega (arith, size, there))))
 

@@ -74,4 +74,4 @@ loop-leaf-preserved c =
     let pushed : map chunk_meta_view c.push.new.self.items ≡ map chunk_meta_view c.loop-leaf.columns.items ++ _ ∷ [] = ap (map chunk_meta_view) c.in_ok-push.ensures.items ∙ map-append chunk_meta_view c.loop-leaf.columns.items (_ ∷ []) in
     subst (AppendsChunks (take (i + 1) (map leaf_view leaves)) rows old new) (sym pushed)
     (chunk_more_at (map leaf_view leaves) i (leaf_view x) rows old c.loop-leaf.out.items new (map chunk_meta_view c.loop-leaf.columns.items) _ (omega (arith, lt, length-map leaves leaf_view)) (shown_here leaf_view leaves i x lt c.leaf-item.is)
-    (record { here = refl; offset = refl }) says.short says.few says.stands c.loop-leaf.invariant)
+    (record { here = refl; offset = refl }) says.within_limits says.entries_within_limits says.stands c.loop-leaf.invariant)
