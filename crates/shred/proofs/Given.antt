@@ -18,7 +18,7 @@ use Rattle.schema.specs.Reading.{count_leaves}
 use Rattle.schema.proofs.Forest.{field_place}
 use Rattle.shred.specs.declared.column.ColumnRef.{ColumnRef}
 use Rattle.shred.specs.Columns.{column_ref_view, column_refs_view}
-use Rattle.shred.specs.inner.Growing.{Columns, grown, nils, stripes_inside, stripes_items, stripes_later, stripes_each}
+use Rattle.shred.specs.inner.Growing.{Columns, grown, nils, levels_at, stripes_inside, stripes_items, stripes_later, stripes_each}
 use Rattle.shred.proofs.Growing.{one_more, grown_twice}
 use Rattle.shred.proofs.Slices.{map_tail, map_put}
 
@@ -65,7 +65,7 @@ fit_given fs vs i f v there thus is be fit =
 
 -- the entries of one item more are at the ends of the columns
 pub item_given : (f : Field) (vs : List Value) (i : ℕ) (v : Value) (d k : ℕ) (cs new all : Columns) → i < length vs → v ≡ get_or vs i v
-    → grown cs (stripes_later f (views (drop i vs)) d k) ≡ all → new ≡ grown cs (stripes_inside f (view v) k d k) → grown new (stripes_later f (views (drop (i + 1) vs)) d k) ≡ all
+    → grown cs (stripes_later f (views (drop i vs)) d k) ≡ all → new ≡ grown cs (stripes_inside f (view v) (levels_at k d k)) → grown new (stripes_later f (views (drop (i + 1) vs)) d k) ≡ all
 item_given f vs i v d k cs new all lt is so given =
     let rest = views (drop (i + 1) vs) in
     ap (λ t. grown t (stripes_later f rest d k)) given
@@ -75,7 +75,7 @@ item_given f vs i v d k cs new all lt is so given =
 
 -- the entries of all items are at the ends of the columns
 pub items_given : (f : Field) (vs ws : List Value) (v : Value) (r d k : ℕ) (old first new : Columns) → vs ≡ v ∷ ws
-    → first ≡ grown old (stripes_inside f (view v) r (d + 1) (k + 1)) → new ≡ grown first (stripes_later f (views ws) (d + 1) (k + 1)) → new ≡ grown old (stripes_items f (views vs) r d k)
+    → first ≡ grown old (stripes_inside f (view v) (levels_at r (d + 1) (k + 1))) → new ≡ grown first (stripes_later f (views ws) (d + 1) (k + 1)) → new ≡ grown old (stripes_items f (views vs) (levels_at r d k))
 items_given f vs ws v r d k old first new is one more =
     let both : ℕ → ℕ → Columns = λ m n. grown old (map (λ (l : Leaf). stripe l.steps (view v) r m n ++ later_items (stripe l.steps) (views ws) m n) (leaves f)) in
     more
@@ -83,7 +83,7 @@ items_given f vs ws v r d k old first new is one more =
     ∙ grown_twice (λ (l : Leaf). stripe l.steps (view v) r (d + 1) (k + 1)) (λ (l : Leaf). later_items (stripe l.steps) (views ws) (d + 1) (k + 1)) (leaves f) old
     ∙ ap (λ m. both m (k + 1)) (add-one d)
     ∙ ap (both (suc d)) (add-one k)
-    ∙ ap (λ us. grown old (stripes_items f (views us) r d k)) (sym is)
+    ∙ ap (λ us. grown old (stripes_items f (views us) (levels_at r d k))) (sym is)
 
 -- where one item fits, whether all fit is whether the others do
 pub item_fits : (p : ValueTree → Bool) (vs : List Value) (i : ℕ) (v : Value) → i < length vs → v ≡ get_or vs i v → p (view v) ≡ true → each p (views (drop (i + 1) vs)) ≡ each p (views (drop i vs))
@@ -99,7 +99,7 @@ list_fits (fields n r a fs) e vs = rw e
 
 -- the columns of one row more
 pub row_given : (fs : Fields) (row : ValueTrees) (rest : List ValueTrees) (cs new all : Columns)
-    → grown cs (columns fs (row ∷ rest)) ≡ all → new ≡ grown cs (stripes_each 0 fs (group row) 0 0 0) → grown new (columns fs rest) ≡ all
+    → grown cs (columns fs (row ∷ rest)) ≡ all → new ≡ grown cs (stripes_each 0 fs row (levels_at 0 0 0)) → grown new (columns fs rest) ≡ all
 row_given fs row rest cs new all so given =
     ap (λ t. grown t (columns fs rest)) given
     ∙ grown_twice (λ (l : Leaf). stripe l.steps (group row) 0 0 0) (λ (l : Leaf). column rest l.steps) (leaves_of fs) cs

@@ -1,21 +1,20 @@
 //! The entries of one value, put at the ends of the columns of the leaves at and below its field.
 
-ghost use Rattle.std.specs.Prelude.{◌≡◌, ℕ, ◌+◌, ◌<◌, ◌≤◌, ◌^◌, ◌∷◌, [], true, length, IfOk, IfErr, OnOk, option_map, suc};
+ghost use Rattle.std.specs.Prelude.{◌≡◌, ◌+◌, ◌<◌, ◌≤◌, ◌^◌, ◌∷◌, [], true, length, IfOk, IfErr, OnOk, option_map};
 ghost use Rattle.bits.specs.Refusals.{RefusedMemoryOnly};
-ghost use Rattle.schema.specs.Values.{view, views, group, each};
+ghost use Rattle.schema.specs.Values.{view, views, each};
 ghost use Rattle.schema.specs.Views.{field_view, field_views};
 ghost use Rattle.schema.specs.Borrowed.{value_ref_view};
-ghost use Rattle.schema.specs.Fits.{fits, fits_each, fits_inside, fits_as};
+ghost use Rattle.schema.specs.Fits.{fits, fits_each, fits_inside};
 ghost use Rattle.schema.specs.Stripe.{entry};
 ghost use Rattle.schema.specs.Reading.{tall, tallest, count_leaves, count_leaves_each};
-ghost use Rattle.shred.specs.Columns.{column_refs_view};
-ghost use Rattle.shred.specs.inner.Growing.{grown, stripes, stripes_inside, stripes_items, stripes_each, absences, absences_each, IsMisfit};
+ghost use Rattle.shred.specs.inner.Growing.{Grows, stripes, stripes_inside, stripes_items, stripes_each, absences, absences_each, IsMisfit};
 
 use crate::column::ColumnRef;
 use bits::{R, Refusal};
 use schema::{EntryRef, Field, Repetition, Value, ValueRef};
 
-/// The levels of a value's first entry, and how many REPEATED fields are on the way to the value.
+/// The levels of a value's first entry, and how many REPEATED fields are on the path to it.
 #[derive(Debug, Clone, Copy)]
 pub struct Levels {
     pub repetition: u32,
@@ -51,7 +50,7 @@ pub fn push_fields<'a>(
     requires deep { levels.definition + tallest (field_views fields.now) < 2 ^ 32 }
     requires repeated { levels.repeated ≤ levels.definition }
     ensures fit { OnOk result (fits_each (field_views fields.now) (views values.now) ≡ true) }
-    ensures grown { OnOk result (column_refs_view columns.new ≡ grown (column_refs_view columns.old) (stripes_each 0 (field_views fields.now) (group (views values.now)) levels.repetition levels.definition levels.repeated)) }
+    ensures grown { OnOk result (Grows (stripes_each 0 (field_views fields.now) (views values.now) levels) columns.old columns.new) }
     ensures used { IfOk result (λ used. used ≡ count_leaves_each (field_views fields.now)) }
     ensures refused { IfErr result (IsMisfit (fits_each (field_views fields.now) (views values.now))) }
 {
@@ -78,7 +77,7 @@ fn push_field<'a>(
     requires deep { levels.definition + tall (field_view field.now) < 2 ^ 32 }
     requires repeated { levels.repeated ≤ levels.definition }
     ensures fit { OnOk result (fits (field_view field.now) (view value.now) ≡ true) }
-    ensures grown { OnOk result (column_refs_view columns.new ≡ grown (column_refs_view columns.old) (stripes (field_view field.now) (view value.now) levels.repetition levels.definition levels.repeated)) }
+    ensures grown { OnOk result (Grows (stripes (field_view field.now) (view value.now) levels) columns.old columns.new) }
     ensures used { IfOk result (λ used. used ≡ count_leaves (field_view field.now)) }
     ensures refused { IfErr result (IsMisfit (fits (field_view field.now) (view value.now))) }
 {
@@ -118,7 +117,7 @@ fn push_items<'a>(
     requires deep { levels.definition + tall (field_view field.now) < 2 ^ 32 }
     requires repeated { levels.repeated ≤ levels.definition }
     ensures fit { OnOk result (each (fits_inside (field_view field.now)) (views items.now) ≡ true) }
-    ensures grown { OnOk result (column_refs_view columns.new ≡ grown (column_refs_view columns.old) (stripes_items (field_view field.now) (views items.now) levels.repetition levels.definition levels.repeated)) }
+    ensures grown { OnOk result (Grows (stripes_items (field_view field.now) (views items.now) levels) columns.old columns.new) }
     ensures used { IfOk result (λ used. used ≡ count_leaves (field_view field.now)) }
     ensures refused { IfErr result (IsMisfit (each (fits_inside (field_view field.now)) (views items.now))) }
 {
@@ -156,7 +155,7 @@ fn push_inside<'a>(
     requires deep { levels.definition + tall (field_view field.now) ≤ 2 ^ 32 }
     requires repeated { levels.repeated ≤ levels.definition }
     ensures fit { OnOk result (fits_inside (field_view field.now) (view value.now) ≡ true) }
-    ensures grown { OnOk result (column_refs_view columns.new ≡ grown (column_refs_view columns.old) (stripes_inside (field_view field.now) (view value.now) levels.repetition levels.definition levels.repeated)) }
+    ensures grown { OnOk result (Grows (stripes_inside (field_view field.now) (view value.now) levels) columns.old columns.new) }
     ensures used { IfOk result (λ used. used ≡ count_leaves (field_view field.now)) }
     ensures refused { IfErr result (IsMisfit (fits_inside (field_view field.now) (view value.now))) }
 {
@@ -182,7 +181,7 @@ fn push_inside<'a>(
 #[cycle(absent)]
 fn push_absent<'a>(field: &Field, levels: Levels, columns: &mut [ColumnRef<'a>]) -> R<usize>
     requires room { count_leaves (field_view field.now) ≤ length columns.old }
-    ensures grown { OnOk result (column_refs_view columns.new ≡ grown (column_refs_view columns.old) (absences (field_view field.now) levels.repetition levels.definition)) }
+    ensures grown { OnOk result (Grows (absences (field_view field.now) levels) columns.old columns.new) }
     ensures used { IfOk result (λ used. used ≡ count_leaves (field_view field.now)) }
     ensures which { RefusedMemoryOnly result }
 {
@@ -199,7 +198,7 @@ fn push_absent<'a>(field: &Field, levels: Levels, columns: &mut [ColumnRef<'a>])
 #[cycle(absent)]
 fn push_absent_each<'a>(fields: &[Field], levels: Levels, columns: &mut [ColumnRef<'a>]) -> R<usize>
     requires room { count_leaves_each (field_views fields.now) ≤ length columns.old }
-    ensures grown { OnOk result (column_refs_view columns.new ≡ grown (column_refs_view columns.old) (absences_each 0 (field_views fields.now) levels.repetition levels.definition)) }
+    ensures grown { OnOk result (Grows (absences_each 0 (field_views fields.now) levels) columns.old columns.new) }
     ensures used { IfOk result (λ used. used ≡ count_leaves_each (field_views fields.now)) }
     ensures which { RefusedMemoryOnly result }
 {
@@ -217,7 +216,7 @@ fn push_entry<'a>(
     columns: &mut [ColumnRef<'a>],
 ) -> R<()>
     requires { 0 < length columns.old }
-    ensures grown { OnOk result (column_refs_view columns.new ≡ grown (column_refs_view columns.old) (entry levels.repetition levels.definition (option_map value_ref_view value.entry) ∷ [])) }
+    ensures grown { OnOk result (Grows (entry levels.repetition levels.definition (option_map value_ref_view value.entry) ∷ []) columns.old columns.new) }
     ensures which { RefusedMemoryOnly result }
 {
     columns[0].entries.push(EntryRef {

@@ -18,8 +18,9 @@ use std::alloc::Global;
 ///
 /// Refused RowShape only where a row does not fit the schema.
 ///
-/// One pass over each row fills all columns. A row takes time linear in its entries and in the groups on
-/// the way to them: an absent group gives one entry to each leaf below it. No value is copied.
+/// One pass over each row fills all columns, and finds whether the row fits. A row takes time linear in its
+/// entries and in the fields on the paths to them; an absent group gives one entry to each leaf below it. No
+/// value is copied. Rows of several row groups can be shredded one group at a time.
 pub fn shred<'a>(alloc: Global, schema: &Schema, rows: &'a [Row]) -> R<Vec<ColumnRef<'a>>>
     ensures stands { IfOk result (λ found. column_refs_view found.items ≡ columns schema.now (rows_view rows.now)) }
     ensures fit { OnOk result (RowsFit schema.now (rows_view rows.now)) }

@@ -34,7 +34,5 @@ push_absent_each-returns-clause-grown t c =
     let i = c.loop-field.field-index in
     let cs = column_refs_view c.loop-field.columns in
     let u = c.loop-field.used in
-    let r = c.args.levels.repetition in
-    let d = c.args.levels.definition in
     let none : drop i fs ≡ [] = drop_of_length-le fs {i = i} (omega arith) in
-    sym (grown_whole u cs) ∙ subst (λ gs. grown cs (nils u ++ absences_each i (field_views gs) r d) ≡ grown (column_refs_view c.args.columns.now) (absences_each 0 (field_views fs) r d)) none c.loop-field.invariant.grown
+    sym (grown_whole u cs) ∙ subst (λ gs. grown cs (nils u ++ absences_each i (field_views gs) c.args.levels) ≡ grown (column_refs_view c.args.columns.now) (absences_each 0 (field_views fs) c.args.levels)) none c.loop-field.invariant.grown

@@ -8,8 +8,8 @@ use Rattle.shred.proofs.field.+absent.Given as goal
 -- with what the fields that are left give, the columns are as wanted
 abbrev pub invariant-push_absent_each-loop-field : goal.invariant-push_absent_each-loop-field
 invariant-push_absent_each-loop-field l = record {
-  grown : grown (column_refs_view l.columns) (nils l.used ++ absences_each l.field-index (field_views (drop l.field-index l.fields)) l.levels.repetition l.levels.definition)
-      ≡ grown (column_refs_view l.fn.columns) (absences_each 0 (field_views l.fields) l.levels.repetition l.levels.definition);
+  grown : grown (column_refs_view l.columns) (nils l.used ++ absences_each l.field-index (field_views (drop l.field-index l.fields)) l.levels)
+      ≡ grown (column_refs_view l.fn.columns) (absences_each 0 (field_views l.fields) l.levels);
   counts : l.used + count_leaves_each (field_views (drop l.field-index l.fields)) ≡ count_leaves_each (field_views l.fields);
   size : length l.columns ≡ length l.fn.columns;
 }

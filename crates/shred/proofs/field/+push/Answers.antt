@@ -61,12 +61,9 @@ push_fields-returns-clause-grown t c =
     let i = c.loop-i.i in
     let cs = column_refs_view c.loop-i.columns in
     let u = c.loop-i.used in
-    let w = group (views c.args.values.now) in
-    let r = c.args.levels.repetition in
-    let d = c.args.levels.definition in
-    let k = c.args.levels.repeated in
+    let vs = views c.args.values.now in
     let none : drop i fs ≡ [] = drop_of_length-le fs {i = i} (omega arith) in
-    sym (grown_whole u cs) ∙ subst (λ gs. grown cs (nils u ++ stripes_each i (field_views gs) w r d k) ≡ grown (column_refs_view c.args.columns.now) (stripes_each 0 (field_views fs) w r d k)) none c.loop-i.invariant.grown
+    sym (grown_whole u cs) ∙ subst (λ gs. grown cs (nils u ++ stripes_each i (field_views gs) vs c.args.levels) ≡ grown (column_refs_view c.args.columns.now) (stripes_each 0 (field_views fs) vs c.args.levels)) none c.loop-i.invariant.grown
 
 pub push_items-loop-item-preserved : goal.push_items-loop-item-preserved
 push_items-loop-item-preserved t c =

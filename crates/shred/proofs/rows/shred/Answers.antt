@@ -7,7 +7,7 @@ use Rattle.schema.specs.Stripe.{Leaf, leaves_of, column, columns}
 use Rattle.schema.specs.Reading.{tallest}
 use Rattle.schema.proofs.CutSteps.{counts_are}
 use Rattle.shred.specs.Columns.{column_ref_view, column_refs_view}
-use Rattle.shred.specs.inner.Growing.{grown, nils, stripes_each}
+use Rattle.shred.specs.inner.Growing.{grown, levels_at, stripes_each}
 use Rattle.shred.proofs.Growing.{grown_from_nils, grown_same, length_nils}
 use Rattle.shred.proofs.Given.{row_given}
 use Rattle.shred.proofs.Heights.{tallest_at}
@@ -57,14 +57,14 @@ loop-row-preserved c =
     let next : rows_view (drop i rows) ≡ row_view row ∷ rest = ap rows_view (drop_more rows i row (omega arith)) ∙ ap (λ t. row_view t ∷ rest) (sym c.row-item.is) in
     let size : length ys ≡ length xs = omega (arith, c.push_fields.auto.columns, ap length c.as_mut_slice.ensures.value) in
     let same : take c.loop-row.columns.len (ys ++ drop (length ys) xs) ≡ ys = written_back c.loop-row.columns.len xs ys (omega (arith, c.loop-row.columns.ok.0)) size in
-    let given : column_refs_view ys ≡ grown old (stripes_each 0 fs (group (row_view row)) 0 0 0) =
+    let given : column_refs_view ys ≡ grown old (stripes_each 0 fs (row_view row) (levels_at 0 0 0)) =
     c.in_ok-push_fields.ensures.grown
-    ∙ ap (λ t. grown (column_refs_view t) (stripes_each 0 (field_views c.fields.result.now) (group (views c.as_slice.result.now)) x.repetition x.definition x.repeated)) c.as_mut_slice.ensures.value
-    ∙ ap (λ gs. grown old (stripes_each 0 gs (group (views c.as_slice.result.now)) x.repetition x.definition x.repeated)) c.fields.ensures
-    ∙ ap (λ vs. grown old (stripes_each 0 fs (group (views vs)) x.repetition x.definition x.repeated)) c.as_slice.ensures.value
-    ∙ ap (λ n. grown old (stripes_each 0 fs (group (row_view row)) n x.definition x.repeated)) c.of_row.ensures.repetition
-    ∙ ap (λ n. grown old (stripes_each 0 fs (group (row_view row)) 0 n x.repeated)) c.of_row.ensures.definition
-    ∙ ap (λ n. grown old (stripes_each 0 fs (group (row_view row)) 0 0 n)) c.of_row.ensures.repeated in
+    ∙ ap (λ t. grown (column_refs_view t) (stripes_each 0 (field_views c.fields.result.now) (views c.as_slice.result.now) x)) c.as_mut_slice.ensures.value
+    ∙ ap (λ gs. grown old (stripes_each 0 gs (views c.as_slice.result.now) x)) c.fields.ensures
+    ∙ ap (λ vs. grown old (stripes_each 0 fs (views vs) x)) c.as_slice.ensures.value
+    ∙ ap (λ n. grown old (stripes_each 0 fs (row_view row) (levels_at n x.definition x.repeated))) c.of_row.ensures.repetition
+    ∙ ap (λ n. grown old (stripes_each 0 fs (row_view row) (levels_at 0 n x.repeated))) c.of_row.ensures.definition
+    ∙ ap (λ n. grown old (stripes_each 0 fs (row_view row) (levels_at 0 0 n))) c.of_row.ensures.repeated in
     let fit : fits_each fs (row_view row) ≡ true =
     sym (ap (λ gs. fits_each gs (views c.as_slice.result.now)) c.fields.ensures ∙ ap (λ vs. fits_each fs (views vs)) c.as_slice.ensures.value) ∙ c.in_ok-push_fields.ensures.fit in
     record {
