@@ -3,7 +3,7 @@ use Rattle.std.proofs.Common.{ℕ, zero, suc, ◌≡◌, ◌+◌, ◌<◌, List,
 use Rattle.std.proofs.Math.ListN.{set}
 use Rattle.std.proofs.lemmas.List.{append-nil, map-append, length-map}
 use Rattle.std.proofs.lemmas.Simd.{map-map}
-use Rattle.schema.specs.Shape.{Field, leaf, fields, Fields, no_fields, field}
+use Rattle.schema.specs.Shape.{Field, leaf, fields, Fields, field}
 use Rattle.schema.specs.Stripe.{Entry, Leaf, below, leaves, leaves_from}
 use Rattle.schema.specs.Reading.{count_leaves}
 use Rattle.schema.proofs.CutSteps.{counts_are}

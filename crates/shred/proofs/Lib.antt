@@ -1,4 +1,4 @@
 pub mod Growing
 pub mod Slices
-pub mod Given
+pub mod Turns
 pub mod Heights

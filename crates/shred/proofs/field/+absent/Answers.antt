@@ -1,11 +1,11 @@
-use Rattle.std.proofs.Common.{rules, ◌≡◌, ◌+◌, ◌≤◌, ◌++◌, List, [], drop, length, map, refl, sym, subst, ◌∙◌, arith, None, drop_of_length-le}
-use Rattle.schema.specs.Views.{field_view, field_views}
+use Rattle.std.proofs.Common.{rules, ◌≡◌, ◌≤◌, ◌++◌, List, [], drop, length, refl, sym, subst, ◌∙◌, arith, None, drop_of_length-le}
+use Rattle.schema.specs.Views.{field_views}
 use Rattle.schema.specs.Stripe.{Entry, entry, Leaf}
 use Rattle.schema.proofs.CutSteps.{next_count}
 use Rattle.shred.specs.Columns.{column_refs_view}
 use Rattle.shred.specs.inner.Growing.{grown, nils, absences_each}
 use Rattle.shred.proofs.Growing.{grown_whole}
-use Rattle.shred.proofs.Given.{field_given}
+use Rattle.shred.proofs.Turns.{field_given}
 use Rattle.shred.proofs.field.+absent.Goals as goal
 
 pub push_absent_each-loop-field-preserved : goal.push_absent_each-loop-field-preserved

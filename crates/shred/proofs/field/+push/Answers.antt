@@ -1,18 +1,18 @@
-use Rattle.std.proofs.Common.{rules, ◌≡◌, ◌+◌, ◌<◌, ◌≤◌, ◌^◌, ◌++◌, ◌∷◌, List, [], drop, length, map, refl, ap, sym, subst, ◌∙◌, arith, add-one, drop_of_length-le, suc}
+use Rattle.std.proofs.Common.{rules, ◌≡◌, ◌+◌, ◌<◌, ◌≤◌, ◌^◌, ◌++◌, List, [], drop, length, map, refl, ap, sym, subst, ◌∙◌, arith, drop_of_length-le}
 use Rattle.std.specs.Result.{IfErr}
-use Rattle.schema.specs.Values.{ValueTree, ValueTrees, no_values, value as item, view, views, group, list, each}
+use Rattle.schema.specs.Values.{ValueTree, no_values, view, views, group, each}
 use Rattle.schema.specs.Views.{field_view, field_views}
-use Rattle.schema.specs.Fits.{fits, fits_inside, fits_each}
-use Rattle.schema.specs.Shape.{Fields, repetition_of}
+use Rattle.schema.specs.Fits.{fits, fits_inside}
+use Rattle.schema.specs.Shape.{repetition_of}
 use Rattle.schema.specs.Stripe.{Entry, Leaf, leaves, stripe, stripe_as, later_items}
 use Rattle.schema.specs.Reading.{tallest}
 use Rattle.schema.proofs.Forest.{field_place}
 use Rattle.schema.proofs.CutSteps.{next_count}
 use Rattle.schema.proofs.Views.{fits_each-lengths}
 use Rattle.shred.specs.Columns.{column_refs_view}
-use Rattle.shred.specs.inner.Growing.{grown, nils, stripes_each, stripes_inside, stripes_items, stripes_later, IsMisfit}
-use Rattle.shred.proofs.Growing.{grown_whole, grown_same, grown_twice}
-use Rattle.shred.proofs.Given.{field_given, member_is, fit_given, item_given, items_given, item_fits, list_fits, view_list}
+use Rattle.shred.specs.inner.Growing.{grown, nils, stripes_each, stripes_later, IsMisfit}
+use Rattle.shred.proofs.Growing.{grown_whole, grown_same}
+use Rattle.shred.proofs.Turns.{field_given, member_is, fit_given, item_given, items_given, item_fits, list_fits, view_list}
 use Rattle.shred.proofs.field.+push.Goals as goal
 
 pub push_field-returns-in-List-clause-refused : goal.push_field-returns-in-List-clause-refused

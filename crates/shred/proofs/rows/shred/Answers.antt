@@ -1,7 +1,7 @@
-use Rattle.std.proofs.Common.{rules, ◌≡◌, ◌+◌, ◌<◌, ◌≤◌, List, [], ◌∷◌, ◌++◌, true, take, drop, length, map, refl, ap, sym, subst, ◌∙◌, arith, drop_of_length-le}
+use Rattle.std.proofs.Common.{◌≡◌, ◌+◌, [], ◌∷◌, ◌++◌, true, take, drop, length, refl, ap, sym, subst, ◌∙◌, arith, drop_of_length-le}
 use Rattle.std.proofs.lemmas.List.{length-map, drop_more}
 use Rattle.schema.specs.Views.{field_views, row_view, rows_view, leaf_view}
-use Rattle.schema.specs.Values.{ValueTrees, views, group}
+use Rattle.schema.specs.Values.{views}
 use Rattle.schema.specs.Fits.{RowsFit, fits_each}
 use Rattle.schema.specs.Stripe.{Leaf, leaves_of, column, columns}
 use Rattle.schema.specs.Reading.{tallest}
@@ -9,7 +9,7 @@ use Rattle.schema.proofs.CutSteps.{counts_are}
 use Rattle.shred.specs.Columns.{column_ref_view, column_refs_view}
 use Rattle.shred.specs.inner.Growing.{grown, levels_at, stripes_each}
 use Rattle.shred.proofs.Growing.{grown_from_nils, grown_same, length_nils}
-use Rattle.shred.proofs.Given.{row_given}
+use Rattle.shred.proofs.Turns.{row_given}
 use Rattle.shred.proofs.Heights.{tallest_at}
 use Rattle.shred.proofs.Slices.{written_back}
 use Rattle.shred.proofs.rows.shred.Goals as goal

@@ -1,4 +1,4 @@
--- What one field, or one item, of several gives, once it is given.
+-- One turn of each loop: what one field, one item or one row more gives.
 use Rattle.std.proofs.Common.{ℕ, zero, suc, ◌≡◌, ◌+◌, ◌-◌, ◌<◌, ◌≤◌, true, Bool, ◌&&◌, List, [], ◌∷◌, ◌++◌, map, length, get_or, take, drop, refl, ap, sym, subst, ◌∙◌, arith, add-one, Vec}
 use Rattle.std.proofs.lemmas.List.{drop_more}
 use borrow.Rule.Slice.PartMut.{put_mid, mid_of}
