@@ -37,6 +37,8 @@ mod records;
 #[cfg(test)]
 mod schemas;
 #[cfg(test)]
+mod shredding;
+#[cfg(test)]
 mod statistics_of_columns;
 #[cfg(test)]
 mod thrift_structs;

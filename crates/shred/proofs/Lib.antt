@@ -1,0 +1,4 @@
+pub mod Growing
+pub mod Slices
+pub mod Turns
+pub mod Heights

@@ -1,0 +1,12 @@
+//! Rows to columns of entries (parquet-format, "Nested Encoding", as the Dremel paper has it).
+//!
+//! `specs/Stripe.antt` of `schema` says what the columns of rows are, and `specs/Columns.antt` what a
+//! borrowed column shows.
+#![tactic(auto)]
+
+mod column;
+mod field;
+mod rows;
+
+pub use column::{ColumnRef, to_columns};
+pub use rows::shred;
