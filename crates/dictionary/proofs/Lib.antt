@@ -6,3 +6,4 @@ pub mod Pages
 pub mod Widths
 pub mod NextValues
 pub mod Examples
+pub mod OneDictionary

@@ -1,6 +1,6 @@
 //! What holds of the definitions.
 
-ghost use Rattle.std.specs.Prelude.{ℕ, List, [], ◌∷◌};
+ghost use Rattle.std.specs.Prelude.{◌≡◌, ℕ, List, [], ◌∷◌};
 ghost use Rattle.bits.specs.Codec.{NothingStands, IsFunctional};
 ghost use Rattle.schema.specs.declared.value.Kind.TheVariants.{ByteArray};
 ghost use Rattle.schema.specs.Values.{ValueTree, bytes};
@@ -16,6 +16,11 @@ pub fn one_list()
 /// A front of the bytes stands for at most one list of n values of a dictionary.
 pub fn one_list_of_values()
     ensures { (entries : List ValueTree) (n : ℕ) → IsFunctional (λ bytes. AreIndexed entries bytes n) }
+{}
+
+/// A list of values has at most one list of entries, and at most one list of indexes.
+pub fn one_dictionary()
+    ensures { (values entries others : List ValueTree) (indexes places : List ℕ) → IsIndexed values entries indexes → IsIndexed values others places → (entries ≡ others) × (indexes ≡ places) }
 {}
 
 /// The page of a dictionary of a and b; a, b, a over it; an index past its end; a three times in no

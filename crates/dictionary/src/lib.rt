@@ -15,6 +15,6 @@ mod writing;
 
 pub use codec::Indexes;
 pub use dictionary::Dictionary;
-pub use laws::{one_list, one_list_of_values, worked_examples};
+pub use laws::{one_dictionary, one_list, one_list_of_values, worked_examples};
 pub use reading::decode_indexes;
 pub use writing::encode_indexes;
