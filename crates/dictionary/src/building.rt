@@ -17,7 +17,7 @@ use schema::{Value, ValueRef};
 use std::alloc::Global;
 
 /// The most entries of a dictionary that is built.
-pub const MOST_ENTRIES: usize = 65_536;
+const MOST_ENTRIES: usize = 65_536;
 
 /// The index of a value's entry; a new value is added at the end. None where it is new and there are
 /// as many entries as there can be.

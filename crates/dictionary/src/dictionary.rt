@@ -1,6 +1,6 @@
 //! Dictionaries, and their pages.
 
-ghost use Rattle.std.specs.Prelude.{◌≡◌, ◌∷◌, [], ℕ, ◌+◌, ◌≤◌, ◌<◌, ◌⊎◌, List, All, length, map, slice_get, Some, IfOk, OnOk, OnErr};
+ghost use Rattle.std.specs.Prelude.{◌≡◌, ◌∷◌, [], ℕ, ◌+◌, ◌≤◌, ◌<◌, ◌⊎◌, List, All, length, map, slice_get, vec_len, Some, IfOk, OnOk, OnErr};
 ghost use Rattle.std.specs.Option.{option_map};
 ghost use Rattle.bits.specs.Refusals.{OnFault, RefusedOnly, LimitJustWhere};
 ghost use Rattle.bits.specs.Codec.{NothingStands, Appends};
@@ -92,6 +92,7 @@ impl Dictionary {
     /// Refused Value exactly when an index is past the end.
     pub fn values_of<'a>(&'a self, alloc: Global, indexes: &[u32]) -> R<Vec<ValueRef<'a>>>
         ensures stands { IfOk result (λ values. AreEntriesAt (entries_of self.now) indexes.now (map value_ref_view values.items)) }
+        ensures count { IfOk result (λ values. vec_len values ≡ length indexes.now) }
         ensures only { OnFault result (All (λ i. i < length (entries_of self.now)) indexes.now → ⊥) }
         ensures which { RefusedOnly (λ e. e ≡ Refusal.Value) result }
     {
@@ -114,7 +115,7 @@ impl Dictionary {
         n: usize,
     ) -> R<(Vec<ValueRef<'a>>, usize)>
         ensures stands { IfOk result (λ x. AreIndexed (entries_of self.now) bytes.now n (map value_ref_view x.0.items) x.1) }
-        ensures count { IfOk result (λ x. length x.0.items ≡ n) }
+        ensures count { IfOk result (λ x. vec_len x.0 ≡ n) }
         ensures within { IfOk result (λ x. x.1 ≤ length bytes.now) }
         ensures only { OnFault result (NothingStands (AreIndexed (entries_of self.now) bytes.now n)) }
         ensures which { RefusedOnly (λ e. (e ≡ Refusal.Truncated) ⊎ (e ≡ Refusal.Thrift) ⊎ (e ≡ Refusal.Value)) result }
