@@ -42,3 +42,8 @@ pub record AreMoreThan (n : ℕ) (values : List ValueTree) : Type 0 where
   pub many : n < length some
   pub among : All (Contains values) some
   pub different : AreDifferent some
+
+-- a list of values has at most one list of entries, and at most one list of indexes
+abbrev pub AtMostOneDictionary : Type 0
+AtMostOneDictionary = (values entries others : List ValueTree) (indexes places : List ℕ)
+    → IsIndexed values entries indexes → IsIndexed values others places → (entries ≡ others) × (indexes ≡ places)

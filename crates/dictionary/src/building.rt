@@ -1,6 +1,6 @@
 //! From values to a dictionary of them.
 
-ghost use Rattle.std.specs.Prelude.{◌≡◌, ℕ, ◌≤◌, ◌<◌, All, length, map, IfOk, OnOk, MatchOption, IfSome};
+ghost use Rattle.std.specs.Prelude.{◌≡◌, ℕ, ◌≤◌, ◌<◌, All, length, map, IfOk, OnOk, IfSome, IfNone};
 ghost use Rattle.bits.specs.Refusals.{OnFault, RefusedOnly, RefusedMemoryOnly};
 ghost use Rattle.schema.specs.Values.{view};
 ghost use Rattle.schema.specs.Borrowed.{value_ref_view};
@@ -29,9 +29,10 @@ fn index_of<'a>(
 ) -> R<Option<u32>>
     requires same { map key_view keys.old.keys ≡ map view entries.old.items }
     requires few { length entries.old.items ≤ 65536 }
-    ensures same { IfOk result (λ found. MatchOption found (Unit {0}) (λ _. map key_view keys.new.keys ≡ map view entries.new.items)) }
-    ensures few { IfOk result (λ found. MatchOption found (Unit {0}) (λ _. length entries.new.items ≤ 65536)) }
-    ensures placed { IfOk result (λ found. MatchOption found (IsFull 65536 (map view entries.old.items) (value_ref_view value.entry)) (λ at. IsPlaced (map view entries.old.items) (value_ref_view value.entry) at (map view entries.new.items))) }
+    ensures same { IfOk result (λ found. IfSome found (λ _. map key_view keys.new.keys ≡ map view entries.new.items)) }
+    ensures few { IfOk result (λ found. IfSome found (λ _. length entries.new.items ≤ 65536)) }
+    ensures full { let v = value_ref_view value.entry in IfOk result (λ found. IfNone found (IsFull 65536 (map view entries.old.items) v)) }
+    ensures placed { let v = value_ref_view value.entry in IfOk result (λ found. IfSome found (λ at. IsPlaced (map view entries.old.items) v at (map view entries.new.items))) }
     ensures of_leaf { OnOk result (IsLeafValue (value_ref_view value.entry)) }
     ensures only { OnFault result (IsLeafValue (value_ref_view value.entry) → ⊥) }
     ensures which { RefusedOnly (λ e. e ≡ Refusal.Value) result }
@@ -60,7 +61,8 @@ impl Dictionary {
     /// One pass with one look-up in a hash table for each value; each different value is copied once,
     /// and no other.
     pub fn build<V: Lends>(alloc: Global, values: &[V]) -> R<Option<Dictionary>>
-        ensures stands { IfOk result (λ built. MatchOption built (AreMoreThan 65536 (map V.lent values.now)) (λ d. IsIndexed (map V.lent values.now) (entries_of d) (indexes_of d))) }
+        ensures stands { IfOk result (λ built. IfSome built (λ d. IsIndexed (map V.lent values.now) (entries_of d) (indexes_of d))) }
+        ensures none { IfOk result (λ built. IfNone built (AreMoreThan 65536 (map V.lent values.now))) }
         ensures few { IfOk result (λ built. IfSome built (λ d. AreMoreThan 65536 (map V.lent values.now) → ⊥)) }
         ensures of_leaf { IfOk result (λ built. IfSome built (λ _. All IsLeafValue (map V.lent values.now))) }
         ensures only { OnFault result (All IsLeafValue (map V.lent values.now) → ⊥) }

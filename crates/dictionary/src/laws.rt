@@ -1,11 +1,11 @@
 //! What holds of the definitions.
 
-ghost use Rattle.std.specs.Prelude.{◌≡◌, ℕ, List, [], ◌∷◌};
+ghost use Rattle.std.specs.Prelude.{ℕ, List, [], ◌∷◌};
 ghost use Rattle.bits.specs.Codec.{NothingStands, IsFunctional};
 ghost use Rattle.schema.specs.declared.value.Kind.TheVariants.{ByteArray};
 ghost use Rattle.schema.specs.Values.{ValueTree, bytes};
 ghost use Rattle.plain.specs.Plain.{IsPlain};
-ghost use Rattle.dictionary.specs.Entries.{IsIndexed};
+ghost use Rattle.dictionary.specs.Entries.{IsIndexed, AtMostOneDictionary};
 ghost use Rattle.dictionary.specs.IndexPages.{IsIndexPage, AreIndexed};
 
 /// A front of the bytes stands for at most one list of n indexes into a dictionary of some size.
@@ -20,7 +20,7 @@ pub fn one_list_of_values()
 
 /// A list of values has at most one list of entries, and at most one list of indexes.
 pub fn one_dictionary()
-    ensures { (values entries others : List ValueTree) (indexes places : List ℕ) → IsIndexed values entries indexes → IsIndexed values others places → (entries ≡ others) × (indexes ≡ places) }
+    ensures { AtMostOneDictionary }
 {}
 
 /// The page of a dictionary of a and b; a, b, a over it; an index past its end; a three times in no

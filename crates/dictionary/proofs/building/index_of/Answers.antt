@@ -14,8 +14,8 @@ use Rattle.dictionary.proofs.building.index_of.Goals as goal
 decided : (p q : ValueKey) → Decides (ghosts.eq p q) (key_view p ≡ key_view q)
 decided = by_kinds ghosts.eq (λ a b. refl) (λ a b. refl) (λ a b. refl) (λ a b. refl) (λ a b. refl) (λ a b. refl) (λ a b. refl) (λ a b. refl) (λ a b. refl)
 
-pub returns-then-len-eq-MOST_ENTRIES-clause-placed : goal.returns-then-len-eq-MOST_ENTRIES-clause-placed
-returns-then-len-eq-MOST_ENTRIES-clause-placed c =
+pub returns-then-len-eq-MOST_ENTRIES-clause-full : goal.returns-then-len-eq-MOST_ENTRIES-clause-full
+returns-then-len-eq-MOST_ENTRIES-clause-full c =
     let value : key_view c.in-Some.key ≡ value_ref_view c.args.value = rw c.in-Some.key-is at c.in-Some.ensures in
     record {
       full = omega (arith, length-map c.args.entries.now.items view, c.args.entries.now.ok.0, c.len.ensures, c.if-len-eq-MOST_ENTRIES.true);

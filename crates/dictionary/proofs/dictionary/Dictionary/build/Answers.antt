@@ -20,13 +20,13 @@ returns-in_err-index-clause-only g c =
     passes (λ e. IsFault e → All IsLeafValue (map lent xs) → ⊥) c.from_residual-in_err-index.result c.in_err-index.field-0.0 c.from_residual-in_err-index.ensures.1
     (λ fault all. c.in_err-index.ensures.only fault (subst IsLeafValue (sym c.lend.ensures.stands) (next_of_all lent IsLeafValue xs c.loop-value.value-index c.value-item.result (omega arith) c.value-item.is all)))
 
-pub returns-in_default-clause-stands : goal.returns-in_default-clause-stands
-returns-in_default-clause-stands g c =
+pub returns-in_default-clause-none : goal.returns-in_default-clause-none
+returns-in_default-clause-none g c =
     let lent = g.V.Lends.lent in
     let xs = c.args.values.now in
     let at = c.loop-value.value-index in
     let es = map view c.loop-value.entries.items in
-    let full : IsFull 65536 es (value_ref_view c.lend.result) = rw c.in_default.is at c.in_ok-index.ensures.placed in
+    let full : IsFull 65536 es (value_ref_view c.lend.result) = rw c.in_default.is at c.in_ok-index.ensures.full in
     too_many 65536 (map lent xs) (take at (map lent xs)) (drop (suc at) (map lent xs)) es c.loop-value.indexes.items (lent c.value-item.result)
     (next_between lent xs at c.value-item.result (omega arith) c.value-item.is) c.loop-value.invariant.indexed (subst (IsFull 65536 es) c.lend.ensures.stands full)
 
