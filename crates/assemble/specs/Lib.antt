@@ -1,0 +1,5 @@
+pub mod Sources
+pub mod Cursors
+pub mod Columns
+pub mod RowsOf
+pub mod inner

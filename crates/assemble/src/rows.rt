@@ -1,0 +1,100 @@
+//! Rows off the fronts of columns.
+
+ghost use Rattle.std.specs.Prelude.{◌≡◌, ◌⊎◌, ℕ, List, map, length, IfOk, OnOk, IfErr};
+ghost use Rattle.bits.specs.Refusals.{OnFault};
+ghost use Rattle.schema.specs.Values.{ValueTrees};
+ghost use Rattle.schema.specs.Views.{rows_view, columns_view};
+ghost use Rattle.assemble.specs.Columns.{Tells, IsAmong};
+ghost use Rattle.assemble.specs.RowsOf.{AreRowsOf, HasFault, AllEnd, NextRow, Ended, Filled, IsTooLong, IsRefusedAs};
+
+use crate::cursor::Cursor;
+use crate::reading::{Place, has_item, read_fields};
+use crate::source::EntrySource;
+use bits::{R, Refusal};
+use schema::{Column, Row, Schema};
+use std::alloc::Global;
+
+/// The most entries that a column may have.
+pub const MOST_ENTRIES: usize = 16_777_216;
+
+/// Refused Levels where something is left of one of the columns.
+fn check_ended<S: EntrySource>(sources: &mut [S]) -> R<()>
+    ensures is { OnOk result (Ended (length sources.old) (map S.left sources.old) (map S.ends sources.old)) }
+    ensures refused { IfErr result (λ e. IsAmong e (map S.ends sources.old) ⊎ Tells (Filled (map S.left sources.old)) ⊥ e) }
+    ensures left { map S.left sources.new ≡ map S.left sources.old }
+    ensures ends { map S.ends sources.new ≡ map S.ends sources.old }
+{
+    let count = sources.len();
+    for i in 0..count {
+        if sources[i].peek()?.is_some() {
+            return Err(Refusal::Levels);
+        }
+    }
+    Ok(())
+}
+
+/// The next row, or none at the end of all columns. Each value is moved or copied once.
+///
+/// Refused with a source's own refusal; Levels where no rows have the levels of what is left; Value where
+/// an entry lacks its value, has one below the greatest definition level, or one that is not of the leaf's
+/// type. After a refusal, want of memory too, the sources may stand within a row.
+pub fn next_row<S: EntrySource>(alloc: Global, schema: &Schema, sources: &mut [S]) -> R<Option<Row>>
+    ensures row { NextRow schema.now (map S.ends sources.old) (map S.left sources.old) (map S.left sources.new) result }
+    ensures ends { map S.ends sources.new ≡ map S.ends sources.old }
+{
+    let leaves = schema.leaves();
+    if sources.len() != leaves.len() || sources.is_empty() {
+        return Err(Refusal::Levels);
+    }
+    if !has_item(0, sources)? {
+        check_ended(sources)?;
+        return Ok(None);
+    }
+    let start = Place {
+        repetition: 0,
+        definition: 0,
+        own: 0,
+    };
+    let (values, _) = read_fields(alloc, schema.fields(), start, sources)?;
+    Ok(Some(Row { values }))
+}
+
+/// The rows with the columns that the sources would still give. Each value is moved or copied once, in
+/// one pass.
+///
+/// Refused as [`next_row`].
+pub fn assemble_from<S: EntrySource>(
+    alloc: Global,
+    schema: &Schema,
+    sources: &mut [S],
+) -> R<Vec<Row>>
+    ensures stands { IfOk result (λ rows. AreRowsOf schema.now (map S.left sources.old) (rows_view rows.items)) }
+    ensures whole { OnOk result (AllEnd (map S.ends sources.old)) }
+    ensures refused { IfErr result (λ e. IsAmong e (map S.ends sources.old) ⊎ HasFault schema.now (map S.left sources.old) e) }
+    ensures ends { map S.ends sources.new ≡ map S.ends sources.old }
+{
+    let mut rows = Vec::new(alloc);
+    while let Some(row) = next_row(alloc, schema, sources)? {
+        rows.push(row)?;
+    }
+    Ok(rows)
+}
+
+/// The rows with these columns.
+///
+/// Refused Limit for a column of more than 16,777,216 entries; Levels and Value as [`next_row`].
+pub fn assemble(alloc: Global, schema: &Schema, columns: &[Column]) -> R<Vec<Row>>
+    ensures stands { IfOk result (λ rows. AreRowsOf schema.now (columns_view columns.now) (rows_view rows.items)) }
+    ensures short { OnOk result (IsTooLong (columns_view columns.now) → ⊥) }
+    ensures only { OnFault result ((rows : List ValueTrees) → AreRowsOf schema.now (columns_view columns.now) rows → ⊥) }
+    ensures which { IfErr result (IsRefusedAs schema.now (columns_view columns.now)) }
+{
+    let mut cursors = Vec::with_capacity(alloc, columns.len())?;
+    for column in columns {
+        if column.entries.len() > MOST_ENTRIES {
+            return Err(Refusal::Limit);
+        }
+        cursors.push(Cursor::new(column.entries.as_slice()))?;
+    }
+    assemble_from(alloc, schema, cursors.as_mut_slice())
+}
