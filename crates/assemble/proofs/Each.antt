@@ -9,12 +9,11 @@ use Rattle.schema.specs.Shape.{Field, Fields, no_fields, field, repetition_of}
 use Rattle.schema.specs.Fits.{fits, fits_each}
 use Rattle.schema.specs.Stripe.{Leaf, leaves, stripe, stripe_as, definitions, greatest_definition}
 use Rattle.schema.specs.Reading.{count_leaves, count_leaves_each}
-use Rattle.assemble.specs.Columns.{Columns, level, AreAlike, AllSuit}
-use Rattle.assemble.specs.inner.Fronts.{Fronts, AreEnds, stripes, stripes_each, wants, wants_each, Fit, FitEach}
-use Rattle.assemble.specs.inner.ReadValues.{HasLevels, IsRead, IsRefused}
+use Rattle.assemble.specs.Columns.{Columns, level, AreAlike, AllSuit, Fronts}
+use Rattle.assemble.specs.inner.Fronts.{AreEnds, stripes, stripes_each, wants, wants_each, Fit, FitEach}
+use Rattle.assemble.specs.inner.ReadValues.{HasLevels, IsRead, IsFaulty}
 use Rattle.assemble.proofs.Fronts.{fronts_join, fronts_split, fronts_behind, fronts_length_new, alike_append, suit_split, ends_split}
-use Rattle.assemble.proofs.Told.{among_drop}
-use Rattle.assemble.proofs.Readings.{refused_up, count_is}
+use Rattle.assemble.proofs.Readings.{faulty_up, count_is}
 use Rattle.assemble.proofs.Items.{snoc}
 
 abbrev pub join : ValueTrees → ValueTrees → ValueTrees
@@ -37,12 +36,12 @@ take_past (x ∷ xs) ys (suc m) n e = ap (λ t. x ∷ t) (take_past xs ys m n (o
 take_parts : {A : Type 0} (m n : ℕ) (xs : List A) → m ≤ length xs → take (m + n) xs ≡ take m xs ++ take n (drop m xs)
 take_parts m n xs le = ap (take (m + n)) (sym (take-append-drop m xs)) ∙ take_past (take m xs) (drop m xs) (m + n) n (let e = length-take-le m xs le in omega (arith, e))
 
-drop_front : {A : Type 0} (xs ys : List A) (n : ℕ) → length xs ≡ n → drop n (xs ++ ys) ≡ ys
+pub drop_front : {A : Type 0} (xs ys : List A) (n : ℕ) → length xs ≡ n → drop n (xs ++ ys) ≡ ys
 drop_front [] ys n e = ap (λ i. drop i ys) (sym e)
 drop_front (x ∷ xs) ys zero e = absurd (omega (arith, e))
 drop_front (x ∷ xs) ys (suc n) e = drop_front xs ys n (omega (arith, e))
 
-take_front : {A : Type 0} (xs ys : List A) (n : ℕ) → length xs ≡ n → take n (xs ++ ys) ≡ xs
+pub take_front : {A : Type 0} (xs ys : List A) (n : ℕ) → length xs ≡ n → take n (xs ++ ys) ≡ xs
 take_front [] ys n e = ap (λ i. take i ys) (sym e)
 take_front (x ∷ xs) ys zero e = absurd (omega (arith, e))
 take_front (x ∷ xs) ys (suc n) e = ap (λ t. x ∷ t) (take_front xs ys n (omega (arith, e)))
@@ -119,11 +118,32 @@ split f fs r d k old rests w = at w.value w.fits w.front w.ends
             fronts_longer (a ∷ A) B (o ∷ old) [] h = absurd h
             fronts_longer (a ∷ A) B (o ∷ old) (n ∷ new) h = let k = fronts_longer A B old new h.1 in omega (arith, k)
 
+-- with the stripes of the values of `gs` those of all values are whole
+abbrev pub Whole : Fields → Fields → ℕ → ℕ → ℕ → ℕ → ValueTrees → Columns → Columns → Type 0
+Whole fs gs r d k used vs old now = (ws : ValueTrees) (sub : Columns) → Fronts (stripes_each gs r d k ws) (drop used now) sub → Fronts (stripes_each fs r d k (join vs ws)) old (take used now ++ sub)
+
+-- with values of `gs` that fit all values fit
+abbrev pub WholeFit : Fields → Fields → ValueTrees → Type 0
+WholeFit fs gs vs = (ws : ValueTrees) → FitEach gs ws → FitEach fs (join vs ws)
+
+pub fit_begins : (fs : Fields) → WholeFit fs fs no_values
+fit_begins fs ws h = h
+
+pub fit_step : (fs : Fields) (f : Field) (gs : Fields) (vs : ValueTrees) (v : ValueTree) → WholeFit fs (field f gs) vs → Fit f v → WholeFit fs gs (snoc vs v)
+fit_step fs f gs vs v whole h ws g = subst (FitEach fs) (sym (join_snoc vs v ws)) (whole (item v ws) (rw (h, g) refl))
+
+pub fit_finished : (fs : Fields) (vs : ValueTrees) → WholeFit fs no_fields vs → FitEach fs vs
+fit_finished fs vs whole = subst (FitEach fs) (join_none vs) (whole no_values refl)
+
+pub whole_begins : (fs : Fields) (r d k : ℕ) (now : Columns) → Whole fs fs r d k 0 no_values now now
+whole_begins fs r d k now ws sub g = g
+
 -- the values of the first fields are read, and those of `gs` are left
 pub record SoFar (fs gs : Fields) (r d k : ℕ) (old now : Columns) (used : ℕ) (vs : ValueTrees) : Type 0 where
   pub counts : used + count_leaves_each gs ≡ count_leaves_each fs
   pub room : used ≤ length now
-  pub whole : (ws : ValueTrees) (sub : Columns) → FitEach gs ws → Fronts (stripes_each gs r d k ws) (drop used now) sub → FitEach fs (join vs ws) × Fronts (stripes_each fs r d k (join vs ws)) old (take used now ++ sub)
+  pub fit : WholeFit fs gs vs
+  pub whole : Whole fs gs r d k used vs old now
   pub alone : (rests : Columns) → HasLevels (FitEach fs) (stripes_each fs r d k) k old rests → HasLevels (FitEach gs) (stripes_each gs r d k) k (drop used now) (drop used rests) × (AreAlike (take used rests) (take used now) × (used ≤ length rests))
   pub suit : AllSuit (wants_each fs d) old → AllSuit (wants_each gs d) (drop used now)
 
@@ -131,10 +151,30 @@ pub begins : (fs : Fields) (r d k : ℕ) (old : Columns) → SoFar fs fs r d k o
 begins fs r d k old = record {
   counts = omega arith;
   room = omega arith;
-  whole = λ ws sub h g. (h, g);
+  fit = fit_begins fs;
+  whole = whole_begins fs r d k old;
   alone = λ rests w. (w, (refl, omega arith));
   suit = λ s. s;
 }
+
+pub whole_step : (fs : Fields) (f : Field) (gs : Fields) (r d k : ℕ) (old now sub : Columns) (used : ℕ) (vs : ValueTrees) (v : ValueTree)
+    → used ≤ length now → Whole fs (field f gs) r d k used vs old now → Fronts (stripes f r d k v) (drop used now) sub → Whole fs gs r d k (used + count_leaves f) (snoc vs v) old (take used now ++ sub)
+whole_step fs f gs r d k old now sub used vs v room whole front ws more g =
+    let n = count_leaves f in
+    let A = stripes f r d k v in
+    let front_size : length (take used now) ≡ used = length-take-le used now room in
+    let sized : length A ≡ n = size f r d k v in
+    let rest_is : drop (used + n) (take used now ++ sub) ≡ drop n sub = drop_past used n (take used now) sub front_size in
+    let front_is : take (used + n) (take used now ++ sub) ≡ take used now ++ take n sub = take_past (take used now) sub (used + n) n (omega (arith, front_size)) in
+    let there : Fronts (stripes_each gs r d k ws) (drop (length A) sub) more = subst (λ m. Fronts (stripes_each gs r d k ws) (drop m sub) more) (sym sized) (subst (λ c. Fronts (stripes_each gs r d k ws) c more) rest_is g) in
+    let joined : Fronts (A ++ stripes_each gs r d k ws) (drop used now) (take n sub ++ more) = subst (λ m. Fronts (A ++ stripes_each gs r d k ws) (drop used now) (take m sub ++ more)) sized (fronts_join A (stripes_each gs r d k ws) (drop used now) sub more front there) in
+    let all = whole (item v ws) (take n sub ++ more) joined in
+    let now_is : take used now ++ (take n sub ++ more) ≡ take (used + n) (take used now ++ sub) ++ more = sym (append_assoc (take used now) (take n sub) more) ∙ ap (λ t. t ++ more) (sym front_is) in
+    subst (λ us. Fronts (stripes_each fs r d k us) old (take (used + n) (take used now ++ sub) ++ more)) (sym (join_snoc vs v ws)) (subst (Fronts (stripes_each fs r d k (join vs (item v ws))) old) now_is all)
+
+pub whole_finished : (fs : Fields) (r d k : ℕ) (old now : Columns) (used : ℕ) (vs : ValueTrees) → Whole fs no_fields r d k used vs old now → Fronts (stripes_each fs r d k vs) old now
+whole_finished fs r d k old now used vs whole =
+    subst (λ us. Fronts (stripes_each fs r d k us) old now) (join_none vs) (subst (Fronts (stripes_each fs r d k (join vs no_values)) old) (take-append-drop used now) (whole no_values (drop used now) refl))
 
 pub step : (fs : Fields) (f : Field) (gs : Fields) (r d k : ℕ) (old now sub : Columns) (used : ℕ) (vs : ValueTrees) (v : ValueTree)
     → SoFar fs (field f gs) r d k old now used vs → IsRead (Fit f) (stripes f r d k) k (drop used now) sub v → SoFar fs gs r d k old (take used now ++ sub) (used + count_leaves f) (snoc vs v)
@@ -149,13 +189,8 @@ step fs f gs r d k old now sub used vs v so h =
     record {
       counts = omega (arith, so.counts);
       room = let both = length-both (take used now) sub in omega (arith, both, front_size, long, sized);
-      whole = λ ws more fit g.
-          let there : Fronts (stripes_each gs r d k ws) (drop (length A) sub) more = subst (λ m. Fronts (stripes_each gs r d k ws) (drop m sub) more) (sym sized) (subst (λ c. Fronts (stripes_each gs r d k ws) c more) rest_is g) in
-          let joined : Fronts (A ++ stripes_each gs r d k ws) (drop used now) (take n sub ++ more) = subst (λ m. Fronts (A ++ stripes_each gs r d k ws) (drop used now) (take m sub ++ more)) sized (fronts_join A (stripes_each gs r d k ws) (drop used now) sub more h.front there) in
-          let all = so.whole (item v ws) (take n sub ++ more) (rw (h.fits, fit) refl) joined in
-          let same : join (snoc vs v) ws ≡ join vs (item v ws) = join_snoc vs v ws in
-          let now_is : take used now ++ (take n sub ++ more) ≡ take (used + n) (take used now ++ sub) ++ more = sym (append_assoc (take used now) (take n sub) more) ∙ ap (λ t. t ++ more) (sym front_is) in
-          (subst (FitEach fs) (sym same) all.0, subst (λ us. Fronts (stripes_each fs r d k us) old (take (used + n) (take used now ++ sub) ++ more)) (sym same) (subst (Fronts (stripes_each fs r d k (join vs (item v ws))) old) now_is all.1));
+      fit = fit_step fs f gs vs v so.fit h.fits;
+      whole = whole_step fs f gs r d k old now sub used vs v so.room so.whole h.front;
       alone = λ rests w.
           let a = so.alone rests w in
           let R = drop used rests in
@@ -196,19 +231,18 @@ step fs f gs r d k old now sub used vs v so h =
     length-left (suc n) [] h = absurd (omega (arith, h))
     length-left (suc n) (x ∷ xs) h = let e = length-left n xs (omega (arith, h)) in omega (arith, e)
 
-pub refused : (fs : Fields) (f : Field) (gs : Fields) (r d k : ℕ) (ends : List (Option Refusal)) (old now : Columns) (used : ℕ) (vs : ValueTrees) (e : Refusal)
-    → SoFar fs (field f gs) r d k old now used vs → IsRefused (Fit f) (stripes f r d k) k (wants f d) (drop used ends) (drop used now) e → IsRefused (FitEach fs) (stripes_each fs r d k) k (wants_each fs d) ends old e
-refused fs f gs r d k ends old now used vs e so =
-    refused_up (Fit f) (stripes f r d k) k (wants f d) (FitEach fs) (stripes_each fs r d k) k (wants_each fs d) (drop used ends) ends (drop used now) old e (among_drop used e ends)
+pub faulty : (fs : Fields) (f : Field) (gs : Fields) (r d k : ℕ) (old now : Columns) (used : ℕ) (vs : ValueTrees) (e : Refusal)
+    → SoFar fs (field f gs) r d k old now used vs → IsFaulty (Fit f) (stripes f r d k) k (wants f d) (drop used now) e → IsFaulty (FitEach fs) (stripes_each fs r d k) k (wants_each fs d) old e
+faulty fs f gs r d k old now used vs e so =
+    faulty_up (Fit f) (stripes f r d k) k (wants f d) (FitEach fs) (stripes_each fs r d k) k (wants_each fs d) (drop used now) old e
     (λ rests w. let s = split f gs r d k (drop used now) (drop used rests) (so.alone rests w).0 in (take (count_leaves f) (drop used rests) ++ s.behind, s.first))
     (λ s. (suit_split (wants f d) (wants_each gs d) (drop used now) (so.suit s)).0)
 
 pub finished : (fs : Fields) (r d k : ℕ) (old now : Columns) (used : ℕ) (vs : ValueTrees) → SoFar fs no_fields r d k old now used vs → IsRead (FitEach fs) (stripes_each fs r d k) k old now vs
 finished fs r d k old now used vs so =
-    let all = so.whole no_values (drop used now) refl refl in
     record {
-      fits = subst (FitEach fs) (join_none vs) all.0;
-      front = subst (λ us. Fronts (stripes_each fs r d k us) old now) (join_none vs) (subst (Fronts (stripes_each fs r d k (join vs no_values)) old) (take-append-drop used now) all.1);
+      fits = fit_finished fs vs so.fit;
+      front = whole_finished fs r d k old now used vs so.whole;
       alone = λ rests w.
           let a = so.alone rests w in
           let behind : AreAlike (drop used rests) (drop used now) = subst (λ c. AreAlike c (drop used now)) a.0.front a.0.alike in

@@ -3,8 +3,8 @@ use Rattle.std.proofs.Common.{ℕ, ◌≡◌, ◌≤◌, List, [], ◌∷◌, �
 use Rattle.std.specs.List.{AllByRecursion}
 use Rattle.std.proofs.lemmas.List.{append_cancel_left, map-append, drop-map}
 use Rattle.schema.specs.Stripe.{Entry, Leaf}
-use Rattle.assemble.specs.Columns.{Columns, level, AreAlike, Want, Suits, AllSuit}
-use Rattle.assemble.specs.inner.Fronts.{Fronts, AreEnds}
+use Rattle.assemble.specs.Columns.{Columns, level, AreAlike, Want, Suits, AllSuit, Fronts}
+use Rattle.assemble.specs.inner.Fronts.{AreEnds}
 
 -- two stripes of columns, one beside the other
 pub fronts_join : (A B old mid sub : Columns) → Fronts A old mid → Fronts B (drop (length A) mid) sub → Fronts (A ++ B) old (take (length A) mid ++ sub)

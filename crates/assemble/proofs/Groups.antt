@@ -1,6 +1,5 @@
 -- A group by its members, and a leaf by its column.
 use Rattle.std.proofs.Common.{ℕ, suc, ◌≡◌, ◌+◌, ◌<◌, true, List, [], ◌∷◌, ◌++◌, map, length, get_or, refl, ap, sym, subst, ◌∙◌, arith, Some, Option, inl, inr}
-use Rattle.std.proofs.Math.ListN.{set}
 use Rattle.std.proofs.lemmas.List.{map-append}
 use Rattle.std.proofs.lemmas.Simd.{map-map}
 use Rattle.std.proofs.lemmas.Bool.{and_parts, false≢true}
@@ -14,12 +13,16 @@ use Rattle.schema.specs.Fits.{fits, fits_each, fits_leaf}
 use Rattle.schema.specs.Stripe.{Entry, entry, Leaf, below, leaves, leaves_from, stripe, stripe_as, greatest_definition}
 use Rattle.schema.proofs.LeafLaws.{when_group}
 use Rattle.schema.proofs.Determined.{At, At-first, At-next, At-whole}
-use Rattle.assemble.specs.Columns.{Columns, AreAlike, Want, AllSuit, level}
-use Rattle.assemble.specs.inner.Fronts.{Fronts, AreEnds, stripes_inside, stripes_each, wants_inside, wants_each, wants, FitInside, FitEach}
-use Rattle.assemble.specs.inner.ReadValues.{HasLevels, IsRead, IsRefused}
-use Rattle.assemble.proofs.Fronts.{alike_parts}
+use Rattle.assemble.specs.Columns.{Columns, AreAlike, Want, AllSuit, level, Fronts, Suits}
+use Rattle.assemble.specs.inner.Fronts.{AreEnds, stripes_inside, stripes_each, wants_inside, wants_each, wants, FitInside, FitEach}
+use Rattle.assemble.specs.inner.ReadValues.{HasLevels, IsRead, IsFaulty}
+use Rattle.assemble.specs.Sources.{Begins}
+use Rattle.assemble.specs.inner.Steps.{IsLeafFaulty}
+use Rattle.assemble.proofs.Fronts.{alike_parts, fronts_alike}
 use Rattle.assemble.proofs.Told.{tells_more}
-use Rattle.assemble.proofs.Readings.{levels_as, read_up, refused_up}
+use Rattle.assemble.proofs.Skipping.{begins_alike}
+use Rattle.std.specs.List.{AllByRecursion}
+use Rattle.assemble.proofs.Readings.{levels_as, read_up, faulty_up}
 
 pub group_stripes : (fs : Fields) (i : ℕ) (V : ValueTree) (vs : ValueTrees) → fits_each fs vs ≡ true → At i V vs → (r d k : ℕ) → map (λ (l : Leaf). stripe l.steps V r d k) (leaves_from i fs) ≡ stripes_each fs r d k vs
 group_stripes no_fields i V vs h at r d k = refl
@@ -54,9 +57,9 @@ module _ (n : List ℕ) (x : Repetition) (a : Option GroupAnnotation) (fs : Fiel
   read_group old new vs =
       read_up (FitEach fs) (stripes_each fs r d k) (FitInside F) (stripes_inside F r d k) k old new vs (group vs) (λ h. h) (λ h. group_stripes fs 0 (group vs) vs h (At-whole vs) r d k) (group_levels old)
 
-  pub refused_group : (ends : List (Option Refusal)) (old : Columns) (e : Refusal) → IsRefused (FitEach fs) (stripes_each fs r d k) k (wants_each fs d) ends old e → IsRefused (FitInside F) (stripes_inside F r d k) k (wants_inside F d) ends old e
-  refused_group ends old e =
-      refused_up (FitEach fs) (stripes_each fs r d k) k (wants_each fs d) (FitInside F) (stripes_inside F r d k) k (wants_inside F d) ends ends old old e (λ h. h) (λ rests w. (rests, group_levels old rests w))
+  pub faulty_group : (old : Columns) (e : Refusal) → IsFaulty (FitEach fs) (stripes_each fs r d k) k (wants_each fs d) old e → IsFaulty (FitInside F) (stripes_inside F r d k) k (wants_inside F d) old e
+  faulty_group old e =
+      faulty_up (FitEach fs) (stripes_each fs r d k) k (wants_each fs d) (FitInside F) (stripes_inside F r d k) k (wants_inside F d) old old e (λ rests w. (rests, group_levels old rests w))
       (λ s. subst (λ ws. AllSuit ws old) (group_wants fs 0 d) s)
 
 module _ (n : List ℕ) (x : Repetition) (t : LeafType) (r d k : ℕ) where
@@ -69,35 +72,21 @@ module _ (n : List ℕ) (x : Repetition) (t : LeafType) (r d k : ℕ) where
   abbrev S : ValueTree → Columns
   S v = entry r d (Some v) ∷ []
 
-  abbrev Alone : List Entry → Columns → Columns → Type 0
-  Alone o more rests = (q : List Entry) × ((qs : Columns) × ((rests ≡ q ∷ qs) × (AreAlike qs more × HasLevels P S k (o ∷ []) (q ∷ []))))
-
-  leaf_levels : (o : List Entry) (more rests : Columns) → HasLevels (FitInside L) (stripes_inside L r d k) k (o ∷ more) rests → Alone o more rests
-  leaf_levels o more rests w = parts w.whole rests w.front w.alike w.ends
-    where
-      parts : (whole rests : Columns) → Fronts (S w.value) whole rests → AreAlike whole (o ∷ more) → AreEnds k (S w.value) rests → Alone o more rests
-      parts [] rests h g z = absurd h
-      parts (v ∷ whole) [] h g z = absurd h
-      parts (v ∷ whole) (q ∷ rests) h g z =
-          let p = alike_parts v o whole more g in
-          (q, (rests, (refl, (subst (λ c. AreAlike c more) h.1 p.1, record { value = w.value; fits = w.fits; whole = v ∷ []; alike = ap (λ y. y ∷ []) p.0; front = (h.0, refl); ends = z }))))
-
-  pub read_leaf_at : {A : Type 0} (left : A → List Entry) (xs : List A) (x y : A) → 0 < length xs → (v : ValueTree) → IsRead P S k (left (get_or xs 0 x) ∷ []) (left y ∷ []) v → IsRead (FitInside L) (stripes_inside L r d k) k (map left xs) (map left (set xs 0 y)) v
-  read_leaf_at left [] x y lt v h = absurd (omega (arith, lt))
-  read_leaf_at left (z ∷ zs) x y lt v h = record {
-    fits = h.fits;
-    front = (h.front.0, refl);
-    alone = λ rests w.
-        let p = leaf_levels (left z) (map left zs) rests w in
-        let first = alike_parts p.0 (left y) [] [] (h.alone (p.0 ∷ []) p.1.1.1.1) in
-        subst (λ c. AreAlike c (left y ∷ map left zs)) (sym p.1.1.0) (ap (λ t. t ∷ map (map level) p.1.0) first.0 ∙ ap (λ t. map level (left y) ∷ t) p.1.1.1.0);
+  -- the leaf's value is taken off the first column
+  pub read_leaf_at : (old new : Columns) (v : ValueTree) → P v → Fronts (S v) old new → IsRead (FitInside L) (stripes_inside L r d k) k old new v
+  read_leaf_at old new v fit front = record {
+    fits = fit;
+    front = front;
+    alone = λ rests w. fronts_alike (S v) (S w.value) old new w.whole rests refl front w.front w.alike;
   }
 
-  pub refused_leaf_at : {A : Type 0} (left : A → List Entry) (ends : A → Option Refusal) (xs : List A) (x : A) → 0 < length xs → (e : Refusal) → IsRefused P S k (record { full = d; leaf_type = t } ∷ []) (ends (get_or xs 0 x) ∷ []) (left (get_or xs 0 x) ∷ []) e
-      → IsRefused (FitInside L) (stripes_inside L r d k) k (wants_inside L d) (map ends xs) (map left xs) e
-  refused_leaf_at left ends [] x lt e h = absurd (omega (arith, lt))
-  refused_leaf_at left ends (z ∷ zs) x lt e (inl (inl h)) = inl (inl h)
-  refused_leaf_at left ends (z ∷ zs) x lt e (inl (inr h)) = absurd h
-  refused_leaf_at left ends (z ∷ zs) x lt e (inr h) = inr (tells_more _ _ _ _
-      (λ none rests w. let p = leaf_levels (left z) (map left zs) rests w in none (p.0 ∷ []) p.1.1.1.1)
-      (λ none s. none (let same : d + 0 ≡ d = omega arith in subst (λ m. AllSuit (record { full = m; leaf_type = t } ∷ []) (left z ∷ [])) same (s.0, tt))) e h)
+  pub faulty_leaf_at : (old : Columns) → 0 < length old → (e : Refusal) → IsLeafFaulty r d t (get_or old 0 []) e → IsFaulty (FitInside L) (stripes_inside L r d k) k (wants_inside L d) old e
+  faulty_leaf_at [] lt e h = absurd (omega (arith, lt))
+  faulty_leaf_at (o ∷ old) lt e h = tells_more _ _ _ _
+      (λ none rests w. begin none w.value w.whole rests w.front w.alike)
+      (λ none s. none (let same : d + 0 ≡ d = omega arith in subst (λ m. AllByRecursion (Suits (record { full = m; leaf_type = t })) o) same s.0)) e h
+    where
+      begin : (Begins o r d → ⊥) → (v : ValueTree) (whole rests : Columns) → Fronts (S v) whole rests → AreAlike whole (o ∷ old) → ⊥
+      begin none v [] rests h g = h
+      begin none v (x ∷ whole) [] h g = h
+      begin none v (x ∷ whole) (q ∷ rests) h g = none (begins_alike x o q r d (Some v) (alike_parts x o whole old g).0 h.0)

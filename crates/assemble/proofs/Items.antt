@@ -11,13 +11,13 @@ use Rattle.schema.specs.Fits.{fits_inside}
 use Rattle.schema.specs.Stripe.{Entry, Leaf, leaves, stripe, Striping, list_items, later_items}
 use Rattle.schema.specs.Law.{IsValid}
 use Rattle.schema.proofs.LeafLaws.{Starts}
-use Rattle.assemble.specs.Columns.{Columns, level, AreAlike}
-use Rattle.assemble.specs.inner.Fronts.{Fronts, Ends, AreEnds, stripes_inside, stripes_items, stripes_later, wants_inside, FitInside, FitItems, FitLater}
+use Rattle.assemble.specs.Columns.{Columns, level, AreAlike, Fronts}
+use Rattle.assemble.specs.inner.Fronts.{Ends, AreEnds, stripes_inside, stripes_items, stripes_later, wants_inside, FitInside, FitItems, FitLater}
 use Rattle.assemble.specs.inner.Steps.{first_of, HasItem}
-use Rattle.assemble.specs.inner.ReadValues.{HasLevels, IsRead, IsRefused}
+use Rattle.assemble.specs.inner.ReadValues.{HasLevels, IsRead, IsFaulty}
 use Rattle.assemble.proofs.Fronts.{fronts_then, fronts_cut, put, suit_front}
 use Rattle.assemble.proofs.Starting.{StartsAt, all_start, has_leaf}
-use Rattle.assemble.proofs.Readings.{map_same, starts_there, first_starts, refused_up}
+use Rattle.assemble.proofs.Readings.{map_same, starts_there, first_starts, faulty_up}
 
 -- one more item
 abbrev pub snoc : ValueTrees → ValueTree → ValueTrees
@@ -34,9 +34,12 @@ each_snoc p (item u vs) v h g =
     let parts = and_parts (p u) (each p vs) h in
     rw (parts.0, each_snoc p vs v parts.1 g) refl
 
-fit_snoc : (f : Field) (vs : ValueTrees) (v : ValueTree) → FitItems f vs → FitInside f v → FitItems f (snoc vs v)
+pub fit_snoc : (f : Field) (vs : ValueTrees) (v : ValueTree) → FitItems f vs → FitInside f v → FitItems f (snoc vs v)
 fit_snoc f no_values v h g = absurd h
 fit_snoc f (item u vs) v h g = each_snoc (fits_inside f) (item u vs) v h g
+
+pub fit_one : (f : Field) (v : ValueTree) → FitInside f v → FitItems f (item v no_values)
+fit_one f v h = rw h refl
 
 later_snoc : (s : Striping) (vs : ValueTrees) (v : ValueTree) (d k : ℕ) → later_items s (snoc vs v) d k ≡ later_items s vs d k ++ s v k d k
 later_snoc s no_values v d k = append-nil (s v k d k)
@@ -116,18 +119,26 @@ module _ (f : Field) (valid : IsValid f) (r d k : ℕ) where
       split (item v vs) h front ends =
           (vs, ((and_parts (fits_inside f v) (each (fits_inside f) vs) h).1, (same_ends _ _ (leaves f) rests ends, split_item r old rests w.whole v vs h w.alike front (same_ends _ _ (leaves f) rests ends))))
 
+  pub first_front : (old now : Columns) (v : ValueTree) → Fronts (Inside r v) old now → Fronts (stripes_items f r d k (item v no_values)) old now
+  first_front old now v h = subst (λ s. Fronts s old now) (sym (map_same _ _ (leaves f) (λ (l : Leaf). append-nil (stripe l.steps v r (suc d) (suc k))))) h
+
+  pub next_front : (old now new : Columns) (vs : ValueTrees) (v : ValueTree) → FitItems f vs → Fronts (stripes_items f r d k vs) old now → Fronts (Inside (suc k) v) now new → Fronts (stripes_items f r d k (snoc vs v)) old new
+  next_front old now new vs v fit h g =
+      subst (λ s. Fronts s old new) (sym (map_same _ _ (leaves f) (λ (l : Leaf). items_snoc f (stripe l.steps) vs v r d k fit)))
+      (fronts_then (λ (l : Leaf). list_items (stripe l.steps) vs r d k) (λ (l : Leaf). stripe l.steps v (suc k) (suc d) (suc k)) (leaves f) old now new h g)
+
   pub first_item : (old now : Columns) (v : ValueTree) → IsRead (FitInside f) (Inside r) (suc k) old now v → SoFar f r d k old now (item v no_values)
   first_item old now v h = record {
     fits = rw h.fits refl;
-    front = subst (λ s. Fronts s old now) (sym (map_same _ _ (leaves f) (λ (l : Leaf). append-nil (stripe l.steps v r (suc d) (suc k))))) h.front;
+    front = first_front old now v h.front;
     alone = λ rests w.
         let s = first_split old rests w in
         record { value = s.0; fits = s.1.0; whole = put (stripes_later f (suc d) (suc k) s.0) rests; alike = h.alone _ s.1.1.1.0; front = s.1.1.1.1; ends = s.1.1.0 };
   }
 
-  pub first_refused : (ends : List (Option Refusal)) (old : Columns) (e : Refusal) → IsRefused (FitInside f) (Inside r) (suc k) (wants_inside f (suc d)) ends old e → IsRefused (FitItems f) (stripes_items f r d k) k (wants_inside f (suc d)) ends old e
-  first_refused ends old e =
-      refused_up (FitInside f) (Inside r) (suc k) (wants_inside f (suc d)) (FitItems f) (stripes_items f r d k) k (wants_inside f (suc d)) ends ends old old e (λ h. h) (λ rests w. let s = first_split old rests w in (put (stripes_later f (suc d) (suc k) s.0) rests, s.1.1.1.0)) (λ s. s)
+  pub first_faulty : (old : Columns) (e : Refusal) → IsFaulty (FitInside f) (Inside r) (suc k) (wants_inside f (suc d)) old e → IsFaulty (FitItems f) (stripes_items f r d k) k (wants_inside f (suc d)) old e
+  first_faulty old e =
+      faulty_up (FitInside f) (Inside r) (suc k) (wants_inside f (suc d)) (FitItems f) (stripes_items f r d k) k (wants_inside f (suc d)) old old e (λ rests w. let s = first_split old rests w in (put (stripes_later f (suc d) (suc k) s.0) rests, s.1.1.1.0)) (λ s. s)
 
   -- another item follows
   ends_first : (ls : List Leaf) → 0 < length ls → (g : Leaf → List Entry) (rests : Columns) → AreEnds k (map g ls) rests → Ends k (first_of rests)
@@ -164,17 +175,16 @@ module _ (f : Field) (valid : IsValid f) (r d k : ℕ) where
   pub next_item : (old now new : Columns) (vs : ValueTrees) (v : ValueTree) → HasItem (suc k) (first_of now) true → SoFar f r d k old now vs → IsRead (FitInside f) (Inside (suc k)) (suc k) now new v → SoFar f r d k old new (snoc vs v)
   next_item old now new vs v more so h = record {
     fits = fit_snoc f vs v so.fits h.fits;
-    front = subst (λ s. Fronts s old new) (sym (map_same _ _ (leaves f) (λ (l : Leaf). items_snoc f (stripe l.steps) vs v r d k so.fits)))
-        (fronts_then (λ (l : Leaf). list_items (stripe l.steps) vs r d k) (λ (l : Leaf). stripe l.steps v (suc k) (suc d) (suc k)) (leaves f) old now new so.front h.front);
+    front = next_front old now new vs v so.fits so.front h.front;
     alone = λ rests w.
         let s = next_split now rests more (so.alone rests w) in
         record { value = s.0; fits = s.1.0; whole = put (stripes_later f (suc d) (suc k) s.0) rests; alike = h.alone _ s.1.1.1.0; front = s.1.1.1.1; ends = s.1.1.0 };
   }
 
-  pub next_refused : (ends : List (Option Refusal)) (old now : Columns) (vs : ValueTrees) (e : Refusal) → HasItem (suc k) (first_of now) true → SoFar f r d k old now vs
-      → IsRefused (FitInside f) (Inside (suc k)) (suc k) (wants_inside f (suc d)) ends now e → IsRefused (FitItems f) (stripes_items f r d k) k (wants_inside f (suc d)) ends old e
-  next_refused ends old now vs e more so =
-      refused_up (FitInside f) (Inside (suc k)) (suc k) (wants_inside f (suc d)) (FitItems f) (stripes_items f r d k) k (wants_inside f (suc d)) ends ends now old e (λ h. h)
+  pub next_faulty : (old now : Columns) (vs : ValueTrees) (e : Refusal) → HasItem (suc k) (first_of now) true → SoFar f r d k old now vs
+      → IsFaulty (FitInside f) (Inside (suc k)) (suc k) (wants_inside f (suc d)) now e → IsFaulty (FitItems f) (stripes_items f r d k) k (wants_inside f (suc d)) old e
+  next_faulty old now vs e more so =
+      faulty_up (FitInside f) (Inside (suc k)) (suc k) (wants_inside f (suc d)) (FitItems f) (stripes_items f r d k) k (wants_inside f (suc d)) now old e
       (λ rests w. let s = next_split now rests more (so.alone rests w) in (put (stripes_later f (suc d) (suc k) s.0) rests, s.1.1.1.0))
       (λ s. suit_front (stripes_items f r d k vs) old now (wants_inside f (suc d)) so.front s)
 
@@ -198,14 +208,3 @@ module _ (f : Field) (valid : IsValid f) (r d k : ℕ) where
           absurd (none_follows (first_of now)
           (starts_there (Inside (suc k) v) w.whole _ now (suc k) (suc d) (subst (λ n. 0 < n) (sym (length-map (leaves f) (λ (l : Leaf). stripe l.steps v (suc k) (suc d) (suc k)))) (has_leaf f valid)) cut.0 w.alike
           (first_starts (fits_inside f) (leaves f) v (all_start f) (has_leaf f valid) parts.0 (suc k) (suc d) (suc k))) none)
-
-  -- each item takes an entry off the first column
-  shorter_at : (ss old new : Columns) (q e : ℕ) → Fronts ss old new → Starts q e (first_of ss) → length (first_of new) < length (first_of old)
-  shorter_at [] old new q e h s = absurd s
-  shorter_at (x ∷ ss) [] new q e h s = absurd h
-  shorter_at (x ∷ ss) (o ∷ old) [] q e h s = absurd h
-  shorter_at ([] ∷ ss) (o ∷ old) (n ∷ new) q e h s = absurd s
-  shorter_at ((y ∷ x) ∷ ss) (o ∷ old) (n ∷ new) q e h s = let l = ap length h.0 in let m = length-append x n in omega (arith, l, m)
-
-  pub shorter : (now new : Columns) (v : ValueTree) → IsRead (FitInside f) (Inside (suc k)) (suc k) now new v → length (first_of new) < length (first_of now)
-  shorter now new v h = shorter_at (Inside (suc k) v) now new (suc k) (suc d) h.front (first_starts (fits_inside f) (leaves f) v (all_start f) (has_leaf f valid) h.fits (suc k) (suc d) (suc k))

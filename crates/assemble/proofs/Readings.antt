@@ -18,10 +18,10 @@ use Rattle.schema.specs.Reading.{count_leaves}
 use Rattle.schema.proofs.LeafLaws.{Starts, Starts-append, when_optional, when_repeated}
 use Rattle.schema.proofs.CutSteps.{counts_are}
 use Rattle.assemble.specs.Sources.{Begins}
-use Rattle.assemble.specs.Columns.{Columns, level, AreAlike, Want, AllSuit, IsAmong}
-use Rattle.assemble.specs.inner.Fronts.{Fronts, AreEnds, stripes, stripes_inside, stripes_items, nones, wants, wants_inside, Fit, FitInside, FitItems}
-use Rattle.assemble.specs.inner.Steps.{AreAbove, SkipRefused, NoneLeft, first_of, IsMissing}
-use Rattle.assemble.specs.inner.ReadValues.{HasLevels, IsRead, IsRefused, Reads}
+use Rattle.assemble.specs.Columns.{Columns, level, AreAlike, Want, AllSuit, Fronts}
+use Rattle.assemble.specs.inner.Fronts.{AreEnds, stripes, stripes_inside, stripes_items, nones, wants, wants_inside, Fit, FitInside, FitItems}
+use Rattle.assemble.specs.inner.Steps.{AreAbove, IsSkipFaulty, NoneLeft, first_of, IsMissing}
+use Rattle.assemble.specs.inner.ReadValues.{HasLevels, IsRead, IsFaulty}
 use Rattle.assemble.proofs.Fronts.{fronts_alike, alike_parts}
 use Rattle.assemble.proofs.Told.{tells_more}
 use Rattle.assemble.proofs.Skipping.{begins_alike}
@@ -50,11 +50,9 @@ read_up P St Q Tt k old new x y fit same narrow h = record {
   alone = λ rests w. h.alone rests (narrow rests w);
 }
 
-pub refused_up : {A B : Type 0} (P : A → Type 0) (St : A → Columns) (j : ℕ) (ws : List Want) (Q : B → Type 0) (Tt : B → Columns) (k : ℕ) (vs : List Want) (some all : List (Option Refusal)) (sub old : Columns) (e : Refusal)
-    → (IsAmong e some → IsAmong e all) → ((rests : Columns) → HasLevels Q Tt k old rests → (r : Columns) × HasLevels P St j sub r) → (AllSuit vs old → AllSuit ws sub)
-    → IsRefused P St j ws some sub e → IsRefused Q Tt k vs all old e
-refused_up P St j ws Q Tt k vs some all sub old e among narrow suit (inl h) = inl (among h)
-refused_up P St j ws Q Tt k vs some all sub old e among narrow suit (inr h) = inr (tells_more _ _ _ _ (λ none rests w. let n = narrow rests w in none n.0 n.1) (λ none s. none (suit s)) e h)
+pub faulty_up : {A B : Type 0} (P : A → Type 0) (St : A → Columns) (j : ℕ) (ws : List Want) (Q : B → Type 0) (Tt : B → Columns) (k : ℕ) (vs : List Want) (sub old : Columns) (e : Refusal)
+    → ((rests : Columns) → HasLevels Q Tt k old rests → (r : Columns) × HasLevels P St j sub r) → (AllSuit vs old → AllSuit ws sub) → IsFaulty P St j ws sub e → IsFaulty Q Tt k vs old e
+faulty_up P St j ws Q Tt k vs sub old e narrow suit h = tells_more _ _ _ _ (λ none rests w. let n = narrow rests w in none n.0 n.1) (λ none s. none (suit s)) e h
 
 pub count_is : (f : Field) → count_leaves f ≡ length (leaves f)
 count_is (leaf n r t) = refl
@@ -129,10 +127,10 @@ pub read_required : (f : Field) → repetition_of f ≡ Required → (r d k : �
 read_required f e r d k old new v =
     read_up (FitInside f) (stripes_inside f r d k) (Fit f) (stripes f r d k) k old new v v (λ h. fits_by f Required e v ∙ h) (λ h. stripes_as f Required e r d k v) (required_levels f e r d k old)
 
-pub refused_required : (f : Field) → repetition_of f ≡ Required → (r d k : ℕ) (ends : List (Option Refusal)) (old : Columns) (e : Refusal) → IsRefused (FitInside f) (stripes_inside f r d k) k (wants_inside f d) ends old e → IsRefused (Fit f) (stripes f r d k) k (wants f d) ends old e
-refused_required f is r d k ends old e =
+pub faulty_required : (f : Field) → repetition_of f ≡ Required → (r d k : ℕ) (old : Columns) (e : Refusal) → IsFaulty (FitInside f) (stripes_inside f r d k) k (wants_inside f d) old e → IsFaulty (Fit f) (stripes f r d k) k (wants f d) old e
+faulty_required f is r d k old e =
     let zero_more : d + 0 ≡ d = omega arith in
-    refused_up (FitInside f) (stripes_inside f r d k) k (wants_inside f d) (Fit f) (stripes f r d k) k (wants f d) ends ends old old e (λ h. h) (λ rests w. (rests, required_levels f is r d k old rests w))
+    faulty_up (FitInside f) (stripes_inside f r d k) k (wants_inside f d) (Fit f) (stripes f r d k) k (wants f d) old old e (λ rests w. (rests, required_levels f is r d k old rests w))
     (λ s. subst (λ n. AllSuit (wants_inside f n) old) zero_more (subst (λ ws. AllSuit ws old) (wants_as f d 0 (ap definitions is)) s))
 
 -- an OPTIONAL value that is there
@@ -161,22 +159,25 @@ not_null : (f : Field) → FitInside f null → ⊥
 not_null (leaf n r t) h = kind_null t.kind (and_parts (fits_kind t.kind null) _ h).0
 not_null (fields n r a fs) h = false≢true h
 
+pub present_fits : (f : Field) → repetition_of f ≡ Optional → (v : ValueTree) → FitInside f v → Fit f v
+present_fits f e v h = fits_by f Optional e v ∙ elim (when_optional v) [
+  | inl is ↦ absurd (not_null f (subst (FitInside f) is h))
+  | inr o ↦ o.1 (fits_inside f) ∙ h
+]
+
+pub present_stripes : (f : Field) → repetition_of f ≡ Optional → (r d k : ℕ) (v : ValueTree) → FitInside f v → stripes f r d k v ≡ stripes_inside f r (d + 1) k v
+present_stripes f e r d k v h = stripes_as f Optional e r d k v ∙ elim (when_optional v) [
+  | inl is ↦ absurd (not_null f (subst (FitInside f) is h))
+  | inr o ↦ map_same _ _ (leaves f) (λ (l : Leaf). o.0 (stripe l.steps) r d k) ∙ ap (λ n. stripes_inside f r n k v) (sym (add-one d))
+]
+
 pub read_present : (f : Field) → repetition_of f ≡ Optional → IsValid f → (r d k : ℕ) (old new : Columns) (v : ValueTree) → IsMissing d (first_of old) false → IsRead (FitInside f) (stripes_inside f r (d + 1) k) k old new v → IsRead (Fit f) (stripes f r d k) k old new v
 read_present f e valid r d k old new v m =
-    read_up (FitInside f) (stripes_inside f r (d + 1) k) (Fit f) (stripes f r d k) k old new v v
-    (λ h. fits_by f Optional e v ∙ elim (when_optional v) [
-      | inl is ↦ absurd (not_null f (subst (FitInside f) is h))
-      | inr o ↦ o.1 (fits_inside f) ∙ h
-    ])
-    (λ h. stripes_as f Optional e r d k v ∙ elim (when_optional v) [
-      | inl is ↦ absurd (not_null f (subst (FitInside f) is h))
-      | inr o ↦ map_same _ _ (leaves f) (λ (l : Leaf). o.0 (stripe l.steps) r d k) ∙ ap (λ n. stripes_inside f r n k v) (sym (add-one d))
-    ])
-    (λ rests w. present_levels f e valid r d k old rests m w)
+    read_up (FitInside f) (stripes_inside f r (d + 1) k) (Fit f) (stripes f r d k) k old new v v (present_fits f e v) (present_stripes f e r d k v) (λ rests w. present_levels f e valid r d k old rests m w)
 
-pub refused_present : (f : Field) → repetition_of f ≡ Optional → IsValid f → (r d k : ℕ) (ends : List (Option Refusal)) (old : Columns) (e : Refusal) → IsMissing d (first_of old) false → IsRefused (FitInside f) (stripes_inside f r (d + 1) k) k (wants_inside f (d + 1)) ends old e → IsRefused (Fit f) (stripes f r d k) k (wants f d) ends old e
-refused_present f is valid r d k ends old e m =
-    refused_up (FitInside f) (stripes_inside f r (d + 1) k) k (wants_inside f (d + 1)) (Fit f) (stripes f r d k) k (wants f d) ends ends old old e (λ h. h) (λ rests w. (rests, present_levels f is valid r d k old rests m w))
+pub faulty_present : (f : Field) → repetition_of f ≡ Optional → IsValid f → (r d k : ℕ) (old : Columns) (e : Refusal) → IsMissing d (first_of old) false → IsFaulty (FitInside f) (stripes_inside f r (d + 1) k) k (wants_inside f (d + 1)) old e → IsFaulty (Fit f) (stripes f r d k) k (wants f d) old e
+faulty_present f is valid r d k old e m =
+    faulty_up (FitInside f) (stripes_inside f r (d + 1) k) k (wants_inside f (d + 1)) (Fit f) (stripes f r d k) k (wants f d) old old e (λ rests w. (rests, present_levels f is valid r d k old rests m w))
     (λ s. subst (λ ws. AllSuit ws old) (wants_as f d 1 (ap definitions is)) s)
 
 -- a list that is not empty
@@ -202,9 +203,9 @@ read_list f e valid r d k old new vs m =
     read_up (FitItems f) (stripes_items f r d k) (Fit f) (stripes f r d k) k old new vs (list vs)
     (λ h. fits_by f Repeated e (list vs) ∙ all_fit f vs h) (λ h. stripes_as f Repeated e r d k (list vs)) (λ rests w. items_levels f e valid r d k old rests m w)
 
-pub refused_list : (f : Field) → repetition_of f ≡ Repeated → IsValid f → (r d k : ℕ) (ends : List (Option Refusal)) (old : Columns) (e : Refusal) → IsMissing d (first_of old) false → IsRefused (FitItems f) (stripes_items f r d k) k (wants_inside f (d + 1)) ends old e → IsRefused (Fit f) (stripes f r d k) k (wants f d) ends old e
-refused_list f is valid r d k ends old e m =
-    refused_up (FitItems f) (stripes_items f r d k) k (wants_inside f (d + 1)) (Fit f) (stripes f r d k) k (wants f d) ends ends old old e (λ h. h) (λ rests w. (rests, items_levels f is valid r d k old rests m w))
+pub faulty_list : (f : Field) → repetition_of f ≡ Repeated → IsValid f → (r d k : ℕ) (old : Columns) (e : Refusal) → IsMissing d (first_of old) false → IsFaulty (FitItems f) (stripes_items f r d k) k (wants_inside f (d + 1)) old e → IsFaulty (Fit f) (stripes f r d k) k (wants f d) old e
+faulty_list f is valid r d k old e m =
+    faulty_up (FitItems f) (stripes_items f r d k) k (wants_inside f (d + 1)) (Fit f) (stripes f r d k) k (wants f d) old old e (λ rests w. (rests, items_levels f is valid r d k old rests m w))
     (λ s. subst (λ ws. AllSuit ws old) (wants_as f d 1 (ap definitions is)) s)
 
 -- a null, or an empty list
@@ -245,12 +246,12 @@ missing_front f Required e n = absurd (n refl)
 missing_front f Optional e n = null_front f e
 missing_front f Repeated e n = empty_front f e
 
-missing_stripes : (f : Field) (x : Repetition) → repetition_of f ≡ x → (x ≡ Required → ⊥) → (r d k : ℕ) → stripes f r d k (missing_value x) ≡ nones r d (count_leaves f)
+pub missing_stripes : (f : Field) (x : Repetition) → repetition_of f ≡ x → (x ≡ Required → ⊥) → (r d k : ℕ) → stripes f r d k (missing_value x) ≡ nones r d (count_leaves f)
 missing_stripes f Required e n r d k = absurd (n refl)
 missing_stripes f Optional e n r d k = stripes_as f Optional e r d k null ∙ map_nones (leaves f) r d ∙ ap (nones r d) (sym (count_is f))
 missing_stripes f Repeated e n r d k = stripes_as f Repeated e r d k (list no_values) ∙ map_nones (leaves f) r d ∙ ap (nones r d) (sym (count_is f))
 
-missing_fits : (f : Field) (x : Repetition) → repetition_of f ≡ x → (x ≡ Required → ⊥) → Fit f (missing_value x)
+pub missing_fits : (f : Field) (x : Repetition) → repetition_of f ≡ x → (x ≡ Required → ⊥) → Fit f (missing_value x)
 missing_fits f Required e n = absurd (n refl)
 missing_fits f Optional e n = fits_by f Optional e null
 missing_fits f Repeated e n = fits_by f Repeated e (list no_values)
@@ -268,13 +269,12 @@ all_above d Required n (l ∷ ls) = absurd (n refl)
 all_above d Optional n (l ∷ ls) = (omega arith, all_above d Optional n ls)
 all_above d Repeated n (l ∷ ls) = (omega arith, all_above d Repeated n ls)
 
-pub refused_missing : (f : Field) (x : Repetition) → repetition_of f ≡ x → (x ≡ Required → ⊥) → IsValid f → (r d k : ℕ) (ends : List (Option Refusal)) (old : Columns) (e : Refusal) → IsMissing d (first_of old) true
-    → IsAmong e ends ⊎ SkipRefused r d (count_leaves f) old e → IsRefused (Fit f) (stripes f r d k) k (wants f d) ends old e
-refused_missing f x is n valid r d k ends old e m (inl h) = inl h
-refused_missing f x is n valid r d k ends old e m (inr h) = inr (tells_more _ _ _ _
+pub faulty_missing : (f : Field) (x : Repetition) → repetition_of f ≡ x → (x ≡ Required → ⊥) → IsValid f → (r d k : ℕ) (old : Columns) (e : Refusal) → IsMissing d (first_of old) true
+    → IsSkipFaulty r d (count_leaves f) old e → IsFaulty (Fit f) (stripes f r d k) k (wants f d) old e
+faulty_missing f x is n valid r d k old e m h = tells_more _ _ _ _
     (λ none rests w. none w.whole rests w.alike (missing_front f x is n valid r d k old rests m w))
     (λ none s. none (wants f d) (length-map (leaves f) (λ (l : Leaf). record { full = d + (definitions (repetition_of f) + greatest_definition l.steps); leaf_type = l.leaf_type }) ∙ sym (count_is f))
-    (subst (λ y. AreAbove d (map (λ (l : Leaf). record { full = d + (definitions y + greatest_definition l.steps); leaf_type = l.leaf_type }) (leaves f))) (sym is) (all_above d x n (leaves f))) s) e h)
+    (subst (λ y. AreAbove d (map (λ (l : Leaf). record { full = d + (definitions y + greatest_definition l.steps); leaf_type = l.leaf_type }) (leaves f))) (sym is) (all_above d x n (leaves f))) s) e h
 
 starts_weaker : (r d : ℕ) (xs : List Entry) → Starts r (suc d) xs → Starts r d xs
 starts_weaker r d [] h = h
@@ -310,28 +310,8 @@ nothing_left f valid r d k old rests none w =
     (field_starts f (repetition_of f) refl valid w.value w.fits r d k)) in
     s
 
--- results
-pub reads_err : {X A : Type 0} (show : X → A) (P : A → Type 0) (St : A → Columns) (k : ℕ) (ws : List Want) (ends : List (Option Refusal)) (old new : Columns) (r : Result X Refusal) (e : Refusal) → IsErrAnd r (λ f. f ≡ e) → IsRefused P St k ws ends old e → Reads show P St k ws ends old new r
-reads_err show P St k ws ends old new (Ok x) e is h = absurd is
-reads_err show P St k ws ends old new (Err f) e is h = subst (IsRefused P St k ws ends old) (sym is) h
-
-pub none_ok : {X : Type 0} (Q : X → Type 0) (r : Result X Refusal) (e : Refusal) → IsErrAnd r (λ f. f ≡ e) → IfOk r Q
-none_ok Q (Ok x) e is = absurd is
-none_ok Q (Err f) e is = tt
-
-pub reads_required : {X : Type 0} (show : X → ValueTree) (f : Field) → repetition_of f ≡ Required → (r d k : ℕ) (ends : List (Option Refusal)) (old new : Columns) (res : Result X Refusal)
-    → Reads show (FitInside f) (stripes_inside f r d k) k (wants_inside f d) ends old new res → Reads show (Fit f) (stripes f r d k) k (wants f d) ends old new res
-reads_required show f is r d k ends old new (Ok x) h = read_required f is r d k old new (show x) h
-reads_required show f is r d k ends old new (Err e) h = refused_required f is r d k ends old e h
-
-pub reads_present : {X : Type 0} (show : X → ValueTree) (f : Field) → repetition_of f ≡ Optional → IsValid f → (r d k : ℕ) (ends : List (Option Refusal)) (old new : Columns) (res : Result X Refusal) → IsMissing d (first_of old) false
-    → Reads show (FitInside f) (stripes_inside f r (d + 1) k) k (wants_inside f (d + 1)) ends old new res → Reads show (Fit f) (stripes f r d k) k (wants f d) ends old new res
-reads_present show f is valid r d k ends old new (Ok x) m h = read_present f is valid r d k old new (show x) m h
-reads_present show f is valid r d k ends old new (Err e) m h = refused_present f is valid r d k ends old e m h
-
-pub refused_nothing : (f : Field) → IsValid f → (r d k : ℕ) (ends : List (Option Refusal)) (old : Columns) (e : Refusal) → IsAmong e ends ⊎ NoneLeft (first_of old) e → IsRefused (Fit f) (stripes f r d k) k (wants f d) ends old e
-refused_nothing f valid r d k ends old e (inl h) = inl h
-refused_nothing f valid r d k ends old e (inr h) = inr (tells_more _ _ _ _ (λ none rests w. nothing_left f valid r d k old rests none w) (λ h. absurd h) e h)
+pub faulty_nothing : (f : Field) → IsValid f → (r d k : ℕ) (old : Columns) (e : Refusal) → NoneLeft (first_of old) e → IsFaulty (Fit f) (stripes f r d k) k (wants f d) old e
+faulty_nothing f valid r d k old e h = tells_more _ _ _ _ (λ none rests w. nothing_left f valid r d k old rests none w) (λ h. absurd h) e h
 
 -- neither REQUIRED nor REPEATED
 pub optional_is : (x : Repetition) → (x ≡ Required → ⊥) → (x ≡ Repeated → ⊥) → x ≡ Optional

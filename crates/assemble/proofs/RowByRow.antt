@@ -1,11 +1,17 @@
 -- Rows, one by one.
-use Rattle.std.proofs.Common.{ℕ, zero, suc, ◌≡◌, ◌+◌, ◌≤◌, ◌<◌, true, false, List, [], ◌∷◌, ◌++◌, map, length, refl, ap, sym, subst, ◌∙◌, arith, None, Option, Result, Ok, Err, inl, inr, ◌⊎◌}
-use Rattle.std.specs.Result.{IsErrAnd}
+use Rattle.std.proofs.Common.{ℕ, zero, suc, ◌≡◌, ◌+◌, ◌≤◌, ◌<◌, true, false, List, [], ◌∷◌, ◌++◌, map, length, refl, ap, sym, subst, ◌∙◌, arith, None, Option, Result, Ok, Err}
 use Rattle.std.specs.List.{AllByRecursion}
-use Rattle.std.proofs.lemmas.List.{length-append, length-map}
+use Rattle.std.proofs.lemmas.List.{append-nil, length-append, length-map}
 use Rattle.bits.specs.declared.refusal.Refusal.{Refusal}
 use Rattle.schema.specs.declared.value.Repetition.TheVariants.{Required}
+use Rattle.std.specs.Result.{IsErrAnd}
 use Rattle.schema.specs.declared.row.Row.{Row}
+use Rattle.assemble.specs.Standing.{IsRefusedFor}
+use Rattle.assemble.specs.Columns.{Columns, level, AreAlike, Want, AllSuit, IsAmong, Tells, Fronts}
+use Rattle.assemble.specs.inner.Fronts.{Ends, AreEnds, stripes_each, wants_each, FitEach}
+use Rattle.assemble.specs.inner.Steps.{first_of, HasItem, Filled}
+use Rattle.assemble.specs.inner.ReadValues.{HasLevels, IsRead, IsFaulty}
+use Rattle.assemble.specs.RowsOf.{wants_of, HasFault, IsFirstRow, NextRow}
 use Rattle.schema.specs.Values.{ValueTrees, group}
 use Rattle.schema.specs.Shape.{Field, leaf, fields, Fields, no_fields, field}
 use Rattle.schema.specs.Fits.{fits_each, RowsFit}
@@ -15,14 +21,10 @@ use Rattle.schema.specs.Reading.{tall, tallest}
 use Rattle.schema.proofs.LeafLaws.{IsLeafFrom, Starts, Starts-append}
 use Rattle.schema.proofs.Determined.{starts_each, At-whole}
 use Rattle.schema.proofs.Kept.{levels_are_of_steps}
-use Rattle.assemble.specs.Columns.{Columns, level, AreAlike, Want, AllSuit, IsAmong, Tells}
-use Rattle.assemble.specs.inner.Fronts.{Fronts, Ends, AreEnds, stripes_each, wants_each, FitEach}
-use Rattle.assemble.specs.inner.Steps.{first_of, HasItem}
-use Rattle.assemble.specs.inner.ReadValues.{HasLevels, IsRead, IsRefused}
-use Rattle.assemble.specs.RowsOf.{AreRowsOf, wants_of, HasFault, NextRow, Filled}
 use Rattle.assemble.proofs.Fronts.{suit_front, alike_parts}
 use Rattle.assemble.proofs.Told.{tells_more}
 use Rattle.assemble.proofs.Starting.{listed_from, has_leaf}
+use Rattle.assemble.proofs.Readings.{map_same}
 use Rattle.assemble.proofs.Groups.{group_stripes, group_wants}
 
 -- the height of a schema is that of its leaves
@@ -133,17 +135,19 @@ filled_column fs (l ∷ ls) s lt row rows h e =
     let t : Starts 0 0 [] = subst (Starts 0 0) e (Starts-append 0 0 (stripe l.steps (group row) 0 0 0) (column rows l.steps) (s.0 row h)) in
     t
 
-pub record SoFar (fs : Fields) (old now : Columns) (rows : List ValueTrees) : Type 0 where
-  pub whole : (rest : List ValueTrees) → RowsFit fs rest → columns fs rest ≡ now → AreRowsOf fs old (rows ++ rest)
+-- fitting rows with the levels of `old` are some rows and rows with the levels of `now`
+pub record SoFar (fs : Fields) (old now : Columns) : Type 0 where
   pub alone : (all : List ValueTrees) → RowsFit fs all → AreAlike (columns fs all) old → (rest : List ValueTrees) × (RowsFit fs rest × AreAlike (columns fs rest) now)
-  pub suit : AllSuit (wants_each fs 0) old → AllSuit (wants_each fs 0) now
+  pub suit : AllSuit (wants_of fs) old → AllSuit (wants_of fs) now
 
-pub begins : (fs : Fields) (old : Columns) → SoFar fs old old []
-begins fs old = record { whole = λ rest h e. record { fit = h; have = e }; alone = λ all h e. (all, (h, e)); suit = λ s. s }
+pub begins : (fs : Fields) (old : Columns) → SoFar fs old old
+begins fs old = record { alone = λ all h e. (all, (h, e)); suit = λ s. s }
 
-regroup : (xs : List ValueTrees) (y : ValueTrees) (ys : List ValueTrees) → xs ++ y ∷ ys ≡ (xs ++ y ∷ []) ++ ys
-regroup [] y ys = refl
-regroup (x ∷ xs) y ys = ap (λ t. x ∷ t) (regroup xs y ys)
+pub next : (fs : Fields) (old now new : Columns) (row : ValueTrees) → SoFar fs old now → IsFirstRow fs row now new → SoFar fs old new
+next fs old now new row so h = record {
+  alone = λ all fit alike. let a = so.alone all fit alike in h.alone a.0 a.1.0 a.1.1;
+  suit = λ s. suit_front (columns fs (row ∷ [])) now new (wants_of fs) h.front (so.suit s);
+}
 
 not_empty : (fs : Fields) (now : Columns) → 0 < length (first_of now) → AreAlike (columns fs []) now → ⊥
 not_empty fs now lt h =
@@ -151,20 +155,38 @@ not_empty fs now lt h =
     let l = ap length none in
     omega (arith, lt, l)
 
-pub next : (fs : Fields) (old now new : Columns) (rows : List ValueTrees) (row : ValueTrees) → SoFar fs old now rows → IsRead (FitEach fs) (stripes_each fs 0 0 0) 0 now new row → length (first_of new) < length (first_of now) → SoFar fs old new (rows ++ row ∷ [])
-next fs old now new rows row so h less = record {
-  whole = λ rest fit e.
-      let now_is : now ≡ columns fs (row ∷ rest) = fronts_are (λ (l : Leaf). stripe l.steps (group row) 0 0 0) (λ (l : Leaf). column rest l.steps) (leaves_of fs) now (subst (λ s. Fronts s now (columns fs rest)) (sym (row_stripes fs row h.fits)) (subst (Fronts (stripes_each fs 0 0 0 row) now) (sym e) h.front)) in
-      subst (AreRowsOf fs old) (regroup rows row rest) (so.whole (row ∷ rest) (h.fits, fit) (sym now_is));
-  alone = λ all fit alike.
-      let a = so.alone all fit alike in
-      rest a.0 a.1.0 a.1.1;
-  suit = λ s. suit_front (stripes_each fs 0 0 0 row) now new (wants_each fs 0) h.front (so.suit s);
-}
-  where
-    rest : (rs : List ValueTrees) → RowsFit fs rs → AreAlike (columns fs rs) now → (rest : List ValueTrees) × (RowsFit fs rest × AreAlike (columns fs rest) new)
-    rest [] fit alike = absurd (not_empty fs now (omega (arith, less)) alike)
-    rest (r ∷ rs) fit alike = (rs, (fit.1, h.alone (columns fs rs) (first_row fs r rs now fit alike)))
+-- the columns of one row
+row_columns : (fs : Fields) (row : ValueTrees) → FitEach fs row → columns fs (row ∷ []) ≡ stripes_each fs 0 0 0 row
+row_columns fs row h = map_same _ _ (leaves_of fs) (λ (l : Leaf). append-nil (stripe l.steps (group row) 0 0 0)) ∙ row_stripes fs row h
+
+pub row_front : (fs : Fields) (row : ValueTrees) (old new : Columns) → FitEach fs row → Fronts (stripes_each fs 0 0 0 row) old new → Fronts (columns fs (row ∷ [])) old new
+row_front fs row old new fit h = subst (λ s. Fronts s old new) (sym (row_columns fs row fit)) h
+
+-- the columns of one row, followed by those of others
+first_then : (fs : Fields) (row : ValueTrees) (rest : List ValueTrees) (now : Columns) → Fronts (columns fs (row ∷ [])) now (columns fs rest) → now ≡ columns fs (row ∷ rest)
+first_then fs row rest now h =
+    fronts_are (λ (l : Leaf). column (row ∷ []) l.steps) (λ (l : Leaf). column rest l.steps) (leaves_of fs) now h
+    ∙ map_same _ _ (leaves_of fs) (λ (l : Leaf). ap (λ t. t ++ column rest l.steps) (append-nil (stripe l.steps (group row) 0 0 0)))
+
+-- before the columns of further rows stood those of the rows and of these
+abbrev pub Prior : Fields → List ValueTrees → Columns → Columns → Type 0
+Prior fs rows old now = (rest : List ValueTrees) → columns fs rest ≡ now → columns fs (rows ++ rest) ≡ old
+
+regroup : (xs : List ValueTrees) (y : ValueTrees) (ys : List ValueTrees) → (xs ++ y ∷ []) ++ ys ≡ xs ++ y ∷ ys
+regroup [] y ys = refl
+regroup (x ∷ xs) y ys = ap (λ t. x ∷ t) (regroup xs y ys)
+
+pub prior_next : (fs : Fields) (old now new : Columns) (rows : List ValueTrees) (row : ValueTrees) → Prior fs rows old now → Fronts (columns fs (row ∷ [])) now new → Prior fs (rows ++ row ∷ []) old new
+prior_next fs old now new rows row prior front rest e =
+    ap (columns fs) (regroup rows row rest) ∙ prior (row ∷ rest) (sym (first_then fs row rest now (subst (Fronts (columns fs (row ∷ [])) now) (sym e) front)))
+
+pub no_more : (xs : List ValueTrees) → xs ++ [] ≡ xs
+no_more [] = refl
+no_more (x ∷ xs) = ap (λ t. x ∷ t) (no_more xs)
+
+pub one_more_fits : (fs : Fields) (rows : List ValueTrees) (row : ValueTrees) → RowsFit fs rows → RowsFit fs (row ∷ []) → RowsFit fs (rows ++ row ∷ [])
+one_more_fits fs [] row h g = g
+one_more_fits fs (r ∷ rows) row h g = (h.0, one_more_fits fs rows row h.1 g)
 
 wants_same : (ls : List Leaf) → AllByRecursion HasGreatestLevels ls → map (λ (l : Leaf). let w : Want = record { full = l.greatest_definition; leaf_type = l.leaf_type } in w) ls ≡ map (λ (l : Leaf). let w : Want = record { full = 0 + greatest_definition l.steps; leaf_type = l.leaf_type } in w) ls
 wants_same [] h = refl
@@ -175,12 +197,9 @@ wants_same (l ∷ ls) h =
 pub wants_are : (fs : Fields) → wants_of fs ≡ wants_each fs 0
 wants_are fs = wants_same (leaves_of fs) (levels_are_of_steps fs) ∙ group_wants fs 0 0
 
--- what is refused of the rows that are left is refused of all
-pub refused_rest : (fs : Fields) (ends : List (Option Refusal)) (old now : Columns) (rows : List ValueTrees) (e : Refusal) → SoFar fs old now rows → IsAmong e ends ⊎ HasFault fs now e → IsAmong e ends ⊎ HasFault fs old e
-refused_rest fs ends old now rows e so (inl h) = inl h
-refused_rest fs ends old now rows e so (inr h) = inr (tells_more _ _ _ _
-    (λ none all fit alike. let a = so.alone all fit alike in none a.0 a.1.0 a.1.1)
-    (λ none s. none (subst (λ ws. AllSuit ws now) (sym (wants_are fs)) (so.suit (subst (λ ws. AllSuit ws old) (wants_are fs) s)))) e h)
+-- what is said of the rows that are left is said of all
+pub faulty_rest : (fs : Fields) (old now : Columns) (e : Refusal) → SoFar fs old now → HasFault fs now e → HasFault fs old e
+faulty_rest fs old now e so h = tells_more _ _ _ _ (λ none all fit alike. let a = so.alone all fit alike in none a.0 a.1.0 a.1.1) (λ none s. none (so.suit s)) e h
 
 -- a row that was read took an entry
 taken_at : (ss old new : Columns) (q e : ℕ) → Fronts ss old new → Starts q e (first_of ss) → length (first_of new) < length (first_of old)
@@ -191,9 +210,17 @@ taken_at ([] ∷ ss) (o ∷ old) (n ∷ new) q e h s = absurd s
 taken_at ((y ∷ x) ∷ ss) (o ∷ old) (n ∷ new) q e h s = let l = ap length h.0 in let m = length-append x n in omega (arith, l, m)
 
 module _ (fs : Fields) (some : 0 < length (leaves_of fs)) where
-  pub takes : (now new : Columns) (row : ValueTrees) → IsRead (FitEach fs) (stripes_each fs 0 0 0) 0 now new row → length (first_of new) < length (first_of now)
+  takes : (now new : Columns) (row : ValueTrees) → IsRead (FitEach fs) (stripes_each fs 0 0 0) 0 now new row → length (first_of new) < length (first_of now)
   takes now new row h =
       taken_at (map (λ (l : Leaf). stripe l.steps (group row) 0 0 0) (leaves_of fs)) now new 0 0 (subst (λ s. Fronts s now new) (sym (row_stripes fs row h.fits)) h.front) (some_start fs (leaves_of fs) (row_starts fs) some row h.fits)
+
+  -- the row that was read is the first row
+  pub is_first_row : (now new : Columns) (row : ValueTrees) → IsRead (FitEach fs) (stripes_each fs 0 0 0) 0 now new row → IsFirstRow fs row now new
+  is_first_row now new row h = record { front = row_front fs row now new h.fits h.front; alone = rest }
+    where
+      rest : (rs : List ValueTrees) → RowsFit fs rs → AreAlike (columns fs rs) now → (rest : List ValueTrees) × (RowsFit fs rest × AreAlike (columns fs rest) new)
+      rest [] fit alike = absurd (not_empty fs now (let l = takes now new row h in omega (arith, l)) alike)
+      rest (r ∷ rs) fit alike = (rs, (fit.1, h.alone (columns fs rs) (first_row fs r rs now fit alike)))
 
   -- no row is left of the first column, and so of no other
   no_row : (old : Columns) (rows : List ValueTrees) → first_of old ≡ [] → RowsFit fs rows → AreAlike (columns fs rows) old → rows ≡ []
@@ -208,16 +235,13 @@ module _ (fs : Fields) (some : 0 < length (leaves_of fs)) where
   some_filled (l ∷ ls) ([] ∷ old) h f = some_filled ls old (alike_parts [] [] (map (λ (l : Leaf). column [] l.steps) ls) old h).1 f
   some_filled (l ∷ ls) ((e ∷ o) ∷ old) h f = let p = (alike_parts [] (e ∷ o) (map (λ (l : Leaf). column [] l.steps) ls) old h).0 in cc
 
-  pub not_ended : (ends : List (Option Refusal)) (old : Columns) (e : Refusal) → first_of old ≡ [] → IsAmong e ends ⊎ Tells (Filled old) ⊥ e → IsAmong e ends ⊎ HasFault fs old e
-  not_ended ends old e none (inl h) = inl h
-  not_ended ends old e none (inr h) = inr (tells_more _ _ _ _
-      (λ f rows fit alike. some_filled (leaves_of fs) old (subst (λ rs. AreAlike (columns fs rs) old) (no_row old rows none fit alike) alike) f) (λ h. absurd h) e h)
+  pub not_ended : (old : Columns) (e : Refusal) → first_of old ≡ [] → Tells (Filled old) ⊥ e → HasFault fs old e
+  not_ended old e none h = tells_more _ _ _ _
+      (λ f rows fit alike. some_filled (leaves_of fs) old (subst (λ rs. AreAlike (columns fs rs) old) (no_row old rows none fit alike) alike) f) (λ h. absurd h) e h
 
   -- what the reader of a row is refused for
-  pub refused_row : (ends : List (Option Refusal)) (old : Columns) (e : Refusal) → HasItem 0 (first_of old) true → IsRefused (FitEach fs) (stripes_each fs 0 0 0) 0 (wants_each fs 0) ends old e
-      → IsAmong e ends ⊎ HasFault fs old e
-  refused_row ends old e more (inl h) = inl h
-  refused_row ends old e more (inr h) = inr (tells_more _ _ _ _ (λ none rows fit alike. at none rows fit alike) (λ none s. none (subst (λ ws. AllSuit ws old) (wants_are fs) s)) e h)
+  pub faulty_row : (old : Columns) (e : Refusal) → HasItem 0 (first_of old) true → IsFaulty (FitEach fs) (stripes_each fs 0 0 0) 0 (wants_each fs 0) old e → HasFault fs old e
+  faulty_row old e more h = tells_more _ _ _ _ (λ none rows fit alike. at none rows fit alike) (λ none s. none (subst (λ ws. AllSuit ws old) (wants_are fs) s)) e h
     where
       has_none : (o : List Entry) → o ≡ [] → HasItem 0 o true → ⊥
       has_none [] e i = i
@@ -226,11 +250,6 @@ module _ (fs : Fields) (some : 0 < length (leaves_of fs)) where
       at : ((rests : Columns) → HasLevels (FitEach fs) (stripes_each fs 0 0 0) 0 old rests → ⊥) → (rows : List ValueTrees) → RowsFit fs rows → AreAlike (columns fs rows) old → ⊥
       at none [] fit alike = has_none (first_of old) (none_level (first_of old) (ap (map level) (sym (first_none fs)) ∙ first_alike (columns fs []) old alike)) more
       at none (row ∷ rows) fit alike = none (columns fs rows) (first_row fs row rows old fit alike)
-
--- results
-pub next_err : (fs : Fields) (ends : List (Option Refusal)) (old new : Columns) (r : Result (Option Row) Refusal) (e : Refusal) → IsErrAnd r (λ f. f ≡ e) → IsAmong e ends ⊎ HasFault fs old e → NextRow fs ends old new r
-next_err fs ends old new (Ok x) e is h = absurd is
-next_err fs ends old new (Err f) e is h = subst (λ e. IsAmong e ends ⊎ HasFault fs old e) (sym is) h
 
 pub nothing_first : (es : List Entry) → HasItem 0 es false → es ≡ []
 nothing_first [] h = refl
@@ -245,3 +264,9 @@ alike_length xs ys h = sym (length-map xs (map level)) ∙ ap length h ∙ lengt
 -- rows have a column for each leaf
 pub other_number : (fs : Fields) (rows : List ValueTrees) (cs : Columns) → AreAlike (columns fs rows) cs → length (leaves_of fs) ≡ length cs
 other_number fs rows cs h = sym (length-map (leaves_of fs) (λ (l : Leaf). column rows l.steps)) ∙ alike_length (columns fs rows) cs h
+
+-- results
+module _ {A : Type 0} (S : A → List Entry → Type 0) (R : A → Option Refusal) where
+  pub next_err : (fs : Fields) (old new : List A) (r : Result (Option Row) Refusal) (e : Refusal) → IsErrAnd r (λ f. f ≡ e) → IsRefusedFor S R old new (HasFault fs) e → NextRow S R fs old new r
+  next_err fs old new (Ok x) e is h = absurd is
+  next_err fs old new (Err f) e is h = subst (IsRefusedFor S R old new (HasFault fs)) (sym is) h

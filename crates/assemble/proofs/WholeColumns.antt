@@ -1,5 +1,5 @@
 -- Columns in memory.
-use Rattle.std.proofs.Common.{◌≡◌, ◌≤◌, ◌<◌, List, [], ◌∷◌, ◌++◌, map, length, ap, sym, subst, ◌∙◌, arith, append_assoc, None, Option, inl, inr}
+use Rattle.std.proofs.Common.{◌≡◌, ◌≤◌, ◌<◌, List, [], ◌∷◌, ◌++◌, map, length, refl, ap, sym, subst, ◌∙◌, arith, append_assoc, None, Option, inl, inr}
 use Rattle.std.specs.List.{AllByRecursion}
 use Rattle.std.proofs.lemmas.List.{append-nil, map-append}
 use Rattle.bits.specs.declared.refusal.Refusal.{Refusal}
@@ -13,9 +13,10 @@ use Rattle.schema.specs.Law.{IsEntryOf}
 use Rattle.schema.specs.Views.{column_view, columns_view}
 use Rattle.schema.proofs.Entries.{entries_are_of_leaves}
 use Rattle.assemble.specs.declared.cursor.Cursor.{Cursor}
-use Rattle.assemble.specs.Cursors.{entries_left}
+use Rattle.assemble.specs.Cursors.{entries_left, cursor_stands}
+use Rattle.assemble.specs.Standing.{AllStand, IsRefusedFor}
 use Rattle.assemble.specs.Columns.{Columns, level, Suits, AllSuit, IsAmong}
-use Rattle.assemble.specs.RowsOf.{AreRowsOf, wants_of, HasFault, IsTooLong, IsRefusedAs}
+use Rattle.assemble.specs.RowsOf.{AreRowsOf, StandForRows, wants_of, HasFault, IsTooLong, IsRefusedAs}
 
 -- cursors are never refused
 pub never : {A : Type 0} (xs : List A) (e : Refusal) → IsAmong e (map (λ (x : A). let o : Option Refusal = None in o) xs) → ⊥
@@ -32,12 +33,28 @@ suit_columns : (rows : List ValueTrees) (ls : List Leaf) → AllByRecursion (λ 
 suit_columns rows [] h = tt
 suit_columns rows (l ∷ ls) h = (suit_entries l (column rows l.steps) h.0, suit_columns rows ls h.1)
 
+-- cursors stand for all that they have left
+pub cursors_stand : (cursors : List Cursor) → AllStand cursor_stands cursors (map entries_left cursors)
+cursors_stand [] = tt
+cursors_stand (c ∷ cursors) = (refl, cursors_stand cursors)
+
+pub cursors_only : (cursors : List Cursor) (cs : Columns) → AllStand cursor_stands cursors cs → cs ≡ map entries_left cursors
+cursors_only [] [] h = refl
+cursors_only [] (d ∷ cs) h = absurd h
+cursors_only (c ∷ cursors) [] h = absurd h
+cursors_only (c ∷ cursors) (d ∷ cs) h = ap (λ t. t ∷ cs) h.0 ∙ ap (λ t. entries_left c ∷ t) (cursors_only cursors cs h.1)
+
 -- rows have no such fault
 pub faultless : (fs : Fields) (cs : Columns) (e : Refusal) → HasFault fs cs e → IsFault e → (rows : List ValueTrees) → AreRowsOf fs cs rows → ⊥
 faultless fs cs refusal.Levels h f rows are = h rows are.fit (ap (map (map level)) are.have)
 faultless fs cs refusal.Value h f rows are = h (subst (AllSuit (wants_of fs)) are.have (suit_columns rows (leaves_of fs) (entries_are_of_leaves fs rows are.fit)))
 faultless fs cs refusal.Memory h f rows are = f
 faultless fs cs _ h f rows are = h
+
+-- where a fault is refused, there are no rows
+pub only_faults : {A : Type 0} (S : A → List Entry → Type 0) (R : A → Option Refusal) (old new : List A) (fs : Fields) (e : Refusal) → IsRefusedFor S R old new (HasFault fs) e → IsFault e → (rows : List ValueTrees) → StandForRows S old fs rows → ⊥
+only_faults S R old new fs e (inl h) fault rows stand = h.1 (columns fs rows) stand.stand
+only_faults S R old new fs e (inr h) fault rows stand = faultless fs (columns fs rows) e (h.1 (columns fs rows) stand.stand) fault rows (record { fit = stand.fit; have = refl })
 
 pub refused_as : (fs : Fields) (cs : Columns) (e : Refusal) → HasFault fs cs e → IsRefusedAs fs cs e
 refused_as fs cs refusal.Limit h = absurd h

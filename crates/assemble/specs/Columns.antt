@@ -1,5 +1,5 @@
 -- Columns of entries, their levels, and what the entries of a leaf should be: parquet.apache.org, "Nested Encoding".
-use Rattle.std.specs.Prelude.{◌≡◌, ℕ, ◌<◌, List, [], ◌∷◌, map, ◌⊎◌, Option, Some, MatchOption, true}
+use Rattle.std.specs.Prelude.{◌≡◌, ℕ, ◌<◌, List, [], ◌∷◌, ◌++◌, map, ◌⊎◌, Option, Some, MatchOption, true}
 use Rattle.std.specs.List.{AllByRecursion}
 use Rattle.bits.specs.declared.refusal.Refusal.{Refusal}
 use Rattle.bits.specs.declared.refusal.Refusal.TheVariants as refusal
@@ -17,6 +17,12 @@ level e = (e.repetition, e.definition)
 -- the columns have the same levels
 abbrev pub AreAlike : Columns → Columns → Type 0
 AreAlike xs ys = map (map level) xs ≡ map (map level) ys
+
+-- the columns `old` are these stripes and after them `new`; further columns are the same
+abbrev pub Fronts : Columns → Columns → Columns → Type 0
+Fronts [] old new = old ≡ new
+Fronts (s ∷ ss) (o ∷ os) (n ∷ ns) = (o ≡ s ++ n) × Fronts ss os ns
+Fronts (s ∷ ss) _ _ = ⊥
 
 -- what an entry should have: a value of the type exactly when its definition level is `full`
 pub record Want : Type 0 where

@@ -2,7 +2,7 @@
 
 ghost use Rattle.std.specs.Prelude.{◌≡◌, map, None};
 ghost use Rattle.schema.specs.Views.{entry_view};
-ghost use Rattle.assemble.specs.Cursors.{entries_left};
+ghost use Rattle.assemble.specs.Cursors.{entries_left, cursor_stands};
 
 use crate::source::EntrySource;
 use bits::{Fault, R};
@@ -15,17 +15,18 @@ pub struct Cursor<'a> {
 }
 
 impl<'a> Cursor<'a> {
+    /// Stands for all of these entries.
     pub fn new(entries: &'a [Entry]) -> Cursor<'a>
-        ensures { entries_left result ≡ map entry_view entries.now }
+        ensures all { entries_left result ≡ map entry_view entries.now }
     {
         Cursor { entries }
     }
 }
 
 impl<'a> EntrySource for Cursor<'a> {
-    ghost left = { entries_left };
+    ghost stands = { cursor_stands };
 
-    ghost ends = { λ _. None };
+    ghost refused = { λ _. None };
 
     fn peek(&mut self) -> R<Option<(u32, u32)>> {
         match self.entries.first() {
@@ -43,4 +44,6 @@ impl<'a> EntrySource for Cursor<'a> {
             }
         }
     }
+
+    fn one_list(&self) {}
 }

@@ -1,18 +1,18 @@
 //! Values off the fronts of columns: each leaf's column begins with the stripe of the value.
 
-ghost use Rattle.std.specs.Prelude.{◌≡◌, ℕ, ◌+◌, ◌<◌, ◌≤◌, ◌^◌, List, [], ◌∷◌, ◌++◌, ◌⊎◌, map, length, true, Some, None, MatchOption, IfOk, IfErr, option_map, IsTrue, ◌↔◌};
-ghost use Rattle.schema.specs.Values.{ValueTree, ValueTrees, view, views};
+ghost use Rattle.std.specs.Prelude.{◌≡◌, ◌+◌, ◌<◌, ◌≤◌, ◌^◌, length, map, true, Some, None, IfOk, IfErr, option_map};
+ghost use Rattle.schema.specs.Values.{view, views};
 ghost use Rattle.schema.specs.Views.{entry_view, leaf_type_view, field_view, field_views};
-ghost use Rattle.schema.specs.Shape.{repetition_of};
 ghost use Rattle.schema.specs.Fits.{fits_leaf};
 ghost use Rattle.schema.specs.Law.{IsValid, AreValid};
-ghost use Rattle.schema.specs.Stripe.{Entry as EntryShown, entry, leaves};
+ghost use Rattle.schema.specs.Stripe.{entry};
 ghost use Rattle.schema.specs.Reading.{tall, tallest, count_leaves, count_leaves_each};
-ghost use Rattle.assemble.specs.Sources.{Refuses, Begins};
-ghost use Rattle.assemble.specs.Columns.{Want, AllSuit, IsAmong};
-ghost use Rattle.assemble.specs.inner.Fronts.{stripes, stripes_inside, stripes_each, nones, wants, wants_inside, wants_each, Fit, FitInside, FitEach, FitItems, stripes_items, Fronts};
-ghost use Rattle.assemble.specs.inner.ReadValues.{Reads};
-ghost use Rattle.assemble.specs.inner.Steps.{IsTaken, IsNotAt, AbsentRefused, SkipRefused, IsMissing, NoneLeft, HasItem, first_of};
+ghost use Rattle.assemble.specs.Sources.{Precede};
+ghost use Rattle.assemble.specs.Columns.{Columns, Fronts, IsAmong};
+ghost use Rattle.assemble.specs.Standing.{AllStand, AllSame, NoneStand, Onward, Backward, IsRefusedFor};
+ghost use Rattle.assemble.specs.inner.Fronts.{stripes, stripes_inside, stripes_each, stripes_items, nones, wants, wants_inside, wants_each, Fit, FitInside, FitEach, FitItems};
+ghost use Rattle.assemble.specs.inner.ReadValues.{IsFaulty, Reads};
+ghost use Rattle.assemble.specs.inner.Steps.{IsMemory, IsTaken, IsSourceRefusedFor, IsNotAt, IsLeafFaulty, IsAbsentFaulty, IsSkipFaulty, IsMissing, NoneLeft, HasItem, first_of};
 
 use crate::source::EntrySource;
 use bits::{R, Refusal};
@@ -29,9 +29,8 @@ pub struct Place {
 
 /// The next entry, taken. The bytes of its value are copied once.
 fn taken<S: EntrySource>(alloc: Global, source: &mut S) -> R<Option<Entry>>
-    ensures taken { IfOk result (λ o. IsTaken (S.left source.old) (S.left source.new) (option_map entry_view o)) }
-    ensures refused { IfErr result (λ e. Refuses (S.left source.old) (S.ends source.old) e) }
-    ensures ends { S.ends source.new ≡ S.ends source.old }
+    ensures taken { IfOk result (λ o. IsTaken (S.stands source.old) (S.stands source.new) (option_map entry_view o)) }
+    ensures refused { IfErr result (IsSourceRefusedFor (S.stands source.old) (S.refused source.new) (λ _. IsMemory)) }
 {
     match source.next()? {
         None => Ok(None),
@@ -41,9 +40,8 @@ fn taken<S: EntrySource>(alloc: Global, source: &mut S) -> R<Option<Entry>>
 
 /// The next entry, which has these levels.
 fn entry_at<S: EntrySource>(alloc: Global, source: &mut S, place: Place) -> R<Option<Value>>
-    ensures is { IfOk result (λ o. S.left source.old ≡ entry place.repetition place.definition (option_map view o) ++ S.left source.new) }
-    ensures refused { IfErr result (λ e. (S.ends source.old ≡ Some e) ⊎ IsNotAt place.repetition place.definition (S.left source.old) e) }
-    ensures ends { S.ends source.new ≡ S.ends source.old }
+    ensures first { IfOk result (λ o. Precede (entry place.repetition place.definition (option_map view o)) (S.stands source.old) (S.stands source.new)) }
+    ensures refused { IfErr result (IsSourceRefusedFor (S.stands source.old) (S.refused source.new) (IsNotAt place.repetition place.definition)) }
 {
     match taken(alloc, source)? {
         Some(entry)
@@ -61,8 +59,9 @@ fn read_leaf<S: EntrySource>(
     place: Place,
     source: &mut S,
 ) -> R<Value>
-    ensures reads { Reads view (λ v. fits_leaf (leaf_type_view leaf_type.now) v ≡ true) (λ v. entry place.repetition place.definition (Some v) ∷ []) place.own (record { full = place.definition; leaf_type = leaf_type_view leaf_type.now } ∷ []) (S.ends source.old ∷ []) (S.left source.old ∷ []) (S.left source.new ∷ []) result }
-    ensures ends { S.ends source.new ≡ S.ends source.old }
+    ensures fits { IfOk result (λ v. fits_leaf (leaf_type_view leaf_type.now) (view v) ≡ true) }
+    ensures first { IfOk result (λ v. Precede (entry place.repetition place.definition (Some (view v))) (S.stands source.old) (S.stands source.new)) }
+    ensures refused { IfErr result (IsSourceRefusedFor (S.stands source.old) (S.refused source.new) (IsLeafFaulty place.repetition place.definition (leaf_type_view leaf_type.now))) }
 {
     match entry_at(alloc, source, place)? {
         Some(value) if leaf_type.fits(&value) => Ok(value),
@@ -72,9 +71,8 @@ fn read_leaf<S: EntrySource>(
 
 /// An entry without value.
 fn read_absent<S: EntrySource>(alloc: Global, place: Place, source: &mut S) -> R<()>
-    ensures is { IfOk result (λ _. S.left source.old ≡ entry place.repetition place.definition None ++ S.left source.new) }
-    ensures refused { IfErr result (λ e. (S.ends source.old ≡ Some e) ⊎ AbsentRefused place.repetition place.definition (S.left source.old) e) }
-    ensures ends { S.ends source.new ≡ S.ends source.old }
+    ensures first { IfOk result (λ _. Precede (entry place.repetition place.definition None) (S.stands source.old) (S.stands source.new)) }
+    ensures refused { IfErr result (IsSourceRefusedFor (S.stands source.old) (S.refused source.new) (IsAbsentFaulty place.repetition place.definition)) }
 {
     match entry_at(alloc, source, place)? {
         None => Ok(()),
@@ -109,9 +107,9 @@ fn count_leaves_each(fields: &[Field]) -> usize
 /// An entry without value off each of the first columns.
 fn skip<S: EntrySource>(alloc: Global, count: usize, place: Place, sources: &mut [S]) -> R<()>
     requires { count ≤ length sources.old }
-    ensures is { IfOk result (λ _. Fronts (nones place.repetition place.definition count) (map S.left sources.old) (map S.left sources.new)) }
-    ensures refused { IfErr result (λ e. IsAmong e (map S.ends sources.old) ⊎ SkipRefused place.repetition place.definition count (map S.left sources.old) e) }
-    ensures ends { map S.ends sources.new ≡ map S.ends sources.old }
+    ensures onward { IfOk result (λ _. Onward S.stands sources.old sources.new (Fronts (nones place.repetition place.definition count))) }
+    ensures backward { IfOk result (λ _. Backward S.stands sources.old sources.new (Fronts (nones place.repetition place.definition count))) }
+    ensures refused { IfErr result (IsRefusedFor S.stands S.refused sources.old sources.new (IsSkipFaulty place.repetition place.definition count)) }
 {
     for i in 0..count {
         read_absent(alloc, place, &mut sources[i])?;
@@ -122,10 +120,9 @@ fn skip<S: EntrySource>(alloc: Global, count: usize, place: Place, sources: &mut
 /// Whether the value of an OPTIONAL or REPEATED field is missing at this definition level.
 fn is_missing<S: EntrySource>(definition: u32, sources: &mut [S]) -> R<bool>
     requires { 0 < length sources.old }
-    ensures is { IfOk result (IsMissing definition (first_of (map S.left sources.old))) }
-    ensures refused { IfErr result (λ e. IsAmong e (map S.ends sources.old) ⊎ NoneLeft (first_of (map S.left sources.old)) e) }
-    ensures left { map S.left sources.new ≡ map S.left sources.old }
-    ensures ends { map S.ends sources.new ≡ map S.ends sources.old }
+    ensures missing { IfOk result (λ b. (cs : Columns) → AllStand S.stands sources.old cs → IsMissing definition (first_of cs) b) }
+    ensures refused { IfErr result (IsRefusedFor S.stands S.refused sources.old sources.new (λ cs. NoneLeft (first_of cs))) }
+    ensures same { AllSame S.stands sources.old sources.new }
 {
     match sources[0].peek()? {
         None => Err(Refusal::Levels),
@@ -136,10 +133,9 @@ fn is_missing<S: EntrySource>(definition: u32, sources: &mut [S]) -> R<bool>
 /// Whether another item follows, of the list with this level of its own.
 pub fn has_item<S: EntrySource>(own: u32, sources: &mut [S]) -> R<bool>
     requires { 0 < length sources.old }
-    ensures is { IfOk result (HasItem own (first_of (map S.left sources.old))) }
-    ensures refused { IfErr result (λ e. IsAmong e (map S.ends sources.old) ⊎ (e ≡ Refusal.Memory)) }
-    ensures left { map S.left sources.new ≡ map S.left sources.old }
-    ensures ends { map S.ends sources.new ≡ map S.ends sources.old }
+    ensures item { IfOk result (λ b. (cs : Columns) → AllStand S.stands sources.old cs → HasItem own (first_of cs) b) }
+    ensures refused { IfErr result (IsRefusedFor S.stands S.refused sources.old sources.new (λ _. IsMemory)) }
+    ensures same { AllSame S.stands sources.old sources.new }
 {
     match sources[0].peek()? {
         None => Ok(false),
@@ -159,9 +155,9 @@ fn read_inside<S: EntrySource>(
     requires room { count_leaves (field_view field.now) ≤ length sources.old }
     requires deep { place.definition + tall (field_view field.now) ≤ 2 ^ 32 }
     requires own { place.own ≤ place.definition }
-    ensures reads { let f = field_view field.now in Reads (λ x. view x.0) (FitInside f) (stripes_inside f place.repetition place.definition place.own) place.own (wants_inside f place.definition) (map S.ends sources.old) (map S.left sources.old) (map S.left sources.new) result }
+    ensures reads { let f = field_view field.now in IfOk result (λ x. Reads S.stands (FitInside f) (stripes_inside f place.repetition place.definition place.own) place.own sources.old sources.new (view x.0)) }
+    ensures refused { let f = field_view field.now in IfErr result (IsRefusedFor S.stands S.refused sources.old sources.new (IsFaulty (FitInside f) (stripes_inside f place.repetition place.definition place.own) place.own (wants_inside f place.definition))) }
     ensures used { IfOk result (λ x. x.1 ≡ count_leaves (field_view field.now)) }
-    ensures ends { map S.ends sources.new ≡ map S.ends sources.old }
 {
     match field {
         Field::Leaf { leaf_type, .. } => {
@@ -187,9 +183,9 @@ pub fn read_fields<S: EntrySource>(
     requires room { count_leaves_each (field_views fields.now) ≤ length sources.old }
     requires deep { place.definition + tallest (field_views fields.now) < 2 ^ 32 }
     requires own { place.own ≤ place.definition }
-    ensures reads { let fs = field_views fields.now in Reads (λ x. views x.0.items) (FitEach fs) (stripes_each fs place.repetition place.definition place.own) place.own (wants_each fs place.definition) (map S.ends sources.old) (map S.left sources.old) (map S.left sources.new) result }
+    ensures reads { let f = field_views fields.now in IfOk result (λ x. Reads S.stands (FitEach f) (stripes_each f place.repetition place.definition place.own) place.own sources.old sources.new (views x.0.items)) }
+    ensures refused { let f = field_views fields.now in IfErr result (IsRefusedFor S.stands S.refused sources.old sources.new (IsFaulty (FitEach f) (stripes_each f place.repetition place.definition place.own) place.own (wants_each f place.definition))) }
     ensures used { IfOk result (λ x. x.1 ≡ count_leaves_each (field_views fields.now)) }
-    ensures ends { map S.ends sources.new ≡ map S.ends sources.old }
 {
     let mut values = Vec::new(alloc);
     let mut used = 0;
@@ -213,9 +209,9 @@ fn read_items<S: EntrySource>(
     requires room { count_leaves (field_view field.now) ≤ length sources.old }
     requires deep { place.definition + tall (field_view field.now) < 2 ^ 32 }
     requires own { place.own ≤ place.definition }
-    ensures reads { let f = field_view field.now in Reads (λ x. views x.0.items) (FitItems f) (stripes_items f place.repetition place.definition place.own) place.own (wants_inside f (place.definition + 1)) (map S.ends sources.old) (map S.left sources.old) (map S.left sources.new) result }
+    ensures reads { let f = field_view field.now in IfOk result (λ x. Reads S.stands (FitItems f) (stripes_items f place.repetition place.definition place.own) place.own sources.old sources.new (views x.0.items)) }
+    ensures refused { let f = field_view field.now in IfErr result (IsRefusedFor S.stands S.refused sources.old sources.new (IsFaulty (FitItems f) (stripes_items f place.repetition place.definition place.own) place.own (wants_inside f (place.definition + 1)))) }
     ensures used { IfOk result (λ x. x.1 ≡ count_leaves (field_view field.now)) }
-    ensures ends { map S.ends sources.new ≡ map S.ends sources.old }
 {
     let definition = place.definition + 1;
     let own = place.own + 1;
@@ -232,11 +228,15 @@ fn read_items<S: EntrySource>(
     let mut items = Vec::new(alloc);
     let (item, used) = read_inside(alloc, field, first, sources)?;
     items.push(item)?;
-    while has_item(own, sources)? {
+    'more: for _ in 0..u64::MAX {
+        if !has_item(own, sources)? {
+            return Ok((items, used));
+        }
         let (item, _) = read_inside(alloc, field, later, sources)?;
         items.push(item)?;
     }
-    Ok((items, used))
+    // Never reached: no vector has as many items.
+    Err(Refusal::Memory)
 }
 
 /// The value of a field, and of how many leaves it is.
@@ -251,9 +251,9 @@ fn read_field<S: EntrySource>(
     requires room { count_leaves (field_view field.now) ≤ length sources.old }
     requires deep { place.definition + tall (field_view field.now) < 2 ^ 32 }
     requires own { place.own ≤ place.definition }
-    ensures reads { let f = field_view field.now in Reads (λ x. view x.0) (Fit f) (stripes f place.repetition place.definition place.own) place.own (wants f place.definition) (map S.ends sources.old) (map S.left sources.old) (map S.left sources.new) result }
+    ensures reads { let f = field_view field.now in IfOk result (λ x. Reads S.stands (Fit f) (stripes f place.repetition place.definition place.own) place.own sources.old sources.new (view x.0)) }
+    ensures refused { let f = field_view field.now in IfErr result (IsRefusedFor S.stands S.refused sources.old sources.new (IsFaulty (Fit f) (stripes f place.repetition place.definition place.own) place.own (wants f place.definition))) }
     ensures used { IfOk result (λ x. x.1 ≡ count_leaves (field_view field.now)) }
-    ensures ends { map S.ends sources.new ≡ map S.ends sources.old }
 {
     let repetition = field.repetition();
     if let Repetition::Required = repetition {

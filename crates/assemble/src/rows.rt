@@ -1,11 +1,13 @@
 //! Rows off the fronts of columns.
 
-ghost use Rattle.std.specs.Prelude.{◌≡◌, ◌⊎◌, ℕ, List, map, length, IfOk, OnOk, IfErr};
+ghost use Rattle.std.specs.Prelude.{List, length, IfOk, OnOk, IfErr};
 ghost use Rattle.bits.specs.Refusals.{OnFault};
 ghost use Rattle.schema.specs.Values.{ValueTrees};
 ghost use Rattle.schema.specs.Views.{rows_view, columns_view};
-ghost use Rattle.assemble.specs.Columns.{Tells, IsAmong};
-ghost use Rattle.assemble.specs.RowsOf.{AreRowsOf, HasFault, AllEnd, NextRow, Ended, Filled, IsTooLong, IsRefusedAs};
+ghost use Rattle.assemble.specs.Columns.{Tells};
+ghost use Rattle.assemble.specs.Standing.{AllStand, AllSame, NoneStand, IsRefusedFor};
+ghost use Rattle.assemble.specs.RowsOf.{AreRowsOf, StandForRows, HasFault, NextRow, IsTooLong, IsRefusedAs};
+ghost use Rattle.assemble.specs.inner.Steps.{Ended, Filled};
 
 use crate::cursor::Cursor;
 use crate::reading::{Place, has_item, read_fields};
@@ -19,10 +21,9 @@ pub const MOST_ENTRIES: usize = 16_777_216;
 
 /// Refused Levels where something is left of one of the columns.
 fn check_ended<S: EntrySource>(sources: &mut [S]) -> R<()>
-    ensures is { OnOk result (Ended (length sources.old) (map S.left sources.old) (map S.ends sources.old)) }
-    ensures refused { IfErr result (λ e. IsAmong e (map S.ends sources.old) ⊎ Tells (Filled (map S.left sources.old)) ⊥ e) }
-    ensures left { map S.left sources.new ≡ map S.left sources.old }
-    ensures ends { map S.ends sources.new ≡ map S.ends sources.old }
+    ensures ended { OnOk result (Ended S.stands (length sources.old) sources.old) }
+    ensures refused { IfErr result (IsRefusedFor S.stands S.refused sources.old sources.new (λ cs. Tells (Filled cs) ⊥)) }
+    ensures same { AllSame S.stands sources.old sources.new }
 {
     let count = sources.len();
     for i in 0..count {
@@ -39,8 +40,7 @@ fn check_ended<S: EntrySource>(sources: &mut [S]) -> R<()>
 /// an entry lacks its value, has one below the greatest definition level, or one that is not of the leaf's
 /// type. After a refusal, want of memory too, the sources may stand within a row.
 pub fn next_row<S: EntrySource>(alloc: Global, schema: &Schema, sources: &mut [S]) -> R<Option<Row>>
-    ensures row { NextRow schema.now (map S.ends sources.old) (map S.left sources.old) (map S.left sources.new) result }
-    ensures ends { map S.ends sources.new ≡ map S.ends sources.old }
+    ensures row { NextRow S.stands S.refused schema.now sources.old sources.new result }
 {
     let leaves = schema.leaves();
     if sources.len() != leaves.len() || sources.is_empty() {
@@ -68,16 +68,19 @@ pub fn assemble_from<S: EntrySource>(
     schema: &Schema,
     sources: &mut [S],
 ) -> R<Vec<Row>>
-    ensures stands { IfOk result (λ rows. AreRowsOf schema.now (map S.left sources.old) (rows_view rows.items)) }
-    ensures whole { OnOk result (AllEnd (map S.ends sources.old)) }
-    ensures refused { IfErr result (λ e. IsAmong e (map S.ends sources.old) ⊎ HasFault schema.now (map S.left sources.old) e) }
-    ensures ends { map S.ends sources.new ≡ map S.ends sources.old }
+    ensures stands { IfOk result (λ rows. StandForRows S.stands sources.old schema.now (rows_view rows.items)) }
+    ensures only { OnFault result ((rows : List ValueTrees) → StandForRows S.stands sources.old schema.now rows → ⊥) }
+    ensures which { IfErr result (IsRefusedFor S.stands S.refused sources.old sources.new (HasFault schema.now)) }
 {
     let mut rows = Vec::new(alloc);
-    while let Some(row) = next_row(alloc, schema, sources)? {
-        rows.push(row)?;
+    'more: for _ in 0..u64::MAX {
+        match next_row(alloc, schema, sources)? {
+            None => return Ok(rows),
+            Some(row) => rows.push(row)?,
+        }
     }
-    Ok(rows)
+    // Never reached: no vector has as many rows.
+    Err(Refusal::Memory)
 }
 
 /// The rows with these columns.

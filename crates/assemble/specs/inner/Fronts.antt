@@ -6,23 +6,17 @@ use Rattle.schema.specs.Fits.{fits, fits_each, fits_inside}
 use Rattle.schema.specs.Stripe.{Entry, entry, Leaf, leaves, stripe, stripe_as, later_items, list_items, definitions, greatest_definition}
 use Rattle.assemble.specs.Columns.{Columns, Want}
 
--- the columns `old` are these stripes and behind them `new`; further columns stay as they are
-abbrev pub Fronts : Columns → Columns → Columns → Type 0
-Fronts [] old new = old ≡ new
-Fronts (s ∷ ss) (o ∷ os) (n ∷ ns) = (o ≡ s ++ n) × Fronts ss os ns
-Fronts (s ∷ ss) _ _ = ⊥
-
--- what comes behind a value with this own level begins with no higher repetition level
+-- what comes after a value with this own level begins with no higher repetition level
 abbrev pub Ends : ℕ → List Entry → Type 0
 Ends k [] = Unit {0}
 Ends k (e ∷ es) = e.repetition ≤ k
 
--- so it is behind each of the stripes
+-- so it is after each of the stripes
 abbrev pub AreEnds : ℕ → Columns → Columns → Type 0
 AreEnds k (s ∷ ss) (r ∷ rs) = Ends k r × AreEnds k ss rs
 AreEnds k _ _ = Unit {0}
 
--- what the value of a field gives to each leaf; its repetition aside; what the items of a list behind the first do
+-- what the value of a field gives to each leaf; its repetition aside; what the items of a list after the first do
 abbrev pub stripes : Field → ℕ → ℕ → ℕ → ValueTree → Columns
 stripes f r d k v = map (λ (l : Leaf). stripe_as (repetition_of f) (stripe l.steps) v r d k) (leaves f)
 

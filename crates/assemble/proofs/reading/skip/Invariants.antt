@@ -1,10 +1,12 @@
-use Rattle.std.proofs.Common.{◌≡◌, map, length}
-use Rattle.assemble.specs.inner.Fronts.{Fronts, nones}
+use Rattle.std.proofs.Common.{◌≡◌, length}
+use Rattle.assemble.specs.Columns.{Fronts}
+use Rattle.assemble.specs.Standing.{Onward, Backward}
+use Rattle.assemble.specs.inner.Fronts.{nones}
 use Rattle.assemble.proofs.reading.skip.Given as goal
 
 abbrev pub invariant-loop-i : goal.invariant-loop-i
 invariant-loop-i g l = record {
   size : length l.sources ≡ length l.fn.sources;
-  done : Fronts (nones l.place.repetition l.place.definition l.i) (map g.S.EntrySource.left l.fn.sources) (map g.S.EntrySource.left l.sources);
-  ends : map g.S.EntrySource.ends l.sources ≡ map g.S.EntrySource.ends l.fn.sources;
+  onward : Onward g.S.EntrySource.stands l.fn.sources l.sources (Fronts (nones l.place.repetition l.place.definition l.i));
+  backward : Backward g.S.EntrySource.stands l.fn.sources l.sources (Fronts (nones l.place.repetition l.place.definition l.i));
 }

@@ -1,14 +1,12 @@
-use Rattle.std.proofs.Common.{◌≡◌, map, length}
+use Rattle.schema.specs.Fits.{RowsFit}
 use Rattle.schema.specs.Views.{rows_view}
-use Rattle.assemble.specs.inner.Steps.{first_of}
-use Rattle.assemble.proofs.RowByRow.{SoFar}
+use Rattle.assemble.specs.Standing.{Onward, Backward}
+use Rattle.assemble.proofs.RowByRow.{SoFar, Prior}
 use Rattle.assemble.proofs.rows.assemble_from.Given as goal
 
-abbrev pub invariant-loop-rows : goal.invariant-loop-rows
-invariant-loop-rows g l = record {
-  so_far : SoFar l.schema (map g.S.EntrySource.left l.fn.sources) (map g.S.EntrySource.left l.sources) (rows_view l.rows.items);
-  ends : map g.S.EntrySource.ends l.sources ≡ map g.S.EntrySource.ends l.fn.sources;
+abbrev pub invariant-more : goal.invariant-more
+invariant-more g l = record {
+  fit : RowsFit l.schema (rows_view l.rows.items);
+  onward : Onward g.S.EntrySource.stands l.fn.sources l.sources (SoFar l.schema);
+  backward : Backward g.S.EntrySource.stands l.fn.sources l.sources (Prior l.schema (rows_view l.rows.items));
 }
-
-abbrev pub decreases-loop-rows : goal.decreases-loop-rows
-decreases-loop-rows g l = length (first_of (map g.S.EntrySource.left l.sources))
