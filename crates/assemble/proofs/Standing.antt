@@ -25,6 +25,11 @@ among_set f [] i y e lt h = absurd (omega (arith, lt))
 among_set f (x ∷ xs) zero y e lt h = inl h
 among_set f (x ∷ xs) (suc i) y e lt h = inr (among_set f xs i y e (omega (arith, lt)) h)
 
+pub kept_at : {A B : Type 0} (f : A → B) (xs : List A) (i : ℕ) (x y : A) → i < length xs → f y ≡ f (get_or xs i x) → map f (set xs i y) ≡ map f xs
+kept_at f [] i x y lt e = absurd (omega (arith, lt))
+kept_at f (z ∷ xs) zero x y lt e = ap (λ t. t ∷ map f xs) e
+kept_at f (z ∷ xs) (suc i) x y lt e = ap (λ t. f z ∷ t) (kept_at f xs i x y (omega (arith, lt)) e)
+
 among_later : (e : Refusal) (xs ys : List (Option Refusal)) → IsAmong e ys → IsAmong e (xs ++ ys)
 among_later e [] ys h = h
 among_later e (x ∷ xs) ys h = inr (among_later e xs ys h)
@@ -166,19 +171,20 @@ module _ {A : Type 0} (S : A → List Entry → Type 0) where
   module _ (R : A → Option Refusal) where
     -- what is refused of what stood later is refused of what stood before
     pub refused_up : (old new mid last : List A) (F G : Columns → Refusal → Type 0) (e : Refusal)
-        → (IsAmong e (map R last) → IsAmong e (map R new)) → ((cs : Columns) → AllStand S old cs → (ds : Columns) × (AllStand S mid ds × (F ds e → G cs e))) → IsRefusedFor S R mid last F e → IsRefusedFor S R old new G e
-    refused_up old new mid last F G e among up (inl h) = inl (among h.0, λ cs s. let w = up cs s in h.1 w.0 w.1.0)
-    refused_up old new mid last F G e among up (inr h) = inr (h.0, λ cs s. let w = up cs s in w.1.1 (h.1 w.0 w.1.0))
+        → (IsAmong e (map R last) → IsAmong e (map R new)) → (map R last ≡ map R mid → map R new ≡ map R old)
+        → ((cs : Columns) → AllStand S old cs → (ds : Columns) × (AllStand S mid ds × (F ds e → G cs e))) → IsRefusedFor S R mid last F e → IsRefusedFor S R old new G e
+    refused_up old new mid last F G e among kept up (inl h) = inl (among h.0, λ cs s. let w = up cs s in h.1 w.0 w.1.0)
+    refused_up old new mid last F G e among kept up (inr h) = inr (kept h.0, (h.1.0, λ cs s. let w = up cs s in w.1.1 (h.1.1 w.0 w.1.0)))
 
     -- the same columns stood
-    pub refused_same : (old mid new : List A) (F G : Columns → Refusal → Type 0) (e : Refusal) → AllSame S old mid → ((cs : Columns) → AllStand S old cs → F cs e → G cs e) → IsRefusedFor S R mid new F e → IsRefusedFor S R old new G e
-    refused_same old mid new F G e same up = refused_up old new mid new F G e (λ h. h) (λ cs s. (cs, (stand_on old mid cs same s, up cs s)))
+    pub refused_same : (old mid new : List A) (F G : Columns → Refusal → Type 0) (e : Refusal) → AllSame S old mid → map R mid ≡ map R old → ((cs : Columns) → AllStand S old cs → F cs e → G cs e) → IsRefusedFor S R mid new F e → IsRefusedFor S R old new G e
+    refused_same old mid new F G e same kept up = refused_up old new mid new F G e (λ h. h) (λ k. k ∙ kept) (λ cs s. (cs, (stand_on old mid cs same s, up cs s)))
 
     -- one source is refused
-    pub refused_at : (old xs : List A) (i : ℕ) (x y : A) (F : List Entry → Refusal → Type 0) (G : Columns → Refusal → Type 0) (e : Refusal) → i < length xs
-        → ((cs : Columns) → AllStand S old cs → (es : List Entry) × (S (get_or xs i x) es × (F es e → G cs e))) → IsSourceRefusedFor (S (get_or xs i x)) (R y) F e → IsRefusedFor S R old (set xs i y) G e
-    refused_at old xs i x y F G e lt up (inl h) = inl (among_set R xs i y e lt h.0, λ cs s. let w = up cs s in h.1 w.0 w.1.0)
-    refused_at old xs i x y F G e lt up (inr h) = inr (h.0, λ cs s. let w = up cs s in w.1.1 (h.1 w.0 w.1.0))
+    pub refused_at : (old xs : List A) (i : ℕ) (x y : A) (F : List Entry → Refusal → Type 0) (G : Columns → Refusal → Type 0) (e : Refusal) → i < length xs → map R xs ≡ map R old
+        → ((cs : Columns) → AllStand S old cs → (es : List Entry) × (S (get_or xs i x) es × (F es e → G cs e))) → IsSourceRefusedFor (S (get_or xs i x)) (R (get_or xs i x)) (R y) F e → IsRefusedFor S R old (set xs i y) G e
+    refused_at old xs i x y F G e lt kept up (inl h) = inl (among_set R xs i y e lt h.0, λ cs s. let w = up cs s in h.1 w.0 w.1.0)
+    refused_at old xs i x y F G e lt kept up (inr h) = inr (kept_at R xs i x y lt h.0 ∙ kept, (h.1.0, λ cs s. let w = up cs s in w.1.1 (h.1.1 w.0 w.1.0)))
 
 -- a refusal for which P holds where the result is Err
 pub refused_ok : {X : Type 0} (P : Refusal → Type 0) (r : Result X Refusal) (e : Refusal) → IsErrAnd r (λ f. f ≡ e) → P e → IfErr r P
@@ -189,14 +195,14 @@ pub none_ok : {X : Type 0} (Q : X → Type 0) (r : Result X Refusal) (e : Refusa
 none_ok Q (Ok x) e is = absurd is
 none_ok Q (Err f) e is = tt
 
-is_memory : (S : List Entry → Type 0) (old new : Option Refusal) (e : Refusal) → Refuses S old e → Keeps old new e → ((new ≡ Some e) × NothingStands S) ⊎ Tells ⊥ ⊥ e
-is_memory S old new refusal.Memory h k = inr tt
+is_memory : (S : List Entry → Type 0) (old new : Option Refusal) (e : Refusal) → Refuses S old e → Keeps old new e → ((new ≡ Some e) × NothingStands S) ⊎ ((new ≡ old) × Tells ⊥ ⊥ e)
+is_memory S old new refusal.Memory h k = inr (k, tt)
 is_memory S old new _ h k = inl (k, h.0)
 
 -- a look at one source is refused
-pub peek_refused : {A : Type 0} (S : A → List Entry → Type 0) (R : A → Option Refusal) (old xs : List A) (i : ℕ) (x y : A) (G : Columns → Refusal → Type 0) (e : Refusal) → i < length xs
+pub peek_refused : {A : Type 0} (S : A → List Entry → Type 0) (R : A → Option Refusal) (old xs : List A) (i : ℕ) (x y : A) (G : Columns → Refusal → Type 0) (e : Refusal) → i < length xs → map R xs ≡ map R old
     → ((cs : Columns) → AllStand S old cs → AllStand S xs cs) → ((cs : Columns) → Tells ⊥ ⊥ e → G cs e) → Refuses (S (get_or xs i x)) (R (get_or xs i x)) e → Keeps (R (get_or xs i x)) (R y) e → IsRefusedFor S R old (set xs i y) G e
-peek_refused S R old xs i x y G e lt on up h k = elim (is_memory (S (get_or xs i x)) (R (get_or xs i x)) (R y) e h k) [
+peek_refused S R old xs i x y G e lt kept on up h k = elim (is_memory (S (get_or xs i x)) (R (get_or xs i x)) (R y) e h k) [
   | inl is ↦ inl (among_set R xs i y e lt is.0, λ cs s. is.1 (get_or cs i []) (stand_get S xs cs i x lt (on cs s)))
-  | inr memory ↦ inr (tells_more ⊥ ⊥ (Unit {0}) (Unit {0}) (λ n. absurd n) (λ n. absurd n) e memory, λ cs s. up cs memory)
+  | inr memory ↦ inr (kept_at R xs i x y lt memory.0 ∙ kept, (tells_more ⊥ ⊥ (Unit {0}) (Unit {0}) (λ n. absurd n) (λ n. absurd n) e memory.1, λ cs s. up cs memory.1))
 ]

@@ -1,10 +1,11 @@
 -- Columns in memory.
-use Rattle.std.proofs.Common.{◌≡◌, ◌≤◌, ◌<◌, List, [], ◌∷◌, ◌++◌, map, length, refl, ap, sym, subst, ◌∙◌, arith, append_assoc, None, Option, inl, inr}
+use Rattle.std.proofs.Common.{◌≡◌, ◌≤◌, ◌<◌, List, [], ◌∷◌, ◌++◌, map, length, refl, ap, sym, subst, ◌∙◌, arith, append_assoc, None, Option, Result, Ok, Err, inl, inr}
 use Rattle.std.specs.List.{AllByRecursion}
 use Rattle.std.proofs.lemmas.List.{append-nil, map-append}
 use Rattle.bits.specs.declared.refusal.Refusal.{Refusal}
 use Rattle.bits.specs.declared.refusal.Refusal.TheVariants as refusal
-use Rattle.bits.specs.Refusals.{IsFault}
+use Rattle.bits.specs.Refusals.{IsFault, LimitJustWhere}
+use Rattle.std.specs.Result.{IfErr}
 use Rattle.schema.specs.declared.row.Column.{Column}
 use Rattle.schema.specs.Values.{ValueTrees}
 use Rattle.schema.specs.Shape.{Fields}
@@ -54,11 +55,18 @@ faultless fs cs _ h f rows are = h
 -- where a fault is refused, there are no rows
 pub only_faults : {A : Type 0} (S : A → List Entry → Type 0) (R : A → Option Refusal) (old new : List A) (fs : Fields) (e : Refusal) → IsRefusedFor S R old new (HasFault fs) e → IsFault e → (rows : List ValueTrees) → StandForRows S old fs rows → ⊥
 only_faults S R old new fs e (inl h) fault rows stand = h.1 (columns fs rows) stand.stand
-only_faults S R old new fs e (inr h) fault rows stand = faultless fs (columns fs rows) e (h.1 (columns fs rows) stand.stand) fault rows (record { fit = stand.fit; have = refl })
+only_faults S R old new fs e (inr h) fault rows stand = faultless fs (columns fs rows) e (h.1.1 (columns fs rows) stand.stand) fault rows (record { fit = stand.fit; have = refl })
 
 pub refused_as : (fs : Fields) (cs : Columns) (e : Refusal) → HasFault fs cs e → IsRefusedAs fs cs e
 refused_as fs cs refusal.Limit h = absurd h
 refused_as fs cs _ h = h
+
+-- Limit comes exactly where a column is too long
+pub limit_where : {X : Type 0} (fs : Fields) (cs : Columns) (r : Result X Refusal) → (IsTooLong cs → ⊥) → IfErr r (HasFault fs cs) → LimitJustWhere (IsTooLong cs) r
+limit_where fs cs (Ok x) short h = short
+limit_where fs cs (Err refusal.Limit) short h = absurd h
+limit_where fs cs (Err refusal.Memory) short h = tt
+limit_where fs cs (Err _) short h = short
 
 -- the cursors so far, and the columns that are left
 pub record SoFar (cursors : List Cursor) (columns rest : List Column) : Type 0 where

@@ -36,8 +36,8 @@ pub record IsFirstRow (fs : Fields) (row : ValueTrees) (old new : Columns) : Typ
 
 -- the next row, or none where the sources stand for the columns of no rows
 abbrev pub NextRow : {A : Type 0} → (A → List Entry → Type 0) → (A → Option Refusal) → Fields → List A → List A → Result (Option Row) Refusal → Type 0
-NextRow S refused fs old new (Ok None) = AllStand S old (columns fs []) × AllSame S old new
-NextRow S refused fs old new (Ok (Some row)) = RowsFit fs (row_view row ∷ []) × (Onward S old new (IsFirstRow fs (row_view row)) × Backward S old new (Fronts (columns fs (row_view row ∷ []))))
+NextRow S refused fs old new (Ok None) = (map refused new ≡ map refused old) × (AllStand S old (columns fs []) × AllSame S old new)
+NextRow S refused fs old new (Ok (Some row)) = (map refused new ≡ map refused old) × (RowsFit fs (row_view row ∷ []) × (Onward S old new (IsFirstRow fs (row_view row)) × Backward S old new (Fronts (columns fs (row_view row ∷ [])))))
 NextRow S refused fs old new (Err e) = IsRefusedFor S refused old new (HasFault fs) e
 
 -- a column has more entries than it may have

@@ -29,6 +29,7 @@ Onward S old new R = (before : Columns) → AllStand S old before → (after : C
 abbrev pub Backward : {A : Type 0} → (A → List Entry → Type 0) → List A → List A → (Columns → Columns → Type 0) → Type 0
 Backward S old new R = (after : Columns) → AllStand S new after → (before : Columns) × (AllStand S old before × R before after)
 
--- a refusal is a source's own, and stays, where no columns stood; or it is Levels, Value or Memory, and P holds of it and of the columns that stood
+-- a refusal is a source's own, and stays, where no columns stood; or no source was refused, it is Levels, Value or Memory, and P holds of it and of the columns that stood
 abbrev pub IsRefusedFor : {A : Type 0} → (A → List Entry → Type 0) → (A → Option Refusal) → List A → List A → (Columns → Refusal → Type 0) → Refusal → Type 0
-IsRefusedFor S refused old new P e = (IsAmong e (map refused new) × NoneStand S old) ⊎ (Tells (Unit {0}) (Unit {0}) e × ((cs : Columns) → AllStand S old cs → P cs e))
+IsRefusedFor S refused old new P e =
+    (IsAmong e (map refused new) × NoneStand S old) ⊎ ((map refused new ≡ map refused old) × (Tells (Unit {0}) (Unit {0}) e × ((cs : Columns) → AllStand S old cs → P cs e)))

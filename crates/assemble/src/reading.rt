@@ -1,6 +1,6 @@
 //! Values off the fronts of columns: each leaf's column begins with the stripe of the value.
 
-ghost use Rattle.std.specs.Prelude.{◌≡◌, ◌+◌, ◌<◌, ◌≤◌, ◌^◌, length, map, true, Some, None, IfOk, IfErr, option_map};
+ghost use Rattle.std.specs.Prelude.{◌≡◌, ◌+◌, ◌<◌, ◌≤◌, ◌^◌, length, map, true, Some, None, IfOk, OnOk, IfErr, option_map};
 ghost use Rattle.schema.specs.Values.{view, views};
 ghost use Rattle.schema.specs.Views.{entry_view, leaf_type_view, field_view, field_views};
 ghost use Rattle.schema.specs.Fits.{fits_leaf};
@@ -30,7 +30,8 @@ pub struct Place {
 /// The next entry, taken. The bytes of its value are copied once.
 fn taken<S: EntrySource>(alloc: Global, source: &mut S) -> R<Option<Entry>>
     ensures taken { IfOk result (λ o. IsTaken (S.stands source.old) (S.stands source.new) (option_map entry_view o)) }
-    ensures refused { IfErr result (IsSourceRefusedFor (S.stands source.old) (S.refused source.new) (λ _. IsMemory)) }
+    ensures refused { IfErr result (IsSourceRefusedFor (S.stands source.old) (S.refused source.old) (S.refused source.new) (λ _. IsMemory)) }
+    ensures kept { OnOk result (S.refused source.new ≡ S.refused source.old) }
 {
     match source.next()? {
         None => Ok(None),
@@ -41,7 +42,8 @@ fn taken<S: EntrySource>(alloc: Global, source: &mut S) -> R<Option<Entry>>
 /// The next entry, which has these levels.
 fn entry_at<S: EntrySource>(alloc: Global, source: &mut S, place: Place) -> R<Option<Value>>
     ensures first { IfOk result (λ o. Precede (entry place.repetition place.definition (option_map view o)) (S.stands source.old) (S.stands source.new)) }
-    ensures refused { IfErr result (IsSourceRefusedFor (S.stands source.old) (S.refused source.new) (IsNotAt place.repetition place.definition)) }
+    ensures refused { IfErr result (IsSourceRefusedFor (S.stands source.old) (S.refused source.old) (S.refused source.new) (IsNotAt place.repetition place.definition)) }
+    ensures kept { OnOk result (S.refused source.new ≡ S.refused source.old) }
 {
     match taken(alloc, source)? {
         Some(entry)
@@ -61,7 +63,8 @@ fn read_leaf<S: EntrySource>(
 ) -> R<Value>
     ensures fits { IfOk result (λ v. fits_leaf (leaf_type_view leaf_type.now) (view v) ≡ true) }
     ensures first { IfOk result (λ v. Precede (entry place.repetition place.definition (Some (view v))) (S.stands source.old) (S.stands source.new)) }
-    ensures refused { IfErr result (IsSourceRefusedFor (S.stands source.old) (S.refused source.new) (IsLeafFaulty place.repetition place.definition (leaf_type_view leaf_type.now))) }
+    ensures refused { IfErr result (IsSourceRefusedFor (S.stands source.old) (S.refused source.old) (S.refused source.new) (IsLeafFaulty place.repetition place.definition (leaf_type_view leaf_type.now))) }
+    ensures kept { OnOk result (S.refused source.new ≡ S.refused source.old) }
 {
     match entry_at(alloc, source, place)? {
         Some(value) if leaf_type.fits(&value) => Ok(value),
@@ -72,7 +75,8 @@ fn read_leaf<S: EntrySource>(
 /// An entry without value.
 fn read_absent<S: EntrySource>(alloc: Global, place: Place, source: &mut S) -> R<()>
     ensures first { IfOk result (λ _. Precede (entry place.repetition place.definition None) (S.stands source.old) (S.stands source.new)) }
-    ensures refused { IfErr result (IsSourceRefusedFor (S.stands source.old) (S.refused source.new) (IsAbsentFaulty place.repetition place.definition)) }
+    ensures refused { IfErr result (IsSourceRefusedFor (S.stands source.old) (S.refused source.old) (S.refused source.new) (IsAbsentFaulty place.repetition place.definition)) }
+    ensures kept { OnOk result (S.refused source.new ≡ S.refused source.old) }
 {
     match entry_at(alloc, source, place)? {
         None => Ok(()),
@@ -110,6 +114,7 @@ fn skip<S: EntrySource>(alloc: Global, count: usize, place: Place, sources: &mut
     ensures onward { IfOk result (λ _. Onward S.stands sources.old sources.new (Fronts (nones place.repetition place.definition count))) }
     ensures backward { IfOk result (λ _. Backward S.stands sources.old sources.new (Fronts (nones place.repetition place.definition count))) }
     ensures refused { IfErr result (IsRefusedFor S.stands S.refused sources.old sources.new (IsSkipFaulty place.repetition place.definition count)) }
+    ensures kept { OnOk result (map S.refused sources.new ≡ map S.refused sources.old) }
 {
     for i in 0..count {
         read_absent(alloc, place, &mut sources[i])?;
@@ -122,6 +127,7 @@ fn is_missing<S: EntrySource>(definition: u32, sources: &mut [S]) -> R<bool>
     requires { 0 < length sources.old }
     ensures missing { IfOk result (λ b. (cs : Columns) → AllStand S.stands sources.old cs → IsMissing definition (first_of cs) b) }
     ensures refused { IfErr result (IsRefusedFor S.stands S.refused sources.old sources.new (λ cs. NoneLeft (first_of cs))) }
+    ensures kept { OnOk result (map S.refused sources.new ≡ map S.refused sources.old) }
     ensures same { AllSame S.stands sources.old sources.new }
 {
     match sources[0].peek()? {
@@ -135,6 +141,7 @@ pub fn has_item<S: EntrySource>(own: u32, sources: &mut [S]) -> R<bool>
     requires { 0 < length sources.old }
     ensures item { IfOk result (λ b. (cs : Columns) → AllStand S.stands sources.old cs → HasItem own (first_of cs) b) }
     ensures refused { IfErr result (IsRefusedFor S.stands S.refused sources.old sources.new (λ _. IsMemory)) }
+    ensures kept { OnOk result (map S.refused sources.new ≡ map S.refused sources.old) }
     ensures same { AllSame S.stands sources.old sources.new }
 {
     match sources[0].peek()? {
@@ -157,6 +164,7 @@ fn read_inside<S: EntrySource>(
     requires own { place.own ≤ place.definition }
     ensures reads { let f = field_view field.now in IfOk result (λ x. Reads S.stands (FitInside f) (stripes_inside f place.repetition place.definition place.own) place.own sources.old sources.new (view x.0)) }
     ensures refused { let f = field_view field.now in IfErr result (IsRefusedFor S.stands S.refused sources.old sources.new (IsFaulty (FitInside f) (stripes_inside f place.repetition place.definition place.own) place.own (wants_inside f place.definition))) }
+    ensures kept { OnOk result (map S.refused sources.new ≡ map S.refused sources.old) }
     ensures used { IfOk result (λ x. x.1 ≡ count_leaves (field_view field.now)) }
 {
     match field {
@@ -185,6 +193,7 @@ pub fn read_fields<S: EntrySource>(
     requires own { place.own ≤ place.definition }
     ensures reads { let f = field_views fields.now in IfOk result (λ x. Reads S.stands (FitEach f) (stripes_each f place.repetition place.definition place.own) place.own sources.old sources.new (views x.0.items)) }
     ensures refused { let f = field_views fields.now in IfErr result (IsRefusedFor S.stands S.refused sources.old sources.new (IsFaulty (FitEach f) (stripes_each f place.repetition place.definition place.own) place.own (wants_each f place.definition))) }
+    ensures kept { OnOk result (map S.refused sources.new ≡ map S.refused sources.old) }
     ensures used { IfOk result (λ x. x.1 ≡ count_leaves_each (field_views fields.now)) }
 {
     let mut values = Vec::new(alloc);
@@ -211,6 +220,7 @@ fn read_items<S: EntrySource>(
     requires own { place.own ≤ place.definition }
     ensures reads { let f = field_view field.now in IfOk result (λ x. Reads S.stands (FitItems f) (stripes_items f place.repetition place.definition place.own) place.own sources.old sources.new (views x.0.items)) }
     ensures refused { let f = field_view field.now in IfErr result (IsRefusedFor S.stands S.refused sources.old sources.new (IsFaulty (FitItems f) (stripes_items f place.repetition place.definition place.own) place.own (wants_inside f (place.definition + 1)))) }
+    ensures kept { OnOk result (map S.refused sources.new ≡ map S.refused sources.old) }
     ensures used { IfOk result (λ x. x.1 ≡ count_leaves (field_view field.now)) }
 {
     let definition = place.definition + 1;
@@ -253,6 +263,7 @@ fn read_field<S: EntrySource>(
     requires own { place.own ≤ place.definition }
     ensures reads { let f = field_view field.now in IfOk result (λ x. Reads S.stands (Fit f) (stripes f place.repetition place.definition place.own) place.own sources.old sources.new (view x.0)) }
     ensures refused { let f = field_view field.now in IfErr result (IsRefusedFor S.stands S.refused sources.old sources.new (IsFaulty (Fit f) (stripes f place.repetition place.definition place.own) place.own (wants f place.definition))) }
+    ensures kept { OnOk result (map S.refused sources.new ≡ map S.refused sources.old) }
     ensures used { IfOk result (λ x. x.1 ≡ count_leaves (field_view field.now)) }
 {
     let repetition = field.repetition();

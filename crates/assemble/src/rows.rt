@@ -1,7 +1,7 @@
 //! Rows off the fronts of columns.
 
-ghost use Rattle.std.specs.Prelude.{List, length, IfOk, OnOk, IfErr};
-ghost use Rattle.bits.specs.Refusals.{OnFault};
+ghost use Rattle.std.specs.Prelude.{◌≡◌, List, length, map, IfOk, OnOk, IfErr};
+ghost use Rattle.bits.specs.Refusals.{OnFault, LimitJustWhere};
 ghost use Rattle.schema.specs.Values.{ValueTrees};
 ghost use Rattle.schema.specs.Views.{rows_view, columns_view};
 ghost use Rattle.assemble.specs.Columns.{Tells};
@@ -23,6 +23,7 @@ pub const MOST_ENTRIES: usize = 16_777_216;
 fn check_ended<S: EntrySource>(sources: &mut [S]) -> R<()>
     ensures ended { OnOk result (Ended S.stands (length sources.old) sources.old) }
     ensures refused { IfErr result (IsRefusedFor S.stands S.refused sources.old sources.new (λ cs. Tells (Filled cs) ⊥)) }
+    ensures kept { OnOk result (map S.refused sources.new ≡ map S.refused sources.old) }
     ensures same { AllSame S.stands sources.old sources.new }
 {
     let count = sources.len();
@@ -88,7 +89,7 @@ pub fn assemble_from<S: EntrySource>(
 /// Refused Limit for a column of more than 16,777,216 entries; Levels and Value as [`next_row`].
 pub fn assemble(alloc: Global, schema: &Schema, columns: &[Column]) -> R<Vec<Row>>
     ensures stands { IfOk result (λ rows. AreRowsOf schema.now (columns_view columns.now) (rows_view rows.items)) }
-    ensures short { OnOk result (IsTooLong (columns_view columns.now) → ⊥) }
+    ensures limit { LimitJustWhere (IsTooLong (columns_view columns.now)) result }
     ensures only { OnFault result ((rows : List ValueTrees) → AreRowsOf schema.now (columns_view columns.now) rows → ⊥) }
     ensures which { IfErr result (IsRefusedAs schema.now (columns_view columns.now)) }
 {

@@ -17,9 +17,9 @@ abbrev pub IsTaken : Stands → Stands → Option Entry → Type 0
 IsTaken S T (Some e) = Precede (e ∷ []) S T
 IsTaken S T None = StandsOnly S []
 
--- a refusal is the source's own, where nothing stood; or it is Levels, Value or Memory, and P holds of it and of the entries that stood
-abbrev pub IsSourceRefusedFor : Stands → Option Refusal → (List Entry → Refusal → Type 0) → Refusal → Type 0
-IsSourceRefusedFor S refused P e = ((refused ≡ Some e) × NothingStands S) ⊎ (Tells (Unit {0}) (Unit {0}) e × ((es : List Entry) → S es → P es e))
+-- a refusal is the source's own, where nothing stood; or the source was not refused, it is Levels, Value or Memory, and P holds of it and of the entries that stood
+abbrev pub IsSourceRefusedFor : Stands → Option Refusal → Option Refusal → (List Entry → Refusal → Type 0) → Refusal → Type 0
+IsSourceRefusedFor S old new P e = ((new ≡ Some e) × NothingStands S) ⊎ ((new ≡ old) × (Tells (Unit {0}) (Unit {0}) e × ((es : List Entry) → S es → P es e)))
 
 -- Levels: the next entry has other levels, or there is none
 abbrev pub IsNotAt : ℕ → ℕ → List Entry → Refusal → Type 0

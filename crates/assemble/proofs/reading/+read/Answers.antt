@@ -2,6 +2,7 @@ use Rattle.std.proofs.Common.{rules, suc, add-one, drop, ◌-◌, ◌≡◌, ℕ
 use Rattle.std.proofs.Math.ListN.{set}
 use Rattle.std.proofs.lemmas.Result.{IfOk-weaker, IfErr-weaker}
 use borrow.Rule.Slice.PartMut.{put_mid, mid_of}
+use Rattle.bits.specs.declared.refusal.Refusal.TheVariants.{Memory}
 use Rattle.schema.specs.declared.value.Value.{Value, Group as value_group}
 use Rattle.schema.specs.Values.{view, views, list, no_values, value as item}
 use Rattle.schema.specs.Views.{field_view, field_views, leaf_type_view}
@@ -23,6 +24,7 @@ use Rattle.assemble.proofs.Items.{one_more, snoc, views-push}
 use Rattle.assemble.proofs.Each as each
 use Rattle.assemble.proofs.Taking.{reads_required, reads_present, reads_list, reads_group, reads_missing, reads_leaf, each_onward, each_backward, first_onward, first_backward, next_onward, next_backward, reads_items}
 use Rattle.assemble.proofs.Told.{memory_only}
+use Rattle.assemble.proofs.Slices.{map_kept}
 use Rattle.assemble.proofs.Views.{view_null, view_group, view_list, view_leaf, view_fields}
 use Rattle.assemble.proofs.reading.+read.Goals as goal
 use Rattle.assemble.proofs.reading.+read.Goals.{read_field-in-Repeated, read_field-in_default-repetition}
@@ -46,7 +48,7 @@ read_field-returns-in-Required-clause-refused g t c =
     let d = c.args.place.definition in
     let k = c.args.place.own in
     IfErr-weaker c.read_inside.result _ _
-    (λ e h. refused_same S g.S.EntrySource.refused old old c.read_inside.new.sources (IsFaulty (FitInside f) (stripes_inside f r d k) k (wants_inside f d)) (IsFaulty (Fit f) (stripes f r d k) k (wants f d)) e (same_self S old) (λ cs s. faulty_required f (sym c.repetition-repetition.ensures ∙ c.in-Required.is) r d k cs e) h) c.read_inside.ensures.refused
+    (λ e h. refused_same S g.S.EntrySource.refused old old c.read_inside.new.sources (IsFaulty (FitInside f) (stripes_inside f r d k) k (wants_inside f d)) (IsFaulty (Fit f) (stripes f r d k) k (wants f d)) e (same_self S old) refl (λ cs s. faulty_required f (sym c.repetition-repetition.ensures ∙ c.in-Required.is) r d k cs e) h) c.read_inside.ensures.refused
 
 pub read_field-is_missing-requires : goal.read_field-is_missing-requires
 read_field-is_missing-requires g t c = some_source (field_view c.args.field.now) (length c.args.sources.now) c.requires.valid c.requires.room
@@ -62,8 +64,9 @@ read_field-returns-in_err-is_missing g t c =
     let e = c.in_err-is_missing.field-0.0 in
     record {
       reads = none_ok _ c.from_residual.result e c.from_residual.ensures.1;
-      refused = refused_ok _ c.from_residual.result e c.from_residual.ensures.1 (refused_same S g.S.EntrySource.refused old old c.is_missing.new.sources (λ cs. NoneLeft (first_of cs)) (IsFaulty (Fit f) (stripes f r d k) k (wants f d)) e (same_self S old) (λ cs s. faulty_nothing f c.requires.valid r d k cs e) c.in_err-is_missing.ensures.refused);
+      refused = refused_ok _ c.from_residual.result e c.from_residual.ensures.1 (refused_same S g.S.EntrySource.refused old old c.is_missing.new.sources (λ cs. NoneLeft (first_of cs)) (IsFaulty (Fit f) (stripes f r d k) k (wants f d)) e (same_self S old) refl (λ cs s. faulty_nothing f c.requires.valid r d k cs e) c.in_err-is_missing.ensures.refused);
       used = none_ok _ c.from_residual.result e c.from_residual.ensures.1;
+      kept = none_ok _ c.from_residual.result e c.from_residual.ensures.1;
     }
 
 pub read_field-returns-in_err-skip : goal.read_field-returns-in_err-skip
@@ -80,9 +83,10 @@ read_field-returns-in_err-skip g t c =
     record {
       reads = none_ok _ c.from_residual-in_err-skip.result e c.from_residual-in_err-skip.ensures.1;
       refused = refused_ok _ c.from_residual-in_err-skip.result e c.from_residual-in_err-skip.ensures.1
-          (refused_same S g.S.EntrySource.refused old c.is_missing.new.sources c.skip.new.sources (IsSkipFaulty r d c.count_leaves-count.result) (IsFaulty (Fit f) (stripes f r d k) k (wants f d)) e c.is_missing.ensures.same
+          (refused_same S g.S.EntrySource.refused old c.is_missing.new.sources c.skip.new.sources (IsSkipFaulty r d c.count_leaves-count.result) (IsFaulty (Fit f) (stripes f r d k) k (wants f d)) e c.is_missing.ensures.same c.in_ok-is_missing.ensures.kept
           (λ cs s h. faulty_missing f x (sym c.repetition-repetition.ensures) c.in_default.not-Required c.requires.valid r d k cs e (missing cs s) (subst (λ n. IsSkipFaulty r d n cs e) c.count_leaves-count.ensures h)) c.in_err-skip.ensures.refused);
       used = none_ok _ c.from_residual-in_err-skip.result e c.from_residual-in_err-skip.ensures.1;
+      kept = none_ok _ c.from_residual-in_err-skip.result e c.from_residual-in_err-skip.ensures.1;
     }
 
 pub read_field-returns-then-branch : goal.read_field-returns-then-branch
@@ -104,6 +108,7 @@ read_field-returns-then-branch g t c =
           (reads_missing S f x (sym c.repetition-repetition.ensures) c.in_default.not-Required c.requires.valid r d k c.count_leaves-count.result old c.is_missing.new.sources c.skip.new.sources c.count_leaves-count.ensures c.is_missing.ensures.same missing c.in_ok-skip.ensures.onward c.in_ok-skip.ensures.backward);
       refused = tt;
       used = c.count_leaves-count.ensures;
+      kept = c.in_ok-skip.ensures.kept ∙ c.in_ok-is_missing.ensures.kept;
     }
 
 pub read_field-returns-in_err-items : goal.read_field-returns-in_err-items
@@ -119,9 +124,10 @@ read_field-returns-in_err-items g t c =
     record {
       reads = none_ok _ c.from_residual-in_err-items.result e c.from_residual-in_err-items.ensures.1;
       refused = refused_ok _ c.from_residual-in_err-items.result e c.from_residual-in_err-items.ensures.1
-          (refused_same S g.S.EntrySource.refused old c.is_missing.new.sources c.read_items.new.sources (IsFaulty (FitItems f) (stripes_items f r d k) k (wants_inside f (d + 1))) (IsFaulty (Fit f) (stripes f r d k) k (wants f d)) e c.is_missing.ensures.same
+          (refused_same S g.S.EntrySource.refused old c.is_missing.new.sources c.read_items.new.sources (IsFaulty (FitItems f) (stripes_items f r d k) k (wants_inside f (d + 1))) (IsFaulty (Fit f) (stripes f r d k) k (wants f d)) e c.is_missing.ensures.same c.in_ok-is_missing.ensures.kept
           (λ cs s h. faulty_list f (sym c.repetition-repetition.ensures ∙ c.in-Repeated-repetition.is) c.requires.valid r d k cs e (there cs s) h) c.in_err-items.ensures.refused);
       used = none_ok _ c.from_residual-in_err-items.result e c.from_residual-in_err-items.ensures.1;
+      kept = none_ok _ c.from_residual-in_err-items.result e c.from_residual-in_err-items.ensures.1;
     }
 
 pub read_field-returns-in-Repeated-repetition : goal.read_field-returns-in-Repeated-repetition
@@ -138,6 +144,7 @@ read_field-returns-in-Repeated-repetition g t c =
           (reads_list S f (sym c.repetition-repetition.ensures ∙ c.in-Repeated-repetition.is) c.requires.valid r d k old c.is_missing.new.sources c.read_items.new.sources (views c.in_ok-items.items.items) c.is_missing.ensures.same there c.in_ok-items.ensures.reads);
       refused = tt;
       used = c.in_ok-items.ensures.used;
+      kept = c.in_ok-items.ensures.kept ∙ c.in_ok-is_missing.ensures.kept;
     }
 
 pub read_field-returns : goal.read_field-returns
@@ -156,8 +163,9 @@ read_field-returns g t c =
     record {
       reads = IfOk-weaker res _ _ (λ x h. reads_present S f is c.requires.valid r d k old mid new (view x.0) c.is_missing.ensures.same there h) c.read_inside-2.ensures.reads;
       refused = IfErr-weaker res _ _
-          (λ e h. refused_same S g.S.EntrySource.refused old mid new (IsFaulty (FitInside f) (stripes_inside f r (d + 1) k) k (wants_inside f (d + 1))) (IsFaulty (Fit f) (stripes f r d k) k (wants f d)) e c.is_missing.ensures.same (λ cs s i. faulty_present f is c.requires.valid r d k cs e (there cs s) i) h) c.read_inside-2.ensures.refused;
+          (λ e h. refused_same S g.S.EntrySource.refused old mid new (IsFaulty (FitInside f) (stripes_inside f r (d + 1) k) k (wants_inside f (d + 1))) (IsFaulty (Fit f) (stripes f r d k) k (wants f d)) e c.is_missing.ensures.same c.in_ok-is_missing.ensures.kept (λ cs s i. faulty_present f is c.requires.valid r d k cs e (there cs s) i) h) c.read_inside-2.ensures.refused;
       used = c.read_inside-2.ensures.used;
+      kept = IfOk-weaker res _ _ (λ x h. h ∙ c.in_ok-is_missing.ensures.kept) c.read_inside-2.ensures.kept;
     }
 
 -- the first of the fields that are left
@@ -176,6 +184,7 @@ read_fields-loop-field-init g t c =
       counts = omega arith;
       valid = c.requires.valid;
       deep = c.requires.deep;
+      kept = refl;
       size = refl;
     }
 
@@ -202,7 +211,7 @@ read_fields-returns-in_err-value-clause-refused g t c =
     let place = field_place fs i f (omega arith) c.field-item.is in
     refused_ok _ c.from_residual.result e c.from_residual.ensures.1
     (refused_up S R old (put_mid used (length xs - used) xs ys) (mid_of used (length xs - used) xs) ys (IsFaulty (Fit (field_view f)) (stripes (field_view f) r d k) k (wants (field_view f) d)) (IsFaulty (FitEach (field_views fs)) (stripes_each (field_views fs) r d k) k (wants_each (field_views fs) d)) e
-    (among_put R used xs ys e room)
+    (among_put R used xs ys e room) (λ k. map_kept R used xs ys room k ∙ c.loop-field.invariant.kept)
     (λ cs s.
     let w = c.loop-field.invariant.onward cs s in
     let so = subst (λ gs. each.SoFar (field_views fs) gs r d k cs w.0 used vs) place w.1.1 in
@@ -250,6 +259,7 @@ read_fields-loop-field-preserved g t c =
       counts = omega (arith, count, more);
       valid = (subst AreValid place c.loop-field.invariant.valid).1;
       deep = omega (arith, deep);
+      kept = map_kept g.S.EntrySource.refused used xs ys room c.in_ok-value.ensures.kept ∙ c.loop-field.invariant.kept;
       size = search rules;
     }
 
@@ -288,7 +298,7 @@ read_inside-returns-in_err-value-in-Leaf-clause-refused g t c =
     let is = ap field_view c.in-Leaf.is ∙ view_leaf c.in-Leaf.name c.in-Leaf.repetition c.in-Leaf.leaf_type in
     let some : 0 < length xs = some_source (field_view c.args.field.now) (length xs) c.requires.valid c.requires.room in
     refused_ok _ c.from_residual.result e c.from_residual.ensures.1
-    (refused_at S R xs xs 0 c.index-sources-0.result y (IsLeafFaulty r d lt) (IsFaulty (FitInside (field_view c.args.field.now)) (stripes_inside (field_view c.args.field.now) r d k) k (wants_inside (field_view c.args.field.now) d)) e some
+    (refused_at S R xs xs 0 c.index-sources-0.result y (IsLeafFaulty r d lt) (IsFaulty (FitInside (field_view c.args.field.now)) (stripes_inside (field_view c.args.field.now) r d k) k (wants_inside (field_view c.args.field.now) d)) e some refl
     (λ cs s.
     let size = stand_length S xs cs s in
     (get_or cs 0 [], (stand_get S xs cs 0 c.index-sources-0.result some s, λ h. subst (λ f. IsFaulty (FitInside f) (stripes_inside f r d k) k (wants_inside f d) cs e) (sym is) (faulty_leaf_at (string_bytes c.in-Leaf.name) c.in-Leaf.repetition lt r d k cs (omega (arith, size, some)) e h))))
@@ -308,7 +318,7 @@ read_inside-returns-in_err-values-in-Group-clause-refused g t c =
     let is = ap field_view c.in-Group.is ∙ view_fields c.in-Group.name c.in-Group.repetition c.in-Group.annotation c.in-Group.fields in
     let told = subst (λ gs. IsRefusedFor S R xs ys (IsFaulty (FitEach (field_views gs)) (stripes_each (field_views gs) r d k) k (wants_each (field_views gs) d)) e) c.as_slice.ensures.value c.in_err-values-in-Group.ensures.refused in
     refused_ok _ c.from_residual-in_err-values-in-Group.result e c.from_residual-in_err-values-in-Group.ensures.1
-    (refused_same S R xs xs ys (IsFaulty (FitEach fs) (stripes_each fs r d k) k (wants_each fs d)) (IsFaulty (FitInside (field_view c.args.field.now)) (stripes_inside (field_view c.args.field.now) r d k) k (wants_inside (field_view c.args.field.now) d)) e (same_self S xs)
+    (refused_same S R xs xs ys (IsFaulty (FitEach fs) (stripes_each fs r d k) k (wants_each fs d)) (IsFaulty (FitInside (field_view c.args.field.now)) (stripes_inside (field_view c.args.field.now) r d k) k (wants_inside (field_view c.args.field.now) d)) e (same_self S xs) refl
     (λ cs s h. subst (λ f. IsFaulty (FitInside f) (stripes_inside f r d k) k (wants_inside f d) cs e) (sym is) (faulty_group (string_bytes c.in-Group.name) c.in-Group.repetition c.in-Group.annotation fs r d k cs e h)) told)
 
 pub read_inside-returns-in_ok-value-in-Leaf-clause-reads : goal.read_inside-returns-in_ok-value-in-Leaf-clause-reads
@@ -351,7 +361,7 @@ read_items-returns-in_err-item-clause-refused g t c =
     let k = c.args.place.own in
     let e = c.in_err-item.field-0.0 in
     refused_ok _ c.from_residual.result e c.from_residual.ensures.1
-    (refused_same S g.S.EntrySource.refused old old c.read_inside.new.sources (IsFaulty (FitInside f) (stripes_inside f r (d + 1) (k + 1)) (k + 1) (wants_inside f (d + 1))) (IsFaulty (FitItems f) (stripes_items f r d k) k (wants_inside f (d + 1))) e (same_self S old)
+    (refused_same S g.S.EntrySource.refused old old c.read_inside.new.sources (IsFaulty (FitInside f) (stripes_inside f r (d + 1) (k + 1)) (k + 1) (wants_inside f (d + 1))) (IsFaulty (FitItems f) (stripes_items f r d k) k (wants_inside f (d + 1))) e (same_self S old) refl
     (λ cs s h. subst (λ n. IsFaulty (FitItems f) (stripes_items f r d k) k (wants_inside f n) cs e) (sym (add-one d)) (items.first_faulty f c.requires.valid r d k cs e (one_more (λ m n. IsFaulty (FitInside f) (stripes_inside f r m n) n (wants_inside f m) cs e) d k h)))
     c.in_err-item.ensures.refused)
 
@@ -371,6 +381,7 @@ read_items-more-init g t c =
       fit = subst (FitItems f) one (items.fit_one f (view v) read.fits);
       onward = subst (λ vs. Onward S old now (λ b a. items.SoFar f r d k b a vs)) one (first_onward S f c.requires.valid r d k old now (view v) read);
       backward = subst (λ vs. Backward S old now (Fronts (stripes_items f r d k vs))) one (first_backward S f c.requires.valid r d k old now (view v) read);
+      kept = c.in_ok-item.ensures.kept;
       size = search rules;
     }
 
@@ -392,7 +403,7 @@ read_items-returns-in_err-has_item-clause-refused g t c =
     let k = c.args.place.own in
     let e = c.in_err-has_item.field-0.0 in
     refused_ok _ c.from_residual-in_err-has_item.result e c.from_residual-in_err-has_item.ensures.1
-    (refused_up S g.S.EntrySource.refused old ys xs ys (λ _. IsMemory) (IsFaulty (FitItems f) (stripes_items f r d k) k (wants_inside f (d + 1))) e (λ h. h)
+    (refused_up S g.S.EntrySource.refused old ys xs ys (λ _. IsMemory) (IsFaulty (FitItems f) (stripes_items f r d k) k (wants_inside f (d + 1))) e (λ h. h) (λ k. k ∙ c.more.invariant.kept)
     (λ cs s. let w = c.more.invariant.onward cs s in (w.0, (w.1.0, memory_only _ _ e))) c.in_err-has_item.ensures.refused)
 
 pub read_items-returns-then-not-branch-clause-reads : goal.read_items-returns-then-not-branch-clause-reads
@@ -419,7 +430,7 @@ read_items-returns-in_err-item-2-clause-refused g t c =
     let e = c.in_err-item-2.field-0.0 in
     let more : (cs : Columns) → AllStand S xs cs → HasItem (suc k) (first_of cs) true = λ cs s. subst (λ n. HasItem n (first_of cs) true) (add-one k) (subst (HasItem (k + 1) (first_of cs)) c.if-not-branch.false (c.in_ok-has_item.ensures.item cs s)) in
     refused_ok _ c.from_residual-in_err-item-2.result e c.from_residual-in_err-item-2.ensures.1
-    (refused_up S g.S.EntrySource.refused old new mid new (IsFaulty (FitInside f) (stripes_inside f (k + 1) (d + 1) (k + 1)) (k + 1) (wants_inside f (d + 1))) (IsFaulty (FitItems f) (stripes_items f r d k) k (wants_inside f (d + 1))) e (λ h. h)
+    (refused_up S g.S.EntrySource.refused old new mid new (IsFaulty (FitInside f) (stripes_inside f (k + 1) (d + 1) (k + 1)) (k + 1) (wants_inside f (d + 1))) (IsFaulty (FitItems f) (stripes_items f r d k) k (wants_inside f (d + 1))) e (λ h. h) (λ k. k ∙ c.in_ok-has_item.ensures.kept ∙ c.more.invariant.kept)
     (λ cs s.
     let w = c.more.invariant.onward cs s in (
       w.0,
@@ -451,8 +462,20 @@ read_items-more-preserved g t c =
       fit = subst (FitItems f) one (items.fit_snoc f (views vs) (view v) c.more.invariant.fit read.fits);
       onward = subst (λ us. Onward S old new (λ b a. items.SoFar f r d k b a us)) one (next_onward S f c.requires.valid r d k old xs mid new (views vs) (view v) c.has_item.ensures.same more c.more.invariant.onward read);
       backward = subst (λ us. Backward S old new (Fronts (stripes_items f r d k us))) one (next_backward S f c.requires.valid r d k old xs mid new (views vs) (view v) c.has_item.ensures.same c.more.invariant.fit c.more.invariant.backward read);
+      kept = c.in_ok-item-2.ensures.kept ∙ c.in_ok-has_item.ensures.kept ∙ c.more.invariant.kept;
       size = search rules;
     }
 
 pub read_items-returns-clause-refused : goal.read_items-returns-clause-refused
-read_items-returns-clause-refused g t c = inr (tt, λ cs s. tt)
+read_items-returns-clause-refused g t c = inr (c.more.invariant.kept, (tt, λ cs s. tt))
+
+pub read_fields-returns-in_err-push-clause-refused : goal.read_fields-returns-in_err-push-clause-refused
+read_fields-returns-in_err-push-clause-refused g t c =
+    let xs = c.loop-field.sources in
+    let used = c.loop-field.used in
+    let counts = c.loop-field.invariant.counts in
+    let fits = c.requires.room in
+    let size = c.loop-field.invariant.size in
+    let room : used ≤ length xs = omega (arith, counts, fits, size) in
+    refused_ok _ c.from_residual-in_err-push.result Memory c.from_residual-in_err-push.ensures.1
+    (inr (map_kept g.S.EntrySource.refused used xs c.read_field.new.sources room c.in_ok-value.ensures.kept ∙ c.loop-field.invariant.kept, (tt, λ cs s. tt)))

@@ -1,4 +1,4 @@
-use Rattle.std.proofs.Common.{◌≡◌, ◌+◌, ◌<◌, ◌^◌, length, drop}
+use Rattle.std.proofs.Common.{◌≡◌, ◌+◌, ◌<◌, ◌^◌, map, length, drop}
 use Rattle.schema.specs.Values.{views}
 use Rattle.schema.specs.Views.{field_view, field_views}
 use Rattle.schema.specs.Law.{AreValid}
@@ -18,6 +18,7 @@ invariant-read_fields-loop-field g l = record {
   counts : l.used + count_leaves_each (field_views (drop l.field-index l.fields)) ≡ count_leaves_each (field_views l.fields);
   valid : AreValid (field_views (drop l.field-index l.fields));
   deep : l.place.definition + tallest (field_views (drop l.field-index l.fields)) < 2 ^ 32;
+  kept : map g.S.EntrySource.refused l.sources ≡ map g.S.EntrySource.refused l.fn.sources;
   size : length l.sources ≡ length l.fn.sources;
 }
 
@@ -26,5 +27,6 @@ invariant-read_items-more g l = record {
   fit : FitItems (field_view l.field) (views l.items.items);
   onward : Onward g.S.EntrySource.stands l.fn.sources l.sources (λ old now. items.SoFar (field_view l.field) l.fn.place.repetition l.fn.place.definition l.fn.place.own old now (views l.items.items));
   backward : Backward g.S.EntrySource.stands l.fn.sources l.sources (Fronts (stripes_items (field_view l.field) l.fn.place.repetition l.fn.place.definition l.fn.place.own (views l.items.items)));
+  kept : map g.S.EntrySource.refused l.sources ≡ map g.S.EntrySource.refused l.fn.sources;
   size : length l.sources ≡ length l.fn.sources;
 }

@@ -1,9 +1,9 @@
-use Rattle.std.proofs.Common.{rules, ◌<◌, [], length, get_or, arith, refl, None}
+use Rattle.std.proofs.Common.{rules, ◌∙◌, ◌<◌, [], length, get_or, arith, refl, None}
 use Rattle.schema.specs.Stripe.{entry}
 use Rattle.assemble.specs.inner.Steps.{IsAbsentFaulty, IsSkipFaulty}
 use Rattle.assemble.specs.Standing.{IsRefusedFor}
 use Rattle.assemble.proofs.Skipping.{skip_step, skip_faulty}
-use Rattle.assemble.proofs.Standing.{set_on, set_back, stand_get, stand_length, refused_at, refused_ok}
+use Rattle.assemble.proofs.Standing.{set_on, set_back, kept_at, stand_get, stand_length, refused_at, refused_ok}
 use Rattle.assemble.proofs.reading.skip.Goals as goal
 
 pub returns-in_err-read_absent-clause-refused : goal.returns-in_err-read_absent-clause-refused
@@ -21,7 +21,7 @@ returns-in_err-read_absent-clause-refused g c =
     let e = c.in_err-read_absent.field-0.0 in
     let here : i < length xs = omega arith in
     refused_ok _ c.from_residual.result e c.from_residual.ensures.1
-    (refused_at S R old xs i x y (IsAbsentFaulty r d) (IsSkipFaulty r d n) e here
+    (refused_at S R old xs i x y (IsAbsentFaulty r d) (IsSkipFaulty r d n) e here c.loop-i.invariant.kept
     (λ cs s.
     let w = c.loop-i.invariant.onward cs s in
     let size = stand_length S xs w.0 w.1.0 in
@@ -40,6 +40,7 @@ loop-i-preserved g c =
     let here : i < length xs = omega arith in
     let taken = c.in_ok-read_absent.ensures.first in
     record {
+      kept = kept_at g.S.EntrySource.refused xs i x y here c.in_ok-read_absent.ensures.kept ∙ c.loop-i.invariant.kept;
       size = search rules;
       onward = λ cs s.
           let w = c.loop-i.invariant.onward cs s in
@@ -52,4 +53,4 @@ loop-i-preserved g c =
     }
 
 pub loop-i-init : goal.loop-i-init
-loop-i-init g c = record { size = search rules; onward = λ cs s. (cs, (s, refl)); backward = λ cs s. (cs, (s, refl)) }
+loop-i-init g c = record { kept = refl; size = search rules; onward = λ cs s. (cs, (s, refl)); backward = λ cs s. (cs, (s, refl)) }

@@ -15,6 +15,7 @@ pub more-init : goal.more-init
 more-init g c =
     let none = sym (ap rows_view c.new-rows.ensures.items) in
     record {
+      kept = refl;
       fit = subst (RowsFit c.args.schema.now) none tt;
       onward = λ cs s. (cs, (s, begins c.args.schema.now cs));
       backward = λ ds s. (ds, (s, subst (λ rows. Prior c.args.schema.now rows ds ds) none (λ rest e. e)));
@@ -25,7 +26,7 @@ returns-in_err-next_row-clause-which g c =
     let fs = c.args.schema.now in
     let e = c.in_err-next_row.field-0.0 in
     refused_ok _ c.from_residual.result e c.from_residual.ensures.1
-    (refused_up g.S.EntrySource.stands g.S.EntrySource.refused c.args.sources.now c.next_row.new.sources c.more.sources c.next_row.new.sources (HasFault fs) (HasFault fs) e (λ h. h)
+    (refused_up g.S.EntrySource.stands g.S.EntrySource.refused c.args.sources.now c.next_row.new.sources c.more.sources c.next_row.new.sources (HasFault fs) (HasFault fs) e (λ h. h) (λ k. k ∙ c.more.invariant.kept)
     (λ cs s. let w = c.more.invariant.onward cs s in (w.0, (w.1.0, faulty_rest fs cs w.0 e w.1.1))) c.in_err-next_row.ensures.row)
 
 pub returns-in_err-next_row-clause-only : goal.returns-in_err-next_row-clause-only
@@ -36,7 +37,7 @@ returns-in_err-next_row-clause-only g c =
     let e = c.in_err-next_row.field-0.0 in
     refused_ok _ c.from_residual.result e c.from_residual.ensures.1
     (only_faults S R c.args.sources.now c.next_row.new.sources fs e
-    (refused_up S R c.args.sources.now c.next_row.new.sources c.more.sources c.next_row.new.sources (HasFault fs) (HasFault fs) e (λ h. h)
+    (refused_up S R c.args.sources.now c.next_row.new.sources c.more.sources c.next_row.new.sources (HasFault fs) (HasFault fs) e (λ h. h) (λ k. k ∙ c.more.invariant.kept)
     (λ cs s. let w = c.more.invariant.onward cs s in (w.0, (w.1.0, faulty_rest fs cs w.0 e w.1.1))) c.in_err-next_row.ensures.row))
 
 pub more-preserved : goal.more-preserved
@@ -52,16 +53,17 @@ more-preserved g c =
     let read = subst (λ (o : Option Row). NextRow S R fs xs new (Ok o)) c.in-Some.is c.in_ok-next_row.ensures.row in
     let more = sym (ap rows_view c.in_ok-push-in-Some.ensures.items ∙ map-append row_view c.more.rows.items (c.in-Some.row ∷ [])) in
     record {
-      fit = subst (RowsFit fs) more (one_more_fits fs rows row c.more.invariant.fit read.0);
+      kept = read.0 ∙ c.more.invariant.kept;
+      fit = subst (RowsFit fs) more (one_more_fits fs rows row c.more.invariant.fit read.1.0);
       onward = λ cs s.
           let w = c.more.invariant.onward cs s in
-          let u = read.1.0 w.0 w.1.0 in
+          let u = read.1.1.0 w.0 w.1.0 in
           (u.0, (u.1.0, next fs cs w.0 u.0 row w.1.1 u.1.1));
       backward = λ ds s.
-          let u = read.1.1 ds s in
+          let u = read.1.1.1 ds s in
           let w = c.more.invariant.backward u.0 u.1.0 in
           (w.0, (w.1.0, subst (λ rs. Prior fs rs w.0 ds) more (prior_next fs w.0 u.0 ds rows row w.1.1 u.1.1)));
     }
 
 pub returns-clause-which : goal.returns-clause-which
-returns-clause-which g c = inr (tt, λ cs s. tt)
+returns-clause-which g c = inr (c.more.invariant.kept, (tt, λ cs s. tt))

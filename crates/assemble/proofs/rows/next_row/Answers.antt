@@ -1,4 +1,4 @@
-use Rattle.std.proofs.Common.{eqb-true, ◌≡◌, ◌∙◌, length, true, false, arith, sym, ap, subst, inr}
+use Rattle.std.proofs.Common.{eqb-true, ◌≡◌, ◌∙◌, length, true, false, arith, sym, ap, subst, inr, refl}
 use Rattle.std.proofs.lemmas.List.{length-map}
 use Rattle.schema.specs.Values.{views}
 use Rattle.schema.specs.Stripe.{leaves_of}
@@ -25,14 +25,17 @@ returns-then-sources-leaves g c =
     let some = has_leaves fs c.leaves-leaves.ensures.valid in
     record {
       row = inr (
-        tt,
-        λ cs s rows fit alike.
-            let same = other_number fs rows cs alike in
-            let size = stand_length g.S.EntrySource.stands xs cs s in
-            elim c.then-sources-leaves.branch [
-              | then-sources-leaves-via-then-sources-leaves w ↦ let ne = w.if-sources-leaves.true in ne (omega (arith, same, size, count))
-              | then-sources-leaves-via-else-sources-leaves+then-is_empty w ↦ let z : length xs ≡ 0 = eqb-true (length xs) 0 (sym w.if-is_empty.ensures) in omega (arith, z, same, size, some)
-            ],
+        refl,
+        (
+          tt,
+          λ cs s rows fit alike.
+              let same = other_number fs rows cs alike in
+              let size = stand_length g.S.EntrySource.stands xs cs s in
+              elim c.then-sources-leaves.branch [
+                | then-sources-leaves-via-then-sources-leaves w ↦ let ne = w.if-sources-leaves.true in ne (omega (arith, same, size, count))
+                | then-sources-leaves-via-else-sources-leaves+then-is_empty w ↦ let z : length xs ≡ 0 = eqb-true (length xs) 0 (sym w.if-is_empty.ensures) in omega (arith, z, same, size, some)
+              ],
+        ),
       );
     }
 
@@ -48,7 +51,7 @@ returns-in_err-check_ended g c =
     let none : (cs : Columns) → AllStand S old cs → HasItem 0 (first_of cs) false = λ cs s. subst (HasItem 0 (first_of cs)) c.if-not-branch.true (c.in_ok-has_item.ensures.item cs s) in
     record {
       row = next_err S R fs old new c.from_residual-in_err-check_ended.result e c.from_residual-in_err-check_ended.ensures.1
-          (refused_same S R old mid new (λ cs. Tells (Filled cs) ⊥) (HasFault fs) e c.has_item.ensures.same (λ cs s. not_ended fs (has_leaves fs c.leaves-leaves.ensures.valid) cs e (nothing_first (first_of cs) (none cs s))) c.in_err-check_ended.ensures.refused);
+          (refused_same S R old mid new (λ cs. Tells (Filled cs) ⊥) (HasFault fs) e c.has_item.ensures.same c.in_ok-has_item.ensures.kept (λ cs s. not_ended fs (has_leaves fs c.leaves-leaves.ensures.valid) cs e (nothing_first (first_of cs) (none cs s))) c.in_err-check_ended.ensures.refused);
     }
 
 pub returns-then-not-branch : goal.returns-then-not-branch
@@ -61,7 +64,7 @@ returns-then-not-branch g c =
     let kept = same_length S xs mid c.has_item.ensures.same in
     let same = c.if-sources-leaves.false in
     let ended = no_rows S (leaves_of fs) mid (omega (arith, count, kept, same)) c.in_ok-check_ended.ensures.ended in
-    record { row = (stand_back S xs mid _ c.has_item.ensures.same ended, same_then S xs mid c.check_ended.new.sources c.has_item.ensures.same c.check_ended.ensures.same) }
+    record { row = (c.in_ok-check_ended.ensures.kept ∙ c.in_ok-has_item.ensures.kept, (stand_back S xs mid _ c.has_item.ensures.same ended, same_then S xs mid c.check_ended.new.sources c.has_item.ensures.same c.check_ended.ensures.same)) }
 
 pub read_fields-requires-clause-room : goal.read_fields-requires-clause-room
 read_fields-requires-clause-room g c =
@@ -93,7 +96,7 @@ returns-in_err-values g c =
     let told = subst (λ gs. IsRefusedFor S R mid new (IsFaulty (FitEach gs) (stripes_each gs 0 0 0) 0 (wants_each gs 0)) e) c.fields.ensures c.in_err-values.ensures.refused in
     record {
       row = next_err S R fs old new c.from_residual-in_err-values.result e c.from_residual-in_err-values.ensures.1
-          (refused_same S R old mid new (IsFaulty (FitEach fs) (stripes_each fs 0 0 0) 0 (wants_each fs 0)) (HasFault fs) e c.has_item.ensures.same (λ cs s. faulty_row fs (has_leaves fs c.leaves-leaves.ensures.valid) cs e (more cs s)) told);
+          (refused_same S R old mid new (IsFaulty (FitEach fs) (stripes_each fs 0 0 0) 0 (wants_each fs 0)) (HasFault fs) e c.has_item.ensures.same c.in_ok-has_item.ensures.kept (λ cs s. faulty_row fs (has_leaves fs c.leaves-leaves.ensures.valid) cs e (more cs s)) told);
     }
 
 pub returns : goal.returns
@@ -107,10 +110,13 @@ returns g c =
     let read = subst (λ gs. Reads S (FitEach gs) (stripes_each gs 0 0 0) 0 mid new row) c.fields.ensures c.in_ok-values.ensures.reads in
     record {
       row = (
-        (read.fits, tt),
+        c.in_ok-values.ensures.kept ∙ c.in_ok-has_item.ensures.kept,
         (
-          λ cs s. let w = read.onward cs (stand_on S old mid cs c.has_item.ensures.same s) in (w.0, (w.1.0, is_first_row fs (has_leaves fs c.leaves-leaves.ensures.valid) cs w.0 row w.1.1)),
-          λ ds s. let w = read.backward ds s in (w.0, (stand_back S old mid w.0 c.has_item.ensures.same w.1.0, row_front fs row w.0 ds read.fits w.1.1)),
+          (read.fits, tt),
+          (
+            λ cs s. let w = read.onward cs (stand_on S old mid cs c.has_item.ensures.same s) in (w.0, (w.1.0, is_first_row fs (has_leaves fs c.leaves-leaves.ensures.valid) cs w.0 row w.1.1)),
+            λ ds s. let w = read.backward ds s in (w.0, (stand_back S old mid w.0 c.has_item.ensures.same w.1.0, row_front fs row w.0 ds read.fits w.1.1)),
+          ),
         ),
       );
     }
