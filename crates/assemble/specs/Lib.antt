@@ -1,0 +1,6 @@
+pub mod Sources
+pub mod Cursors
+pub mod Columns
+pub mod Standing
+pub mod RowsOf
+pub mod inner

@@ -1,0 +1,4 @@
+-- Definitions for private functions alone.
+pub mod Fronts
+pub mod ReadValues
+pub mod Steps

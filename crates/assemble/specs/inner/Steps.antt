@@ -1,0 +1,75 @@
+-- One entry off a column.
+use Rattle.std.specs.Prelude.{◌≡◌, ℕ, zero, suc, ◌<◌, ◌≤◌, ◌⊎◌, Bool, true, false, List, [], ◌∷◌, length, Option, Some, None}
+use Rattle.std.specs.List.{AllByRecursion}
+use Rattle.bits.specs.declared.refusal.Refusal.{Refusal}
+use Rattle.schema.specs.Annotations.{LeafType}
+use Rattle.schema.specs.Stripe.{Entry}
+use Rattle.assemble.specs.Sources.{Stands, Begins, NothingStands, StandsOnly, Same, Precede}
+use Rattle.assemble.specs.Columns.{Columns, Fronts, AreAlike, Want, Suits, AllSuit, Tells}
+use Rattle.assemble.specs.inner.Fronts.{nones}
+
+-- it is Memory
+abbrev pub IsMemory : Refusal → Type 0
+IsMemory = Tells ⊥ ⊥
+
+-- the entry is taken, or there is none
+abbrev pub IsTaken : Stands → Stands → Option Entry → Type 0
+IsTaken S T (Some e) = Precede (e ∷ []) S T
+IsTaken S T None = StandsOnly S []
+
+-- a refusal is the source's own, where nothing stood; or the source was not refused, it is Levels, Value or Memory, and P holds of it and of the entries that stood
+abbrev pub IsSourceRefusedFor : Stands → Option Refusal → Option Refusal → (List Entry → Refusal → Type 0) → Refusal → Type 0
+IsSourceRefusedFor S old new P e = ((new ≡ Some e) × NothingStands S) ⊎ ((new ≡ old) × (Tells (Unit {0}) (Unit {0}) e × ((es : List Entry) → S es → P es e)))
+
+-- Levels: the next entry has other levels, or there is none
+abbrev pub IsNotAt : ℕ → ℕ → List Entry → Refusal → Type 0
+IsNotAt r d es = Tells (Begins es r d → ⊥) ⊥
+
+-- Value: it has no value that fits
+abbrev pub IsLeafFaulty : ℕ → ℕ → LeafType → List Entry → Refusal → Type 0
+IsLeafFaulty r d t es = Tells (Begins es r d → ⊥) (AllByRecursion (Suits (record { full = d; leaf_type = t })) es → ⊥)
+
+-- Value: it has a value
+abbrev pub IsAbsentFaulty : ℕ → ℕ → List Entry → Refusal → Type 0
+IsAbsentFaulty r d es = Tells (Begins es r d → ⊥) ((w : Want) → d < w.full → AllByRecursion (Suits w) es → ⊥)
+
+-- the leaves of these have a greatest definition level above d
+abbrev pub AreAbove : ℕ → List Want → Type 0
+AreAbove d ws = AllByRecursion (λ (w : Want). d < w.full) ws
+
+-- of n columns one does not begin with an entry of these levels, or it has a value
+abbrev pub IsSkipFaulty : ℕ → ℕ → ℕ → Columns → Refusal → Type 0
+IsSkipFaulty r d n old = Tells ((whole rests : Columns) → AreAlike whole old → Fronts (nones r d n) whole rests → ⊥) ((ws : List Want) → length ws ≡ n → AreAbove d ws → AllSuit ws old → ⊥)
+
+abbrev pub first_of : Columns → List Entry
+first_of [] = []
+first_of (c ∷ cs) = c
+
+-- whether the first entry has a definition level of at most d
+abbrev pub IsMissing : ℕ → List Entry → Bool → Type 0
+IsMissing d [] b = ⊥
+IsMissing d (e ∷ es) true = e.definition ≤ d
+IsMissing d (e ∷ es) false = d < e.definition
+
+-- Levels: no entry is left
+abbrev pub NoneLeft : List Entry → Refusal → Type 0
+NoneLeft es = Tells (es ≡ []) ⊥
+
+-- whether there is an entry, with a repetition level of at least k
+abbrev pub HasItem : ℕ → List Entry → Bool → Type 0
+HasItem k [] true = ⊥
+HasItem k [] false = Unit {0}
+HasItem k (e ∷ es) true = k ≤ e.repetition
+HasItem k (e ∷ es) false = e.repetition < k
+
+-- of the first n columns none has an entry left
+abbrev pub Ended : {A : Type 0} → (A → List Entry → Type 0) → ℕ → List A → Type 0
+Ended S zero xs = Unit {0}
+Ended S (suc n) (x ∷ xs) = S x [] × Ended S n xs
+Ended S (suc n) [] = ⊥
+
+-- one of the columns has an entry
+abbrev pub Filled : Columns → Type 0
+Filled [] = ⊥
+Filled ([] ∷ cs) = Filled cs
+Filled ((e ∷ c) ∷ cs) = Unit {0}

@@ -1,0 +1,14 @@
+//! Columns of entries back to rows (Dremel's nested encoding: parquet.apache.org, "Nested Encoding").
+//!
+//! `specs/Sources.antt` says what a source of entries promises, `specs/Columns.antt` what the entries of a
+//! leaf should be, and `specs/RowsOf.antt` carries the contracts of the calls here.
+#![tactic(auto)]
+
+mod cursor;
+mod reading;
+mod rows;
+mod source;
+
+pub use cursor::Cursor;
+pub use rows::{assemble, assemble_from, next_row};
+pub use source::EntrySource;
