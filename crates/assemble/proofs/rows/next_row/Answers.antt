@@ -21,7 +21,7 @@ pub returns-then-sources-leaves : goal.returns-then-sources-leaves
 returns-then-sources-leaves g c =
     let fs = c.args.schema.now in
     let xs = c.args.sources.now in
-    let count : length c.leaves-leaves.result.now ≡ length (leaves_of fs) = sym (length-map c.leaves-leaves.result.now leaf_view) ∙ ap length c.leaves-leaves.ensures.is in
+    let count : length c.leaves-leaves.result.now ≡ length (leaves_of fs) = sym (length-map c.leaves-leaves.result.now leaf_view) ∙ ap length c.leaves-leaves.ensures.leaves_are in
     let some = has_leaves fs c.leaves-leaves.ensures.valid in
     record {
       row = inr (
@@ -60,7 +60,7 @@ returns-then-not-branch g c =
     let fs = c.args.schema.now in
     let xs = c.args.sources.now in
     let mid = c.has_item.new.sources in
-    let count : length c.leaves-leaves.result.now ≡ length (leaves_of fs) = sym (length-map c.leaves-leaves.result.now leaf_view) ∙ ap length c.leaves-leaves.ensures.is in
+    let count : length c.leaves-leaves.result.now ≡ length (leaves_of fs) = sym (length-map c.leaves-leaves.result.now leaf_view) ∙ ap length c.leaves-leaves.ensures.leaves_are in
     let kept = same_length S xs mid c.has_item.ensures.same in
     let same = c.if-sources-leaves.false in
     let ended = no_rows S (leaves_of fs) mid (omega (arith, count, kept, same)) c.in_ok-check_ended.ensures.ended in
@@ -70,7 +70,7 @@ pub read_fields-requires-clause-room : goal.read_fields-requires-clause-room
 read_fields-requires-clause-room g c =
     let fs = c.args.schema.now in
     let S = g.S.EntrySource.stands in
-    let count : length c.leaves-leaves.result.now ≡ length (leaves_of fs) = sym (length-map c.leaves-leaves.result.now leaf_view) ∙ ap length c.leaves-leaves.ensures.is in
+    let count : length c.leaves-leaves.result.now ≡ length (leaves_of fs) = sym (length-map c.leaves-leaves.result.now leaf_view) ∙ ap length c.leaves-leaves.ensures.leaves_are in
     let kept = same_length S c.args.sources.now c.has_item.new.sources c.has_item.ensures.same in
     let all : count_leaves_each (field_views c.fields.result.now) ≡ length (leaves_of fs) = ap count_leaves_each c.fields.ensures ∙ counts_are 0 fs in
     let same = c.if-sources-leaves.false in

@@ -21,7 +21,7 @@ loop-row-init c =
     let ls = c.leaves-leaves.result.now in
     let cs = c.in_ok-columns.columns.items in
     let n = length ls in
-    let many : length (leaves_of fs) ≡ n = sym (ap length c.leaves-leaves.ensures.is) ∙ length-map ls leaf_view in
+    let many : length (leaves_of fs) ≡ n = sym (ap length c.leaves-leaves.ensures.leaves_are) ∙ length-map ls leaf_view in
     record {
       grown = ap (λ t. grown t (columns fs rows)) c.in_ok-columns.ensures.empty ∙ grown_from_nils (columns fs rows) n (length-map (leaves_of fs) (λ (l : Leaf). column rows l.steps) ∙ many);
       fit = (λ h. h, λ h. h);
