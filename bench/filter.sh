@@ -1,6 +1,6 @@
 #!/bin/sh
-# Measures how many rows a second filters test: one comparison, an OR of three ANDs, and `in` with 10,000 numbers and
-# with 10,000 byte strings. Prints a line for each.
+# Measures how many rows a second filters test: one comparison of numbers and of byte strings, an OR of three ANDs,
+# and `in` with 10,000 numbers and with 10,000 byte strings. Prints a line for each.
 # The program bench/filter.rt.in is built by rt in a temporary folder, which is removed, over what the crates
 # have in out/: only a proved program is built, so that it takes long where the crates are not proved yet.
 set -eu
