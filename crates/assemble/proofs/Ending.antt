@@ -1,9 +1,9 @@
 -- The ends of sources.
-use Rattle.std.proofs.Common.{ℕ, zero, suc, ◌≡◌, ◌+◌, ◌<◌, List, [], ◌∷◌, map, length, get_or, refl, sym, subst, arith, add-one, None, Some, Option, Ok, true, false}
+use Rattle.std.proofs.Common.{ℕ, zero, suc, ◌≡◌, ◌+◌, ◌<◌, List, [], ◌∷◌, map, length, get_or, sym, subst, arith, add-one, None, Some, Option, Ok, true, false}
 use Rattle.std.specs.Option.{is_some}
 use Rattle.bits.specs.declared.refusal.Refusal.{Refusal}
 use Rattle.schema.specs.Stripe.{Entry, Leaf, column}
-use Rattle.assemble.specs.Sources.{Begins, Shows, Stands}
+use Rattle.assemble.specs.Sources.{Begins, Shows}
 use Rattle.assemble.specs.Columns.{Columns}
 use Rattle.assemble.specs.Standing.{AllStand}
 use Rattle.assemble.specs.inner.Steps.{Ended, Filled}

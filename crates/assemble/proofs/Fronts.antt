@@ -19,7 +19,7 @@ fronts_split (a ∷ A) B [] new h = absurd h
 fronts_split (a ∷ A) B (o ∷ old) [] h = absurd h
 fronts_split (a ∷ A) B (o ∷ old) (n ∷ new) h = let p = fronts_split A B old new h.1 in ((h.0, p.0), p.1)
 
--- the columns behind the stripes stay
+-- the columns after the stripes stay
 pub fronts_behind : (A old new : Columns) → Fronts A old new → drop (length A) old ≡ drop (length A) new
 fronts_behind [] old new h = h
 fronts_behind (a ∷ A) [] new h = absurd h
@@ -32,7 +32,7 @@ fronts_length (a ∷ A) [] new h = absurd h
 fronts_length (a ∷ A) (o ∷ old) [] h = absurd h
 fronts_length (a ∷ A) (o ∷ old) (n ∷ new) h = let k = fronts_length A old new h.1 in omega (arith, k)
 
--- two stripes of each column, one behind the other
+-- two stripes of each column, one after the other
 pub fronts_then : (f g : Leaf → List Entry) (ls : List Leaf) (old mid new : Columns) → Fronts (map f ls) old mid → Fronts (map g ls) mid new → Fronts (map (λ l. f l ++ g l) ls) old new
 fronts_then f g [] old mid new h k = h ∙ k
 fronts_then f g (l ∷ ls) [] mid new h k = absurd h
@@ -74,7 +74,7 @@ alike_drop n xs ys h = sym (drop-map (map level) n xs) ∙ ap (drop n) h ∙ dro
 pub alike_append : (xs ys us vs : Columns) → AreAlike xs ys → AreAlike us vs → AreAlike (xs ++ us) (ys ++ vs)
 alike_append xs ys us vs h k = map-append (map level) xs us ∙ ap (λ t. t ++ map (map level) us) h ∙ ap (λ t. map (map level) ys ++ t) k ∙ sym (map-append (map level) ys vs)
 
--- what is behind stripes of the same levels has the same levels
+-- what is after stripes of the same levels has the same levels
 rest_alike : (s t a b o w : List Entry) → map level s ≡ map level t → map level w ≡ map level o → o ≡ s ++ a → w ≡ t ++ b → map level b ≡ map level a
 rest_alike s t a b o w st wo io iw =
     append_cancel_left (map level t) (map level b) (map level a)

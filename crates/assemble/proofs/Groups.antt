@@ -1,5 +1,5 @@
 -- A group by its members, and a leaf by its column.
-use Rattle.std.proofs.Common.{ℕ, suc, ◌≡◌, ◌+◌, ◌<◌, true, List, [], ◌∷◌, ◌++◌, map, length, get_or, refl, ap, sym, subst, ◌∙◌, arith, Some, Option, inl, inr}
+use Rattle.std.proofs.Common.{ℕ, suc, ◌≡◌, ◌+◌, ◌<◌, true, List, [], ◌∷◌, ◌++◌, map, length, get_or, refl, ap, subst, ◌∙◌, arith, Some, Option}
 use Rattle.std.proofs.lemmas.List.{map-append}
 use Rattle.std.proofs.lemmas.Simd.{map-map}
 use Rattle.std.proofs.lemmas.Bool.{and_parts, false≢true}
@@ -13,8 +13,8 @@ use Rattle.schema.specs.Fits.{fits, fits_each, fits_leaf}
 use Rattle.schema.specs.Stripe.{Entry, entry, Leaf, below, leaves, leaves_from, stripe, stripe_as, greatest_definition}
 use Rattle.schema.proofs.LeafLaws.{when_group}
 use Rattle.schema.proofs.Determined.{At, At-first, At-next, At-whole}
-use Rattle.assemble.specs.Columns.{Columns, AreAlike, Want, AllSuit, level, Fronts, Suits}
-use Rattle.assemble.specs.inner.Fronts.{AreEnds, stripes_inside, stripes_each, wants_inside, wants_each, wants, FitInside, FitEach}
+use Rattle.assemble.specs.Columns.{Columns, AreAlike, Want, AllSuit, Fronts, Suits}
+use Rattle.assemble.specs.inner.Fronts.{stripes_inside, stripes_each, wants_inside, wants_each, wants, FitInside, FitEach}
 use Rattle.assemble.specs.inner.ReadValues.{HasLevels, IsRead, IsFaulty}
 use Rattle.assemble.specs.Sources.{Begins}
 use Rattle.assemble.specs.inner.Steps.{IsLeafFaulty}

@@ -1,7 +1,7 @@
 -- The items of a list, one by one.
-use Rattle.std.proofs.Common.{ℕ, suc, ◌≡◌, ◌+◌, ◌<◌, true, false, Bool, List, [], ◌∷◌, ◌++◌, map, length, refl, ap, sym, subst, ◌∙◌, arith, add-one, Option, append_assoc}
+use Rattle.std.proofs.Common.{ℕ, suc, ◌≡◌, ◌+◌, ◌<◌, true, false, Bool, List, [], ◌∷◌, ◌++◌, map, length, refl, ap, sym, subst, ◌∙◌, arith, add-one, append_assoc}
 use Rattle.std.specs.List.{AllByRecursion}
-use Rattle.std.proofs.lemmas.List.{append-nil, length-map, length-append}
+use Rattle.std.proofs.lemmas.List.{append-nil, length-map}
 use Rattle.std.proofs.lemmas.Bool.{and_parts}
 use Rattle.bits.specs.declared.refusal.Refusal.{Refusal}
 use Rattle.schema.specs.declared.value.Value.{Value}
@@ -49,7 +49,7 @@ items_snoc : (f : Field) (s : Striping) (vs : ValueTrees) (v : ValueTree) (r d k
 items_snoc f s no_values v r d k h = absurd h
 items_snoc f s (item u vs) v r d k h = ap (λ t. s u r (suc d) (suc k) ++ t) (later_snoc s vs v (suc d) (suc k)) ∙ sym (append_assoc (s u r (suc d) (suc k)) (later_items s vs (suc d) (suc k)) (s v (suc k) (suc d) (suc k)))
 
--- what comes behind an item
+-- what comes after an item
 ends_later : (P : ValueTree → Bool) (l : Leaf) → StartsAt P l → (vs : ValueTrees) → each P vs ≡ true → (d k : ℕ) (q : List Entry) → Ends k q → Ends (suc k) (later_items (stripe l.steps) vs d (suc k) ++ q)
 ends_later P l s no_values h d k [] e = tt
 ends_later P l s no_values h d k (x ∷ q) e = omega (arith, e)
@@ -81,7 +81,7 @@ pub record SoFar (f : Field) (r d k : ℕ) (old now : Columns) (vs : ValueTrees)
 pub one_more : (P : ℕ → ℕ → Type 0) (d k : ℕ) → P (d + 1) (k + 1) → P (suc d) (suc k)
 one_more P d k h = subst (λ n. P (suc d) n) (add-one k) (subst (λ n. P n (k + 1)) (add-one d) h)
 
--- an item, and the later ones behind it
+-- an item, and the later ones after it
 module _ (f : Field) (valid : IsValid f) (r d k : ℕ) where
   abbrev Inside : ℕ → ValueTree → Columns
   Inside q = stripes_inside f q (suc d) (suc k)

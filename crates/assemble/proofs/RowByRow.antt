@@ -7,7 +7,7 @@ use Rattle.schema.specs.declared.value.Repetition.TheVariants.{Required}
 use Rattle.std.specs.Result.{IsErrAnd}
 use Rattle.schema.specs.declared.row.Row.{Row}
 use Rattle.assemble.specs.Standing.{IsRefusedFor}
-use Rattle.assemble.specs.Columns.{Columns, level, AreAlike, Want, AllSuit, IsAmong, Tells, Fronts}
+use Rattle.assemble.specs.Columns.{Columns, level, AreAlike, Want, AllSuit, Tells, Fronts}
 use Rattle.assemble.specs.inner.Fronts.{Ends, AreEnds, stripes_each, wants_each, FitEach}
 use Rattle.assemble.specs.inner.Steps.{first_of, HasItem, Filled}
 use Rattle.assemble.specs.inner.ReadValues.{HasLevels, IsRead, IsFaulty}

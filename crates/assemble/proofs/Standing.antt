@@ -1,5 +1,5 @@
 -- Columns that sources stand for, after one source or some have changed.
-use Rattle.std.proofs.Common.{ℕ, zero, suc, ◌≡◌, ◌<◌, ◌≤◌, ◌+◌, ◌-◌, List, [], ◌∷◌, ◌++◌, ◌⊎◌, map, length, take, drop, get_or, refl, ap, sym, subst, ◌∙◌, arith, Some, Option, Result, Ok, Err, inl, inr}
+use Rattle.std.proofs.Common.{ℕ, zero, suc, ◌≡◌, ◌<◌, ◌≤◌, ◌-◌, List, [], ◌∷◌, ◌++◌, ◌⊎◌, map, length, take, drop, get_or, refl, ap, sym, subst, ◌∙◌, arith, Some, Option, Result, Ok, Err, inl, inr}
 use Rattle.std.specs.Result.{IsErrAnd, IfErr, IfOk}
 use Rattle.std.proofs.Math.ListN.{set}
 use Rattle.std.proofs.lemmas.List.{length-take-le, length-append}
@@ -9,7 +9,7 @@ use Rattle.bits.specs.declared.refusal.Refusal.TheVariants as refusal
 use Rattle.schema.specs.Stripe.{Entry}
 use Rattle.assemble.specs.Sources.{Same, Precede, NothingStands, Refuses, Keeps}
 use Rattle.assemble.specs.Columns.{Columns, IsAmong, Tells}
-use Rattle.assemble.specs.Standing.{AllStand, AllSame, NoneStand, IsRefusedFor}
+use Rattle.assemble.specs.Standing.{AllStand, AllSame, IsRefusedFor}
 use Rattle.assemble.specs.inner.Steps.{IsSourceRefusedFor}
 use Rattle.assemble.proofs.Slices.{tail_is, tail_put}
 use Rattle.assemble.proofs.Told.{tells_more}
@@ -182,7 +182,7 @@ module _ {A : Type 0} (S : A → List Entry → Type 0) where
 
     -- one source is refused
     pub refused_at : (old xs : List A) (i : ℕ) (x y : A) (F : List Entry → Refusal → Type 0) (G : Columns → Refusal → Type 0) (e : Refusal) → i < length xs → map R xs ≡ map R old
-        → ((cs : Columns) → AllStand S old cs → (es : List Entry) × (S (get_or xs i x) es × (F es e → G cs e))) → IsSourceRefusedFor (S (get_or xs i x)) (R (get_or xs i x)) (R y) F e → IsRefusedFor S R old (set xs i y) G e
+        → ((cs : Columns) → AllStand S old cs → (es : List Entry) × (S (get_or xs i x) es × (F es e → G cs e))) → IsSourceRefusedFor S R (get_or xs i x) y F e → IsRefusedFor S R old (set xs i y) G e
     refused_at old xs i x y F G e lt kept up (inl h) = inl (among_set R xs i y e lt h.0, λ cs s. let w = up cs s in h.1 w.0 w.1.0)
     refused_at old xs i x y F G e lt kept up (inr h) = inr (kept_at R xs i x y lt h.0 ∙ kept, (h.1.0, λ cs s. let w = up cs s in w.1.1 (h.1.1 w.0 w.1.0)))
 

@@ -1,19 +1,18 @@
 -- Values of one kind that are taken off sources are values of another.
-use Rattle.std.proofs.Common.{ℕ, suc, ◌≡◌, ◌+◌, ◌-◌, ◌<◌, ◌≤◌, List, [], ◌∷◌, ◌++◌, map, length, take, drop, get_or, refl, ap, sym, subst, ◌∙◌, arith, true, false, Some, None, Option}
+use Rattle.std.proofs.Common.{ℕ, suc, ◌≡◌, ◌+◌, ◌-◌, ◌<◌, ◌≤◌, List, [], ◌∷◌, ◌++◌, length, take, drop, get_or, ap, sym, subst, ◌∙◌, arith, true, false, Some, Option}
 use Rattle.std.proofs.Math.ListN.{set}
 use Rattle.std.proofs.lemmas.List.{length-take-le, length-append, take-append-drop}
 use borrow.Rule.Slice.PartMut.{put_mid, mid_of}
-use Rattle.bits.specs.declared.refusal.Refusal.{Refusal}
 use Rattle.schema.specs.declared.value.Repetition.{Repetition}
 use Rattle.schema.specs.declared.value.Repetition.TheVariants.{Required, Optional, Repeated}
 use Rattle.schema.specs.declared.annotation.GroupAnnotation.{GroupAnnotation}
 use Rattle.schema.specs.Annotations.{LeafType}
 use Rattle.schema.specs.Values.{ValueTree, ValueTrees, group, list, no_values, value as item}
-use Rattle.schema.specs.Shape.{Field, Fields, leaf, fields, field, no_fields, repetition_of}
+use Rattle.schema.specs.Shape.{Field, Fields, leaf, fields, field, repetition_of}
 use Rattle.schema.specs.Fits.{fits_leaf}
 use Rattle.schema.specs.Stripe.{Entry, entry}
 use Rattle.schema.specs.Law.{IsValid}
-use Rattle.schema.specs.Reading.{count_leaves, count_leaves_each}
+use Rattle.schema.specs.Reading.{count_leaves}
 use Rattle.schema.proofs.Determined.{At-whole}
 use Rattle.assemble.specs.Sources.{Precede}
 use Rattle.assemble.specs.Columns.{Columns, Fronts}

@@ -1,5 +1,5 @@
 -- The rows that columns have: parquet.apache.org, "Nested Encoding".
-use Rattle.std.specs.Prelude.{◌≡◌, ℕ, List, [], ◌∷◌, map, ◌⊎◌, ◌<◌, length, Option, Some, None, Result, Ok, Err}
+use Rattle.std.specs.Prelude.{◌≡◌, List, [], ◌∷◌, map, ◌⊎◌, ◌<◌, length, Option, Some, None, Result, Ok, Err}
 use Rattle.bits.specs.declared.refusal.Refusal.{Refusal}
 use Rattle.bits.specs.declared.refusal.Refusal.TheVariants.{Limit}
 use Rattle.schema.specs.declared.row.Row.{Row}
@@ -32,12 +32,16 @@ HasFault fs cs = Tells ((rows : List ValueTrees) → RowsFit fs rows → AreAlik
 -- the columns begin with those of the row, and fitting rows with the same levels are one row and rows with the levels of the others
 pub record IsFirstRow (fs : Fields) (row : ValueTrees) (old new : Columns) : Type 0 where
   pub front : Fronts (columns fs (row ∷ [])) old new
-  pub alone : (rows : List ValueTrees) → RowsFit fs rows → AreAlike (columns fs rows) old → (rest : List ValueTrees) × (RowsFit fs rest × AreAlike (columns fs rest) new)
+  pub alone :
+      (rows : List ValueTrees) → RowsFit fs rows → AreAlike (columns fs rows) old
+      → (rest : List ValueTrees) × (RowsFit fs rest × AreAlike (columns fs rest) new)
 
 -- the next row, or none where the sources stand for the columns of no rows
 abbrev pub NextRow : {A : Type 0} → (A → List Entry → Type 0) → (A → Option Refusal) → Fields → List A → List A → Result (Option Row) Refusal → Type 0
 NextRow S refused fs old new (Ok None) = (map refused new ≡ map refused old) × (AllStand S old (columns fs []) × AllSame S old new)
-NextRow S refused fs old new (Ok (Some row)) = (map refused new ≡ map refused old) × (RowsFit fs (row_view row ∷ []) × (Onward S old new (IsFirstRow fs (row_view row)) × Backward S old new (Fronts (columns fs (row_view row ∷ [])))))
+NextRow S refused fs old new (Ok (Some row)) =
+    (map refused new ≡ map refused old)
+    × (RowsFit fs (row_view row ∷ []) × (Onward S old new (IsFirstRow fs (row_view row)) × Backward S old new (Fronts (columns fs (row_view row ∷ [])))))
 NextRow S refused fs old new (Err e) = IsRefusedFor S refused old new (HasFault fs) e
 
 -- a column has more entries than it may have

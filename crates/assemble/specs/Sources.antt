@@ -36,7 +36,9 @@ Same S T = ((es : List Entry) → S es → T es) × ((es : List Entry) → T es 
 
 -- S stands for these entries followed by what T stands for
 abbrev pub Precede : List Entry → Stands → Stands → Type 0
-Precede first S T = ((rest : List Entry) → T rest → S (first ++ rest)) × ((es : List Entry) → S es → (rest : List Entry) × ((es ≡ first ++ rest) × T rest))
+Precede first S T =
+    ((rest : List Entry) → T rest → S (first ++ rest))
+    × ((es : List Entry) → S es → (rest : List Entry) × ((es ≡ first ++ rest) × T rest))
 
 -- a source that was refused before is refused so again
 abbrev pub Again : Option Refusal → Refusal → Type 0

@@ -3,7 +3,7 @@ use Rattle.std.specs.Prelude.{◌≡◌, List, [], ◌∷◌, map, ◌⊎◌, Op
 use Rattle.bits.specs.declared.refusal.Refusal.{Refusal}
 use Rattle.schema.specs.Stripe.{Entry}
 use Rattle.assemble.specs.Sources.{Same}
-use Rattle.assemble.specs.Columns.{Columns, Fronts, Tells, IsAmong}
+use Rattle.assemble.specs.Columns.{Columns, Tells, IsAmong}
 
 -- the sources stand for these columns
 abbrev pub AllStand : {A : Type 0} → (A → List Entry → Type 0) → List A → Columns → Type 0
@@ -29,7 +29,8 @@ Onward S old new R = (before : Columns) → AllStand S old before → (after : C
 abbrev pub Backward : {A : Type 0} → (A → List Entry → Type 0) → List A → List A → (Columns → Columns → Type 0) → Type 0
 Backward S old new R = (after : Columns) → AllStand S new after → (before : Columns) × (AllStand S old before × R before after)
 
--- a refusal is a source's own, and stays, where no columns stood; or no source was refused, it is Levels, Value or Memory, and P holds of it and of the columns that stood
+-- a refusal is a source's own, where no columns stood; or no source was refused, it is Levels, Value or Memory, and P holds of the columns that stood
 abbrev pub IsRefusedFor : {A : Type 0} → (A → List Entry → Type 0) → (A → Option Refusal) → List A → List A → (Columns → Refusal → Type 0) → Refusal → Type 0
 IsRefusedFor S refused old new P e =
-    (IsAmong e (map refused new) × NoneStand S old) ⊎ ((map refused new ≡ map refused old) × (Tells (Unit {0}) (Unit {0}) e × ((cs : Columns) → AllStand S old cs → P cs e)))
+    (IsAmong e (map refused new) × NoneStand S old)
+    ⊎ ((map refused new ≡ map refused old) × (Tells (Unit {0}) (Unit {0}) e × ((cs : Columns) → AllStand S old cs → P cs e)))

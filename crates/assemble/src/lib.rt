@@ -1,7 +1,8 @@
 //! Columns of entries back to rows (Dremel's nested encoding: parquet.apache.org, "Nested Encoding").
 //!
-//! `specs/Sources.antt` says what a source of entries promises, `specs/Columns.antt` what the entries of a
-//! leaf should be, and `specs/RowsOf.antt` carries the contracts of the calls here.
+//! `specs/Sources.antt` says what a source of entries promises, `specs/Standing.antt` what columns sources
+//! stand for, `specs/Columns.antt` what the entries of a leaf should be, and `specs/RowsOf.antt` which rows
+//! columns have.
 #![tactic(auto)]
 
 mod cursor;

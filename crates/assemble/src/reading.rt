@@ -8,10 +8,10 @@ ghost use Rattle.schema.specs.Law.{IsValid, AreValid};
 ghost use Rattle.schema.specs.Stripe.{entry};
 ghost use Rattle.schema.specs.Reading.{tall, tallest, count_leaves, count_leaves_each};
 ghost use Rattle.assemble.specs.Sources.{Precede};
-ghost use Rattle.assemble.specs.Columns.{Columns, Fronts, IsAmong};
-ghost use Rattle.assemble.specs.Standing.{AllStand, AllSame, NoneStand, Onward, Backward, IsRefusedFor};
-ghost use Rattle.assemble.specs.inner.Fronts.{stripes, stripes_inside, stripes_each, stripes_items, nones, wants, wants_inside, wants_each, Fit, FitInside, FitEach, FitItems};
-ghost use Rattle.assemble.specs.inner.ReadValues.{IsFaulty, Reads};
+ghost use Rattle.assemble.specs.Columns.{Columns, Fronts};
+ghost use Rattle.assemble.specs.Standing.{AllStand, AllSame, Onward, Backward, IsRefusedFor};
+ghost use Rattle.assemble.specs.inner.Fronts.{nones};
+ghost use Rattle.assemble.specs.inner.ReadValues.{ReadsField, ReadsInside, ReadsItems, ReadsEach, IsFieldFaulty, IsInsideFaulty, AreItemsFaulty, AreEachFaulty};
 ghost use Rattle.assemble.specs.inner.Steps.{IsMemory, IsTaken, IsSourceRefusedFor, IsNotAt, IsLeafFaulty, IsAbsentFaulty, IsSkipFaulty, IsMissing, NoneLeft, HasItem, first_of};
 
 use crate::source::EntrySource;
@@ -30,7 +30,7 @@ pub struct Place {
 /// The next entry, taken. The bytes of its value are copied once.
 fn taken<S: EntrySource>(alloc: Global, source: &mut S) -> R<Option<Entry>>
     ensures taken { IfOk result (λ o. IsTaken (S.stands source.old) (S.stands source.new) (option_map entry_view o)) }
-    ensures refused { IfErr result (IsSourceRefusedFor (S.stands source.old) (S.refused source.old) (S.refused source.new) (λ _. IsMemory)) }
+    ensures refused { IfErr result (IsSourceRefusedFor S.stands S.refused source.old source.new (λ _. IsMemory)) }
     ensures kept { OnOk result (S.refused source.new ≡ S.refused source.old) }
 {
     match source.next()? {
@@ -42,7 +42,7 @@ fn taken<S: EntrySource>(alloc: Global, source: &mut S) -> R<Option<Entry>>
 /// The next entry, which has these levels.
 fn entry_at<S: EntrySource>(alloc: Global, source: &mut S, place: Place) -> R<Option<Value>>
     ensures first { IfOk result (λ o. Precede (entry place.repetition place.definition (option_map view o)) (S.stands source.old) (S.stands source.new)) }
-    ensures refused { IfErr result (IsSourceRefusedFor (S.stands source.old) (S.refused source.old) (S.refused source.new) (IsNotAt place.repetition place.definition)) }
+    ensures refused { IfErr result (IsSourceRefusedFor S.stands S.refused source.old source.new (IsNotAt place.repetition place.definition)) }
     ensures kept { OnOk result (S.refused source.new ≡ S.refused source.old) }
 {
     match taken(alloc, source)? {
@@ -54,7 +54,7 @@ fn entry_at<S: EntrySource>(alloc: Global, source: &mut S, place: Place) -> R<Op
     }
 }
 
-/// The value of the next entry, which fits.
+/// The value of the next entry, which has these levels and fits.
 fn read_leaf<S: EntrySource>(
     alloc: Global,
     leaf_type: &LeafType,
@@ -63,7 +63,7 @@ fn read_leaf<S: EntrySource>(
 ) -> R<Value>
     ensures fits { IfOk result (λ v. fits_leaf (leaf_type_view leaf_type.now) (view v) ≡ true) }
     ensures first { IfOk result (λ v. Precede (entry place.repetition place.definition (Some (view v))) (S.stands source.old) (S.stands source.new)) }
-    ensures refused { IfErr result (IsSourceRefusedFor (S.stands source.old) (S.refused source.old) (S.refused source.new) (IsLeafFaulty place.repetition place.definition (leaf_type_view leaf_type.now))) }
+    ensures refused { IfErr result (IsSourceRefusedFor S.stands S.refused source.old source.new (IsLeafFaulty place.repetition place.definition (leaf_type_view leaf_type.now))) }
     ensures kept { OnOk result (S.refused source.new ≡ S.refused source.old) }
 {
     match entry_at(alloc, source, place)? {
@@ -72,10 +72,10 @@ fn read_leaf<S: EntrySource>(
     }
 }
 
-/// An entry without value.
+/// Takes the next entry, which has these levels and no value.
 fn read_absent<S: EntrySource>(alloc: Global, place: Place, source: &mut S) -> R<()>
     ensures first { IfOk result (λ _. Precede (entry place.repetition place.definition None) (S.stands source.old) (S.stands source.new)) }
-    ensures refused { IfErr result (IsSourceRefusedFor (S.stands source.old) (S.refused source.old) (S.refused source.new) (IsAbsentFaulty place.repetition place.definition)) }
+    ensures refused { IfErr result (IsSourceRefusedFor S.stands S.refused source.old source.new (IsAbsentFaulty place.repetition place.definition)) }
     ensures kept { OnOk result (S.refused source.new ≡ S.refused source.old) }
 {
     match entry_at(alloc, source, place)? {
@@ -108,7 +108,7 @@ fn count_leaves_each(fields: &[Field]) -> usize
     count
 }
 
-/// An entry without value off each of the first columns.
+/// Takes an entry without a value off each of the first columns.
 fn skip<S: EntrySource>(alloc: Global, count: usize, place: Place, sources: &mut [S]) -> R<()>
     requires { count ≤ length sources.old }
     ensures onward { IfOk result (λ _. Onward S.stands sources.old sources.new (Fronts (nones place.repetition place.definition count))) }
@@ -136,7 +136,7 @@ fn is_missing<S: EntrySource>(definition: u32, sources: &mut [S]) -> R<bool>
     }
 }
 
-/// Whether another item follows, of the list with this level of its own.
+/// Whether another item follows, of the list whose own level this is.
 pub fn has_item<S: EntrySource>(own: u32, sources: &mut [S]) -> R<bool>
     requires { 0 < length sources.old }
     ensures item { IfOk result (λ b. (cs : Columns) → AllStand S.stands sources.old cs → HasItem own (first_of cs) b) }
@@ -150,7 +150,7 @@ pub fn has_item<S: EntrySource>(own: u32, sources: &mut [S]) -> R<bool>
     }
 }
 
-/// What stands for a field, its repetition aside, and of how many leaves it is.
+/// What the value of a field is, its repetition aside, and how many leaves the field has.
 #[cycle(read)]
 fn read_inside<S: EntrySource>(
     alloc: Global,
@@ -162,8 +162,8 @@ fn read_inside<S: EntrySource>(
     requires room { count_leaves (field_view field.now) ≤ length sources.old }
     requires deep { place.definition + tall (field_view field.now) ≤ 2 ^ 32 }
     requires own { place.own ≤ place.definition }
-    ensures reads { let f = field_view field.now in IfOk result (λ x. Reads S.stands (FitInside f) (stripes_inside f place.repetition place.definition place.own) place.own sources.old sources.new (view x.0)) }
-    ensures refused { let f = field_view field.now in IfErr result (IsRefusedFor S.stands S.refused sources.old sources.new (IsFaulty (FitInside f) (stripes_inside f place.repetition place.definition place.own) place.own (wants_inside f place.definition))) }
+    ensures reads { IfOk result (λ x. ReadsInside S.stands (field_view field.now) place sources.old sources.new (view x.0)) }
+    ensures refused { IfErr result (IsRefusedFor S.stands S.refused sources.old sources.new (IsInsideFaulty (field_view field.now) place)) }
     ensures kept { OnOk result (map S.refused sources.new ≡ map S.refused sources.old) }
     ensures used { IfOk result (λ x. x.1 ≡ count_leaves (field_view field.now)) }
 {
@@ -179,7 +179,7 @@ fn read_inside<S: EntrySource>(
     }
 }
 
-/// The values of some fields, and of how many leaves they are.
+/// The values of some fields, and how many leaves they have.
 #[cycle(read)]
 pub fn read_fields<S: EntrySource>(
     alloc: Global,
@@ -191,8 +191,8 @@ pub fn read_fields<S: EntrySource>(
     requires room { count_leaves_each (field_views fields.now) ≤ length sources.old }
     requires deep { place.definition + tallest (field_views fields.now) < 2 ^ 32 }
     requires own { place.own ≤ place.definition }
-    ensures reads { let f = field_views fields.now in IfOk result (λ x. Reads S.stands (FitEach f) (stripes_each f place.repetition place.definition place.own) place.own sources.old sources.new (views x.0.items)) }
-    ensures refused { let f = field_views fields.now in IfErr result (IsRefusedFor S.stands S.refused sources.old sources.new (IsFaulty (FitEach f) (stripes_each f place.repetition place.definition place.own) place.own (wants_each f place.definition))) }
+    ensures reads { IfOk result (λ x. ReadsEach S.stands (field_views fields.now) place sources.old sources.new (views x.0.items)) }
+    ensures refused { IfErr result (IsRefusedFor S.stands S.refused sources.old sources.new (AreEachFaulty (field_views fields.now) place)) }
     ensures kept { OnOk result (map S.refused sources.new ≡ map S.refused sources.old) }
     ensures used { IfOk result (λ x. x.1 ≡ count_leaves_each (field_views fields.now)) }
 {
@@ -206,7 +206,7 @@ pub fn read_fields<S: EntrySource>(
     Ok((values, used))
 }
 
-/// The items of a list, one at least, and of how many leaves they are.
+/// The items of a list, one at least, and how many leaves the field has.
 #[cycle(read)]
 fn read_items<S: EntrySource>(
     alloc: Global,
@@ -218,8 +218,8 @@ fn read_items<S: EntrySource>(
     requires room { count_leaves (field_view field.now) ≤ length sources.old }
     requires deep { place.definition + tall (field_view field.now) < 2 ^ 32 }
     requires own { place.own ≤ place.definition }
-    ensures reads { let f = field_view field.now in IfOk result (λ x. Reads S.stands (FitItems f) (stripes_items f place.repetition place.definition place.own) place.own sources.old sources.new (views x.0.items)) }
-    ensures refused { let f = field_view field.now in IfErr result (IsRefusedFor S.stands S.refused sources.old sources.new (IsFaulty (FitItems f) (stripes_items f place.repetition place.definition place.own) place.own (wants_inside f (place.definition + 1)))) }
+    ensures reads { IfOk result (λ x. ReadsItems S.stands (field_view field.now) place sources.old sources.new (views x.0.items)) }
+    ensures refused { IfErr result (IsRefusedFor S.stands S.refused sources.old sources.new (AreItemsFaulty (field_view field.now) place)) }
     ensures kept { OnOk result (map S.refused sources.new ≡ map S.refused sources.old) }
     ensures used { IfOk result (λ x. x.1 ≡ count_leaves (field_view field.now)) }
 {
@@ -249,7 +249,7 @@ fn read_items<S: EntrySource>(
     Err(Refusal::Memory)
 }
 
-/// The value of a field, and of how many leaves it is.
+/// The value of a field, and how many leaves the field has.
 #[cycle(read)]
 fn read_field<S: EntrySource>(
     alloc: Global,
@@ -261,8 +261,8 @@ fn read_field<S: EntrySource>(
     requires room { count_leaves (field_view field.now) ≤ length sources.old }
     requires deep { place.definition + tall (field_view field.now) < 2 ^ 32 }
     requires own { place.own ≤ place.definition }
-    ensures reads { let f = field_view field.now in IfOk result (λ x. Reads S.stands (Fit f) (stripes f place.repetition place.definition place.own) place.own sources.old sources.new (view x.0)) }
-    ensures refused { let f = field_view field.now in IfErr result (IsRefusedFor S.stands S.refused sources.old sources.new (IsFaulty (Fit f) (stripes f place.repetition place.definition place.own) place.own (wants f place.definition))) }
+    ensures reads { IfOk result (λ x. ReadsField S.stands (field_view field.now) place sources.old sources.new (view x.0)) }
+    ensures refused { IfErr result (IsRefusedFor S.stands S.refused sources.old sources.new (IsFieldFaulty (field_view field.now) place)) }
     ensures kept { OnOk result (map S.refused sources.new ≡ map S.refused sources.old) }
     ensures used { IfOk result (λ x. x.1 ≡ count_leaves (field_view field.now)) }
 {

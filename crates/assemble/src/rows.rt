@@ -19,7 +19,7 @@ use std::alloc::Global;
 /// The most entries that a column may have.
 pub const MOST_ENTRIES: usize = 16_777_216;
 
-/// Refused Levels where something is left of one of the columns.
+/// Refused Levels where one of the sources has an entry left.
 fn check_ended<S: EntrySource>(sources: &mut [S]) -> R<()>
     ensures ended { OnOk result (Ended S.stands (length sources.old) sources.old) }
     ensures refused { IfErr result (IsRefusedFor S.stands S.refused sources.old sources.new (λ cs. Tells (Filled cs) ⊥)) }
@@ -35,11 +35,11 @@ fn check_ended<S: EntrySource>(sources: &mut [S]) -> R<()>
     Ok(())
 }
 
-/// The next row, or none at the end of all columns. Each value is moved or copied once.
+/// The next row, or none at the end of all columns. The bytes of each value are copied once.
 ///
-/// Refused with a source's own refusal; Levels where no rows have the levels of what is left; Value where
-/// an entry lacks its value, has one below the greatest definition level, or one that is not of the leaf's
-/// type. After a refusal, want of memory too, the sources may stand within a row.
+/// Refused with a source's own refusal; Levels where no rows have the levels of what the sources stand
+/// for; Value where an entry lacks its value, has one below the greatest definition level, or one that
+/// does not fit the leaf. After a refusal, Memory too, the sources may stand within a row.
 pub fn next_row<S: EntrySource>(alloc: Global, schema: &Schema, sources: &mut [S]) -> R<Option<Row>>
     ensures row { NextRow S.stands S.refused schema.now sources.old sources.new result }
 {
@@ -60,10 +60,9 @@ pub fn next_row<S: EntrySource>(alloc: Global, schema: &Schema, sources: &mut [S
     Ok(Some(Row { values }))
 }
 
-/// The rows with the columns that the sources would still give. Each value is moved or copied once, in
-/// one pass.
+/// All rows whose columns the sources stand for, in one pass.
 ///
-/// Refused as [`next_row`].
+/// Refused as [`next_row`], and not for the number of rows or entries: a source bounds that.
 pub fn assemble_from<S: EntrySource>(
     alloc: Global,
     schema: &Schema,
@@ -84,9 +83,10 @@ pub fn assemble_from<S: EntrySource>(
     Err(Refusal::Memory)
 }
 
-/// The rows with these columns.
+/// The rows with these columns, one for each leaf of the schema, in their order.
 ///
-/// Refused Limit for a column of more than 16,777,216 entries; Levels and Value as [`next_row`].
+/// Refused Limit for a column of more than 16,777,216 entries; otherwise Levels and Value as
+/// [`next_row`]. Takes one pass over the entries; the bytes of each value are copied once.
 pub fn assemble(alloc: Global, schema: &Schema, columns: &[Column]) -> R<Vec<Row>>
     ensures stands { IfOk result (λ rows. AreRowsOf schema.now (columns_view columns.now) (rows_view rows.items)) }
     ensures limit { LimitJustWhere (IsTooLong (columns_view columns.now)) result }

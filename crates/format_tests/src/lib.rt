@@ -5,6 +5,8 @@
 #![tactic(auto)]
 
 #[cfg(test)]
+mod assembling;
+#[cfg(test)]
 mod chunks_and_groups;
 #[cfg(test)]
 mod codecs;

@@ -4,7 +4,7 @@ use Rattle.std.specs.List.{AllByRecursion}
 use Rattle.bits.specs.declared.refusal.Refusal.{Refusal}
 use Rattle.schema.specs.Annotations.{LeafType}
 use Rattle.schema.specs.Stripe.{Entry}
-use Rattle.assemble.specs.Sources.{Stands, Begins, NothingStands, StandsOnly, Same, Precede}
+use Rattle.assemble.specs.Sources.{Stands, Begins, NothingStands, StandsOnly, Precede}
 use Rattle.assemble.specs.Columns.{Columns, Fronts, AreAlike, Want, Suits, AllSuit, Tells}
 use Rattle.assemble.specs.inner.Fronts.{nones}
 
@@ -17,9 +17,11 @@ abbrev pub IsTaken : Stands → Stands → Option Entry → Type 0
 IsTaken S T (Some e) = Precede (e ∷ []) S T
 IsTaken S T None = StandsOnly S []
 
--- a refusal is the source's own, where nothing stood; or the source was not refused, it is Levels, Value or Memory, and P holds of it and of the entries that stood
-abbrev pub IsSourceRefusedFor : Stands → Option Refusal → Option Refusal → (List Entry → Refusal → Type 0) → Refusal → Type 0
-IsSourceRefusedFor S old new P e = ((new ≡ Some e) × NothingStands S) ⊎ ((new ≡ old) × (Tells (Unit {0}) (Unit {0}) e × ((es : List Entry) → S es → P es e)))
+-- a refusal is the source's own, where nothing stood; or the source was not refused, it is Levels, Value or Memory, and P holds of the entries that stood
+abbrev pub IsSourceRefusedFor : {A : Type 0} → (A → List Entry → Type 0) → (A → Option Refusal) → A → A → (List Entry → Refusal → Type 0) → Refusal → Type 0
+IsSourceRefusedFor S refused old new P e =
+    ((refused new ≡ Some e) × NothingStands (S old))
+    ⊎ ((refused new ≡ refused old) × (Tells (Unit {0}) (Unit {0}) e × ((es : List Entry) → S old es → P es e)))
 
 -- Levels: the next entry has other levels, or there is none
 abbrev pub IsNotAt : ℕ → ℕ → List Entry → Refusal → Type 0
@@ -39,7 +41,9 @@ AreAbove d ws = AllByRecursion (λ (w : Want). d < w.full) ws
 
 -- of n columns one does not begin with an entry of these levels, or it has a value
 abbrev pub IsSkipFaulty : ℕ → ℕ → ℕ → Columns → Refusal → Type 0
-IsSkipFaulty r d n old = Tells ((whole rests : Columns) → AreAlike whole old → Fronts (nones r d n) whole rests → ⊥) ((ws : List Want) → length ws ≡ n → AreAbove d ws → AllSuit ws old → ⊥)
+IsSkipFaulty r d n old =
+    Tells ((whole rests : Columns) → AreAlike whole old → Fronts (nones r d n) whole rests → ⊥)
+    ((ws : List Want) → length ws ≡ n → AreAbove d ws → AllSuit ws old → ⊥)
 
 abbrev pub first_of : Columns → List Entry
 first_of [] = []

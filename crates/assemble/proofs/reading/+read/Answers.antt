@@ -4,20 +4,20 @@ use Rattle.std.proofs.lemmas.Result.{IfOk-weaker, IfErr-weaker}
 use borrow.Rule.Slice.PartMut.{put_mid, mid_of}
 use Rattle.bits.specs.declared.refusal.Refusal.TheVariants.{Memory}
 use Rattle.schema.specs.declared.value.Value.{Value, Group as value_group}
-use Rattle.schema.specs.Values.{view, views, list, no_values, value as item}
+use Rattle.schema.specs.Values.{view, views, list}
 use Rattle.schema.specs.Views.{field_view, field_views, leaf_type_view}
 use Rattle.schema.specs.Shape.{Field, fields}
 use Rattle.schema.specs.Law.{IsValid, AreValid}
 use Rattle.schema.specs.Reading.{tallest, count_leaves, count_leaves_each}
 use Rattle.schema.proofs.Forest.{field_place}
 use Rattle.assemble.specs.Columns.{Columns, Fronts}
-use Rattle.assemble.specs.Standing.{AllStand, AllSame, Onward, Backward, IsRefusedFor}
+use Rattle.assemble.specs.Standing.{AllStand, Onward, Backward, IsRefusedFor}
 use Rattle.assemble.specs.inner.Fronts.{stripes, stripes_inside, stripes_items, stripes_each, wants, wants_inside, wants_each, Fit, FitInside, FitItems, FitEach}
-use Rattle.assemble.specs.inner.ReadValues.{Reads, IsRead, IsFaulty}
+use Rattle.assemble.specs.inner.ReadValues.{Reads, IsFaulty}
 use Rattle.assemble.specs.inner.Steps.{IsSkipFaulty, IsMissing, HasItem, NoneLeft, IsLeafFaulty, IsMemory, first_of}
 use Rattle.assemble.proofs.Starting.{has_leaf}
 use Rattle.assemble.proofs.Readings.{count_is, faulty_required, faulty_present, faulty_list, faulty_missing, faulty_nothing, optional_is, other_missing, missing_value}
-use Rattle.assemble.proofs.Standing.{same_self, same_then, same_length, stand_length, stand_get, stand_on, part_stands, among_put, refused_up, refused_same, refused_at, refused_ok, none_ok}
+use Rattle.assemble.proofs.Standing.{same_self, stand_length, stand_get, stand_on, part_stands, among_put, refused_up, refused_same, refused_at, refused_ok, none_ok}
 use Rattle.assemble.proofs.Groups.{faulty_group, faulty_leaf_at}
 use Rattle.assemble.proofs.Items as items
 use Rattle.assemble.proofs.Items.{one_more, snoc, views-push}

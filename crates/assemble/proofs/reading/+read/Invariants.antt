@@ -2,7 +2,7 @@ use Rattle.std.proofs.Common.{◌≡◌, ◌+◌, ◌<◌, ◌^◌, map, length,
 use Rattle.schema.specs.Values.{views}
 use Rattle.schema.specs.Views.{field_view, field_views}
 use Rattle.schema.specs.Law.{AreValid}
-use Rattle.schema.specs.Reading.{tallest, count_leaves, count_leaves_each}
+use Rattle.schema.specs.Reading.{tallest, count_leaves_each}
 use Rattle.assemble.specs.Columns.{Fronts}
 use Rattle.assemble.specs.Standing.{Onward, Backward}
 use Rattle.assemble.specs.inner.Fronts.{FitItems, stripes_items}

@@ -1,4 +1,4 @@
-use Rattle.std.proofs.Common.{◌<◌, length, arith}
+use Rattle.std.proofs.Common.{arith}
 use Rattle.assemble.proofs.Standing.{same_set}
 use Rattle.assemble.proofs.reading.has_item.Goals as goal
 

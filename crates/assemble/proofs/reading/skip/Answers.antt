@@ -1,7 +1,6 @@
 use Rattle.std.proofs.Common.{rules, ◌∙◌, ◌<◌, [], length, get_or, arith, refl, None}
 use Rattle.schema.specs.Stripe.{entry}
 use Rattle.assemble.specs.inner.Steps.{IsAbsentFaulty, IsSkipFaulty}
-use Rattle.assemble.specs.Standing.{IsRefusedFor}
 use Rattle.assemble.proofs.Skipping.{skip_step, skip_faulty}
 use Rattle.assemble.proofs.Standing.{set_on, set_back, kept_at, stand_get, stand_length, refused_at, refused_ok}
 use Rattle.assemble.proofs.reading.skip.Goals as goal

@@ -1,12 +1,10 @@
-use Rattle.std.proofs.Common.{◌∙◌, ◌++◌, ◌∷◌, [], map, Option, Ok, sym, ap, subst, refl, inr}
+use Rattle.std.proofs.Common.{◌∙◌, ◌∷◌, [], Option, Ok, sym, ap, subst, refl, inr}
 use Rattle.std.proofs.lemmas.List.{map-append}
 use Rattle.schema.specs.declared.row.Row.{Row}
 use Rattle.schema.specs.Fits.{RowsFit}
-use Rattle.schema.specs.Stripe.{columns}
 use Rattle.schema.specs.Views.{rows_view, row_view}
-use Rattle.assemble.specs.Standing.{AllStand, Backward}
-use Rattle.assemble.specs.RowsOf.{HasFault, NextRow, StandForRows}
-use Rattle.assemble.proofs.RowByRow.{Prior, begins, next, prior_next, no_more, one_more_fits, faulty_rest}
+use Rattle.assemble.specs.RowsOf.{HasFault, NextRow}
+use Rattle.assemble.proofs.RowByRow.{Prior, begins, next, prior_next, one_more_fits, faulty_rest}
 use Rattle.assemble.proofs.Standing.{refused_up, refused_ok}
 use Rattle.assemble.proofs.WholeColumns.{only_faults}
 use Rattle.assemble.proofs.rows.assemble_from.Goals as goal

@@ -1,9 +1,6 @@
-use Rattle.std.proofs.Common.{rules, ◌∙◌, ◌<◌, ◌+◌, length, get_or, arith, [], inr, refl}
+use Rattle.std.proofs.Common.{rules, ◌∙◌, ◌<◌, length, get_or, arith, [], inr, refl}
 use Rattle.std.proofs.Math.ListN.{set}
-use Rattle.bits.specs.declared.refusal.Refusal.{Refusal}
-use Rattle.bits.specs.declared.refusal.Refusal.TheVariants.{Levels}
-use Rattle.assemble.specs.Columns.{Columns, Tells}
-use Rattle.assemble.specs.Standing.{AllStand}
+use Rattle.assemble.specs.Columns.{Tells}
 use Rattle.assemble.specs.inner.Steps.{Filled}
 use Rattle.assemble.proofs.Standing.{same_self, same_then, same_set, same_at, kept_at, stand_on, stand_get, stand_length, refused_ok, peek_refused}
 use Rattle.assemble.proofs.Told.{memory_only}
