@@ -225,7 +225,8 @@ fn rows_are_shredded_a_group_at_a_time(rt: HostRuntime) -> Result<(), Fail> {
     let alloc = rt.alloc();
     let schema = documents(alloc)?;
     let rows = both_documents(alloc)?;
-    let (first, second) = rows.as_slice().split_at(1);
+    let first = rows.as_slice().get(..1).unwrap_or(&[]);
+    let second = rows.as_slice().get(1..).unwrap_or(&[]);
     let earlier = shred(alloc, &schema, first)?;
     let later = shred(alloc, &schema, second)?;
     let none = shred(alloc, &schema, &[])?;
