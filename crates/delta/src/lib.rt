@@ -1,0 +1,17 @@
+//! The three delta encodings, from bytes and to bytes: numbers as differences (parquet-format,
+//! Encodings.md, "Delta Encoding"), and byte values by their lengths ("Delta-length byte array") or
+//! by what they share with the value before ("Delta Strings").
+//!
+//! `specs/Delta.antt` and `specs/ByteDeltas.antt` carry the contracts: which bytes stand for which
+//! values.
+#![tactic(auto)]
+
+mod blocks;
+mod header;
+mod integer;
+mod laws;
+mod reading;
+
+pub use integer::Integer;
+pub use laws::{one_byte_list, one_list, one_prefixed_list, worked_examples};
+pub use reading::{decode, decode_i32, decode_i64};
