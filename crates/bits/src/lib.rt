@@ -6,6 +6,7 @@
 #![tactic(auto)]
 
 mod codec;
+mod fault;
 mod lanes;
 mod laws;
 mod packing;
@@ -13,6 +14,7 @@ mod refusal;
 mod varint;
 
 pub use codec::ValueCodec;
+pub use fault::Fault;
 pub use laws::{one_number, one_packing};
 pub use packing::{pack, unpack, unpack_u32};
 pub use refusal::{R, Refusal};

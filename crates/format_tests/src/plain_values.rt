@@ -1,6 +1,6 @@
 use bits::{R, Refusal, ValueCodec};
 use plain::{Holds, Plain, decode, decode_to, encode, encoded_size};
-use schema::{Entry, Kind, Value, same};
+use schema::{Entry, Kind, Value, ValueRef, same};
 use std::alloc::Global;
 use std::test::*;
 
@@ -138,8 +138,31 @@ fn lent_values_are_written_where_they_lie(rt: HostRuntime) -> Result<(), Fail> {
 }
 
 /// The values of the texts' bytes, as each of `T` holds one.
-fn read_to<T: Holds>(alloc: Global, kind: Kind, n: usize) -> R<(Vec<T>, usize)> {
-    decode_to(alloc, kind, &TEXTS, n)
+fn read_to<'a, T: Holds<'a>>(
+    alloc: Global,
+    kind: Kind,
+    bytes: &'a [u8],
+    n: usize,
+) -> R<(Vec<T>, usize)> {
+    decode_to(alloc, kind, bytes, n)
+}
+
+#[test]
+fn borrowed_values_lie_in_the_bytes(rt: HostRuntime) -> Result<(), Fail> {
+    for (kind, n) in [(Kind::Int32, 2), (Kind::ByteArray, 2)] {
+        let (values, used) = decode(rt.alloc(), kind, &TEXTS, n)?;
+        let (borrowed, taken) = read_to::<ValueRef<'_>>(rt.alloc(), kind, &TEXTS, n)?;
+        assert_eq!(rt; (values.len(), used), (n, taken));
+        assert_eq!(rt; borrowed.len(), n);
+        for (it, value) in borrowed.iter().zip(&values) {
+            let owned = it.to_value(rt.alloc())?;
+            assert!(rt; same(&owned, value));
+        }
+        let mut out = Vec::new(rt.alloc());
+        encode(kind, borrowed.as_slice(), &mut out)?;
+        assert_eq!(rt; Some(out.as_slice()), TEXTS.get(..used));
+    }
+    Ok(())
 }
 
 #[test]
@@ -152,14 +175,14 @@ fn entries_hold_the_values_that_are_read_alone(rt: HostRuntime) -> Result<(), Fa
         (Kind::FixedLenByteArray(3), 3),
     ] {
         let (values, used) = decode(rt.alloc(), kind, &TEXTS, n)?;
-        let (entries, taken) = read_to::<Entry>(rt.alloc(), kind, n)?;
+        let (entries, taken) = read_to::<Entry>(rt.alloc(), kind, &TEXTS, n)?;
         assert_eq!(rt; (values.len(), used), (n, taken));
         assert_eq!(rt; entries.len(), n);
         for (entry, value) in entries.iter().zip(&values) {
             assert_eq!(rt; (entry.repetition, entry.definition), (0, 0));
             assert!(rt; matches!(&entry.value, Some(held) if same(held, value)));
         }
-        let cut = read_to::<Entry>(rt.alloc(), kind, usize::MAX);
+        let cut = read_to::<Entry>(rt.alloc(), kind, &TEXTS, usize::MAX);
         assert!(rt; matches!(cut, Err(Refusal::Truncated)));
     }
     Ok(())

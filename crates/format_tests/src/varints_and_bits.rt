@@ -1,6 +1,6 @@
 ghost use Rattle.std.specs.Prelude.{◌<◌, ◌≤◌, ◌^◌, All, IsTrue};
 
-use bits::{Refusal, pack, read_uleb, unpack, unzigzag, write_uleb, zigzag};
+use bits::{Refusal, pack, read_uleb, unpack, unpack_u32, unzigzag, write_uleb, zigzag};
 use std::test::*;
 
 #[test]
@@ -69,6 +69,30 @@ fn unpacked_numbers_are_the_bits_of_the_bytes(rt: HostRuntime) -> Result<(), Fai
             }
             if width > 0 {
                 let more = unpack(rt.alloc(), bytes.as_slice(), width, n.saturating_add(1));
+                assert!(rt; matches!(more, Err(Refusal::Truncated)));
+            }
+        }
+        bytes.push((37 * i % 256) as u8)?;
+    }
+    Ok(())
+}
+
+#[test]
+fn numbers_of_at_most_32_bits_are_the_same_as_u32(rt: HostRuntime) -> Result<(), Fail> {
+    let mut bytes = Vec::new(rt.alloc());
+    for i in 0..131u32 {
+        for width in 0..33u32 {
+            let room = (bytes.len() as u64).saturating_mul(8);
+            let n = room.checked_div(u64::from(width)).unwrap_or(5) as usize;
+            let numbers = unpack_u32(rt.alloc(), bytes.as_slice(), width, n)?;
+            assert_eq!(rt; numbers.len(), n);
+            for (at, number) in numbers.iter().enumerate() {
+                let start = at.wrapping_mul(width as usize);
+                let wanted = number_of_bits(bytes.as_slice(), start, width);
+                assert_eq!(rt; u64::from(*number), wanted);
+            }
+            if width > 0 {
+                let more = unpack_u32(rt.alloc(), bytes.as_slice(), width, n.saturating_add(1));
                 assert!(rt; matches!(more, Err(Refusal::Truncated)));
             }
         }

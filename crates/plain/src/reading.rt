@@ -44,7 +44,12 @@ pub fn decode(alloc: Global, kind: Kind, bytes: &[u8], n: usize) -> R<(Vec<Value
 /// As [`decode`], in its refusals and its cost too, with each value held by a `T`: a value itself,
 /// or an entry of a leaf without levels, as [`Holds`] says. So values are read to where they are to
 /// lie, with no other list of them.
-pub fn decode_to<T: Holds>(alloc: Global, kind: Kind, bytes: &[u8], n: usize) -> R<(Vec<T>, usize)>
+pub fn decode_to<'a, T: Holds<'a>>(
+    alloc: Global,
+    kind: Kind,
+    bytes: &'a [u8],
+    n: usize,
+) -> R<(Vec<T>, usize)>
     ensures stands { IfOk result (λ x. IsPlain kind n bytes.now (map T.held x.0.items) x.1) }
     ensures count { IfOk result (λ x. vec_len x.0 ≡ n) }
     ensures of_kind { IfOk result (λ x. All (IsOfKind kind) (map T.held x.0.items)) }
@@ -64,7 +69,7 @@ pub fn decode_to<T: Holds>(alloc: Global, kind: Kind, bytes: &[u8], n: usize) ->
 }
 
 /// The first `n` bits as booleans.
-fn booleans<T: Holds>(alloc: Global, bytes: &[u8], n: usize) -> R<(Vec<T>, usize)>
+fn booleans<'a, T: Holds<'a>>(alloc: Global, bytes: &'a [u8], n: usize) -> R<(Vec<T>, usize)>
     ensures stands { IfOk result (λ x. AreBooleans n bytes.now (map T.held x.0.items) x.1) }
     ensures count { IfOk result (λ x. vec_len x.0 ≡ n) }
     ensures made { IfOk result (λ x. All T.IsMade x.0.items) }
@@ -77,17 +82,17 @@ fn booleans<T: Holds>(alloc: Global, bytes: &[u8], n: usize) -> R<(Vec<T>, usize
     let mut values = Vec::with_capacity(alloc, n)?;
     for i in 0..n {
         let bit = (bytes[i / 8] >> (i % 8)) & 1;
-        values.push(T::hold(Value::Bool(bit == 1)))?;
+        values.push(T::of_bool(bit == 1))?;
     }
     Ok((values, n.div_ceil(8)))
 }
 
 /// The first `n` values of a type whose values take `size` bytes each.
-fn sized_values<T: Holds>(
+fn sized_values<'a, T: Holds<'a>>(
     alloc: Global,
     kind: Kind,
     size: usize,
-    bytes: &[u8],
+    bytes: &'a [u8],
     n: usize,
 ) -> R<(Vec<T>, usize)>
     requires { HasSize kind size }
@@ -109,27 +114,28 @@ fn sized_values<T: Holds>(
     let mut at = 0;
     for _ in 0..n {
         let value = sized_value(alloc, kind, &bytes[at..at + size])?;
-        values.push(T::hold(value))?;
+        values.push(value)?;
         at += size;
     }
     Ok((values, at))
 }
 
 /// The value whose spelling is the whole text.
-fn sized_value(alloc: Global, kind: Kind, text: &[u8]) -> R<Value>
+fn sized_value<'a, T: Holds<'a>>(alloc: Global, kind: Kind, text: &'a [u8]) -> R<T>
     requires { HasSize kind (length text.now) }
-    ensures stands { IfOk result (λ v. IsSpelled kind text.now (view v) (length text.now)) }
+    ensures stands { IfOk result (λ v. IsSpelled kind text.now (T.held v) (length text.now)) }
+    ensures made { IfOk result T.IsMade }
     ensures which { RefusedOnly (λ _. ⊥) result }
 {
-    Ok(match kind {
-        Kind::Int32 => Value::Int(i64::from(LittleEndian::read_i32(text))),
-        Kind::Int64 => Value::Int(LittleEndian::read_i64(text)),
-        _ => Value::Bytes(Vec::from_slice(alloc, text)?),
-    })
+    match kind {
+        Kind::Int32 => Ok(T::of_int(i64::from(LittleEndian::read_i32(text)))),
+        Kind::Int64 => Ok(T::of_int(LittleEndian::read_i64(text))),
+        _ => T::of_bytes(alloc, text),
+    }
 }
 
 /// The first `n` byte arrays.
-fn byte_arrays<T: Holds>(alloc: Global, bytes: &[u8], n: usize) -> R<(Vec<T>, usize)>
+fn byte_arrays<'a, T: Holds<'a>>(alloc: Global, bytes: &'a [u8], n: usize) -> R<(Vec<T>, usize)>
     ensures stands { IfOk result (λ x. AreInTurn (IsSpelled Kind.ByteArray) n bytes.now (map T.held x.0.items) x.1) }
     ensures count { IfOk result (λ x. vec_len x.0 ≡ n) }
     ensures made { IfOk result (λ x. All T.IsMade x.0.items) }
@@ -145,15 +151,16 @@ fn byte_arrays<T: Holds>(alloc: Global, bytes: &[u8], n: usize) -> R<(Vec<T>, us
             // Each length has four bytes. Bytes with no value at their front ask for no room.
             values.reserve(n.min(bytes.len() / 4))?;
         }
-        values.push(T::hold(value))?;
+        values.push(value)?;
         at += used;
     }
     Ok((values, at))
 }
 
 /// The byte array at the front, and how many bytes it takes with its length.
-fn byte_array(alloc: Global, bytes: &[u8]) -> R<(Value, usize)>
-    ensures stands { IfOk result (λ x. IsSpelled Kind.ByteArray bytes.now (view x.0) x.1) }
+fn byte_array<'a, T: Holds<'a>>(alloc: Global, bytes: &'a [u8]) -> R<(T, usize)>
+    ensures stands { IfOk result (λ x. IsSpelled Kind.ByteArray bytes.now (T.held x.0) x.1) }
+    ensures made { IfOk result (λ x. T.IsMade x.0) }
     ensures within { IfOk result (λ x. x.1 ≤ length bytes.now) }
     ensures only { OnFault result (NothingStands (IsSpelled Kind.ByteArray bytes.now)) }
     ensures which { RefusedOnly (λ e. (e ≡ Refusal.Truncated) ⊎ (e ≡ Refusal.Limit)) result }
@@ -170,6 +177,6 @@ fn byte_array(alloc: Global, bytes: &[u8]) -> R<(Value, usize)>
     if size > rest.len() {
         return Err(Refusal::Truncated);
     }
-    let text = Vec::from_slice(alloc, rest.split_at(size).0)?;
-    Ok((Value::Bytes(text), 4 + size))
+    let value = T::of_bytes(alloc, rest.split_at(size).0)?;
+    Ok((value, 4 + size))
 }

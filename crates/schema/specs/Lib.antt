@@ -16,3 +16,4 @@ pub mod Leafing
 pub mod Listed
 pub mod Cutting
 pub mod Keys
+pub mod Borrowed

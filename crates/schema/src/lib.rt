@@ -1,12 +1,14 @@
 //! Values of rows, the schema tree over them, and the orders of leaves.
 //!
-//! `specs/Values.antt` sees a [`Value`] as a tree and `specs/Views.antt` all else; `specs/Annotations.antt`
+//! `specs/Values.antt` sees a [`Value`] as a tree, `specs/Borrowed.antt` a borrowed one, and
+//! `specs/Views.antt` all else; `specs/Annotations.antt`
 //! has the annotations and which order they give, `specs/Fits.antt` what fits a schema,
 //! `specs/Stripe.antt` the columns of rows, `specs/Law.antt` what a schema is, `specs/Keys.antt` what key
 //! columns are, and a row with and without its key.
 #![tactic(auto)]
 
 mod annotation;
+mod borrowed;
 mod building;
 mod cutting;
 mod cutting_laws;
@@ -27,6 +29,7 @@ mod schema;
 mod value;
 
 pub use annotation::{Annotation, ConvertedType, GroupAnnotation, LeafType};
+pub use borrowed::{EntryRef, ValueRef};
 pub use cutting_laws::{a_cut_has_the_wanted_leaves, cut_rows_are_of_wanted_leaves};
 pub use element::Element;
 pub use field::{Field, Leaf, Step};
