@@ -7,7 +7,7 @@ use Rattle.std.proofs.lemmas.List.{append-nil}
 use Rattle.bits.specs.Varint.{IsUleb, zigzag_of}
 use Rattle.bits.specs.Codec.{NothingStands, InTurn}
 use Rattle.delta.specs.Delta.{IsMiniblock, IsBlock, AreBlocks, IsHeader, joined, sums, IsDelta}
-use Rattle.delta.specs.ByteDeltas.{IsByteLengths, IsPrefixed}
+use Rattle.delta.specs.ByteDeltas.{sizes, IsByteLengths, IsPrefixed}
 use Rattle.delta.proofs.Packed.{unpacked, length-unpacked, unpacked_is}
 use Rattle.delta.proofs.One.{one_delta, one_header}
 
@@ -156,7 +156,7 @@ less_than_nothing : IsDelta w32 (128 ∷ 1 ∷ 4 ∷ 1 ∷ 1 ∷ []) 1 (negsuc 0
 unfolding int_wrap
 less_than_nothing = without_blocks w32 1 5 (negsuc 0) _ (negsuc 0 ∷ []) (omega arith) (header 1 1 (negsuc 0) _ (omega arith) (short 1 _ (omega arith))) refl
 
-no_length : (values : List (List ℕ)) → map (λ value. pos (length value)) values ≡ negsuc 0 ∷ [] → ⊥
+no_length : (values : List (List ℕ)) → sizes values ≡ negsuc 0 ∷ [] → ⊥
 no_length [] same = cc
 no_length (v ∷ vs) same = cc
 

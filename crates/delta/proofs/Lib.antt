@@ -6,3 +6,4 @@ pub mod Wrap
 pub mod Sums
 pub mod Taking
 pub mod Gathering
+pub mod Cutting

@@ -6,11 +6,11 @@ use Rattle.std.specs.Int.{w32}
 use Rattle.std.proofs.lemmas.List.{take_at, drop_at}
 use Rattle.bits.specs.Codec.{IsFunctional}
 use Rattle.delta.specs.Delta.{IsDelta}
-use Rattle.delta.specs.ByteDeltas.{IsByteLengths, AreCompleted, IsPrefixed}
+use Rattle.delta.specs.ByteDeltas.{sizes, IsByteLengths, AreCompleted, IsPrefixed}
 use Rattle.delta.proofs.One.{one_delta}
 
 -- values of the same lengths that are joined to the front of the same bytes
-same_values : (xs ys : List (List ℕ)) (r s : List ℕ) → map (λ value. pos (length value)) xs ≡ map (λ value. pos (length value)) ys → concat xs ++ r ≡ concat ys ++ s → xs ≡ ys
+same_values : (xs ys : List (List ℕ)) (r s : List ℕ) → sizes xs ≡ sizes ys → concat xs ++ r ≡ concat ys ++ s → xs ≡ ys
 same_values [] [] r s sizes joined = refl
 same_values [] (y ∷ ys) r s sizes joined = cc
 same_values (x ∷ xs) [] r s sizes joined = cc
@@ -19,13 +19,13 @@ same_values (x ∷ xs) (y ∷ ys) r s sizes joined =
     let left : x ++ (concat xs ++ r) ≡ y ++ (concat ys ++ s) = sym (append_assoc x (concat xs) r) ∙ joined ∙ append_assoc y (concat ys) s in
     let here : x ≡ y = sym (take_at x (concat xs ++ r) (length x) refl) ∙ ap (λ (t : List ℕ). take (length x) t) left ∙ take_at y (concat ys ++ s) (length x) (sym size) in
     let rest : concat xs ++ r ≡ concat ys ++ s = sym (drop_at x (concat xs ++ r) (length x) refl) ∙ ap (λ (t : List ℕ). drop (length x) t) left ∙ drop_at y (concat ys ++ s) (length x) (sym size) in
-    let sizes_left : map (λ value. pos (length value)) xs ≡ map (λ value. pos (length value)) ys = cc in
+    let sizes_left : sizes xs ≡ sizes ys = cc in
     let others : xs ≡ ys = same_values xs ys r s sizes_left rest in
     cc (here, others)
 
 pub one_lengths : (n : ℕ) → IsFunctional (λ bytes. IsByteLengths bytes n)
 one_lengths n = λ bytes xs ys u v p q.
-    let o = one_delta w32 n bytes (map (λ value. pos (length value)) xs) (map (λ value. pos (length value)) ys) p.at q.at p.lengths q.lengths in
+    let o = one_delta w32 n bytes (sizes xs) (sizes ys) p.at q.at p.lengths q.lengths in
     let joined : concat xs ++ p.rest ≡ concat ys ++ q.rest = sym p.joined ∙ ap (λ (k : ℕ). drop k bytes) o.1 ∙ q.joined in
     let same : xs ≡ ys = same_values xs ys p.rest q.rest o.0 joined in
     (same, omega (arith, p.ends, q.ends, o.1, ap (λ (zs : List (List ℕ)). length (concat zs)) same))

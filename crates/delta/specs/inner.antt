@@ -1,2 +1,3 @@
 -- Definitions for private functions alone.
 pub mod Taken
+pub mod Cut

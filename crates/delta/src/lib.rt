@@ -10,8 +10,10 @@ mod blocks;
 mod header;
 mod integer;
 mod laws;
+mod lengths;
 mod reading;
 
 pub use integer::Integer;
 pub use laws::{one_byte_list, one_list, one_prefixed_list, worked_examples};
+pub use lengths::decode_lengths;
 pub use reading::{decode, decode_i32, decode_i64};
