@@ -1,9 +1,9 @@
 -- Values that are cut from the front of joined bytes.
-use Rattle.std.proofs.Common.{◌≡◌, ℕ, ◌+◌, ◌-◌, ◌<◌, ◌≤◌, List, [], ◌∷◌, ◌++◌, length, get_or, take, drop, map, refl, sym, ap, subst, ◌∙◌, arith, append_assoc, ◌⊎◌, inl, inr}
+use Rattle.std.proofs.Common.{◌≡◌, ℕ, ◌+◌, ◌<◌, ◌≤◌, List, [], ◌∷◌, ◌++◌, length, get_or, take, drop, map, refl, sym, ap, subst, ◌∙◌, arith, append_assoc, ◌⊎◌, inl, inr}
 use Rattle.std.specs.Prelude.{ℤ, pos}
 use Rattle.std.specs.List.{concat}
 use Rattle.std.specs.Int.{w32}
-use Rattle.std.proofs.lemmas.List.{append-nil, length-append, length-drop, length-take-le, map-append, take_more, take_all, drop_more, take-append-drop, drop_at, drop-drop}
+use Rattle.std.proofs.lemmas.List.{append-nil, length-append, length-take-le, map-append, take_more, take_all, drop_more, take-append-drop, drop_at, drop-drop}
 use Rattle.bits.specs.declared.refusal.Refusal.{Refusal}
 use Rattle.bits.specs.declared.refusal.Refusal.TheVariants.{Truncated, Thrift, Value, Limit, Memory}
 use Rattle.bits.specs.Refusals.{IsFault, HasCause, IsLimitJustWhere}

@@ -1,21 +1,15 @@
 -- Worked examples.
-use Rattle.std.proofs.Common.{◌≡◌, ℕ, zero, suc, ◌+◌, ◌*◌, ◌%◌, ◌<◌, ◌≤◌, List, [], ◌∷◌, ◌++◌, length, get_or, take, drop, map, refl, sym, ap, subst, ◌∙◌, arith}
+use Rattle.std.proofs.Common.{◌≡◌, ℕ, zero, suc, ◌+◌, ◌*◌, ◌<◌, ◌≤◌, List, [], ◌∷◌, length, take, drop, map, refl, sym, arith}
 use Rattle.std.specs.Prelude.{ℤ, pos, negsuc, ◌+ℤ◌, slice_index}
-use Rattle.std.specs.List.{concat, range_with_len}
 use Rattle.std.specs.Int.{Width, w32, w64, int_wrap}
 use Rattle.std.proofs.lemmas.List.{append-nil}
 use Rattle.bits.specs.Varint.{IsUleb, zigzag_of}
-use Rattle.bits.specs.Codec.{NothingStands, InTurn}
-use Rattle.delta.specs.Delta.{IsMiniblock, IsBlock, AreBlocks, IsHeader, joined, sums, IsDelta}
+use Rattle.bits.specs.Codec.{NothingStands}
+use Rattle.delta.specs.Delta.{IsMiniblock, IsHeader, joined, sums, IsDelta}
 use Rattle.delta.specs.ByteDeltas.{sizes, IsByteLengths, IsPrefixed}
 use Rattle.delta.proofs.Packed.{unpacked, length-unpacked, unpacked_is}
+use Rattle.delta.proofs.Varints.{short, two}
 use Rattle.delta.proofs.One.{one_delta, one_header}
-
-short : (n : ℕ) (rest : List ℕ) → n < 128 → IsUleb (n ∷ rest) n 1
-short n rest lt = record { begins = omega arith; within = omega arith; ten = omega arith; more = λ k below. absurd (omega arith); last = lt; number = omega arith; fits = omega arith }
-
-two : (a b n : ℕ) (rest : List ℕ) → 128 ≤ a → b < 128 → a < 256 → n ≡ a % 128 + 128 * b → IsUleb (a ∷ b ∷ rest) n 2
-two a b n rest high low byte is = record { begins = omega arith; within = omega arith; ten = omega arith; more = λ k below. let z : k ≡ 0 = omega arith in rw z high; last = low; number = omega arith; fits = omega arith }
 
 high : (rest : List ℕ) (k : ℕ) → k + 1 < 10 → 128 ≤ slice_index (255 ∷ 255 ∷ 255 ∷ 255 ∷ 255 ∷ 255 ∷ 255 ∷ 255 ∷ 255 ∷ 1 ∷ rest) k
 high rest zero lt = omega arith

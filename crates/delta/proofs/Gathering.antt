@@ -1,5 +1,5 @@
 -- What reading blocks gives.
-use Rattle.std.proofs.Common.{◌≡◌, ℕ, zero, suc, ◌+◌, ◌-◌, ◌*◌, ◌<◌, ◌≤◌, min, List, [], ◌∷◌, ◌++◌, length, take, drop, map, refl, sym, ap, subst, ◌∙◌, arith, inl, inr, append_assoc}
+use Rattle.std.proofs.Common.{◌≡◌, ℕ, ◌+◌, ◌-◌, ◌*◌, ◌<◌, ◌≤◌, min, List, [], ◌∷◌, ◌++◌, length, take, drop, refl, sym, ap, subst, ◌∙◌, arith, append_assoc}
 use Rattle.std.specs.Prelude.{ℤ, pos, ◌+ℤ◌}
 use Rattle.std.specs.Int.{Width, int_wrap}
 use Rattle.std.proofs.lemmas.List.{take_all, length-append, length-drop, length-take, length-take-le, append-nil, drop-drop, length-map, take-append-drop}
@@ -8,8 +8,8 @@ use Rattle.std.proofs.lemmas.Int.{ints}
 use Rattle.bits.specs.Codec.{NothingStands}
 use Rattle.bits.proofs.Loops.{Continues}
 use Rattle.bits.proofs.Loops as loops
-use Rattle.delta.specs.Delta.{IsMiniblock, AreMiniblocks, IsBlock, AreBlocks, IsHeader, joined, sums, IsDelta}
-use Rattle.delta.specs.inner.Taken.{Adds, IsTaken, AreNeeded}
+use Rattle.delta.specs.Delta.{AreMiniblocks, IsBlock, AreBlocks, IsHeader, joined, sums, IsDelta}
+use Rattle.delta.specs.inner.Taken.{IsTaken, AreNeeded}
 use Rattle.delta.proofs.One.{one_block, one_header, one_needed}
 use Rattle.delta.proofs.Sums.{length-sums, sums_front}
 use Rattle.delta.proofs.Taking.{take_both, miniblock_within}
@@ -43,7 +43,7 @@ blocks_count m s k bytes (ds ∷ blocks) u (i, j, some, is, more, u_is) =
     let sum : min m k + (k - m) ≡ k = omega arith in
     length-append ds (joined blocks) ∙ (let e : length ds + length (joined blocks) ≡ min m k * s + (k - m) * s = omega (arith, here, others) in e) ∙ sym (add-mul (min m k) (k - m) s) ∙ ap (λ (i : ℕ). i * s) sum
 
-joined_push : (front : List (List ℤ)) (ds : List ℤ) → joined (front ++ ds ∷ []) ≡ joined front ++ ds
+pub joined_push : (front : List (List ℤ)) (ds : List ℤ) → joined (front ++ ds ∷ []) ≡ joined front ++ ds
 joined_push [] ds = append-nil ds
 joined_push (x ∷ front) ds = ap (λ (t : List ℤ). x ++ t) (joined_push front ds) ∙ sym (append_assoc x (joined front) ds)
 

@@ -1,11 +1,11 @@
 -- A front of the bytes stands for at most one list of numbers.
-use Rattle.std.proofs.Common.{◌≡◌, ℕ, zero, suc, ◌+◌, ◌-◌, ◌*◌, ◌<◌, ◌≤◌, min, List, [], ◌∷◌, ◌++◌, length, get_or, take, drop, map, refl, sym, ap, subst, ◌∙◌, arith, inl, inr}
+use Rattle.std.proofs.Common.{◌≡◌, ℕ, zero, suc, ◌+◌, ◌-◌, ◌*◌, ◌<◌, ◌≤◌, min, List, [], ◌∷◌, ◌++◌, get_or, take, drop, map, refl, sym, ap, subst, ◌∙◌, arith, inl, inr}
 use Rattle.std.specs.Prelude.{ℤ, pos, ◌+ℤ◌}
 use Rattle.std.specs.Int.{Width}
 use Rattle.std.proofs.lemmas.Bool.{cases_lt}
 use Rattle.std.proofs.Math.Nat.{eq_of_mul-eq-mul_left}
 use Rattle.bits.specs.Varint.{IsUleb, zigzag_of}
-use Rattle.bits.specs.Codec.{IsFunctional, InTurn}
+use Rattle.bits.specs.Codec.{IsFunctional}
 use Rattle.bits.proofs.Facts.{one_uleb, one_zigzag, one_packing}
 use Rattle.bits.proofs.Turns.{one_turn}
 use Rattle.delta.specs.Delta.{IsMiniblock, AreMiniblocks, IsBlock, AreBlocks, IsHeader, joined, sums, IsDelta}

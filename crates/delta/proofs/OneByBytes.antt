@@ -1,26 +1,25 @@
 -- A front of the bytes stands for at most one list of byte values.
-use Rattle.std.proofs.Common.{◌≡◌, ℕ, ◌+◌, ◌<◌, ◌≤◌, List, [], ◌∷◌, ◌++◌, length, take, drop, map, refl, sym, ap, subst, ◌∙◌, arith, append_assoc}
-use Rattle.std.specs.Prelude.{ℤ, pos}
+use Rattle.std.proofs.Common.{◌≡◌, ℕ, List, [], ◌∷◌, ◌++◌, length, take, drop, map, refl, sym, ap, subst, ◌∙◌, arith, append_assoc}
+use Rattle.std.specs.Prelude.{pos}
 use Rattle.std.specs.List.{concat}
 use Rattle.std.specs.Int.{w32}
 use Rattle.std.proofs.lemmas.List.{take_at, drop_at}
 use Rattle.bits.specs.Codec.{IsFunctional}
-use Rattle.delta.specs.Delta.{IsDelta}
 use Rattle.delta.specs.ByteDeltas.{sizes, IsByteLengths, AreCompleted, IsPrefixed}
 use Rattle.delta.proofs.One.{one_delta}
 
 -- values of the same lengths that are joined to the front of the same bytes
 same_values : (xs ys : List (List ℕ)) (r s : List ℕ) → sizes xs ≡ sizes ys → concat xs ++ r ≡ concat ys ++ s → xs ≡ ys
-same_values [] [] r s sizes joined = refl
-same_values [] (y ∷ ys) r s sizes joined = cc
-same_values (x ∷ xs) [] r s sizes joined = cc
-same_values (x ∷ xs) (y ∷ ys) r s sizes joined =
+same_values [] [] r s counts joined = refl
+same_values [] (y ∷ ys) r s counts joined = cc
+same_values (x ∷ xs) [] r s counts joined = cc
+same_values (x ∷ xs) (y ∷ ys) r s counts joined =
     let size : length x ≡ length y = cc in
     let left : x ++ (concat xs ++ r) ≡ y ++ (concat ys ++ s) = sym (append_assoc x (concat xs) r) ∙ joined ∙ append_assoc y (concat ys) s in
     let here : x ≡ y = sym (take_at x (concat xs ++ r) (length x) refl) ∙ ap (λ (t : List ℕ). take (length x) t) left ∙ take_at y (concat ys ++ s) (length x) (sym size) in
     let rest : concat xs ++ r ≡ concat ys ++ s = sym (drop_at x (concat xs ++ r) (length x) refl) ∙ ap (λ (t : List ℕ). drop (length x) t) left ∙ drop_at y (concat ys ++ s) (length x) (sym size) in
-    let sizes_left : sizes xs ≡ sizes ys = cc in
-    let others : xs ≡ ys = same_values xs ys r s sizes_left rest in
+    let counts_left : sizes xs ≡ sizes ys = cc in
+    let others : xs ≡ ys = same_values xs ys r s counts_left rest in
     cc (here, others)
 
 pub one_lengths : (n : ℕ) → IsFunctional (λ bytes. IsByteLengths bytes n)

@@ -1,8 +1,8 @@
 -- What reading miniblocks gives.
-use Rattle.std.proofs.Common.{◌≡◌, ℕ, zero, suc, ◌+◌, ◌-◌, ◌*◌, ◌/◌, ◌%◌, ◌<◌, ◌≤◌, min, List, [], ◌∷◌, ◌++◌, length, get_or, take, drop, map, replicate, refl, sym, ap, subst, ◌∙◌, arith, inl, inr, append_assoc}
+use Rattle.std.proofs.Common.{◌≡◌, ℕ, zero, suc, ◌+◌, ◌-◌, ◌*◌, ◌/◌, ◌%◌, ◌<◌, ◌≤◌, min, List, [], ◌∷◌, ◌++◌, length, get_or, take, drop, replicate, refl, sym, ap, subst, ◌∙◌, arith, inl, inr, append_assoc}
 use Rattle.std.specs.Prelude.{ℤ, pos, ◌+ℤ◌, slice_range, slice_index}
 use Rattle.std.specs.Int.{Width}
-use Rattle.std.proofs.lemmas.List.{take_all, length-append, length-drop, length-take-le, append-nil, take-append-le, map-append, drop-drop, drop_more, length-replicate, length-map, take-map, drop_all}
+use Rattle.std.proofs.lemmas.List.{take_all, length-append, length-drop, length-take-le, append-nil, take-append-le, map-append, drop-drop, drop_more, take-map, drop_all}
 use Rattle.std.proofs.Math.Seq.{take-append-add}
 use Rattle.std.proofs.Math.Nat.{mul-le-mul_right}
 use Rattle.std.proofs.lemmas.Bool.{cases_lt}

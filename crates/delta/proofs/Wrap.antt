@@ -1,8 +1,8 @@
 -- Sums that wrap.
 use Rattle.std.proofs.Common.{◌≡◌, ℕ, suc, ◌+◌, ◌-◌, ◌%◌, ◌^◌, ◌<◌, refl, sym, ap, subst, ◌∙◌, arith, to_z, of_z, FitsSigned}
-use Rattle.std.specs.Prelude.{ℤ, pos, negsuc, ◌+ℤ◌}
+use Rattle.std.specs.Prelude.{ℤ, pos, negsuc, ◌+ℤ◌, ◌-ℤ◌}
 use Rattle.std.specs.Int.{Width, w32, w64, int_wrap, cast_signed, cast_unsigned}
-use Rattle.std.proofs.lemmas.Int.{wrapping_add_is, int_wrap-add_left, int_wrap-add_right, SFits-int_wrap, of_z-to_z, to_z-of_z, int_wrap_fits}
+use Rattle.std.proofs.lemmas.Int.{wrapping_add_is, int_wrap-add_left, int_wrap-add_right, SFits-int_wrap, of_z-to_z, to_z-of_z, int_wrap_fits, ints}
 
 -- a number and the bits of another
 step_is : (a z : ℤ) (b : ℕ) → FitsSigned w64 a → b < 2 ^ 64 → to_z w64 b ≡ int_wrap w64 z → to_z w64 ((of_z w64 a + b) % 2 ^ 64) ≡ int_wrap w64 (a +ℤ z)
@@ -61,3 +61,34 @@ narrowed z r fits is =
     let e : r ≡ int_wrap w32 z = is ∙ bits_are z fits in
     let there : FitsSigned w32 r = subst (λ (y : ℤ). FitsSigned w32 y) (sym e) (SFits-int_wrap w32 z) in
     to_z-of_z w32 r there ∙ e
+
+-- what leads from a number to the next
+leads_on : (a b least : ℤ) → (a +ℤ least) +ℤ ((b -ℤ a) -ℤ least) ≡ b
+leads_on a b least = omega (arith, ints)
+
+regrouped : (a least x : ℤ) → a +ℤ (least +ℤ x) ≡ (a +ℤ least) +ℤ x
+regrouped a least x = omega (arith, ints)
+
+differs : (w : Width) (a b least : ℤ) → int_wrap w ((a +ℤ least) +ℤ (int_wrap w (b -ℤ a) -ℤ least)) ≡ int_wrap w b
+differs w a b least =
+    ap (int_wrap w) (moved (int_wrap w (b -ℤ a)) a least) ∙ int_wrap-add_left w (b -ℤ a) a ∙ ap (int_wrap w) (back a b)
+  where
+    moved : (d a least : ℤ) → (a +ℤ least) +ℤ (d -ℤ least) ≡ d +ℤ a
+    moved d a least = omega (arith, ints)
+
+    back : (a b : ℤ) → (b -ℤ a) +ℤ a ≡ b
+    back a b = omega (arith, ints)
+
+pub leads : (w : Width) (a b least delta gap : ℤ) (number : ℕ) → delta ≡ int_wrap w (b -ℤ a) → gap ≡ int_wrap w (delta -ℤ least) → int_wrap w (pos number) ≡ gap → FitsSigned w b
+    → int_wrap w (a +ℤ (least +ℤ pos number)) ≡ b
+leads w a b least delta gap number delta_is gap_is number_is fits =
+    ap (int_wrap w) (regrouped a least (pos number)) ∙ sym (int_wrap-add_right w (a +ℤ least) (pos number)) ∙ ap (λ (z : ℤ). int_wrap w ((a +ℤ least) +ℤ z)) (number_is ∙ gap_is)
+    ∙ int_wrap-add_right w (a +ℤ least) (delta -ℤ least) ∙ ap (λ (z : ℤ). int_wrap w ((a +ℤ least) +ℤ (z -ℤ least))) delta_is ∙ differs w a b least ∙ int_wrap_fits w b fits
+
+-- the bits of a number of 64 bits, and of 32 bits
+pub wide_bits : (z : ℤ) (n : ℕ) → FitsSigned w64 z → n < 2 ^ 64 → n ≡ cast_unsigned w64 z → int_wrap w64 (pos n) ≡ z
+wide_bits z n fits lt is = sym (signed_is n lt) ∙ ap (cast_signed w64) is ∙ to_z-of_z w64 z fits
+
+pub narrow_bits : (z : ℤ) (n : ℕ) → FitsSigned w32 z → n < 2 ^ 32 → n ≡ cast_unsigned w32 z → int_wrap w32 (pos n) ≡ z
+unfolding int_wrap
+narrow_bits z n fits lt is = ap (cast_signed w32) (let e : n % 2 ^ 32 ≡ n = omega arith in e) ∙ ap (cast_signed w32) is ∙ to_z-of_z w32 z fits

@@ -12,8 +12,10 @@ mod integer;
 mod laws;
 mod lengths;
 mod reading;
+mod writing;
 
 pub use integer::Integer;
 pub use laws::{one_byte_list, one_list, one_prefixed_list, worked_examples};
 pub use lengths::decode_lengths;
 pub use reading::{decode, decode_i32, decode_i64};
+pub use writing::{encode_i32, encode_i64};

@@ -11,6 +11,8 @@ mod codecs;
 #[cfg(test)]
 mod copies;
 #[cfg(test)]
+mod deltas;
+#[cfg(test)]
 mod element_types;
 #[cfg(test)]
 mod faults;

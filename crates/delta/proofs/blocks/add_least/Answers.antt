@@ -1,5 +1,5 @@
-use Rattle.std.proofs.Common.{◌≡◌, ℕ, List, ◌+◌, ◌-◌, ◌++◌, ◌∷◌, [], ◌∙◌, get_or, length, map, replicate, ap, subst, sym, arith}
-use Rattle.std.specs.Prelude.{ℤ, pos}
+use Rattle.std.proofs.Common.{◌≡◌, ℕ, List, ◌-◌, ◌++◌, ◌∷◌, [], ◌∙◌, get_or, length, map, replicate, ap, subst, sym, arith}
+use Rattle.std.specs.Prelude.{pos}
 use Rattle.std.specs.Int.{w64, cast_signed, cast_unsigned}
 use Rattle.delta.specs.inner.Taken.{Adds, deltas_of}
 use Rattle.delta.proofs.Sums.{adds_number, pushed_seen, last_pushed, replicate_push}

@@ -1,9 +1,9 @@
-use Rattle.std.proofs.Common.{◌≡◌, ℕ, List, ◌+◌, ◌-◌, ◌++◌, ◌∷◌, [], ◌∙◌, get_or, length, map, take, ap, subst, sym, arith}
-use Rattle.std.specs.Prelude.{ℤ, pos}
+use Rattle.std.proofs.Common.{◌≡◌, ℕ, List, ◌-◌, ◌++◌, ◌∷◌, [], ◌∙◌, get_or, length, map, take, ap, subst, sym, arith}
+use Rattle.std.specs.Prelude.{pos}
 use Rattle.std.specs.Int.{w64, cast_signed, cast_unsigned}
 use Rattle.std.proofs.lemmas.List.{take_more}
 use Rattle.delta.specs.inner.Taken.{Adds, deltas_of}
-use Rattle.delta.proofs.Sums.{adds_number, pushed_seen, last_pushed, last_seen}
+use Rattle.delta.proofs.Sums.{adds_number, pushed_seen, last_pushed}
 use Rattle.delta.proofs.blocks.add_numbers.Goals as goal
 
 pub loop-number-preserved : goal.loop-number-preserved

@@ -1,4 +1,4 @@
-use Rattle.std.proofs.Common.{◌≡◌, ℕ, List, ◌+◌, ◌≤◌, ◌∙◌, length, map, take, drop, ap, subst, sym, arith, rules, FitsSigned}
+use Rattle.std.proofs.Common.{◌≡◌, ℕ, List, ◌+◌, ◌≤◌, ◌∙◌, length, map, take, drop, ap, subst, arith, rules, FitsSigned}
 use Rattle.std.specs.Prelude.{ℤ}
 use Rattle.std.specs.Int.{w64}
 use Rattle.std.proofs.lemmas.Int.{to_z-of_z}

@@ -1,7 +1,6 @@
 use Rattle.std.proofs.Common.{◌≡◌, ℕ, List, [], ◌∷◌, ◌*◌, ◌%◌, length, get_or, ap, refl, arith, ◌∙◌, sym}
 use Rattle.std.specs.Prelude.{ℤ}
 use Rattle.bits.specs.Refusals.{IsFault}
-use Rattle.bits.specs.Codec.{InTurn}
 use Rattle.bits.specs.Varint.{IsUleb, zigzag_of}
 use Rattle.bits.proofs.Facts.{one_uleb}
 use Rattle.bits.proofs.Passing.{passes}

@@ -1,10 +1,8 @@
-use Rattle.std.proofs.Common.{◌≡◌, ℕ, List, ◌+◌, ◌∙◌, drop, map, ap, subst, sym}
+use Rattle.std.proofs.Common.{List, map, subst}
 use Rattle.std.specs.Prelude.{ℤ}
-use Rattle.std.specs.Int.{w32}
 use Rattle.bits.specs.Refusals.{IsFault}
 use Rattle.bits.specs.Codec.{NothingStands}
 use Rattle.bits.proofs.Passing.{passes, passes_limit}
-use Rattle.delta.specs.Delta.{IsDelta}
 use Rattle.delta.specs.ByteDeltas.{IsByteLengths, IsCutLong, IsLengthsOver}
 use Rattle.delta.specs.inner.Cut.{AreCut, NoneAreCut}
 use Rattle.delta.proofs.Cutting.{lengths_stand, lengths_none, lengths_over, lengths_not_over, faults_only, turn_limit}

@@ -1,9 +1,8 @@
-use Rattle.std.proofs.Common.{◌≡◌, ℕ, List, [], ◌∷◌, ◌+◌, ◌-◌, ◌*◌, ◌<◌, ◌≤◌, ◌∙◌, min, length, map, drop, ap, subst, sym, arith, rules, FitsSigned}
+use Rattle.std.proofs.Common.{◌≡◌, ℕ, List, ◌+◌, ◌-◌, ◌*◌, ◌<◌, ◌∙◌, min, length, map, drop, ap, subst, sym, arith, rules, FitsSigned}
 use Rattle.std.specs.Prelude.{ℤ}
-use Rattle.std.specs.Vec.{vec_len}
 use Rattle.std.specs.Int.{w64, int_wrap}
 use Rattle.std.proofs.lemmas.Int.{to_z-of_z}
-use Rattle.std.proofs.lemmas.List.{length-map, length-drop}
+use Rattle.std.proofs.lemmas.List.{length-map}
 use Rattle.bits.specs.Refusals.{IsFault}
 use Rattle.bits.specs.Codec.{NothingStands}
 use Rattle.bits.proofs.Passing.{passes}

@@ -1,7 +1,6 @@
 use Rattle.std.proofs.Common.{◌<◌, ◌≤◌, map}
 use Rattle.std.specs.Vec.{vec_len}
 use Rattle.delta.proofs.Gathering.{IsGathering}
-use Rattle.delta.specs.inner.Taken.{AreNeeded}
 use Rattle.delta.proofs.reading.decode.Given as goal
 
 abbrev pub invariant-blocks-2 : goal.invariant-blocks-2
