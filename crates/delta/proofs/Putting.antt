@@ -12,9 +12,9 @@ use Rattle.bits.specs.Bits.{IsPadded, packed_size}
 use Rattle.bits.specs.Codec.{InTurn, Appends}
 use Rattle.bits.specs.Varint.{IsUleb, IsShortestUleb, zigzag_of}
 use Rattle.bits.proofs.Appending.{appends_both, appends_turn}
-use Rattle.delta.specs.Delta.{IsMiniblock, AreMiniblocks, IsBlock, AreBlocks, IsHeader, joined, sums, IsDelta}
+use Rattle.delta.specs.Delta.{IsMiniblock, AreMiniblocks, IsBlock, AreBlocks, IsHeader, joined, sums, IsDelta, most_bytes}
 use Rattle.delta.specs.inner.Taken.{Adds, deltas_of}
-use Rattle.delta.specs.inner.Put.{most_bytes, block_count, PutDeltas}
+use Rattle.delta.specs.inner.Put.{block_count, PutDeltas}
 use Rattle.delta.proofs.Sums.{sums_front, adds_nothing, adds_both}
 use Rattle.delta.proofs.Taking.{take_both}
 use Rattle.delta.proofs.Gathering.{joined_push}

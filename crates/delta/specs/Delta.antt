@@ -1,7 +1,7 @@
 -- Numbers as differences, packed in blocks of miniblocks: parquet-format, Encodings.md, "Delta Encoding" (DELTA_BINARY_PACKED).
 use Rattle.std.specs.Prelude.{◌≡◌, ℕ, ◌+◌, ◌-◌, ◌*◌, ◌%◌, ◌<◌, ◌≤◌, min, List, [], ◌∷◌, ◌++◌, length, take, drop, map, ℤ, pos, ◌+ℤ◌}
 use Rattle.std.specs.List.{range_with_len}
-use Rattle.std.specs.Int.{Width, int_wrap}
+use Rattle.std.specs.Int.{Width, int_wrap, byte_len}
 use Rattle.bits.specs.Bits.{IsPacked}
 use Rattle.bits.specs.Varint.{IsUleb, zigzag_of}
 use Rattle.bits.specs.Codec.{InTurn}
@@ -74,3 +74,7 @@ pub record IsDelta (w : Width) (bytes : List ℕ) (n : ℕ) (values : List ℤ) 
   pub spelled : AreBlocks miniblocks size needed (drop at bytes) blocks body
   pub stands_for : values ≡ sums w first (joined blocks) n
   pub ends : used ≡ at + body
+
+-- how many bytes n numbers take at most
+abbrev pub most_bytes : Width → ℕ → ℕ
+most_bytes w n = 42 + 32 * byte_len w + (byte_len w + 1) * n

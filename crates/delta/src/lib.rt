@@ -7,6 +7,7 @@
 #![tactic(auto)]
 
 mod blocks;
+mod codec;
 mod header;
 mod integer;
 mod laws;
@@ -14,6 +15,7 @@ mod lengths;
 mod reading;
 mod writing;
 
+pub use codec::Delta;
 pub use integer::Integer;
 pub use laws::{one_byte_list, one_list, one_prefixed_list, worked_examples};
 pub use lengths::decode_lengths;

@@ -4,9 +4,9 @@ ghost use Rattle.std.specs.Prelude.{◌≡◌, ℕ, ◌+◌, ◌-◌, ◌*◌, �
 ghost use Rattle.std.specs.Int.{w32, w64, byte_len, int_wrap};
 ghost use Rattle.bits.specs.Refusals.{RefusedMemoryOnly};
 ghost use Rattle.bits.specs.Codec.{Appends};
-ghost use Rattle.delta.specs.Delta.{IsMiniblock, AreMiniblocks, IsBlock, AreBlocks, IsDelta};
+ghost use Rattle.delta.specs.Delta.{IsMiniblock, AreMiniblocks, IsBlock, AreBlocks, IsDelta, most_bytes};
 ghost use Rattle.delta.specs.inner.Taken.{Adds, deltas_of};
-ghost use Rattle.delta.specs.inner.Put.{Extends, most_bytes, PutDeltas};
+ghost use Rattle.delta.specs.inner.Put.{Extends, PutDeltas};
 
 use crate::integer::Integer;
 use bits::{R, pack, write_uleb, zigzag};
@@ -35,7 +35,7 @@ pub fn encode_i64(values: &[i64], out: &mut Vec<u8>) -> R<()>
 }
 
 /// Writes the numbers at the end of `out`.
-fn encode<T: Integer>(values: &[T], out: &mut Vec<u8>) -> R<()>
+pub fn encode<T: Integer>(values: &[T], out: &mut Vec<u8>) -> R<()>
     ensures stands { let seen = map T.seen values.now in OnOk result (Appends (λ bytes. IsDelta T.width bytes (length seen) seen) (most_bytes T.width (length seen)) out.old.items out.new.items) }
     ensures which { RefusedMemoryOnly result }
     ensures unchanged { OnErr result (out.new.items ≡ out.old.items) }

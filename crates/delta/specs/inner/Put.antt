@@ -9,10 +9,6 @@ use Rattle.delta.specs.inner.Taken.{Adds}
 abbrev pub Extends : List ℕ → List ℕ → Type 0
 Extends old new = (text : List ℕ) × (new ≡ old ++ text)
 
--- how many bytes n numbers take at most
-abbrev pub most_bytes : Width → ℕ → ℕ
-most_bytes w n = 42 + 32 * byte_len w + (byte_len w + 1) * n
-
 -- how many of the values from index `at` on a block has
 abbrev pub block_count : List ℤ → ℕ → ℕ
 block_count values at = min (length values - at) 128

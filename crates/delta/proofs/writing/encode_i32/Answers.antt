@@ -3,8 +3,7 @@ use Rattle.std.specs.Prelude.{ℤ, OnOk}
 use Rattle.std.specs.Int.{w32}
 use Rattle.std.proofs.lemmas.List.{map-id}
 use Rattle.bits.specs.Codec.{Appends}
-use Rattle.delta.specs.Delta.{IsDelta}
-use Rattle.delta.specs.inner.Put.{most_bytes}
+use Rattle.delta.specs.Delta.{IsDelta, most_bytes}
 use Rattle.delta.proofs.writing.encode_i32.Goals as goal
 
 pub returns-clause-stands : goal.returns-clause-stands
