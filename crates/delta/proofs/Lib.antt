@@ -9,3 +9,4 @@ pub mod Taking
 pub mod Gathering
 pub mod Cutting
 pub mod Putting
+pub mod Joining

@@ -12,6 +12,7 @@ mod header;
 mod integer;
 mod laws;
 mod lengths;
+mod put_lengths;
 mod reading;
 mod writing;
 
@@ -19,5 +20,6 @@ pub use codec::Delta;
 pub use integer::Integer;
 pub use laws::{one_byte_list, one_list, one_prefixed_list, worked_examples};
 pub use lengths::decode_lengths;
+pub use put_lengths::encode_lengths;
 pub use reading::{decode, decode_i32, decode_i64};
 pub use writing::{encode_i32, encode_i64};

@@ -1,5 +1,5 @@
 use bits::Refusal;
-use delta::{decode_i32, decode_i64, decode_lengths, encode_i32, encode_i64};
+use delta::{decode_i32, decode_i64, decode_lengths, encode_i32, encode_i64, encode_lengths};
 use schema::{Value, ValueRef};
 use std::alloc::Global;
 use std::test::*;
@@ -187,6 +187,22 @@ fn values_are_read_by_their_lengths(rt: HostRuntime) -> Result<(), Fail> {
     assert!(rt; matches!(values[1], ValueRef::Bytes(text) if text == b"bb".as_slice()));
     let cut = decode_lengths::<Value>(rt.alloc(), &THREE_VALUES[..20], 3);
     assert!(rt; matches!(cut, Err(Refusal::Truncated)));
+    Ok(())
+}
+
+#[test]
+fn values_are_written_after_their_lengths(rt: HostRuntime) -> Result<(), Fail> {
+    let values = [
+        ValueRef::Bytes(b"a".as_slice()),
+        ValueRef::Bytes(b"bb".as_slice()),
+        ValueRef::Bytes(b"".as_slice()),
+    ];
+    let mut out = vec![in rt.alloc(); 7_u8; 1]?;
+    encode_lengths(values.as_slice(), &mut out)?;
+    assert_eq!(rt; &out.as_slice()[1..], THREE_VALUES.as_slice());
+    let refused = encode_lengths([ValueRef::Int(1)].as_slice(), &mut out);
+    assert!(rt; matches!(refused, Err(Refusal::Value)));
+    assert_eq!(rt; out.len(), 22);
     Ok(())
 }
 
