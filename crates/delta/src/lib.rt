@@ -1,9 +1,9 @@
-//! The three delta encodings, from bytes and to bytes: numbers as differences (parquet-format,
-//! Encodings.md, "Delta Encoding"), and byte values by their lengths ("Delta-length byte array") or
-//! by what they share with the value before ("Delta Strings").
+//! Numbers as differences (parquet-format, Encodings.md, "Delta Encoding") and byte values by their
+//! lengths ("Delta-length byte array"), from bytes and to bytes.
 //!
 //! `specs/Delta.antt` and `specs/ByteDeltas.antt` carry the contracts: which bytes stand for which
-//! values.
+//! values. They also define byte values by what they share with the value before ("Delta Strings"),
+//! which are not read or written yet.
 #![tactic(auto)]
 
 mod blocks;
