@@ -1,0 +1,23 @@
+use Rattle.std.proofs.Common.{◌≡◌, ℕ, List, ◌-◌, ◌++◌, ◌∷◌, [], ◌∙◌, get_or, length, map, take, ap, subst, sym, arith}
+use Rattle.std.specs.Prelude.{pos}
+use Rattle.std.specs.Int.{w64, cast_signed, cast_unsigned}
+use Rattle.std.proofs.lemmas.List.{take_more}
+use Rattle.delta.specs.inner.Taken.{Adds, deltas_of}
+use Rattle.delta.proofs.Sums.{adds_number, pushed_seen, last_pushed}
+use Rattle.delta.proofs.blocks.add_numbers.Goals as goal
+
+pub loop-number-preserved : goal.loop-number-preserved
+loop-number-preserved g c =
+    let seen = g.T.Integer.seen in
+    let w = g.T.Integer.width in
+    let least = cast_signed w64 (cast_unsigned w64 c.args.least) in
+    let at = c.loop-number.number-index in
+    let xs = c.args.numbers.now in
+    let values = c.loop-number.values.items in
+    let put : map seen c.push.new.self.items ≡ map seen values ++ seen c.step-sum.result ∷ [] = ap (λ t. map seen t) c.in_ok-push.ensures.items ∙ pushed_seen seen values c.step-sum.result in
+    record {
+      some = omega (arith, c.in_ok-push.ensures.len, c.loop-number.invariant.some, ap (λ t. length t) put);
+      last = ap (λ t. get_or (map seen t) (length (map seen t) - 1) (pos 0)) c.in_ok-push.ensures.items ∙ last_pushed seen values c.step-sum.result;
+      added = subst (λ (t : List ℕ). Adds w (deltas_of least t) (map seen c.args.values.now.items) (map seen c.push.new.self.items)) (sym (take_more xs at 0 c.loop-number-test.true))
+          (adds_number w least (seen c.loop-number.sum) (seen c.step-sum.result) (take at xs) (get_or xs at 0) (map seen c.args.values.now.items) (map seen values) (map seen c.push.new.self.items) c.loop-number.invariant.added c.loop-number.invariant.last c.step-sum.ensures put);
+    }

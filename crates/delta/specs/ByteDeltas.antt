@@ -1,0 +1,59 @@
+-- Byte values by their lengths, or by what they share with the value before:
+-- parquet-format, Encodings.md, "Delta-length byte array" and "Delta Strings" (DELTA_LENGTH_BYTE_ARRAY and DELTA_BYTE_ARRAY).
+use Rattle.std.specs.Prelude.{◌≡◌, ℕ, ◌+◌, ◌<◌, ◌≤◌, List, [], ◌∷◌, ◌++◌, length, take, drop, map, ℤ, pos}
+use Rattle.std.specs.List.{concat}
+use Rattle.std.specs.Int.{w32}
+use Rattle.schema.specs.Values.{ValueTree, bytes}
+use Rattle.delta.specs.Delta.{IsDelta}
+
+-- the lengths of values, as numbers that a delta has
+abbrev pub sizes : List (List ℕ) → List ℤ
+sizes values = map (λ value. pos (length value)) values
+
+-- the lengths as differences of 32 bits, and then all bytes
+pub record IsByteLengths (text : List ℕ) (n : ℕ) (values : List (List ℕ)) (used : ℕ) : Type 0 where
+  pub at : ℕ
+  pub rest : List ℕ
+  pub lengths : IsDelta w32 text n (sizes values) at
+  pub joined : drop at text ≡ concat values ++ rest
+  pub ends : used ≡ at + length (concat values)
+
+-- one of the lengths is above 16 MiB, and the values before it are there
+pub record IsCutLong (lengths : List ℤ) (text : List ℕ) : Type 0 where
+  pub before : List (List ℕ)
+  pub announced : ℕ
+  pub later : List ℤ
+  pub rest : List ℕ
+  pub are : lengths ≡ sizes before ++ pos announced ∷ later
+  pub joined : text ≡ concat before ++ rest
+  pub much : 16777216 < announced
+
+-- one of n values is announced with more than 16 MiB, after values that stand
+pub record IsLengthsOver (text : List ℕ) (n : ℕ) : Type 0 where
+  pub lengths : List ℤ
+  pub at : ℕ
+  pub stand : IsDelta w32 text n lengths at
+  pub over : IsCutLong lengths (drop at text)
+
+-- each value is the stated prefix of the value before it, and then its suffix
+abbrev pub AreCompleted : List ℕ → List ℕ → List (List ℕ) → List (List ℕ) → Type 0
+AreCompleted before [] [] [] = Unit {0}
+AreCompleted before (prefix ∷ prefixes) (suffix ∷ suffixes) (value ∷ values) = (prefix ≤ length before) × (value ≡ take prefix before ++ suffix) × AreCompleted value prefixes suffixes values
+AreCompleted before prefixes suffixes values = ⊥
+
+-- the lengths of the shared prefixes as differences of 32 bits, and then the suffixes by their lengths; the first value has none before it
+pub record IsPrefixed (text : List ℕ) (n : ℕ) (values : List (List ℕ)) (used : ℕ) : Type 0 where
+  pub at : ℕ
+  pub rest : ℕ
+  pub prefixes : List ℕ
+  pub suffixes : List (List ℕ)
+  pub shared : IsDelta w32 text n (map pos prefixes) at
+  pub others : IsByteLengths (drop at text) n suffixes rest
+  pub completed : AreCompleted [] prefixes suffixes values
+  pub ends : used ≡ at + rest
+
+-- what stands for lists of bytes, stands for byte values
+pub record StandForBytes (Stand : List (List ℕ) → ℕ → Type 0) (values : List ValueTree) (used : ℕ) : Type 0 where
+  pub texts : List (List ℕ)
+  pub stand : Stand texts used
+  pub are : values ≡ map bytes texts

@@ -1,0 +1,4 @@
+-- Definitions for private functions alone.
+pub mod Taken
+pub mod Cut
+pub mod Put

@@ -1,0 +1,27 @@
+-- What writing blocks gives: parquet-format, Encodings.md, "Delta Encoding".
+use Rattle.std.specs.Prelude.{◌≡◌, ℕ, ◌+◌, ◌-◌, ◌*◌, ◌/◌, min, List, [], ◌++◌, length, take, ℤ}
+use Rattle.std.specs.Int.{Width, byte_len}
+use Rattle.bits.specs.Codec.{Appends}
+use Rattle.schema.specs.Values.{ValueTree, bytes}
+use Rattle.delta.specs.Delta.{IsBlock}
+use Rattle.delta.specs.inner.Taken.{Adds}
+
+-- only the end is new
+abbrev pub Extends : List ℕ → List ℕ → Type 0
+Extends old new = (text : List ℕ) × (new ≡ old ++ text)
+
+-- how many of the values from index `at` on a block has
+abbrev pub block_count : List ℤ → ℕ → ℕ
+block_count values at = min (length values - at) 128
+
+-- a block stands at the end whose deltas lead to the values from index `at` on
+pub record PutDeltas (w : Width) (values : List ℤ) (at : ℕ) (old new : List ℕ) : Type 0 where
+  pub deltas : List ℤ
+  pub stands : Appends (λ bytes used. IsBlock 4 32 ((block_count values at + 31) / 32) bytes deltas used) (14 + 32 * byte_len w * ((block_count values at + 31) / 32)) old new
+  pub count : length deltas ≡ 32 * ((block_count values at + 31) / 32)
+  pub added : Adds w (take (block_count values at) deltas) (take at values) (take (at + block_count values at) values)
+
+-- the bytes of a byte value
+abbrev pub text_of : ValueTree → List ℕ
+text_of (bytes text) = text
+text_of _ = []

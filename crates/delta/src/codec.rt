@@ -1,0 +1,50 @@
+//! Deltas as an encoding of lists of values.
+
+ghost use Rattle.std.specs.Prelude.{ℤ, length};
+ghost use Rattle.delta.specs.Delta.{IsDelta, most_bytes};
+
+use crate::integer::Integer;
+use crate::reading::decode;
+use crate::writing::encode;
+use bits::{R, ValueCodec};
+use std::alloc::Global;
+use std::marker::PhantomData;
+
+/// Numbers as differences, in 64 bits (`i64`) or 32 (`i32`).
+#[derive(Debug, Drop)]
+pub struct Delta<T: Integer> {
+    pub of: PhantomData<T>,
+}
+
+impl<T: Integer> Delta<T> {
+    /// The encoding.
+    pub fn new() -> Self {
+        Delta { of: PhantomData }
+    }
+}
+
+impl<T: Integer> ValueCodec for Delta<T> {
+    type Value = T;
+
+    ghost Shown = { ℤ };
+
+    ghost shown = { T.seen };
+
+    ghost stands = { λ _ n bytes. IsDelta T.width bytes n };
+
+    ghost reads_over = { λ _ _ _. ⊥ };
+
+    ghost writes_over = { λ _ _. ⊥ };
+
+    ghost most = { λ _ numbers. most_bytes T.width (length numbers) };
+
+    fn decode(&self, alloc: Global, bytes: &[u8], n: usize) -> R<(Vec<T>, usize)> {
+        decode(alloc, bytes, n)
+    }
+
+    fn encode(&self, values: &[T], out: &mut Vec<u8>) -> R<()> {
+        encode(values, out)
+    }
+
+    fn one_meaning(&self) {}
+}
