@@ -129,7 +129,9 @@ fn noise(alloc: Global, n: usize) -> Result<Vec<i64>, Refusal> {
     let mut values = Vec::new(alloc);
     let mut state: u64 = 1;
     for _ in 0..n {
-        state = state.wrapping_mul(6364136223846793005).wrapping_add(1442695040888963407);
+        state = state
+            .wrapping_mul(6364136223846793005)
+            .wrapping_add(1442695040888963407);
         values.push(state.cast_signed())?;
     }
     Ok(values)
@@ -207,9 +209,7 @@ fn values_are_written_after_their_lengths(rt: HostRuntime) -> Result<(), Fail> {
 }
 
 #[test]
-fn a_negative_length_is_refused_and_a_long_one_over_the_limit(
-    rt: HostRuntime,
-) -> Result<(), Fail> {
+fn a_negative_length_is_refused_and_a_long_one_over_the_limit(rt: HostRuntime) -> Result<(), Fail> {
     let negative = decode_lengths::<Value>(rt.alloc(), &[0x80, 0x01, 0x04, 0x01, 0x01], 1);
     assert!(rt; matches!(negative, Err(Refusal::Value)));
     // 16 MiB and one more byte; 16 MiB.

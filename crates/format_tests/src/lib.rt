@@ -13,11 +13,9 @@ mod codecs;
 #[cfg(test)]
 mod copies;
 #[cfg(test)]
-<<<<<<< HEAD
-mod dictionaries;
-=======
 mod deltas;
->>>>>>> 805ca13c1b078303a0abe3cc81fd71d2b4dae782
+#[cfg(test)]
+mod dictionaries;
 #[cfg(test)]
 mod element_types;
 #[cfg(test)]
