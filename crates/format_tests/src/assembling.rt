@@ -8,7 +8,9 @@ use std::alloc::Global;
 use std::test::*;
 
 const REQUIRED: i32 = 0;
+
 const OPTIONAL: i32 = 1;
+
 const REPEATED: i32 = 2;
 
 /// A field: a leaf where it has a type, and otherwise a group of so many children.
@@ -195,7 +197,12 @@ fn lists(alloc: Global, counts: &[u32]) -> R<Vec<Column>> {
 fn columns_that_disagree_have_no_rows(rt: HostRuntime) -> Result<(), Fail> {
     let alloc = rt.alloc();
     let schema = pairs(alloc)?;
-    for counts in [[2, 3].as_slice(), [3, 2].as_slice(), [3].as_slice(), [3, 3, 3].as_slice()] {
+    for counts in [
+        [2, 3].as_slice(),
+        [3, 2].as_slice(),
+        [3].as_slice(),
+        [3, 3, 3].as_slice(),
+    ] {
         let columns = lists(alloc, counts)?;
         let rows = assemble(alloc, &schema, columns.as_slice());
         assert!(rt; matches!(rows, Err(Refusal::Levels)));
