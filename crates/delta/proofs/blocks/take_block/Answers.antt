@@ -35,5 +35,5 @@ returns-clause-taken g c =
     let room : at + m ≤ length bytes = omega (arith, within, c.if-rest-miniblocks.false, ap length c.split_at.ensures.back, length-drop at bytes) in
     let fits : FitsSigned w64 c.unzigzag.result = search rules in
     block_taken g.T.Integer.width c.unzigzag.result m c.args.size k c.args.left at c.in_ok-least.least c.in_ok-used.used bytes c.split_at-3.result.0.now c.split_at-2.result.1.now
-    (map seen c.args.values.now.items) (map seen c.take_miniblocks.new.values.items) c.in_ok-least.ensures.stands c.unzigzag.ensures.there room widths body
+    (map seen c.args.values.now.items) (map seen c.take_miniblocks.new.values.items) c.in_ok-least.ensures.stands c.unzigzag.ensures.undone room widths body
     (subst (λ (z : ℤ). AreTaken (AreMiniblocks c.args.size c.split_at-3.result.0.now c.split_at-2.result.1.now) g.T.Integer.width z c.args.left (map seen c.args.values.now.items) (map seen c.take_miniblocks.new.values.items) c.in_ok-used.used) (to_z-of_z w64 c.unzigzag.result fits) c.in_ok-used.ensures.taken)
