@@ -1,8 +1,8 @@
 -- The key of a row, and the row without it.
-use Rattle.std.proofs.Common.{◌≡◌, ℕ, zero, suc, ◌+◌, ◌<◌, ◌≤◌, Bool, true, false, List, [], ◌∷◌, ◌++◌, length, get_or, set, drop, map, refl, ap, sym, subst, ◌∙◌, arith, add-one, append_assoc}
+use Rattle.std.proofs.Common.{◌≡◌, ℕ, zero, suc, ◌+◌, ◌<◌, ◌≤◌, Bool, true, false, List, [], ◌∷◌, ◌++◌, length, get_or, set, drop, take, map, refl, ap, sym, subst, ◌∙◌, arith, add-one, append_assoc}
 use Rattle.std.specs.Prelude.{cond}
 use Rattle.std.proofs.lemmas.Bool.{false≢true, and_parts}
-use Rattle.std.proofs.lemmas.List.{append-nil}
+use Rattle.std.proofs.lemmas.List.{append-nil, get_or_default, length-set, take_more_set, take-set-le, drop-set-lt}
 use Rattle.schema.specs.declared.key.KeyColumn.{KeyColumn as CodeKeyColumn}
 use Rattle.schema.specs.declared.value.Value.{Value, Null as value_null}
 use Rattle.schema.specs.Values.{ValueTree, ValueTrees, value as item, view, trees_of, member_at}
@@ -10,6 +10,7 @@ use Rattle.schema.specs.Keys.{key_columns_view, key_of_row, values_besides}
 use Rattle.partition.specs.Folders.{is_key_value, is_key}
 use Rattle.partition.specs.inner.Parts.{IsNoKeyValue, besides}
 use Rattle.partition.proofs.Partitioning.{no_member, null_is_no_key}
+use Rattle.partition.proofs.WithKeys.{map_push}
 
 -- ---- the key
 
@@ -95,6 +96,20 @@ besides_ends gone [] at zero h = refl
 besides_ends gone [] at (suc i) h = refl
 besides_ends gone (v ∷ values) at zero h = absurd (omega (arith, h))
 besides_ends gone (v ∷ values) at (suc i) h = besides_ends gone values at i (omega (arith, h))
+
+-- the next value is kept, after those that were
+pub kept_on : (gone : ℕ → Bool) (values new : List Value) (at kept : ℕ) (all : List ValueTree) → at < length values → kept ≤ at → gone at ≡ false → new ≡ set (set values at (get_or values kept value_null)) kept (get_or values at value_null)
+    → map view (take kept values) ++ besides gone at (map view (drop at values)) ≡ all → map view (take (kept + 1) new) ++ besides gone (at + 1) (map view (drop (at + 1) new)) ≡ all
+kept_on gone values new at kept all h before stays swapped so =
+    let v = get_or values at value_null in
+    let w = get_or values kept value_null in
+    let first = set values at w in
+    let long : kept < length first = subst (λ (n : ℕ). kept < n) (sym (length-set values at w)) (omega (arith, h, before)) in
+    let taken : take (kept + 1) new ≡ take kept values ++ v ∷ []
+    = ap (take (kept + 1)) swapped ∙ take_more_set first kept v long ∙ ap (λ (l : List Value). l ++ v ∷ []) (take-set-le kept values at w before) in
+    let left : drop (at + 1) new ≡ drop (at + 1) first
+    = ap (drop (at + 1)) swapped ∙ drop-set-lt (at + 1) first kept v (omega (arith, before)) in
+    rw (taken, left, map_push view (take kept values) v) (moved_on gone values at v w (map view (take kept values)) all h (get_or_default values at value_null v h) stays so)
 
 pub all_moved : (gone : ℕ → Bool) (values row : List Value) (at : ℕ) (done : List ValueTree) → length values ≤ at → done ++ besides gone at (map view (drop at values)) ≡ besides gone 0 (map view row)
     → trees_of done ≡ values_besides gone 0 (trees_of (map view row))

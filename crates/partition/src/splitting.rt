@@ -18,7 +18,6 @@ use bits::{R, Refusal};
 use indexmap::IndexSet;
 use schema::{Key, KeyColumn, Row, Value};
 use std::alloc::Global;
-use std::mem;
 
 /// Rows of one key, without their values in the key columns.
 #[derive(Debug, Drop)]
@@ -110,20 +109,21 @@ fn is_key_place(columns: &[KeyColumn], at: usize) -> bool
     false
 }
 
-/// The row without its key columns; its other values are moved.
-fn without_keys(alloc: Global, columns: &[KeyColumn], row: Row) -> R<Row>
-    ensures stands { IfOk result (λ rest. row_view rest ≡ row_without_keys (key_columns_view columns.now) (row_view row)) }
-    ensures which { RefusedMemoryOnly result }
+/// The row without its key columns; its other values are moved, and stay in the row's own vector.
+fn without_keys(columns: &[KeyColumn], row: Row) -> Row
+    ensures { row_view result ≡ row_without_keys (key_columns_view columns.now) (row_view row) }
 {
-    let Row { values: mut all } = row;
-    let mut values = Vec::with_capacity(alloc, all.len())?;
-    for at in 0..all.len() {
+    let Row { mut values } = row;
+    let mut kept = 0;
+    for at in 0..values.len() {
         if is_key_place(columns, at) {
             continue;
         }
-        values.push(mem::replace(&mut all[at], Value::Null))?;
+        values.swap(at, kept);
+        kept += 1;
     }
-    Ok(Row { values })
+    values.truncate(kept);
+    Row { values }
 }
 
 /// The place of a key among those that have rows; a new key is added, without rows.
@@ -186,7 +186,7 @@ pub fn split_by_key(alloc: Global, columns: &[KeyColumn], rows: Vec<Row>) -> R<V
             return Err(Refusal::Key);
         };
         let at = place_of(alloc, columns, &mut keys, &mut split, parts)?;
-        let rest = without_keys(alloc, columns, row)?;
+        let rest = without_keys(columns, row);
         push_row(&mut split, at, rest)?;
     }
     split.sort_by(|a, b| compare_keys(&a.key, &b.key))?;

@@ -42,7 +42,7 @@ loop-row-preserved c =
     let placed = subst (λ (k : List ValueTree). IsPlaced (key_columns_view c.args.columns.now) (map key_rows_view c.loop-row.split.items) k c.in_ok-at.at (map key_rows_view c.place_of.new.split.items)) same c.in_ok-at.ensures.placed in
     let held = one_more (key_columns_view c.args.columns.now) (rows_view c.loop-row.yielded) (row_view c.in-Some.row) _ _ c.in_ok-at.at c.loop-row.invariant.held placed in
     let end : map key_rows_view c.push_row.new.split.items ≡ with_row c.in_ok-at.at (row_without_keys (key_columns_view c.args.columns.now) (row_view c.in-Some.row)) (map key_rows_view c.place_of.new.split.items)
-    = c.in_ok-push_row.ensures.ok ∙ ap (λ (r : ValueTrees). with_row c.in_ok-at.at r (map key_rows_view c.place_of.new.split.items)) c.in_ok-rest.ensures.stands in
+    = c.in_ok-push_row.ensures.ok ∙ ap (λ (r : ValueTrees). with_row c.in_ok-at.at r (map key_rows_view c.place_of.new.split.items)) c.without_keys-rest.ensures in
     record {
       same = c.in_ok-at.ensures.keys ∙ sym (ap (map (λ (p : KeyRows). p.key)) end ∙ keys_with_row _ _ _);
       held = rw (end, map_push row_view c.loop-row.yielded c.in-Some.row) held;
