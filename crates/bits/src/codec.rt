@@ -2,7 +2,7 @@
 
 ghost use Rattle.std.specs.Prelude.{◌≡◌, ℕ, ◌≤◌, ◌⊎◌, List, map, length, vec_len, IfOk, OnOk, OnErr};
 ghost use Rattle.bits.specs.Refusals.{OnFault, RefusedOnly, LimitJustWhere, IsOfValues};
-ghost use Rattle.bits.specs.Codec.{NothingStands, IsFunctional, Appends};
+ghost use Rattle.bits.specs.Codec.{NothingStands, IsFunctional, AppendsValues};
 
 use crate::refusal::{R, Refusal};
 use std::alloc::Global;
@@ -43,13 +43,13 @@ pub trait ValueCodec {
     /// Writes the values at the end of `out`. Refused Value only where no bytes stand for them, and
     /// Limit exactly when they are over a limit; then `out` is unchanged.
     fn encode(&self, values: &[Self::Value], out: &mut Vec<u8>) -> R<()>
-        ensures stands { let seen = map shown values.now in OnOk result (Appends (λ bytes. stands self.now (length seen) bytes seen) (most self.now seen) out.old.items out.new.items) }
+        ensures stands { let seen = map shown values.now in OnOk result (AppendsValues (stands self.now) (most self.now seen) seen out.old.items out.new.items) }
         ensures only { let seen = map shown values.now in OnFault result ((bytes : List ℕ) (used : ℕ) → stands self.now (length seen) bytes seen used → ⊥) }
         ensures which { RefusedOnly (λ e. (e ≡ Refusal.Value) ⊎ (e ≡ Refusal.Limit)) result }
         ensures limit { LimitJustWhere (writes_over self.now (map shown values.now)) result }
         ensures unchanged { OnErr result (out.new.items ≡ out.old.items) };
 
-    /// The law that a front of the bytes stands for at most one list of n values.
+    /// The law that a prefix of the bytes stands for at most one list of n values.
     fn one_meaning(&self)
         ensures { (n : ℕ) → IsFunctional (stands self.now n) };
 }

@@ -103,7 +103,7 @@ fn put_all(numbers: &[u64], width: u32, out: &mut Vec<u8>) -> R<()>
     requires wide { width ≤ 64 }
     requires fit { All (λ x. x < 2 ^ width) numbers.now }
     ensures stands { OnOk result (Appends (λ bytes. IsPadded bytes width numbers.now) (packed_size (length numbers.now) width) out.old.items out.new.items) }
-    ensures which { RefusedOnly (λ _. ⊥) result }
+    ensures which { RefusedMemoryOnly result }
     ensures front { OnErr result (take (length out.old.items) out.new.items ≡ out.old.items) }
 {
     let mut byte: u8 = 0;
@@ -134,7 +134,7 @@ pub fn pack(numbers: &[u64], width: u32, out: &mut Vec<u8>) -> R<()>
     requires wide { width ≤ 64 }
     requires fit { All (λ x. x < 2 ^ width) numbers.now }
     ensures stands { OnOk result (Appends (λ bytes. IsPadded bytes width numbers.now) (packed_size (length numbers.now) width) out.old.items out.new.items) }
-    ensures which { RefusedOnly (λ _. ⊥) result }
+    ensures which { RefusedMemoryOnly result }
     ensures unchanged { OnErr result (out.new.items ≡ out.old.items) }
 {
     let kept = out.len();

@@ -1,7 +1,7 @@
 //! Numbers in groups of seven bits, and signed numbers as unsigned ones.
 
 ghost use Rattle.std.specs.Prelude.{◌≡◌, ℕ, ◌≤◌, ◌↔◌, ◌⊎◌, ℤ, length, IfOk, IfErr, OnOk, OnErr};
-ghost use Rattle.bits.specs.Refusals.{OnFault, RefusedOnly};
+ghost use Rattle.bits.specs.Refusals.{OnFault, RefusedMemoryOnly};
 ghost use Rattle.bits.specs.Codec.{NothingStands, Appends};
 ghost use Rattle.bits.specs.Varint.{IsUleb, IsShortestUleb, IsCutUleb, zigzag_of};
 
@@ -58,7 +58,7 @@ pub fn unzigzag(n: u64) -> i64
 /// then `out` is as it was.
 pub fn write_uleb(n: u64, out: &mut Vec<u8>) -> R<()>
     ensures stands { OnOk result (Appends (λ bytes used. IsShortestUleb bytes n used) 10 out.old.items out.new.items) }
-    ensures which { RefusedOnly (λ _. ⊥) result }
+    ensures which { RefusedMemoryOnly result }
     ensures unchanged { OnErr result (out.new.items ≡ out.old.items) }
 {
     let mut buffer = [0u8; 10];

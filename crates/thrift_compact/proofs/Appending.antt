@@ -6,7 +6,7 @@ use Rattle.std.specs.Prelude.{OnOk}
 use Rattle.bits.specs.declared.refusal.Refusal.{Refusal}
 use Rattle.bits.specs.Codec.{Appends}
 use Rattle.thrift_compact.specs.Compact.{IsByte}
-use Rattle.thrift_compact.specs.Writing.{Keeps}
+use Rattle.thrift_compact.specs.inner.Writing.{Keeps}
 
 pub keeps_same : (old : List ℕ) → Keeps old old
 keeps_same old = record { text = []; joined = sym (append-nil old) }

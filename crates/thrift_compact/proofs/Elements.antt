@@ -6,7 +6,7 @@ use Rattle.bits.specs.Codec.{NothingStands}
 use Rattle.thrift_compact.specs.declared.tree.Node.{Node as CodeNode}
 use Rattle.thrift_compact.specs.Tree.{Node, yes, no, flag, i8, i16, i32, i64, double, binary, list, set, empty_map, map, struct, Nodes, no_nodes, node, Fields, no_fields, field, nodes_nest, count}
 use Rattle.thrift_compact.specs.Compact.{IsElement, IsValue, AreElements, AreFields, kind}
-use Rattle.thrift_compact.specs.Reading.{ElementsOf, ElementOf}
+use Rattle.thrift_compact.specs.inner.Reading.{ElementsOf, ElementOf}
 use Rattle.thrift_compact.specs.View.{view, views}
 use Rattle.thrift_compact.proofs.NodeTypes.{alike}
 use Rattle.thrift_compact.proofs.Parts.{list_head_within, field_head_within}

@@ -10,7 +10,7 @@ use Rattle.thrift_compact.specs.declared.tree.Node.TheViews.{roll-Field}
 use Rattle.thrift_compact.specs.declared.tree.Node.TheFolds.{fold-roll-Field}
 use Rattle.thrift_compact.specs.Tree.{Node, Fields, no_fields, field, nest, fields_nest}
 use Rattle.thrift_compact.specs.Compact.{IsByte, IsFieldHead, IsValue, AreFields, kind}
-use Rattle.thrift_compact.specs.Reading.{FieldsOf, ValueOf}
+use Rattle.thrift_compact.specs.inner.Reading.{FieldsOf, ValueOf}
 use Rattle.thrift_compact.specs.View.{view, view_step, field_step, field_view, field_views}
 use Rattle.thrift_compact.proofs.Parts.{one_field_head, not_end}
 use Rattle.thrift_compact.proofs.One.{Same, one_value}

@@ -4,7 +4,7 @@ use Rattle.bits.specs.Varint.{IsUleb}
 use Rattle.bits.proofs.Facts.{one_uleb}
 use Rattle.thrift_compact.specs.Tree.{Node, Pairs, nest, pairs_nest, count_pairs}
 use Rattle.thrift_compact.specs.Compact.{IsMapHead, IsValue, ArePairs}
-use Rattle.thrift_compact.specs.Reading.{ValueOf}
+use Rattle.thrift_compact.specs.inner.Reading.{ValueOf}
 use Rattle.thrift_compact.proofs.NodeTypes.{is_map}
 
 pub record HasPairs (bytes : List ℕ) (size left : ℕ) : Type 0 where

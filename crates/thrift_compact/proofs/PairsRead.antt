@@ -5,7 +5,7 @@ use Rattle.bits.specs.Codec.{NothingStands}
 use Rattle.thrift_compact.specs.declared.tree.Node.{Node as CodeNode}
 use Rattle.thrift_compact.specs.Tree.{Node, Pairs, no_pairs, pair, pairs_nest, count_pairs}
 use Rattle.thrift_compact.specs.Compact.{IsValue, ArePairs}
-use Rattle.thrift_compact.specs.Reading.{PairsOf, ElementOf}
+use Rattle.thrift_compact.specs.inner.Reading.{PairsOf, ElementOf}
 use Rattle.thrift_compact.specs.View.{view, pair_views}
 use Rattle.thrift_compact.proofs.NodeTypes.{alike}
 use Rattle.thrift_compact.proofs.Elements.{element_some}

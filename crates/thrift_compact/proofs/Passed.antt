@@ -11,7 +11,7 @@ use Rattle.thrift_compact.specs.View.{views, pair_views}
 use Rattle.thrift_compact.proofs.Writes.{count_views, count_pair_views}
 use Rattle.thrift_compact.specs.Tree.{Node, yes, no as never, flag, i8, i16, i32, i64, double, binary, list, set, empty_map, map, struct, Nodes, no_nodes, node, Pairs, no_pairs, pair, Fields, no_fields, field, nest, nodes_nest, pairs_nest, fields_nest, count, count_pairs}
 use Rattle.thrift_compact.specs.Compact.{kind, IsDouble, IsListHead, IsElement, IsValue, AreElements, ArePairs, AreFields}
-use Rattle.thrift_compact.specs.Writable.{has_bits, is_size, is_element, is_field, is_list, is_map, can_write, can_write_each, can_write_pairs, can_write_fields}
+use Rattle.thrift_compact.specs.inner.Writable.{has_bits, is_size, is_element, is_field, is_list, is_map, can_write, can_write_each, can_write_pairs, can_write_fields}
 
 pub both : (a b : Bool) → a ≡ true → b ≡ true → (a && b) ≡ true
 both a b p q = cc

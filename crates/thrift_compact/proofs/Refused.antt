@@ -10,7 +10,7 @@ use Rattle.bits.specs.Refusals.{IsFault, HasCause, RefusedOnly}
 use Rattle.bits.specs.Codec.{NothingStands, NothingStandsEver}
 use Rattle.bits.specs.Varint.{IsUleb, IsCutUleb}
 use Rattle.bits.proofs.Passing.{passes}
-use Rattle.thrift_compact.specs.Reading.{IsRefusedFor}
+use Rattle.thrift_compact.specs.inner.Reading.{IsRefusedFor}
 
 -- what holds whatever follows holds where nothing does
 pub with_nothing_more : {Y : Type 0} (Stands : List ℕ → Y → ℕ → Type 0) (bytes : List ℕ) → NothingStands (Stands (bytes ++ [])) → NothingStands (Stands bytes)

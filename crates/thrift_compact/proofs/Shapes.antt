@@ -9,8 +9,7 @@ use Rattle.bits.proofs.Passing.{passes}
 use Rattle.thrift_compact.specs.declared.tree.Field.{Field}
 use Rattle.thrift_compact.specs.declared.tree.Node.{Node as CodeNode}
 use Rattle.thrift_compact.specs.View.{view, views, pair_views, field_view, field_views}
-use Rattle.thrift_compact.specs.Shapes.{is_of_type, is_member, has_shape, each_has_shape, pairs_have_shape, pair_has_shape, fields_have_shape}
-use Rattle.thrift_compact.specs.Writing.{IsShapeless}
+use Rattle.thrift_compact.specs.Shapes.{is_of_type, is_member, has_shape, each_has_shape, pairs_have_shape, pair_has_shape, fields_have_shape, IsShapeless}
 
 pub first_fails : (a b : Bool) → a ≡ false → (a && b) ≡ false
 first_fails a b e = ap (λ x. x && b) e

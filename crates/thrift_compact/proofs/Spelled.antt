@@ -7,7 +7,7 @@ use Rattle.bits.specs.Codec.{Appends}
 use Rattle.bits.specs.Varint.{IsUleb}
 use Rattle.thrift_compact.specs.Compact.{IsByte, IsBinary, IsSigned, IsListHead, IsMapHead, IsFieldHead}
 use Rattle.thrift_compact.specs.Length.{size_length, size_i64, size_i16, size_list_head, size_field_head, is_step}
-use Rattle.thrift_compact.specs.Writing.{IsShortestSigned, IsStep}
+use Rattle.thrift_compact.specs.inner.Writing.{IsShortestSigned, IsStep}
 use Rattle.thrift_compact.proofs.Appending.{appends_as, appends_so, appends_then, pushed}
 use Rattle.thrift_compact.proofs.Sizes.{long_list_head, short_size, if_true, if_false}
 

@@ -8,7 +8,7 @@ use Rattle.std.proofs.lemmas.Bool.Decides.{nat_tests}
 use lib.Signed.{le_z, mag}
 use borrow.Author.Differences.{up, down}
 use Rattle.thrift_compact.specs.Length.{is_step}
-use Rattle.thrift_compact.specs.Writing.{IsStep}
+use Rattle.thrift_compact.specs.inner.Writing.{IsStep}
 
 wider : (z : ℤ) → FitsSigned w16 z → FitsSigned w32 z
 wider z p = record { sfits = omega (arith, p.sfits) }

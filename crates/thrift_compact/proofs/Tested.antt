@@ -7,7 +7,8 @@ use Rattle.std.proofs.lemmas.Bool.Decides.{nat_tests, Decides-eqb}
 use Rattle.bits.specs.Varint.{zigzag_of}
 use Rattle.thrift_compact.specs.Tree.{Node, yes, no as never, flag, i8, i16, i32, i64, double, binary, list, set, empty_map, map, struct, Nodes, no_nodes, node, Pairs, no_pairs, pair, Fields, no_fields, field, nest, nodes_nest, pairs_nest, fields_nest, count, count_pairs}
 use Rattle.thrift_compact.specs.Compact.{kind, IsSigned, IsListHead, IsMapHead, IsFieldHead, IsValue, AreElements, ArePairs, AreFields}
-use Rattle.thrift_compact.specs.Writable.{HasBytes, has_bits, is_size, is_element, is_field, is_list, is_map, can_write, can_write_each, can_write_pairs, can_write_fields}
+use Rattle.thrift_compact.specs.Writable.{HasBytes}
+use Rattle.thrift_compact.specs.inner.Writable.{has_bits, is_size, is_element, is_field, is_list, is_map, can_write, can_write_each, can_write_pairs, can_write_fields}
 use Rattle.thrift_compact.proofs.Texts.{HasText, then_text, as_text, no_text, byte_text, uleb_text, signed_byte_text, double_text, binary_text, list_head_text, map_head_text, field_head_text}
 use Rattle.thrift_compact.proofs.Passed.{is_element_of, fields_pass}
 

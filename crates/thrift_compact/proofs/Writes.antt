@@ -15,7 +15,7 @@ use Rattle.thrift_compact.specs.Tree.{Node, i16, i32, double, binary, list, map,
 use Rattle.thrift_compact.specs.Compact.{IsByte, IsBinary, IsListHead, IsMapHead, IsThrift, IsFieldHead, IsValue, AreFields, kind}
 use Rattle.thrift_compact.specs.View.{view, views, pair_views, field_view, field_views}
 use Rattle.thrift_compact.specs.Length.{size_length, size_i64, size_i32, size_i16, size_list_head, size_struct, size_value, size_elements, size_pairs, size_field_head, size_fields}
-use Rattle.thrift_compact.specs.Writing.{IsWithoutBytes, SpellsValue, SpellsElement, SpellsElements, SpellsPair, SpellsPairs, SpellsField, SpellsFields, IsShortestSigned}
+use Rattle.thrift_compact.specs.inner.Writing.{IsWithoutBytes, SpellsValue, SpellsElement, SpellsElements, SpellsPair, SpellsPairs, SpellsField, SpellsFields, IsShortestSigned}
 use Rattle.thrift_compact.proofs.Elements.{append, views_push}
 use Rattle.thrift_compact.proofs.PairsRead.{append_pairs, pair_views_push}
 use Rattle.thrift_compact.proofs.FieldsRead.{append_fields, field_views_push}

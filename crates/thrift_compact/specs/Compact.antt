@@ -1,10 +1,10 @@
--- How trees are spelled at the front of bytes: Thrift's compact protocol, "Struct Encoding", "List and Set", "Map".
+-- How trees are spelled at the start of bytes: Thrift's compact protocol, "Struct Encoding", "List and Set", "Map".
 use Rattle.std.specs.Prelude.{◌≡◌, ◌⊎◌, ℕ, ◌+◌, ◌*◌, ◌<◌, ◌≤◌, ℤ, pos, ◌+ℤ◌, List, length, take, drop, slice_index, FitsSigned}
 use Rattle.std.specs.Int.{w8, w16, w32, cast_signed}
 use Rattle.bits.specs.Varint.{IsUleb, zigzag_of}
 use Rattle.thrift_compact.specs.Tree.{Node, yes, no, flag, i8, i16, i32, i64, double, binary, list, set, empty_map, map, struct, Nodes, no_nodes, node, Pairs, no_pairs, pair, Fields, no_fields, field, fields_nest, count, count_pairs}
 
--- the byte at the front
+-- the first byte
 pub record IsByte (bytes : List ℕ) (b used : ℕ) : Type 0 where
   pub some : 1 ≤ length bytes
   pub is : slice_index bytes 0 ≡ b
@@ -16,7 +16,7 @@ pub record IsSignedByte (bytes : List ℕ) (z : ℤ) (used : ℕ) : Type 0 where
   pub byte : IsByte bytes number used
   pub is : z ≡ cast_signed w8 number
 
--- the eight bytes at the front
+-- the first eight bytes
 pub record IsDouble (bytes text : List ℕ) (used : ℕ) : Type 0 where
   pub within : 8 ≤ length bytes
   pub is : take 8 bytes ≡ text
@@ -116,12 +116,12 @@ abbrev mutual
   IsValue (map k v ps) bytes used = (u w : ℕ) × IsMapHead bytes k v (count_pairs ps) u × ArePairs ps k v (drop u bytes) w × (used ≡ u + w)
   IsValue (struct fs) bytes used = AreFields fs (pos 0) bytes used
 
-  -- elements of one type, one behind the other
+  -- elements of one type, one after the other
   pub AreElements : Nodes → ℕ → List ℕ → ℕ → Type 0
   AreElements no_nodes k bytes used = used ≡ 0
   AreElements (node x xs) k bytes used = IsElement k x × ((u v : ℕ) × IsValue x bytes u × AreElements xs k (drop u bytes) v × (used ≡ u + v))
 
-  -- pairs of a key and a value, one behind the other
+  -- pairs of a key and a value, one after the other
   pub ArePairs : Pairs → ℕ → ℕ → List ℕ → ℕ → Type 0
   ArePairs no_pairs k v bytes used = used ≡ 0
   ArePairs (pair x y ps) k v bytes used =
@@ -132,7 +132,7 @@ abbrev mutual
   AreFields no_fields previous bytes used = IsByte bytes 0 used
   AreFields (field id x fs) previous bytes used = (u v w : ℕ) × IsFieldHead previous bytes id (kind x) u × IsValue x (drop u bytes) v × AreFields fs id (drop (u + v) bytes) w × (used ≡ u + v + w)
 
--- the struct at the front, its values nested to a depth of 32 at most
+-- the struct at the start, its values nested at most 32 levels
 pub record IsThrift (bytes : List ℕ) (fields : Fields) (used : ℕ) : Type 0 where
   pub spelled : AreFields fields (pos 0) bytes used
   pub shallow : fields_nest fields ≤ 32

@@ -1,10 +1,11 @@
 -- How many bytes the shortest spelling of a struct takes: Thrift's compact protocol, "Integer encoding", "Struct Encoding", "List and Set", "Map".
 use Rattle.std.specs.Prelude.{ℕ, zero, suc, ◌+◌, ◌^◌, ◌≤◌, ℤ, pos, negsuc, ◌-ℤ◌, Bool, false, List, length, nat_le, nat_lt, ◌&&◌, if◌then◌else◌}
 use Rattle.bits.specs.Varint.{zigzag_of}
+use Rattle.bits.specs.Codec.{Appends}
 use Rattle.thrift_compact.specs.Tree.{Node, yes, no, flag, i8, i16, i32, i64, double, binary, list, set, empty_map, map, struct, Nodes, no_nodes, node, Pairs, no_pairs, pair, Fields, no_fields, field, count, count_pairs}
 use Rattle.thrift_compact.specs.Compact.{IsThrift}
 
--- the shortest varint of n, which has at most so many groups of seven bits: a further byte is needed from each power of 128 on
+-- the shortest varint of n, which has at most k + 1 groups of seven bits: a further byte is needed from each power of 128 on
 unfoldable pub size_varint : ℕ → ℕ → ℕ
 size_varint zero n = 1
 size_varint (suc k) n = if nat_le (128 ^ k) n then suc k else size_varint k n
@@ -67,6 +68,10 @@ abbrev mutual
 
 abbrev pub size_struct : Fields → ℕ
 size_struct fs = size_fields fs (pos 0)
+
+-- the bytes of `new` are those of `old` and at most `size_struct` more, which stand for the struct
+abbrev pub AppendsStruct : Fields → List ℕ → List ℕ → Type 0
+AppendsStruct fs old new = Appends (λ bytes used. IsThrift bytes fs used) (size_struct fs) old new
 
 -- no bytes of a struct are fewer
 abbrev pub NoSpellingIsShorter : Type 0

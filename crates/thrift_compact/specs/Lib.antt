@@ -3,6 +3,7 @@ pub mod View
 pub mod Compact
 pub mod Reading
 pub mod Length
-pub mod Writing
 pub mod Writable
 pub mod Shapes
+pub mod Law
+pub mod inner

@@ -1,5 +1,7 @@
 -- Which structs have the shape of one that can be written, the ranges of their numbers aside: Thrift's compact protocol, "Struct Encoding", "List and Set", "Map".
-use Rattle.std.specs.Prelude.{ℕ, ◌≤◌, ◌-◌, IsTrue, nat_lt, ◌==◌, Bool, true, false, ◌&&◌, ◌||◌}
+use Rattle.std.specs.Prelude.{◌≡◌, ℕ, ◌≤◌, ◌-◌, IsTrue, nat_lt, ◌==◌, Bool, true, false, ◌&&◌, ◌||◌}
+use Rattle.bits.specs.declared.refusal.Refusal.{Refusal}
+use Rattle.bits.specs.declared.refusal.Refusal.TheVariants.{Thrift}
 use Rattle.thrift_compact.specs.Tree.{Node, yes, no, flag, list, set, empty_map, map, struct, Nodes, no_nodes, node, Pairs, no_pairs, pair, Fields, no_fields, field, fields_nest, count_pairs}
 use Rattle.thrift_compact.specs.Compact.{kind}
 use Rattle.thrift_compact.specs.Writable.{HasBytes}
@@ -11,15 +13,15 @@ is_of_type k no = false
 is_of_type k (flag b) = k == 1 || k == 2
 is_of_type k x = k == kind x
 
--- it has a type, of which a field may be
+-- it has a type that a field may have
 abbrev pub is_member : Node → Bool
 is_member x = nat_lt (kind x) 16
 
--- a map of these types has so many pairs: there is one
+-- a map of these types can have this number of pairs: there is one
 abbrev pub may_be_map : ℕ → ℕ → ℕ → Bool
 may_be_map k v pairs = nat_lt k 16 && (nat_lt v 16 && nat_lt 0 pairs)
 
--- a value, in which lists, sets, maps and structs nest at most so deep
+-- a value, in which lists, sets, maps and structs nest at most `deep` levels
 abbrev mutual
   pub has_shape : ℕ → Node → Bool
   has_shape deep (list k xs) = nat_lt 0 deep && (nat_lt k 16 && each_has_shape (deep - 1) k xs)
@@ -48,6 +50,10 @@ abbrev mutual
 abbrev pub pair_has_shape : ℕ → ℕ → ℕ → Node → Node → Bool
 pair_has_shape deep k v x y = (is_of_type k x && has_shape deep x) && (is_of_type v y && has_shape deep y)
 
--- one that some bytes have has the shape
+-- it is refused since it does not have the shape of what can be written
+abbrev pub IsShapeless : Bool → Refusal → Type 0
+IsShapeless has_shape e = (e ≡ Thrift) × (has_shape ≡ false)
+
+-- a struct that some bytes have has the shape
 abbrev pub StructsWithBytesHaveTheShape : Type 0
 StructsWithBytesHaveTheShape = (deep : ℕ) (fs : Fields) → fields_nest fs ≤ deep → HasBytes fs → IsTrue (fields_have_shape deep fs)

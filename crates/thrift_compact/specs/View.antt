@@ -15,7 +15,7 @@ use Rattle.thrift_compact.specs.Tree.{Node, Nodes, no_nodes, node, Pairs, no_pai
 abbrev pub is_type : ℕ → Bool
 is_type code = nat_le 1 code && nat_le code 12
 
--- The protocol's number of a type. One of 1 to 12 that has not the name of its type is none: no bytes have a number from 16 on.
+-- The protocol's number of a type. `Other` of a named type's code is 16 more than it: no bytes have a number from 16 on.
 abbrev pub code_of : ElementType → ℕ
 code_of True = 1
 code_of False = 2
@@ -43,7 +43,7 @@ abbrev pub fields_of : List (ℤ × Node) → Fields
 fields_of [] = no_fields
 fields_of (f ∷ fs) = field f.0 f.1 (fields_of fs)
 
--- one value, with the trees of those in it in their places
+-- one value, with the trees of the values in it
 abbrev pub view_step : Node-F Node (ℤ × Node) → Node
 view_step (layer.Bool b) = if b then tree.yes else tree.no
 view_step (layer.Flag b) = tree.flag b

@@ -1,7 +1,7 @@
 //! Copies of trees.
 
 ghost use Rattle.std.specs.Prelude.{◌≡◌, IfOk, map};
-ghost use Rattle.bits.specs.Refusals.{RefusedOnly};
+ghost use Rattle.bits.specs.Refusals.{RefusedMemoryOnly};
 ghost use Rattle.thrift_compact.specs.View.{view, pair_view, field_view, tree_view};
 
 use crate::tree::{Field, Node, Tree};
@@ -11,7 +11,7 @@ use std::alloc::Global;
 #[cycle(copied)]
 fn copied_node(alloc: Global, node: &Node) -> R<Node>
     ensures same { IfOk result (λ copy. view copy ≡ view node.now) }
-    ensures which { RefusedOnly (λ _. ⊥) result }
+    ensures which { RefusedMemoryOnly result }
 {
     match node {
         Node::Bool(value) => Ok(Node::Bool(*value)),
@@ -48,7 +48,7 @@ fn copied_node(alloc: Global, node: &Node) -> R<Node>
 #[cycle(copied)]
 fn copied_nodes(alloc: Global, nodes: &[Node]) -> R<Vec<Node>>
     ensures same { IfOk result (λ copies. map view copies.items ≡ map view nodes.now) }
-    ensures which { RefusedOnly (λ _. ⊥) result }
+    ensures which { RefusedMemoryOnly result }
 {
     let mut copies = Vec::with_capacity(alloc, nodes.len())?;
     for node in nodes {
@@ -60,7 +60,7 @@ fn copied_nodes(alloc: Global, nodes: &[Node]) -> R<Vec<Node>>
 #[cycle(copied)]
 fn copied_pairs(alloc: Global, pairs: &[(Node, Node)]) -> R<Vec<(Node, Node)>>
     ensures same { IfOk result (λ copies. map pair_view copies.items ≡ map pair_view pairs.now) }
-    ensures which { RefusedOnly (λ _. ⊥) result }
+    ensures which { RefusedMemoryOnly result }
 {
     let mut copies = Vec::with_capacity(alloc, pairs.len())?;
     for (key, value) in pairs {
@@ -71,11 +71,11 @@ fn copied_pairs(alloc: Global, pairs: &[(Node, Node)]) -> R<Vec<(Node, Node)>>
     Ok(copies)
 }
 
-/// Other fields that are the same. Refused Memory alone.
+/// A copy of the fields. It fails only when out of memory.
 #[cycle(copied)]
 pub fn copied_fields(alloc: Global, fields: &[Field]) -> R<Vec<Field>>
     ensures same { IfOk result (λ copies. map field_view copies.items ≡ map field_view fields.now) }
-    ensures which { RefusedOnly (λ _. ⊥) result }
+    ensures which { RefusedMemoryOnly result }
 {
     let mut copies = Vec::with_capacity(alloc, fields.len())?;
     for field in fields {
@@ -89,10 +89,10 @@ pub fn copied_fields(alloc: Global, fields: &[Field]) -> R<Vec<Field>>
 }
 
 impl Tree {
-    /// Another struct that is the same. Refused Memory alone.
+    /// A copy of the struct. It fails only when out of memory.
     pub fn copied(&self, alloc: Global) -> R<Tree>
         ensures same { IfOk result (λ copy. tree_view copy ≡ tree_view self.now) }
-        ensures which { RefusedOnly (λ _. ⊥) result }
+        ensures which { RefusedMemoryOnly result }
     {
         let fields = copied_fields(alloc, self.fields.as_slice())?;
         Ok(Tree { fields })

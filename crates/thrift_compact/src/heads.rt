@@ -2,13 +2,14 @@
 
 ghost use Rattle.std.specs.Prelude.{◌≡◌, ℕ, ◌+◌, ◌<◌, ◌≤◌, ℤ, length, ◌-ℤ◌, IfOk, OnOk, MatchOption, true, false};
 ghost use Rattle.bits.specs.Varint.{IsUleb};
-ghost use Rattle.bits.specs.Refusals.{RefusedOnly};
+ghost use Rattle.bits.specs.Refusals.{RefusedOnly, RefusedMemoryOnly};
 ghost use Rattle.bits.specs.Codec.{Appends};
 ghost use Rattle.thrift_compact.specs.View.{code_of};
 ghost use Rattle.thrift_compact.specs.Compact.{IsListHead, IsMapHead, IsFieldHead};
-ghost use Rattle.thrift_compact.specs.Reading.{IsNamed, IsRefusedFor};
+ghost use Rattle.thrift_compact.specs.Reading.{IsNamed};
+ghost use Rattle.thrift_compact.specs.inner.Reading.{IsRefusedFor};
 ghost use Rattle.thrift_compact.specs.Length.{size_length, size_list_head, size_field_head, is_step};
-ghost use Rattle.thrift_compact.specs.Writing.{Keeps, IsStep};
+ghost use Rattle.thrift_compact.specs.inner.Writing.{Keeps, IsStep};
 
 use crate::numbers::{byte_at, i16_at, put_signed, put_size};
 use crate::tree::ElementType;
@@ -34,7 +35,7 @@ pub(crate) fn list_head_at(bytes: &[u8]) -> R<((ElementType, u64), usize)>
 /// The types of the keys and the values of a map whose size is `size`, at least 1, and takes `head` bytes.
 pub(crate) fn map_types_at(bytes: &[u8], size: u64, head: usize) -> R<(ElementType, ElementType)>
     requires size { IsUleb bytes.now size head }
-    requires some { 1 ≤ size }
+    requires not_empty { 1 ≤ size }
     ensures stands { IfOk result (λ x. IsMapHead bytes.now (code_of x.0) (code_of x.1) size (head + 1)) }
     ensures named { IfOk result (λ x. IsNamed x.0 × IsNamed x.1) }
     ensures within { IfOk result (λ x. head + 1 ≤ length bytes.now) }
@@ -48,7 +49,7 @@ pub(crate) fn map_types_at(bytes: &[u8], size: u64, head: usize) -> R<(ElementTy
     ))
 }
 
-/// The id and the type at the front of a field.
+/// The id and the type at the start of a field.
 pub(crate) fn field_head_at(previous: i16, bytes: &[u8]) -> R<((i16, ElementType), usize)>
     ensures stands { IfOk result (λ x. IsFieldHead previous bytes.now x.0.0 (code_of x.0.1) x.1) }
     ensures named { IfOk result (λ x. IsNamed x.0.1) }
@@ -77,7 +78,7 @@ pub(crate) fn field_head_at(previous: i16, bytes: &[u8]) -> R<((i16, ElementType
 pub(crate) fn put_list_head(code: u8, size: usize, out: &mut Vec<u8>) -> R<()>
     requires { code < 16 }
     ensures stands { OnOk result (Appends (λ bytes. IsListHead bytes code size) (size_list_head size) out.old.items out.new.items) }
-    ensures which { RefusedOnly (λ _. ⊥) result }
+    ensures which { RefusedMemoryOnly result }
     ensures kept { Keeps out.old.items out.new.items }
 {
     if size <= 14 {
@@ -91,9 +92,9 @@ pub(crate) fn put_list_head(code: u8, size: usize, out: &mut Vec<u8>) -> R<()>
 pub(crate) fn put_map_head(keys: u8, values: u8, size: usize, out: &mut Vec<u8>) -> R<()>
     requires keys { keys < 16 }
     requires values { values < 16 }
-    requires some { 1 ≤ size }
+    requires not_empty { 1 ≤ size }
     ensures stands { OnOk result (Appends (λ bytes. IsMapHead bytes keys values size) (size_length size + 1) out.old.items out.new.items) }
-    ensures which { RefusedOnly (λ _. ⊥) result }
+    ensures which { RefusedMemoryOnly result }
     ensures kept { Keeps out.old.items out.new.items }
 {
     put_size(size, out)?;
@@ -112,12 +113,12 @@ fn short_step(previous: i16, id: i16) -> Option<u8>
     }
 }
 
-/// The header of a field behind the previous one.
+/// The header of a field after the previous one.
 pub(crate) fn put_field_head(previous: i16, id: i16, code: u8, out: &mut Vec<u8>) -> R<()>
     requires low { 1 ≤ code }
     requires high { code < 16 }
     ensures stands { OnOk result (Appends (λ bytes. IsFieldHead previous bytes id code) (size_field_head previous id) out.old.items out.new.items) }
-    ensures which { RefusedOnly (λ _. ⊥) result }
+    ensures which { RefusedMemoryOnly result }
     ensures kept { Keeps out.old.items out.new.items }
 {
     if let Some(step) = short_step(previous, id) {

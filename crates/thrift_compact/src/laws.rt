@@ -1,36 +1,37 @@
 //! What holds of the definitions.
 
-ghost use Rattle.std.specs.Prelude.{◌≡◌, ℕ, ◌<◌, List, ◌++◌, length, drop};
-ghost use Rattle.bits.specs.Codec.{IsFunctional, NothingStands, Appends};
-ghost use Rattle.thrift_compact.specs.Tree.{Fields};
+ghost use Rattle.bits.specs.Codec.{IsFunctional};
 ghost use Rattle.thrift_compact.specs.Compact.{IsThrift};
+ghost use Rattle.thrift_compact.specs.Law.{StructsStay, CutStructsDoNotStand, WrittenStructsStand, WrittenStructsAreNoOthers};
 ghost use Rattle.thrift_compact.specs.Length.{NoSpellingIsShorter};
 ghost use Rattle.thrift_compact.specs.Shapes.{StructsWithBytesHaveTheShape};
 
-/// A front of the bytes stands for at most one struct.
+/// A prefix of the bytes stands for at most one struct.
 pub fn one_struct()
     ensures { IsFunctional IsThrift }
 {}
 
-/// A struct at the front of the bytes is there whatever follows them. So where one is cut, none is
+/// A struct at the start of the bytes is there whatever follows them. So where one is cut, none is
 /// there: [`read_struct`](crate::read_struct) is refused Truncated then, as `which` and
 /// `whatever_follows` leave no other fault.
 pub fn what_follows_changes_nothing()
-    ensures stays { (bytes more : List ℕ) (fields : Fields) (used : ℕ) → IsThrift bytes fields used → IsThrift (bytes ++ more) fields used }
-    ensures cut { (bytes more : List ℕ) (fields : Fields) (used : ℕ) → IsThrift (bytes ++ more) fields used → length bytes < used → NothingStands (IsThrift bytes) }
+    ensures stays { StructsStay }
+    ensures cut { CutStructsDoNotStand }
 {}
 
 /// What was written is read again, whatever follows: the bytes that the writing of a struct added
-/// stand for it with any bytes behind them, and a struct at the front of these is no other and takes
-/// just those that were added. ([`write_struct`](crate::write_struct)'s `stands` is the premise.
-/// `there` and `only` of [`read_struct`](crate::read_struct) say that reading is not refused for a
-/// fault, `alone` and `stands` that it answers this struct.)
+/// stand for it, with any bytes after them. They stand for no other struct, and in no other number of
+/// bytes.
+///
+/// The premise is `stands` of [`write_struct`](crate::write_struct). By `only` of
+/// [`read_struct`](crate::read_struct) reading is not refused for a fault then; by its `stands` and
+/// `alone` here it returns this struct.
 pub fn what_is_written_is_read_again()
-    ensures there { (fields : Fields) (most : ℕ) (old new more : List ℕ) → Appends (λ bytes used. IsThrift bytes fields used) most old new → (let text = drop (length old) new in IsThrift (text ++ more) fields (length text)) }
-    ensures alone { (fields seen : Fields) (most used : ℕ) (old new more : List ℕ) → Appends (λ bytes used. IsThrift bytes fields used) most old new → (let text = drop (length old) new in IsThrift (text ++ more) seen used → (seen ≡ fields) × (used ≡ length text)) }
+    ensures stands { WrittenStructsStand }
+    ensures alone { WrittenStructsAreNoOthers }
 {}
 
-/// A struct that some bytes have, and that does not nest deeper, has the shape of one that is written:
+/// A struct that some bytes have has the shape of one that is written, at the depth to which it nests:
 /// [`write_struct`](crate::write_struct) is refused Thrift only where that is missing.
 pub fn structs_with_bytes_have_the_shape()
     ensures { StructsWithBytesHaveTheShape }

@@ -3,12 +3,12 @@
 ghost use Rattle.std.specs.Prelude.{◌≡◌, ℕ, ℤ, ◌+◌, ◌≤◌, List, length, IfOk, FitsSigned, OnOk};
 ghost use Rattle.std.specs.Int.{w16, w32};
 ghost use Rattle.bits.specs.Varint.{IsUleb};
-ghost use Rattle.bits.specs.Refusals.{RefusedOnly};
+ghost use Rattle.bits.specs.Refusals.{RefusedOnly, RefusedMemoryOnly};
 ghost use Rattle.bits.specs.Codec.{Appends};
 ghost use Rattle.thrift_compact.specs.Compact.{IsByte, IsSignedByte, IsSigned, IsDouble, IsBinary};
-ghost use Rattle.thrift_compact.specs.Reading.{IsRefusedFor, IsShortNumber, IsNumber};
+ghost use Rattle.thrift_compact.specs.inner.Reading.{IsRefusedFor, IsShortNumber, IsNumber};
 ghost use Rattle.thrift_compact.specs.Length.{size_length, size_i64};
-ghost use Rattle.thrift_compact.specs.Writing.{Keeps, IsShortestSigned};
+ghost use Rattle.thrift_compact.specs.inner.Writing.{Keeps, IsShortestSigned};
 
 use bits::{R, Refusal, read_uleb, unzigzag, write_uleb, zigzag};
 use std::alloc::Global;
@@ -90,7 +90,7 @@ pub(crate) fn binary_at(alloc: Global, bytes: &[u8]) -> R<(Vec<u8>, usize)>
 /// A zigzag varint.
 pub(crate) fn put_signed(z: i64, out: &mut Vec<u8>) -> R<()>
     ensures stands { OnOk result (Appends (IsShortestSigned z) (size_i64 z) out.old.items out.new.items) }
-    ensures which { RefusedOnly (λ _. ⊥) result }
+    ensures which { RefusedMemoryOnly result }
     ensures kept { Keeps out.old.items out.new.items }
 {
     write_uleb(zigzag(z), out)
@@ -99,7 +99,7 @@ pub(crate) fn put_signed(z: i64, out: &mut Vec<u8>) -> R<()>
 /// The varint of a size.
 pub(crate) fn put_size(size: usize, out: &mut Vec<u8>) -> R<()>
     ensures stands { OnOk result (Appends (λ bytes. IsUleb bytes size) (size_length size) out.old.items out.new.items) }
-    ensures which { RefusedOnly (λ _. ⊥) result }
+    ensures which { RefusedMemoryOnly result }
     ensures kept { Keeps out.old.items out.new.items }
 {
     write_uleb(size as u64, out)
@@ -108,7 +108,7 @@ pub(crate) fn put_size(size: usize, out: &mut Vec<u8>) -> R<()>
 /// A length, and the bytes.
 pub(crate) fn put_binary(text: &[u8], out: &mut Vec<u8>) -> R<()>
     ensures stands { OnOk result (Appends (λ bytes. IsBinary bytes text.now) (size_length (length text.now) + length text.now) out.old.items out.new.items) }
-    ensures which { RefusedOnly (λ _. ⊥) result }
+    ensures which { RefusedMemoryOnly result }
     ensures kept { Keeps out.old.items out.new.items }
 {
     put_size(text.len(), out)?;

@@ -5,7 +5,8 @@ ghost use Rattle.bits.specs.Refusals.{OnFault, RefusedOnly};
 ghost use Rattle.bits.specs.Codec.{NothingStands, NothingStandsEver};
 ghost use Rattle.thrift_compact.specs.Compact.{IsThrift};
 ghost use Rattle.thrift_compact.specs.View.{code_of, view, views, pair_views, field_views, tree_view};
-ghost use Rattle.thrift_compact.specs.Reading.{IsOfBytes, IsRefusedFor, IsNamed, IsNesting, ValueOf, ElementOf, ElementsOf, ListOf, PairsOf, FieldsOf};
+ghost use Rattle.thrift_compact.specs.Reading.{IsOfBytes, IsNamed};
+ghost use Rattle.thrift_compact.specs.inner.Reading.{IsRefusedFor, IsNesting, ValueOf, ElementOf, ElementsOf, ListOf, PairsOf, FieldsOf};
 
 use crate::heads::{field_head_at, list_head_at, map_types_at};
 use crate::numbers::{binary_at, byte_at, double_at, i8_at, i16_at, i32_at, i64_at};
@@ -91,7 +92,7 @@ fn list_at(alloc: Global, left: u32, bytes: &[u8]) -> R<((ElementType, Vec<Node>
     Ok(((kind, values), head + used))
 }
 
-/// So many elements of one type.
+/// `size` elements of one type.
 // Room is taken as they come: lists that each announce as many elements as there are bytes may
 // nest, and would together ask for far more than the bytes can hold.
 #[cycle(read)]
@@ -152,7 +153,7 @@ fn map_at(alloc: Global, left: u32, bytes: &[u8]) -> R<(Node, usize)>
     Ok((Node::Map(keys, values, pairs), head + 1 + used))
 }
 
-/// So many pairs of a key and a value.
+/// `size` pairs of a key and a value.
 #[cycle(read)]
 fn pairs_at(
     alloc: Global,
@@ -206,10 +207,10 @@ fn fields_at(alloc: Global, left: u32, bytes: &[u8]) -> R<(Vec<Field>, usize)>
     Err(Refusal::Truncated)
 }
 
-/// The struct at the front of `bytes`, and how many bytes it takes.
+/// The struct at the start of `bytes`, and how many bytes it takes.
 ///
-/// The fields come in the order in which they stand. Lists, sets, maps and structs may nest to a
-/// depth of 32 in it. What follows it is not looked at. Time and memory are linear in the bytes
+/// The fields come in the order in which they stand. Lists, sets, maps and structs may nest up to
+/// 32 levels in it. What follows it is not looked at. Time and memory are linear in the bytes
 /// that it takes.
 ///
 /// Refused Truncated where the bytes end within it or a size is above the number of remaining bytes,

@@ -5,7 +5,7 @@ ghost use Rattle.thrift_compact.specs.Compact.{kind};
 ghost use Rattle.thrift_compact.specs.View.{code_of, view};
 ghost use Rattle.thrift_compact.specs.Reading.{IsNamed};
 
-/// How deep lists, sets, maps and structs may nest in a struct.
+/// How many levels lists, sets, maps and structs may nest in a struct.
 pub(crate) const DEEPEST: u32 = 32;
 
 /// The type of a container's elements, by the protocol's name for it.

@@ -3,7 +3,8 @@
 ghost use Rattle.std.specs.Prelude.{◌≡◌, ◌≤◌, ◌&&◌, ◌↔◌, IsTrue};
 ghost use Rattle.thrift_compact.specs.Tree.{count, count_pairs, fields_nest};
 ghost use Rattle.thrift_compact.specs.View.{view, views, pair_views, field_views, tree_view};
-ghost use Rattle.thrift_compact.specs.Writable.{HasBytes, is_element, is_field, is_list, is_map, can_write, can_write_each, can_write_pairs, can_write_fields};
+ghost use Rattle.thrift_compact.specs.Writable.{HasBytes};
+ghost use Rattle.thrift_compact.specs.inner.Writable.{is_element, is_field, is_list, is_map, can_write, can_write_each, can_write_pairs, can_write_fields};
 
 use crate::tree::{DEEPEST, Field, Node, Tree, type_code};
 use crate::writing::is_element;
@@ -26,7 +27,7 @@ fn is_field(field: &Field) -> bool
     type_code(&field.value) < TYPES
 }
 
-/// Whether there can be a list or a set of this type with so many elements.
+/// Whether there can be a list or a set of this type with these elements.
 fn is_list(code: u8, nodes: &[Node]) -> bool
     ensures { result ≡ is_list code (count (views nodes.now)) }
 {
@@ -34,14 +35,14 @@ fn is_list(code: u8, nodes: &[Node]) -> bool
 }
 
 /// Whether there can be a map of these types with these pairs.
-#[tactic(auto, using(crate::proofs::Writes::count_pair_views, crate::proofs::Passed::pairs_told), unfolding(crate::specs::Writable::is_map))]
+#[tactic(auto, using(crate::proofs::Writes::count_pair_views, crate::proofs::Passed::pairs_told), unfolding(crate::specs::inner::Writable::is_map))]
 fn is_map(key: u8, value: u8, pairs: &[(Node, Node)]) -> bool
     ensures { result ≡ is_map key value (count_pairs (pair_views pairs.now)) }
 {
     key < TYPES && value < TYPES && !pairs.is_empty()
 }
 
-/// Whether a value can be written, and nests at most so deep. Goes no deeper.
+/// Whether a value can be written, and nests at most `deep` levels. It looks no deeper.
 #[cycle(can_write)]
 fn can_write(deep: u32, node: &Node) -> bool
     ensures { result ≡ can_write deep (view node.now) }
@@ -123,7 +124,7 @@ fn can_write_pairs(deep: u32, keys: u8, values: u8, pairs: &[(Node, Node)]) -> b
     true
 }
 
-/// Whether a struct can be written that has these fields, and its values nest at most so deep.
+/// Whether a struct can be written that has these fields, and its values nest at most `deep` levels.
 #[cycle(can_write)]
 fn can_write_fields(deep: u32, fields: &[Field]) -> bool
     ensures { result ≡ can_write_fields deep (field_views fields.now) }
@@ -137,8 +138,8 @@ fn can_write_fields(deep: u32, fields: &[Field]) -> bool
 }
 
 /// Whether some bytes have the struct, and lists, sets, maps and structs nest in it at most `deep`
-/// deep: where they may be 32 deep, just where [`write_struct`](crate::write_struct) is not refused
-/// Thrift. Takes no memory, and time linear in the tree. (Thrift's compact protocol, "Struct Encoding".)
+/// levels. With 32 for `deep` it is true exactly when [`write_struct`](crate::write_struct) is not
+/// refused Thrift. Takes no memory, and time linear in the tree. (Thrift's compact protocol, "Struct Encoding".)
 pub fn has_bytes(tree: &Tree, deep: u32) -> bool
     ensures { let seen = tree_view tree.now in IsTrue result ↔ (fields_nest seen ≤ deep) × HasBytes seen }
 {

@@ -6,9 +6,9 @@ ghost use Rattle.bits.specs.Codec.{Appends};
 ghost use Rattle.thrift_compact.specs.Tree.{list, empty_map, map, struct};
 ghost use Rattle.thrift_compact.specs.Compact.{kind, IsElement, IsBinary, IsThrift};
 ghost use Rattle.thrift_compact.specs.View.{view, views, pair_views, field_view, field_views, tree_view};
-ghost use Rattle.thrift_compact.specs.Length.{size_length, size_list_head, size_field_head, size_value, size_elements, size_pairs, size_fields, size_struct};
-ghost use Rattle.thrift_compact.specs.Shapes.{is_of_type, is_member, has_shape, each_has_shape, pairs_have_shape, pair_has_shape, fields_have_shape};
-ghost use Rattle.thrift_compact.specs.Writing.{IsWithoutBytes, IsShapeless, Keeps, SpellsValue, SpellsElement, SpellsElements, SpellsPair, SpellsPairs, SpellsField, SpellsFields};
+ghost use Rattle.thrift_compact.specs.Length.{size_length, size_list_head, size_field_head, size_value, size_elements, size_pairs, size_fields, size_struct, AppendsStruct};
+ghost use Rattle.thrift_compact.specs.Shapes.{is_of_type, is_member, has_shape, each_has_shape, pairs_have_shape, pair_has_shape, fields_have_shape, IsShapeless};
+ghost use Rattle.thrift_compact.specs.inner.Writing.{IsWithoutBytes, Keeps, AppendsValue, AppendsPair, AppendsField, SpellsValue, SpellsElement, SpellsElements, SpellsPair, SpellsPairs, SpellsField, SpellsFields};
 
 use crate::heads::{put_field_head, put_list_head, put_map_head};
 use crate::numbers::{put_binary, put_signed};
@@ -28,7 +28,7 @@ pub(crate) fn is_element(code: u8, value: &Node) -> bool
 /// A value without its type, in which `left` more levels may nest.
 #[cycle(write)]
 fn put_value(value: &Node, left: u32, out: &mut Vec<u8>) -> R<()>
-    ensures stands { OnOk result (Appends (SpellsValue left (view value.now)) (size_value (view value.now)) out.old.items out.new.items) }
+    ensures stands { OnOk result (AppendsValue left (view value.now) out.old.items out.new.items) }
     ensures which { RefusedOnly (IsWithoutBytes (SpellsValue left (view value.now))) result }
     ensures kept { Keeps out.old.items out.new.items }
     ensures shape { RefusedOnly (IsShapeless (has_shape left (view value.now))) result }
@@ -52,7 +52,7 @@ fn put_value(value: &Node, left: u32, out: &mut Vec<u8>) -> R<()>
 
 /// A map without pairs.
 fn put_empty_map(left: u32, out: &mut Vec<u8>) -> R<()>
-    ensures stands { OnOk result (Appends (SpellsValue left empty_map) (size_value empty_map) out.old.items out.new.items) }
+    ensures stands { OnOk result (AppendsValue left empty_map out.old.items out.new.items) }
     ensures which { RefusedOnly (IsWithoutBytes (SpellsValue left empty_map)) result }
     ensures kept { Keeps out.old.items out.new.items }
     ensures shape { RefusedOnly (IsShapeless (has_shape left empty_map)) result }
@@ -66,7 +66,7 @@ fn put_empty_map(left: u32, out: &mut Vec<u8>) -> R<()>
 /// A struct in another value.
 #[cycle(write)]
 fn put_struct(fields: &[Field], left: u32, out: &mut Vec<u8>) -> R<()>
-    ensures stands { let seen = struct (field_views fields.now) in OnOk result (Appends (SpellsValue left seen) (size_value seen) out.old.items out.new.items) }
+    ensures stands { OnOk result (AppendsValue left (struct (field_views fields.now)) out.old.items out.new.items) }
     ensures which { RefusedOnly (IsWithoutBytes (SpellsValue left (struct (field_views fields.now)))) result }
     ensures kept { Keeps out.old.items out.new.items }
     ensures shape { RefusedOnly (IsShapeless (has_shape left (struct (field_views fields.now)))) result }
@@ -80,7 +80,7 @@ fn put_struct(fields: &[Field], left: u32, out: &mut Vec<u8>) -> R<()>
 /// A list or a set.
 #[cycle(write)]
 fn put_list(code: u8, values: &[Node], left: u32, out: &mut Vec<u8>) -> R<()>
-    ensures stands { let seen = list code (views values.now) in OnOk result (Appends (SpellsValue left seen) (size_value seen) out.old.items out.new.items) }
+    ensures stands { OnOk result (AppendsValue left (list code (views values.now)) out.old.items out.new.items) }
     ensures which { RefusedOnly (IsWithoutBytes (SpellsValue left (list code (views values.now)))) result }
     ensures kept { Keeps out.old.items out.new.items }
     ensures shape { RefusedOnly (IsShapeless (has_shape left (list code (views values.now)))) result }
@@ -121,7 +121,7 @@ fn put_element(code: u8, value: &Node, left: u32, out: &mut Vec<u8>) -> R<()>
 /// A map with pairs.
 #[cycle(write)]
 fn put_map(keys: u8, values: u8, pairs: &[(Node, Node)], left: u32, out: &mut Vec<u8>) -> R<()>
-    ensures stands { let seen = map keys values (pair_views pairs.now) in OnOk result (Appends (SpellsValue left seen) (size_value seen) out.old.items out.new.items) }
+    ensures stands { let seen = map keys values (pair_views pairs.now) in OnOk result (AppendsValue left seen out.old.items out.new.items) }
     ensures which { RefusedOnly (IsWithoutBytes (SpellsValue left (map keys values (pair_views pairs.now)))) result }
     ensures kept { Keeps out.old.items out.new.items }
     ensures shape { RefusedOnly (IsShapeless (has_shape left (map keys values (pair_views pairs.now)))) result }
@@ -135,7 +135,7 @@ fn put_map(keys: u8, values: u8, pairs: &[(Node, Node)], left: u32, out: &mut Ve
 
 #[cycle(write)]
 fn put_pairs(keys: u8, values: u8, pairs: &[(Node, Node)], left: u32, out: &mut Vec<u8>) -> R<()>
-    ensures stands { OnOk result (Appends (SpellsPairs keys values left (pair_views pairs.now)) (size_pairs (pair_views pairs.now)) out.old.items out.new.items) }
+    ensures stands { let seen = pair_views pairs.now in OnOk result (Appends (SpellsPairs keys values left seen) (size_pairs seen) out.old.items out.new.items) }
     ensures which { RefusedOnly (IsWithoutBytes (SpellsPairs keys values left (pair_views pairs.now))) result }
     ensures kept { Keeps out.old.items out.new.items }
     ensures shape { RefusedOnly (IsShapeless (pairs_have_shape left keys values (pair_views pairs.now))) result }
@@ -148,7 +148,7 @@ fn put_pairs(keys: u8, values: u8, pairs: &[(Node, Node)], left: u32, out: &mut 
 
 #[cycle(write)]
 fn put_pair(keys: u8, values: u8, pair: &(Node, Node), left: u32, out: &mut Vec<u8>) -> R<()>
-    ensures stands { OnOk result (Appends (SpellsPair keys values left (view pair.now.0) (view pair.now.1)) (size_value (view pair.now.0) + size_value (view pair.now.1)) out.old.items out.new.items) }
+    ensures stands { OnOk result (AppendsPair keys values left (view pair.now.0) (view pair.now.1) out.old.items out.new.items) }
     ensures which { RefusedOnly (IsWithoutBytes (SpellsPair keys values left (view pair.now.0) (view pair.now.1))) result }
     ensures kept { Keeps out.old.items out.new.items }
     ensures shape { RefusedOnly (IsShapeless (pair_has_shape left keys values (view pair.now.0) (view pair.now.1))) result }
@@ -175,7 +175,7 @@ fn put_fields(fields: &[Field], left: u32, out: &mut Vec<u8>) -> R<()>
 
 #[cycle(write)]
 fn put_field(previous: i16, field: &Field, left: u32, out: &mut Vec<u8>) -> R<()>
-    ensures stands { let seen = field_view field.now in OnOk result (Appends (SpellsField previous left seen.0 seen.1) (size_field_head previous seen.0 + size_value seen.1) out.old.items out.new.items) }
+    ensures stands { let seen = field_view field.now in OnOk result (AppendsField previous left seen.0 seen.1 out.old.items out.new.items) }
     ensures which { let seen = field_view field.now in RefusedOnly (IsWithoutBytes (SpellsField previous left seen.0 seen.1)) result }
     ensures kept { Keeps out.old.items out.new.items }
     ensures shape { RefusedOnly (IsShapeless (is_member (view field.now.value) && has_shape left (view field.now.value))) result }
@@ -189,15 +189,15 @@ fn put_field(previous: i16, field: &Field, left: u32, out: &mut Vec<u8>) -> R<()
 }
 
 /// Writes the struct at the end of `out`: its fields in their order, with short headers where the
-/// id is 1 to 15 above the previous field's, and each number and size in its shortest form: no bytes
+/// id is 1 to 15 above the previous field's, and each number and size in its shortest form. No bytes
 /// that stand for the struct are fewer. Time is linear in the bytes that are written.
 ///
 /// Refused Thrift where no bytes have this tree: a [`Node::Flag`] that is no element, a
-/// [`Node::Bool`] that is one, an element that has not the announced type, a code above 15, a
-/// [`Node::Map`] without pairs, or a nest deeper than 32. Then, and where memory is wanting, `out`
-/// is as it was. (Thrift's compact protocol, "Struct Encoding".)
+/// [`Node::Bool`] that is one, an element that does not have the announced type, a code above 15, a
+/// [`Node::Map`] without pairs, or more than 32 nested levels. Then, and when out of memory, `out` is
+/// unchanged. (Thrift's compact protocol, "Struct Encoding".)
 pub fn write_struct(tree: &Tree, out: &mut Vec<u8>) -> R<()>
-    ensures stands { let seen = tree_view tree.now in OnOk result (Appends (λ bytes used. IsThrift bytes seen used) (size_struct seen) out.old.items out.new.items) }
+    ensures stands { OnOk result (AppendsStruct (tree_view tree.now) out.old.items out.new.items) }
     ensures exact { OnOk result (length out.new.items ≡ length out.old.items + size_struct (tree_view tree.now)) }
     ensures only { OnFault result ((bytes : List ℕ) (used : ℕ) → IsThrift bytes (tree_view tree.now) used → ⊥) }
     ensures which { RefusedOnly (IsShapeless (fields_have_shape 32 (tree_view tree.now))) result }

@@ -1,7 +1,7 @@
 use Rattle.std.proofs.Common.{ℕ, ◌++◌}
 use Rattle.std.specs.Prelude.{ℤ}
 use Rattle.thrift_compact.specs.Compact.{IsByte, IsFieldHead, IsSigned}
-use Rattle.thrift_compact.specs.Reading.{IsShortNumber}
+use Rattle.thrift_compact.specs.inner.Reading.{IsShortNumber}
 use Rattle.thrift_compact.proofs.Parts.{field_head_byte, long_field}
 use Rattle.thrift_compact.proofs.Refused.{refused}
 use Rattle.thrift_compact.proofs.Stays.{byte_stays, in_rest}

@@ -2,7 +2,7 @@ use Rattle.std.proofs.Common.{subst}
 use Rattle.std.specs.Prelude.{OnOk, false}
 use Rattle.bits.specs.Codec.{Appends}
 use Rattle.thrift_compact.specs.Length.{size_i64}
-use Rattle.thrift_compact.specs.Writing.{IsShortestSigned}
+use Rattle.thrift_compact.specs.inner.Writing.{IsShortestSigned}
 use Rattle.thrift_compact.proofs.Appending.{ok_then}
 use Rattle.thrift_compact.proofs.Spelled.{long_head}
 use Rattle.thrift_compact.proofs.Steps.{wide_is, same_step}

@@ -3,7 +3,7 @@ use Rattle.std.specs.Prelude.{ℤ, FitsSigned}
 use Rattle.std.specs.Int.{w16, w64}
 use Rattle.std.proofs.lemmas.Int.{to_z-of_z}
 use Rattle.thrift_compact.specs.Compact.{IsSigned}
-use Rattle.thrift_compact.specs.Reading.{IsShortNumber}
+use Rattle.thrift_compact.specs.inner.Reading.{IsShortNumber}
 use Rattle.thrift_compact.proofs.Parts.{signed_fits}
 use Rattle.thrift_compact.proofs.Refused.{refused}
 use Rattle.thrift_compact.proofs.Stays.{same_signed}

@@ -5,7 +5,7 @@ use Rattle.std.proofs.lemmas.Int.{to_z-of_z}
 use Rattle.bits.specs.Codec.{Appends}
 use Rattle.bits.specs.Varint.{IsShortestUleb, zigzag_of}
 use Rattle.thrift_compact.specs.Length.{size_i64}
-use Rattle.thrift_compact.specs.Writing.{IsShortestSigned}
+use Rattle.thrift_compact.specs.inner.Writing.{IsShortestSigned}
 use Rattle.thrift_compact.proofs.Appending.{appends_as, ok_then}
 use Rattle.thrift_compact.proofs.Sizes.{length_size}
 use Rattle.thrift_compact.proofs.numbers.put_signed.Goals as goal

@@ -7,7 +7,7 @@ use Rattle.bits.specs.Varint.{IsUleb}
 use Rattle.bits.proofs.Facts.{uleb_stays}
 use Rattle.thrift_compact.specs.Tree.{no_nodes, node, no_pairs, pair, no_fields, field, nest, count}
 use Rattle.thrift_compact.specs.Compact.{IsSigned, IsDouble, IsFieldHead, IsListHead, IsMapHead, IsValue, AreElements, ArePairs, kind}
-use Rattle.thrift_compact.specs.Reading.{IsShortNumber, IsNumber, ValueOf, ListOf, ElementsOf, ElementOf, PairsOf, FieldsOf}
+use Rattle.thrift_compact.specs.inner.Reading.{IsShortNumber, IsNumber, ValueOf, ListOf, ElementsOf, ElementOf, PairsOf, FieldsOf}
 use Rattle.thrift_compact.specs.View.{code_of, view, views, pair_views, field_views}
 use Rattle.thrift_compact.proofs.NodeTypes.{is_i16, is_i32, is_i64, is_double, is_list, is_set}
 use Rattle.thrift_compact.proofs.Parts.{one_list_head, one_map_head, field_head_byte}

@@ -4,7 +4,7 @@ use Rattle.std.specs.Int.{w8, w16, w32, w64}
 use Rattle.thrift_compact.specs.declared.tree.Node.TheFolds.{the_lemmas}
 use Rattle.thrift_compact.specs.Tree.{i8, i16, i32, i64, binary}
 use Rattle.thrift_compact.specs.View.{view}
-use Rattle.thrift_compact.specs.Writable.{can_write}
+use Rattle.thrift_compact.specs.inner.Writable.{can_write}
 use Rattle.thrift_compact.proofs.Passed.{byte_bits, short_bits, int_bits, long_bits, of_size}
 use Rattle.thrift_compact.proofs.writable.+can_write.Goals as goal
 

@@ -1,6 +1,6 @@
 use Rattle.std.proofs.Common.{◌≡◌, drop}
 use Rattle.thrift_compact.specs.View.{views, pair_views, field_views}
-use Rattle.thrift_compact.specs.Writable.{can_write_each, can_write_pairs, can_write_fields}
+use Rattle.thrift_compact.specs.inner.Writable.{can_write_each, can_write_pairs, can_write_fields}
 use Rattle.thrift_compact.proofs.writable.+can_write.Given as goal
 
 -- what is left can be written just where all can

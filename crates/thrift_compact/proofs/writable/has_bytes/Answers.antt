@@ -1,6 +1,6 @@
 use Rattle.std.proofs.Common.{ap, ◌∙◌}
 use Rattle.thrift_compact.specs.View.{field_views, tree_view}
-use Rattle.thrift_compact.specs.Writable.{can_write_fields}
+use Rattle.thrift_compact.specs.inner.Writable.{can_write_fields}
 use Rattle.thrift_compact.proofs.Tested.{tells}
 use Rattle.thrift_compact.proofs.writable.has_bytes.Goals as goal
 

@@ -11,13 +11,12 @@ use Rattle.thrift_compact.specs.declared.tree.Field.{Field}
 use Rattle.thrift_compact.specs.Compact.{IsFieldHead}
 use Rattle.thrift_compact.specs.View.{view, views, pair_views, field_view, field_views}
 use Rattle.thrift_compact.specs.Length.{size_i64, size_value, size_field_head}
-use Rattle.thrift_compact.specs.Writing.{SpellsValue, SpellsElement, SpellsElements, SpellsPair, SpellsPairs, SpellsField, SpellsFields, IsWithoutBytes, IsShortestSigned}
+use Rattle.thrift_compact.specs.inner.Writing.{SpellsValue, SpellsElement, SpellsElements, SpellsPair, SpellsPairs, SpellsField, SpellsFields, IsWithoutBytes, IsShortestSigned}
 use Rattle.thrift_compact.proofs.Appending.{ok_then, appends_so, appends_then, keeps_then, pushed}
 use Rattle.thrift_compact.proofs.Writes as writes
 use Rattle.thrift_compact.proofs.Writes.{HasPart}
 use Rattle.thrift_compact.proofs.Shapes as shapes
-use Rattle.thrift_compact.specs.Shapes.{is_of_type, is_member, has_shape, each_has_shape, pairs_have_shape, pair_has_shape, fields_have_shape}
-use Rattle.thrift_compact.specs.Writing.{IsShapeless}
+use Rattle.thrift_compact.specs.Shapes.{is_of_type, is_member, has_shape, each_has_shape, pairs_have_shape, pair_has_shape, fields_have_shape, IsShapeless}
 use Rattle.thrift_compact.proofs.writing.+write.Goals as goal
 
 -- ---- elements

@@ -3,7 +3,7 @@ use Rattle.std.specs.Prelude.{pos}
 use Rattle.bits.specs.Codec.{Appends}
 use Rattle.thrift_compact.specs.View.{views, pair_views, field_views}
 use Rattle.thrift_compact.specs.Length.{size_elements, size_pairs}
-use Rattle.thrift_compact.specs.Writing.{SpellsElements, SpellsPairs}
+use Rattle.thrift_compact.specs.inner.Writing.{SpellsElements, SpellsPairs}
 use Rattle.thrift_compact.proofs.Writes.{Begun, size_begun}
 use Rattle.thrift_compact.proofs.writing.+write.Given as goal
 

@@ -1,0 +1,4 @@
+-- Definitions for private functions only.
+pub mod Reading
+pub mod Writing
+pub mod Writable

@@ -1,0 +1,49 @@
+-- What each reader reads, in at most `left` more levels.
+use Rattle.std.specs.Prelude.{◌≡◌, ℕ, ◌≤◌, ℤ, pos, List, FitsSigned}
+use Rattle.std.specs.Int.{w16, w32}
+use Rattle.bits.specs.declared.refusal.Refusal.{Refusal}
+use Rattle.bits.specs.declared.refusal.Refusal.TheVariants.{Truncated, Thrift}
+use Rattle.bits.specs.Codec.{NothingStands, NothingStandsEver}
+use Rattle.thrift_compact.specs.declared.tree.ElementType.{ElementType}
+use Rattle.thrift_compact.specs.declared.tree.ElementType.TheVariants.{List as ListType, Set, Map, Struct}
+use Rattle.thrift_compact.specs.Tree.{Node, Nodes, list, Pairs, Fields, nest, nodes_nest, pairs_nest, fields_nest, count, count_pairs}
+use Rattle.thrift_compact.specs.Compact.{IsSigned, kind, IsElement, IsValue, AreElements, ArePairs, AreFields}
+
+-- it is refused for its bytes: Truncated where nothing stands there, Thrift where nothing does whatever follows
+abbrev pub IsRefusedFor : {Y : Type 0} → (List ℕ → Y → ℕ → Type 0) → List ℕ → Refusal → Type 0
+IsRefusedFor Stands bytes Truncated = NothingStands (Stands bytes)
+IsRefusedFor Stands bytes Thrift = NothingStandsEver Stands bytes
+IsRefusedFor Stands bytes _ = ⊥
+
+-- an i16 and an i32
+abbrev pub IsShortNumber : List ℕ → ℤ → ℕ → Type 0
+IsShortNumber bytes z used = IsSigned bytes z used × FitsSigned w16 z
+
+abbrev pub IsNumber : List ℕ → ℤ → ℕ → Type 0
+IsNumber bytes z used = IsSigned bytes z used × FitsSigned w32 z
+
+-- a type whose values nest
+abbrev pub IsNesting : ElementType → Type 0
+IsNesting ListType = Unit {0}
+IsNesting Set = Unit {0}
+IsNesting Map = Unit {0}
+IsNesting Struct = Unit {0}
+IsNesting _ = ⊥
+
+abbrev pub ValueOf : ℕ → ℕ → List ℕ → Node → ℕ → Type 0
+ValueOf code left bytes x used = (kind x ≡ code) × (nest x ≤ left) × IsValue x bytes used
+
+abbrev pub ElementOf : ℕ → ℕ → List ℕ → Node → ℕ → Type 0
+ElementOf code left bytes x used = IsElement code x × (nest x ≤ left) × IsValue x bytes used
+
+abbrev pub ElementsOf : ℕ → ℕ → ℕ → List ℕ → Nodes → ℕ → Type 0
+ElementsOf code left size bytes xs used = (count xs ≡ size) × (nodes_nest xs ≤ left) × AreElements xs code bytes used
+
+abbrev pub ListOf : ℕ → List ℕ → ℕ × Nodes → ℕ → Type 0
+ListOf left bytes l used = (nodes_nest l.1 ≤ left) × IsValue (list l.0 l.1) bytes used
+
+abbrev pub PairsOf : ℕ → ℕ → ℕ → ℕ → List ℕ → Pairs → ℕ → Type 0
+PairsOf key value left size bytes ps used = (count_pairs ps ≡ size) × (pairs_nest ps ≤ left) × ArePairs ps key value bytes used
+
+abbrev pub FieldsOf : ℕ → List ℕ → Fields → ℕ → Type 0
+FieldsOf left bytes fs used = (fields_nest fs ≤ left) × AreFields fs (pos 0) bytes used
