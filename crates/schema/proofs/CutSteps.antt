@@ -8,7 +8,8 @@ use Rattle.schema.specs.declared.field.Field.{Field as CodeField}
 use Rattle.schema.specs.Shape.{Field, leaf, fields, Fields, no_fields, field}
 use Rattle.schema.specs.declared.field.Leaf.{Leaf as CodeLeaf}
 use Rattle.schema.specs.Stripe.{leaves, leaves_from, leaves_of}
-use Rattle.schema.specs.Reading.{count_leaves, count_leaves_each, join_fields}
+use Rattle.schema.specs.Reading.{count_leaves, count_leaves_each}
+use Rattle.schema.specs.inner.Reading.{join_fields}
 use Rattle.schema.specs.Views.{field_view, field_views, leaf_view}
 use Rattle.schema.specs.Cutting.{group_of, kept, cut, cut_each, ArePlaces}
 use Rattle.schema.proofs.Limits.{length-each}

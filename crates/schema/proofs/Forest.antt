@@ -19,7 +19,8 @@ use Rattle.schema.specs.Shape.{Field, leaf, fields, Fields, no_fields, field}
 use Rattle.schema.specs.Views.{field_view, field_views}
 use Rattle.schema.specs.Law.{AllDiffer, names, IsFilled, IsGroupOf, AreValid}
 use Rattle.schema.specs.Listing.{Branch, branch, Branches, no_branches, branches, branch_names, count_branches, repetition, AreFields, IsSound, height, height_of}
-use Rattle.schema.specs.Reading.{amount, children, children_by, may_have, forest, well_formed, take_branches, drop_branches, OnFirst, IsRead, AreRead, IsFaultOf, IsFaultAmong, IsGroupMade, AreTwins, join_fields, tallest}
+use Rattle.schema.specs.Reading.{tallest}
+use Rattle.schema.specs.inner.Reading.{amount, children, children_by, may_have, forest, well_formed, take_branches, drop_branches, OnFirst, IsRead, AreRead, IsFaultOf, IsFaultAmong, IsGroupMade, AreTwins, join_fields}
 
 pub at_place : (es : List CodeElement) (i : ℕ) (e : CodeElement) → i < length es → e ≡ get_or es i e → elements_view (drop i es) ≡ element_view e ∷ elements_view (drop (i + 1) es)
 at_place es i e h is = ap elements_view (drop_more es i e h) ∙ ap (λ t. element_view t ∷ elements_view (drop (i + 1) es)) (sym is)
@@ -191,7 +192,7 @@ pub tallest-read : (deep : ℕ) (bs : Branches) (fs : Fields) → AreRead deep b
 tallest-read deep no_branches no_fields h = omega arith
 tallest-read deep no_branches (field f fs) h = absurd h
 tallest-read deep (branches b bs) no_fields h = absurd h
-tallest-read deep (branches b bs) (field f fs) h = let a = h.0.short in let k = tallest-read deep bs fs h.1 in omega (arith, a, k)
+tallest-read deep (branches b bs) (field f fs) h = let a = h.0.shallow in let k = tallest-read deep bs fs h.1 in omega (arith, a, k)
 
 filled-read : (deep : ℕ) (bs : Branches) (fs : Fields) → AreRead deep bs fs → 1 ≤ count_branches bs → IsFilled fs
 filled-read deep no_branches fs h some = absurd (omega (arith, some))
@@ -216,7 +217,7 @@ group_read deep d e bs n r a fs is name text rep none an h some differ =
       stands_for = (name, rep, none, an, fields-read d bs fs h);
       valid = (group_of d bs fs h some differ, valid-read d bs fs h);
       text = subst (λ x. IsTrue (is_utf8 x)) (sym name) text;
-      short = let k = tallest-read d bs fs h in omega (arith, k, is);
+      shallow = let k = tallest-read d bs fs h in omega (arith, k, is);
     }
 
 pub twins_fault : (deep d : ℕ) (e : Element) (bs : Branches) (fs : Fields) → AreRead d bs fs → (AllDiffer (names fs) → ⊥) → IsSound (branch e bs) → ⊥

@@ -6,7 +6,7 @@ use Rattle.schema.specs.Annotations.{LeafType}
 use Rattle.schema.specs.Elements.{Element}
 use Rattle.schema.specs.Shape.{Field, leaf, fields, Fields, no_fields, field}
 use Rattle.schema.specs.Listing.{Branch, branch, Branches, no_branches, branches, typed, leaf_type, IsTyped, IsField, AreFields, ListsMeanOneSchema}
-use Rattle.schema.specs.Reading.{forest}
+use Rattle.schema.specs.inner.Reading.{forest}
 use Rattle.schema.proofs.Trees.{below_is, only_tree}
 
 one_some : {A : Type 0} (o : Option A) (x y : A) → o ≡ Some x → o ≡ Some y → x ≡ y

@@ -11,7 +11,7 @@ use Rattle.schema.specs.Shape.{Fields}
 use Rattle.schema.specs.Law.{AllDiffer, names}
 use Rattle.schema.specs.Listing.{Branch, branch, Branches, no_branches, branches, branch_names, count_branches, depth_first, depth_first_each, HasChildren, IsCounted, AreCounted, IsTreeOf, IsSchemaOf, AreSound, IsSoundList, count_typed, IsTooLarge}
 use Rattle.schema.specs.Faults.{HasFault}
-use Rattle.schema.specs.Reading.{amount, children, children_by, may_have, is_group_count, forest, well_formed, take_branches, drop_branches, AreRead, IsFaultAmong, HasTree}
+use Rattle.schema.specs.inner.Reading.{amount, children, children_by, may_have, is_group_count, forest, well_formed, take_branches, drop_branches, AreRead, IsFaultAmong, HasTree}
 use Rattle.schema.proofs.Forest.{count-take, count-drop, well_parts, names-read, fields-read, valid-read, group_of}
 
 abbrev join_branches : Branches → Branches → Branches

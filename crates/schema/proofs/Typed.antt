@@ -14,7 +14,7 @@ use Rattle.schema.specs.Annotations.{Annotation, known, other_logical, LeafType,
 use Rattle.schema.specs.Elements.{Element}
 use Rattle.schema.specs.Law.{IsWritable, KeepsWritable, IsLeafType, HasLength}
 use Rattle.schema.specs.Listing.{typed, leaf_type, IsTyped, is_float16, KeepsSound}
-use Rattle.schema.specs.Reading.{KeepsWritten}
+use Rattle.schema.specs.inner.Reading.{KeepsWritten}
 
 pub numbered_back : (c : ConvertedType) → converted_type (pos (number_of c)) ≡ Some c
 unfolding converted_type

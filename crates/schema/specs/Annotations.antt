@@ -20,7 +20,7 @@ pub data Annotation : Type 0 where
   other_converted : ℤ → Annotation
   other_logical : Struct → Annotation
 
--- what the values of a leaf are: the physical type, the annotation, and the scale and the precision beside it
+-- what the values of a leaf are: the physical type, the annotation, the scale and the precision
 pub record LeafType : Type 0 where
   pub kind : Kind
   pub annotation : Annotation

@@ -17,12 +17,12 @@ abbrev pub group_of : List ℕ → Repetition → Option GroupAnnotation → Fie
 group_of n r a no_fields = None
 group_of n r a (field f fs) = Some (fields n r a (field f fs))
 
--- what is kept of a field, and behind it these fields
+-- what is kept of a field, and then these fields
 abbrev pub kept : Option Field → Fields → Fields
 kept None fs = fs
 kept (Some f) fs = field f fs
 
--- what is kept of a field, and of some fields: a leaf just if it is wanted; the first leaf below has this place
+-- what is kept of a field, and of some fields: a leaf exactly when it is wanted; the first leaf below has this place
 abbrev mutual
   pub cut : (ℕ → Bool) → ℕ → Field → Option Field
   cut wanted at (leaf n r t) = if wanted at then Some (leaf n r t) else None

@@ -71,12 +71,12 @@ abbrev mutual
 abbrev pub IsSchema : Fields → Type 0
 IsSchema fs = IsGroupOf fs × AreValid fs
 
--- at most 1,024 leaves, and 32 fields on the way to each
+-- at most 1,024 leaves, and 32 fields on the path to each
 pub record IsWithinLimits (fs : Fields) : Type 0 where
   pub leaves : length (leaves_of fs) ≤ 1024
   pub depth : AllByRecursion (λ (l : Leaf). length l.steps ≤ 32) (leaves_of fs)
 
--- the greatest levels of a leaf are those at the end of the way to it
+-- the greatest levels of a leaf are those at the end of the path to it
 pub record HasGreatestLevels (l : Leaf) : Type 0 where
   pub repetition : l.greatest_repetition ≡ greatest_repetition l.steps
   pub definition : l.greatest_definition ≡ greatest_definition l.steps
@@ -85,7 +85,7 @@ pub record HasGreatestLevels (l : Leaf) : Type 0 where
 abbrev pub LevelsAreOfSteps : Type 0
 LevelsAreOfSteps = (fs : Fields) → AllByRecursion HasGreatestLevels (leaves_of fs)
 
--- an entry within these greatest levels: it has a value, which fits, just where its definition level is the greatest
+-- an entry within these greatest levels: it has a value, which fits, exactly when its definition level is the greatest
 pub record IsEntry (most full : ℕ) (t : LeafType) (e : Entry) : Type 0 where
   pub repetition : e.repetition ≤ most
   pub definition : e.definition ≤ full
@@ -94,7 +94,7 @@ pub record IsEntry (most full : ℕ) (t : LeafType) (e : Entry) : Type 0 where
 abbrev pub IsEntryOf : Leaf → Entry → Type 0
 IsEntryOf l e = IsEntry l.greatest_repetition l.greatest_definition l.leaf_type e
 
--- the columns of rows that fit have such entries alone
+-- the columns of rows that fit have only such entries
 abbrev pub EntriesAreOfLeaves : Type 0
 EntriesAreOfLeaves = (fs : Fields) (rows : List ValueTrees) → RowsFit fs rows → AllByRecursion (λ l. AllByRecursion (IsEntryOf l) (column rows l.steps)) (leaves_of fs)
 

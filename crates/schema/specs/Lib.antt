@@ -11,9 +11,8 @@ pub mod Elements
 pub mod Listing
 pub mod Faults
 pub mod Reading
-pub mod Code
-pub mod Leafing
 pub mod Listed
 pub mod Cutting
 pub mod Keys
 pub mod Borrowed
+pub mod inner

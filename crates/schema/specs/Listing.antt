@@ -77,7 +77,7 @@ typed z length =
     else if int_eq z (pos 7) then fixed length
     else None
 
--- FLOAT16: where no converted type stands beside it
+-- FLOAT16: where there is no converted type
 abbrev pub is_float16 : Option ℤ → Option Struct → Bool
 is_float16 None (Some s) = is_half s
 is_float16 _ _ = false
@@ -156,7 +156,7 @@ is_int96 e = (number : ℤ) × (e.kind ≡ Some number) × (typed number e.type_
 abbrev pub is_floating : Element → Type 0
 is_floating e = (number : ℤ) × (e.kind ≡ Some number) × ((typed number e.type_length ≡ Some Floating) ⊎ (is_float16 e.converted_type e.logical_type ≡ true))
 
--- at or below a branch, and among some branches, there is a leaf that is so, with this path: the names on the way to it, joined by dots
+-- at or below a branch, and among some branches, there is a leaf that is so, with this path: the names of the fields that lead to it, joined by dots
 abbrev mutual
   pub HasLeaf : (Element → Type 0) → Branch → List ℕ → Type 0
   HasLeaf Is (branch e no_branches) path = Is e × (path ≡ e.name)
@@ -173,7 +173,7 @@ pub record ListHasLeaf (Is : Element → Type 0) (es : List Element) (path : Lis
   pub listed : IsTreeOf es root below
   pub there : HasLeafAmong Is below path
 
--- how many fields are on the longest way down
+-- how many fields are on the longest path down
 abbrev mutual
   pub height : Branch → ℕ
   height (branch e bs) = suc (height_of bs)
@@ -191,7 +191,7 @@ abbrev pub count_typed : List Element → ℕ
 count_typed [] = 0
 count_typed (e ∷ es) = one_typed e.kind + count_typed es
 
--- the list is a tree with more leaves, or more fields on a way, than a schema may have
+-- the list is a tree with more leaves, or more fields on a path, than a schema may have
 pub record IsTooLarge (es : List Element) : Type 0 where
   pub root : Element
   pub below : Branches

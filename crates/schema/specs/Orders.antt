@@ -46,7 +46,7 @@ UnsignedOrderIsOfBits = (w : Width) (a b : ℤ) → FitsSigned w a → FitsSigne
 abbrev pub IsBelow : Option Order → ValueTree → ValueTree → Type 0
 IsBelow order v w = IsTrue (is_some_and is_lt (compared order v w))
 
--- the order compares two values, and does not put the first behind the second
+-- the order compares two values, and does not put the first after the second
 abbrev pub IsAtMost : Option Order → ValueTree → ValueTree → Type 0
 IsAtMost order v w = IsTrue (is_some_and is_le (compared order v w))
 

@@ -6,7 +6,7 @@ use Rattle.schema.specs.Annotations.{LeafType}
 use Rattle.schema.specs.Values.{ValueTree, null, group, list, ValueTrees, no_values, value as item, member}
 use Rattle.schema.specs.Shape.{Field, leaf, fields, Fields, no_fields, field, repetition_of, name_of}
 
--- a field on the way to a leaf: its place in its group, and its repetition
+-- a field on the path to a leaf: its place in its group, and its repetition
 pub record Step : Type 0 where
   pub place : ℕ
   pub repetition : Repetition
@@ -22,7 +22,7 @@ repetitions Required = 0
 repetitions Optional = 0
 repetitions Repeated = 1
 
--- the greatest levels at the end of a way
+-- the greatest levels at the end of a path
 abbrev pub greatest_definition : List Step → ℕ
 greatest_definition [] = 0
 greatest_definition (s ∷ steps) = definitions s.repetition + greatest_definition steps
@@ -31,7 +31,7 @@ abbrev pub greatest_repetition : List Step → ℕ
 greatest_repetition [] = 0
 greatest_repetition (s ∷ steps) = repetitions s.repetition + greatest_repetition steps
 
--- a leaf: the names on the way to it, the way itself, what its values are, and its greatest levels
+-- a leaf: the names on the path to it, the steps of the path, what its values are, and its greatest levels
 pub record Leaf : Type 0 where
   pub path : List (List ℕ)
   pub steps : List Step
@@ -39,11 +39,11 @@ pub record Leaf : Type 0 where
   pub greatest_repetition : ℕ
   pub greatest_definition : ℕ
 
--- a leaf by the way to it
+-- a leaf by the path to it
 abbrev pub leaf_at : List (List ℕ) → List Step → LeafType → Leaf
 leaf_at path steps t = record { path = path; steps = steps; leaf_type = t; greatest_repetition = greatest_repetition steps; greatest_definition = greatest_definition steps }
 
--- the leaf, seen from the group of a field on the way to it
+-- the leaf, seen from the group of a field on the path to it
 abbrev pub below : ℕ → Field → Leaf → Leaf
 below i f l = leaf_at (name_of f ∷ l.path) (record { place = i; repetition = repetition_of f } ∷ l.steps) l.leaf_type
 
@@ -74,7 +74,7 @@ entry r d v = record { repetition = r; definition = d; value = v } ∷ []
 abbrev pub Striping : Type 0
 Striping = ValueTree → ℕ → ℕ → ℕ → List Entry
 
--- the items behind the first begin with the list's own level
+-- the items after the first begin with the list's own level
 abbrev pub later_items : Striping → ValueTrees → ℕ → ℕ → List Entry
 later_items s no_values d k = []
 later_items s (item v vs) d k = s v k d k ++ later_items s vs d k
@@ -92,7 +92,7 @@ stripe_as Optional s v r d k = s v r (suc d) k
 stripe_as Repeated s (list vs) r d k = list_items s vs r d k
 stripe_as Repeated s _ r d k = []
 
--- down the way to the leaf, which gives its value
+-- down the path to the leaf, which gives its value
 abbrev pub stripe : List Step → Striping
 stripe [] v r d k = entry r d (Some v)
 stripe (s ∷ steps) v r d k = stripe_as s.repetition (stripe steps) (member s.place v) r d k

@@ -81,7 +81,7 @@ pub enum Annotation {
     Known(ConvertedType),
     /// A converted type that is not known over the leaf's physical type, by its number.
     OtherConverted(i32),
-    /// The struct of a logicalType beside which no converted type stands.
+    /// The struct of a logicalType that has no converted type next to it.
     OtherLogical(Tree),
 }
 
@@ -90,9 +90,9 @@ pub enum Annotation {
 pub struct LeafType {
     pub kind: Kind,
     pub annotation: Annotation,
-    /// Kept as it stands beside the annotation, of which it means something to DECIMAL alone.
+    /// Kept as it is next to the annotation. It means something to DECIMAL only.
     pub scale: Option<i32>,
-    /// Kept as it stands beside the annotation, of which it means something to DECIMAL alone.
+    /// Kept as it is next to the annotation. It means something to DECIMAL only.
     pub precision: Option<i32>,
 }
 
@@ -172,7 +172,7 @@ impl GroupAnnotation {
     }
 }
 
-/// Whether the union has the member STRING alone, which is a struct.
+/// Whether the union has only the member STRING, which is a struct.
 #[tactic(auto, using(crate::proofs::Members::many_members))]
 fn is_string(logical_type: &Tree) -> bool
     ensures { result ≡ is_only_member 1 (tree_view logical_type.now) }

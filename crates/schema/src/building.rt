@@ -1,13 +1,13 @@
 //! The fields of a list of elements.
 
-ghost use Rattle.bits.specs.Refusals.{RefusedOnly};
+ghost use Rattle.bits.specs.Refusals.{RefusedMemoryOnly};
 ghost use Rattle.thrift_compact.specs.View.{tree_view, field_views as member_views};
 ghost use Rattle.std.specs.Prelude.{◌≡◌, option_map, ◌+◌, ◌<◌, ◌≤◌, ◌↔◌, IfOk, IfErr, drop, length, true, IsTrue, string_bytes, map};
 ghost use Rattle.std.specs.Str.{is_utf8};
 ghost use Rattle.schema.specs.Elements.{element_view, elements_view};
 ghost use Rattle.schema.specs.Annotations.{is_half, annotation_of};
 ghost use Rattle.schema.specs.Listing.{leaf_type, repetition, typed, is_float16};
-ghost use Rattle.schema.specs.Reading.{kept_struct, KeepsWritten, IsStructFault, IsNameFault, IsLeafFault, IsLeafOf, HasTypedLength};
+ghost use Rattle.schema.specs.inner.Reading.{kept_struct, KeepsWritten, IsStructFault, IsNameFault, IsLeafFault, IsLeafOf, HasTypedLength};
 ghost use Rattle.schema.specs.Views.{field_view, field_views, leaf_type_view};
 
 use crate::annotation::{Annotation, GroupAnnotation, LeafType};
@@ -95,7 +95,7 @@ fn is_float16(element: &Element) -> bool
 /// The struct of the logicalType, where no converted type counts before it.
 fn kept_struct(alloc: Global, element: &Element) -> R<Option<Tree>>
     ensures stands { IfOk result (λ kept. kept_struct element.now.converted_type (option_map tree_view element.now.logical_type) ≡ option_map tree_view kept) }
-    ensures which { RefusedOnly (λ _. ⊥) result }
+    ensures which { RefusedMemoryOnly result }
 {
     match (&element.converted_type, &element.logical_type) {
         (None, Some(tree)) => Ok(Some(tree.copied(alloc)?)),

@@ -2,9 +2,10 @@
 
 ghost use Rattle.std.specs.Prelude.{◌≡◌, ◌+◌, ◌<◌, ◌≤◌, ◌↔◌, IsTrue, IfOk, OnOk, length, option_map, Some, None, string_bytes};
 ghost use Rattle.std.specs.List.{AllByRecursion};
-ghost use Rattle.bits.specs.Refusals.{RefusedOnly};
+ghost use Rattle.bits.specs.Refusals.{RefusedMemoryOnly};
 ghost use Rattle.schema.specs.Shape.{leaf, no_fields};
-ghost use Rattle.schema.specs.Reading.{count_leaves, count_leaves_each, join_fields};
+ghost use Rattle.schema.specs.Reading.{count_leaves, count_leaves_each};
+ghost use Rattle.schema.specs.inner.Reading.{join_fields};
 ghost use Rattle.schema.specs.Cutting.{group_of, kept, cut, cut_each, is_marked, AreMarks};
 ghost use Rattle.schema.specs.Views.{leaf_type_view, field_view, field_views};
 
@@ -31,7 +32,7 @@ pub fn are_below(places: &[usize], count: usize) -> bool
 pub fn marks_at(alloc: Global, places: &[usize], count: usize) -> R<Vec<bool>>
     requires { AllByRecursion (λ place. place < count) places.now }
     ensures marked { IfOk result (λ marks. AreMarks places.now count marks.items) }
-    ensures which { RefusedOnly (λ _. ⊥) result }
+    ensures which { RefusedMemoryOnly result }
 {
     let mut marks = vec![in alloc; false; count]?;
     for place in places {
@@ -43,7 +44,7 @@ pub fn marks_at(alloc: Global, places: &[usize], count: usize) -> R<Vec<bool>>
 /// A copy of a leaf.
 fn copied_leaf(alloc: Global, name: &str, repetition: Repetition, leaf_type: &LeafType) -> R<Field>
     ensures same { IfOk result (λ f. field_view f ≡ leaf name.now repetition (leaf_type_view leaf_type.now)) }
-    ensures which { RefusedOnly (λ _. ⊥) result }
+    ensures which { RefusedMemoryOnly result }
 {
     let name = String::from_str(alloc, name)?;
     let leaf_type = copied_type(alloc, leaf_type)?;
@@ -63,7 +64,7 @@ fn group_of(
     fields: Vec<Field>,
 ) -> R<Option<Field>>
     ensures group_is { IfOk result (λ f. option_map field_view f ≡ group_of name.now repetition annotation (field_views fields.items)) }
-    ensures which { RefusedOnly (λ _. ⊥) result }
+    ensures which { RefusedMemoryOnly result }
 {
     if fields.is_empty() {
         return Ok(None);
@@ -80,7 +81,7 @@ fn group_of(
 /// Adds a field, where there is one.
 fn push_kept(out: &mut Vec<Field>, field: Option<Field>) -> R<()>
     ensures adds { OnOk result (field_views out.new.items ≡ join_fields (field_views out.old.items) (kept (option_map field_view field) no_fields)) }
-    ensures which { RefusedOnly (λ _. ⊥) result }
+    ensures which { RefusedMemoryOnly result }
 {
     match field {
         Some(field) => Ok(out.push(field)?),
@@ -89,13 +90,13 @@ fn push_kept(out: &mut Vec<Field>, field: Option<Field>) -> R<()>
 }
 
 /// What is kept of a field: a leaf just if it is wanted, a group just if something in it is kept. The
-/// first leaf below it has this place; answers the place after the last one too.
+/// first leaf below it has this place. Returns the place after the last one too.
 #[cycle(cutting)]
 fn cut(alloc: Global, wanted: &[bool], at: usize, field: &Field) -> R<(Option<Field>, usize)>
     requires few { at + count_leaves (field_view field.now) ≤ length wanted.now }
     ensures cut_is { IfOk result (λ x. option_map field_view x.0 ≡ cut (is_marked wanted.now) at (field_view field.now)) }
     ensures behind { IfOk result (λ x. x.1 ≡ at + count_leaves (field_view field.now)) }
-    ensures which { RefusedOnly (λ _. ⊥) result }
+    ensures which { RefusedMemoryOnly result }
 {
     match field {
         Field::Leaf {
@@ -122,7 +123,7 @@ fn cut(alloc: Global, wanted: &[bool], at: usize, field: &Field) -> R<(Option<Fi
     }
 }
 
-/// What is kept of some fields. The first leaf below them has this place; answers the place after the
+/// What is kept of some fields. The first leaf below them has this place. Returns the place after the
 /// last one too.
 #[cycle(cutting)]
 pub fn cut_each(
@@ -134,7 +135,7 @@ pub fn cut_each(
     requires few { at + count_leaves_each (field_views fields.now) ≤ length wanted.now }
     ensures fields_are { IfOk result (λ x. field_views x.0.items ≡ cut_each (is_marked wanted.now) at (field_views fields.now)) }
     ensures behind { IfOk result (λ x. x.1 ≡ at + count_leaves_each (field_views fields.now)) }
-    ensures which { RefusedOnly (λ _. ⊥) result }
+    ensures which { RefusedMemoryOnly result }
 {
     let mut out = Vec::new(alloc);
     let mut next = at;

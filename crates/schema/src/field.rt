@@ -36,7 +36,7 @@ impl Field {
     }
 }
 
-/// A field on the way to a leaf: its place in its group, and its repetition.
+/// A field on the path to a leaf: its place in its group, and its repetition.
 #[derive(Debug, Clone, Copy, PartialEq, Eq)]
 pub struct Step {
     pub place: usize,
@@ -46,13 +46,13 @@ pub struct Step {
 /// A leaf of a schema.
 #[derive(Debug, Drop)]
 pub struct Leaf {
-    /// The names of the fields on the way to it, the leaf's own last; leaves below a field share its name.
+    /// The names of the fields on the path to it, the leaf's own last; leaves below a field share its name.
     pub path: Vec<RcStr>,
     /// The places and repetitions of the same fields.
     pub steps: Vec<Step>,
     pub leaf_type: LeafType,
-    /// How many of the fields on the way are REPEATED.
+    /// How many of the fields on the path are REPEATED.
     pub greatest_repetition: u32,
-    /// How many of the fields on the way are OPTIONAL or REPEATED.
+    /// How many of the fields on the path are OPTIONAL or REPEATED.
     pub greatest_definition: u32,
 }

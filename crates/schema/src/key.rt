@@ -1,7 +1,7 @@
 //! Keys, by which a table is split into folders.
 
 ghost use Rattle.std.specs.Prelude.{◌≡◌, IfOk};
-ghost use Rattle.bits.specs.Refusals.{RefusedOnly};
+ghost use Rattle.bits.specs.Refusals.{RefusedMemoryOnly};
 ghost use Rattle.schema.specs.Views.{key_view};
 
 use crate::value::{Value, copied_values};
@@ -18,7 +18,7 @@ impl Key {
     /// A copy. Refused only for memory; time and room are linear in what the key holds.
     pub fn copied(&self, alloc: Global) -> R<Key>
         ensures copies { IfOk result (λ copy. key_view copy ≡ key_view self.now) }
-        ensures which { RefusedOnly (λ _. ⊥) result }
+        ensures which { RefusedMemoryOnly result }
     {
         let values = copied_values(alloc, self.values.as_slice())?;
         Ok(Key { values })

@@ -28,7 +28,7 @@ pub fn columns_determine_rows()
     ensures { ColumnsDetermineRows }
 {}
 
-/// The greatest levels of a leaf are those of the fields on the way to it.
+/// The greatest levels of a leaf are those of the fields on the path to it.
 #[tactic(auto, using(crate::proofs::Kept::levels_are_of_steps))]
 pub fn levels_are_of_steps()
     ensures { LevelsAreOfSteps }

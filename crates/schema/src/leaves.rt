@@ -2,10 +2,10 @@
 
 ghost use Rattle.std.specs.Prelude.{◌≡◌, ◌+◌, ◌<◌, ◌≤◌, ◌^◌, ◌++◌, ◌∷◌, [], length, map, IfOk, OnOk};
 ghost use Rattle.std.specs.Rc.{rc_str_bytes};
-ghost use Rattle.bits.specs.Refusals.{RefusedOnly};
+ghost use Rattle.bits.specs.Refusals.{RefusedMemoryOnly};
 ghost use Rattle.schema.specs.Stripe.{definitions, repetitions, greatest_definition, greatest_repetition, leaf_at, leaves, leaves_from, leaves_of};
 ghost use Rattle.schema.specs.Reading.{tall, tallest};
-ghost use Rattle.schema.specs.Leafing.{along};
+ghost use Rattle.schema.specs.inner.Leafing.{leaves_along};
 ghost use Rattle.schema.specs.Views.{annotation_view, leaf_type_view, field_view, field_views, step_view, leaf_view};
 
 use crate::annotation::{Annotation, LeafType};
@@ -61,7 +61,7 @@ fn greatest_repetition(steps: &[Step]) -> u32
 
 fn copied_annotation(alloc: Global, annotation: &Annotation) -> R<Annotation>
     ensures same { IfOk result (λ copy. annotation_view copy ≡ annotation_view annotation.now) }
-    ensures which { RefusedOnly (λ _. ⊥) result }
+    ensures which { RefusedMemoryOnly result }
 {
     match annotation {
         Annotation::Plain => Ok(Annotation::Plain),
@@ -76,7 +76,7 @@ fn copied_annotation(alloc: Global, annotation: &Annotation) -> R<Annotation>
 
 pub fn copied_type(alloc: Global, leaf_type: &LeafType) -> R<LeafType>
     ensures same { IfOk result (λ copy. leaf_type_view copy ≡ leaf_type_view leaf_type.now) }
-    ensures which { RefusedOnly (λ _. ⊥) result }
+    ensures which { RefusedMemoryOnly result }
 {
     let annotation = copied_annotation(alloc, &leaf_type.annotation)?;
     Ok(LeafType {
@@ -92,7 +92,7 @@ fn path_down(alloc: Global, path: &[RcStr], name: &str) -> R<Vec<RcStr>>
     requires { length path.now < 2 ^ 32 }
     ensures path_is { IfOk result (λ down. map rc_str_bytes down.items ≡ map rc_str_bytes path.now ++ name.now ∷ []) }
     ensures len { IfOk result (λ down. length down.items ≡ length path.now + 1) }
-    ensures which { RefusedOnly (λ _. ⊥) result }
+    ensures which { RefusedMemoryOnly result }
 {
     let mut down = Vec::with_capacity(alloc, path.len() + 1)?;
     for name in path {
@@ -105,18 +105,18 @@ fn path_down(alloc: Global, path: &[RcStr], name: &str) -> R<Vec<RcStr>>
 /// The steps, and one more.
 fn steps_down(alloc: Global, steps: &[Step], step: Step) -> R<Vec<Step>>
     ensures steps_are { IfOk result (λ down. down.items ≡ steps.now ++ step ∷ []) }
-    ensures which { RefusedOnly (λ _. ⊥) result }
+    ensures which { RefusedMemoryOnly result }
 {
     let mut down = Vec::from_slice(alloc, steps)?;
     down.push(step)?;
     Ok(down)
 }
 
-/// The leaf at the end of a way.
+/// The leaf at the end of a path.
 fn leaf_of(alloc: Global, path: Vec<RcStr>, steps: Vec<Step>, leaf_type: &LeafType) -> R<Leaf>
     requires { length steps.items < 2 ^ 32 }
     ensures leaf_is { IfOk result (λ l. leaf_view l ≡ leaf_at (map rc_str_bytes path.items) (map step_view steps.items) (leaf_type_view leaf_type.now)) }
-    ensures which { RefusedOnly (λ _. ⊥) result }
+    ensures which { RefusedMemoryOnly result }
 {
     let leaf_type = copied_type(alloc, leaf_type)?;
     let repetition = greatest_repetition(steps.as_slice());
@@ -130,7 +130,7 @@ fn leaf_of(alloc: Global, path: Vec<RcStr>, steps: Vec<Step>, leaf_type: &LeafTy
     })
 }
 
-/// Adds the leaves at and below a field, to which there is this way.
+/// Adds the leaves at and below the field that this path leads to.
 #[cycle(leaves)]
 fn push_leaves(
     alloc: Global,
@@ -141,8 +141,8 @@ fn push_leaves(
 ) -> R<()>
     requires deep { length steps.items + tall (field_view field.now) ≤ 33 }
     requires paired { length path.items ≡ length steps.items }
-    ensures adds { OnOk result (map leaf_view out.new.items ≡ map leaf_view out.old.items ++ map (along (map rc_str_bytes path.items) (map step_view steps.items)) (leaves (field_view field.now))) }
-    ensures which { RefusedOnly (λ _. ⊥) result }
+    ensures adds { OnOk result (map leaf_view out.new.items ≡ map leaf_view out.old.items ++ leaves_along path.items steps.items (leaves (field_view field.now))) }
+    ensures which { RefusedMemoryOnly result }
 {
     match field {
         Field::Leaf { leaf_type, .. } => {
@@ -162,7 +162,7 @@ fn push_leaves(
     }
 }
 
-/// Adds the leaves below the fields of a group, to which there is this way.
+/// Adds the leaves below the fields of the group that this path leads to.
 #[cycle(leaves)]
 fn push_each(
     alloc: Global,
@@ -173,8 +173,8 @@ fn push_each(
 ) -> R<()>
     requires deep { length steps.now + tallest (field_views fields.now) ≤ 32 }
     requires paired { length path.now ≡ length steps.now }
-    ensures adds { OnOk result (map leaf_view out.new.items ≡ map leaf_view out.old.items ++ map (along (map rc_str_bytes path.now) (map step_view steps.now)) (leaves_from 0 (field_views fields.now))) }
-    ensures which { RefusedOnly (λ _. ⊥) result }
+    ensures adds { OnOk result (map leaf_view out.new.items ≡ map leaf_view out.old.items ++ leaves_along path.now steps.now (leaves_from 0 (field_views fields.now))) }
+    ensures which { RefusedMemoryOnly result }
 {
     for (place, field) in fields.iter().enumerate() {
         let down = path_down(alloc, path, field.name())?;
@@ -192,7 +192,7 @@ fn push_each(
 pub fn leaves_of(alloc: Global, fields: &[Field]) -> R<Vec<Leaf>>
     requires { tallest (field_views fields.now) ≤ 32 }
     ensures leaves_are { IfOk result (λ leaves. map leaf_view leaves.items ≡ leaves_of (field_views fields.now)) }
-    ensures which { RefusedOnly (λ _. ⊥) result }
+    ensures which { RefusedMemoryOnly result }
 {
     let mut leaves = Vec::new(alloc);
     push_each(alloc, &mut leaves, &[], &[], fields)?;

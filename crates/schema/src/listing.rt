@@ -1,12 +1,13 @@
 //! The elements of a schema.
 
 ghost use Rattle.std.specs.Prelude.{◌≡◌, ◌<◌, ◌≤◌, ◌^◌, ◌++◌, ◌∷◌, [], pos, map, length, IfOk, OnOk, Some, None, option_map};
-ghost use Rattle.bits.specs.Refusals.{RefusedOnly};
+ghost use Rattle.bits.specs.Refusals.{RefusedMemoryOnly};
 ghost use Rattle.thrift_compact.specs.View.{tree_view};
 ghost use Rattle.schema.specs.Annotations.{converted_number, logical_struct};
 ghost use Rattle.schema.specs.Elements.{element_view, elements_view};
 ghost use Rattle.schema.specs.Law.{HasLength, IsValid, AreValid};
-ghost use Rattle.schema.specs.Listed.{type_length, repetition_number, group_converted, leaf_element, group_element, listing, listings, elements_of, IsFew, AreFew};
+ghost use Rattle.schema.specs.Listed.{type_length, repetition_number, group_converted, leaf_element, group_element, listing, listings, elements_of};
+ghost use Rattle.schema.specs.inner.Few.{IsFew, AreFew};
 ghost use Rattle.schema.specs.Stripe.{leaves_of};
 ghost use Rattle.schema.specs.Views.{annotation_view, leaf_type_view, field_view, field_views};
 
@@ -63,7 +64,7 @@ fn converted_number(annotation: &Annotation) -> Option<i32>
 
 fn logical_struct(alloc: Global, annotation: &Annotation) -> R<Option<Tree>>
     ensures tree_is { IfOk result (λ tree. option_map tree_view tree ≡ logical_struct (annotation_view annotation.now)) }
-    ensures which { RefusedOnly (λ _. ⊥) result }
+    ensures which { RefusedMemoryOnly result }
 {
     match annotation {
         Annotation::OtherLogical(tree) => {
@@ -83,7 +84,7 @@ fn leaf_element(
 ) -> R<Element>
     requires { HasLength leaf_type.now.kind }
     ensures element_is { IfOk result (λ e. element_view e ≡ leaf_element name.now repetition (leaf_type_view leaf_type.now)) }
-    ensures which { RefusedOnly (λ _. ⊥) result }
+    ensures which { RefusedMemoryOnly result }
 {
     let name = Vec::from_slice(alloc, name.as_bytes())?;
     let logical_type = logical_struct(alloc, &leaf_type.annotation)?;
@@ -111,7 +112,7 @@ fn group_element(
 ) -> R<Element>
     requires { children < 2 ^ 31 }
     ensures element_is { IfOk result (λ e. element_view e ≡ group_element name.now repetition_type converted_type children) }
-    ensures which { RefusedOnly (λ _. ⊥) result }
+    ensures which { RefusedMemoryOnly result }
 {
     let name = Vec::from_slice(alloc, name.as_bytes())?;
     Ok(Element {
@@ -134,7 +135,7 @@ fn push_listing(alloc: Global, out: &mut Vec<Element>, field: &Field) -> R<()>
     requires valid { IsValid (field_view field.now) }
     requires few { IsFew (field_view field.now) }
     ensures adds { OnOk result (elements_view out.new.items ≡ elements_view out.old.items ++ listing (field_view field.now)) }
-    ensures which { RefusedOnly (λ _. ⊥) result }
+    ensures which { RefusedMemoryOnly result }
 {
     match field {
         Field::Leaf {
@@ -174,7 +175,7 @@ fn push_listings(alloc: Global, out: &mut Vec<Element>, fields: &[Field]) -> R<(
     requires valid { AreValid (field_views fields.now) }
     requires few { AreFew (field_views fields.now) }
     ensures adds { OnOk result (elements_view out.new.items ≡ elements_view out.old.items ++ listings (field_views fields.now)) }
-    ensures which { RefusedOnly (λ _. ⊥) result }
+    ensures which { RefusedMemoryOnly result }
 {
     for field in fields {
         push_listing(alloc, out, field)?;
@@ -187,7 +188,7 @@ pub fn elements_of(alloc: Global, fields: &[Field]) -> R<Vec<Element>>
     requires valid { AreValid (field_views fields.now) }
     requires within { length (leaves_of (field_views fields.now)) ≤ 1024 }
     ensures elements_are { IfOk result (λ elements. elements_view elements.items ≡ elements_of (field_views fields.now)) }
-    ensures which { RefusedOnly (λ _. ⊥) result }
+    ensures which { RefusedMemoryOnly result }
 {
     let root = group_element(alloc, ROOT, None, None, fields.len())?;
     let mut elements = Vec::new(alloc);

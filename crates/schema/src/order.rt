@@ -23,7 +23,7 @@ pub enum Order {
     Unsigned,
     /// False before true.
     FalseFirst,
-    /// As unsigned bytes, lexicographic: a front comes before what it is a front of.
+    /// As unsigned bytes, lexicographic: a prefix comes before what it is a prefix of.
     Bytewise,
 }
 

@@ -1,13 +1,14 @@
 //! The list of a schema's elements, read into fields.
 
 ghost use Rattle.std.specs.Prelude.{◌≡◌, ◌+◌, ◌<◌, ◌≤◌, ◌↔◌, IfOk, IfErr, drop, length, true, false, IsTrue, MatchOption, string_bytes};
-ghost use Rattle.bits.specs.Refusals.{RefusedOnly};
+ghost use Rattle.bits.specs.Refusals.{RefusedOnly, RefusedMemoryOnly};
 ghost use Rattle.schema.specs.Elements.{element_view, elements_view};
 ghost use Rattle.schema.specs.Law.{AllDiffer, names, IsWithinLimits};
 ghost use Rattle.schema.specs.Shape.{name_of, repetition_of};
 ghost use Rattle.schema.specs.Listing.{count_typed, count_branches, IsSchemaOf};
 ghost use Rattle.schema.specs.Faults.{HasFault};
-ghost use Rattle.schema.specs.Reading.{children, may_have, forest, well_formed, take_branches, drop_branches, OnFirst, IsRead, AreRead, IsFaultOf, IsFaultAmong, IsInside, IsGroupMade, AreTwins, HasTree, tallest};
+ghost use Rattle.schema.specs.Reading.{tallest};
+ghost use Rattle.schema.specs.inner.Reading.{children, may_have, forest, trees_from, well_formed, take_branches, drop_branches, OnFirst, IsRead, AreRead, IsFaultOf, IsFaultAmong, IsInside, IsGroupMade, AreTwins, HasTree};
 ghost use Rattle.schema.specs.Views.{field_view, field_views};
 
 use crate::annotation::GroupAnnotation;
@@ -20,10 +21,10 @@ use std::alloc::Global;
 use std::collections::BTreeSet;
 
 /// A schema has at most this many leaves.
-const LEAVES: usize = 1024;
+const MOST_LEAVES: usize = 1024;
 
-/// And at most this many fields are on the way to each.
-const FIELDS_ON_A_WAY: u32 = 32;
+/// And at most this many fields are on the path to each.
+const FIELDS_ON_A_PATH: u32 = 32;
 
 /// How many children an element says that it has. A leaf has none.
 pub fn children(element: &Element) -> usize
@@ -49,7 +50,7 @@ fn may_have(element: &Element) -> bool
 
 /// How many trees a list is, one after the other, where each element has the children that it says.
 fn count_trees(elements: &[Element]) -> Option<usize>
-    ensures counted { MatchOption result (well_formed (elements_view elements.now) ≡ false) (λ n. (well_formed (elements_view elements.now) ≡ true) × (n ≡ count_branches (forest (elements_view elements.now)))) }
+    ensures counted { let seen = elements_view elements.now in MatchOption result (well_formed seen ≡ false) (λ n. (well_formed seen ≡ true) × (n ≡ count_branches (forest seen))) }
 {
     let mut trees = 0;
     let mut at = elements.len();
@@ -94,7 +95,7 @@ impl Field {
 /// names about n log n comparisons.
 pub fn names_differ(alloc: Global, fields: &[Field]) -> R<bool>
     ensures names_differ { IfOk result (λ b. IsTrue b ↔ AllDiffer (names (field_views fields.now))) }
-    ensures which { RefusedOnly (λ _. ⊥) result }
+    ensures which { RefusedMemoryOnly result }
 {
     let mut behind = BTreeSet::new(alloc);
     let mut at = fields.len();
@@ -146,14 +147,14 @@ fn group(
     })
 }
 
-/// The field at a place of the list, with at most this many fields on a way, and the place after it.
+/// The field at a place of the list, with at most `deep` fields on a path, and the place after it.
 #[cycle(reading)]
 fn read_field(alloc: Global, elements: &[Element], at: usize, deep: u32) -> R<(Field, usize)>
-    requires some { at < length elements.now }
-    requires well { well_formed (elements_view (drop at elements.now)) ≡ true }
-    ensures stands { IfOk result (λ x. OnFirst (forest (elements_view (drop at elements.now))) (λ b bs. IsRead deep b (field_view x.0) × (forest (elements_view (drop x.1 elements.now)) ≡ bs))) }
+    requires within { at < length elements.now }
+    requires well_formed { well_formed (elements_view (drop at elements.now)) ≡ true }
+    ensures stands { IfOk result (λ x. OnFirst (trees_from at elements.now) (λ b bs. IsRead deep b (field_view x.0) × (trees_from x.1 elements.now ≡ bs))) }
     ensures well_formed { IfOk result (λ x. well_formed (elements_view (drop x.1 elements.now)) ≡ true) }
-    ensures which { IfErr result (λ e. OnFirst (forest (elements_view (drop at elements.now))) (λ b bs. IsFaultOf deep b e)) }
+    ensures which { IfErr result (λ e. OnFirst (trees_from at elements.now) (λ b bs. IsFaultOf deep b e)) }
 {
     let element = &elements[at];
     if deep == 0 {
@@ -174,7 +175,7 @@ fn read_field(alloc: Global, elements: &[Element], at: usize, deep: u32) -> R<(F
     Ok((field, next))
 }
 
-/// This many fields that stand one after the other, the first at this place of the list, and the place
+/// `count` fields that stand one after the other, the first at this place of the list, and the place
 /// after them.
 #[cycle(reading)]
 pub fn read_fields(
@@ -184,12 +185,12 @@ pub fn read_fields(
     count: usize,
     deep: u32,
 ) -> R<(Vec<Field>, usize)>
-    requires some { count ≤ count_branches (forest (elements_view (drop at elements.now))) }
-    requires well { well_formed (elements_view (drop at elements.now)) ≡ true }
-    ensures stands { IfOk result (λ x. AreRead deep (take_branches count (forest (elements_view (drop at elements.now)))) (field_views x.0.items)) }
-    ensures behind { IfOk result (λ x. forest (elements_view (drop x.1 elements.now)) ≡ drop_branches count (forest (elements_view (drop at elements.now)))) }
+    requires enough { count ≤ count_branches (trees_from at elements.now) }
+    requires well_formed { well_formed (elements_view (drop at elements.now)) ≡ true }
+    ensures stands { IfOk result (λ x. AreRead deep (take_branches count (trees_from at elements.now)) (field_views x.0.items)) }
+    ensures remaining { IfOk result (λ x. trees_from x.1 elements.now ≡ drop_branches count (trees_from at elements.now)) }
     ensures well_formed { IfOk result (λ x. well_formed (elements_view (drop x.1 elements.now)) ≡ true) }
-    ensures which { IfErr result (IsFaultAmong deep (take_branches count (forest (elements_view (drop at elements.now))))) }
+    ensures which { IfErr result (IsFaultAmong deep (take_branches count (trees_from at elements.now))) }
 {
     let mut fields = Vec::new(alloc);
     let mut at = at;
@@ -221,11 +222,11 @@ pub fn fields_of(alloc: Global, elements: &[Element]) -> R<Vec<Field>>
     if !is_tree(elements) {
         return Err(Refusal::Schema);
     }
-    if count_typed(elements) > LEAVES {
+    if count_typed(elements) > MOST_LEAVES {
         return Err(Refusal::Limit);
     }
     let root = &elements[0];
-    let (fields, _) = read_fields(alloc, elements, 1, children(root), FIELDS_ON_A_WAY)?;
+    let (fields, _) = read_fields(alloc, elements, 1, children(root), FIELDS_ON_A_PATH)?;
     if !names_differ(alloc, fields.as_slice())? {
         return Err(Refusal::Schema);
     }

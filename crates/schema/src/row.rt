@@ -1,7 +1,7 @@
 //! Rows, and the columns that they are stored as.
 
 ghost use Rattle.std.specs.Prelude.{◌≡◌, IfOk};
-ghost use Rattle.bits.specs.Refusals.{RefusedOnly};
+ghost use Rattle.bits.specs.Refusals.{RefusedMemoryOnly};
 ghost use Rattle.schema.specs.Views.{row_view};
 
 use crate::value::{Value, copied_values};
@@ -18,7 +18,7 @@ impl Row {
     /// A copy. Refused only for memory; time and room are linear in what the row holds.
     pub fn copied(&self, alloc: Global) -> R<Row>
         ensures copies { IfOk result (λ copy. row_view copy ≡ row_view self.now) }
-        ensures which { RefusedOnly (λ _. ⊥) result }
+        ensures which { RefusedMemoryOnly result }
     {
         let values = copied_values(alloc, self.values.as_slice())?;
         Ok(Row { values })

@@ -1,6 +1,6 @@
 //! A schema.
 
-ghost use Rattle.bits.specs.Refusals.{OnFault, RefusedOnly};
+ghost use Rattle.bits.specs.Refusals.{OnFault, RefusedMemoryOnly};
 ghost use Rattle.std.specs.Prelude.{◌≡◌, ◌≤◌, map, length, IfOk, OnOk, IfErr};
 ghost use Rattle.schema.specs.Elements.{elements_view};
 ghost use Rattle.schema.specs.Values.{views};
@@ -28,7 +28,7 @@ use std::alloc::Global;
 use std::marker::Model;
 
 /// A schema: the fields of its root. Each group has a field, siblings have names of their own, there
-/// are at most 1,024 leaves, and at most 32 fields on the way to each.
+/// are at most 1,024 leaves, and at most 32 fields on the path to each.
 #[derive(Debug, Drop)]
 pub struct Schema {
     fields: Vec<Field>,
@@ -38,23 +38,20 @@ pub struct Schema {
 
 impl Model for Schema {
     ghost use Rattle.schema.specs.Shape.{Fields};
-    ghost use Rattle.schema.specs.Code.{fields_code};
+    ghost use Rattle.schema.specs.inner.Code.{fields_code};
 
     ghost Value = { Fields };
 
     ghost coded = { fields_code };
 
-    ghost use Rattle.std.specs.Prelude.{◌≡◌, ◌≤◌, map};
+    ghost use Rattle.std.specs.Prelude.{map};
     ghost use Rattle.schema.specs.Views.{field_views, leaf_view};
-    ghost use Rattle.schema.specs.Reading.{tallest};
-    ghost use Rattle.schema.specs.Stripe.{leaves_of};
     ghost use Rattle.schema.specs.Elements.{elements_view};
-    ghost use Rattle.schema.specs.Listed.{elements_of};
-    ghost use Rattle.schema.specs.Law.{IsSchema, IsWithinLimits};
+    ghost use Rattle.schema.specs.inner.Built.{IsBuilt};
 
     ghost view = { λ s. field_views s.fields.items };
 
-    ghost invariant = { λ s. IsSchema (field_views s.fields.items) × IsWithinLimits (field_views s.fields.items) × (map leaf_view s.leaves.items ≡ leaves_of (field_views s.fields.items)) × (elements_view s.elements.items ≡ elements_of (field_views s.fields.items)) × (tallest (field_views s.fields.items) ≤ 32) };
+    ghost invariant = { λ s. IsBuilt (field_views s.fields.items) (map leaf_view s.leaves.items) (elements_view s.elements.items) };
 }
 
 impl Schema {
@@ -64,11 +61,11 @@ impl Schema {
     /// Refused Schema where the list is no tree of groups with fields and of leaves, or a name, a
     /// repetition or a type cannot be, or a kept struct has no bytes or nests more than 29 deep; Float
     /// and Int96, with the path joined by `.`, for a leaf of FLOAT, DOUBLE or FLOAT16, and of INT96;
-    /// Limit for more than 1,024 leaves, or 32 fields on a way. Where there are several faults one of
-    /// them is answered, and Float, Int96 and Limit only where the list is a tree. No schema is answered of
-    /// a tree that is too large.
+    /// Limit for more than 1,024 leaves, or 32 fields on a path. Where there are several faults it is refused
+    /// for one of them, and for Float, Int96 and Limit only where the list is a tree. No schema is returned
+    /// for a tree that is too large.
     ///
-    /// Time and memory are linear in the list, beside a handle for each name on the way to each leaf (leaves
+    /// Time and memory are linear in the list, but for a handle for each name on the path to each leaf (leaves
     /// below a field share its name) and a look-up of each name among its siblings, in order: for n siblings
     /// about n log n comparisons of names.
     pub fn new(alloc: Global, elements: &[Element]) -> R<Schema>
@@ -88,7 +85,7 @@ impl Schema {
         requires within { IsWithinLimits (field_views fields.items) }
         requires shallow { tallest (field_views fields.items) ≤ 32 }
         ensures fields_are { IfOk result (λ fs. fs ≡ field_views fields.items) }
-        ensures which { RefusedOnly (λ _. ⊥) result }
+        ensures which { RefusedMemoryOnly result }
     {
         let leaves = leaves_of(alloc, fields.as_slice())?;
         let elements = elements_of(alloc, fields.as_slice())?;
@@ -99,8 +96,8 @@ impl Schema {
         })
     }
 
-    /// Its elements, depth first, root first. The root is called `schema`, and nothing else is said of it;
-    /// field_id is not kept, and a leaf says nothing of children. Takes no memory.
+    /// Its elements, depth first, root first. The root has only its name, `schema`, and the number of its
+    /// children; field_id is not kept, and a leaf has no number of children. Takes no memory.
     pub fn elements(&self) -> &[Element]
         ensures { elements_view result.now ≡ elements_of self.now }
     {
@@ -130,7 +127,7 @@ impl Schema {
     /// comes twice counts once.
     ///
     /// Refused Schema where no place is given, or one where no leaf is. The time is linear in the places and
-    /// in the schema, with a handle for each name on the way to each leaf.
+    /// in the schema, with a handle for each name on the path to each leaf.
     pub fn cut(&self, alloc: Global, places: &[usize]) -> R<Schema>
         ensures stands { IfOk result (IsCutTo places.now self.now) }
         ensures only { OnFault result ((cut : Fields) → IsCutTo places.now self.now cut → ⊥) }

@@ -1,7 +1,7 @@
 //! Values, and the types of leaves.
 
 ghost use Rattle.std.specs.Prelude.{◌≡◌, ◌↔◌, pos, IsTrue, IfOk, map};
-ghost use Rattle.bits.specs.Refusals.{RefusedOnly};
+ghost use Rattle.bits.specs.Refusals.{RefusedMemoryOnly};
 ghost use Rattle.schema.specs.Listed.{type_number};
 ghost use Rattle.schema.specs.Values.{view, views};
 
@@ -96,7 +96,7 @@ fn copy(alloc: Global, value: &Value) -> Result<Value, AllocError>
 /// values hold.
 pub fn copied_values(alloc: Global, values: &[Value]) -> R<Vec<Value>>
     ensures copies { IfOk result (λ copies. map view copies.items ≡ map view values.now) }
-    ensures which { RefusedOnly (λ _. ⊥) result }
+    ensures which { RefusedMemoryOnly result }
 {
     let copies = copies(alloc, values)?;
     Ok(copies)
@@ -107,7 +107,7 @@ impl Value {
     /// value holds.
     pub fn copied(&self, alloc: Global) -> R<Value>
         ensures copies { IfOk result (λ copy. view copy ≡ view self.now) }
-        ensures which { RefusedOnly (λ _. ⊥) result }
+        ensures which { RefusedMemoryOnly result }
     {
         let copy = copy(alloc, self)?;
         Ok(copy)

@@ -6,7 +6,7 @@ use Rattle.schema.specs.declared.building.Typed.TheVariants.{Stored}
 use Rattle.schema.specs.Views.{leaf_type_view}
 use Rattle.schema.specs.Elements.{element_view}
 use Rattle.schema.specs.Listing.{typed}
-use Rattle.schema.specs.Reading.{HasTypedLength, IsLeafOf}
+use Rattle.schema.specs.inner.Reading.{HasTypedLength, IsLeafOf}
 use Rattle.schema.proofs.Seen.{view-Leaf}
 use Rattle.schema.proofs.Typed.{typed_leaf}
 use Rattle.schema.proofs.building.leaf.Goals as goal

@@ -1,5 +1,6 @@
 use Rattle.std.proofs.Common.{◌≡◌, ◌+◌, drop}
-use Rattle.schema.specs.Reading.{count_leaves_each, join_fields}
+use Rattle.schema.specs.Reading.{count_leaves_each}
+use Rattle.schema.specs.inner.Reading.{join_fields}
 use Rattle.schema.specs.Cutting.{cut_each, is_marked}
 use Rattle.schema.specs.Views.{field_views}
 use Rattle.schema.proofs.cutting.+cutting.Given as goal

@@ -1,7 +1,7 @@
 use Rattle.std.proofs.Common.{◌∙◌, sym, ap, option_map}
 use Rattle.schema.specs.Shape.{no_fields}
 use Rattle.schema.specs.Views.{field_view, field_views}
-use Rattle.schema.specs.Reading.{join_fields}
+use Rattle.schema.specs.inner.Reading.{join_fields}
 use Rattle.schema.specs.Cutting.{kept}
 use Rattle.schema.proofs.Forest.{join-none, join-push}
 use Rattle.schema.proofs.cutting.push_kept.Goals as goal

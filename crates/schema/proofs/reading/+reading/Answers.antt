@@ -4,7 +4,7 @@ use Rattle.schema.specs.Elements.{elements_view}
 use Rattle.schema.specs.Shape.{no_fields}
 use Rattle.schema.specs.Views.{field_view, field_views}
 use Rattle.schema.specs.Listing.{Branch, Branches}
-use Rattle.schema.specs.Reading.{forest, take_branches, AreRead, IsRead, IsFaultAmong, IsFaultOf, OnFirst, join_fields}
+use Rattle.schema.specs.inner.Reading.{forest, take_branches, AreRead, IsRead, IsFaultAmong, IsFaultOf, OnFirst, join_fields}
 use Rattle.schema.proofs.Forest.{first_read, first_behind, first_fault, later_fault, join-none, group_twins, group_done}
 use Rattle.schema.proofs.reading.+reading.Goals as goal
 
@@ -46,12 +46,12 @@ read_fields-returns-clause-stands t c =
 pub read_field-returns-in_err-field-clause-which : goal.read_field-returns-in_err-field-clause-which
 read_field-returns-in_err-field-clause-which t c =
     passes (λ e. OnFirst (forest (elements_view (drop c.args.at c.args.elements.now))) (λ b bs. IsFaultOf c.args.deep b e)) c.from_residual-in_err-field.result c.in_err-field.field-0.0 c.from_residual-in_err-field.ensures.1
-    (group_twins c.args.elements.now c.args.at c.index-elements-at.result c.children.result (c.args.deep - 1) c.args.deep (field_views c.in-Ok.x.0.items) c.in_err-field.field-0.0 c.requires.some c.index-elements-at.is c.children.ensures
+    (group_twins c.args.elements.now c.args.at c.index-elements-at.result c.children.result (c.args.deep - 1) c.args.deep (field_views c.in-Ok.x.0.items) c.in_err-field.field-0.0 c.requires.within c.index-elements-at.is c.children.ensures
     c.in-Ok.ensures.stands c.in_err-field.ensures.which)
 
 pub read_field-returns-clause-stands : goal.read_field-returns-clause-stands
 read_field-returns-clause-stands t c =
     let deeper : c.args.deep ≡ suc (c.args.deep - 1) = omega arith in
     group_done c.args.elements.now c.args.at c.index-elements-at.result c.children.result c.in-Ok.x.1 (c.args.deep - 1) c.args.deep (string_bytes c.in_ok-name.name) c.in-Some.repetition (field_views c.in-Ok.x.0.items) _
-    c.requires.some c.index-elements-at.is c.requires.well deeper c.in_ok-name.ensures.stands.0 c.in_ok-name.ensures.stands.1 (sym c.repetition_of.ensures ∙ c.in-Some.is) c.in_default-kind.is c.children.ensures
-    c.in-Ok.ensures.stands c.in-Ok.ensures.behind c.in_ok-field.ensures.stands
+    c.requires.within c.index-elements-at.is c.requires.well_formed deeper c.in_ok-name.ensures.stands.0 c.in_ok-name.ensures.stands.1 (sym c.repetition_of.ensures ∙ c.in-Some.is) c.in_default-kind.is c.children.ensures
+    c.in-Ok.ensures.stands c.in-Ok.ensures.remaining c.in_ok-field.ensures.stands

@@ -4,7 +4,7 @@ use Rattle.schema.specs.Elements.{elements_view}
 use Rattle.schema.specs.Shape.{Fields}
 use Rattle.schema.specs.Views.{field_views}
 use Rattle.schema.specs.Listing.{count_branches}
-use Rattle.schema.specs.Reading.{forest, well_formed, take_branches, drop_branches, AreRead, IsFaultAmong, join_fields}
+use Rattle.schema.specs.inner.Reading.{forest, well_formed, take_branches, drop_branches, AreRead, IsFaultAmong, join_fields}
 use Rattle.schema.proofs.reading.+reading.Given as goal
 
 abbrev pub decreases-read_field : goal.decreases-read_field

@@ -1,7 +1,7 @@
 use Rattle.std.proofs.Common.{◌≡◌, ◌∙◌, sym, subst, arith, ℕ, ◌<◌, ◌-◌, ◌+◌, drop, length, true, false, Bool, refl}
 use Rattle.std.proofs.lemmas.Bool.{false≢true}
 use Rattle.schema.specs.Elements.{element_view, elements_view}
-use Rattle.schema.specs.Reading.{well_formed}
+use Rattle.schema.specs.inner.Reading.{well_formed}
 use Rattle.schema.proofs.Forest.{trees_step, well_step, well_from, place_parts, well_parts}
 use Rattle.schema.proofs.reading.count_trees.Goals as goal
 use Rattle.schema.proofs.reading.count_trees.Goals.{then-not-may_have-via-then-not-may_have, then-not-may_have-via-else-not-may_have+then-trees-below}

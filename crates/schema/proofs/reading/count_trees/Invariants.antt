@@ -1,7 +1,7 @@
 use Rattle.std.proofs.Common.{◌≡◌, ◌≤◌, ◌+◌, length, true, drop}
 use Rattle.schema.specs.Elements.{elements_view}
 use Rattle.schema.specs.Listing.{count_branches}
-use Rattle.schema.specs.Reading.{forest, well_formed}
+use Rattle.schema.specs.inner.Reading.{forest, well_formed}
 use Rattle.schema.proofs.reading.count_trees.Given as goal
 
 -- the trees of what stands behind the place

@@ -13,8 +13,8 @@ use Rattle.schema.proofs.reading.fields_of.Goals as goal
 pub returns-then-not-is_tree-clause-which : goal.returns-then-not-is_tree-clause-which
 returns-then-not-is_tree-clause-which c = no_tree _ (λ t. false≢true (sym c.if-not-is_tree.true ∙ c.is_tree.ensures.1 t))
 
-pub returns-then-count_typed-gt-LEAVES-clause-which : goal.returns-then-count_typed-gt-LEAVES-clause-which
-returns-then-count_typed-gt-LEAVES-clause-which c = let n = c.count_typed.ensures in large_list _ (c.is_tree.ensures.0 c.if-not-is_tree.false) (omega (arith, n))
+pub returns-then-count_typed-gt-MOST_LEAVES-clause-which : goal.returns-then-count_typed-gt-MOST_LEAVES-clause-which
+returns-then-count_typed-gt-MOST_LEAVES-clause-which c = let n = c.count_typed.ensures in large_list _ (c.is_tree.ensures.0 c.if-not-is_tree.false) (omega (arith, n))
 
 pub returns-in_err-fields-clause-which : goal.returns-in_err-fields-clause-which
 returns-in_err-fields-clause-which c =
@@ -34,7 +34,7 @@ returns-clause-stands c =
 pub returns-clause-within : goal.returns-clause-within
 returns-clause-within c =
     let n = c.count_typed.ensures in
-    let few = c.if-count_typed-gt-LEAVES.false in
+    let few = c.if-count_typed-gt-MOST_LEAVES.false in
     within (elements_view c.args.elements.now) (field_views c.in_ok-fields.fields.items)
     (made_list c.args.elements.now c.index-elements-0.result c.children.result (field_views c.in_ok-fields.fields.items) c.index-elements-0.is (c.is_tree.ensures.0 c.if-not-is_tree.false) c.children.ensures c.in_ok-fields.ensures.stands
     (subst (λ xs. AllDiffer (names (field_views xs))) c.as_slice.ensures.value (c.in_ok-names_differ.ensures.names_differ.0 c.if-not-branch.false)))

@@ -1,0 +1,6 @@
+-- Definitions for private functions only.
+pub mod Reading
+pub mod Few
+pub mod Leafing
+pub mod Code
+pub mod Built
