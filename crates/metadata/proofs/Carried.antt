@@ -10,7 +10,7 @@ use Rattle.thrift_compact.specs.Tree.{Node, yes, no, i32, i64, binary, list, str
 use Rattle.thrift_compact.specs.View.{nodes_of}
 use Rattle.thrift_compact.specs.Compact.{IsByte, kind, IsElement, IsFieldHead, IsListHead, IsValue, AreElements, AreFields}
 use Rattle.thrift_compact.specs.Length.{is_step}
-use Rattle.metadata.specs.Given.{◌>>=◌, all_with, later, last_of, known, needed, int32, int64, boolean, text, tree, record_by, each_of, list_by}
+use Rattle.metadata.specs.FieldValues.{◌>>=◌, all_with, later, last_of, known, needed, int32, int64, boolean, text, tree, record_by, each_of, list_by}
 use Rattle.metadata.specs.ToTree.{Entry, written, truth, many, record_as}
 use Rattle.metadata.proofs.Texts.{HasText, then_text, as_text, no_text, byte_text, list_head_text, size_of_head, value_text, field_then}
 use Rattle.metadata.proofs.Weights.{steps_from, steps}

@@ -5,7 +5,7 @@ use Rattle.thrift_compact.specs.Tree.{Node, i32, i64, binary, struct, Fields, no
 use Rattle.thrift_compact.specs.Compact.{IsThrift}
 use Rattle.schema.specs.Elements.{Element}
 use Rattle.metadata.specs.Ids as ids
-use Rattle.metadata.specs.Given.{known, needed, int32, int64, boolean, text, tree, any_struct, record_by, list_by}
+use Rattle.metadata.specs.FieldValues.{known, needed, int32, int64, boolean, text, tree, any_struct, record_by, list_by}
 use Rattle.metadata.specs.Records.{KeyValue, Statistics, ColumnMeta, ChunkMeta, GroupMeta, ColumnOrder, type_order, other_order, FileMeta, DataPageHeader, DictionaryPageHeader, DataPageHeaderV2, PageHeader}
 use Rattle.metadata.specs.FromTree.{key_value, statistics, column_meta, chunk_meta, group_meta, column_order, element, file_meta, data_page_header, dictionary_page_header, data_page_header_v2, any_page_header, has_own_header, page_header}
 use Rattle.metadata.specs.ToTree.{truth, many, record_as, INT32, BINARY, STRUCT, key_value_table, key_value_fields, statistics_table, statistics_fields, column_meta_table, column_meta_fields, chunk_meta_table, chunk_meta_fields, group_meta_table, group_meta_fields, column_order_fields, element_table, element_fields, file_meta_table, file_meta_fields, data_page_header_table, data_page_header_fields, dictionary_page_header_table, dictionary_page_header_fields, data_page_header_v2_table, data_page_header_v2_fields, page_header_table, page_header_fields}

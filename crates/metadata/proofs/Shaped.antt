@@ -7,13 +7,19 @@ use Rattle.bits.specs.declared.refusal.Refusal.TheVariants.{Thrift, Memory}
 use Rattle.bits.specs.Refusals.{HasCause, RefusedOnly}
 use Rattle.thrift_compact.specs.Tree.{Node, i32, i64, binary, struct, Fields}
 use Rattle.thrift_compact.specs.View.{nodes_of, fields_of}
-use Rattle.thrift_compact.specs.Shapes.{StructsWithBytesHaveTheShape, is_of_type, is_member, has_shape, each_has_shape, fields_have_shape}
-use Rattle.thrift_compact.specs.Writing.{IsShapeless}
+use Rattle.thrift_compact.specs.Shapes.{StructsWithBytesHaveTheShape, is_of_type, is_member, has_shape, each_has_shape, fields_have_shape, IsShapeless}
 use Rattle.schema.specs.Elements.{Element}
 use Rattle.metadata.specs.Records.{KeyValue, Statistics, ColumnMeta, ChunkMeta, GroupMeta, ColumnOrder, type_order, other_order, FileMeta, DataPageHeader, DictionaryPageHeader, DataPageHeaderV2, PageHeader}
 use Rattle.metadata.specs.ToTree.{Entry, present, present_of, written, truth, many, record_as, STRUCT, key_value_table, key_value_fields, statistics_table, statistics_fields, column_meta_table, column_meta_fields, chunk_meta_table, chunk_meta_fields, group_meta_table, group_meta_fields, column_order_fields, element_table, element_fields, file_meta_table, file_meta_fields, data_page_header_table, data_page_header_fields, dictionary_page_header_table, dictionary_page_header_fields, data_page_header_v2_table, data_page_header_v2_fields, page_header_table, page_header_fields}
 use Rattle.schema.specs.Law.{IsWritable}
-use Rattle.metadata.specs.Kept.{KeepsWritten, KeepsShape, EachKeepsShape}
+use Rattle.metadata.specs.Kept.{KeepsWritten}
+
+-- it has the shape of one that is written there
+abbrev pub KeepsShape : Element → Type 0
+KeepsShape e = IfSome e.logical_type (λ s. IsTrue (fields_have_shape 29 s))
+
+abbrev pub EachKeepsShape : FileMeta → Type 0
+EachKeepsShape m = AllByRecursion KeepsShape m.schema
 
 both : (a b : Bool) → IsTrue a → IsTrue b → IsTrue (a && b)
 both true b p q = q

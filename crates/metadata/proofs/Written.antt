@@ -6,7 +6,7 @@ use Rattle.std.specs.Option.{option_to_list}
 use Rattle.std.specs.Ordering.{int_eq}
 use Rattle.thrift_compact.specs.Tree.{Node}
 use Rattle.thrift_compact.specs.View.{nodes_of}
-use Rattle.metadata.specs.Given.{all_with, last_of, known, needed, boolean, each_of, list_by}
+use Rattle.metadata.specs.FieldValues.{all_with, last_of, known, needed, boolean, each_of, list_by}
 use Rattle.metadata.specs.ToTree.{Entry, written, truth, many}
 
 -- the values that stand in a table under an id

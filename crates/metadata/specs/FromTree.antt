@@ -1,10 +1,10 @@
--- Which record the fields of a struct are: the tables of ids of parquet.thrift. Other fields are passed over.
+-- Which record the fields of a struct are: the tables of ids of parquet.thrift. Other fields are skipped.
 use Rattle.std.specs.Prelude.{Bool, true, is_some, Option, Some, None, if◌then◌else◌}
 use Rattle.std.specs.Ordering.{int_eq}
 use Rattle.thrift_compact.specs.Tree.{Fields}
 use Rattle.schema.specs.Elements.{Element}
 use Rattle.metadata.specs.Ids as ids
-use Rattle.metadata.specs.Given.{◌>>=◌, known, needed, int32, int64, boolean, text, tree, any_struct, record_by, list_by}
+use Rattle.metadata.specs.FieldValues.{◌>>=◌, known, needed, int32, int64, boolean, text, tree, any_struct, record_by, list_by}
 use Rattle.metadata.specs.Records.{KeyValue, Statistics, ColumnMeta, ChunkMeta, GroupMeta, ColumnOrder, type_order, other_order, FileMeta, DataPageHeader, DictionaryPageHeader, DataPageHeaderV2, PageHeader}
 
 abbrev pub key_value : Fields → Option KeyValue

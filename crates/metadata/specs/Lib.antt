@@ -1,4 +1,4 @@
-pub mod Given
+pub mod FieldValues
 pub mod Ids
 pub mod Records
 pub mod FromTree

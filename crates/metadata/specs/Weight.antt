@@ -1,4 +1,4 @@
--- What a footer weighs: a bound on its written length that is told from the record alone.
+-- What a footer weighs: a bound on its written length that follows from the record only.
 use Rattle.std.specs.Prelude.{◌≡◌, ℕ, ◌+◌, ◌*◌, ◌^◌, ◌<◌, ◌≤◌, List, [], ◌∷◌, length, Option, Some, None, IfSome, All, sum_by, codes}
 use Rattle.thrift_compact.specs.Tree.{Fields}
 use Rattle.thrift_compact.specs.Length.{size_struct}

@@ -1,9 +1,9 @@
 //! ChunkMeta: the struct, how it is read and how it is written.
 
 ghost use Rattle.std.specs.Prelude.{◌≡◌, IfOk};
-ghost use Rattle.bits.specs.Refusals.{RefusedOnly};
+ghost use Rattle.bits.specs.Refusals.{RefusedMemoryOnly};
 ghost use Rattle.thrift_compact.specs.View.{field_views, tree_view};
-ghost use Rattle.metadata.specs.Given.{record_by};
+ghost use Rattle.metadata.specs.FieldValues.{record_by};
 ghost use Rattle.metadata.specs.ToTree.{chunk_meta_fields, record_as, STRUCT};
 ghost use Rattle.metadata.specs.FromTree.{chunk_meta};
 ghost use Rattle.metadata.specs.Records.{ChunkMeta as ChunkMetaShown};
@@ -40,7 +40,7 @@ impl ChunkMeta {
     /// Memory.
     pub fn to_tree(&self, alloc: Global) -> R<Tree>
         ensures stands { IfOk result (λ tree. tree_view tree ≡ chunk_meta_fields (chunk_meta_view self.now)) }
-        ensures which { RefusedOnly (λ _. ⊥) result }
+        ensures which { RefusedMemoryOnly result }
     {
         let fields = fields_of_chunk_meta(alloc, self)?;
         Ok(Tree { fields })
@@ -79,7 +79,7 @@ impl FromNode for ChunkMeta {
 /// The fields of the record.
 fn fields_of_chunk_meta(alloc: Global, chunk_meta: &ChunkMeta) -> R<Vec<Field>>
     ensures stands { IfOk result (λ fields. field_views fields.items ≡ chunk_meta_fields (chunk_meta_view chunk_meta.now)) }
-    ensures which { RefusedOnly (λ _. ⊥) result }
+    ensures which { RefusedMemoryOnly result }
 {
     let mut fields = Vec::with_capacity(alloc, 3)?;
     put_given(alloc, &mut fields, ids::FILE_PATH, &chunk_meta.file_path)?;

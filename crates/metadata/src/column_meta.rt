@@ -1,9 +1,9 @@
 //! ColumnMeta: the struct, how it is read and how it is written.
 
 ghost use Rattle.std.specs.Prelude.{◌≡◌, IfOk};
-ghost use Rattle.bits.specs.Refusals.{RefusedOnly};
+ghost use Rattle.bits.specs.Refusals.{RefusedMemoryOnly};
 ghost use Rattle.thrift_compact.specs.View.{field_views, tree_view};
-ghost use Rattle.metadata.specs.Given.{record_by};
+ghost use Rattle.metadata.specs.FieldValues.{record_by};
 ghost use Rattle.metadata.specs.ToTree.{column_meta_fields, record_as};
 ghost use Rattle.metadata.specs.FromTree.{column_meta};
 ghost use Rattle.metadata.specs.Records.{ColumnMeta as ColumnMetaShown};
@@ -19,7 +19,7 @@ use std::alloc::Global;
 use thrift_compact::{Field, Node, Tree};
 
 /// A ColumnMetaData (`parquet.thrift`); `kind` is its `type`. `num_values` counts entries, nulls among
-/// them; the sizes are of bytes, page headers among them; the offsets are places in the file.
+/// them; the sizes are of bytes, page headers among them; the offsets are positions in the file.
 #[derive(Debug, Drop)]
 pub struct ColumnMeta {
     pub kind: i32,
@@ -48,7 +48,7 @@ impl ColumnMeta {
     /// Memory.
     pub fn to_tree(&self, alloc: Global) -> R<Tree>
         ensures stands { IfOk result (λ tree. tree_view tree ≡ column_meta_fields (column_meta_view self.now)) }
-        ensures which { RefusedOnly (λ _. ⊥) result }
+        ensures which { RefusedMemoryOnly result }
     {
         let fields = fields_of_column_meta(alloc, self)?;
         Ok(Tree { fields })
@@ -101,7 +101,7 @@ impl FromNode for ColumnMeta {
 /// The fields of the record.
 fn fields_of_column_meta(alloc: Global, column_meta: &ColumnMeta) -> R<Vec<Field>>
     ensures stands { IfOk result (λ fields. field_views fields.items ≡ column_meta_fields (column_meta_view column_meta.now)) }
-    ensures which { RefusedOnly (λ _. ⊥) result }
+    ensures which { RefusedMemoryOnly result }
 {
     let mut fields = Vec::with_capacity(alloc, 10)?;
     put(alloc, &mut fields, ids::KIND, &column_meta.kind)?;

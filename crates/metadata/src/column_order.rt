@@ -1,9 +1,9 @@
 //! ColumnOrder: the union, how it is read and how it is written.
 
 ghost use Rattle.std.specs.Prelude.{◌≡◌, IfOk};
-ghost use Rattle.bits.specs.Refusals.{RefusedOnly};
+ghost use Rattle.bits.specs.Refusals.{RefusedMemoryOnly};
 ghost use Rattle.thrift_compact.specs.View.{field_views, tree_view};
-ghost use Rattle.metadata.specs.Given.{record_by};
+ghost use Rattle.metadata.specs.FieldValues.{record_by};
 ghost use Rattle.metadata.specs.ToTree.{column_order_fields, record_as, STRUCT};
 ghost use Rattle.metadata.specs.FromTree.{column_order};
 ghost use Rattle.metadata.specs.Records.{ColumnOrder as ColumnOrderShown};
@@ -39,7 +39,7 @@ impl ColumnOrder {
     /// with no member, as whoever does not know a member reads it. Refused only Memory.
     pub fn to_tree(&self, alloc: Global) -> R<Tree>
         ensures stands { IfOk result (λ tree. tree_view tree ≡ column_order_fields (column_order_view self.now)) }
-        ensures which { RefusedOnly (λ _. ⊥) result }
+        ensures which { RefusedMemoryOnly result }
     {
         let fields = fields_of_column_order(alloc, *self)?;
         Ok(Tree { fields })
@@ -76,7 +76,7 @@ impl FromNode for ColumnOrder {
 /// The fields of the order.
 fn fields_of_column_order(alloc: Global, order: ColumnOrder) -> R<Vec<Field>>
     ensures stands { IfOk result (λ fields. field_views fields.items ≡ column_order_fields (column_order_view order)) }
-    ensures which { RefusedOnly (λ _. ⊥) result }
+    ensures which { RefusedMemoryOnly result }
 {
     let mut fields = Vec::new(alloc);
     if order == ColumnOrder::TypeOrder {

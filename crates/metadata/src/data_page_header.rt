@@ -1,9 +1,9 @@
 //! DataPageHeader: the struct, how it is read and how it is written.
 
 ghost use Rattle.std.specs.Prelude.{◌≡◌, IfOk};
-ghost use Rattle.bits.specs.Refusals.{RefusedOnly};
+ghost use Rattle.bits.specs.Refusals.{RefusedMemoryOnly};
 ghost use Rattle.thrift_compact.specs.View.{field_views, tree_view};
-ghost use Rattle.metadata.specs.Given.{record_by};
+ghost use Rattle.metadata.specs.FieldValues.{record_by};
 ghost use Rattle.metadata.specs.ToTree.{data_page_header_fields, record_as};
 ghost use Rattle.metadata.specs.FromTree.{data_page_header};
 ghost use Rattle.metadata.specs.Records.{DataPageHeader as DataPageHeaderShown};
@@ -42,7 +42,7 @@ impl DataPageHeader {
     /// Memory.
     pub fn to_tree(&self, alloc: Global) -> R<Tree>
         ensures stands { IfOk result (λ tree. tree_view tree ≡ data_page_header_fields (data_page_header_view self.now)) }
-        ensures which { RefusedOnly (λ _. ⊥) result }
+        ensures which { RefusedMemoryOnly result }
     {
         let fields = fields_of_data_page_header(alloc, self)?;
         Ok(Tree { fields })
@@ -85,7 +85,7 @@ impl FromNode for DataPageHeader {
 /// The fields of the record.
 fn fields_of_data_page_header(alloc: Global, data_page_header: &DataPageHeader) -> R<Vec<Field>>
     ensures stands { IfOk result (λ fields. field_views fields.items ≡ data_page_header_fields (data_page_header_view data_page_header.now)) }
-    ensures which { RefusedOnly (λ _. ⊥) result }
+    ensures which { RefusedMemoryOnly result }
 {
     let mut fields = Vec::with_capacity(alloc, 5)?;
     put(

@@ -1,9 +1,9 @@
 //! DataPageHeaderV2: the struct, how it is read and how it is written.
 
 ghost use Rattle.std.specs.Prelude.{◌≡◌, IfOk};
-ghost use Rattle.bits.specs.Refusals.{RefusedOnly};
+ghost use Rattle.bits.specs.Refusals.{RefusedMemoryOnly};
 ghost use Rattle.thrift_compact.specs.View.{field_views, tree_view};
-ghost use Rattle.metadata.specs.Given.{record_by};
+ghost use Rattle.metadata.specs.FieldValues.{record_by};
 ghost use Rattle.metadata.specs.ToTree.{data_page_header_v2_fields, record_as};
 ghost use Rattle.metadata.specs.FromTree.{data_page_header_v2};
 ghost use Rattle.metadata.specs.Records.{DataPageHeaderV2 as DataPageHeaderV2Shown};
@@ -45,7 +45,7 @@ impl DataPageHeaderV2 {
     /// Memory.
     pub fn to_tree(&self, alloc: Global) -> R<Tree>
         ensures stands { IfOk result (λ tree. tree_view tree ≡ data_page_header_v2_fields (data_page_header_v2_view self.now)) }
-        ensures which { RefusedOnly (λ _. ⊥) result }
+        ensures which { RefusedMemoryOnly result }
     {
         let fields = fields_of_data_page_header_v2(alloc, self)?;
         Ok(Tree { fields })
@@ -105,7 +105,7 @@ fn fields_of_data_page_header_v2(
     data_page_header_v2: &DataPageHeaderV2,
 ) -> R<Vec<Field>>
     ensures stands { IfOk result (λ fields. field_views fields.items ≡ data_page_header_v2_fields (data_page_header_v2_view data_page_header_v2.now)) }
-    ensures which { RefusedOnly (λ _. ⊥) result }
+    ensures which { RefusedMemoryOnly result }
 {
     let mut fields = Vec::with_capacity(alloc, 8)?;
     put(

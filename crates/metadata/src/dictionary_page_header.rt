@@ -1,9 +1,9 @@
 //! DictionaryPageHeader: the struct, how it is read and how it is written.
 
 ghost use Rattle.std.specs.Prelude.{◌≡◌, IfOk};
-ghost use Rattle.bits.specs.Refusals.{RefusedOnly};
+ghost use Rattle.bits.specs.Refusals.{RefusedMemoryOnly};
 ghost use Rattle.thrift_compact.specs.View.{field_views, tree_view};
-ghost use Rattle.metadata.specs.Given.{record_by};
+ghost use Rattle.metadata.specs.FieldValues.{record_by};
 ghost use Rattle.metadata.specs.ToTree.{dictionary_page_header_fields, record_as};
 ghost use Rattle.metadata.specs.FromTree.{dictionary_page_header};
 ghost use Rattle.metadata.specs.Records.{DictionaryPageHeader as DictionaryPageHeaderShown};
@@ -39,7 +39,7 @@ impl DictionaryPageHeader {
     /// Memory.
     pub fn to_tree(&self, alloc: Global) -> R<Tree>
         ensures stands { IfOk result (λ tree. tree_view tree ≡ dictionary_page_header_fields (dictionary_page_header_view self.now)) }
-        ensures which { RefusedOnly (λ _. ⊥) result }
+        ensures which { RefusedMemoryOnly result }
     {
         let fields = fields_of_dictionary_page_header(alloc, self)?;
         Ok(Tree { fields })
@@ -81,7 +81,7 @@ fn fields_of_dictionary_page_header(
     dictionary_page_header: &DictionaryPageHeader,
 ) -> R<Vec<Field>>
     ensures stands { IfOk result (λ fields. field_views fields.items ≡ dictionary_page_header_fields (dictionary_page_header_view dictionary_page_header.now)) }
-    ensures which { RefusedOnly (λ _. ⊥) result }
+    ensures which { RefusedMemoryOnly result }
 {
     let mut fields = Vec::with_capacity(alloc, 3)?;
     put(

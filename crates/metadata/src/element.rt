@@ -1,10 +1,10 @@
 //! SchemaElement: how the elements of a schema are read and written.
 
 ghost use Rattle.std.specs.Prelude.{◌≡◌, IfOk};
-ghost use Rattle.bits.specs.Refusals.{RefusedOnly};
+ghost use Rattle.bits.specs.Refusals.{RefusedMemoryOnly};
 ghost use Rattle.thrift_compact.specs.View.{field_views, tree_view};
 ghost use Rattle.schema.specs.Elements.{Element as ElementShown, element_view};
-ghost use Rattle.metadata.specs.Given.{record_by};
+ghost use Rattle.metadata.specs.FieldValues.{record_by};
 ghost use Rattle.metadata.specs.ToTree.{element_fields, record_as, STRUCT};
 ghost use Rattle.metadata.specs.FromTree.{element};
 ghost use Rattle.metadata.specs.Answers.{IsRecordOf};
@@ -30,7 +30,7 @@ pub fn element_from_tree(alloc: Global, tree: &Tree) -> R<Element>
 /// Memory.
 pub fn element_to_tree(alloc: Global, element: &Element) -> R<Tree>
     ensures stands { IfOk result (λ tree. tree_view tree ≡ element_fields (element_view element.now)) }
-    ensures which { RefusedOnly (λ _. ⊥) result }
+    ensures which { RefusedMemoryOnly result }
 {
     let fields = fields_of_element(alloc, element)?;
     Ok(Tree { fields })
@@ -82,7 +82,7 @@ impl FromNode for Element {
 /// The fields of the record.
 fn fields_of_element(alloc: Global, element: &Element) -> R<Vec<Field>>
     ensures stands { IfOk result (λ fields. field_views fields.items ≡ element_fields (element_view element.now)) }
-    ensures which { RefusedOnly (λ _. ⊥) result }
+    ensures which { RefusedMemoryOnly result }
 {
     let mut fields = Vec::with_capacity(alloc, 10)?;
     put_given(alloc, &mut fields, ids::KIND, &element.kind)?;

@@ -1,15 +1,14 @@
 //! FileMeta: the struct, how it is read and how it is written.
 
 ghost use Rattle.std.specs.Prelude.{◌≡◌, ◌+◌, ◌≤◌, ◌⊎◌, ℕ, List, length, IfOk, OnOk, OnErr};
-ghost use Rattle.bits.specs.Refusals.{OnFault, RefusedOnly};
-ghost use Rattle.bits.specs.Codec.{Appends, NothingStands, NothingStandsEver};
-ghost use Rattle.thrift_compact.specs.Compact.{IsThrift};
-ghost use Rattle.thrift_compact.specs.Length.{size_struct};
+ghost use Rattle.bits.specs.Refusals.{OnFault, RefusedOnly, RefusedMemoryOnly};
+ghost use Rattle.bits.specs.Codec.{NothingStands, NothingStandsEver};
+ghost use Rattle.thrift_compact.specs.Length.{size_struct, AppendsStruct};
 ghost use Rattle.thrift_compact.specs.View.{field_views, tree_view};
 ghost use Rattle.metadata.specs.ToTree.{file_meta_fields};
 ghost use Rattle.metadata.specs.FromTree.{file_meta};
 ghost use Rattle.metadata.specs.Views.{file_meta_view};
-ghost use Rattle.metadata.specs.Answers.{IsRecordOf, StandsFor};
+ghost use Rattle.metadata.specs.Answers.{IsRecordOf, StandsFor, AppendsRecord};
 ghost use Rattle.metadata.specs.Kept.{EachKeepsWritten};
 ghost use Rattle.metadata.specs.Weight.{IsOfTheWriter, footer_weight};
 
@@ -40,20 +39,20 @@ pub struct FileMeta {
 }
 
 impl FileMeta {
-    /// The record that a struct is. Refused Thrift just where it is none: a known field is of another
+    /// The record that a struct is. Refused Thrift exactly when it is none: a known field is of another
     /// type, also where a later one of its id is not, or a needed one is not there. Of a field that
-    /// comes twice the last counts; others are passed over.
+    /// comes twice the last counts; others are skipped.
     pub fn from_tree(alloc: Global, tree: &Tree) -> R<FileMeta>
         ensures stands { IsRecordOf file_meta_view (file_meta (tree_view tree.now)) result }
     {
         file_meta_of(alloc, tree.fields.as_slice())
     }
 
-    /// The record of the struct at the front of the bytes, and how many bytes that struct takes;
+    /// The record of the struct at the start of the bytes, and how many bytes that struct takes;
     /// what follows is not looked at. By one pass over the struct's bytes, and one over its fields
     /// for each id.
     ///
-    /// Refused Truncated or Thrift only where no front of the bytes is such a record, and Thrift only
+    /// Refused Truncated or Thrift only where no prefix of the bytes is such a record, and Thrift only
     /// where none is whatever follows the bytes: a record that is cut is refused Truncated.
     pub fn read(alloc: Global, bytes: &[u8]) -> R<(FileMeta, usize)>
         ensures stands { IfOk result (λ x. StandsFor file_meta bytes.now (file_meta_view x.0) x.1) }
@@ -73,7 +72,7 @@ impl FileMeta {
     /// alone.
     pub fn to_tree(&self, alloc: Global) -> R<Tree>
         ensures stands { IfOk result (λ tree. tree_view tree ≡ file_meta_fields (file_meta_view self.now)) }
-        ensures which { RefusedOnly (λ _. ⊥) result }
+        ensures which { RefusedMemoryOnly result }
     {
         let fields = fields_of_file_meta(alloc, self)?;
         Ok(Tree { fields })
@@ -85,10 +84,10 @@ impl FileMeta {
     /// The footer of a file that the store writes takes at most the bytes that it weighs.
     ///
     /// Refused Thrift only where no bytes at all are this record: where the logicalType of an
-    /// element nests deeper than 29, or no bytes have it. After a refusal `out` is as it was.
+    /// element nests deeper than 29, or no bytes have it. After a refusal `out` is unchanged.
     pub fn write(&self, alloc: Global, out: &mut Vec<u8>) -> R<()>
-        ensures stands { let fields = file_meta_fields (file_meta_view self.now) in OnOk result (Appends (λ bytes used. IsThrift bytes fields used) (size_struct fields) out.old.items out.new.items) }
-        ensures read_again { let fields = file_meta_fields (file_meta_view self.now) in OnOk result (Appends (λ bytes used. StandsFor file_meta bytes (file_meta_view self.now) used) (size_struct fields) out.old.items out.new.items) }
+        ensures stands { OnOk result (AppendsStruct (file_meta_fields (file_meta_view self.now)) out.old.items out.new.items) }
+        ensures read_again { let seen = file_meta_view self.now in OnOk result (AppendsRecord file_meta seen (size_struct (file_meta_fields seen)) out.old.items out.new.items) }
         ensures weight { let seen = file_meta_view self.now in (keys : List (List ℕ)) → IsOfTheWriter keys seen → OnOk result (length out.new.items ≤ length out.old.items + footer_weight keys seen) }
         ensures only { OnFault result ((bytes : List ℕ) (used : ℕ) → StandsFor file_meta bytes (file_meta_view self.now) used → ⊥) }
         ensures which { RefusedOnly (λ e. (e ≡ Refusal.Thrift) × (EachKeepsWritten (file_meta_view self.now) → ⊥)) result }
@@ -125,7 +124,7 @@ fn file_meta_of(alloc: Global, fields: &[Field]) -> R<FileMeta>
 /// The fields of the record.
 fn fields_of_file_meta(alloc: Global, file_meta: &FileMeta) -> R<Vec<Field>>
     ensures stands { IfOk result (λ fields. field_views fields.items ≡ file_meta_fields (file_meta_view file_meta.now)) }
-    ensures which { RefusedOnly (λ _. ⊥) result }
+    ensures which { RefusedMemoryOnly result }
 {
     let mut fields = Vec::with_capacity(alloc, 7)?;
     put_given(alloc, &mut fields, ids::VERSION, &file_meta.version)?;

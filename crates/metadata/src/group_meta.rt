@@ -1,9 +1,9 @@
 //! GroupMeta: the struct, how it is read and how it is written.
 
 ghost use Rattle.std.specs.Prelude.{◌≡◌, IfOk};
-ghost use Rattle.bits.specs.Refusals.{RefusedOnly};
+ghost use Rattle.bits.specs.Refusals.{RefusedMemoryOnly};
 ghost use Rattle.thrift_compact.specs.View.{field_views, tree_view};
-ghost use Rattle.metadata.specs.Given.{record_by};
+ghost use Rattle.metadata.specs.FieldValues.{record_by};
 ghost use Rattle.metadata.specs.ToTree.{group_meta_fields, record_as, STRUCT};
 ghost use Rattle.metadata.specs.FromTree.{group_meta};
 ghost use Rattle.metadata.specs.Records.{GroupMeta as GroupMetaShown};
@@ -40,7 +40,7 @@ impl GroupMeta {
     /// Memory.
     pub fn to_tree(&self, alloc: Global) -> R<Tree>
         ensures stands { IfOk result (λ tree. tree_view tree ≡ group_meta_fields (group_meta_view self.now)) }
-        ensures which { RefusedOnly (λ _. ⊥) result }
+        ensures which { RefusedMemoryOnly result }
     {
         let fields = fields_of_group_meta(alloc, self)?;
         Ok(Tree { fields })
@@ -79,7 +79,7 @@ impl FromNode for GroupMeta {
 /// The fields of the record.
 fn fields_of_group_meta(alloc: Global, group_meta: &GroupMeta) -> R<Vec<Field>>
     ensures stands { IfOk result (λ fields. field_views fields.items ≡ group_meta_fields (group_meta_view group_meta.now)) }
-    ensures which { RefusedOnly (λ _. ⊥) result }
+    ensures which { RefusedMemoryOnly result }
 {
     let mut fields = Vec::with_capacity(alloc, 3)?;
     put(alloc, &mut fields, ids::COLUMNS, &group_meta.columns)?;

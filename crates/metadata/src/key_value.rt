@@ -1,9 +1,9 @@
 //! KeyValue: the struct, how it is read and how it is written.
 
 ghost use Rattle.std.specs.Prelude.{◌≡◌, IfOk};
-ghost use Rattle.bits.specs.Refusals.{RefusedOnly};
+ghost use Rattle.bits.specs.Refusals.{RefusedMemoryOnly};
 ghost use Rattle.thrift_compact.specs.View.{field_views, tree_view};
-ghost use Rattle.metadata.specs.Given.{record_by};
+ghost use Rattle.metadata.specs.FieldValues.{record_by};
 ghost use Rattle.metadata.specs.ToTree.{key_value_fields, record_as, STRUCT};
 ghost use Rattle.metadata.specs.FromTree.{key_value};
 ghost use Rattle.metadata.specs.Records.{KeyValue as KeyValueShown};
@@ -38,7 +38,7 @@ impl KeyValue {
     /// Memory.
     pub fn to_tree(&self, alloc: Global) -> R<Tree>
         ensures stands { IfOk result (λ tree. tree_view tree ≡ key_value_fields (key_value_view self.now)) }
-        ensures which { RefusedOnly (λ _. ⊥) result }
+        ensures which { RefusedMemoryOnly result }
     {
         let fields = fields_of_key_value(alloc, self)?;
         Ok(Tree { fields })
@@ -72,7 +72,7 @@ impl FromNode for KeyValue {
 /// The fields of the record.
 fn fields_of_key_value(alloc: Global, key_value: &KeyValue) -> R<Vec<Field>>
     ensures stands { IfOk result (λ fields. field_views fields.items ≡ key_value_fields (key_value_view key_value.now)) }
-    ensures which { RefusedOnly (λ _. ⊥) result }
+    ensures which { RefusedMemoryOnly result }
 {
     let mut fields = Vec::with_capacity(alloc, 2)?;
     put(alloc, &mut fields, ids::KEY, &key_value.key)?;

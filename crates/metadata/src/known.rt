@@ -3,7 +3,7 @@
 ghost use Rattle.std.specs.Prelude.{ℕ, ℤ, Bool, List, Option, map, option_map};
 ghost use Rattle.thrift_compact.specs.Tree.{Node, Fields};
 ghost use Rattle.thrift_compact.specs.View.{view, views, field_views, tree_view};
-ghost use Rattle.metadata.specs.Given.{known, needed, int32, int64, boolean, text, tree, any_struct, each_of, list_by};
+ghost use Rattle.metadata.specs.FieldValues.{known, needed, int32, int64, boolean, text, tree, any_struct, each_of, list_by};
 ghost use Rattle.metadata.specs.Answers.{IsRecordOf};
 
 use bits::{R, Refusal};

@@ -35,14 +35,14 @@ pub fn page_header_again()
     ensures { (h : PageHeader) → has_own_header h ≡ true → page_header (page_header_fields h) ≡ Some h }
 {}
 
-/// A front of the bytes stands for at most one footer.
+/// A prefix of the bytes stands for at most one footer.
 pub fn one_footer()
     ensures { IsFunctional (StandsFor file_meta) }
 {
     one_struct();
 }
 
-/// A front of the bytes stands for at most one page header.
+/// A prefix of the bytes stands for at most one page header.
 pub fn one_page_header()
     ensures { IsFunctional (StandsFor page_header) }
 {

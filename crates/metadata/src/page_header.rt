@@ -1,16 +1,15 @@
 //! PageHeader: the struct, how it is read and how it is written.
 
 ghost use Rattle.std.specs.Prelude.{◌≡◌, ◌≤◌, ◌⊎◌, ℕ, List, length, IfOk, OnOk, OnErr, IsTrue, true, false};
-ghost use Rattle.bits.specs.Refusals.{OnFault, RefusedOnly};
-ghost use Rattle.bits.specs.Codec.{Appends, NothingStands, NothingStandsEver};
+ghost use Rattle.bits.specs.Refusals.{OnFault, RefusedOnly, RefusedMemoryOnly};
+ghost use Rattle.bits.specs.Codec.{NothingStands, NothingStandsEver};
 ghost use Rattle.thrift_compact.specs.Tree.{Fields};
-ghost use Rattle.thrift_compact.specs.Compact.{IsThrift};
-ghost use Rattle.thrift_compact.specs.Length.{size_struct};
+ghost use Rattle.thrift_compact.specs.Length.{size_struct, AppendsStruct};
 ghost use Rattle.thrift_compact.specs.View.{field_views, tree_view};
 ghost use Rattle.metadata.specs.ToTree.{page_header_fields};
 ghost use Rattle.metadata.specs.FromTree.{page_header, any_page_header, has_own_header};
 ghost use Rattle.metadata.specs.Views.{page_header_view};
-ghost use Rattle.metadata.specs.Answers.{IsRecordOf, StandsFor};
+ghost use Rattle.metadata.specs.Answers.{IsRecordOf, StandsFor, AppendsRecord};
 
 use crate::data_page_header::DataPageHeader;
 use crate::data_page_header_v2::DataPageHeaderV2;
@@ -47,20 +46,20 @@ pub struct PageHeader {
 }
 
 impl PageHeader {
-    /// The record that a struct is. Refused Thrift just where it is none: a known field is of another
+    /// The record that a struct is. Refused Thrift exactly when it is none: a known field is of another
     /// type, also where a later one of its id is not, or a needed one is not there. Of a field that
-    /// comes twice the last counts; others are passed over.
+    /// comes twice the last counts; others are skipped.
     pub fn from_tree(alloc: Global, tree: &Tree) -> R<PageHeader>
         ensures stands { IsRecordOf page_header_view (page_header (tree_view tree.now)) result }
     {
         page_header_of(alloc, tree.fields.as_slice())
     }
 
-    /// The record of the struct at the front of the bytes, and how many bytes that struct takes;
+    /// The record of the struct at the start of the bytes, and how many bytes that struct takes;
     /// what follows is not looked at. By one pass over the struct's bytes, and one over its fields
     /// for each id.
     ///
-    /// Refused Truncated or Thrift only where no front of the bytes is such a record, and Thrift only
+    /// Refused Truncated or Thrift only where no prefix of the bytes is such a record, and Thrift only
     /// where none is whatever follows the bytes: a record that is cut is refused Truncated.
     pub fn read(alloc: Global, bytes: &[u8]) -> R<(PageHeader, usize)>
         ensures stands { IfOk result (λ x. StandsFor page_header bytes.now (page_header_view x.0) x.1) }
@@ -78,7 +77,7 @@ impl PageHeader {
 
     /// The struct of the record, in the order of the ids; what is absent is left out.
     ///
-    /// Refused Thrift just where the header that `kind` names is not there: no struct is such a
+    /// Refused Thrift exactly when the header that `kind` names is not there: no struct is such a
     /// record.
     pub fn to_tree(&self, alloc: Global) -> R<Tree>
         ensures stands { IfOk result (λ tree. tree_view tree ≡ page_header_fields (page_header_view self.now)) }
@@ -97,10 +96,10 @@ impl PageHeader {
     /// has. What is written is read as this record, whatever follows it.
     ///
     /// Refused Thrift only where no bytes at all are this record: where the header that `kind` names is
-    /// not there. After a refusal `out` is as it was.
+    /// not there. After a refusal `out` is unchanged.
     pub fn write(&self, alloc: Global, out: &mut Vec<u8>) -> R<()>
-        ensures stands { let fields = page_header_fields (page_header_view self.now) in OnOk result (Appends (λ bytes used. IsThrift bytes fields used) (size_struct fields) out.old.items out.new.items) }
-        ensures read_again { let fields = page_header_fields (page_header_view self.now) in OnOk result (Appends (λ bytes used. StandsFor page_header bytes (page_header_view self.now) used) (size_struct fields) out.old.items out.new.items) }
+        ensures stands { OnOk result (AppendsStruct (page_header_fields (page_header_view self.now)) out.old.items out.new.items) }
+        ensures read_again { let seen = page_header_view self.now in OnOk result (AppendsRecord page_header seen (size_struct (page_header_fields seen)) out.old.items out.new.items) }
         ensures only { OnFault result ((bytes : List ℕ) (used : ℕ) → StandsFor page_header bytes (page_header_view self.now) used → ⊥) }
         ensures which { RefusedOnly (λ e. (e ≡ Refusal.Thrift) × (has_own_header (page_header_view self.now) ≡ false)) result }
         ensures unchanged { OnErr result (out.new.items ≡ out.old.items) }
@@ -159,7 +158,7 @@ fn any_page_header_of(alloc: Global, fields: &[Field]) -> R<PageHeader>
 /// The fields of the record.
 fn fields_of_page_header(alloc: Global, page_header: &PageHeader) -> R<Vec<Field>>
     ensures stands { IfOk result (λ fields. field_views fields.items ≡ page_header_fields (page_header_view page_header.now)) }
-    ensures which { RefusedOnly (λ _. ⊥) result }
+    ensures which { RefusedMemoryOnly result }
 {
     let mut fields = Vec::with_capacity(alloc, 7)?;
     put(alloc, &mut fields, ids::KIND, &page_header.kind)?;

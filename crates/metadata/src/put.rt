@@ -1,7 +1,7 @@
 //! The fields of a struct from the values of a record, for every type of field at once.
 
 ghost use Rattle.std.specs.Prelude.{◌≡◌, ◌++◌, ℕ, ℤ, Bool, List, Option, Some, IfOk, OnOk, map, option_map};
-ghost use Rattle.bits.specs.Refusals.{RefusedOnly};
+ghost use Rattle.bits.specs.Refusals.{RefusedMemoryOnly};
 ghost use Rattle.thrift_compact.specs.Tree.{Node, Fields, i32, i64, binary, struct};
 ghost use Rattle.thrift_compact.specs.View.{code_of, view, field_view, tree_view};
 ghost use Rattle.metadata.specs.ToTree.{present, truth, many, INT32, BINARY, STRUCT};
@@ -22,7 +22,7 @@ pub trait ToNode {
 
     fn to_node(&self, alloc: Global) -> R<Value>
         ensures stands { IfOk result (λ value. view value ≡ write (shown self.now)) }
-        ensures which { RefusedOnly (λ _. ⊥) result };
+        ensures which { RefusedMemoryOnly result };
 }
 
 /// What is written as an element of a list.
@@ -116,7 +116,7 @@ impl ToNode for Tree {
 /// The values of a list.
 fn nodes<T: ToNode>(alloc: Global, items: &[T]) -> R<Vec<Value>>
     ensures stands { IfOk result (λ values. map view values.items ≡ map T.write (map T.shown items.now)) }
-    ensures which { RefusedOnly (λ _. ⊥) result }
+    ensures which { RefusedMemoryOnly result }
 {
     let mut values = Vec::with_capacity(alloc, items.len())?;
     for item in items {
@@ -142,7 +142,7 @@ impl<T: ToElement> ToNode for Vec<T> {
 /// Puts a field after the others.
 pub fn put<T: ToNode>(alloc: Global, fields: &mut Vec<Field>, id: i16, value: &T) -> R<()>
     ensures stands { OnOk result (map field_view fields.new.items ≡ map field_view fields.old.items ++ present id (Some (T.write (T.shown value.now)))) }
-    ensures which { RefusedOnly (λ _. ⊥) result }
+    ensures which { RefusedMemoryOnly result }
 {
     let value = value.to_node(alloc)?;
     fields.push(Field { id, value })?;
@@ -157,7 +157,7 @@ pub fn put_given<T: ToNode>(
     value: &Option<T>,
 ) -> R<()>
     ensures stands { OnOk result (map field_view fields.new.items ≡ map field_view fields.old.items ++ present id (option_map T.write (option_map T.shown value.now))) }
-    ensures which { RefusedOnly (λ _. ⊥) result }
+    ensures which { RefusedMemoryOnly result }
 {
     match value {
         Some(value) => put(alloc, fields, id, value),

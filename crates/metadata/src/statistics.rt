@@ -1,9 +1,9 @@
 //! Statistics: the struct, how it is read and how it is written.
 
 ghost use Rattle.std.specs.Prelude.{◌≡◌, IfOk};
-ghost use Rattle.bits.specs.Refusals.{RefusedOnly};
+ghost use Rattle.bits.specs.Refusals.{RefusedMemoryOnly};
 ghost use Rattle.thrift_compact.specs.View.{field_views, tree_view};
-ghost use Rattle.metadata.specs.Given.{record_by};
+ghost use Rattle.metadata.specs.FieldValues.{record_by};
 ghost use Rattle.metadata.specs.ToTree.{statistics_fields, record_as};
 ghost use Rattle.metadata.specs.FromTree.{statistics};
 ghost use Rattle.metadata.specs.Records.{Statistics as StatisticsShown};
@@ -44,7 +44,7 @@ impl Statistics {
     /// Memory.
     pub fn to_tree(&self, alloc: Global) -> R<Tree>
         ensures stands { IfOk result (λ tree. tree_view tree ≡ statistics_fields (statistics_view self.now)) }
-        ensures which { RefusedOnly (λ _. ⊥) result }
+        ensures which { RefusedMemoryOnly result }
     {
         let fields = fields_of_statistics(alloc, self)?;
         Ok(Tree { fields })
@@ -93,7 +93,7 @@ impl FromNode for Statistics {
 /// The fields of the record.
 fn fields_of_statistics(alloc: Global, statistics: &Statistics) -> R<Vec<Field>>
     ensures stands { IfOk result (λ fields. field_views fields.items ≡ statistics_fields (statistics_view statistics.now)) }
-    ensures which { RefusedOnly (λ _. ⊥) result }
+    ensures which { RefusedMemoryOnly result }
 {
     let mut fields = Vec::with_capacity(alloc, 8)?;
     put_given(alloc, &mut fields, ids::MAX, &statistics.max)?;

@@ -1,7 +1,7 @@
 use Rattle.std.proofs.Common.{◌≡◌, drop}
 use Rattle.std.specs.Prelude.{map}
 use Rattle.thrift_compact.specs.View.{views}
-use Rattle.metadata.specs.Given.{each_of}
+use Rattle.metadata.specs.FieldValues.{each_of}
 use Rattle.metadata.proofs.Found.{before}
 use Rattle.metadata.proofs.known.each_as.Given as goal
 

@@ -1,7 +1,7 @@
 use Rattle.std.proofs.Common.{◌≡◌, drop}
 use Rattle.std.specs.Prelude.{option_map}
 use Rattle.thrift_compact.specs.View.{field_views}
-use Rattle.metadata.specs.Given.{known}
+use Rattle.metadata.specs.FieldValues.{known}
 use Rattle.metadata.proofs.Found.{over}
 use Rattle.metadata.proofs.known.known_as.Given as goal
 

@@ -13,8 +13,7 @@ use Rattle.metadata.proofs.Own.{footer_has_bytes}
 use Rattle.metadata.proofs.Weights.{footer_at_most}
 use Rattle.metadata.proofs.Writing.{AppendsStruct, stands_again, only_where, within_weight}
 use Rattle.bits.specs.Refusals.{RefusedOnly}
-use Rattle.thrift_compact.specs.Shapes.{fields_have_shape}
-use Rattle.thrift_compact.specs.Writing.{IsShapeless}
+use Rattle.thrift_compact.specs.Shapes.{fields_have_shape, IsShapeless}
 use Rattle.metadata.specs.Kept.{EachKeepsWritten}
 use Rattle.metadata.proofs.Shaped.{each_keeps_shape, footer_fits, not_shapeless, refused_where}
 use Rattle.metadata.proofs.file_meta.FileMeta.write.Goals as goal

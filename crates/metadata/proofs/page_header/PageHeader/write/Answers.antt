@@ -12,8 +12,7 @@ use Rattle.metadata.proofs.Own.{header_has_bytes}
 use Rattle.metadata.proofs.Writing.{AppendsStruct, stands_again, only_where}
 use Rattle.std.proofs.Common.{false}
 use Rattle.bits.specs.Refusals.{RefusedOnly}
-use Rattle.thrift_compact.specs.Shapes.{fields_have_shape}
-use Rattle.thrift_compact.specs.Writing.{IsShapeless}
+use Rattle.thrift_compact.specs.Shapes.{fields_have_shape, IsShapeless}
 use Rattle.metadata.proofs.Shaped.{header_fits, not_shapeless, refused_where}
 use Rattle.metadata.proofs.page_header.PageHeader.write.Goals as goal
 
