@@ -1,10 +1,11 @@
 //! From bytes to values.
 
 ghost use Rattle.std.specs.Prelude.{◌≡◌, ℕ, ◌≤◌, ◌⊎◌, All, map, length, vec_len, IfOk};
-ghost use Rattle.bits.specs.Refusals.{OnFault, RefusedOnly, LimitJustWhere};
+ghost use Rattle.bits.specs.Refusals.{OnFault, RefusedOnly, RefusedMemoryOnly, LimitJustWhere};
 ghost use Rattle.bits.specs.Codec.{NothingStands, AreInTurn};
 ghost use Rattle.schema.specs.Values.{view};
-ghost use Rattle.plain.specs.Plain.{IsOfKind, IsSpelled, AreBooleans, IsPlain, AnnouncesTooMuch, IsReadOver, HasSize};
+ghost use Rattle.plain.specs.Plain.{IsOfKind, IsSpelled, AreBooleans, IsPlain, AnnouncesTooMuch, IsReadOver};
+ghost use Rattle.plain.specs.inner.Sized.{HasSize};
 
 use crate::held::Holds;
 use bits::{R, Refusal};
@@ -19,7 +20,7 @@ pub const MOST_BYTES_OF_VALUE: usize = 16_777_216;
 ///
 /// Booleans are bits, the lowest of a byte first, in `(n + 7) / 8` bytes whose last bits are not
 /// looked at; numbers are little-endian; a BYTE_ARRAY stands after its length in four bytes, a
-/// FIXED_LEN_BYTE_ARRAY alone. Each value is of the type: a number within its bits, bytes below 256,
+/// FIXED_LEN_BYTE_ARRAY only. Each value is of the type: a number within its bits, bytes below 256,
 /// a fixed length kept. (parquet-format, Encodings.md, "Plain".)
 ///
 /// Refused Limit exactly when one of the `n` values is announced with more than 16 MiB, by the four
@@ -125,7 +126,7 @@ fn sized_value<'a, T: Holds<'a>>(alloc: Global, kind: Kind, text: &'a [u8]) -> R
     requires { HasSize kind (length text.now) }
     ensures stands { IfOk result (λ v. IsSpelled kind text.now (T.held v) (length text.now)) }
     ensures made { IfOk result T.IsMade }
-    ensures which { RefusedOnly (λ _. ⊥) result }
+    ensures which { RefusedMemoryOnly result }
 {
     match kind {
         Kind::Int32 => Ok(T::of_int(i64::from(LittleEndian::read_i32(text)))),
@@ -148,7 +149,7 @@ fn byte_arrays<'a, T: Holds<'a>>(alloc: Global, bytes: &'a [u8], n: usize) -> R<
     for _ in 0..n {
         let (value, used) = byte_array(alloc, bytes.split_at(at).1)?;
         if values.is_empty() {
-            // Each length has four bytes. Bytes with no value at their front ask for no room.
+            // Each length has four bytes. Bytes that begin with no value ask for no room.
             values.reserve(n.min(bytes.len() / 4))?;
         }
         values.push(value)?;
@@ -157,7 +158,7 @@ fn byte_arrays<'a, T: Holds<'a>>(alloc: Global, bytes: &'a [u8], n: usize) -> R<
     Ok((values, at))
 }
 
-/// The byte array at the front, and how many bytes it takes with its length.
+/// The byte array at the start, and how many bytes it takes with its length.
 fn byte_array<'a, T: Holds<'a>>(alloc: Global, bytes: &'a [u8]) -> R<(T, usize)>
     ensures stands { IfOk result (λ x. IsSpelled Kind.ByteArray bytes.now (T.held x.0) x.1) }
     ensures made { IfOk result (λ x. T.IsMade x.0) }

@@ -11,8 +11,7 @@ use Rattle.schema.proofs.Seen.{view-Leaf, view-Group}
 use Rattle.schema.specs.Shape.{Field, leaf, fields, Fields, no_fields, field, count}
 use Rattle.schema.specs.Stripe.{leaves, leaves_from, below}
 use Rattle.schema.specs.Law.{IsValid, AreValid}
-use Rattle.schema.specs.Listed.{leaf_element, group_element, listing, listings, elements_of, root_name, repetition_number, group_converted}
-use Rattle.schema.specs.inner.Few.{IsFew, AreFew}
+use Rattle.schema.specs.Listed.{leaf_element, group_element, listing, listings, elements_of, root_name, repetition_number, group_converted, IsFew, AreFew}
 use Rattle.schema.specs.Views.{field_view, field_views, leaf_type_view}
 use Rattle.schema.proofs.Limits.{length-both, length-each}
 

@@ -7,7 +7,7 @@ use Rattle.schema.specs.declared.field.Step.{Step as CodeStep}
 use Rattle.schema.specs.declared.field.Field.{Field as CodeField}
 use Rattle.schema.specs.Shape.{Field, Fields, no_fields, field, repetition_of, name_of}
 use Rattle.schema.specs.Stripe.{Step, Leaf, leaf_at, below, leaves, leaves_from}
-use Rattle.schema.specs.inner.Leafing.{along}
+use Rattle.schema.specs.inner.LeafPaths.{along}
 use Rattle.schema.specs.Reading.{tallest}
 use Rattle.schema.specs.Views.{field_view, field_views, step_view}
 use Rattle.schema.proofs.Forest.{field_place}

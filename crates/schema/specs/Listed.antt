@@ -1,5 +1,5 @@
 -- How a schema is listed: parquet.thrift, SchemaElement; the root is called `schema`.
-use Rattle.std.specs.Prelude.{ℕ, ℤ, pos, List, [], ◌∷◌, ◌++◌, Option, Some, None}
+use Rattle.std.specs.Prelude.{ℕ, ◌<◌, ◌^◌, ℤ, pos, List, [], ◌∷◌, ◌++◌, Option, Some, None}
 use Rattle.schema.specs.declared.value.Repetition.{Repetition}
 use Rattle.schema.specs.declared.value.Repetition.TheVariants.{Required, Optional, Repeated}
 use Rattle.schema.specs.declared.value.Kind.{Kind}
@@ -54,3 +54,13 @@ root_name = 115 ∷ 99 ∷ 104 ∷ 101 ∷ 109 ∷ 97 ∷ []
 -- the elements of a schema
 abbrev pub elements_of : Fields → List Element
 elements_of fs = group_element root_name None None (count fs) ∷ listings fs
+
+-- each group has so few children that an element can say their number
+abbrev mutual
+  pub IsFew : Field → Type 0
+  IsFew (leaf n r t) = Unit {0}
+  IsFew (fields n r a fs) = (count fs < 2 ^ 31) × AreFew fs
+
+  pub AreFew : Fields → Type 0
+  AreFew no_fields = Unit {0}
+  AreFew (field f fs) = IsFew f × AreFew fs

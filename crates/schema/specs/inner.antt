@@ -1,6 +1,5 @@
 -- Definitions for private functions only.
 pub mod Reading
-pub mod Few
-pub mod Leafing
+pub mod LeafPaths
 pub mod Code
 pub mod Built

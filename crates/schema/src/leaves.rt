@@ -5,7 +5,7 @@ ghost use Rattle.std.specs.Rc.{rc_str_bytes};
 ghost use Rattle.bits.specs.Refusals.{RefusedMemoryOnly};
 ghost use Rattle.schema.specs.Stripe.{definitions, repetitions, greatest_definition, greatest_repetition, leaf_at, leaves, leaves_from, leaves_of};
 ghost use Rattle.schema.specs.Reading.{tall, tallest};
-ghost use Rattle.schema.specs.inner.Leafing.{leaves_along};
+ghost use Rattle.schema.specs.inner.LeafPaths.{leaves_along};
 ghost use Rattle.schema.specs.Views.{annotation_view, leaf_type_view, field_view, field_views, step_view, leaf_view};
 
 use crate::annotation::{Annotation, LeafType};

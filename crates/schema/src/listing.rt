@@ -6,8 +6,7 @@ ghost use Rattle.thrift_compact.specs.View.{tree_view};
 ghost use Rattle.schema.specs.Annotations.{converted_number, logical_struct};
 ghost use Rattle.schema.specs.Elements.{element_view, elements_view};
 ghost use Rattle.schema.specs.Law.{HasLength, IsValid, AreValid};
-ghost use Rattle.schema.specs.Listed.{type_length, repetition_number, group_converted, leaf_element, group_element, listing, listings, elements_of};
-ghost use Rattle.schema.specs.inner.Few.{IsFew, AreFew};
+ghost use Rattle.schema.specs.Listed.{type_length, repetition_number, group_converted, leaf_element, group_element, listing, listings, elements_of, IsFew, AreFew};
 ghost use Rattle.schema.specs.Stripe.{leaves_of};
 ghost use Rattle.schema.specs.Views.{annotation_view, leaf_type_view, field_view, field_views};
 

@@ -2,7 +2,7 @@ use Rattle.std.proofs.Common.{◌≡◌, ◌≤◌, ◌+◌, ◌++◌, drop, map
 use Rattle.std.specs.Rc.{rc_str_bytes}
 use Rattle.schema.specs.Stripe.{leaves_from}
 use Rattle.schema.specs.Reading.{tallest}
-use Rattle.schema.specs.inner.Leafing.{along}
+use Rattle.schema.specs.inner.LeafPaths.{along}
 use Rattle.schema.specs.Views.{field_views, leaf_view, step_view}
 use Rattle.schema.proofs.leaves.+leaves.Given as goal
 

@@ -1,6 +1,6 @@
 use Rattle.std.proofs.Common.{◌∙◌, ap, [], ◌++◌, map}
 use Rattle.schema.specs.Stripe.{leaves_from}
-use Rattle.schema.specs.inner.Leafing.{along}
+use Rattle.schema.specs.inner.LeafPaths.{along}
 use Rattle.schema.specs.Views.{field_views, leaf_view}
 use Rattle.schema.proofs.Ways.{leaves_none}
 use Rattle.schema.proofs.leaves.leaves_of.Goals as goal

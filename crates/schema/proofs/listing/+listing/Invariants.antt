@@ -1,8 +1,7 @@
 use Rattle.std.proofs.Common.{◌≡◌, ◌++◌, drop}
 use Rattle.schema.specs.Elements.{elements_view}
 use Rattle.schema.specs.Law.{AreValid}
-use Rattle.schema.specs.Listed.{listings}
-use Rattle.schema.specs.inner.Few.{AreFew}
+use Rattle.schema.specs.Listed.{listings, AreFew}
 use Rattle.schema.specs.Views.{field_views}
 use Rattle.schema.proofs.listing.+listing.Given as goal
 
