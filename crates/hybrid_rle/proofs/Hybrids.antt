@@ -216,11 +216,3 @@ narrow_runs w text rest (run ∷ runs) (front, more, parts, is, others) = All-ap
 -- what stands has at most w bits
 pub hybrid_narrow : (w n u : ℕ) (bytes values : List ℕ) → IsHybrid w bytes n values u → All (λ x. x < 2 ^ w) values
 hybrid_narrow w n u bytes values p = subst (λ (t : List ℕ). All (λ x. x < 2 ^ w) t) (sym p.first) (All-take (λ x. x < 2 ^ w) n (concat p.runs) (narrow_runs w p.text p.rest p.runs p.spelled))
-
--- ---- how long
-
-pub hybrid_count : (w n u : ℕ) (bytes values : List ℕ) → IsHybrid w bytes n values u → length values ≡ n
-hybrid_count w n u bytes values p = ap length p.first ∙ length-take-le n (concat p.runs) p.enough
-
-pub hybrid_within : (w n u : ℕ) (bytes values : List ℕ) → IsHybrid w bytes n values u → u ≤ length bytes
-hybrid_within w n u bytes values p = omega (arith, p.ends, ap length p.front, length-append p.text p.rest)

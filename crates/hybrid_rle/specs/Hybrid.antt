@@ -2,6 +2,7 @@
 -- A run is seen as the list of the values that it stands for.
 use Rattle.std.specs.Prelude.{◌≡◌, ℕ, ◌+◌, ◌*◌, ◌/◌, ◌^◌, ◌<◌, ◌≤◌, List, [], ◌∷◌, ◌++◌, length, take, replicate, ◌⊎◌}
 use Rattle.std.specs.List.{concat}
+use Rattle.bits.specs.Codec.{Appends}
 use Rattle.bits.specs.Bits.{IsPacked}
 use Rattle.bits.specs.Varint.{IsUleb}
 
@@ -10,7 +11,7 @@ abbrev pub little_endian : List ℕ → ℕ
 little_endian [] = 0
 little_endian (b ∷ bytes) = b + 256 * little_endian bytes
 
--- behind an even header, 2 * count: a value in as few whole bytes as hold `width` bits, which stands for itself, count times
+-- after an even header, 2 * count: a value in as few whole bytes as hold `width` bits, which stands for itself, count times
 pub record IsRepeated (width header : ℕ) (body run : List ℕ) : Type 0 where
   pub count : ℕ
   pub even : header ≡ 2 * count
@@ -18,7 +19,7 @@ pub record IsRepeated (width header : ℕ) (body run : List ℕ) : Type 0 where
   pub narrow : little_endian body < 2 ^ width
   pub stands_for : run ≡ replicate count (little_endian body)
 
--- behind an odd header, 2 * groups + 1: so many groups of eight packed values
+-- after an odd header, 2 * groups + 1: this many groups of eight packed values
 pub record IsPackedWhole (width header : ℕ) (body run : List ℕ) : Type 0 where
   pub groups : ℕ
   pub odd : header ≡ 2 * groups + 1
@@ -26,7 +27,7 @@ pub record IsPackedWhole (width header : ℕ) (body run : List ℕ) : Type 0 whe
   pub count : length run ≡ 8 * groups
   pub stands_for : IsPacked body width run
 
--- behind an odd header, fewer bytes than the groups take: they stand for each value that is there whole
+-- after an odd header, fewer bytes than the groups take: they stand for each value that is there whole
 pub record IsPackedCut (width header : ℕ) (body run : List ℕ) : Type 0 where
   pub groups : ℕ
   pub odd : header ≡ 2 * groups + 1
@@ -52,7 +53,7 @@ abbrev pub AreRuns : ℕ → List ℕ → List ℕ → List (List ℕ) → Type 
 AreRuns width text rest [] = text ≡ []
 AreRuns width text rest (run ∷ runs) = (front : List ℕ) × (more : List ℕ) × (text ≡ front ++ more) × IsRun width front (more ++ rest) run × AreRuns width more rest runs
 
--- the shortest list of runs at the front that has n values: its first n are the values, and its end is where they end
+-- the shortest list of runs at the start that has n values: its first n are the values, and its end is where they end
 pub record IsHybrid (width : ℕ) (bytes : List ℕ) (n : ℕ) (values : List ℕ) (used : ℕ) : Type 0 where
   pub runs : List (List ℕ)
   pub text : List ℕ
@@ -63,3 +64,7 @@ pub record IsHybrid (width : ℕ) (bytes : List ℕ) (n : ℕ) (values : List �
   pub shortest : (k : ℕ) → k < length runs → length (concat (take k runs)) < n
   pub first : values ≡ take n (concat runs)
   pub ends : used ≡ length text
+
+-- the bytes of `new` are those of `old` and at most 80 + 9n more, which stand for these n numbers
+abbrev pub AppendsHybrid : ℕ → List ℕ → List ℕ → List ℕ → Type 0
+AppendsHybrid width numbers old new = Appends (λ bytes. IsHybrid width bytes (length numbers) numbers) (80 + 9 * length numbers) old new

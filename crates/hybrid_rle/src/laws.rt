@@ -4,7 +4,7 @@ ghost use Rattle.std.specs.Prelude.{ℕ, [], ◌∷◌, replicate};
 ghost use Rattle.bits.specs.Codec.{NothingStands, IsFunctional};
 ghost use Rattle.hybrid_rle.specs.Hybrid.{IsHybrid};
 
-/// A front of the bytes stands for at most one list of n numbers of some width.
+/// A prefix of the bytes stands for at most one list of n numbers of some width.
 pub fn one_list()
     ensures { (width n : ℕ) → IsFunctional (λ bytes. IsHybrid width bytes n) }
 {}

@@ -1,6 +1,6 @@
 //! From bytes to numbers.
 
-ghost use Rattle.std.specs.Prelude.{◌≡◌, ℕ, ◌+◌, ◌*◌, ◌%◌, ◌^◌, ◌<◌, ◌≤◌, ◌⊎◌, length, map, vec_len, IfOk};
+ghost use Rattle.std.specs.Prelude.{◌≡◌, ◌+◌, ◌*◌, ◌%◌, ◌^◌, ◌<◌, ◌≤◌, ◌⊎◌, length, map, vec_len, IfOk};
 ghost use Rattle.bits.specs.Refusals.{OnFault, RefusedOnly};
 ghost use Rattle.bits.specs.Codec.{NothingStands};
 ghost use Rattle.hybrid_rle.specs.Hybrid.{little_endian, IsBody, IsRun, IsHybrid};
@@ -40,7 +40,7 @@ pub fn decode<T: Number>(alloc: Global, width: u32, bytes: &[u8], n: usize) -> R
     Ok((numbers, at))
 }
 
-/// Puts the numbers of the run at the front at the end, at most `left` of them, and returns how many
+/// Appends the numbers of the first run, at most `left` of them, and returns how many
 /// bytes the run takes.
 fn take_run<T: Number>(
     alloc: Global,

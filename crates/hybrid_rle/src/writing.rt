@@ -2,8 +2,7 @@
 
 ghost use Rattle.std.specs.Prelude.{◌≡◌, ℕ, ◌+◌, ◌*◌, ◌%◌, ◌^◌, ◌<◌, ◌≤◌, ◌↔◌, List, length, map, take, replicate, slice_index, All, IfOk, OnOk, OnErr, IsTrue};
 ghost use Rattle.bits.specs.Refusals.{OnFault, RefusedOnly};
-ghost use Rattle.bits.specs.Codec.{Appends};
-ghost use Rattle.hybrid_rle.specs.Hybrid.{IsHybrid};
+ghost use Rattle.hybrid_rle.specs.Hybrid.{IsHybrid, AppendsHybrid};
 ghost use Rattle.hybrid_rle.specs.inner.Put.{Extends, with_zeros, IsPacking, IsPut};
 
 use crate::number::{Number, is_narrow};
@@ -21,7 +20,7 @@ use bits::{R, Refusal, pack, write_uleb};
 /// `out` is unchanged. Takes time in the numbers; each is looked at at most three times.
 pub fn encode<T: Number>(width: u32, numbers: &[T], out: &mut Vec<u8>) -> R<()>
     requires { width ≤ 64 }
-    ensures stands { let seen = map T.seen numbers.now in OnOk result (Appends (λ bytes. IsHybrid width bytes (length seen) seen) (80 + 9 * length seen) out.old.items out.new.items) }
+    ensures stands { OnOk result (AppendsHybrid width (map T.seen numbers.now) out.old.items out.new.items) }
     ensures only { let seen = map T.seen numbers.now in OnFault result ((bytes : List ℕ) (used : ℕ) → IsHybrid width bytes (length seen) seen used → ⊥) }
     ensures unfit { OnFault result (All (λ x. x < 2 ^ width) (map T.seen numbers.now) → ⊥) }
     ensures which { RefusedOnly (λ e. e ≡ Refusal.Value) result }
@@ -38,7 +37,7 @@ pub fn encode<T: Number>(width: u32, numbers: &[T], out: &mut Vec<u8>) -> R<()>
 /// Writes the numbers at the end; where it is refused, some of them may stand there.
 fn put_runs<T: Number>(width: u32, numbers: &[T], out: &mut Vec<u8>) -> R<()>
     requires { width ≤ 64 }
-    ensures stands { let seen = map T.seen numbers.now in OnOk result (Appends (λ bytes. IsHybrid width bytes (length seen) seen) (80 + 9 * length seen) out.old.items out.new.items) }
+    ensures stands { OnOk result (AppendsHybrid width (map T.seen numbers.now) out.old.items out.new.items) }
     ensures unfit { OnFault result (All (λ x. x < 2 ^ width) (map T.seen numbers.now) → ⊥) }
     ensures which { RefusedOnly (λ e. e ≡ Refusal.Value) result }
     ensures front { Extends out.old.items out.new.items }
@@ -53,7 +52,7 @@ fn put_runs<T: Number>(width: u32, numbers: &[T], out: &mut Vec<u8>) -> R<()>
 /// Writes a run of the first numbers at the end, and returns how many these are.
 fn put_run<T: Number>(width: u32, numbers: &[T], out: &mut Vec<u8>) -> R<usize>
     requires wide { width ≤ 64 }
-    requires some { 0 < length numbers.now }
+    requires not_empty { 0 < length numbers.now }
     ensures put { IfOk result (IsPut width (map T.seen numbers.now) out.old.items out.new.items) }
     ensures unfit { OnFault result (All (λ x. x < 2 ^ width) (map T.seen numbers.now) → ⊥) }
     ensures which { RefusedOnly (λ e. e ≡ Refusal.Value) result }
@@ -69,7 +68,7 @@ fn put_run<T: Number>(width: u32, numbers: &[T], out: &mut Vec<u8>) -> R<usize>
     Ok(equal)
 }
 
-/// How many numbers at the front are equal: at most as many as a header holds.
+/// How many of the first numbers are equal: at most as many as a header holds.
 fn count_equal<T: Number>(numbers: &[T]) -> usize
     ensures within { result ≤ length numbers.now }
     ensures held { result < 2 ^ 63 }
@@ -84,7 +83,7 @@ fn count_equal<T: Number>(numbers: &[T]) -> usize
     most
 }
 
-/// How many numbers at the front to pack: groups of eight up to one that begins eight equal
+/// How many of the first numbers to pack: groups of eight up to one that begins eight equal
 /// numbers, or all.
 fn count_to_pack<T: Number>(numbers: &[T]) -> usize
     ensures within { result ≤ length numbers.now }

@@ -1,1 +1,2 @@
+-- Definitions for private functions only.
 pub mod Extremes

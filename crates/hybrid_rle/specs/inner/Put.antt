@@ -6,7 +6,7 @@ use Rattle.hybrid_rle.specs.Hybrid.{IsRun}
 abbrev pub Extends : List ℕ → List ℕ → Type 0
 Extends old new = (text : List ℕ) × (new ≡ old ++ text)
 
--- the numbers, and zeros behind them
+-- the numbers, and zeros after them
 abbrev pub with_zeros : List ℕ → List ℕ
 with_zeros xs = xs ++ 0 ∷ 0 ∷ 0 ∷ 0 ∷ 0 ∷ 0 ∷ 0 ∷ 0 ∷ []
 

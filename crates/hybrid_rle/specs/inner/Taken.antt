@@ -8,6 +8,6 @@ pub record IsTaken (Stands : List ℕ → List ℕ → List ℕ → Type 0) (byt
   pub stands : Stands (take used bytes) (drop used bytes) run
   pub put : new ≡ old ++ take left run
 
--- what stands at the front for a run ends the bytes, and the run has fewer than `left` values
+-- what stands at the start for a run ends the bytes, and the run has fewer than `left` values
 abbrev pub Lacks : (List ℕ → List ℕ → List ℕ → Type 0) → List ℕ → ℕ → Type 0
 Lacks Stands bytes left = (text rest run : List ℕ) → bytes ≡ text ++ rest → Stands text rest run → (rest ≡ []) × (length run < left)

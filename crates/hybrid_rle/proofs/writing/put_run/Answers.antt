@@ -26,7 +26,7 @@ returns-then-equal-lt8-clause-put g c =
     let count = c.count_to_pack-count.result in
     let size : length xs ≡ length c.args.numbers.now = length-map c.args.numbers.now seen in
     let front : map seen c.split_at.result.0.now ≡ take count xs = ap (λ t. map seen t) c.split_at.ensures.front ∙ sym (take-map seen count c.args.numbers.now) in
-    packed_put w count xs c.args.out.now.items c.put_packed.new.out.items c.requires.wide (c.count_to_pack-count.ensures.progress c.requires.some) (omega (arith, size, c.count_to_pack-count.ensures.within))
+    packed_put w count xs c.args.out.now.items c.put_packed.new.out.items c.requires.wide (c.count_to_pack-count.ensures.progress c.requires.not_empty) (omega (arith, size, c.count_to_pack-count.ensures.within))
     (λ lt. c.count_to_pack-count.ensures.groups (omega (arith, lt, size))) (subst (λ (t : List ℕ). IsPacking w t c.args.out.now.items c.put_packed.new.out.items) front c.in_ok-put_packed.ensures.put)
 
 pub returns-in_err-put_repeated-clause-unfit : goal.returns-in_err-put_repeated-clause-unfit
@@ -35,6 +35,6 @@ returns-in_err-put_repeated-clause-unfit g c =
     let w = c.args.width in
     let xs = map seen c.args.numbers.now in
     let size : length xs ≡ length c.args.numbers.now = length-map c.args.numbers.now seen in
-    let first : get_or xs 0 0 ≡ c.number.result = seen_at seen c.args.numbers.now 0 c.index-numbers-0.result c.requires.some c.index-numbers-0.is ∙ sym c.number.ensures in
+    let first : get_or xs 0 0 ≡ c.number.result = seen_at seen c.args.numbers.now 0 c.index-numbers-0.result c.requires.not_empty c.index-numbers-0.is ∙ sym c.number.ensures in
     passes (λ e. IsFault e → All (λ x. x < 2 ^ w) xs → ⊥) c.from_residual-in_err-put_repeated.result c.in_err-put_repeated.field-0.0 c.from_residual-in_err-put_repeated.ensures.1
-    (λ fault all. c.in_err-put_repeated.ensures.unfit fault (let narrow : get_or xs 0 0 < 2 ^ w = All-get_or (λ x. x < 2 ^ w) xs 0 0 (omega (arith, size, c.requires.some)) all in omega (arith, narrow, first)))
+    (λ fault all. c.in_err-put_repeated.ensures.unfit fault (let narrow : get_or xs 0 0 < 2 ^ w = All-get_or (λ x. x < 2 ^ w) xs 0 0 (omega (arith, size, c.requires.not_empty)) all in omega (arith, narrow, first)))
