@@ -4,10 +4,6 @@ use Rattle.std.proofs.lemmas.List.{append-nil}
 use Rattle.std.specs.List.{join_with_byte}
 use Rattle.partition.specs.inner.Checks.{joined}
 
-pub joined_first : (fs : List (List ℕ)) → joined [] fs ≡ join_with_byte 47 fs
-joined_first [] = refl
-joined_first (f ∷ fs) = refl
-
 pub join_step : (f : List ℕ) (fs : List (List ℕ)) → join_with_byte 47 (f ∷ fs) ≡ f ++ joined (47 ∷ []) fs
 join_step f [] = sym (append-nil f)
 join_step f (g ∷ fs) = refl
@@ -16,6 +12,3 @@ join_step f (g ∷ fs) = refl
 pub joined_more : (path separator f : List ℕ) (fs : List (List ℕ)) → ((path ++ separator) ++ f) ++ joined (47 ∷ []) fs ≡ path ++ joined separator (f ∷ fs)
 joined_more path separator f fs =
     append_assoc (path ++ separator) f _ ∙ append_assoc path separator _ ∙ ap (λ (rest : List ℕ). path ++ (separator ++ rest)) (sym (join_step f fs))
-
-pub joined_all : (path separator whole : List ℕ) → path ++ joined separator [] ≡ whole → path ≡ whole
-joined_all path separator whole h = sym (append-nil path) ∙ h

@@ -35,9 +35,6 @@ key_ends [] row (suc i) h = refl
 key_ends (c ∷ cs) row zero h = absurd (omega (arith, h))
 key_ends (c ∷ cs) row (suc i) h = key_ends cs row i (omega (arith, h))
 
-pub key_all : (taken all : List ValueTree) (columns : List CodeKeyColumn) (row : ValueTrees) (i : ℕ) → length columns ≤ i → taken ++ key_of_row (key_columns_view (drop i columns)) row ≡ all → taken ≡ all
-key_all taken all columns row i h so = sym (append-nil taken) ∙ ap (λ (rest : List ValueTree). taken ++ rest) (sym (key_ends columns row i h)) ∙ so
-
 -- a row with a value that no key has
 pub no_key_at : (columns : List CodeKeyColumn) (row : ValueTrees) (i : ℕ) (column : CodeKeyColumn) → i < length columns → column ≡ get_or columns i column → IsNoKeyValue (member_at column.at row)
     → is_key (key_columns_view columns) (key_of_row (key_columns_view columns) row) ≡ true → ⊥

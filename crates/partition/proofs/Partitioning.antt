@@ -54,9 +54,6 @@ from_folders (c ∷ cs) (v ∷ vs) h =
 
 -- ---- columns
 
-abbrev NameDiffers : List ℕ → List ℕ → Type 0
-NameDiffers n m = n ≡ m → ⊥
-
 not_both : (b : Bool) → b ≡ false → b ≡ true → ⊥
 not_both b p q = false≢true (sym p ∙ q)
 

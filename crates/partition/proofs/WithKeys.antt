@@ -189,9 +189,6 @@ row_of_all P [] i row h is all = absurd (omega (arith, h))
 row_of_all P (r ∷ rows) zero row h is all = subst (λ (x : Row). P (row_view x)) (sym is) all.0
 row_of_all P (r ∷ rows) (suc i) row h is all = row_of_all P rows i row (omega (arith, h)) is all.1
 
-pub nothing_done : (columns : List KeyColumn) → AreWithKeys columns [] []
-nothing_done columns = record { different = tt; each = tt; used = tt; every = tt }
-
 pub long_views : (parts : List CodeKeyRows) → length (map key_rows_view parts) ≡ length parts
 long_views [] = refl
 long_views (p ∷ parts) = ap suc (long_views parts)

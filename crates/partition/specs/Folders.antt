@@ -76,7 +76,7 @@ PathsNameKeys = (columns : List KeyColumn) (key other : List ValueTree) → IsTr
 abbrev pub part_name_of : ℕ → List ℕ
 part_name_of number = codes "part." ++ (decimal number ++ codes ".parquet")
 
--- a name in a folder; in the dataset's own folder, which is the empty text, the name alone
+-- a name in a folder; in the dataset's own folder, which is the empty text, only the name
 abbrev pub name_in : List ℕ → List ℕ → List ℕ
 name_in [] name = name
 name_in (b ∷ rest) name = (b ∷ rest) ++ 47 ∷ name
@@ -94,7 +94,7 @@ PartPathsNameParts = (columns : List KeyColumn) (key other : List ValueTree) (nu
 abbrev pub IsRoot : List ℕ → Type 0
 IsRoot path = (path ≡ codes "_metadata") ⊎ (path ≡ codes "_metadata.new")
 
--- no part file's path is a root's, no root is in a folder on the way to it or it on the way to a root
+-- no part file's path is a root's, no root is a folder above it, and it is no folder above a root
 abbrev pub PartPathsAreNotRoots : Type 0
 PartPathsAreNotRoots = (columns : List KeyColumn) (key : List ValueTree) (number : ℕ) (root : List ℕ) → number < 2 ^ 64 → IsRoot root
     → (part_path_of columns key number ≢ root) × ((rest : List ℕ) → root ≢ part_path_of columns key number ++ 47 ∷ rest) × ((rest : List ℕ) → part_path_of columns key number ≢ root ++ 47 ∷ rest)

@@ -24,7 +24,11 @@ has_key columns key row = is_same_key (key_of_row columns row) key
 abbrev pub rows_with : List KeyColumn → List ValueTree → List ValueTrees → List ValueTrees
 rows_with columns key rows = map (row_without_keys columns) (filter (has_key columns key) rows)
 
--- each key once, keys ascending, with just the rows that have it; and each row has one of the keys
+-- each row has a key that can partition
+abbrev pub HaveKeys : List KeyColumn → List ValueTrees → Type 0
+HaveKeys columns rows = AllByRecursion (λ row. CanPartition columns (key_of_row columns row)) rows
+
+-- each key once, keys ascending, with exactly the rows that have it; and each row has one of the keys
 pub record IsSplit (columns : List KeyColumn) (rows : List ValueTrees) (parts : List KeyRows) : Type 0 where
   pub ascending : AreAscending (map (λ p. p.key) parts)
   pub each : AllByRecursion (λ (p : KeyRows). CanPartition columns p.key × (p.rows ≡ rows_with columns p.key rows) × (p.rows ≢ [])) parts

@@ -1,4 +1,5 @@
--- Definitions that only the crate's own functions use.
+-- Definitions for private functions only.
 pub mod Checks
 pub mod Reading
 pub mod Parts
+pub mod Columns

@@ -1,6 +1,6 @@
 //! Which keys can partition.
 
-ghost use Rattle.std.specs.Prelude.{◌≡◌, ◌↔◌, ◌<◌, ◌^◌, IsTrue, length, map};
+ghost use Rattle.std.specs.Prelude.{◌≡◌, ◌↔◌, ◌<◌, IsTrue, length, map};
 ghost use Rattle.std.specs.Char.{is_ascii_alphanumeric};
 ghost use Rattle.std.specs.List.{list_any};
 ghost use Rattle.std.specs.Fmt.{decimal, signed_decimal};
@@ -8,7 +8,7 @@ ghost use Rattle.schema.specs.Values.{view, member_at};
 ghost use Rattle.schema.specs.Views.{key_view, row_view, leaf_type_view};
 ghost use Rattle.schema.specs.Keys.{key_column_view, key_columns_view, key_of_row, key_type};
 ghost use Rattle.partition.specs.Folders.{is_plain, is_filled, escaped, is_key_value, value_text, CanPartition};
-ghost use Rattle.partition.specs.inner.Checks.{clashes, are_apart, are_key_columns, has_folder, have_folders, can_be, escaped_size, IsRoomAfter};
+ghost use Rattle.partition.specs.inner.Checks.{clashes, are_apart, are_key_columns, has_folder, have_folders, escaped_size, IsRoomAfter};
 
 use schema::{Annotation, ConvertedType, Key, KeyColumn, KeyKind, Kind, LeafType, Row, Value};
 

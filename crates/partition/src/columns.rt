@@ -1,12 +1,11 @@
 //! The key columns of a table's schema.
 
-ghost use Rattle.std.specs.Prelude.{◌≡◌, ℕ, List, map, Some, IfOk, MatchOption, string_bytes};
+ghost use Rattle.std.specs.Prelude.{◌≡◌, List, map, IfOk, MatchOption, string_bytes};
 ghost use Rattle.bits.specs.Refusals.{OnFault, RefusedOnly, RefusedMemoryOnly};
-ghost use Rattle.schema.specs.Keys.{KeyColumn as KeyColumnView, AreKeys, key_type, key_field, field_at, key_column_view, key_columns_view};
-ghost use Rattle.schema.specs.Shape.{leaf};
+ghost use Rattle.schema.specs.Keys.{KeyColumn as KeyColumnView, AreKeys, key_type, key_columns_view};
 ghost use Rattle.schema.specs.Views.{field_view, field_views, leaf_type_view};
 ghost use Rattle.schema.specs.declared.key.KeyKind.{KeyKind as KeyKindView};
-ghost use Rattle.schema.specs.declared.value.Repetition.TheVariants.{Required};
+ghost use Rattle.partition.specs.inner.Columns.{IsKeyField, HasNoKeyField, IsKeyColumnOf};
 
 use crate::checks::are_key_columns;
 use bits::{R, Refusal};
@@ -33,7 +32,7 @@ fn kind_of(leaf_type: &LeafType) -> Option<KeyKind>
 
 /// The type of a field as a key column of this name, if it can be one.
 fn key_kind(field: &Field, wanted: &[u8]) -> Option<KeyKind>
-    ensures { MatchOption result ((k : KeyKindView) → field_view field.now ≡ leaf wanted.now Required (key_type k) → ⊥) (λ k. field_view field.now ≡ leaf wanted.now Required (key_type k)) }
+    ensures { let is_key = IsKeyField wanted.now (field_view field.now) in MatchOption result ((k : KeyKindView) → is_key k → ⊥) is_key }
 {
     match field {
         Field::Leaf {
@@ -53,7 +52,7 @@ fn key_kind(field: &Field, wanted: &[u8]) -> Option<KeyKind>
 
 /// The first field that can be a key column of this name.
 fn key_column(alloc: Global, fields: &[Field], name: &str) -> R<Option<KeyColumn>>
-    ensures stands { IfOk result (λ found. MatchOption found ((at : ℕ) (k : KeyKindView) → field_at at (field_views fields.now) ≡ Some (leaf name.now Required (key_type k)) → ⊥) (λ c. (string_bytes c.name ≡ name.now) × (field_at c.at (field_views fields.now) ≡ Some (key_field (key_column_view c))))) }
+    ensures stands { let fs = field_views fields.now in IfOk result (λ found. MatchOption found (HasNoKeyField name.now fs) (IsKeyColumnOf name.now fs)) }
     ensures which { RefusedMemoryOnly result }
 {
     for (at, field) in fields.iter().enumerate() {
@@ -78,7 +77,8 @@ pub fn key_columns(alloc: Global, schema: &Schema, names: &[String]) -> R<Vec<Ke
     ensures which { RefusedOnly (λ e. e ≡ Refusal.Key) result }
 {
     let fields = schema.fields();
-    let _ = schema.leaves(); // for what it ensures: siblings have names of their own
+    // For the proof: siblings have names of their own.
+    let _ = schema.leaves();
     if names.len() >= fields.len() {
         return Err(Refusal::Key);
     }

@@ -15,7 +15,7 @@ pub fn part_paths_name_parts()
 {}
 
 /// The path of a part file is not that of the table's description, of the file that this is written to first, or of a
-/// folder on the way to either; and neither of these is a folder on the way to a part file.
+/// folder above either; and neither of these is a folder above a part file.
 pub fn part_paths_are_not_roots()
     ensures { PartPathsAreNotRoots }
 {}

@@ -6,7 +6,7 @@ ghost use Rattle.bits.specs.Refusals.{OnFault, RefusedOnly, RefusedMemoryOnly};
 ghost use Rattle.schema.specs.Values.{ValueTree, boolean, view};
 ghost use Rattle.schema.specs.Views.{key_view};
 ghost use Rattle.schema.specs.Keys.{key_column_view, key_columns_view};
-ghost use Rattle.partition.specs.Folders.{escaped, value_text, folder, folders, path, is_key_value, CanPartition};
+ghost use Rattle.partition.specs.Folders.{escaped, value_text, folder, folders, path, CanPartition};
 ghost use Rattle.partition.specs.inner.Reading.{IsCutBefore, ReadsSigned, ReadsBoolean, ReadsText, ReadsBack, ReadsPath};
 
 use crate::checks::can_partition;
@@ -85,7 +85,7 @@ pub fn path_of(alloc: Global, columns: &[KeyColumn], key: &Key) -> R<String>
     joined_folders(alloc, columns, key.values.as_slice())
 }
 
-/// The text before the first place of a byte, and the rest from there on.
+/// The text before the first such byte, and the rest from there on.
 fn cut_before(text: &[u8], byte: u8) -> (&[u8], &[u8])
     ensures { IsCutBefore byte text.now result.0.now result.1.now }
 {
@@ -184,7 +184,7 @@ fn read_folders(alloc: Global, columns: &[KeyColumn], text: &[u8]) -> R<Option<K
 pub fn key_of(alloc: Global, columns: &[KeyColumn], text: &str) -> R<Key>
     ensures stands { IfOk result (λ key. path (key_columns_view columns.now) (key_view key) ≡ text.now) }
     ensures can { IfOk result (λ key. CanPartition (key_columns_view columns.now) (key_view key)) }
-    ensures only { OnFault result ((key : List ValueTree) → CanPartition (key_columns_view columns.now) key → path (key_columns_view columns.now) key ≡ text.now → ⊥) }
+    ensures only { let keys = key_columns_view columns.now in OnFault result ((key : List ValueTree) → CanPartition keys key → path keys key ≡ text.now → ⊥) }
     ensures which { RefusedOnly (λ e. e ≡ Refusal.Key) result }
 {
     let Some(key) = read_folders(alloc, columns, text.as_bytes())? else {

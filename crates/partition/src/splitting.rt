@@ -1,16 +1,14 @@
 //! Rows by their keys.
 
-ghost use Rattle.std.specs.Prelude.{◌≡◌, ◌↔◌, ◌++◌, ◌∷◌, ◌<◌, ℕ, List, [], IfOk, OnOk, IsTrue, MatchOption, map, length};
-ghost use Rattle.std.specs.List.{AllByRecursion, list_any};
+ghost use Rattle.std.specs.Prelude.{◌≡◌, ◌<◌, List, IfOk, OnOk, MatchOption, map, length};
 ghost use Rattle.bits.specs.Refusals.{OnFault, RefusedOnly, RefusedMemoryOnly};
-ghost use Rattle.schema.specs.Values.{view, views};
+ghost use Rattle.schema.specs.Values.{view};
 ghost use Rattle.schema.specs.Views.{key_view, row_view, rows_view};
-ghost use Rattle.schema.specs.Keys.{key_columns_view, places_of, key_of_row, row_without_keys};
+ghost use Rattle.schema.specs.Keys.{key_columns_view, places_of, row_without_keys};
 ghost use Rattle.schema.specs.Cutting.{is_among};
 ghost use Rattle.partition.specs.Folders.{CanPartition};
-ghost use Rattle.partition.specs.Splitting.{IsSplit, key_rows_view};
-ghost use Rattle.partition.specs.inner.Parts.{part_view, parts_view, IsNoKeyValue, IsPlaced, with_row};
-ghost use Rattle.partition.specs.Folders.{is_key};
+ghost use Rattle.partition.specs.Splitting.{HaveKeys, IsSplit, key_rows_view};
+ghost use Rattle.partition.specs.inner.Parts.{part_view, parts_view, IsNoKeyValue, HasNoKey, AreOfRow, IsPlaced, with_row};
 
 use crate::checks::can_partition;
 use crate::order::compare_keys;
@@ -54,7 +52,7 @@ fn part_of(alloc: Global, value: &Value) -> R<Option<Part>>
 
 /// The key of a row; None where a value is missing or no key has it.
 fn parts_of(alloc: Global, columns: &[KeyColumn], row: &Row) -> R<Option<Vec<Part>>>
-    ensures stands { IfOk result (λ found. MatchOption found (IsTrue (is_key (key_columns_view columns.now) (key_of_row (key_columns_view columns.now) (row_view row.now))) → ⊥) (λ parts. parts_view parts.items ≡ key_of_row (key_columns_view columns.now) (row_view row.now))) }
+    ensures stands { let keys = key_columns_view columns.now in let seen = row_view row.now in IfOk result (λ found. MatchOption found (HasNoKey keys seen) (λ parts. AreOfRow keys seen parts.items)) }
     ensures which { RefusedMemoryOnly result }
 {
     let mut parts = Vec::with_capacity(alloc, columns.len())?;
@@ -176,7 +174,7 @@ fn push_row(split: &mut Vec<KeyRows>, at: usize, row: Row) -> R<()>
 /// One pass over the rows, with a look-up in a hash table for each, and one sort of the keys.
 pub fn split_by_key(alloc: Global, columns: &[KeyColumn], rows: Vec<Row>) -> R<Vec<KeyRows>>
     ensures stands { IfOk result (λ split. IsSplit (key_columns_view columns.now) (rows_view rows.items) (map key_rows_view split.items)) }
-    ensures only { OnFault result (AllByRecursion (λ row. CanPartition (key_columns_view columns.now) (key_of_row (key_columns_view columns.now) row)) (rows_view rows.items) → ⊥) }
+    ensures only { OnFault result (HaveKeys (key_columns_view columns.now) (rows_view rows.items) → ⊥) }
     ensures which { RefusedOnly (λ e. e ≡ Refusal.Key) result }
 {
     let mut keys = IndexSet::new(alloc);

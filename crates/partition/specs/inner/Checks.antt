@@ -1,4 +1,4 @@
--- Tests of columns and keys, and texts on the way to a path.
+-- Tests of columns and keys, and the parts of a path.
 use Rattle.std.specs.Prelude.{◌≡◌, ℕ, ◌+◌, ◌<◌, nat_le, nat_eq, Bool, true, false, not, ◌&&◌, ◌||◌, List, [], ◌∷◌, ◌++◌, length, Option, MatchOption, if◌then◌else◌}
 use Rattle.std.specs.List.{list_any, join_with_byte}
 use Rattle.std.specs.Str.{bytes_eq}

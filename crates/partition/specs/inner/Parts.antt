@@ -1,12 +1,12 @@
 -- How rows go to their keys, one after another.
-use Rattle.std.specs.Prelude.{◌≡◌, ℕ, zero, suc, ◌<◌, Bool, false, List, [], ◌∷◌, ◌++◌, ◌⊎◌, length, map, get_or, Contains, if◌then◌else◌}
+use Rattle.std.specs.Prelude.{◌≡◌, ℕ, zero, suc, ◌<◌, Bool, false, List, [], ◌∷◌, ◌++◌, ◌⊎◌, length, map, get_or, Contains, IsTrue, if◌then◌else◌}
 use Rattle.std.specs.List.{AllByRecursion}
 use Rattle.schema.specs.declared.key.KeyKind.{KeyKind}
 use Rattle.schema.specs.Values.{ValueTree, ValueTrees, boolean, integer, bytes}
 use Rattle.schema.specs.Keys.{KeyColumn, key_of_row}
 use Rattle.partition.specs.declared.splitting.Part.{Part}
 use Rattle.partition.specs.declared.splitting.Part.TheVariants.{Boolean, Number, Text}
-use Rattle.partition.specs.Folders.{CanPartition, is_key_value}
+use Rattle.partition.specs.Folders.{CanPartition, is_key_value, is_key}
 use Rattle.partition.specs.Order.{is_same_key}
 use Rattle.partition.specs.Splitting.{KeyRows, rows_with}
 
@@ -21,6 +21,14 @@ parts_view parts = map part_view parts
 -- no key has such a value
 abbrev pub IsNoKeyValue : ValueTree → Type 0
 IsNoKeyValue v = (kind : KeyKind) → is_key_value kind v ≡ false
+
+-- the row has no key in these columns
+abbrev pub HasNoKey : List KeyColumn → ValueTrees → Type 0
+HasNoKey columns row = IsTrue (is_key columns (key_of_row columns row)) → ⊥
+
+-- these are the parts of the row's key
+abbrev pub AreOfRow : List KeyColumn → ValueTrees → List Part → Type 0
+AreOfRow columns row parts = parts_view parts ≡ key_of_row columns row
 
 -- none comes twice
 abbrev pub AreDifferent : List (List ValueTree) → Type 0
