@@ -25,10 +25,7 @@ made_more f x y xs ys e = ap (λ r. before ys (then_rest r (each_of f xs))) e �
     by (Ok zs) = ap Ok (sym (append_assoc ys (y ∷ []) zs))
     by (Err g) = refl
 
-pub made_none : {X Y : Type 0} (f : X → Result Y Refusal) (x : X) (xs : List X) (ys : List Y) (e : Refusal) → f x ≡ Err e → before ys (each_of f (x ∷ xs)) ≡ Err e
-made_none f x xs ys e is = ap (λ r. before ys (then_rest r (each_of f xs))) is
-
--- a leaf with other names is passed over
+-- a leaf with other names is skipped
 pub passed_over : (leaves : List CodeLeaf) (i : ℕ) (l : CodeLeaf) (names : List (List ℕ)) → i < length leaves → l ≡ get_or leaves i l → (leaf_view l).path ≢ names
     → named_leaf i (map leaf_view (drop i leaves)) names ≡ named_leaf (i + 1) (map leaf_view (drop (i + 1) leaves)) names
 passed_over leaves i l names h is other =

@@ -1,3 +1,4 @@
+-- Definitions for private functions only.
 pub mod Same
 pub mod Tests
 pub mod Excluded

@@ -1,6 +1,6 @@
 //! Terms at their leaves.
 
-ghost use Rattle.std.specs.Prelude.{◌≡◌, ◌↔◌, ◌<◌, Some, None, Ok, Err, map, length, drop, IsTrue, IfOk, MatchOption, string_bytes, is_none};
+ghost use Rattle.std.specs.Prelude.{◌≡◌, ◌↔◌, ◌<◌, Some, None, Ok, Err, map, length, IsTrue, IfOk, MatchOption, string_bytes, is_none};
 ghost use Rattle.std.specs.List.{list_all, slice_get};
 ghost use Rattle.std.specs.Rc.{rc_str_bytes};
 ghost use Rattle.bits.specs.Refusals.{RefusedOnly};

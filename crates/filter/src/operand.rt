@@ -1,13 +1,11 @@
 //! Values of terms, whose lists are searched by hash.
 
-ghost use Rattle.std.specs.Prelude.{◌≡◌, ℤ, ℕ, Vec, IfOk};
-ghost use Rattle.std.specs.declared.alloc.Global.{Global as Alloc};
+ghost use Rattle.std.specs.Prelude.{◌≡◌, Vec, IfOk};
 ghost use Rattle.std.specs.HashSet.{contains};
-ghost use Rattle.std.specs.Ordering.{int_eq};
 ghost use Rattle.bits.specs.Refusals.{RefusedMemoryOnly};
-ghost use Rattle.schema.specs.Values.{view, integer, bytes};
+ghost use Rattle.schema.specs.Values.{view};
 ghost use Rattle.filter.specs.inner.Same.{is_listed};
-ghost use Rattle.filter.specs.inner.Sets.{same_text, HasNumbers, HasTexts};
+ghost use Rattle.filter.specs.inner.Sets.{HasNumbers, HasTexts};
 
 use crate::equality::is_among;
 use crate::listed::{numbers_in, texts_in};
