@@ -20,7 +20,7 @@ pub record IsPacked (bytes : List ℕ) (w : ℕ) (numbers : List ℕ) : Type 0 w
 abbrev pub packed_size : ℕ → ℕ → ℕ
 packed_size n w = (n * w + 7) / 8
 
--- the first `used` bytes hold the numbers and no more, and the bits behind the last number are 0
+-- the first `used` bytes hold the numbers and no more, and the bits after the last number are 0
 pub record IsPadded (bytes : List ℕ) (w : ℕ) (numbers : List ℕ) (used : ℕ) : Type 0 where
   pub packed : IsPacked bytes w numbers
   pub least : used ≡ packed_size (length numbers) w

@@ -3,7 +3,7 @@ use Rattle.std.specs.Prelude.{Result, MatchResult, IfErr}
 use Rattle.bits.specs.declared.refusal.Refusal.{Refusal}
 use Rattle.bits.specs.declared.refusal.Refusal.TheVariants.{Truncated, Thrift, Value, Limit, Memory}
 
--- a fault of what was asked: no limit, and no want of memory
+-- a fault of what was asked: neither a limit nor out of memory
 abbrev pub IsFault : Refusal → Type 0
 IsFault Limit = ⊥
 IsFault Memory = ⊥
@@ -13,12 +13,12 @@ IsFault _ = Unit {0}
 abbrev pub OnFault : {X : Type 0} → Result X Refusal → Type 0 → Type 0
 OnFault r P = IfErr r (λ e. IsFault e → P)
 
--- it is want of memory, or it has a cause
+-- it is out of memory, or it has a cause
 abbrev pub HasCause : (Refusal → Type 0) → Refusal → Type 0
 HasCause Cause Memory = Unit {0}
 HasCause Cause e = Cause e
 
--- a refusal, want of memory aside, comes only where it has a cause
+-- a refusal comes only where it has a cause, or when out of memory
 abbrev pub RefusedOnly : {X : Type 0} → (Refusal → Type 0) → Result X Refusal → Type 0
 RefusedOnly Cause r = IfErr r (HasCause Cause)
 
@@ -26,13 +26,13 @@ RefusedOnly Cause r = IfErr r (HasCause Cause)
 abbrev pub RefusedMemoryOnly : {X : Type 0} → Result X Refusal → Type 0
 RefusedMemoryOnly r = RefusedOnly (λ _. ⊥) r
 
--- it is Limit where the bound is passed, and another one where it is not, want of memory aside
+-- it is Limit where the bound is passed, and another one where it is not, unless out of memory
 abbrev pub IsLimitJustWhere : Type 0 → Refusal → Type 0
 IsLimitJustWhere IsOver Limit = IsOver
 IsLimitJustWhere IsOver Memory = Unit {0}
 IsLimitJustWhere IsOver e = IsOver → ⊥
 
--- Limit comes just where the bound is passed, want of memory aside
+-- Limit comes exactly when the bound is passed, unless out of memory
 abbrev pub LimitJustWhere : {X : Type 0} → Type 0 → Result X Refusal → Type 0
 LimitJustWhere IsOver r = MatchResult r (λ _. IsOver → ⊥) (IsLimitJustWhere IsOver)
 

@@ -6,7 +6,7 @@ abbrev pub groups : List ℕ → ℕ
 groups [] = 0
 groups (b ∷ bytes) = b % 128 + 128 * groups bytes
 
--- `used` bytes at the front are a varint of n: the high bit is set on all but the last, and n has 64 bits
+-- the first `used` bytes are a varint of n: the high bit is set on all but the last, and n has 64 bits
 pub record IsUleb (bytes : List ℕ) (n used : ℕ) : Type 0 where
   pub begins : 0 < used
   pub within : used ≤ length bytes
@@ -26,7 +26,7 @@ pub record IsCutUleb (bytes : List ℕ) : Type 0 where
   pub few : length bytes < 10
   pub more : (k : ℕ) → k < length bytes → 128 ≤ slice_index bytes k
 
--- the place of a signed number in 0, -1, 1, -2, 2 and so on
+-- the index of a signed number in 0, -1, 1, -2, 2 and so on
 abbrev pub zigzag_of : ℤ → ℕ
 zigzag_of (pos n) = 2 * n
 zigzag_of (negsuc n) = 2 * n + 1

@@ -5,7 +5,7 @@ ghost use Rattle.bits.specs.Faults.{refusal_of};
 
 use crate::refusal::Refusal;
 
-/// Why bytes were refused: the refusals of bytes whose text is no more than their name. A fault owns
+/// Why bytes were refused: the refusals of bytes that carry nothing but their name. A fault owns
 /// no memory, so a reader can keep one and return it again, and a result can hold borrowed values or
 /// a fault.
 #[derive(Debug, Clone, Copy, PartialEq, Eq)]

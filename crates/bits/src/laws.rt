@@ -5,7 +5,7 @@ ghost use Rattle.bits.specs.Codec.{IsFunctional};
 ghost use Rattle.bits.specs.Varint.{IsUleb};
 ghost use Rattle.bits.specs.Bits.{IsPacked};
 
-/// A front of the bytes stands for at most one varint.
+/// A prefix of the bytes stands for at most one varint.
 pub fn one_number()
     ensures { IsFunctional IsUleb }
 {}

@@ -1,6 +1,6 @@
 //! Varints, packed bits, the one enum of refusals, and what every reader and writer promises.
 //!
-//! The words of all contracts above stand in `specs/Refusals.antt` (what a refusal says) and
+//! The vocabulary of all contracts is in `specs/Refusals.antt` (what a refusal says) and
 //! `specs/Codec.antt` (what a reader and a writer promise); `specs/Varint.antt` and
 //! `specs/Bits.antt` carry the contracts of the calls here.
 #![tactic(auto)]

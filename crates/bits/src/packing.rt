@@ -129,7 +129,7 @@ fn put_all(numbers: &[u64], width: u32, out: &mut Vec<u8>) -> R<()>
 /// in as few bytes as hold them; the bits after the last number are 0. Each number is below
 /// `2^width`.
 ///
-/// Refused only Memory; then `out` is as it was.
+/// It fails only when out of memory; then `out` is unchanged.
 pub fn pack(numbers: &[u64], width: u32, out: &mut Vec<u8>) -> R<()>
     requires wide { width ≤ 64 }
     requires fit { All (λ x. x < 2 ^ width) numbers.now }

@@ -7,7 +7,7 @@ ghost use Rattle.bits.specs.Varint.{IsUleb, IsShortestUleb, IsCutUleb, zigzag_of
 
 use crate::refusal::{R, Refusal};
 
-/// The unsigned varint at the front of `bytes`, and how many bytes it takes (1 to 10; a longer
+/// The unsigned varint at the start of `bytes`, and how many bytes it takes (1 to 10; a longer
 /// spelling than is needed is read). Takes no memory.
 ///
 /// Refused Truncated exactly when the bytes end within it: fewer than ten, all with the high bit.
@@ -34,7 +34,7 @@ pub fn read_uleb(bytes: &[u8]) -> R<(u64, usize)>
     Err(Refusal::Truncated)
 }
 
-/// The place of a signed number in 0, -1, 1, -2, 2 and so on.
+/// The index of a signed number in 0, -1, 1, -2, 2 and so on.
 pub fn zigzag(n: i64) -> u64
     ensures { result ≡ zigzag_of n }
 {
@@ -45,7 +45,7 @@ pub fn zigzag(n: i64) -> u64
     }
 }
 
-/// The signed number at a place in 0, -1, 1, -2, 2 and so on: the one whose [`zigzag`] is `n`.
+/// The signed number at an index in 0, -1, 1, -2, 2 and so on: the one whose [`zigzag`] is `n`.
 pub fn unzigzag(n: u64) -> i64
     ensures undone { zigzag_of result ≡ n }
     ensures alone { (z : ℤ) → zigzag_of z ≡ n → result ≡ z }
@@ -54,8 +54,8 @@ pub fn unzigzag(n: u64) -> i64
     if n % 2 == 0 { half } else { -half - 1 }
 }
 
-/// Writes the shortest varint of `n` (1 to 10 bytes) at the end of `out`. Refused only Memory;
-/// then `out` is as it was.
+/// Writes the shortest varint of `n` (1 to 10 bytes) at the end of `out`. It fails only when
+/// out of memory; then `out` is unchanged.
 pub fn write_uleb(n: u64, out: &mut Vec<u8>) -> R<()>
     ensures stands { OnOk result (Appends (λ bytes used. IsShortestUleb bytes n used) 10 out.old.items out.new.items) }
     ensures which { RefusedMemoryOnly result }

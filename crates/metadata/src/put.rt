@@ -4,7 +4,7 @@ ghost use Rattle.std.specs.Prelude.{◌≡◌, ◌++◌, ℕ, ℤ, Bool, List, O
 ghost use Rattle.bits.specs.Refusals.{RefusedMemoryOnly};
 ghost use Rattle.thrift_compact.specs.Tree.{Node, Fields, i32, i64, binary, struct};
 ghost use Rattle.thrift_compact.specs.View.{code_of, view, field_view, tree_view};
-ghost use Rattle.metadata.specs.ToTree.{present, truth, many, INT32, BINARY, STRUCT};
+ghost use Rattle.metadata.specs.ToTree.{present, truth, many, INT32, BINARY};
 
 use bits::R;
 use std::alloc::Global;

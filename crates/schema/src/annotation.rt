@@ -2,7 +2,7 @@
 
 ghost use Rattle.std.specs.Prelude.{◌≡◌, pos, option_map};
 ghost use Rattle.thrift_compact.specs.View.{tree_view};
-ghost use Rattle.schema.specs.Annotations.{number_of, converted_types, converted_type, group_number_of, group_annotations, numbered, named, is_only_member, annotation_of, group_annotation_of, is_text, order_of};
+ghost use Rattle.schema.specs.Annotations.{number_of, converted_type, group_number_of, numbered, named, is_only_member, annotation_of, group_annotation_of, is_text, order_of};
 ghost use Rattle.schema.specs.Views.{annotation_view, leaf_type_view};
 
 use crate::order::{Order, Standing, plain_order, standing_of};

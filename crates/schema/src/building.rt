@@ -2,13 +2,13 @@
 
 ghost use Rattle.bits.specs.Refusals.{RefusedMemoryOnly};
 ghost use Rattle.thrift_compact.specs.View.{tree_view, field_views as member_views};
-ghost use Rattle.std.specs.Prelude.{◌≡◌, option_map, ◌+◌, ◌<◌, ◌≤◌, ◌↔◌, IfOk, IfErr, drop, length, true, IsTrue, string_bytes, map};
+ghost use Rattle.std.specs.Prelude.{◌≡◌, option_map, ◌<◌, IfOk, IfErr, length, true, IsTrue, string_bytes};
 ghost use Rattle.std.specs.Str.{is_utf8};
-ghost use Rattle.schema.specs.Elements.{element_view, elements_view};
+ghost use Rattle.schema.specs.Elements.{element_view};
 ghost use Rattle.schema.specs.Annotations.{is_half, annotation_of};
 ghost use Rattle.schema.specs.Listing.{leaf_type, repetition, typed, is_float16};
 ghost use Rattle.schema.specs.inner.Reading.{kept_struct, KeepsWritten, IsStructFault, IsNameFault, IsLeafFault, IsLeafOf, HasTypedLength};
-ghost use Rattle.schema.specs.Views.{field_view, field_views, leaf_type_view};
+ghost use Rattle.schema.specs.Views.{field_view, leaf_type_view};
 
 use crate::annotation::{Annotation, GroupAnnotation, LeafType};
 use crate::element::Element;

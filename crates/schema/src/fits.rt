@@ -3,7 +3,7 @@
 ghost use Rattle.std.specs.Prelude.{◌≡◌, ◌==◌, ◌&&◌, true, length};
 ghost use Rattle.std.specs.Option.{option_map_or};
 ghost use Rattle.std.specs.Str.{is_utf8};
-ghost use Rattle.schema.specs.Values.{view, views, each};
+ghost use Rattle.schema.specs.Values.{view, views};
 ghost use Rattle.schema.specs.Fits.{fits_kind, fits_leaf, fits_inside, fits, fits_each, is_valid_text, are_bytes};
 ghost use Rattle.schema.specs.Views.{leaf_type_view, field_view, field_views, row_view};
 
@@ -31,6 +31,7 @@ impl Kind {
             (Kind::Boolean, Value::Bool(_)) => true,
             (Kind::Int32, Value::Int(number)) => i32::try_from(*number).is_ok(),
             (Kind::Int64, Value::Int(number)) => {
+                // For the proof: it is within 64 bits.
                 let _number = *number;
                 true
             }

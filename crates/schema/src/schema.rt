@@ -1,9 +1,8 @@
 //! A schema.
 
 ghost use Rattle.bits.specs.Refusals.{OnFault, RefusedMemoryOnly};
-ghost use Rattle.std.specs.Prelude.{◌≡◌, ◌≤◌, map, length, IfOk, OnOk, IfErr};
+ghost use Rattle.std.specs.Prelude.{◌≡◌, ◌≤◌, map, IfOk, OnOk, IfErr};
 ghost use Rattle.schema.specs.Elements.{elements_view};
-ghost use Rattle.schema.specs.Values.{views};
 ghost use Rattle.schema.specs.Shape.{Fields};
 ghost use Rattle.schema.specs.Views.{field_views, row_view, leaf_view};
 ghost use Rattle.schema.specs.Stripe.{leaves_of};
@@ -101,6 +100,7 @@ impl Schema {
     pub fn elements(&self) -> &[Element]
         ensures { elements_view result.now ≡ elements_of self.now }
     {
+        // For the proof: what is known of the schema.
         let _ = &self.fields;
         self.elements.as_slice()
     }
@@ -118,6 +118,7 @@ impl Schema {
         ensures valid { IsSchema self.now }
         ensures within { IsWithinLimits self.now }
     {
+        // For the proof: what is known of the schema.
         let _ = &self.fields;
         self.leaves.as_slice()
     }

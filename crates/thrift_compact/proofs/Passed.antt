@@ -11,7 +11,8 @@ use Rattle.thrift_compact.specs.View.{views, pair_views}
 use Rattle.thrift_compact.proofs.Writes.{count_views, count_pair_views}
 use Rattle.thrift_compact.specs.Tree.{Node, yes, no as never, flag, i8, i16, i32, i64, double, binary, list, set, empty_map, map, struct, Nodes, no_nodes, node, Pairs, no_pairs, pair, Fields, no_fields, field, nest, nodes_nest, pairs_nest, fields_nest, count, count_pairs}
 use Rattle.thrift_compact.specs.Compact.{kind, IsDouble, IsListHead, IsElement, IsValue, AreElements, ArePairs, AreFields}
-use Rattle.thrift_compact.specs.inner.Writable.{has_bits, is_size, is_element, is_field, is_list, is_map, can_write, can_write_each, can_write_pairs, can_write_fields}
+use Rattle.thrift_compact.specs.inner.Writable.{has_bits, is_size, is_field, is_list, is_map, can_write, can_write_each, can_write_pairs, can_write_fields}
+use Rattle.thrift_compact.specs.Shapes.{is_of_type}
 
 pub both : (a b : Bool) → a ≡ true → b ≡ true → (a && b) ≡ true
 both a b p q = cc
@@ -72,7 +73,7 @@ eight bytes text u p = ap length (sym p.is) ∙ length-take-le 8 bytes p.within
 
 -- ---- types and headers
 
-element : (k : ℕ) (x : Node) → IsElement k x → is_element k x ≡ true
+element : (k : ℕ) (x : Node) → IsElement k x → is_of_type k x ≡ true
 element k yes h = absurd h
 element k never h = absurd h
 element k (flag b) (inl h) = either (k == 1) (k == 2) (same k 1 h)
@@ -136,16 +137,16 @@ mutual
   each_passes : (d k : ℕ) (xs : Nodes) (bytes : List ℕ) (u : ℕ) → AreElements xs k bytes u → nodes_nest xs ≤ d → can_write_each d k xs ≡ true
   each_passes d k no_nodes bytes u h n = refl
   each_passes d k (node x xs) bytes u h n =
-      both (is_element k x && can_write d x) (can_write_each d k xs) (both (is_element k x) (can_write d x) (element k x h.0) (value_passes d x bytes h.1.0 h.1.2 (omega (arith, n))))
+      both (is_of_type k x && can_write d x) (can_write_each d k xs) (both (is_of_type k x) (can_write d x) (element k x h.0) (value_passes d x bytes h.1.0 h.1.2 (omega (arith, n))))
       (each_passes d k xs _ h.1.1 h.1.3 (omega (arith, n)))
 
   pairs_pass : (d k v : ℕ) (ps : Pairs) (bytes : List ℕ) (u : ℕ) → ArePairs ps k v bytes u → pairs_nest ps ≤ d → can_write_pairs d k v ps ≡ true
   pairs_pass d k v no_pairs bytes u h n = refl
   pairs_pass d k v (pair x y ps) bytes u h n =
-      let first = both (is_element k x) (is_element v y) (element k x h.0) (element v y h.1) in
-      let second = both (is_element k x && is_element v y) (can_write d x) first (value_passes d x bytes h.2.0 h.2.3 (omega (arith, n))) in
-      let third = both ((is_element k x && is_element v y) && can_write d x) (can_write d y) second (value_passes d y _ h.2.1 h.2.4 (omega (arith, n))) in
-      both (((is_element k x && is_element v y) && can_write d x) && can_write d y) (can_write_pairs d k v ps) third (pairs_pass d k v ps _ h.2.2 h.2.5 (omega (arith, n)))
+      let first = both (is_of_type k x) (is_of_type v y) (element k x h.0) (element v y h.1) in
+      let second = both (is_of_type k x && is_of_type v y) (can_write d x) first (value_passes d x bytes h.2.0 h.2.3 (omega (arith, n))) in
+      let third = both ((is_of_type k x && is_of_type v y) && can_write d x) (can_write d y) second (value_passes d y _ h.2.1 h.2.4 (omega (arith, n))) in
+      both (((is_of_type k x && is_of_type v y) && can_write d x) && can_write d y) (can_write_pairs d k v ps) third (pairs_pass d k v ps _ h.2.2 h.2.5 (omega (arith, n)))
 
   pub fields_pass : (d : ℕ) (fs : Fields) (previous : ℤ) (bytes : List ℕ) (u : ℕ) → AreFields fs previous bytes u → fields_nest fs ≤ d → can_write_fields d fs ≡ true
   fields_pass d no_fields previous bytes u h n = refl
@@ -166,7 +167,7 @@ not_true false h = refl
 one_of : (k : ℕ) → ((k == 1 || k == 2) ≡ true) → IsElement k (flag 0)
 one_of k h = grind (arith, nat_tests)
 
-pub is_element_of : (k : ℕ) (x : Node) → is_element k x ≡ true → IsElement k x
+pub is_element_of : (k : ℕ) (x : Node) → is_of_type k x ≡ true → IsElement k x
 is_element_of k yes h = absurd (cc)
 is_element_of k never h = absurd (cc)
 is_element_of k (flag b) h = one_of k h
@@ -182,9 +183,9 @@ is_element_of k empty_map h = (Decides-eqb k 11).0 h
 is_element_of k (map m v ps) h = (Decides-eqb k 11).0 h
 is_element_of k (struct fs) h = (Decides-eqb k 12).0 h
 
-pub told : (b : Bool) (k : ℕ) (x : Node) → IsTrue b ↔ IsElement k x → b ≡ is_element k x
+pub told : (b : Bool) (k : ℕ) (x : Node) → IsTrue b ↔ IsElement k x → b ≡ is_of_type k x
 told true k x h = sym (element k x (h.0 refl))
-told false k x h = sym (not_true (is_element k x) (λ t. absurd (let e = h.1 (is_element_of k x t) in cc)))
+told false k x h = sym (not_true (is_of_type k x) (λ t. absurd (let e = h.1 (is_element_of k x t) in cc)))
 
 -- ---- the tests of fields and sizes
 

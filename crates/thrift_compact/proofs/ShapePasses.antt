@@ -1,29 +1,13 @@
 -- What has bytes has the shape.
-use Rattle.std.proofs.Common.{◌≡◌, ℕ, ◌-◌, true, ◌&&◌, nat_lt, refl, ◌∙◌}
+use Rattle.std.proofs.Common.{◌≡◌, ℕ, ◌-◌, true, ◌&&◌, nat_lt, refl}
 use Rattle.std.specs.Prelude.{pos}
 use Rattle.std.proofs.lemmas.Bool.{and_parts}
 use Rattle.thrift_compact.specs.Tree.{Node, yes, no as never, flag, i8, i16, i32, i64, double, binary, list, set, empty_map, map, struct, Nodes, no_nodes, node, Pairs, no_pairs, pair, Fields, no_fields, field, count, count_pairs}
 use Rattle.thrift_compact.specs.Compact.{kind}
-use Rattle.thrift_compact.specs.inner.Writable.{is_element, is_field, is_list, is_map, can_write, can_write_each, can_write_pairs, can_write_fields}
+use Rattle.thrift_compact.specs.inner.Writable.{is_field, is_list, is_map, can_write, can_write_each, can_write_pairs, can_write_fields}
 use Rattle.thrift_compact.specs.Shapes.{StructsWithBytesHaveTheShape, is_of_type, is_member, may_be_map, has_shape, each_has_shape, pairs_have_shape, fields_have_shape}
 use Rattle.thrift_compact.proofs.Passed.{both, less, fields_pass}
 use Rattle.thrift_compact.proofs.Tested.{field_parts, list_parts, map_parts}
-
-same_type : (k : ℕ) (x : Node) → is_of_type k x ≡ is_element k x
-same_type k yes = refl
-same_type k never = refl
-same_type k (flag b) = refl
-same_type k (i8 z) = refl
-same_type k (i16 z) = refl
-same_type k (i32 z) = refl
-same_type k (i64 z) = refl
-same_type k (double text) = refl
-same_type k (binary text) = refl
-same_type k (list c xs) = refl
-same_type k (set c xs) = refl
-same_type k empty_map = refl
-same_type k (map c v ps) = refl
-same_type k (struct fs) = refl
 
 of_map : (k v n : ℕ) → is_map k v n ≡ true → may_be_map k v n ≡ true
 of_map k v n h = let p = map_parts k v n h in both (nat_lt k 16) (nat_lt v 16 && nat_lt 0 n) (less k 16 p.0) (both (nat_lt v 16) (nat_lt 0 n) (less v 16 p.1) (less 0 n p.2))
@@ -51,19 +35,19 @@ mutual
   each_shape : (d k : ℕ) (xs : Nodes) → can_write_each d k xs ≡ true → each_has_shape d k xs ≡ true
   each_shape d k no_nodes h = refl
   each_shape d k (node x xs) h =
-      let p = and_parts (is_element k x && can_write d x) (can_write_each d k xs) h in
-      let q = and_parts (is_element k x) (can_write d x) p.0 in
-      both (is_of_type k x && has_shape d x) (each_has_shape d k xs) (both (is_of_type k x) (has_shape d x) (same_type k x ∙ q.0) (value_shape d x q.1)) (each_shape d k xs p.1)
+      let p = and_parts (is_of_type k x && can_write d x) (can_write_each d k xs) h in
+      let q = and_parts (is_of_type k x) (can_write d x) p.0 in
+      both (is_of_type k x && has_shape d x) (each_has_shape d k xs) (both (is_of_type k x) (has_shape d x) (q.0) (value_shape d x q.1)) (each_shape d k xs p.1)
 
   pairs_shape : (d k v : ℕ) (ps : Pairs) → can_write_pairs d k v ps ≡ true → pairs_have_shape d k v ps ≡ true
   pairs_shape d k v no_pairs h = refl
   pairs_shape d k v (pair x y ps) h =
-      let p = and_parts (is_element k x && is_element v y && can_write d x && can_write d y) (can_write_pairs d k v ps) h in
-      let q = and_parts (is_element k x && is_element v y && can_write d x) (can_write d y) p.0 in
-      let r = and_parts (is_element k x && is_element v y) (can_write d x) q.0 in
-      let s = and_parts (is_element k x) (is_element v y) r.0 in
-      let key = both (is_of_type k x) (has_shape d x) (same_type k x ∙ s.0) (value_shape d x r.1) in
-      let value = both (is_of_type v y) (has_shape d y) (same_type v y ∙ s.1) (value_shape d y q.1) in
+      let p = and_parts (is_of_type k x && is_of_type v y && can_write d x && can_write d y) (can_write_pairs d k v ps) h in
+      let q = and_parts (is_of_type k x && is_of_type v y && can_write d x) (can_write d y) p.0 in
+      let r = and_parts (is_of_type k x && is_of_type v y) (can_write d x) q.0 in
+      let s = and_parts (is_of_type k x) (is_of_type v y) r.0 in
+      let key = both (is_of_type k x) (has_shape d x) (s.0) (value_shape d x r.1) in
+      let value = both (is_of_type v y) (has_shape d y) (s.1) (value_shape d y q.1) in
       both ((is_of_type k x && has_shape d x) && (is_of_type v y && has_shape d y)) (pairs_have_shape d k v ps) (both (is_of_type k x && has_shape d x) (is_of_type v y && has_shape d y) key value) (pairs_shape d k v ps p.1)
 
   fields_shape : (d : ℕ) (fs : Fields) → can_write_fields d fs ≡ true → fields_have_shape d fs ≡ true

@@ -8,7 +8,8 @@ use Rattle.bits.specs.Varint.{zigzag_of}
 use Rattle.thrift_compact.specs.Tree.{Node, yes, no as never, flag, i8, i16, i32, i64, double, binary, list, set, empty_map, map, struct, Nodes, no_nodes, node, Pairs, no_pairs, pair, Fields, no_fields, field, nest, nodes_nest, pairs_nest, fields_nest, count, count_pairs}
 use Rattle.thrift_compact.specs.Compact.{kind, IsSigned, IsListHead, IsMapHead, IsFieldHead, IsValue, AreElements, ArePairs, AreFields}
 use Rattle.thrift_compact.specs.Writable.{HasBytes}
-use Rattle.thrift_compact.specs.inner.Writable.{has_bits, is_size, is_element, is_field, is_list, is_map, can_write, can_write_each, can_write_pairs, can_write_fields}
+use Rattle.thrift_compact.specs.inner.Writable.{has_bits, is_size, is_field, is_list, is_map, can_write, can_write_each, can_write_pairs, can_write_fields}
+use Rattle.thrift_compact.specs.Shapes.{is_of_type}
 use Rattle.thrift_compact.proofs.Texts.{HasText, then_text, as_text, no_text, byte_text, uleb_text, signed_byte_text, double_text, binary_text, list_head_text, map_head_text, field_head_text}
 use Rattle.thrift_compact.proofs.Passed.{is_element_of, fields_pass}
 
@@ -93,18 +94,18 @@ mutual
   each_text : (d k : ℕ) (xs : Nodes) → can_write_each d k xs ≡ true → HasText (AreElements xs k)
   each_text d k no_nodes h = no_text (AreElements no_nodes k) (λ bytes. refl)
   each_text d k (node x xs) h =
-      let p = and_parts (is_element k x && can_write d x) (can_write_each d k xs) h in
-      let q = and_parts (is_element k x) (can_write d x) p.0 in
+      let p = and_parts (is_of_type k x && can_write d x) (can_write_each d k xs) h in
+      let q = and_parts (is_of_type k x) (can_write d x) p.0 in
       let is = is_element_of k x q.0 in
       then_text (IsValue x) (AreElements xs k) (AreElements (node x xs) k) (λ bytes u v a b. (is, (u, v, a, b, refl))) (value_text d x q.1) (each_text d k xs p.1)
 
   pairs_text : (d k v : ℕ) (ps : Pairs) → can_write_pairs d k v ps ≡ true → HasText (ArePairs ps k v)
   pairs_text d k v no_pairs h = no_text (ArePairs no_pairs k v) (λ bytes. refl)
   pairs_text d k v (pair x y ps) h =
-      let p = and_parts (is_element k x && is_element v y && can_write d x && can_write d y) (can_write_pairs d k v ps) h in
-      let q = and_parts (is_element k x && is_element v y && can_write d x) (can_write d y) p.0 in
-      let r = and_parts (is_element k x && is_element v y) (can_write d x) q.0 in
-      let s = and_parts (is_element k x) (is_element v y) r.0 in
+      let p = and_parts (is_of_type k x && is_of_type v y && can_write d x && can_write d y) (can_write_pairs d k v ps) h in
+      let q = and_parts (is_of_type k x && is_of_type v y && can_write d x) (can_write d y) p.0 in
+      let r = and_parts (is_of_type k x && is_of_type v y) (can_write d x) q.0 in
+      let s = and_parts (is_of_type k x) (is_of_type v y) r.0 in
       let key = is_element_of k x s.0 in
       let value = is_element_of v y s.1 in
       then_text (λ bytes used. (s t : ℕ) × IsValue x bytes s × IsValue y (drop s bytes) t × (used ≡ s + t)) (ArePairs ps k v) (ArePairs (pair x y ps) k v)
@@ -137,8 +138,8 @@ mutual
   nest_each : (d k : ℕ) (xs : Nodes) → can_write_each d k xs ≡ true → nodes_nest xs ≤ d
   nest_each d k no_nodes h = omega arith
   nest_each d k (node x xs) h =
-      let p = and_parts (is_element k x && can_write d x) (can_write_each d k xs) h in
-      let q = and_parts (is_element k x) (can_write d x) p.0 in
+      let p = and_parts (is_of_type k x && can_write d x) (can_write_each d k xs) h in
+      let q = and_parts (is_of_type k x) (can_write d x) p.0 in
       let a = nest_at d x q.1 in
       let b = nest_each d k xs p.1 in
       omega (arith, a, b)
@@ -146,9 +147,9 @@ mutual
   nest_pairs : (d k v : ℕ) (ps : Pairs) → can_write_pairs d k v ps ≡ true → pairs_nest ps ≤ d
   nest_pairs d k v no_pairs h = omega arith
   nest_pairs d k v (pair x y ps) h =
-      let p = and_parts (is_element k x && is_element v y && can_write d x && can_write d y) (can_write_pairs d k v ps) h in
-      let q = and_parts (is_element k x && is_element v y && can_write d x) (can_write d y) p.0 in
-      let r = and_parts (is_element k x && is_element v y) (can_write d x) q.0 in
+      let p = and_parts (is_of_type k x && is_of_type v y && can_write d x && can_write d y) (can_write_pairs d k v ps) h in
+      let q = and_parts (is_of_type k x && is_of_type v y && can_write d x) (can_write d y) p.0 in
+      let r = and_parts (is_of_type k x && is_of_type v y) (can_write d x) q.0 in
       let a = nest_at d x r.1 in
       let b = nest_at d y q.1 in
       let c = nest_pairs d k v ps p.1 in

@@ -1,7 +1,6 @@
 //! Values that hold no others.
 
-ghost use Rattle.std.specs.Prelude.{◌≡◌, ℕ, ℤ, ◌+◌, ◌≤◌, List, length, IfOk, FitsSigned, OnOk};
-ghost use Rattle.std.specs.Int.{w16, w32};
+ghost use Rattle.std.specs.Prelude.{◌+◌, ◌≤◌, length, IfOk, OnOk};
 ghost use Rattle.bits.specs.Varint.{IsUleb};
 ghost use Rattle.bits.specs.Refusals.{RefusedOnly, RefusedMemoryOnly};
 ghost use Rattle.bits.specs.Codec.{Appends};

@@ -4,7 +4,8 @@ ghost use Rattle.std.specs.Prelude.{◌≡◌, ◌≤◌, ◌&&◌, ◌↔◌, I
 ghost use Rattle.thrift_compact.specs.Tree.{count, count_pairs, fields_nest};
 ghost use Rattle.thrift_compact.specs.View.{view, views, pair_views, field_views, tree_view};
 ghost use Rattle.thrift_compact.specs.Writable.{HasBytes};
-ghost use Rattle.thrift_compact.specs.inner.Writable.{is_element, is_field, is_list, is_map, can_write, can_write_each, can_write_pairs, can_write_fields};
+ghost use Rattle.thrift_compact.specs.Shapes.{is_of_type};
+ghost use Rattle.thrift_compact.specs.inner.Writable.{is_field, is_list, is_map, can_write, can_write_each, can_write_pairs, can_write_fields};
 
 use crate::tree::{DEEPEST, Field, Node, Tree, type_code};
 use crate::writing::is_element;
@@ -14,7 +15,7 @@ const TYPES: u8 = 16;
 
 /// Whether a list or a set of this type may hold the value.
 fn may_hold(code: u8, node: &Node) -> bool
-    ensures { result ≡ is_element code (view node.now) }
+    ensures { result ≡ is_of_type code (view node.now) }
 {
     is_element(code, node)
 }
@@ -23,6 +24,7 @@ fn may_hold(code: u8, node: &Node) -> bool
 fn is_field(field: &Field) -> bool
     ensures { result ≡ is_field field.now.id (view field.now.value) }
 {
+    // For the proof: an id is within its type.
     let _id = field.id;
     type_code(&field.value) < TYPES
 }
@@ -49,7 +51,7 @@ fn can_write(deep: u32, node: &Node) -> bool
 {
     match node {
         Node::Bool(_) | Node::Flag(_) => true,
-        // Numbers and lengths are those of their types: bytes have each of them.
+        // For the proof: numbers and lengths are within their types, and bytes have each of them.
         Node::I8(number) => {
             let _number = *number;
             true

@@ -1,12 +1,12 @@
 //! Bytes from trees.
 
-ghost use Rattle.std.specs.Prelude.{◌≡◌, ℕ, ◌+◌, ◌<◌, ◌≤◌, ◌↔◌, ◌&&◌, List, length, OnOk, OnErr, IsTrue};
+ghost use Rattle.std.specs.Prelude.{◌≡◌, ℕ, ◌+◌, ◌<◌, ◌↔◌, ◌&&◌, List, length, OnOk, OnErr, IsTrue};
 ghost use Rattle.bits.specs.Refusals.{OnFault, RefusedOnly};
 ghost use Rattle.bits.specs.Codec.{Appends};
 ghost use Rattle.thrift_compact.specs.Tree.{list, empty_map, map, struct};
-ghost use Rattle.thrift_compact.specs.Compact.{kind, IsElement, IsBinary, IsThrift};
+ghost use Rattle.thrift_compact.specs.Compact.{kind, IsElement, IsThrift};
 ghost use Rattle.thrift_compact.specs.View.{view, views, pair_views, field_view, field_views, tree_view};
-ghost use Rattle.thrift_compact.specs.Length.{size_length, size_list_head, size_field_head, size_value, size_elements, size_pairs, size_fields, size_struct, AppendsStruct};
+ghost use Rattle.thrift_compact.specs.Length.{size_value, size_elements, size_pairs, size_struct, AppendsStruct};
 ghost use Rattle.thrift_compact.specs.Shapes.{is_of_type, is_member, has_shape, each_has_shape, pairs_have_shape, pair_has_shape, fields_have_shape, IsShapeless};
 ghost use Rattle.thrift_compact.specs.inner.Writing.{IsWithoutBytes, Keeps, AppendsValue, AppendsPair, AppendsField, SpellsValue, SpellsElement, SpellsElements, SpellsPair, SpellsPairs, SpellsField, SpellsFields};
 

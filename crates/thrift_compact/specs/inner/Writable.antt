@@ -1,8 +1,9 @@
 -- The test whether a struct has bytes: Thrift's compact protocol, "Struct Encoding", "List and Set", "Map".
-use Rattle.std.specs.Prelude.{ℕ, ◌-◌, ◌^◌, ℤ, nat_lt, ◌==◌, Bool, true, false, ◌&&◌, ◌||◌, length}
+use Rattle.std.specs.Prelude.{ℕ, ◌-◌, ◌^◌, ℤ, nat_lt, ◌==◌, Bool, true, false, ◌&&◌, length}
 use Rattle.bits.specs.Varint.{zigzag_of}
 use Rattle.thrift_compact.specs.Tree.{Node, yes, no, flag, i8, i16, i32, i64, double, binary, list, set, empty_map, map, struct, Nodes, no_nodes, node, Pairs, no_pairs, pair, Fields, no_fields, field, count, count_pairs}
 use Rattle.thrift_compact.specs.Compact.{kind}
+use Rattle.thrift_compact.specs.Shapes.{is_of_type}
 
 -- a signed number of this many bits
 unfoldable pub has_bits : ℕ → ℤ → Bool
@@ -11,13 +12,6 @@ has_bits bits z = nat_lt (zigzag_of z) (2 ^ bits)
 -- a size that a varint can say
 unfoldable pub is_size : ℕ → Bool
 is_size n = nat_lt n (2 ^ 64)
-
--- what an element of this type may be: a boolean one is a byte
-abbrev pub is_element : ℕ → Node → Bool
-is_element k yes = false
-is_element k no = false
-is_element k (flag b) = k == 1 || k == 2
-is_element k x = k == kind x
 
 -- a field can have this id, and this value: it has a type
 unfoldable pub is_field : ℤ → Node → Bool
@@ -52,12 +46,12 @@ abbrev mutual
   -- the elements of a list or a set of this type
   pub can_write_each : ℕ → ℕ → Nodes → Bool
   can_write_each deep k no_nodes = true
-  can_write_each deep k (node x xs) = is_element k x && can_write deep x && can_write_each deep k xs
+  can_write_each deep k (node x xs) = is_of_type k x && can_write deep x && can_write_each deep k xs
 
   -- the pairs of a map of these types
   pub can_write_pairs : ℕ → ℕ → ℕ → Pairs → Bool
   can_write_pairs deep k v no_pairs = true
-  can_write_pairs deep k v (pair x y ps) = is_element k x && is_element v y && can_write deep x && can_write deep y && can_write_pairs deep k v ps
+  can_write_pairs deep k v (pair x y ps) = is_of_type k x && is_of_type v y && can_write deep x && can_write deep y && can_write_pairs deep k v ps
 
   -- the fields of a struct
   pub can_write_fields : ℕ → Fields → Bool
