@@ -12,7 +12,8 @@ use Rattle.thrift_compact.specs.Compact.{IsByte, kind, IsElement, IsFieldHead, I
 use Rattle.thrift_compact.specs.Length.{is_step}
 use Rattle.metadata.specs.FieldValues.{◌>>=◌, all_with, later, last_of, known, needed, int32, int64, boolean, text, tree, record_by, each_of, list_by}
 use Rattle.metadata.specs.ToTree.{Entry, written, truth, many, record_as}
-use Rattle.metadata.proofs.Texts.{HasText, then_text, as_text, no_text, byte_text, list_head_text, size_of_head, value_text, field_then}
+use Rattle.thrift_compact.proofs.Texts.{HasText, then_text, as_text, no_text, byte_text}
+use Rattle.metadata.proofs.Texts.{list_head_text, size_of_head, value_text, field_then}
 use Rattle.metadata.proofs.Weights.{steps_from, steps}
 
 -- a value that bytes have, nested at most so deep

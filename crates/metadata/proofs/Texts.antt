@@ -4,36 +4,8 @@ use Rattle.std.proofs.lemmas.List.{length-append, length-take-le, length-drop, d
 use Rattle.bits.specs.Varint.{IsUleb, zigzag_of}
 use Rattle.bits.proofs.Facts.{uleb_stays}
 use Rattle.thrift_compact.specs.Tree.{Node, yes, no, flag, i8, i16, i32, i64, double, binary, list, set, empty_map, map, struct, Nodes, no_nodes, node, Pairs, no_pairs, pair, Fields, no_fields, field, count, count_pairs}
+use Rattle.thrift_compact.proofs.Texts.{HasText, then_text, as_text, no_text, byte_text}
 use Rattle.thrift_compact.specs.Compact.{IsByte, IsSignedByte, IsDouble, IsBinary, IsSigned, kind, IsShort, IsLong, IsFieldHead, IsLongList, IsListHead, IsMapHead, IsValue, AreElements, ArePairs, AreFields}
-
--- a text that stands, whatever follows it
-pub record HasText (Stands : List ℕ → ℕ → Type 0) : Type 0 where
-  pub text : List ℕ
-  pub stands : (more : List ℕ) → Stands (text ++ more) (length text)
-
--- one text behind the other
-pub then_text : (First Second Both : List ℕ → ℕ → Type 0) → ((bytes : List ℕ) (u v : ℕ) → First bytes u → Second (drop u bytes) v → Both bytes (u + v)) → HasText First → HasText Second → HasText Both
-then_text First Second Both joins p q =
-    let text = p.text ++ q.text in
-    let size : length text ≡ length p.text + length q.text = length-append p.text q.text in
-    record {
-      text = text;
-      stands = λ rest.
-          let whole : text ++ rest ≡ p.text ++ (q.text ++ rest) = append_assoc p.text q.text rest in
-          let back : drop (length p.text) (text ++ rest) ≡ q.text ++ rest = rw whole (drop_at p.text (q.text ++ rest) (length p.text) refl) in
-          let first = subst (λ (t : List ℕ). First t (length p.text)) (sym whole) (p.stands (q.text ++ rest)) in
-          let second = subst (λ (t : List ℕ). Second t (length q.text)) (sym back) (q.stands rest) in
-          subst (λ (n : ℕ). Both (text ++ rest) n) (sym size) (joins (text ++ rest) (length p.text) (length q.text) first second);
-    }
-
-pub as_text : (First Other : List ℕ → ℕ → Type 0) → ((bytes : List ℕ) (u : ℕ) → First bytes u → Other bytes u) → HasText First → HasText Other
-as_text First Other so p = record { text = p.text; stands = λ more. so (p.text ++ more) (length p.text) (p.stands more) }
-
-pub no_text : (Stands : List ℕ → ℕ → Type 0) → ((bytes : List ℕ) → Stands bytes 0) → HasText Stands
-no_text Stands stands = record { text = []; stands = stands }
-
-pub byte_text : (b : ℕ) → HasText (λ bytes used. IsByte bytes b used)
-byte_text b = record { text = b ∷ []; stands = λ more. record { some = omega arith; is = refl; one = refl } }
 
 all_taken : (u : ℕ) (bytes : List ℕ) → u ≤ length bytes → take u (take u bytes) ≡ take u bytes
 all_taken u bytes le = take-take u u bytes (omega arith)
