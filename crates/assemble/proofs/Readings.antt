@@ -19,7 +19,7 @@ use Rattle.schema.proofs.CutSteps.{counts_are}
 use Rattle.assemble.specs.Sources.{Begins}
 use Rattle.assemble.specs.Columns.{Columns, level, AreAlike, Want, AllSuit, Fronts}
 use Rattle.assemble.specs.inner.Fronts.{AreEnds, stripes, stripes_inside, stripes_items, nones, wants, wants_inside, Fit, FitInside, FitItems}
-use Rattle.assemble.specs.inner.Steps.{AreAbove, IsSkipFaulty, NoneLeft, first_of, IsMissing}
+use Rattle.assemble.specs.inner.Steps.{missing_value, AreAbove, IsSkipFaulty, NoneLeft, first_of, IsMissing}
 use Rattle.assemble.specs.inner.ReadValues.{HasLevels, IsRead, IsFaulty}
 use Rattle.assemble.proofs.Fronts.{fronts_alike, alike_parts}
 use Rattle.assemble.proofs.Told.{tells_more}
@@ -234,11 +234,6 @@ empty_front f e valid r d k old rests m w =
         absurd (not_missing r d (first_of old)
         (starts_there (stripes_items f r d k (item v vs)) w.whole rests old r (suc d) (subst (λ n. 0 < n) (sym (length-map (leaves f) (λ (l : Leaf). list_items (stripe l.steps) (item v vs) r d k))) (has_leaf f valid))
         front w.alike (items_start (fits_inside f) (leaves f) v vs (all_start f) (has_leaf f valid) (and_parts (fits_inside f v) (each (fits_inside f) vs) h).0 r d k)) m)
-
--- the value of a field that is missing
-abbrev pub missing_value : Repetition → ValueTree
-missing_value Repeated = list no_values
-missing_value _ = null
 
 missing_front : (f : Field) (x : Repetition) → repetition_of f ≡ x → (x ≡ Required → ⊥) → IsValid f → (r d k : ℕ) (old rests : Columns) → IsMissing d (first_of old) true → (w : HasLevels (Fit f) (stripes f r d k) k old rests) → Fronts (nones r d (count_leaves f)) w.whole rests
 missing_front f Required e n = absurd (n refl)

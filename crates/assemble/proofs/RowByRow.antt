@@ -1,17 +1,18 @@
 -- Rows, one by one.
-use Rattle.std.proofs.Common.{ℕ, zero, suc, ◌≡◌, ◌+◌, ◌≤◌, ◌<◌, true, false, List, [], ◌∷◌, ◌++◌, map, length, refl, ap, sym, subst, ◌∙◌, arith, None, Option, Result, Ok, Err}
+use Rattle.std.proofs.Common.{ℕ, zero, suc, ◌≡◌, ◌+◌, ◌≤◌, ◌<◌, Bool, true, false, List, [], ◌∷◌, ◌++◌, map, length, refl, ap, sym, subst, ◌∙◌, arith, None, Option, Result, Ok, Err}
 use Rattle.std.specs.List.{AllByRecursion}
 use Rattle.std.proofs.lemmas.List.{append-nil, length-append, length-map}
 use Rattle.bits.specs.declared.refusal.Refusal.{Refusal}
 use Rattle.schema.specs.declared.value.Repetition.TheVariants.{Required}
 use Rattle.std.specs.Result.{IsErrAnd}
 use Rattle.schema.specs.declared.row.Row.{Row}
+use Rattle.assemble.specs.Sinks.{Token}
 use Rattle.assemble.specs.Standing.{IsRefusedFor}
 use Rattle.assemble.specs.Columns.{Columns, level, AreAlike, Want, AllSuit, Tells, Fronts}
 use Rattle.assemble.specs.inner.Fronts.{Ends, AreEnds, stripes_each, wants_each, FitEach}
 use Rattle.assemble.specs.inner.Steps.{first_of, HasItem, Filled}
 use Rattle.assemble.specs.inner.ReadValues.{HasLevels, IsRead, IsFaulty}
-use Rattle.assemble.specs.RowsOf.{wants_of, HasFault, IsFirstRow, NextRow}
+use Rattle.assemble.specs.RowsOf.{wants_of, HasFault, IsFirstRow, NextRowTo, NextRow}
 use Rattle.schema.specs.Values.{ValueTrees, group}
 use Rattle.schema.specs.Shape.{Field, leaf, fields, Fields, no_fields, field}
 use Rattle.schema.specs.Fits.{fits_each, RowsFit}
@@ -267,6 +268,10 @@ other_number fs rows cs h = sym (length-map (leaves_of fs) (λ (l : Leaf). colum
 
 -- results
 module _ {A : Type 0} (S : A → List Entry → Type 0) (R : A → Option Refusal) where
+  pub next_to_err : {K : Type 0} (shows : K → List Token → Type 0) (fs : Fields) (old new : List A) (from to : K) (r : Result Bool Refusal) (e : Refusal) → IsErrAnd r (λ f. f ≡ e) → IsRefusedFor S R old new (HasFault fs) e → NextRowTo S R shows fs old new from to r
+  next_to_err shows fs old new from to (Ok x) e is h = absurd is
+  next_to_err shows fs old new from to (Err f) e is h = subst (IsRefusedFor S R old new (HasFault fs)) (sym is) h
+
   pub next_err : (fs : Fields) (old new : List A) (r : Result (Option Row) Refusal) (e : Refusal) → IsErrAnd r (λ f. f ≡ e) → IsRefusedFor S R old new (HasFault fs) e → NextRow S R fs old new r
   next_err fs old new (Ok x) e is h = absurd is
   next_err fs old new (Err f) e is h = subst (IsRefusedFor S R old new (HasFault fs)) (sym is) h
