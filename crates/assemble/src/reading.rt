@@ -1,7 +1,7 @@
 //! Values off the fronts of columns: each leaf's column begins with the stripe of the value, and a sink is
 //! shown the value.
 
-ghost use Rattle.std.specs.Prelude.{◌≡◌, ◌+◌, ◌<◌, ◌≤◌, ◌^◌, length, map, true, None, IfOk, OnOk, IfErr};
+ghost use Rattle.std.specs.Prelude.{◌≡◌, ◌==◌, ◌&&◌, ◌+◌, ◌<◌, ◌≤◌, ◌^◌, length, map, true, None, IfOk, OnOk, IfErr};
 ghost use Rattle.schema.specs.Views.{leaf_type_view, field_view, field_views};
 ghost use Rattle.schema.specs.Law.{IsValid, AreValid};
 ghost use Rattle.schema.specs.Stripe.{entry};
@@ -18,7 +18,7 @@ use crate::fits::fits;
 use crate::sink::RowSink;
 use crate::source::EntrySource;
 use bits::{R, Refusal};
-use schema::{Field, LeafType, Repetition, ValueRef};
+use schema::{EntryRef, Field, LeafType, Repetition, ValueRef};
 use std::alloc::AllocError;
 
 /// Where a value stands: the levels of its first entry, and the number of REPEATED fields passed.
@@ -27,6 +27,15 @@ pub struct Place {
     pub repetition: u32,
     pub definition: u32,
     pub own: u32,
+}
+
+impl Place {
+    /// Whether an entry has these levels.
+    fn is_of(self, entry: &EntryRef<'_>) -> bool
+        ensures { result ≡ (entry.now.repetition == self.repetition && entry.now.definition == self.definition) }
+    {
+        self.repetition == entry.repetition && self.definition == entry.definition
+    }
 }
 
 /// Takes the next entry, which has these levels and a value that fits, and shows the value.
@@ -42,16 +51,13 @@ fn read_leaf<S: EntrySource, K: RowSink>(
 {
     let checked = source.has_checked(leaf_type);
     match source.next()? {
-        Some(entry)
-            if entry.repetition == place.repetition && entry.definition == place.definition => {
-            match entry.value {
-                Some(value) if checked || fits(leaf_type, value) => {
-                    sink.value(value)?;
-                    Ok(())
-                }
-                _ => Err(Refusal::Value),
+        Some(entry) if place.is_of(&entry) => match entry.value {
+            Some(value) if checked || fits(leaf_type, value) => {
+                sink.value(value)?;
+                Ok(())
             }
-        }
+            _ => Err(Refusal::Value),
+        },
         _ => Err(Refusal::Levels),
     }
 }
@@ -63,13 +69,10 @@ fn read_absent<S: EntrySource>(place: Place, source: &mut S) -> R<()>
     ensures kept { OnOk result (S.refused source.new ≡ S.refused source.old) }
 {
     match source.next()? {
-        Some(entry)
-            if entry.repetition == place.repetition && entry.definition == place.definition => {
-            match entry.value {
-                None => Ok(()),
-                Some(_) => Err(Refusal::Value),
-            }
-        }
+        Some(entry) if place.is_of(&entry) => match entry.value {
+            None => Ok(()),
+            Some(_) => Err(Refusal::Value),
+        },
         _ => Err(Refusal::Levels),
     }
 }
