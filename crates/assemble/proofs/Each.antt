@@ -14,7 +14,8 @@ use Rattle.assemble.specs.inner.Building.{snoc}
 use Rattle.assemble.specs.inner.Fronts.{AreEnds, stripes, stripes_each, wants, wants_each, Fit, FitEach}
 use Rattle.assemble.specs.inner.ReadValues.{HasLevels, IsRead, IsFaulty}
 use Rattle.assemble.proofs.Fronts.{fronts_join, fronts_split, fronts_behind, fronts_length_new, alike_append, suit_split, ends_split}
-use Rattle.assemble.proofs.Readings.{faulty_up, count_is}
+use Rattle.schema.proofs.CutSteps.{count_is}
+use Rattle.assemble.proofs.Readings.{faulty_up}
 
 abbrev pub join : ValueTrees → ValueTrees → ValueTrees
 join no_values ws = ws

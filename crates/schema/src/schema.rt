@@ -120,6 +120,7 @@ impl Schema {
         ensures leaves_are { map leaf_view result.now ≡ leaves_of self.now }
         ensures valid { IsSchema self.now }
         ensures within { IsWithinLimits self.now }
+        ensures shallow { tallest self.now ≤ 32 }
     {
         let _ = &self.fields;
         self.leaves.as_slice()

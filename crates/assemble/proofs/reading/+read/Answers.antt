@@ -17,15 +17,16 @@ use Rattle.assemble.specs.inner.Fronts.{stripes, stripes_inside, stripes_items, 
 use Rattle.assemble.specs.inner.ReadValues.{Reads, IsFaulty}
 use Rattle.assemble.specs.inner.Steps.{missing_value, IsSkipFaulty, IsMissing, HasItem, NoneLeft, first_of}
 use Rattle.assemble.proofs.Starting.{has_leaf}
-use Rattle.assemble.proofs.Readings.{count_is, faulty_required, faulty_present, faulty_list, faulty_missing, faulty_nothing, optional_is}
+use Rattle.schema.proofs.CutSteps.{count_is}
+use Rattle.assemble.proofs.Readings.{faulty_required, faulty_present, faulty_list, faulty_missing, faulty_nothing, optional_is}
 use Rattle.assemble.proofs.Standing.{same_self, stand_on, part_stands, among_put, refused_up, refused_same, refused_ok, none_ok}
 use Rattle.assemble.proofs.Groups.{faulty_group}
 use Rattle.assemble.proofs.Items as items
 use Rattle.assemble.proofs.Items.{one_more}
 use Rattle.assemble.proofs.Each as each
 use Rattle.assemble.proofs.Taking.{reads_required, reads_present, reads_list, reads_group, reads_missing, reads_leaf, each_onward, each_backward, first_onward, first_backward, next_onward, next_backward, reads_items}
-use Rattle.assemble.proofs.Slices.{map_kept}
-use Rattle.assemble.proofs.Views.{view_leaf, view_fields}
+use Rattle.schema.proofs.Slices.{map_kept}
+use Rattle.schema.proofs.OneLevel.{view_leaf, view_fields}
 use Rattle.assemble.proofs.Showing.{adds_then, adds_none, tokens_snoc, visits_up, visits_group, visits_list}
 use Rattle.assemble.proofs.reading.+read.Goals as goal
 

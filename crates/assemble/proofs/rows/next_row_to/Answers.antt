@@ -11,7 +11,7 @@ use Rattle.assemble.specs.RowsOf.{HasFault}
 use Rattle.assemble.specs.inner.Fronts.{FitEach, stripes_each, wants_each}
 use Rattle.assemble.specs.inner.ReadValues.{IsFaulty, Reads}
 use Rattle.assemble.specs.inner.Steps.{first_of, HasItem, Filled}
-use Rattle.assemble.proofs.RowByRow.{has_leaves, other_number, next_to_err, not_ended, nothing_first, faulty_row, is_first_row, row_front, tallest_at}
+use Rattle.assemble.proofs.RowByRow.{has_leaves, other_number, next_to_err, not_ended, nothing_first, faulty_row, is_first_row, row_front}
 use Rattle.assemble.proofs.Ending.{no_rows}
 use Rattle.assemble.proofs.Standing.{same_then, same_length, stand_on, stand_back, stand_length, refused_same}
 use Rattle.assemble.proofs.rows.next_row_to.Goals as goal
@@ -80,7 +80,7 @@ pub read_fields-requires-clause-deep : goal.read_fields-requires-clause-deep
 read_fields-requires-clause-deep g c =
     let fs = c.args.schema.now in
     let is : tallest (field_views c.fields.result.now) ≡ tallest fs = ap tallest c.fields.ensures in
-    let deep = tallest_at fs 0 32 c.leaves-leaves.ensures.valid.1 c.leaves-leaves.ensures.within.depth in
+    let deep = c.leaves-leaves.ensures.shallow in
     omega (arith, is, deep)
 
 pub returns-in_err-read_fields : goal.returns-in_err-read_fields

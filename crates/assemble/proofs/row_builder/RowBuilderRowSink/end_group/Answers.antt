@@ -2,7 +2,7 @@ use Rattle.std.proofs.Common.{◌∙◌, ap, sym}
 use Rattle.schema.specs.Values.{group}
 use Rattle.assemble.specs.Sinks.{group_ends}
 use Rattle.assemble.specs.inner.Building.{frames_of}
-use Rattle.assemble.proofs.Views.{view_group}
+use Rattle.schema.proofs.OneLevel.{view_group}
 use Rattle.assemble.proofs.Showing.{one_step, ended_some, ended_none, group_closed, group_unopened, pushed}
 use Rattle.assemble.proofs.row_builder.RowBuilderRowSink.end_group.Goals as goal
 

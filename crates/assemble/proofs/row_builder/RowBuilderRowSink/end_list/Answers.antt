@@ -2,7 +2,7 @@ use Rattle.std.proofs.Common.{◌∙◌, ap, sym}
 use Rattle.schema.specs.Values.{list}
 use Rattle.assemble.specs.Sinks.{list_ends}
 use Rattle.assemble.specs.inner.Building.{frames_of}
-use Rattle.assemble.proofs.Views.{view_list}
+use Rattle.schema.proofs.OneLevel.{view_list}
 use Rattle.assemble.proofs.Showing.{one_step, ended_some, ended_none, list_closed, list_unopened, pushed}
 use Rattle.assemble.proofs.row_builder.RowBuilderRowSink.end_list.Goals as goal
 
