@@ -10,21 +10,22 @@ use Rattle.schema.specs.Fits.{fits, fits_each}
 use Rattle.schema.specs.Stripe.{Leaf, leaves, stripe, stripe_as, definitions, greatest_definition}
 use Rattle.schema.specs.Reading.{count_leaves, count_leaves_each}
 use Rattle.assemble.specs.Columns.{Columns, level, AreAlike, AllSuit, Fronts}
+use Rattle.assemble.specs.inner.Building.{snoc}
 use Rattle.assemble.specs.inner.Fronts.{AreEnds, stripes, stripes_each, wants, wants_each, Fit, FitEach}
 use Rattle.assemble.specs.inner.ReadValues.{HasLevels, IsRead, IsFaulty}
 use Rattle.assemble.proofs.Fronts.{fronts_join, fronts_split, fronts_behind, fronts_length_new, alike_append, suit_split, ends_split}
-use Rattle.assemble.proofs.Readings.{faulty_up, count_is}
-use Rattle.assemble.proofs.Items.{snoc}
+use Rattle.schema.proofs.CutSteps.{count_is}
+use Rattle.assemble.proofs.Readings.{faulty_up}
 
 abbrev pub join : ValueTrees → ValueTrees → ValueTrees
 join no_values ws = ws
 join (item v vs) ws = item v (join vs ws)
 
-join_snoc : (vs : ValueTrees) (v : ValueTree) (ws : ValueTrees) → join (snoc vs v) ws ≡ join vs (item v ws)
+pub join_snoc : (vs : ValueTrees) (v : ValueTree) (ws : ValueTrees) → join (snoc vs v) ws ≡ join vs (item v ws)
 join_snoc no_values v ws = refl
 join_snoc (item u vs) v ws = ap (λ t. item u t) (join_snoc vs v ws)
 
-join_none : (vs : ValueTrees) → join vs no_values ≡ vs
+pub join_none : (vs : ValueTrees) → join vs no_values ≡ vs
 join_none no_values = refl
 join_none (item u vs) = ap (λ t. item u t) (join_none vs)
 

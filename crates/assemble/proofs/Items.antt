@@ -12,17 +12,13 @@ use Rattle.schema.specs.Stripe.{Entry, Leaf, leaves, stripe, Striping, list_item
 use Rattle.schema.specs.Law.{IsValid}
 use Rattle.schema.proofs.LeafLaws.{Starts}
 use Rattle.assemble.specs.Columns.{Columns, level, AreAlike, Fronts}
+use Rattle.assemble.specs.inner.Building.{snoc}
 use Rattle.assemble.specs.inner.Fronts.{Ends, AreEnds, stripes_inside, stripes_items, stripes_later, wants_inside, FitInside, FitItems, FitLater}
 use Rattle.assemble.specs.inner.Steps.{first_of, HasItem}
 use Rattle.assemble.specs.inner.ReadValues.{HasLevels, IsRead, IsFaulty}
 use Rattle.assemble.proofs.Fronts.{fronts_then, fronts_cut, put, suit_front}
 use Rattle.assemble.proofs.Starting.{StartsAt, all_start, has_leaf}
 use Rattle.assemble.proofs.Readings.{map_same, starts_there, first_starts, faulty_up}
-
--- one more item
-abbrev pub snoc : ValueTrees → ValueTree → ValueTrees
-snoc no_values v = item v no_values
-snoc (item u vs) v = item u (snoc vs v)
 
 pub views-push : (vs : List Value) (v : Value) → views (vs ++ v ∷ []) ≡ snoc (views vs) (view v)
 views-push [] v = refl

@@ -15,11 +15,11 @@ use Rattle.schema.specs.Stripe.{Entry, entry, Leaf, leaves, stripe, stripe_as, l
 use Rattle.schema.specs.Law.{IsValid}
 use Rattle.schema.specs.Reading.{count_leaves}
 use Rattle.schema.proofs.LeafLaws.{Starts, Starts-append, when_optional, when_repeated}
-use Rattle.schema.proofs.CutSteps.{counts_are}
+use Rattle.schema.proofs.CutSteps.{count_is}
 use Rattle.assemble.specs.Sources.{Begins}
 use Rattle.assemble.specs.Columns.{Columns, level, AreAlike, Want, AllSuit, Fronts}
 use Rattle.assemble.specs.inner.Fronts.{AreEnds, stripes, stripes_inside, stripes_items, nones, wants, wants_inside, Fit, FitInside, FitItems}
-use Rattle.assemble.specs.inner.Steps.{AreAbove, IsSkipFaulty, NoneLeft, first_of, IsMissing}
+use Rattle.assemble.specs.inner.Steps.{missing_value, AreAbove, IsSkipFaulty, NoneLeft, first_of, IsMissing}
 use Rattle.assemble.specs.inner.ReadValues.{HasLevels, IsRead, IsFaulty}
 use Rattle.assemble.proofs.Fronts.{fronts_alike, alike_parts}
 use Rattle.assemble.proofs.Told.{tells_more}
@@ -52,10 +52,6 @@ read_up P St Q Tt k old new x y fit same narrow h = record {
 pub faulty_up : {A B : Type 0} (P : A → Type 0) (St : A → Columns) (j : ℕ) (ws : List Want) (Q : B → Type 0) (Tt : B → Columns) (k : ℕ) (vs : List Want) (sub old : Columns) (e : Refusal)
     → ((rests : Columns) → HasLevels Q Tt k old rests → (r : Columns) × HasLevels P St j sub r) → (AllSuit vs old → AllSuit ws sub) → IsFaulty P St j ws sub e → IsFaulty Q Tt k vs old e
 faulty_up P St j ws Q Tt k vs sub old e narrow suit h = tells_more _ _ _ _ (λ none rests w. let n = narrow rests w in none n.0 n.1) (λ none s. none (suit s)) e h
-
-pub count_is : (f : Field) → count_leaves f ≡ length (leaves f)
-count_is (leaf n r t) = refl
-count_is (fields n r a fs) = counts_are 0 fs
 
 -- the first column
 first_alike : (ss whole rests old : Columns) → Fronts ss whole rests → AreAlike whole old → 0 < length ss → (map level (first_of whole) ≡ map level (first_of old)) × (first_of whole ≡ first_of ss ++ first_of rests)
@@ -234,11 +230,6 @@ empty_front f e valid r d k old rests m w =
         absurd (not_missing r d (first_of old)
         (starts_there (stripes_items f r d k (item v vs)) w.whole rests old r (suc d) (subst (λ n. 0 < n) (sym (length-map (leaves f) (λ (l : Leaf). list_items (stripe l.steps) (item v vs) r d k))) (has_leaf f valid))
         front w.alike (items_start (fits_inside f) (leaves f) v vs (all_start f) (has_leaf f valid) (and_parts (fits_inside f v) (each (fits_inside f) vs) h).0 r d k)) m)
-
--- the value of a field that is missing
-abbrev pub missing_value : Repetition → ValueTree
-missing_value Repeated = list no_values
-missing_value _ = null
 
 missing_front : (f : Field) (x : Repetition) → repetition_of f ≡ x → (x ≡ Required → ⊥) → IsValid f → (r d k : ℕ) (old rests : Columns) → IsMissing d (first_of old) true → (w : HasLevels (Fit f) (stripes f r d k) k old rests) → Fronts (nones r d (count_leaves f)) w.whole rests
 missing_front f Required e n = absurd (n refl)

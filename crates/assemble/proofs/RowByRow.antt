@@ -1,23 +1,23 @@
 -- Rows, one by one.
-use Rattle.std.proofs.Common.{ℕ, zero, suc, ◌≡◌, ◌+◌, ◌≤◌, ◌<◌, true, false, List, [], ◌∷◌, ◌++◌, map, length, refl, ap, sym, subst, ◌∙◌, arith, None, Option, Result, Ok, Err}
+use Rattle.std.proofs.Common.{ℕ, ◌≡◌, ◌+◌, ◌<◌, Bool, true, false, List, [], ◌∷◌, ◌++◌, map, length, refl, ap, sym, subst, ◌∙◌, arith, None, Option, Result, Ok, Err}
 use Rattle.std.specs.List.{AllByRecursion}
 use Rattle.std.proofs.lemmas.List.{append-nil, length-append, length-map}
 use Rattle.bits.specs.declared.refusal.Refusal.{Refusal}
 use Rattle.schema.specs.declared.value.Repetition.TheVariants.{Required}
 use Rattle.std.specs.Result.{IsErrAnd}
 use Rattle.schema.specs.declared.row.Row.{Row}
+use Rattle.assemble.specs.Sinks.{Token}
 use Rattle.assemble.specs.Standing.{IsRefusedFor}
 use Rattle.assemble.specs.Columns.{Columns, level, AreAlike, Want, AllSuit, Tells, Fronts}
 use Rattle.assemble.specs.inner.Fronts.{Ends, AreEnds, stripes_each, wants_each, FitEach}
 use Rattle.assemble.specs.inner.Steps.{first_of, HasItem, Filled}
 use Rattle.assemble.specs.inner.ReadValues.{HasLevels, IsRead, IsFaulty}
-use Rattle.assemble.specs.RowsOf.{wants_of, HasFault, IsFirstRow, NextRow}
+use Rattle.assemble.specs.RowsOf.{wants_of, HasFault, IsFirstRow, NextRowTo, NextRow}
 use Rattle.schema.specs.Values.{ValueTrees, group}
-use Rattle.schema.specs.Shape.{Field, leaf, fields, Fields, no_fields, field}
+use Rattle.schema.specs.Shape.{fields, Fields}
 use Rattle.schema.specs.Fits.{fits_each, RowsFit}
-use Rattle.schema.specs.Stripe.{Entry, Leaf, below, leaves, leaves_from, leaves_of, stripe, column, columns, greatest_definition}
-use Rattle.schema.specs.Law.{IsValid, AreValid, IsSchema, HasGreatestLevels}
-use Rattle.schema.specs.Reading.{tall, tallest}
+use Rattle.schema.specs.Stripe.{Entry, Leaf, leaves_of, stripe, column, columns, greatest_definition}
+use Rattle.schema.specs.Law.{IsSchema, HasGreatestLevels}
 use Rattle.schema.proofs.LeafLaws.{IsLeafFrom, Starts, Starts-append}
 use Rattle.schema.proofs.Determined.{starts_each, At-whole}
 use Rattle.schema.proofs.Kept.{levels_are_of_steps}
@@ -26,36 +26,6 @@ use Rattle.assemble.proofs.Told.{tells_more}
 use Rattle.assemble.proofs.Starting.{listed_from, has_leaf}
 use Rattle.assemble.proofs.Readings.{map_same}
 use Rattle.assemble.proofs.Groups.{group_stripes, group_wants}
-
--- the height of a schema is that of its leaves
-all_front : {A : Type 0} (P : A → Type 0) (xs ys : List A) → AllByRecursion P (xs ++ ys) → AllByRecursion P xs
-all_front P [] ys h = tt
-all_front P (x ∷ xs) ys h = (h.0, all_front P xs ys h.1)
-
-all_back : {A : Type 0} (P : A → Type 0) (xs ys : List A) → AllByRecursion P (xs ++ ys) → AllByRecursion P ys
-all_back P [] ys h = h
-all_back P (x ∷ xs) ys h = all_back P xs ys h.1
-
-short_below : (i n : ℕ) (f : Field) (ls : List Leaf) → AllByRecursion (λ (l : Leaf). length l.steps ≤ suc n) (map (below i f) ls) → AllByRecursion (λ (l : Leaf). length l.steps ≤ n) ls
-short_below i n f [] h = tt
-short_below i n f (l ∷ ls) h = (omega (arith, h.0), short_below i n f ls h.1)
-
-none_short : (i : ℕ) (f : Field) (ls : List Leaf) → 0 < length ls → AllByRecursion (λ (l : Leaf). length l.steps ≤ 0) (map (below i f) ls) → ⊥
-none_short i f [] lt h = omega (arith, lt)
-none_short i f (l ∷ ls) lt h = omega (arith, h.0)
-
-mutual
-  tall_at : (f : Field) (n : ℕ) → IsValid f → AllByRecursion (λ (l : Leaf). length l.steps ≤ n) (leaves f) → tall f ≤ suc n
-  tall_at (leaf x r t) n v h = omega arith
-  tall_at (fields x r a fs) n v h = let k = tallest_at fs 0 n v.1 h in omega (arith, k)
-
-  pub tallest_at : (fs : Fields) (i n : ℕ) → AreValid fs → AllByRecursion (λ (l : Leaf). length l.steps ≤ n) (leaves_from i fs) → tallest fs ≤ n
-  tallest_at no_fields i n v h = omega arith
-  tallest_at (field f fs) i zero v h = absurd (none_short i f (leaves f) (has_leaf f v.0) (all_front _ (map (below i f) (leaves f)) (leaves_from (suc i) fs) h))
-  tallest_at (field f fs) i (suc n) v h =
-      let here = tall_at f n v.0 (short_below i n f (leaves f) (all_front _ (map (below i f) (leaves f)) (leaves_from (suc i) fs) h)) in
-      let rest = tallest_at fs (suc i) (suc n) v.1 (all_back _ (map (below i f) (leaves f)) (leaves_from (suc i) fs) h) in
-      omega (arith, here, rest)
 
 -- the stripes of a row begin with levels 0
 abbrev RowStarts : Fields → Leaf → Type 0
@@ -267,6 +237,10 @@ other_number fs rows cs h = sym (length-map (leaves_of fs) (λ (l : Leaf). colum
 
 -- results
 module _ {A : Type 0} (S : A → List Entry → Type 0) (R : A → Option Refusal) where
+  pub next_to_err : {K : Type 0} (shows : K → List Token → Type 0) (fs : Fields) (old new : List A) (from to : K) (r : Result Bool Refusal) (e : Refusal) → IsErrAnd r (λ f. f ≡ e) → IsRefusedFor S R old new (HasFault fs) e → NextRowTo S R shows fs old new from to r
+  next_to_err shows fs old new from to (Ok x) e is h = absurd is
+  next_to_err shows fs old new from to (Err f) e is h = subst (IsRefusedFor S R old new (HasFault fs)) (sym is) h
+
   pub next_err : (fs : Fields) (old new : List A) (r : Result (Option Row) Refusal) (e : Refusal) → IsErrAnd r (λ f. f ≡ e) → IsRefusedFor S R old new (HasFault fs) e → NextRow S R fs old new r
   next_err fs old new (Ok x) e is h = absurd is
   next_err fs old new (Err f) e is h = subst (IsRefusedFor S R old new (HasFault fs)) (sym is) h

@@ -11,7 +11,7 @@ use Rattle.assemble.specs.Sources.{Same, Precede, NothingStands, Refuses, Keeps}
 use Rattle.assemble.specs.Columns.{Columns, IsAmong, Tells}
 use Rattle.assemble.specs.Standing.{AllStand, AllSame, IsRefusedFor}
 use Rattle.assemble.specs.inner.Steps.{IsSourceRefusedFor}
-use Rattle.assemble.proofs.Slices.{tail_is, tail_put}
+use Rattle.schema.proofs.Slices.{tail_is, tail_put}
 use Rattle.assemble.proofs.Told.{tells_more}
 
 -- es stands in front of column i, and the other columns are the same

@@ -17,14 +17,14 @@ use Rattle.schema.proofs.Determined.{At-whole}
 use Rattle.assemble.specs.Sources.{Precede}
 use Rattle.assemble.specs.Columns.{Columns, Fronts}
 use Rattle.assemble.specs.Standing.{AllStand, AllSame, Onward, Backward}
+use Rattle.assemble.specs.inner.Building.{snoc}
 use Rattle.assemble.specs.inner.Fronts.{stripes, stripes_inside, stripes_items, stripes_each, nones, Fit, FitInside, FitItems, FitEach}
 use Rattle.assemble.specs.inner.ReadValues.{IsRead, Reads}
-use Rattle.assemble.specs.inner.Steps.{IsMissing, HasItem, first_of}
+use Rattle.assemble.specs.inner.Steps.{missing_value, IsMissing, HasItem, first_of}
 use Rattle.assemble.proofs.Standing.{At, stand_on, stand_back, set_on, set_back, part_stands, put_stands, put_part, put_back, put_long}
-use Rattle.assemble.proofs.Readings.{read_required, read_present, present_fits, present_stripes, read_list, all_fit, fits_by, stripes_as, read_missing, missing_value, missing_fits, missing_stripes}
+use Rattle.assemble.proofs.Readings.{read_required, read_present, present_fits, present_stripes, read_list, all_fit, fits_by, stripes_as, read_missing, missing_fits, missing_stripes}
 use Rattle.assemble.proofs.Groups.{group_stripes, read_group, read_leaf_at}
 use Rattle.assemble.proofs.Items as items
-use Rattle.assemble.proofs.Items.{snoc}
 use Rattle.assemble.proofs.Each as each
 use Rattle.assemble.proofs.Each.{drop_front, take_front}
 

@@ -1,5 +1,6 @@
 pub mod Sources
 pub mod Cursors
+pub mod Sinks
 pub mod Columns
 pub mod Standing
 pub mod RowsOf

@@ -1,5 +1,5 @@
 -- The rows that columns have: parquet.apache.org, "Nested Encoding".
-use Rattle.std.specs.Prelude.{◌≡◌, List, [], ◌∷◌, map, ◌⊎◌, ◌<◌, length, Option, Some, None, Result, Ok, Err}
+use Rattle.std.specs.Prelude.{◌≡◌, List, [], ◌∷◌, map, ◌⊎◌, ◌<◌, length, Bool, true, false, Option, Some, None, Result, Ok, Err}
 use Rattle.bits.specs.declared.refusal.Refusal.{Refusal}
 use Rattle.bits.specs.declared.refusal.Refusal.TheVariants.{Limit}
 use Rattle.schema.specs.declared.row.Row.{Row}
@@ -8,6 +8,7 @@ use Rattle.schema.specs.Shape.{Fields}
 use Rattle.schema.specs.Fits.{RowsFit}
 use Rattle.schema.specs.Stripe.{Entry, Leaf, leaves_of, columns}
 use Rattle.schema.specs.Views.{row_view}
+use Rattle.assemble.specs.Sinks.{Token, tokens_each, Visits}
 use Rattle.assemble.specs.Columns.{Columns, AreAlike, Fronts, Want, AllSuit, Tells}
 use Rattle.assemble.specs.Standing.{AllStand, AllSame, Onward, Backward, IsRefusedFor}
 
@@ -36,12 +37,20 @@ pub record IsFirstRow (fs : Fields) (row : ValueTrees) (old new : Columns) : Typ
       (rows : List ValueTrees) → RowsFit fs rows → AreAlike (columns fs rows) old
       → (rest : List ValueTrees) × (RowsFit fs rest × AreAlike (columns fs rest) new)
 
+-- the columns begin with those of a row that fits, and no other row has their levels
+abbrev pub IsNextRow : {A : Type 0} → (A → List Entry → Type 0) → Fields → List A → List A → ValueTrees → Type 0
+IsNextRow S fs old new row = RowsFit fs (row ∷ []) × (Onward S old new (IsFirstRow fs row) × Backward S old new (Fronts (columns fs (row ∷ []))))
+
+-- the next row is shown, or there is none: the sources stand for the columns of no rows, and nothing is shown
+abbrev pub NextRowTo : {A K : Type 0} → (A → List Entry → Type 0) → (A → Option Refusal) → (K → List Token → Type 0) → Fields → List A → List A → K → K → Result Bool Refusal → Type 0
+NextRowTo S refused shows fs old new from to (Ok false) = (map refused new ≡ map refused old) × (AllStand S old (columns fs []) × (AllSame S old new × (to ≡ from)))
+NextRowTo S refused shows fs old new from to (Ok true) = (map refused new ≡ map refused old) × Visits (shows from) (shows to) tokens_each (IsNextRow S fs old new)
+NextRowTo S refused shows fs old new from to (Err e) = IsRefusedFor S refused old new (HasFault fs) e
+
 -- the next row, or none where the sources stand for the columns of no rows
 abbrev pub NextRow : {A : Type 0} → (A → List Entry → Type 0) → (A → Option Refusal) → Fields → List A → List A → Result (Option Row) Refusal → Type 0
 NextRow S refused fs old new (Ok None) = (map refused new ≡ map refused old) × (AllStand S old (columns fs []) × AllSame S old new)
-NextRow S refused fs old new (Ok (Some row)) =
-    (map refused new ≡ map refused old)
-    × (RowsFit fs (row_view row ∷ []) × (Onward S old new (IsFirstRow fs (row_view row)) × Backward S old new (Fronts (columns fs (row_view row ∷ [])))))
+NextRow S refused fs old new (Ok (Some row)) = (map refused new ≡ map refused old) × IsNextRow S fs old new (row_view row)
 NextRow S refused fs old new (Err e) = IsRefusedFor S refused old new (HasFault fs) e
 
 -- a column has more entries than it may have

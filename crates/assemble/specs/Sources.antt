@@ -1,14 +1,16 @@
 -- What a source of entries gives. What it would still give is a relation: it stands for a list of entries, or for nothing where it will be refused.
-use Rattle.std.specs.Prelude.{◌≡◌, ℕ, List, [], ◌∷◌, ◌++◌, Option, Some, None, Result, Ok, Err, ⊤}
+use Rattle.std.specs.Prelude.{◌≡◌, ℕ, List, [], ◌∷◌, ◌++◌, Option, Some, None, MatchOption, Result, Ok, Err, ⊤, true}
 use Rattle.std.specs.Borrow.{follows_so, Fml, RattleType, MutBor}
 use mathlib.Core.Option.{none}
 use Rattle.bits.specs.declared.refusal.Refusal.{Refusal}
 use Rattle.bits.specs.declared.refusal.Refusal.TheVariants.{Memory}
 use Rattle.bits.specs.declared.fault.Fault.{Fault}
 use Rattle.bits.specs.Faults.{refusal_of}
+use Rattle.schema.specs.Annotations.{LeafType}
+use Rattle.schema.specs.Fits.{fits_leaf}
 use Rattle.schema.specs.Stripe.{Entry}
 use Rattle.schema.specs.declared.borrowed.EntryRef.{EntryRef}
-use Rattle.schema.specs.Borrowed.{entry_ref_view}
+use Rattle.schema.specs.Borrowed.{value_ref_view, entry_ref_view}
 
 -- which entries stand
 abbrev pub Stands : Type 1
@@ -77,3 +79,8 @@ abbrev pub Takes : Stands → Stands → Option Refusal → Option Refusal → R
 Takes S T old new (Ok (Some e)) = Precede (entry_ref_view e ∷ []) S T × (new ≡ old)
 Takes S T old new (Ok None) = Same S T × (new ≡ old)
 Takes S T old new (Err e) = Same S T × Keeps old new (refusal_of e)
+
+-- a value that is given fits each leaf type that was checked
+abbrev pub Suited : (LeafType → Type 0) → Result (Option EntryRef) Fault → Type 0
+Suited checked (Ok (Some e)) = (t : LeafType) → checked t → MatchOption e.value (Unit {0}) (λ v. fits_leaf t (value_ref_view v) ≡ true)
+Suited checked _ = Unit {0}

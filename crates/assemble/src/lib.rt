@@ -6,10 +6,14 @@
 #![tactic(auto)]
 
 mod cursor;
+mod fits;
 mod reading;
+mod row_builder;
 mod rows;
+mod sink;
 mod source;
 
 pub use cursor::Cursor;
-pub use rows::{assemble, assemble_from, next_row};
+pub use rows::{assemble, assemble_from, count_rows, next_row, next_row_to};
+pub use sink::{Discard, RowSink};
 pub use source::EntrySource;

@@ -1,23 +1,25 @@
-//! Values off the fronts of columns: each leaf's column begins with the stripe of the value.
+//! Values off the fronts of columns: each leaf's column begins with the stripe of the value, and a sink is
+//! shown the value.
 
-ghost use Rattle.std.specs.Prelude.{◌≡◌, ◌+◌, ◌<◌, ◌≤◌, ◌^◌, length, map, true, Some, None, IfOk, OnOk, IfErr, option_map};
-ghost use Rattle.schema.specs.Values.{view, views};
-ghost use Rattle.schema.specs.Views.{entry_view, leaf_type_view, field_view, field_views};
-ghost use Rattle.schema.specs.Fits.{fits_leaf};
+ghost use Rattle.std.specs.Prelude.{◌≡◌, ◌==◌, ◌&&◌, ◌+◌, ◌<◌, ◌≤◌, ◌^◌, length, map, true, None, IfOk, OnOk, IfErr};
+ghost use Rattle.schema.specs.Views.{leaf_type_view, field_view, field_views};
 ghost use Rattle.schema.specs.Law.{IsValid, AreValid};
 ghost use Rattle.schema.specs.Stripe.{entry};
 ghost use Rattle.schema.specs.Reading.{tall, tallest, count_leaves, count_leaves_each};
 ghost use Rattle.assemble.specs.Sources.{Precede};
+ghost use Rattle.assemble.specs.Sinks.{Adds, Visits, tokens, tokens_each};
 ghost use Rattle.assemble.specs.Columns.{Columns, Fronts};
 ghost use Rattle.assemble.specs.Standing.{AllStand, AllSame, Onward, Backward, IsRefusedFor};
 ghost use Rattle.assemble.specs.inner.Fronts.{nones};
 ghost use Rattle.assemble.specs.inner.ReadValues.{ReadsField, ReadsInside, ReadsItems, ReadsEach, IsFieldFaulty, IsInsideFaulty, AreItemsFaulty, AreEachFaulty};
-ghost use Rattle.assemble.specs.inner.Steps.{IsMemory, IsTaken, IsSourceRefusedFor, IsNotAt, IsLeafFaulty, IsAbsentFaulty, IsSkipFaulty, IsMissing, NoneLeft, HasItem, first_of};
+ghost use Rattle.assemble.specs.inner.Steps.{IsMemory, ReadsLeaf, missing_value, IsSourceRefusedFor, IsLeafFaulty, IsAbsentFaulty, IsSkipFaulty, IsMissing, NoneLeft, HasItem, first_of};
 
+use crate::fits::fits;
+use crate::sink::RowSink;
 use crate::source::EntrySource;
 use bits::{R, Refusal};
-use schema::{Entry, Field, LeafType, Repetition, Value};
-use std::alloc::Global;
+use schema::{EntryRef, Field, LeafType, Repetition, ValueRef};
+use std::alloc::AllocError;
 
 /// Where a value stands: the levels of its first entry, and the number of REPEATED fields passed.
 #[derive(Debug, Clone, Copy)]
@@ -27,60 +29,51 @@ pub struct Place {
     pub own: u32,
 }
 
-/// The next entry, taken. The bytes of its value are copied once.
-fn taken<S: EntrySource>(alloc: Global, source: &mut S) -> R<Option<Entry>>
-    ensures taken { IfOk result (λ o. IsTaken (S.stands source.old) (S.stands source.new) (option_map entry_view o)) }
-    ensures refused { IfErr result (IsSourceRefusedFor S.stands S.refused source.old source.new (λ _. IsMemory)) }
-    ensures kept { OnOk result (S.refused source.new ≡ S.refused source.old) }
-{
-    match source.next()? {
-        None => Ok(None),
-        Some(entry) => Ok(Some(entry.to_entry(alloc)?)),
+impl Place {
+    /// Whether an entry has these levels.
+    fn is_of(self, entry: &EntryRef<'_>) -> bool
+        ensures { result ≡ (entry.now.repetition == self.repetition && entry.now.definition == self.definition) }
+    {
+        self.repetition == entry.repetition && self.definition == entry.definition
     }
 }
 
-/// The next entry, which has these levels.
-fn entry_at<S: EntrySource>(alloc: Global, source: &mut S, place: Place) -> R<Option<Value>>
-    ensures first { IfOk result (λ o. Precede (entry place.repetition place.definition (option_map view o)) (S.stands source.old) (S.stands source.new)) }
-    ensures refused { IfErr result (IsSourceRefusedFor S.stands S.refused source.old source.new (IsNotAt place.repetition place.definition)) }
+/// Takes the next entry, which has these levels and a value that fits, and shows the value.
+fn read_leaf<S: EntrySource, K: RowSink>(
+    leaf_type: &LeafType,
+    place: Place,
+    source: &mut S,
+    sink: &mut K,
+) -> R<()>
+    ensures reads { OnOk result (Visits (K.shows sink.old) (K.shows sink.new) tokens (ReadsLeaf (leaf_type_view leaf_type.now) place.repetition place.definition (S.stands source.old) (S.stands source.new))) }
+    ensures refused { IfErr result (IsSourceRefusedFor S.stands S.refused source.old source.new (IsLeafFaulty place.repetition place.definition (leaf_type_view leaf_type.now))) }
     ensures kept { OnOk result (S.refused source.new ≡ S.refused source.old) }
 {
-    match taken(alloc, source)? {
-        Some(entry)
-            if entry.repetition == place.repetition && entry.definition == place.definition => {
-            Ok(entry.value)
-        }
+    let checked = source.has_checked(leaf_type);
+    match source.next()? {
+        Some(entry) if place.is_of(&entry) => match entry.value {
+            Some(value) if checked || fits(leaf_type, value) => {
+                sink.value(value)?;
+                Ok(())
+            }
+            _ => Err(Refusal::Value),
+        },
         _ => Err(Refusal::Levels),
     }
 }
 
-/// The value of the next entry, which has these levels and fits.
-fn read_leaf<S: EntrySource>(
-    alloc: Global,
-    leaf_type: &LeafType,
-    place: Place,
-    source: &mut S,
-) -> R<Value>
-    ensures fits { IfOk result (λ v. fits_leaf (leaf_type_view leaf_type.now) (view v) ≡ true) }
-    ensures first { IfOk result (λ v. Precede (entry place.repetition place.definition (Some (view v))) (S.stands source.old) (S.stands source.new)) }
-    ensures refused { IfErr result (IsSourceRefusedFor S.stands S.refused source.old source.new (IsLeafFaulty place.repetition place.definition (leaf_type_view leaf_type.now))) }
-    ensures kept { OnOk result (S.refused source.new ≡ S.refused source.old) }
-{
-    match entry_at(alloc, source, place)? {
-        Some(value) if leaf_type.fits(&value) => Ok(value),
-        _ => Err(Refusal::Value),
-    }
-}
-
 /// Takes the next entry, which has these levels and no value.
-fn read_absent<S: EntrySource>(alloc: Global, place: Place, source: &mut S) -> R<()>
+fn read_absent<S: EntrySource>(place: Place, source: &mut S) -> R<()>
     ensures first { IfOk result (λ _. Precede (entry place.repetition place.definition None) (S.stands source.old) (S.stands source.new)) }
     ensures refused { IfErr result (IsSourceRefusedFor S.stands S.refused source.old source.new (IsAbsentFaulty place.repetition place.definition)) }
     ensures kept { OnOk result (S.refused source.new ≡ S.refused source.old) }
 {
-    match entry_at(alloc, source, place)? {
-        None => Ok(()),
-        Some(_) => Err(Refusal::Value),
+    match source.next()? {
+        Some(entry) if place.is_of(&entry) => match entry.value {
+            None => Ok(()),
+            Some(_) => Err(Refusal::Value),
+        },
+        _ => Err(Refusal::Levels),
     }
 }
 
@@ -109,7 +102,7 @@ fn count_leaves_each(fields: &[Field]) -> usize
 }
 
 /// Takes an entry without a value off each of the first columns.
-fn skip<S: EntrySource>(alloc: Global, count: usize, place: Place, sources: &mut [S]) -> R<()>
+fn skip<S: EntrySource>(count: usize, place: Place, sources: &mut [S]) -> R<()>
     requires { count ≤ length sources.old }
     ensures onward { IfOk result (λ _. Onward S.stands sources.old sources.new (Fronts (nones place.repetition place.definition count))) }
     ensures backward { IfOk result (λ _. Backward S.stands sources.old sources.new (Fronts (nones place.repetition place.definition count))) }
@@ -117,7 +110,7 @@ fn skip<S: EntrySource>(alloc: Global, count: usize, place: Place, sources: &mut
     ensures kept { OnOk result (map S.refused sources.new ≡ map S.refused sources.old) }
 {
     for i in 0..count {
-        read_absent(alloc, place, &mut sources[i])?;
+        read_absent(place, &mut sources[i])?;
     }
     Ok(())
 }
@@ -150,78 +143,77 @@ pub fn has_item<S: EntrySource>(own: u32, sources: &mut [S]) -> R<bool>
     }
 }
 
-/// What the value of a field is, its repetition aside, and how many leaves the field has.
+/// Shows what the value of a field is, its repetition aside, and returns how many leaves the field has.
 #[cycle(read)]
-fn read_inside<S: EntrySource>(
-    alloc: Global,
+fn read_inside<S: EntrySource, K: RowSink>(
     field: &Field,
     place: Place,
     sources: &mut [S],
-) -> R<(Value, usize)>
+    sink: &mut K,
+) -> R<usize>
     requires valid { IsValid (field_view field.now) }
     requires room { count_leaves (field_view field.now) ≤ length sources.old }
     requires deep { place.definition + tall (field_view field.now) ≤ 2 ^ 32 }
     requires own { place.own ≤ place.definition }
-    ensures reads { IfOk result (λ x. ReadsInside S.stands (field_view field.now) place sources.old sources.new (view x.0)) }
+    ensures reads { OnOk result (Visits (K.shows sink.old) (K.shows sink.new) tokens (ReadsInside S.stands (field_view field.now) place sources.old sources.new)) }
     ensures refused { IfErr result (IsRefusedFor S.stands S.refused sources.old sources.new (IsInsideFaulty (field_view field.now) place)) }
     ensures kept { OnOk result (map S.refused sources.new ≡ map S.refused sources.old) }
-    ensures used { IfOk result (λ x. x.1 ≡ count_leaves (field_view field.now)) }
+    ensures used { IfOk result (λ used. used ≡ count_leaves (field_view field.now)) }
 {
     match field {
         Field::Leaf { leaf_type, .. } => {
-            let value = read_leaf(alloc, leaf_type, place, &mut sources[0])?;
-            Ok((value, 1))
+            read_leaf(leaf_type, place, &mut sources[0], sink)?;
+            Ok(1)
         }
         Field::Group { fields, .. } => {
-            let (values, used) = read_fields(alloc, fields.as_slice(), place, sources)?;
-            Ok((Value::Group(values), used))
+            sink.begin_group()?;
+            let used = read_fields(fields.as_slice(), place, sources, sink)?;
+            sink.end_group()?;
+            Ok(used)
         }
     }
 }
 
-/// The values of some fields, and how many leaves they have.
+/// Shows the values of some fields, and returns how many leaves they have.
 #[cycle(read)]
-pub fn read_fields<S: EntrySource>(
-    alloc: Global,
+pub fn read_fields<S: EntrySource, K: RowSink>(
     fields: &[Field],
     place: Place,
     sources: &mut [S],
-) -> R<(Vec<Value>, usize)>
+    sink: &mut K,
+) -> R<usize>
     requires valid { AreValid (field_views fields.now) }
     requires room { count_leaves_each (field_views fields.now) ≤ length sources.old }
     requires deep { place.definition + tallest (field_views fields.now) < 2 ^ 32 }
     requires own { place.own ≤ place.definition }
-    ensures reads { IfOk result (λ x. ReadsEach S.stands (field_views fields.now) place sources.old sources.new (views x.0.items)) }
+    ensures reads { OnOk result (Visits (K.shows sink.old) (K.shows sink.new) tokens_each (ReadsEach S.stands (field_views fields.now) place sources.old sources.new)) }
     ensures refused { IfErr result (IsRefusedFor S.stands S.refused sources.old sources.new (AreEachFaulty (field_views fields.now) place)) }
     ensures kept { OnOk result (map S.refused sources.new ≡ map S.refused sources.old) }
-    ensures used { IfOk result (λ x. x.1 ≡ count_leaves_each (field_views fields.now)) }
+    ensures used { IfOk result (λ used. used ≡ count_leaves_each (field_views fields.now)) }
 {
-    let mut values = Vec::new(alloc);
     let mut used = 0;
     for field in fields {
-        let (value, more) = read_field(alloc, field, place, &mut sources[used..])?;
-        values.push(value)?;
-        used += more;
+        used += read_field(field, place, &mut sources[used..], sink)?;
     }
-    Ok((values, used))
+    Ok(used)
 }
 
-/// The items of a list, one at least, and how many leaves the field has.
+/// Shows the items of a list, one at least, and returns how many leaves the field has.
 #[cycle(read)]
-fn read_items<S: EntrySource>(
-    alloc: Global,
+fn read_items<S: EntrySource, K: RowSink>(
     field: &Field,
     place: Place,
     sources: &mut [S],
-) -> R<(Vec<Value>, usize)>
+    sink: &mut K,
+) -> R<usize>
     requires valid { IsValid (field_view field.now) }
     requires room { count_leaves (field_view field.now) ≤ length sources.old }
     requires deep { place.definition + tall (field_view field.now) < 2 ^ 32 }
     requires own { place.own ≤ place.definition }
-    ensures reads { IfOk result (λ x. ReadsItems S.stands (field_view field.now) place sources.old sources.new (views x.0.items)) }
+    ensures reads { OnOk result (Visits (K.shows sink.old) (K.shows sink.new) tokens_each (ReadsItems S.stands (field_view field.now) place sources.old sources.new)) }
     ensures refused { IfErr result (IsRefusedFor S.stands S.refused sources.old sources.new (AreItemsFaulty (field_view field.now) place)) }
     ensures kept { OnOk result (map S.refused sources.new ≡ map S.refused sources.old) }
-    ensures used { IfOk result (λ x. x.1 ≡ count_leaves (field_view field.now)) }
+    ensures used { IfOk result (λ used. used ≡ count_leaves (field_view field.now)) }
 {
     let definition = place.definition + 1;
     let own = place.own + 1;
@@ -235,58 +227,67 @@ fn read_items<S: EntrySource>(
         definition,
         own,
     };
-    let mut items = Vec::new(alloc);
-    let (item, used) = read_inside(alloc, field, first, sources)?;
-    items.push(item)?;
+    let used = read_inside(field, first, sources, sink)?;
     'more: for _ in 0..u64::MAX {
         if !has_item(own, sources)? {
-            return Ok((items, used));
+            return Ok(used);
         }
-        let (item, _) = read_inside(alloc, field, later, sources)?;
-        items.push(item)?;
+        read_inside(field, later, sources, sink)?;
     }
-    // Never reached: no vector has as many items.
+    // Never reached: no list has as many items.
     Err(Refusal::Memory)
 }
 
-/// The value of a field, and how many leaves the field has.
+/// Shows the value of a field, and returns how many leaves the field has.
 #[cycle(read)]
-fn read_field<S: EntrySource>(
-    alloc: Global,
+fn read_field<S: EntrySource, K: RowSink>(
     field: &Field,
     place: Place,
     sources: &mut [S],
-) -> R<(Value, usize)>
+    sink: &mut K,
+) -> R<usize>
     requires valid { IsValid (field_view field.now) }
     requires room { count_leaves (field_view field.now) ≤ length sources.old }
     requires deep { place.definition + tall (field_view field.now) < 2 ^ 32 }
     requires own { place.own ≤ place.definition }
-    ensures reads { IfOk result (λ x. ReadsField S.stands (field_view field.now) place sources.old sources.new (view x.0)) }
+    ensures reads { OnOk result (Visits (K.shows sink.old) (K.shows sink.new) tokens (ReadsField S.stands (field_view field.now) place sources.old sources.new)) }
     ensures refused { IfErr result (IsRefusedFor S.stands S.refused sources.old sources.new (IsFieldFaulty (field_view field.now) place)) }
     ensures kept { OnOk result (map S.refused sources.new ≡ map S.refused sources.old) }
-    ensures used { IfOk result (λ x. x.1 ≡ count_leaves (field_view field.now)) }
+    ensures used { IfOk result (λ used. used ≡ count_leaves (field_view field.now)) }
 {
     let repetition = field.repetition();
     if let Repetition::Required = repetition {
-        return read_inside(alloc, field, place, sources);
+        return read_inside(field, place, sources, sink);
     }
     if is_missing(place.definition, sources)? {
         let count = count_leaves(field);
-        skip(alloc, count, place, sources)?;
-        let value = match repetition {
-            Repetition::Repeated => Value::List(Vec::new(alloc)),
-            _ => Value::Null,
-        };
-        return Ok((value, count));
+        skip(count, place, sources)?;
+        show_missing(repetition, sink)?;
+        return Ok(count);
     }
     if let Repetition::Repeated = repetition {
-        let (items, used) = read_items(alloc, field, place, sources)?;
-        return Ok((Value::List(items), used));
+        sink.begin_list()?;
+        let used = read_items(field, place, sources, sink)?;
+        sink.end_list()?;
+        return Ok(used);
     }
     let there = Place {
         repetition: place.repetition,
         definition: place.definition + 1,
         own: place.own,
     };
-    read_inside(alloc, field, there, sources)
+    read_inside(field, there, sources, sink)
+}
+
+/// Shows the value of an OPTIONAL or REPEATED field that is missing.
+fn show_missing<K: RowSink>(repetition: Repetition, sink: &mut K) -> Result<(), AllocError>
+    ensures shown { OnOk result (Adds (K.shows sink.old) (K.shows sink.new) (tokens (missing_value repetition))) }
+{
+    match repetition {
+        Repetition::Repeated => {
+            sink.begin_list()?;
+            sink.end_list()
+        }
+        _ => sink.value(ValueRef::Null),
+    }
 }

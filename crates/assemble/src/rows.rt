@@ -6,11 +6,13 @@ ghost use Rattle.schema.specs.Values.{ValueTrees};
 ghost use Rattle.schema.specs.Views.{rows_view, columns_view};
 ghost use Rattle.assemble.specs.Columns.{Tells};
 ghost use Rattle.assemble.specs.Standing.{AllStand, AllSame, NoneStand, IsRefusedFor};
-ghost use Rattle.assemble.specs.RowsOf.{AreRowsOf, StandForRows, HasFault, NextRow, IsTooLong, IsRefusedAs};
+ghost use Rattle.assemble.specs.RowsOf.{AreRowsOf, StandForRows, HasFault, NextRowTo, NextRow, IsTooLong, IsRefusedAs};
 ghost use Rattle.assemble.specs.inner.Steps.{Ended, Filled};
 
 use crate::cursor::Cursor;
 use crate::reading::{Place, has_item, read_fields};
+use crate::row_builder::RowBuilder;
+use crate::sink::{Discard, RowSink};
 use crate::source::EntrySource;
 use bits::{R, Refusal};
 use schema::{Column, Row, Schema};
@@ -35,6 +37,33 @@ fn check_ended<S: EntrySource>(sources: &mut [S]) -> R<()>
     Ok(())
 }
 
+/// Shows a sink the values of the next row. Returns false at the end of all columns.
+///
+/// Refused as [`next_row`]. After a refusal the sink may have been shown a part of the row.
+pub fn next_row_to<S: EntrySource, K: RowSink>(
+    schema: &Schema,
+    sources: &mut [S],
+    sink: &mut K,
+) -> R<bool>
+    ensures row { NextRowTo S.stands S.refused K.shows schema.now sources.old sources.new sink.old sink.new result }
+{
+    let leaves = schema.leaves();
+    if sources.len() != leaves.len() || sources.is_empty() {
+        return Err(Refusal::Levels);
+    }
+    if !has_item(0, sources)? {
+        check_ended(sources)?;
+        return Ok(false);
+    }
+    let start = Place {
+        repetition: 0,
+        definition: 0,
+        own: 0,
+    };
+    read_fields(schema.fields(), start, sources, sink)?;
+    Ok(true)
+}
+
 /// The next row, or none at the end of all columns. The bytes of each value are copied once.
 ///
 /// Refused with a source's own refusal; Levels where no rows have the levels of what the sources stand
@@ -43,21 +72,30 @@ fn check_ended<S: EntrySource>(sources: &mut [S]) -> R<()>
 pub fn next_row<S: EntrySource>(alloc: Global, schema: &Schema, sources: &mut [S]) -> R<Option<Row>>
     ensures row { NextRow S.stands S.refused schema.now sources.old sources.new result }
 {
-    let leaves = schema.leaves();
-    if sources.len() != leaves.len() || sources.is_empty() {
-        return Err(Refusal::Levels);
+    let mut builder = RowBuilder::new(alloc, schema.fields().len())?;
+    if next_row_to(schema, sources, &mut builder)? {
+        Ok(Some(builder.into_row()))
+    } else {
+        Ok(None)
     }
-    if !has_item(0, sources)? {
-        check_ended(sources)?;
-        return Ok(None);
+}
+
+/// The number of rows whose columns the sources stand for, in one pass that makes no rows: whether
+/// [`assemble_from`] would make them.
+///
+/// Refused as [`next_row`].
+pub fn count_rows<S: EntrySource>(schema: &Schema, sources: &mut [S]) -> R<u64>
+    ensures stands { IfOk result (λ count. (rows : List ValueTrees) × ((length rows ≡ count) × StandForRows S.stands sources.old schema.now rows)) }
+    ensures only { OnFault result ((rows : List ValueTrees) → StandForRows S.stands sources.old schema.now rows → ⊥) }
+    ensures which { IfErr result (IsRefusedFor S.stands S.refused sources.old sources.new (HasFault schema.now)) }
+{
+    for count in 0..u64::MAX {
+        if !next_row_to(schema, sources, &mut Discard)? {
+            return Ok(count);
+        }
     }
-    let start = Place {
-        repetition: 0,
-        definition: 0,
-        own: 0,
-    };
-    let (values, _) = read_fields(alloc, schema.fields(), start, sources)?;
-    Ok(Some(Row { values }))
+    // Never reached: no machine counts as far.
+    Err(Refusal::Memory)
 }
 
 /// All rows whose columns the sources stand for, in one pass.

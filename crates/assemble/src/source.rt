@@ -1,13 +1,15 @@
 //! What gives the entries of a column one by one.
 
-ghost use Rattle.std.specs.Prelude.{◌≡◌, List, Option};
+ghost use Rattle.std.specs.Prelude.{◌≡◌, List, Option, IsTrue};
 ghost use Rattle.std.specs.Borrow.{sem};
 ghost use Rattle.bits.specs.declared.refusal.Refusal.{Refusal};
+ghost use Rattle.schema.specs.Annotations.{LeafType};
 ghost use Rattle.schema.specs.Stripe.{Entry};
-ghost use Rattle.assemble.specs.Sources.{Rests, Shows, Stays, Gives, Takes};
+ghost use Rattle.schema.specs.Views.{leaf_type_view};
+ghost use Rattle.assemble.specs.Sources.{Rests, Shows, Stays, Gives, Takes, Suited};
 
 use bits::{Fault, R};
-use schema::EntryRef;
+use schema::{EntryRef, LeafType};
 
 /// What gives the entries of one leaf's column one by one, and may read them as it goes.
 ///
@@ -21,6 +23,17 @@ pub trait EntrySource {
     /// The refusal that it returns from now on.
     ghost refused: { Self → Option Refusal };
 
+    /// Whether the values that it gives fit this leaf type.
+    ghost checked: { Self → LeafType → Type 0 } = { λ _ _. ⊥ };
+
+    /// Whether it promises that the values that it gives fit this leaf type, so that nothing is checked
+    /// twice. A source that promises nothing leaves this out.
+    fn has_checked(&self, leaf_type: &LeafType) -> bool
+        ensures promised { IsTrue result → checked self.now (leaf_type_view leaf_type.now) }
+    {
+        false
+    }
+
     /// The levels of the next entry, repetition first, or none at the end. No entry is taken.
     fn peek(&mut self) -> R<Option<(u32, u32)>>
         ensures shows { Shows (stands self.old) (refused self.old) result }
@@ -29,6 +42,7 @@ pub trait EntrySource {
     /// The next entry, which is taken, or none at the end.
     fn next(&mut self) -> Result<Option<EntryRef<'_>>, Fault>
         ensures gives { Gives (stands self.old) (refused self.old) result }
+        ensures suited { Suited (checked self.old) result }
         ensures* takes { sem 𝓛 (Rests Self.row self.entry (λ new. Takes (stands self.old) (stands new) (refused self.old) (refused new) result)) };
 
     /// The law that a source stands for at most one list of entries.

@@ -31,6 +31,8 @@ mod key_columns;
 #[cfg(test)]
 mod keys_and_folders;
 #[cfg(test)]
+mod nested_round_trips;
+#[cfg(test)]
 mod page_bytes;
 #[cfg(test)]
 mod pages_not_read_yet;

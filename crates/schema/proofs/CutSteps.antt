@@ -21,7 +21,7 @@ group_some n r a [] h = absurd (h refl)
 group_some n r a (f ∷ fs) h = refl
 
 mutual
-  count_is : (f : Field) → count_leaves f ≡ length (leaves f)
+  pub count_is : (f : Field) → count_leaves f ≡ length (leaves f)
   count_is (leaf n r t) = refl
   count_is (fields n r a fs) = counts_are 0 fs
 

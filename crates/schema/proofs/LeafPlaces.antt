@@ -1,12 +1,12 @@
 -- Fields, leaves and values at places, with the keys and without them.
-use Rattle.std.proofs.Common.{◌≡◌, ℕ, zero, suc, ◌+◌, ◌-◌, ◌<◌, ◌≤◌, Bool, true, false, not, ◌&&◌, ◌||◌, nat_eq, nat_lt, List, [], ◌∷◌, ◌++◌, length, map, Option, Some, None, IsTrue, refl, ap, sym, ◌∙◌, subst, arith, add-zero, eqb-true}
-use Rattle.std.specs.Prelude.{cond, if◌then◌else◌, count_by}
-use Rattle.std.specs.List.{slice_get, AllByRecursion}
+use Rattle.std.proofs.Common.{◌≡◌, ℕ, zero, suc, ◌+◌, Bool, true, false, ◌||◌, nat_eq, nat_lt, List, [], ◌∷◌, ◌++◌, length, map, Some, refl, ap, sym, ◌∙◌, subst, arith, add-zero, eqb-true}
+use Rattle.std.specs.Prelude.{cond, count_by}
+use Rattle.std.specs.List.{slice_get}
 use Rattle.std.proofs.lemmas.Bool.Decides.{nat_tests}
 use Rattle.std.proofs.lemmas.List.Sums.{sum_by-cons}
-use Rattle.schema.specs.Values.{ValueTree, null, ValueTrees, no_values, value as item, member_at}
-use Rattle.schema.specs.Shape.{Field, leaf, fields, Fields, no_fields, field}
-use Rattle.schema.specs.Stripe.{Step, Leaf, leaves, leaves_from, leaf_at, below}
+use Rattle.schema.specs.Values.{null, ValueTrees, no_values, value as item, member_at}
+use Rattle.schema.specs.Shape.{Field, Fields, no_fields, field}
+use Rattle.schema.specs.Stripe.{Leaf, leaves, leaves_from, below}
 use Rattle.schema.specs.Cutting.{is_among}
 use Rattle.schema.specs.Keys.{AreDistinct, field_at, fields_besides, values_besides}
 

@@ -27,3 +27,5 @@ pub mod Marks
 pub mod Again
 mod Besides
 pub mod LeafPlaces
+pub mod Slices
+pub mod OneLevel

@@ -117,6 +117,7 @@ impl Schema {
         ensures leaves_are { map leaf_view result.now ≡ leaves_of self.now }
         ensures valid { IsSchema self.now }
         ensures within { IsWithinLimits self.now }
+        ensures shallow { tallest self.now ≤ 32 }
     {
         // For the proof: what is known of the schema.
         let _ = &self.fields;

@@ -3,10 +3,10 @@ use Rattle.std.proofs.Common.{ℕ, zero, suc, ◌≡◌, ◌+◌, ◌<◌, List,
 use Rattle.std.proofs.Math.ListN.{set}
 use Rattle.std.proofs.lemmas.List.{append-nil, map-append, length-map}
 use Rattle.std.proofs.lemmas.Simd.{map-map}
-use Rattle.schema.specs.Shape.{Field, leaf, fields, Fields, field}
+use Rattle.schema.specs.Shape.{Field, Fields, field}
 use Rattle.schema.specs.Stripe.{Entry, Leaf, below, leaves, leaves_from}
 use Rattle.schema.specs.Reading.{count_leaves}
-use Rattle.schema.proofs.CutSteps.{counts_are}
+use Rattle.schema.proofs.CutSteps.{count_is}
 use Rattle.shred.specs.declared.column.ColumnRef.{ColumnRef}
 use Rattle.shred.specs.Columns.{column_ref_view, column_refs_view}
 use Rattle.shred.specs.inner.Growing.{Columns, grown, nils}
@@ -62,10 +62,6 @@ grown_next zero (suc m) (a ∷ xs) ys (c ∷ cs) e = same_cons _ _ _ _ (append-n
 grown_next (suc u) zero xs ys cs e = absurd (omega (arith, e))
 grown_next (suc u) (suc m) xs ys [] e = refl
 grown_next (suc u) (suc m) xs ys (c ∷ cs) e = same_cons _ _ _ _ (append-nil (c ++ [])) (grown_next u m xs ys cs (omega (arith, e)))
-
-pub count_is : (f : Field) → count_leaves f ≡ length (leaves f)
-count_is (leaf n r t) = refl
-count_is (fields n r a fs) = counts_are 0 fs
 
 -- the leaves below the first of some fields, and below the others
 pub leaves_split : (g : Leaf → List Entry) (i : ℕ) (f : Field) (fs : Fields) → map g (leaves_from i (field f fs)) ≡ map (λ (l : Leaf). g (below i f l)) (leaves f) ++ map g (leaves_from (suc i) fs)

@@ -1,4 +1,2 @@
 pub mod Growing
-pub mod Slices
 pub mod Turns
-pub mod Heights

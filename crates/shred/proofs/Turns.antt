@@ -1,15 +1,11 @@
 -- One turn of each loop: what one field, one item or one row more gives.
-use Rattle.std.proofs.Common.{ℕ, zero, suc, ◌≡◌, ◌+◌, ◌-◌, ◌<◌, ◌≤◌, true, Bool, ◌&&◌, List, [], ◌∷◌, ◌++◌, map, length, get_or, take, drop, refl, ap, sym, subst, ◌∙◌, arith, add-one, Vec}
+use Rattle.std.proofs.Common.{ℕ, zero, suc, ◌≡◌, ◌+◌, ◌-◌, ◌<◌, ◌≤◌, true, Bool, ◌&&◌, List, [], ◌∷◌, ◌++◌, map, length, get_or, take, drop, refl, ap, sym, subst, ◌∙◌, arith, add-one}
 use Rattle.std.proofs.lemmas.List.{drop_more}
 use borrow.Rule.Slice.PartMut.{put_mid, mid_of}
-use Rattle.std.specs.declared.alloc.Global.{Global}
-use Rattle.schema.specs.declared.value.Value.{Value, List as value_list}
-use Rattle.schema.specs.declared.value.Value.TheVariants.{rolls-List}
-use Rattle.schema.specs.declared.value.Value.TheOpen.{Value-F}
-use Rattle.schema.specs.declared.value.Value.TheFolds.{fold-roll-Value}
+use Rattle.schema.specs.declared.value.Value.{Value}
 use Rattle.schema.specs.declared.value.Repetition.TheVariants.{Repeated}
 use Rattle.schema.specs.declared.field.Field.{Field as CodeField}
-use Rattle.schema.specs.Values.{ValueTree, ValueTrees, group, list, value as item, view, views, member_at, each, view_step}
+use Rattle.schema.specs.Values.{ValueTree, ValueTrees, group, list, value as item, view, views, member_at, each}
 use Rattle.schema.specs.Shape.{Field, leaf, fields, Fields, field, repetition_of}
 use Rattle.schema.specs.Views.{field_view, field_views}
 use Rattle.schema.specs.Fits.{fits, fits_each, fits_inside}
@@ -20,7 +16,7 @@ use Rattle.shred.specs.declared.column.ColumnRef.{ColumnRef}
 use Rattle.shred.specs.Columns.{column_ref_view, column_refs_view}
 use Rattle.shred.specs.inner.Growing.{Columns, grown, nils, levels_at, stripes_inside, stripes_items, stripes_later, stripes_each}
 use Rattle.shred.proofs.Growing.{one_more, grown_twice}
-use Rattle.shred.proofs.Slices.{map_tail, map_put}
+use Rattle.schema.proofs.Slices.{map_tail, map_put}
 
 -- the entries of one field more are at the ends of its columns
 pub field_given : (g h : Leaf → List Entry) (fs : List CodeField) (i : ℕ) (f : CodeField) (u n : ℕ) (xs ys : List ColumnRef) (all : Columns)
@@ -88,9 +84,6 @@ items_given f vs ws v r d k old first new is one more =
 -- where one item fits, whether all fit is whether the others do
 pub item_fits : (p : ValueTree → Bool) (vs : List Value) (i : ℕ) (v : Value) → i < length vs → v ≡ get_or vs i v → p (view v) ≡ true → each p (views (drop (i + 1) vs)) ≡ each p (views (drop i vs))
 item_fits p vs i v lt is fit = ap (λ (b : Bool). b && each p (views (drop (i + 1) vs))) (sym fit) ∙ ap (each p) (sym (value_place vs i v lt is))
-
-pub view_list : (vs : Vec Value Global) → view (value_list vs) ≡ list (views vs.items)
-view_list vs = ap view (sym (rolls-List vs)) ∙ fold-roll-Value ValueTree view_step (Value-F.List vs)
 
 -- a list fits a REPEATED field where its items do
 pub list_fits : (f : Field) → repetition_of f ≡ Repeated → (vs : ValueTrees) → each (fits_inside f) vs ≡ fits f (list vs)

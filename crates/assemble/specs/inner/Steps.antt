@@ -1,10 +1,14 @@
 -- One entry off a column.
-use Rattle.std.specs.Prelude.{◌≡◌, ℕ, zero, suc, ◌<◌, ◌≤◌, ◌⊎◌, Bool, true, false, List, [], ◌∷◌, length, Option, Some, None}
+use Rattle.std.specs.Prelude.{◌≡◌, ℕ, zero, suc, ◌<◌, ◌≤◌, ◌⊎◌, Bool, true, false, List, [], ◌∷◌, length, Option, Some}
 use Rattle.std.specs.List.{AllByRecursion}
 use Rattle.bits.specs.declared.refusal.Refusal.{Refusal}
 use Rattle.schema.specs.Annotations.{LeafType}
-use Rattle.schema.specs.Stripe.{Entry}
-use Rattle.assemble.specs.Sources.{Stands, Begins, NothingStands, StandsOnly, Precede}
+use Rattle.schema.specs.declared.value.Repetition.{Repetition}
+use Rattle.schema.specs.declared.value.Repetition.TheVariants.{Repeated}
+use Rattle.schema.specs.Values.{ValueTree, null, list, no_values}
+use Rattle.schema.specs.Fits.{fits_leaf}
+use Rattle.schema.specs.Stripe.{Entry, entry}
+use Rattle.assemble.specs.Sources.{Stands, Begins, NothingStands, Precede}
 use Rattle.assemble.specs.Columns.{Columns, Fronts, AreAlike, Want, Suits, AllSuit, Tells}
 use Rattle.assemble.specs.inner.Fronts.{nones}
 
@@ -12,20 +16,21 @@ use Rattle.assemble.specs.inner.Fronts.{nones}
 abbrev pub IsMemory : Refusal → Type 0
 IsMemory = Tells ⊥ ⊥
 
--- the entry is taken, or there is none
-abbrev pub IsTaken : Stands → Stands → Option Entry → Type 0
-IsTaken S T (Some e) = Precede (e ∷ []) S T
-IsTaken S T None = StandsOnly S []
+-- the value fits and is that of the next entry, which has these levels and is taken
+pub record ReadsLeaf (t : LeafType) (r d : ℕ) (S T : Stands) (v : ValueTree) : Type 0 where
+  pub fits : fits_leaf t v ≡ true
+  pub first : Precede (entry r d (Some v)) S T
+
+-- the value of a field that is missing
+abbrev pub missing_value : Repetition → ValueTree
+missing_value Repeated = list no_values
+missing_value _ = null
 
 -- a refusal is the source's own, where nothing stood; or the source was not refused, it is Levels, Value or Memory, and P holds of the entries that stood
 abbrev pub IsSourceRefusedFor : {A : Type 0} → (A → List Entry → Type 0) → (A → Option Refusal) → A → A → (List Entry → Refusal → Type 0) → Refusal → Type 0
 IsSourceRefusedFor S refused old new P e =
     ((refused new ≡ Some e) × NothingStands (S old))
     ⊎ ((refused new ≡ refused old) × (Tells (Unit {0}) (Unit {0}) e × ((es : List Entry) → S old es → P es e)))
-
--- Levels: the next entry has other levels, or there is none
-abbrev pub IsNotAt : ℕ → ℕ → List Entry → Refusal → Type 0
-IsNotAt r d es = Tells (Begins es r d → ⊥) ⊥
 
 -- Value: it has no value that fits
 abbrev pub IsLeafFaulty : ℕ → ℕ → LeafType → List Entry → Refusal → Type 0

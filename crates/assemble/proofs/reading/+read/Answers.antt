@@ -1,33 +1,34 @@
-use Rattle.std.proofs.Common.{rules, suc, add-one, drop, ◌-◌, ◌≡◌, ℕ, ◌+◌, ◌<◌, ◌≤◌, ◌^◌, List, [], ◌∷◌, ◌++◌, length, true, false, string_bytes, ap, sym, subst, ◌∙◌, arith, drop_of_length-le, get_or, refl, inr}
+use Rattle.std.proofs.Common.{rules, suc, add-one, drop, ◌-◌, ◌≡◌, ℕ, ◌+◌, ◌<◌, ◌≤◌, ◌^◌, [], length, true, false, string_bytes, ap, sym, subst, ◌∙◌, arith, drop_of_length-le, refl}
+use Rattle.std.proofs.lemmas.List.{append-nil}
 use Rattle.std.proofs.Math.ListN.{set}
-use Rattle.std.proofs.lemmas.Result.{IfOk-weaker, IfErr-weaker}
+use Rattle.std.proofs.lemmas.Result.{IfOk-weaker, IfErr-weaker, on_ok_weaker}
 use borrow.Rule.Slice.PartMut.{put_mid, mid_of}
-use Rattle.bits.specs.declared.refusal.Refusal.TheVariants.{Memory}
-use Rattle.schema.specs.declared.value.Value.{Value, Group as value_group}
-use Rattle.schema.specs.Values.{view, views, list}
+use Rattle.schema.specs.Values.{no_values, value as item}
 use Rattle.schema.specs.Views.{field_view, field_views, leaf_type_view}
 use Rattle.schema.specs.Shape.{Field, fields}
 use Rattle.schema.specs.Law.{IsValid, AreValid}
 use Rattle.schema.specs.Reading.{tallest, count_leaves, count_leaves_each}
 use Rattle.schema.proofs.Forest.{field_place}
-use Rattle.assemble.specs.Columns.{Columns, Fronts}
+use Rattle.assemble.specs.Sinks.{Adds, Visits, tokens, tokens_each}
+use Rattle.assemble.specs.Columns.{Columns}
 use Rattle.assemble.specs.Standing.{AllStand, Onward, Backward, IsRefusedFor}
+use Rattle.assemble.specs.inner.Building.{snoc}
 use Rattle.assemble.specs.inner.Fronts.{stripes, stripes_inside, stripes_items, stripes_each, wants, wants_inside, wants_each, Fit, FitInside, FitItems, FitEach}
 use Rattle.assemble.specs.inner.ReadValues.{Reads, IsFaulty}
-use Rattle.assemble.specs.inner.Steps.{IsSkipFaulty, IsMissing, HasItem, NoneLeft, IsLeafFaulty, IsMemory, first_of}
+use Rattle.assemble.specs.inner.Steps.{missing_value, IsSkipFaulty, IsMissing, HasItem, NoneLeft, first_of}
 use Rattle.assemble.proofs.Starting.{has_leaf}
-use Rattle.assemble.proofs.Readings.{count_is, faulty_required, faulty_present, faulty_list, faulty_missing, faulty_nothing, optional_is, other_missing, missing_value}
-use Rattle.assemble.proofs.Standing.{same_self, stand_length, stand_get, stand_on, part_stands, among_put, refused_up, refused_same, refused_at, refused_ok, none_ok}
-use Rattle.assemble.proofs.Groups.{faulty_group, faulty_leaf_at}
+use Rattle.schema.proofs.CutSteps.{count_is}
+use Rattle.assemble.proofs.Readings.{faulty_required, faulty_present, faulty_list, faulty_missing, faulty_nothing, optional_is}
+use Rattle.assemble.proofs.Standing.{same_self, stand_on, part_stands, among_put, refused_up, refused_same, refused_ok, none_ok}
+use Rattle.assemble.proofs.Groups.{faulty_group}
 use Rattle.assemble.proofs.Items as items
-use Rattle.assemble.proofs.Items.{one_more, snoc, views-push}
+use Rattle.assemble.proofs.Items.{one_more}
 use Rattle.assemble.proofs.Each as each
 use Rattle.assemble.proofs.Taking.{reads_required, reads_present, reads_list, reads_group, reads_missing, reads_leaf, each_onward, each_backward, first_onward, first_backward, next_onward, next_backward, reads_items}
-use Rattle.assemble.proofs.Told.{memory_only}
-use Rattle.assemble.proofs.Slices.{map_kept}
-use Rattle.assemble.proofs.Views.{view_null, view_group, view_list, view_leaf, view_fields}
+use Rattle.schema.proofs.Slices.{map_kept}
+use Rattle.schema.proofs.OneLevel.{view_leaf, view_fields}
+use Rattle.assemble.proofs.Showing.{adds_then, adds_none, tokens_snoc, visits_up, visits_group, visits_list}
 use Rattle.assemble.proofs.reading.+read.Goals as goal
-use Rattle.assemble.proofs.reading.+read.Goals.{read_field-in-Repeated, read_field-in_default-repetition}
 
 some_source : (f : Field) (n : ℕ) → IsValid f → count_leaves f ≤ n → 0 < n
 some_source f n valid room = let some = has_leaf f valid in let same = count_is f in omega (arith, some, same, room)
@@ -37,7 +38,12 @@ read_field-returns-in-Required-clause-reads g t c =
     let S = g.S.EntrySource.stands in
     let f = field_view c.args.field.now in
     let old = c.args.sources.now in
-    IfOk-weaker c.read_inside.result _ _ (λ x h. reads_required S f (sym c.repetition-repetition.ensures ∙ c.in-Required.is) c.args.place.repetition c.args.place.definition c.args.place.own old c.read_inside.new.sources (view x.0) (same_self S old) h) c.read_inside.ensures.reads
+    let r = c.args.place.repetition in
+    let d = c.args.place.definition in
+    let k = c.args.place.own in
+    let new = c.read_inside.new.sources in
+    on_ok_weaker c.read_inside.result
+    (visits_up (g.K.RowSink.shows c.args.sink.now) (g.K.RowSink.shows c.read_inside.new.sink) tokens (Reads S (FitInside f) (stripes_inside f r d k) k old new) (Reads S (Fit f) (stripes f r d k) k old new) (λ v h. reads_required S f (sym c.repetition-repetition.ensures ∙ c.in-Required.is) r d k old new v (same_self S old) h)) c.read_inside.ensures.reads
 
 pub read_field-returns-in-Required-clause-refused : goal.read_field-returns-in-Required-clause-refused
 read_field-returns-in-Required-clause-refused g t c =
@@ -99,39 +105,41 @@ read_field-returns-then-branch g t c =
     let k = c.args.place.own in
     let x = c.repetition-repetition.result in
     let missing : (cs : Columns) → AllStand S old cs → IsMissing d (first_of cs) true = λ cs s. subst (IsMissing d (first_of cs)) c.if-branch.true (c.in_ok-is_missing.ensures.missing cs s) in
-    let value : missing_value x ≡ view c.match-repetition-2.value = elim c.match-repetition-2.branch [
-      | read_field-in-Repeated w ↦ ap missing_value w.in-Repeated.is ∙ sym (ap view w.value-is ∙ view_list w.new.result ∙ ap (λ (xs : List Value). list (views xs)) w.new.ensures.items)
-      | read_field-in_default-repetition w ↦ other_missing x w.in_default-repetition.not-Repeated ∙ sym (ap view w.value-is ∙ view_null)
-    ] in
+    let v = missing_value x in
     record {
-      reads = subst (Reads S (Fit f) (stripes f r d k) k old c.skip.new.sources) value
-          (reads_missing S f x (sym c.repetition-repetition.ensures) c.in_default.not-Required c.requires.valid r d k c.count_leaves-count.result old c.is_missing.new.sources c.skip.new.sources c.count_leaves-count.ensures c.is_missing.ensures.same missing c.in_ok-skip.ensures.onward c.in_ok-skip.ensures.backward);
+      reads = (
+        v,
+        (
+          reads_missing S f x (sym c.repetition-repetition.ensures) c.in_default.not-Required c.requires.valid r d k c.count_leaves-count.result old c.is_missing.new.sources c.skip.new.sources c.count_leaves-count.ensures c.is_missing.ensures.same missing c.in_ok-skip.ensures.onward c.in_ok-skip.ensures.backward,
+          c.in_ok-show_missing.ensures.shown,
+        ),
+      );
       refused = tt;
       used = c.count_leaves-count.ensures;
       kept = c.in_ok-skip.ensures.kept ∙ c.in_ok-is_missing.ensures.kept;
     }
 
-pub read_field-returns-in_err-items : goal.read_field-returns-in_err-items
-read_field-returns-in_err-items g t c =
+pub read_field-returns-in_err-used : goal.read_field-returns-in_err-used
+read_field-returns-in_err-used g t c =
     let S = g.S.EntrySource.stands in
     let f = field_view c.args.field.now in
     let old = c.args.sources.now in
     let r = c.args.place.repetition in
     let d = c.args.place.definition in
     let k = c.args.place.own in
-    let e = c.in_err-items.field-0.0 in
+    let e = c.in_err-used.field-0.0 in
     let there : (cs : Columns) → AllStand S old cs → IsMissing d (first_of cs) false = λ cs s. subst (IsMissing d (first_of cs)) c.if-branch.false (c.in_ok-is_missing.ensures.missing cs s) in
     record {
-      reads = none_ok _ c.from_residual-in_err-items.result e c.from_residual-in_err-items.ensures.1;
-      refused = refused_ok _ c.from_residual-in_err-items.result e c.from_residual-in_err-items.ensures.1
+      reads = none_ok _ c.from_residual-in_err-used.result e c.from_residual-in_err-used.ensures.1;
+      refused = refused_ok _ c.from_residual-in_err-used.result e c.from_residual-in_err-used.ensures.1
           (refused_same S g.S.EntrySource.refused old c.is_missing.new.sources c.read_items.new.sources (IsFaulty (FitItems f) (stripes_items f r d k) k (wants_inside f (d + 1))) (IsFaulty (Fit f) (stripes f r d k) k (wants f d)) e c.is_missing.ensures.same c.in_ok-is_missing.ensures.kept
-          (λ cs s h. faulty_list f (sym c.repetition-repetition.ensures ∙ c.in-Repeated-repetition.is) c.requires.valid r d k cs e (there cs s) h) c.in_err-items.ensures.refused);
-      used = none_ok _ c.from_residual-in_err-items.result e c.from_residual-in_err-items.ensures.1;
-      kept = none_ok _ c.from_residual-in_err-items.result e c.from_residual-in_err-items.ensures.1;
+          (λ cs s h. faulty_list f (sym c.repetition-repetition.ensures ∙ c.in-Repeated.is) c.requires.valid r d k cs e (there cs s) h) c.in_err-used.ensures.refused);
+      used = none_ok _ c.from_residual-in_err-used.result e c.from_residual-in_err-used.ensures.1;
+      kept = none_ok _ c.from_residual-in_err-used.result e c.from_residual-in_err-used.ensures.1;
     }
 
-pub read_field-returns-in-Repeated-repetition : goal.read_field-returns-in-Repeated-repetition
-read_field-returns-in-Repeated-repetition g t c =
+pub read_field-returns-in-Repeated : goal.read_field-returns-in-Repeated
+read_field-returns-in-Repeated g t c =
     let S = g.S.EntrySource.stands in
     let f = field_view c.args.field.now in
     let old = c.args.sources.now in
@@ -140,11 +148,11 @@ read_field-returns-in-Repeated-repetition g t c =
     let k = c.args.place.own in
     let there : (cs : Columns) → AllStand S old cs → IsMissing d (first_of cs) false = λ cs s. subst (IsMissing d (first_of cs)) c.if-branch.false (c.in_ok-is_missing.ensures.missing cs s) in
     record {
-      reads = subst (Reads S (Fit f) (stripes f r d k) k old c.read_items.new.sources) (sym (view_list c.in_ok-items.items))
-          (reads_list S f (sym c.repetition-repetition.ensures ∙ c.in-Repeated-repetition.is) c.requires.valid r d k old c.is_missing.new.sources c.read_items.new.sources (views c.in_ok-items.items.items) c.is_missing.ensures.same there c.in_ok-items.ensures.reads);
+      reads = visits_list (g.K.RowSink.shows c.args.sink.now) (g.K.RowSink.shows c.begin_list.new.self) (g.K.RowSink.shows c.read_items.new.sink) (g.K.RowSink.shows c.end_list.new.self) (Reads S (FitItems f) (stripes_items f r d k) k c.is_missing.new.sources c.read_items.new.sources) (Reads S (Fit f) (stripes f r d k) k old c.read_items.new.sources)
+          (λ vs h. reads_list S f (sym c.repetition-repetition.ensures ∙ c.in-Repeated.is) c.requires.valid r d k old c.is_missing.new.sources c.read_items.new.sources vs c.is_missing.ensures.same there h) c.in_ok-begin_list.ensures.shown c.in_ok-used.ensures.reads c.in_ok-end_list.ensures.shown;
       refused = tt;
-      used = c.in_ok-items.ensures.used;
-      kept = c.in_ok-items.ensures.kept ∙ c.in_ok-is_missing.ensures.kept;
+      used = c.in_ok-used.ensures.used;
+      kept = c.in_ok-used.ensures.kept ∙ c.in_ok-is_missing.ensures.kept;
     }
 
 pub read_field-returns : goal.read_field-returns
@@ -158,29 +166,25 @@ read_field-returns g t c =
     let d = c.args.place.definition in
     let k = c.args.place.own in
     let res = c.read_inside-2.result in
-    let is = sym c.repetition-repetition.ensures ∙ optional_is c.repetition-repetition.result c.in_default.not-Required c.in_default-repetition-2.not-Repeated in
+    let is = sym c.repetition-repetition.ensures ∙ optional_is c.repetition-repetition.result c.in_default.not-Required c.in_default-repetition.not-Repeated in
     let there : (cs : Columns) → AllStand S old cs → IsMissing d (first_of cs) false = λ cs s. subst (IsMissing d (first_of cs)) c.if-branch.false (c.in_ok-is_missing.ensures.missing cs s) in
     record {
-      reads = IfOk-weaker res _ _ (λ x h. reads_present S f is c.requires.valid r d k old mid new (view x.0) c.is_missing.ensures.same there h) c.read_inside-2.ensures.reads;
+      reads = on_ok_weaker res
+          (visits_up (g.K.RowSink.shows c.args.sink.now) (g.K.RowSink.shows c.read_inside-2.new.sink) tokens (Reads S (FitInside f) (stripes_inside f r (d + 1) k) k mid new) (Reads S (Fit f) (stripes f r d k) k old new) (λ v h. reads_present S f is c.requires.valid r d k old mid new v c.is_missing.ensures.same there h)) c.read_inside-2.ensures.reads;
       refused = IfErr-weaker res _ _
           (λ e h. refused_same S g.S.EntrySource.refused old mid new (IsFaulty (FitInside f) (stripes_inside f r (d + 1) k) k (wants_inside f (d + 1))) (IsFaulty (Fit f) (stripes f r d k) k (wants f d)) e c.is_missing.ensures.same c.in_ok-is_missing.ensures.kept (λ cs s i. faulty_present f is c.requires.valid r d k cs e (there cs s) i) h) c.read_inside-2.ensures.refused;
       used = c.read_inside-2.ensures.used;
       kept = IfOk-weaker res _ _ (λ x h. h ∙ c.in_ok-is_missing.ensures.kept) c.read_inside-2.ensures.kept;
     }
 
--- the first of the fields that are left
 pub read_fields-loop-field-init : goal.read_fields-loop-field-init
 read_fields-loop-field-init g t c =
-    let S = g.S.EntrySource.stands in
     let fs = field_views c.args.fields.now in
     let r = c.args.place.repetition in
     let d = c.args.place.definition in
     let k = c.args.place.own in
-    let none = sym (ap views c.new-values.ensures.items) in
     record {
-      fit = subst (each.WholeFit fs fs) none (each.fit_begins fs);
-      onward = λ cs s. (cs, (s, subst (each.SoFar fs fs r d k cs cs 0) none (each.begins fs r d k cs)));
-      backward = λ cs s. (cs, (s, subst (λ vs. each.Whole fs fs r d k 0 vs cs cs) none (each.whole_begins fs r d k cs)));
+      seen = (no_values, (each.fit_begins fs, (λ cs s. (cs, (s, each.begins fs r d k cs)), (λ cs s. (cs, (s, each.whole_begins fs r d k cs)), adds_none (g.K.RowSink.shows c.args.sink.now)))));
       counts = omega arith;
       valid = c.requires.valid;
       deep = c.requires.deep;
@@ -188,8 +192,8 @@ read_fields-loop-field-init g t c =
       size = refl;
     }
 
-pub read_fields-returns-in_err-value-clause-refused : goal.read_fields-returns-in_err-value-clause-refused
-read_fields-returns-in_err-value-clause-refused g t c =
+pub read_fields-returns-in_err-used-clause-refused : goal.read_fields-returns-in_err-used-clause-refused
+read_fields-returns-in_err-used-clause-refused g t c =
     let S = g.S.EntrySource.stands in
     let R = g.S.EntrySource.refused in
     let fs = c.args.fields.now in
@@ -202,8 +206,9 @@ read_fields-returns-in_err-value-clause-refused g t c =
     let xs = c.loop-field.sources in
     let ys = c.read_field.new.sources in
     let used = c.loop-field.used in
-    let vs = views c.loop-field.values.items in
-    let e = c.in_err-value.field-0.0 in
+    let seen = c.loop-field.invariant.seen in
+    let vs = seen.0 in
+    let e = c.in_err-used.field-0.0 in
     let counts = c.loop-field.invariant.counts in
     let fits = c.requires.room in
     let size = c.loop-field.invariant.size in
@@ -213,14 +218,15 @@ read_fields-returns-in_err-value-clause-refused g t c =
     (refused_up S R old (put_mid used (length xs - used) xs ys) (mid_of used (length xs - used) xs) ys (IsFaulty (Fit (field_view f)) (stripes (field_view f) r d k) k (wants (field_view f) d)) (IsFaulty (FitEach (field_views fs)) (stripes_each (field_views fs) r d k) k (wants_each (field_views fs) d)) e
     (among_put R used xs ys e room) (λ k. map_kept R used xs ys room k ∙ c.loop-field.invariant.kept)
     (λ cs s.
-    let w = c.loop-field.invariant.onward cs s in
+    let w = seen.1.1.0 cs s in
     let so = subst (λ gs. each.SoFar (field_views fs) gs r d k cs w.0 used vs) place w.1.1 in
     (drop used w.0, (part_stands S used xs w.0 room w.1.0, each.faulty (field_views fs) (field_view f) (field_views (drop (i + 1) fs)) r d k cs w.0 used vs e so)))
-    c.in_err-value.ensures.refused)
+    c.in_err-used.ensures.refused)
 
 pub read_fields-loop-field-preserved : goal.read_fields-loop-field-preserved
 read_fields-loop-field-preserved g t c =
     let S = g.S.EntrySource.stands in
+    let K = g.K.RowSink.shows in
     let fs = c.args.fields.now in
     let all = field_views fs in
     let i = c.loop-field.field-index in
@@ -233,8 +239,8 @@ read_fields-loop-field-preserved g t c =
     let xs = c.loop-field.sources in
     let ys = c.read_field.new.sources in
     let used = c.loop-field.used in
-    let vs = c.loop-field.values.items in
-    let v = c.in_ok-value.value in
+    let seen = c.loop-field.invariant.seen in
+    let vs = seen.0 in
     let rest = field_views (drop (i + 1) fs) in
     let now = put_mid used (length xs - used) xs ys in
     let counts = c.loop-field.invariant.counts in
@@ -242,24 +248,33 @@ read_fields-loop-field-preserved g t c =
     let size = c.loop-field.invariant.size in
     let room : used ≤ length xs = omega (arith, counts, fits, size) in
     let place = field_place fs i f (omega arith) c.field-item.is in
-    let read = c.in_ok-value.ensures.reads in
-    let more = c.in_ok-value.ensures.used in
-    let items = sym (ap views c.in_ok-push.ensures.items ∙ views-push vs v) in
-    let fit = subst (λ gs. each.WholeFit all gs (views vs)) place c.loop-field.invariant.fit in
-    let onward = subst (λ gs. Onward S old xs (λ b a. each.SoFar all gs r d k b a used (views vs))) place c.loop-field.invariant.onward in
-    let backward = subst (λ gs. Backward S old xs (each.Whole all gs r d k used (views vs))) place c.loop-field.invariant.backward in
+    let found = c.in_ok-used.ensures.reads in
+    let v = found.0 in
+    let read = found.1.0 in
+    let more = c.in_ok-used.ensures.used in
+    let fit = subst (λ gs. each.WholeFit all gs vs) place seen.1.0 in
+    let onward = subst (λ gs. Onward S old xs (λ b a. each.SoFar all gs r d k b a used vs)) place seen.1.1.0 in
+    let backward = subst (λ gs. Backward S old xs (each.Whole all gs r d k used vs)) place seen.1.1.1.0 in
     let deep = subst (λ gs. d + tallest gs < 2 ^ 32) place c.loop-field.invariant.deep in
     let count = subst (λ gs. used + count_leaves_each gs ≡ count_leaves_each all) place c.loop-field.invariant.counts in
     record {
-      fit = subst (each.WholeFit all rest) items (each.fit_step all fv rest (views vs) (view v) fit read.fits);
-      onward = subst (λ us. Onward S old now (λ b a. each.SoFar all rest r d k b a (used + c.in_ok-value.more) us)) items
-          (subst (λ n. Onward S old now (λ b a. each.SoFar all rest r d k b a (used + n) (snoc (views vs) (view v)))) (sym more) (each_onward S all fv rest r d k old xs ys used (views vs) (view v) room onward read));
-      backward = subst (λ us. Backward S old now (each.Whole all rest r d k (used + c.in_ok-value.more) us)) items
-          (subst (λ n. Backward S old now (each.Whole all rest r d k (used + n) (snoc (views vs) (view v)))) (sym more) (each_backward S all fv rest r d k old xs ys used (views vs) (view v) room backward read));
+      seen = (
+        snoc vs v,
+        (
+          each.fit_step all fv rest vs v fit read.fits,
+          (
+            subst (λ n. Onward S old now (λ b a. each.SoFar all rest r d k b a (used + n) (snoc vs v))) (sym more) (each_onward S all fv rest r d k old xs ys used vs v room onward read),
+            (
+              subst (λ n. Backward S old now (each.Whole all rest r d k (used + n) (snoc vs v))) (sym more) (each_backward S all fv rest r d k old xs ys used vs v room backward read),
+              subst (Adds (K c.args.sink.now) (K c.read_field.new.sink)) (sym (tokens_snoc vs v)) (adds_then (K c.args.sink.now) (K c.loop-field.sink) (K c.read_field.new.sink) (tokens_each vs) (tokens v) seen.1.1.1.1 found.1.1),
+            ),
+          ),
+        ),
+      );
       counts = omega (arith, count, more);
       valid = (subst AreValid place c.loop-field.invariant.valid).1;
       deep = omega (arith, deep);
-      kept = map_kept g.S.EntrySource.refused used xs ys room c.in_ok-value.ensures.kept ∙ c.loop-field.invariant.kept;
+      kept = map_kept g.S.EntrySource.refused used xs ys room c.in_ok-used.ensures.kept ∙ c.loop-field.invariant.kept;
       size = search rules;
     }
 
@@ -274,38 +289,24 @@ read_fields-returns-clause-reads g t c =
     let old = c.args.sources.now in
     let xs = c.loop-field.sources in
     let used = c.loop-field.used in
-    let vs = views c.loop-field.values.items in
+    let seen = c.loop-field.invariant.seen in
+    let vs = seen.0 in
     let none : drop c.loop-field.field-index fs ≡ [] = drop_of_length-le fs {i = c.loop-field.field-index} (omega arith) in
-    let onward = subst (λ gs. Onward S old xs (λ b a. each.SoFar all (field_views gs) r d k b a used vs)) none c.loop-field.invariant.onward in
-    let backward = subst (λ gs. Backward S old xs (each.Whole all (field_views gs) r d k used vs)) none c.loop-field.invariant.backward in
-    record {
-      fits = each.fit_finished all vs (subst (λ gs. each.WholeFit all (field_views gs) vs) none c.loop-field.invariant.fit);
-      onward = λ cs s. let w = onward cs s in (w.0, (w.1.0, each.finished all r d k cs w.0 used vs w.1.1));
-      backward = λ ds s. let w = backward ds s in (w.0, (w.1.0, each.whole_finished all r d k w.0 ds used vs w.1.1));
-    }
+    let onward = subst (λ gs. Onward S old xs (λ b a. each.SoFar all (field_views gs) r d k b a used vs)) none seen.1.1.0 in
+    let backward = subst (λ gs. Backward S old xs (each.Whole all (field_views gs) r d k used vs)) none seen.1.1.1.0 in (
+      vs,
+      (
+        record {
+          fits = each.fit_finished all vs (subst (λ gs. each.WholeFit all (field_views gs) vs) none seen.1.0);
+          onward = λ cs s. let w = onward cs s in (w.0, (w.1.0, each.finished all r d k cs w.0 used vs w.1.1));
+          backward = λ ds s. let w = backward ds s in (w.0, (w.1.0, each.whole_finished all r d k w.0 ds used vs w.1.1));
+        },
+        seen.1.1.1.1,
+      ),
+    )
 
-pub read_inside-returns-in_err-value-in-Leaf-clause-refused : goal.read_inside-returns-in_err-value-in-Leaf-clause-refused
-read_inside-returns-in_err-value-in-Leaf-clause-refused g t c =
-    let S = g.S.EntrySource.stands in
-    let R = g.S.EntrySource.refused in
-    let xs = c.args.sources.now in
-    let y = c.read_leaf.new.source in
-    let r = c.args.place.repetition in
-    let d = c.args.place.definition in
-    let k = c.args.place.own in
-    let e = c.in_err-value-in-Leaf.field-0.0 in
-    let lt = leaf_type_view c.in-Leaf.leaf_type in
-    let is = ap field_view c.in-Leaf.is ∙ view_leaf c.in-Leaf.name c.in-Leaf.repetition c.in-Leaf.leaf_type in
-    let some : 0 < length xs = some_source (field_view c.args.field.now) (length xs) c.requires.valid c.requires.room in
-    refused_ok _ c.from_residual.result e c.from_residual.ensures.1
-    (refused_at S R xs xs 0 c.index-sources-0.result y (IsLeafFaulty r d lt) (IsFaulty (FitInside (field_view c.args.field.now)) (stripes_inside (field_view c.args.field.now) r d k) k (wants_inside (field_view c.args.field.now) d)) e some refl
-    (λ cs s.
-    let size = stand_length S xs cs s in
-    (get_or cs 0 [], (stand_get S xs cs 0 c.index-sources-0.result some s, λ h. subst (λ f. IsFaulty (FitInside f) (stripes_inside f r d k) k (wants_inside f d) cs e) (sym is) (faulty_leaf_at (string_bytes c.in-Leaf.name) c.in-Leaf.repetition lt r d k cs (omega (arith, size, some)) e h))))
-    c.in_err-value-in-Leaf.ensures.refused)
-
-pub read_inside-returns-in_err-values-in-Group-clause-refused : goal.read_inside-returns-in_err-values-in-Group-clause-refused
-read_inside-returns-in_err-values-in-Group-clause-refused g t c =
+pub read_inside-returns-in_err-used-in-Group-clause-refused : goal.read_inside-returns-in_err-used-in-Group-clause-refused
+read_inside-returns-in_err-used-in-Group-clause-refused g t c =
     let S = g.S.EntrySource.stands in
     let R = g.S.EntrySource.refused in
     let xs = c.args.sources.now in
@@ -313,57 +314,64 @@ read_inside-returns-in_err-values-in-Group-clause-refused g t c =
     let r = c.args.place.repetition in
     let d = c.args.place.definition in
     let k = c.args.place.own in
-    let e = c.in_err-values-in-Group.field-0.0 in
+    let e = c.in_err-used-in-Group.field-0.0 in
     let fs = field_views c.in-Group.fields.items in
     let is = ap field_view c.in-Group.is ∙ view_fields c.in-Group.name c.in-Group.repetition c.in-Group.annotation c.in-Group.fields in
-    let told = subst (λ gs. IsRefusedFor S R xs ys (IsFaulty (FitEach (field_views gs)) (stripes_each (field_views gs) r d k) k (wants_each (field_views gs) d)) e) c.as_slice.ensures.value c.in_err-values-in-Group.ensures.refused in
-    refused_ok _ c.from_residual-in_err-values-in-Group.result e c.from_residual-in_err-values-in-Group.ensures.1
+    let told = subst (λ gs. IsRefusedFor S R xs ys (IsFaulty (FitEach (field_views gs)) (stripes_each (field_views gs) r d k) k (wants_each (field_views gs) d)) e) c.as_slice.ensures.value c.in_err-used-in-Group.ensures.refused in
+    refused_ok _ c.from_residual-in_err-used-in-Group.result e c.from_residual-in_err-used-in-Group.ensures.1
     (refused_same S R xs xs ys (IsFaulty (FitEach fs) (stripes_each fs r d k) k (wants_each fs d)) (IsFaulty (FitInside (field_view c.args.field.now)) (stripes_inside (field_view c.args.field.now) r d k) k (wants_inside (field_view c.args.field.now) d)) e (same_self S xs) refl
     (λ cs s h. subst (λ f. IsFaulty (FitInside f) (stripes_inside f r d k) k (wants_inside f d) cs e) (sym is) (faulty_group (string_bytes c.in-Group.name) c.in-Group.repetition c.in-Group.annotation fs r d k cs e h)) told)
 
-pub read_inside-returns-in_ok-value-in-Leaf-clause-reads : goal.read_inside-returns-in_ok-value-in-Leaf-clause-reads
-read_inside-returns-in_ok-value-in-Leaf-clause-reads g t c =
+pub read_inside-returns-in_ok-read_leaf-in-Leaf-clause-reads : goal.read_inside-returns-in_ok-read_leaf-in-Leaf-clause-reads
+read_inside-returns-in_ok-read_leaf-in-Leaf-clause-reads g t c =
     let S = g.S.EntrySource.stands in
     let xs = c.args.sources.now in
     let y = c.read_leaf.new.source in
     let r = c.args.place.repetition in
     let d = c.args.place.definition in
     let k = c.args.place.own in
-    let v = view c.in_ok-value-in-Leaf.value in
+    let found = c.in_ok-read_leaf-in-Leaf.ensures.reads in
+    let v = found.0 in
     let is = ap field_view c.in-Leaf.is ∙ view_leaf c.in-Leaf.name c.in-Leaf.repetition c.in-Leaf.leaf_type in
-    let some : 0 < length xs = some_source (field_view c.args.field.now) (length xs) c.requires.valid c.requires.room in
-    subst (λ f. Reads S (FitInside f) (stripes_inside f r d k) k xs (set xs 0 y) v) (sym is)
-    (reads_leaf S (string_bytes c.in-Leaf.name) c.in-Leaf.repetition (leaf_type_view c.in-Leaf.leaf_type) r d k xs c.index-sources-0.result y v some c.in_ok-value-in-Leaf.ensures.fits c.in_ok-value-in-Leaf.ensures.first)
+    let some : 0 < length xs = some_source (field_view c.args.field.now) (length xs) c.requires.valid c.requires.room in (
+      v,
+      (
+        subst (λ f. Reads S (FitInside f) (stripes_inside f r d k) k xs (set xs 0 y) v) (sym is)
+            (reads_leaf S (string_bytes c.in-Leaf.name) c.in-Leaf.repetition (leaf_type_view c.in-Leaf.leaf_type) r d k xs c.index-sources-0.result y v some found.1.0.fits found.1.0.first),
+        found.1.1,
+      ),
+    )
 
-pub read_inside-returns-in_ok-values-in-Group-clause-reads : goal.read_inside-returns-in_ok-values-in-Group-clause-reads
-read_inside-returns-in_ok-values-in-Group-clause-reads g t c =
+pub read_inside-returns-in_ok-end_group-in-Group-clause-reads : goal.read_inside-returns-in_ok-end_group-in-Group-clause-reads
+read_inside-returns-in_ok-end_group-in-Group-clause-reads g t c =
     let S = g.S.EntrySource.stands in
     let xs = c.args.sources.now in
     let ys = c.read_fields.new.sources in
     let r = c.args.place.repetition in
     let d = c.args.place.definition in
     let k = c.args.place.own in
-    let vs = views c.in_ok-values-in-Group.values.items in
     let fs = field_views c.in-Group.fields.items in
+    let name = string_bytes c.in-Group.name in
     let is = ap field_view c.in-Group.is ∙ view_fields c.in-Group.name c.in-Group.repetition c.in-Group.annotation c.in-Group.fields in
-    let read = subst (λ gs. Reads S (FitEach (field_views gs)) (stripes_each (field_views gs) r d k) k xs ys vs) c.as_slice.ensures.value c.in_ok-values-in-Group.ensures.reads in
-    subst (λ f. Reads S (FitInside f) (stripes_inside f r d k) k xs ys (view (value_group c.in_ok-values-in-Group.values))) (sym is)
-    (subst (Reads S (FitInside (fields (string_bytes c.in-Group.name) c.in-Group.repetition c.in-Group.annotation fs)) (stripes_inside (fields (string_bytes c.in-Group.name) c.in-Group.repetition c.in-Group.annotation fs) r d k) k xs ys) (sym (view_group c.in_ok-values-in-Group.values))
-    (reads_group S (string_bytes c.in-Group.name) c.in-Group.repetition c.in-Group.annotation fs r d k xs ys vs (same_self S xs) read))
+    let here = fields name c.in-Group.repetition c.in-Group.annotation fs in
+    let read = subst (λ gs. Visits (g.K.RowSink.shows c.begin_group.new.self) (g.K.RowSink.shows c.read_fields.new.sink) tokens_each (Reads S (FitEach (field_views gs)) (stripes_each (field_views gs) r d k) k xs ys)) c.as_slice.ensures.value c.in_ok-used-in-Group.ensures.reads in
+    subst (λ f. Visits (g.K.RowSink.shows c.args.sink.now) (g.K.RowSink.shows c.end_group.new.self) tokens (Reads S (FitInside f) (stripes_inside f r d k) k xs ys)) (sym is)
+    (visits_group (g.K.RowSink.shows c.args.sink.now) (g.K.RowSink.shows c.begin_group.new.self) (g.K.RowSink.shows c.read_fields.new.sink) (g.K.RowSink.shows c.end_group.new.self) (Reads S (FitEach fs) (stripes_each fs r d k) k xs ys) (Reads S (FitInside here) (stripes_inside here r d k) k xs ys)
+    (λ vs h. reads_group S name c.in-Group.repetition c.in-Group.annotation fs r d k xs ys vs (same_self S xs) h) c.in_ok-begin_group-in-Group.ensures.shown read c.in_ok-end_group-in-Group.ensures.shown)
 
-pub read_items-returns-in_err-item-clause-refused : goal.read_items-returns-in_err-item-clause-refused
-read_items-returns-in_err-item-clause-refused g t c =
+pub read_items-returns-in_err-used-clause-refused : goal.read_items-returns-in_err-used-clause-refused
+read_items-returns-in_err-used-clause-refused g t c =
     let S = g.S.EntrySource.stands in
     let f = field_view c.args.field.now in
     let old = c.args.sources.now in
     let r = c.args.place.repetition in
     let d = c.args.place.definition in
     let k = c.args.place.own in
-    let e = c.in_err-item.field-0.0 in
+    let e = c.in_err-used.field-0.0 in
     refused_ok _ c.from_residual.result e c.from_residual.ensures.1
     (refused_same S g.S.EntrySource.refused old old c.read_inside.new.sources (IsFaulty (FitInside f) (stripes_inside f r (d + 1) (k + 1)) (k + 1) (wants_inside f (d + 1))) (IsFaulty (FitItems f) (stripes_items f r d k) k (wants_inside f (d + 1))) e (same_self S old) refl
     (λ cs s h. subst (λ n. IsFaulty (FitItems f) (stripes_items f r d k) k (wants_inside f n) cs e) (sym (add-one d)) (items.first_faulty f c.requires.valid r d k cs e (one_more (λ m n. IsFaulty (FitInside f) (stripes_inside f r m n) n (wants_inside f m) cs e) d k h)))
-    c.in_err-item.ensures.refused)
+    c.in_err-used.ensures.refused)
 
 pub read_items-more-init : goal.read_items-more-init
 read_items-more-init g t c =
@@ -374,14 +382,21 @@ read_items-more-init g t c =
     let r = c.args.place.repetition in
     let d = c.args.place.definition in
     let k = c.args.place.own in
-    let v = c.in_ok-item.item in
-    let read = one_more (λ m n. Reads S (FitInside f) (stripes_inside f r m n) n old now (view v)) d k c.in_ok-item.ensures.reads in
-    let one = sym (ap views (c.in_ok-push.ensures.items ∙ ap (λ xs. xs ++ v ∷ []) c.new-items.ensures.items)) in
+    let found = c.in_ok-used.ensures.reads in
+    let v = found.0 in
+    let read = one_more (λ m n. Reads S (FitInside f) (stripes_inside f r m n) n old now v) d k found.1.0 in
     record {
-      fit = subst (FitItems f) one (items.fit_one f (view v) read.fits);
-      onward = subst (λ vs. Onward S old now (λ b a. items.SoFar f r d k b a vs)) one (first_onward S f c.requires.valid r d k old now (view v) read);
-      backward = subst (λ vs. Backward S old now (Fronts (stripes_items f r d k vs))) one (first_backward S f c.requires.valid r d k old now (view v) read);
-      kept = c.in_ok-item.ensures.kept;
+      seen = (
+        item v no_values,
+        (
+          items.fit_one f v read.fits,
+          (
+            first_onward S f c.requires.valid r d k old now v read,
+            (first_backward S f c.requires.valid r d k old now v read, subst (Adds (g.K.RowSink.shows c.args.sink.now) (g.K.RowSink.shows c.read_inside.new.sink)) (sym (append-nil (tokens v))) found.1.1),
+          ),
+        ),
+      );
+      kept = c.in_ok-used.ensures.kept;
       size = search rules;
     }
 
@@ -391,21 +406,6 @@ read_items-has_item-requires g t c =
     let size = c.more.invariant.size in
     omega (arith, some, size)
 
-pub read_items-returns-in_err-has_item-clause-refused : goal.read_items-returns-in_err-has_item-clause-refused
-read_items-returns-in_err-has_item-clause-refused g t c =
-    let S = g.S.EntrySource.stands in
-    let f = field_view c.args.field.now in
-    let old = c.args.sources.now in
-    let xs = c.more.sources in
-    let ys = c.has_item.new.sources in
-    let r = c.args.place.repetition in
-    let d = c.args.place.definition in
-    let k = c.args.place.own in
-    let e = c.in_err-has_item.field-0.0 in
-    refused_ok _ c.from_residual-in_err-has_item.result e c.from_residual-in_err-has_item.ensures.1
-    (refused_up S g.S.EntrySource.refused old ys xs ys (λ _. IsMemory) (IsFaulty (FitItems f) (stripes_items f r d k) k (wants_inside f (d + 1))) e (λ h. h) (λ k. k ∙ c.more.invariant.kept)
-    (λ cs s. let w = c.more.invariant.onward cs s in (w.0, (w.1.0, memory_only _ _ e))) c.in_err-has_item.ensures.refused)
-
 pub read_items-returns-then-not-branch-clause-reads : goal.read_items-returns-then-not-branch-clause-reads
 read_items-returns-then-not-branch-clause-reads g t c =
     let S = g.S.EntrySource.stands in
@@ -414,10 +414,11 @@ read_items-returns-then-not-branch-clause-reads g t c =
     let xs = c.more.sources in
     let k = c.args.place.own in
     let none : (cs : Columns) → AllStand S xs cs → HasItem (suc k) (first_of cs) false = λ cs s. subst (λ n. HasItem n (first_of cs) false) (add-one k) (subst (HasItem (k + 1) (first_of cs)) c.if-not-branch.true (c.in_ok-has_item.ensures.item cs s)) in
-    reads_items S f c.requires.valid c.args.place.repetition c.args.place.definition k old xs c.has_item.new.sources (views c.more.items.items) c.has_item.ensures.same c.more.invariant.fit none c.more.invariant.onward c.more.invariant.backward
+    let seen = c.more.invariant.seen in
+    (seen.0, (reads_items S f c.requires.valid c.args.place.repetition c.args.place.definition k old xs c.has_item.new.sources seen.0 c.has_item.ensures.same seen.1.0 none seen.1.1.0 seen.1.1.1.0, seen.1.1.1.1))
 
-pub read_items-returns-in_err-item-2-clause-refused : goal.read_items-returns-in_err-item-2-clause-refused
-read_items-returns-in_err-item-2-clause-refused g t c =
+pub read_items-returns-in_err-read_inside-clause-refused : goal.read_items-returns-in_err-read_inside-clause-refused
+read_items-returns-in_err-read_inside-clause-refused g t c =
     let S = g.S.EntrySource.stands in
     let f = field_view c.args.field.now in
     let old = c.args.sources.now in
@@ -427,20 +428,21 @@ read_items-returns-in_err-item-2-clause-refused g t c =
     let r = c.args.place.repetition in
     let d = c.args.place.definition in
     let k = c.args.place.own in
-    let e = c.in_err-item-2.field-0.0 in
+    let e = c.in_err-read_inside.field-0.0 in
     let more : (cs : Columns) → AllStand S xs cs → HasItem (suc k) (first_of cs) true = λ cs s. subst (λ n. HasItem n (first_of cs) true) (add-one k) (subst (HasItem (k + 1) (first_of cs)) c.if-not-branch.false (c.in_ok-has_item.ensures.item cs s)) in
-    refused_ok _ c.from_residual-in_err-item-2.result e c.from_residual-in_err-item-2.ensures.1
+    refused_ok _ c.from_residual-in_err-read_inside.result e c.from_residual-in_err-read_inside.ensures.1
     (refused_up S g.S.EntrySource.refused old new mid new (IsFaulty (FitInside f) (stripes_inside f (k + 1) (d + 1) (k + 1)) (k + 1) (wants_inside f (d + 1))) (IsFaulty (FitItems f) (stripes_items f r d k) k (wants_inside f (d + 1))) e (λ h. h) (λ k. k ∙ c.in_ok-has_item.ensures.kept ∙ c.more.invariant.kept)
     (λ cs s.
-    let w = c.more.invariant.onward cs s in (
+    let seen = c.more.invariant.seen in
+    let w = seen.1.1.0 cs s in (
       w.0,
       (
         stand_on S xs mid w.0 c.has_item.ensures.same w.1.0,
         λ h. subst (λ n. IsFaulty (FitItems f) (stripes_items f r d k) k (wants_inside f n) cs e) (sym (add-one d))
-            (items.next_faulty f c.requires.valid r d k cs w.0 (views c.more.items.items) e (more w.0 w.1.0) w.1.1 (one_more (λ m n. IsFaulty (FitInside f) (stripes_inside f n m n) n (wants_inside f m) w.0 e) d k h)),
+            (items.next_faulty f c.requires.valid r d k cs w.0 seen.0 e (more w.0 w.1.0) w.1.1 (one_more (λ m n. IsFaulty (FitInside f) (stripes_inside f n m n) n (wants_inside f m) w.0 e) d k h)),
       ),
     ))
-    c.in_err-item-2.ensures.refused)
+    c.in_err-read_inside.ensures.refused)
 
 pub read_items-more-preserved : goal.read_items-more-preserved
 read_items-more-preserved g t c =
@@ -453,29 +455,27 @@ read_items-more-preserved g t c =
     let r = c.args.place.repetition in
     let d = c.args.place.definition in
     let k = c.args.place.own in
-    let vs = c.more.items.items in
-    let v = c.in_ok-item-2.item in
+    let seen = c.more.invariant.seen in
+    let vs = seen.0 in
+    let found = c.in_ok-read_inside.ensures.reads in
+    let v = found.0 in
+    let K = g.K.RowSink.shows in
     let more : (cs : Columns) → AllStand S xs cs → HasItem (suc k) (first_of cs) true = λ cs s. subst (λ n. HasItem n (first_of cs) true) (add-one k) (subst (HasItem (k + 1) (first_of cs)) c.if-not-branch.false (c.in_ok-has_item.ensures.item cs s)) in
-    let read = one_more (λ m n. Reads S (FitInside f) (stripes_inside f n m n) n mid new (view v)) d k c.in_ok-item-2.ensures.reads in
-    let one = sym (ap views c.in_ok-push-2.ensures.items ∙ views-push vs v) in
+    let read = one_more (λ m n. Reads S (FitInside f) (stripes_inside f n m n) n mid new v) d k found.1.0 in
     record {
-      fit = subst (FitItems f) one (items.fit_snoc f (views vs) (view v) c.more.invariant.fit read.fits);
-      onward = subst (λ us. Onward S old new (λ b a. items.SoFar f r d k b a us)) one (next_onward S f c.requires.valid r d k old xs mid new (views vs) (view v) c.has_item.ensures.same more c.more.invariant.onward read);
-      backward = subst (λ us. Backward S old new (Fronts (stripes_items f r d k us))) one (next_backward S f c.requires.valid r d k old xs mid new (views vs) (view v) c.has_item.ensures.same c.more.invariant.fit c.more.invariant.backward read);
-      kept = c.in_ok-item-2.ensures.kept ∙ c.in_ok-has_item.ensures.kept ∙ c.more.invariant.kept;
+      seen = (
+        snoc vs v,
+        (
+          items.fit_snoc f vs v seen.1.0 read.fits,
+          (
+            next_onward S f c.requires.valid r d k old xs mid new vs v c.has_item.ensures.same more seen.1.1.0 read,
+            (
+              next_backward S f c.requires.valid r d k old xs mid new vs v c.has_item.ensures.same seen.1.0 seen.1.1.1.0 read,
+              subst (Adds (K c.args.sink.now) (K c.read_inside-in-more.new.sink)) (sym (tokens_snoc vs v)) (adds_then (K c.args.sink.now) (K c.more.sink) (K c.read_inside-in-more.new.sink) (tokens_each vs) (tokens v) seen.1.1.1.1 found.1.1),
+            ),
+          ),
+        ),
+      );
+      kept = c.in_ok-read_inside.ensures.kept ∙ c.in_ok-has_item.ensures.kept ∙ c.more.invariant.kept;
       size = search rules;
     }
-
-pub read_items-returns-clause-refused : goal.read_items-returns-clause-refused
-read_items-returns-clause-refused g t c = inr (c.more.invariant.kept, (tt, λ cs s. tt))
-
-pub read_fields-returns-in_err-push-clause-refused : goal.read_fields-returns-in_err-push-clause-refused
-read_fields-returns-in_err-push-clause-refused g t c =
-    let xs = c.loop-field.sources in
-    let used = c.loop-field.used in
-    let counts = c.loop-field.invariant.counts in
-    let fits = c.requires.room in
-    let size = c.loop-field.invariant.size in
-    let room : used ≤ length xs = omega (arith, counts, fits, size) in
-    refused_ok _ c.from_residual-in_err-push.result Memory c.from_residual-in_err-push.ensures.1
-    (inr (map_kept g.S.EntrySource.refused used xs c.read_field.new.sources room c.in_ok-value.ensures.kept ∙ c.loop-field.invariant.kept, (tt, λ cs s. tt)))

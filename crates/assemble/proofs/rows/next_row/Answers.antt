@@ -1,122 +1,20 @@
-use Rattle.std.proofs.Common.{eqb-true, ◌≡◌, ◌∙◌, length, true, false, arith, sym, ap, subst, inr, refl}
-use Rattle.std.proofs.lemmas.List.{length-map}
-use Rattle.schema.specs.Values.{views}
-use Rattle.schema.specs.Stripe.{leaves_of}
-use Rattle.schema.specs.Views.{field_views, leaf_view}
-use Rattle.schema.specs.Reading.{count_leaves_each, tallest}
-use Rattle.schema.proofs.CutSteps.{counts_are}
-use Rattle.assemble.specs.Columns.{Columns, Tells}
-use Rattle.assemble.specs.Standing.{AllStand, IsRefusedFor}
-use Rattle.assemble.specs.RowsOf.{HasFault}
-use Rattle.assemble.specs.inner.Fronts.{FitEach, stripes_each, wants_each}
-use Rattle.assemble.specs.inner.ReadValues.{IsFaulty, Reads}
-use Rattle.assemble.specs.inner.Steps.{first_of, HasItem, Filled}
-use Rattle.assemble.proofs.RowByRow.{has_leaves, other_number, next_err, not_ended, nothing_first, faulty_row, is_first_row, row_front, tallest_at}
-use Rattle.assemble.proofs.Ending.{no_rows}
-use Rattle.assemble.proofs.Standing.{same_then, same_length, stand_on, stand_back, stand_length, refused_same}
+use Rattle.std.proofs.Common.{◌≡◌, ◌∙◌, Bool, Ok, ap, sym, subst}
+use Rattle.schema.specs.Values.{ValueTrees, views}
+use Rattle.schema.specs.Views.{row_view}
+use Rattle.assemble.specs.RowsOf.{NextRowTo, IsNextRow}
+use Rattle.assemble.specs.inner.Building.{builder_shows, frames_of}
+use Rattle.assemble.proofs.Showing.{all_shown}
 use Rattle.assemble.proofs.rows.next_row.Goals as goal
-use Rattle.assemble.proofs.rows.next_row.Goals.{then-sources-leaves-via-then-sources-leaves, then-sources-leaves-via-else-sources-leaves+then-is_empty}
 
-pub returns-then-sources-leaves : goal.returns-then-sources-leaves
-returns-then-sources-leaves g c =
-    let fs = c.args.schema.now in
-    let xs = c.args.sources.now in
-    let count : length c.leaves-leaves.result.now ≡ length (leaves_of fs) = sym (length-map c.leaves-leaves.result.now leaf_view) ∙ ap length c.leaves-leaves.ensures.leaves_are in
-    let some = has_leaves fs c.leaves-leaves.ensures.valid in
-    record {
-      row = inr (
-        refl,
-        (
-          tt,
-          λ cs s rows fit alike.
-              let same = other_number fs rows cs alike in
-              let size = stand_length g.S.EntrySource.stands xs cs s in
-              elim c.then-sources-leaves.branch [
-                | then-sources-leaves-via-then-sources-leaves w ↦ let ne = w.if-sources-leaves.true in ne (omega (arith, same, size, count))
-                | then-sources-leaves-via-else-sources-leaves+then-is_empty w ↦ let z : length xs ≡ 0 = eqb-true (length xs) 0 (sym w.if-is_empty.ensures) in omega (arith, z, same, size, some)
-              ],
-        ),
-      );
-    }
-
-pub returns-in_err-check_ended : goal.returns-in_err-check_ended
-returns-in_err-check_ended g c =
-    let S = g.S.EntrySource.stands in
-    let R = g.S.EntrySource.refused in
-    let fs = c.args.schema.now in
-    let old = c.args.sources.now in
-    let mid = c.has_item.new.sources in
-    let new = c.check_ended.new.sources in
-    let e = c.in_err-check_ended.field-0.0 in
-    let none : (cs : Columns) → AllStand S old cs → HasItem 0 (first_of cs) false = λ cs s. subst (HasItem 0 (first_of cs)) c.if-not-branch.true (c.in_ok-has_item.ensures.item cs s) in
-    record {
-      row = next_err S R fs old new c.from_residual-in_err-check_ended.result e c.from_residual-in_err-check_ended.ensures.1
-          (refused_same S R old mid new (λ cs. Tells (Filled cs) ⊥) (HasFault fs) e c.has_item.ensures.same c.in_ok-has_item.ensures.kept (λ cs s. not_ended fs (has_leaves fs c.leaves-leaves.ensures.valid) cs e (nothing_first (first_of cs) (none cs s))) c.in_err-check_ended.ensures.refused);
-    }
-
-pub returns-then-not-branch : goal.returns-then-not-branch
-returns-then-not-branch g c =
-    let S = g.S.EntrySource.stands in
-    let fs = c.args.schema.now in
-    let xs = c.args.sources.now in
-    let mid = c.has_item.new.sources in
-    let count : length c.leaves-leaves.result.now ≡ length (leaves_of fs) = sym (length-map c.leaves-leaves.result.now leaf_view) ∙ ap length c.leaves-leaves.ensures.leaves_are in
-    let kept = same_length S xs mid c.has_item.ensures.same in
-    let same = c.if-sources-leaves.false in
-    let ended = no_rows S (leaves_of fs) mid (omega (arith, count, kept, same)) c.in_ok-check_ended.ensures.ended in
-    record { row = (c.in_ok-check_ended.ensures.kept ∙ c.in_ok-has_item.ensures.kept, (stand_back S xs mid _ c.has_item.ensures.same ended, same_then S xs mid c.check_ended.new.sources c.has_item.ensures.same c.check_ended.ensures.same)) }
-
-pub read_fields-requires-clause-room : goal.read_fields-requires-clause-room
-read_fields-requires-clause-room g c =
-    let fs = c.args.schema.now in
-    let S = g.S.EntrySource.stands in
-    let count : length c.leaves-leaves.result.now ≡ length (leaves_of fs) = sym (length-map c.leaves-leaves.result.now leaf_view) ∙ ap length c.leaves-leaves.ensures.leaves_are in
-    let kept = same_length S c.args.sources.now c.has_item.new.sources c.has_item.ensures.same in
-    let all : count_leaves_each (field_views c.fields.result.now) ≡ length (leaves_of fs) = ap count_leaves_each c.fields.ensures ∙ counts_are 0 fs in
-    let same = c.if-sources-leaves.false in
-    omega (arith, count, kept, all, same)
-
-pub read_fields-requires-clause-deep : goal.read_fields-requires-clause-deep
-read_fields-requires-clause-deep g c =
-    let fs = c.args.schema.now in
-    let is : tallest (field_views c.fields.result.now) ≡ tallest fs = ap tallest c.fields.ensures in
-    let deep = tallest_at fs 0 32 c.leaves-leaves.ensures.valid.1 c.leaves-leaves.ensures.within.depth in
-    omega (arith, is, deep)
-
-pub returns-in_err-values : goal.returns-in_err-values
-returns-in_err-values g c =
-    let S = g.S.EntrySource.stands in
-    let R = g.S.EntrySource.refused in
-    let fs = c.args.schema.now in
-    let old = c.args.sources.now in
-    let mid = c.has_item.new.sources in
-    let new = c.read_fields.new.sources in
-    let e = c.in_err-values.field-0.0 in
-    let more : (cs : Columns) → AllStand S old cs → HasItem 0 (first_of cs) true = λ cs s. subst (HasItem 0 (first_of cs)) c.if-not-branch.false (c.in_ok-has_item.ensures.item cs s) in
-    let told = subst (λ gs. IsRefusedFor S R mid new (IsFaulty (FitEach gs) (stripes_each gs 0 0 0) 0 (wants_each gs 0)) e) c.fields.ensures c.in_err-values.ensures.refused in
-    record {
-      row = next_err S R fs old new c.from_residual-in_err-values.result e c.from_residual-in_err-values.ensures.1
-          (refused_same S R old mid new (IsFaulty (FitEach fs) (stripes_each fs 0 0 0) 0 (wants_each fs 0)) (HasFault fs) e c.has_item.ensures.same c.in_ok-has_item.ensures.kept (λ cs s. faulty_row fs (has_leaves fs c.leaves-leaves.ensures.valid) cs e (more cs s)) told);
-    }
-
-pub returns : goal.returns
-returns g c =
+pub returns-then-branch : goal.returns-then-branch
+returns-then-branch g c =
     let S = g.S.EntrySource.stands in
     let fs = c.args.schema.now in
     let old = c.args.sources.now in
-    let mid = c.has_item.new.sources in
-    let new = c.read_fields.new.sources in
-    let row = views c.in_ok-values.values.items in
-    let read = subst (λ gs. Reads S (FitEach gs) (stripes_each gs 0 0 0) 0 mid new row) c.fields.ensures c.in_ok-values.ensures.reads in
-    record {
-      row = (
-        c.in_ok-values.ensures.kept ∙ c.in_ok-has_item.ensures.kept,
-        (
-          (read.fits, tt),
-          (
-            λ cs s. let w = read.onward cs (stand_on S old mid cs c.has_item.ensures.same s) in (w.0, (w.1.0, is_first_row fs (has_leaves fs c.leaves-leaves.ensures.valid) cs w.0 row w.1.1)),
-            λ ds s. let w = read.backward ds s in (w.0, (stand_back S old mid w.0 c.has_item.ensures.same w.1.0, row_front fs row w.0 ds read.fits w.1.1)),
-          ),
-        ),
-      );
-    }
+    let new = c.next_row_to.new.sources in
+    let from = c.in_ok-builder.builder in
+    let to = c.next_row_to.new.sink in
+    let found = subst (λ (b : Bool). NextRowTo S g.S.EntrySource.refused builder_shows fs old new from to (Ok b)) c.if-branch.true c.in_ok-next_row_to.ensures.row in
+    let row : ValueTrees = found.1.0 in
+    let built : row ≡ row_view c.into_row.result = sym (ap (λ vs. views vs.items) c.into_row.ensures.values ∙ all_shown (frames_of from) (frames_of to) row c.in_ok-builder.ensures.empty found.1.1.1) in
+    record { row = (found.0, subst (IsNextRow S fs old new) built found.1.1.0) }

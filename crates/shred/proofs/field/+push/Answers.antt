@@ -12,7 +12,8 @@ use Rattle.schema.proofs.Views.{fits_each-lengths}
 use Rattle.shred.specs.Columns.{column_refs_view}
 use Rattle.shred.specs.inner.Growing.{grown, nils, stripes_each, stripes_later, IsMisfit}
 use Rattle.shred.proofs.Growing.{grown_whole, grown_same}
-use Rattle.shred.proofs.Turns.{field_given, member_is, fit_given, item_given, items_given, item_fits, list_fits, view_list}
+use Rattle.schema.proofs.OneLevel.{view_list}
+use Rattle.shred.proofs.Turns.{field_given, member_is, fit_given, item_given, items_given, item_fits, list_fits}
 use Rattle.shred.proofs.field.+push.Goals as goal
 
 pub push_field-returns-in-List-clause-refused : goal.push_field-returns-in-List-clause-refused

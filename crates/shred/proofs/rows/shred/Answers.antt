@@ -10,8 +10,7 @@ use Rattle.shred.specs.Columns.{column_ref_view, column_refs_view}
 use Rattle.shred.specs.inner.Growing.{grown, levels_at, stripes_each}
 use Rattle.shred.proofs.Growing.{grown_from_nils, grown_same, length_nils}
 use Rattle.shred.proofs.Turns.{row_given}
-use Rattle.shred.proofs.Heights.{tallest_at}
-use Rattle.shred.proofs.Slices.{written_back}
+use Rattle.schema.proofs.Slices.{written_back}
 use Rattle.shred.proofs.rows.shred.Goals as goal
 
 pub loop-row-init : goal.loop-row-init
@@ -39,7 +38,7 @@ push_fields-requires-clause-room c =
 pub push_fields-requires-clause-deep : goal.push_fields-requires-clause-deep
 push_fields-requires-clause-deep c =
     let is = ap tallest c.fields.ensures in
-    let deep = tallest_at c.args.schema.now 0 32 c.leaves-leaves.ensures.valid.1 c.leaves-leaves.ensures.within.depth in
+    let deep = c.leaves-leaves.ensures.shallow in
     let none = c.of_row.ensures.definition in
     omega (arith, is, deep, none)
 
