@@ -57,8 +57,8 @@ abbrev pub last_value : List ℕ → List (List ℕ) → List ℕ
 last_value before [] = before
 last_value before (value ∷ values) = last_value value values
 
--- a prefix and a suffix are announced with more than 16 MiB together, and the values before them are there
-pub record IsLongCompletion (prefixes lengths : List ℤ) (text : List ℕ) : Type 0 where
+-- a prefix and a suffix are announced with more than 16 MiB together, and the values before them are there, the first one after `start`
+pub record IsLongCompletion (start : List ℕ) (prefixes lengths : List ℤ) (text : List ℕ) : Type 0 where
   pub before : List ℕ
   pub suffixes : List (List ℕ)
   pub values : List (List ℕ)
@@ -70,8 +70,8 @@ pub record IsLongCompletion (prefixes lengths : List ℤ) (text : List ℕ) : Ty
   pub prefixes_are : prefixes ≡ map pos before ++ pos prefix ∷ later_prefixes
   pub lengths_are : lengths ≡ sizes suffixes ++ pos announced ∷ later_lengths
   pub joined : text ≡ concat suffixes ++ rest
-  pub completed : AreCompleted [] before suffixes values
-  pub shared : prefix ≤ length (last_value [] values)
+  pub completed : AreCompleted start before suffixes values
+  pub shared : prefix ≤ length (last_value start values)
   pub much : 16777216 < prefix + announced
 
 -- one of n values is announced with more than 16 MiB, after values that stand
@@ -82,7 +82,7 @@ pub record IsPrefixesOver (text : List ℕ) (n : ℕ) : Type 0 where
   pub then : ℕ
   pub shared : IsDelta w32 text n prefixes at
   pub others : IsDelta w32 (drop at text) n lengths then
-  pub over : IsLongCompletion prefixes lengths (drop then (drop at text))
+  pub over : IsLongCompletion [] prefixes lengths (drop then (drop at text))
 
 -- a length as a natural number; 0 where it is negative
 abbrev pub natural : ℤ → ℕ
