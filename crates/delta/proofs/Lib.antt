@@ -11,3 +11,4 @@ pub mod Cutting
 pub mod Putting
 pub mod Joining
 mod Completing
+mod Sharing

@@ -1,7 +1,7 @@
 -- Byte values by their lengths, or by what they share with the value before:
 -- parquet-format, Encodings.md, "Delta-length byte array" and "Delta Strings" (DELTA_LENGTH_BYTE_ARRAY and DELTA_BYTE_ARRAY).
-use Rattle.std.specs.Prelude.{◌≡◌, ℕ, ◌+◌, ◌<◌, ◌≤◌, List, [], ◌∷◌, ◌++◌, length, take, drop, map, ℤ, pos, negsuc}
-use Rattle.std.specs.List.{concat}
+use Rattle.std.specs.Prelude.{◌≡◌, ℕ, nat_eq, ◌+◌, ◌<◌, ◌≤◌, List, [], ◌∷◌, ◌++◌, length, take, drop, map, ℤ, pos, negsuc}
+use Rattle.std.specs.List.{concat, common_prefix_len}
 use Rattle.std.specs.Int.{w32}
 use Rattle.schema.specs.Values.{ValueTree, bytes}
 use Rattle.delta.specs.Delta.{IsDelta}
@@ -102,3 +102,17 @@ pub record StandForBytes (Stand : List (List ℕ) → ℕ → Type 0) (values : 
   pub texts : List (List ℕ)
   pub stand : Stand texts used
   pub are : values ≡ map bytes texts
+
+-- how many bytes two values share at their front
+abbrev pub shared_size : List ℕ → List ℕ → ℕ
+shared_size xs ys = common_prefix_len nat_eq xs ys
+
+-- the lengths of the longest prefixes that values share with the value before them, the first one with `before`
+abbrev pub longest_prefixes : List ℕ → List (List ℕ) → List ℕ
+longest_prefixes before [] = []
+longest_prefixes before (value ∷ values) = shared_size before value ∷ longest_prefixes value values
+
+-- what is left of the values after these prefixes
+abbrev pub shortest_suffixes : List ℕ → List (List ℕ) → List (List ℕ)
+shortest_suffixes before [] = []
+shortest_suffixes before (value ∷ values) = drop (shared_size before value) value ∷ shortest_suffixes value values

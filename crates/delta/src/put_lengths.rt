@@ -65,7 +65,7 @@ fn lengths_of<V: Lends>(alloc: Global, values: &[V]) -> R<Vec<i32>>
 }
 
 /// The bytes of a byte value.
-fn bytes_of<V: Lends>(value: &V) -> &[u8]
+pub fn bytes_of<V: Lends>(value: &V) -> &[u8]
     ensures { result.now ≡ text_of (V.lent value.now) }
 {
     match value.lend() {

@@ -1,9 +1,11 @@
 -- What writing blocks gives: parquet-format, Encodings.md, "Delta Encoding".
-use Rattle.std.specs.Prelude.{◌≡◌, ℕ, ◌+◌, ◌-◌, ◌*◌, ◌/◌, min, List, [], ◌++◌, length, take, ℤ}
-use Rattle.std.specs.Int.{Width, byte_len}
+use Rattle.std.specs.Prelude.{◌≡◌, ℕ, ◌+◌, ◌-◌, ◌*◌, ◌/◌, min, List, [], ◌∷◌, ◌++◌, length, take, slice_index_or, ℤ}
+use Rattle.std.specs.Int.{Width, w32, byte_len}
 use Rattle.bits.specs.Codec.{Appends}
 use Rattle.schema.specs.Values.{ValueTree, bytes}
-use Rattle.delta.specs.Delta.{IsBlock}
+use Rattle.plain.specs.Plain.{text_size}
+use Rattle.delta.specs.Delta.{IsBlock, IsDelta}
+use Rattle.delta.specs.ByteDeltas.{IsByteLengths, StandForBytes}
 use Rattle.delta.specs.inner.Taken.{Adds}
 
 -- only the end is new
@@ -25,3 +27,13 @@ pub record PutDeltas (w : Width) (values : List ℤ) (at : ℕ) (old new : List 
 abbrev pub text_of : ValueTree → List ℕ
 text_of (bytes text) = text
 text_of _ = []
+
+-- the value before the one at index i, which is empty for the first
+abbrev pub before_at : List (List ℕ) → ℕ → List ℕ
+before_at texts i = slice_index_or ([] ∷ texts) i []
+
+-- prefix lengths stand at the end, and suffixes by their lengths after them
+pub record ArePut (prefixes : List ℤ) (suffixes : List ValueTree) (old new : List ℕ) : Type 0 where
+  pub mid : List ℕ
+  pub first : Appends (λ bytes. IsDelta w32 bytes (length prefixes) prefixes) (170 + 5 * length prefixes) old mid
+  pub second : Appends (λ bytes. StandForBytes (IsByteLengths bytes (length suffixes)) suffixes) (170 + 5 * length suffixes + text_size suffixes) mid new
