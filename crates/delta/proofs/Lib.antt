@@ -12,3 +12,4 @@ pub mod Putting
 pub mod Joining
 mod Completing
 mod Sharing
+mod Fitting

@@ -1,9 +1,9 @@
 //! Byte values after their lengths.
 
-ghost use Rattle.std.specs.Prelude.{◌≡◌, ℕ, ◌+◌, ◌*◌, ◌≤◌, ◌⊎◌, All, length, map, IfOk, OnOk, OnErr};
+ghost use Rattle.std.specs.Prelude.{◌≡◌, ℕ, ◌+◌, ◌*◌, ◌≤◌, ◌⊎◌, List, All, length, map, IfOk, OnOk, OnErr};
 ghost use Rattle.bits.specs.Refusals.{OnFault, RefusedOnly, RefusedMemoryOnly, LimitJustWhere};
 ghost use Rattle.bits.specs.Codec.{Appends};
-ghost use Rattle.plain.specs.Plain.{IsOfKind, IsTooLong, IsWriteOver, text_size};
+ghost use Rattle.plain.specs.Plain.{AreBytes, IsOfKind, IsTooLong, IsWriteOver, text_size};
 ghost use Rattle.delta.specs.ByteDeltas.{sizes, IsByteLengths, StandForBytes};
 ghost use Rattle.delta.specs.inner.Put.{Extends, text_of};
 
@@ -21,6 +21,7 @@ use std::alloc::Global;
 /// more than 16 MiB. On a refusal `out` is unchanged. Looks at each value three times.
 pub fn encode_lengths<V: Lends>(values: &[V], out: &mut Vec<u8>) -> R<()>
     ensures stands { let seen = map V.lent values.now in OnOk result (Appends (λ bytes. StandForBytes (IsByteLengths bytes (length seen)) seen) (170 + 5 * length seen + text_size seen) out.old.items out.new.items) }
+    ensures only { let seen = map V.lent values.now in OnFault result ((bytes : List ℕ) (used : ℕ) → AreBytes bytes → StandForBytes (IsByteLengths bytes (length seen)) seen used → ⊥) }
     ensures unfit { OnFault result (All (IsOfKind Kind.ByteArray) (map V.lent values.now) → ⊥) }
     ensures which { RefusedOnly (λ e. (e ≡ Refusal.Value) ⊎ (e ≡ Refusal.Limit)) result }
     ensures limit { LimitJustWhere (IsWriteOver Kind.ByteArray (map V.lent values.now)) result }
