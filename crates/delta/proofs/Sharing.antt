@@ -1,6 +1,6 @@
 -- Values written as what they share with the value before.
 use Rattle.std.proofs.Common.{◌≡◌, ℕ, suc, ◌+◌, ◌-◌, ◌*◌, ◌<◌, ◌≤◌, min, List, [], ◌∷◌, ◌++◌, Bool, true, false, nat_eq, cond, length, get_or, take, drop, map, refl, sym, ap, subst, ◌∙◌, arith, append_assoc, Result, Ok, Err}
-use Rattle.std.specs.Result.{is_err, OnOk}
+use Rattle.std.specs.Result.{is_err, OnOk, OnErr}
 use Rattle.bits.specs.declared.refusal.Refusal.{Refusal}
 use Rattle.std.specs.Prelude.{ℤ, pos, All}
 use Rattle.std.specs.List.{concat}
@@ -14,7 +14,7 @@ use Rattle.schema.specs.declared.value.Kind.TheVariants.{ByteArray}
 use Rattle.plain.specs.Plain.{IsOfKind, text_size}
 use Rattle.delta.specs.Delta.{IsDelta}
 use Rattle.delta.specs.ByteDeltas.{IsByteLengths, IsPrefixed, StandForBytes, AreCompleted, shared_size, longest_prefixes, shortest_suffixes}
-use Rattle.delta.specs.inner.Put.{text_of, before_at, ArePut}
+use Rattle.delta.specs.inner.Put.{Extends, text_of, before_at, ArePut}
 use Rattle.delta.proofs.Joining.{are_bytes}
 
 take_first : (x y : ℕ) (xs ys : List ℕ) (k : ℕ) (b : Bool) → nat_eq x y ≡ b → take k xs ≡ take k ys → take (cond b (1 + k) 0) (x ∷ xs) ≡ take (cond b (1 + k) 0) (y ∷ ys)
@@ -166,3 +166,8 @@ prefixed_short vs ps sv old new ps_are sv_are p texts are =
 pub from_ok : {X P : Type 0} (r : Result X Refusal) → is_err r ≡ false → OnOk r P → P
 from_ok (Ok x) is p = p
 from_ok (Err e) is p = cc
+
+-- only the end is new, whether the second part is written or not
+pub both_extend : {X : Type 0} (r : Result X Refusal) (Stands : List ℕ → ℕ → Type 0) (most : ℕ) (old mid new first : List ℕ) → mid ≡ old ++ first → OnOk r (Appends Stands most mid new) → OnErr r (new ≡ mid) → Extends old new
+both_extend (Ok x) Stands most old mid new first put p same = (first ++ p.text, p.joined ∙ ap (λ (t : List ℕ). t ++ p.text) put ∙ append_assoc old first p.text)
+both_extend (Err e) Stands most old mid new first put p same = (first, same ∙ put)

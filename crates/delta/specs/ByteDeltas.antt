@@ -1,9 +1,11 @@
 -- Byte values by their lengths, or by what they share with the value before:
 -- parquet-format, Encodings.md, "Delta-length byte array" and "Delta Strings" (DELTA_LENGTH_BYTE_ARRAY and DELTA_BYTE_ARRAY).
-use Rattle.std.specs.Prelude.{◌≡◌, ℕ, nat_eq, ◌+◌, ◌<◌, ◌≤◌, List, [], ◌∷◌, ◌++◌, length, take, drop, map, ℤ, pos, negsuc}
+use Rattle.std.specs.Prelude.{◌≡◌, ℕ, nat_eq, ◌+◌, ◌*◌, ◌<◌, ◌≤◌, List, [], ◌∷◌, ◌++◌, length, take, drop, map, ℤ, pos, negsuc}
 use Rattle.std.specs.List.{concat, common_prefix_len}
 use Rattle.std.specs.Int.{w32}
+use Rattle.bits.specs.Codec.{Appends}
 use Rattle.schema.specs.Values.{ValueTree, bytes}
+use Rattle.plain.specs.Plain.{AreBytes, text_size}
 use Rattle.delta.specs.Delta.{IsDelta}
 
 -- the lengths of values, as numbers that a delta has
@@ -38,7 +40,8 @@ pub record IsLengthsOver (text : List ℕ) (n : ℕ) : Type 0 where
 -- each value is the stated prefix of the value before it, and then its suffix
 abbrev pub AreCompleted : List ℕ → List ℕ → List (List ℕ) → List (List ℕ) → Type 0
 AreCompleted before [] [] [] = Unit {0}
-AreCompleted before (prefix ∷ prefixes) (suffix ∷ suffixes) (value ∷ values) = (prefix ≤ length before) × (value ≡ take prefix before ++ suffix) × AreCompleted value prefixes suffixes values
+AreCompleted before (prefix ∷ prefixes) (suffix ∷ suffixes) (value ∷ values) =
+    (prefix ≤ length before) × (value ≡ take prefix before ++ suffix) × AreCompleted value prefixes suffixes values
 AreCompleted before prefixes suffixes values = ⊥
 
 -- the lengths of the shared prefixes as differences of 32 bits, and then the suffixes by their lengths; the first value has none before it
@@ -116,3 +119,23 @@ longest_prefixes before (value ∷ values) = shared_size before value ∷ longes
 abbrev pub shortest_suffixes : List ℕ → List (List ℕ) → List (List ℕ)
 shortest_suffixes before [] = []
 shortest_suffixes before (value ∷ values) = drop (shared_size before value) value ∷ shortest_suffixes value values
+
+-- values are written at the end by their lengths, and the bytes stand for them whatever follows
+abbrev pub AppendsByLengths : List ValueTree → List ℕ → List ℕ → Type 0
+AppendsByLengths values old new = Appends (λ bytes. StandForBytes (IsByteLengths bytes (length values)) values) (170 + 5 * length values + text_size values) old new
+
+-- values are written at the end by their prefixes, and the bytes stand for them whatever follows
+abbrev pub AppendsByPrefixes : List ValueTree → List ℕ → List ℕ → Type 0
+AppendsByPrefixes values old new = Appends (λ bytes. StandForBytes (IsPrefixed bytes (length values)) values) (340 + 10 * length values + text_size values) old new
+
+-- values are written at the end with suffixes that are as short as can be
+abbrev pub AppendsShortest : List ValueTree → List ℕ → List ℕ → Type 0
+AppendsShortest values old new =
+    (texts : List (List ℕ)) → values ≡ map bytes texts → length new ≤ length old + (340 + 10 * length values + length (concat (shortest_suffixes [] texts)))
+
+-- no bytes stand for the values, by their lengths or by their prefixes
+abbrev pub NoLengthsOf : List ValueTree → Type 0
+NoLengthsOf values = (text : List ℕ) (used : ℕ) → AreBytes text → StandForBytes (IsByteLengths text (length values)) values used → ⊥
+
+abbrev pub NoPrefixesOf : List ValueTree → Type 0
+NoPrefixesOf values = (text : List ℕ) (used : ℕ) → AreBytes text → StandForBytes (IsPrefixed text (length values)) values used → ⊥

@@ -4,7 +4,7 @@ ghost use Rattle.std.specs.Prelude.{◌≡◌, ℕ, ◌+◌, ◌*◌, ◌≤◌,
 ghost use Rattle.bits.specs.Refusals.{OnFault, RefusedOnly, RefusedMemoryOnly, LimitJustWhere};
 ghost use Rattle.bits.specs.Codec.{Appends};
 ghost use Rattle.plain.specs.Plain.{AreBytes, IsOfKind, IsTooLong, IsWriteOver, text_size};
-ghost use Rattle.delta.specs.ByteDeltas.{sizes, IsByteLengths, StandForBytes};
+ghost use Rattle.delta.specs.ByteDeltas.{sizes, AppendsByLengths, NoLengthsOf};
 ghost use Rattle.delta.specs.inner.Put.{Extends, text_of};
 
 use crate::writing::encode_i32;
@@ -20,8 +20,8 @@ use std::alloc::Global;
 /// Refused Value only where one of them is no byte value, and Limit exactly when all are and one has
 /// more than 16 MiB. On a refusal `out` is unchanged. Looks at each value three times.
 pub fn encode_lengths<V: Lends>(values: &[V], out: &mut Vec<u8>) -> R<()>
-    ensures stands { let seen = map V.lent values.now in OnOk result (Appends (λ bytes. StandForBytes (IsByteLengths bytes (length seen)) seen) (170 + 5 * length seen + text_size seen) out.old.items out.new.items) }
-    ensures only { let seen = map V.lent values.now in OnFault result ((bytes : List ℕ) (used : ℕ) → AreBytes bytes → StandForBytes (IsByteLengths bytes (length seen)) seen used → ⊥) }
+    ensures stands { OnOk result (AppendsByLengths (map V.lent values.now) out.old.items out.new.items) }
+    ensures only { OnFault result (NoLengthsOf (map V.lent values.now)) }
     ensures unfit { OnFault result (All (IsOfKind Kind.ByteArray) (map V.lent values.now) → ⊥) }
     ensures which { RefusedOnly (λ e. (e ≡ Refusal.Value) ⊎ (e ≡ Refusal.Limit)) result }
     ensures limit { LimitJustWhere (IsWriteOver Kind.ByteArray (map V.lent values.now)) result }
@@ -42,7 +42,7 @@ pub fn encode_lengths<V: Lends>(values: &[V], out: &mut Vec<u8>) -> R<()>
 fn put_lengths<V: Lends>(lengths: &[i32], values: &[V], out: &mut Vec<u8>) -> R<()>
     requires kind { All (IsOfKind Kind.ByteArray) (map V.lent values.now) }
     requires lengths { lengths.now ≡ sizes (map text_of (map V.lent values.now)) }
-    ensures stands { let seen = map V.lent values.now in OnOk result (Appends (λ bytes. StandForBytes (IsByteLengths bytes (length seen)) seen) (170 + 5 * length seen + text_size seen) out.old.items out.new.items) }
+    ensures stands { OnOk result (AppendsByLengths (map V.lent values.now) out.old.items out.new.items) }
     ensures front { Extends out.old.items out.new.items }
 {
     encode_i32(lengths, out)?;

@@ -7,7 +7,7 @@ ghost use Rattle.bits.specs.Codec.{Appends};
 ghost use Rattle.schema.specs.Values.{bytes};
 ghost use Rattle.schema.specs.Borrowed.{value_ref_view};
 ghost use Rattle.plain.specs.Plain.{AreBytes, IsOfKind, IsTooLong, IsWriteOver, text_size};
-ghost use Rattle.delta.specs.ByteDeltas.{IsPrefixed, StandForBytes, shared_size, longest_prefixes, shortest_suffixes};
+ghost use Rattle.delta.specs.ByteDeltas.{AppendsByPrefixes, AppendsShortest, NoPrefixesOf, shared_size, longest_prefixes, shortest_suffixes};
 ghost use Rattle.delta.specs.inner.Put.{Extends, ArePut, text_of, before_at};
 
 use crate::put_lengths::{bytes_of, encode_lengths};
@@ -26,9 +26,9 @@ use std::alloc::Global;
 /// Refused Value only where one of them is no byte value, and Limit exactly when all are and one has
 /// more than 16 MiB. On a refusal `out` is unchanged.
 pub fn encode_prefixes<V: Lends>(values: &[V], out: &mut Vec<u8>) -> R<()>
-    ensures stands { let seen = map V.lent values.now in OnOk result (Appends (λ bytes. StandForBytes (IsPrefixed bytes (length seen)) seen) (340 + 10 * length seen + text_size seen) out.old.items out.new.items) }
-    ensures longest { let seen = map V.lent values.now in OnOk result ((texts : List (List ℕ)) → seen ≡ map bytes texts → length out.new.items ≤ length out.old.items + (340 + 10 * length seen + length (concat (shortest_suffixes [] texts)))) }
-    ensures only { let seen = map V.lent values.now in OnFault result ((bytes : List ℕ) (used : ℕ) → AreBytes bytes → StandForBytes (IsPrefixed bytes (length seen)) seen used → ⊥) }
+    ensures stands { OnOk result (AppendsByPrefixes (map V.lent values.now) out.old.items out.new.items) }
+    ensures longest { OnOk result (AppendsShortest (map V.lent values.now) out.old.items out.new.items) }
+    ensures only { OnFault result (NoPrefixesOf (map V.lent values.now)) }
     ensures unfit { OnFault result (All (IsOfKind Kind.ByteArray) (map V.lent values.now) → ⊥) }
     ensures which { RefusedOnly (λ e. (e ≡ Refusal.Value) ⊎ (e ≡ Refusal.Limit)) result }
     ensures limit { LimitJustWhere (IsWriteOver Kind.ByteArray (map V.lent values.now)) result }

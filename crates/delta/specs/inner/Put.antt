@@ -1,12 +1,12 @@
 -- What writing blocks gives: parquet-format, Encodings.md, "Delta Encoding".
-use Rattle.std.specs.Prelude.{◌≡◌, ℕ, ◌+◌, ◌-◌, ◌*◌, ◌/◌, min, List, [], ◌∷◌, ◌++◌, length, take, slice_index_or, ℤ}
+use Rattle.std.specs.Prelude.{◌≡◌, ℕ, ◌+◌, ◌-◌, ◌*◌, ◌/◌, min, List, [], ◌∷◌, ◌++◌, length, take, slice_index, slice_index_or, ◌<◌, ◌≤◌, ℤ}
 use Rattle.std.specs.Int.{Width, w32, byte_len}
 use Rattle.bits.specs.Codec.{Appends}
 use Rattle.schema.specs.Values.{ValueTree, bytes}
 use Rattle.plain.specs.Plain.{text_size}
-use Rattle.delta.specs.Delta.{IsBlock, IsDelta}
+use Rattle.delta.specs.Delta.{IsBlock, IsDelta, AreMiniblocks}
 use Rattle.delta.specs.ByteDeltas.{IsByteLengths, StandForBytes}
-use Rattle.delta.specs.inner.Taken.{Adds}
+use Rattle.delta.specs.inner.Taken.{Adds, deltas_of}
 
 -- only the end is new
 abbrev pub Extends : List ℕ → List ℕ → Type 0
@@ -15,6 +15,20 @@ Extends old new = (text : List ℕ) × (new ≡ old ++ text)
 -- how many of the values from index `at` on a block has
 abbrev pub block_count : List ℤ → ℕ → ℕ
 block_count values at = min (length values - at) 128
+
+-- the packed numbers of a block lead to its values
+abbrev pub AddsBlock : Width → List ℤ → ℕ → ℤ → List ℕ → Type 0
+AddsBlock w values at least numbers =
+    Adds w (deltas_of least (take (block_count values at) numbers)) (take at values) (take (at + block_count values at) values)
+
+-- each of four widths is at most so many bytes
+abbrev pub AreWithin : ℕ → List ℕ → Type 0
+AreWithin most widths = (m : ℕ) → m < 4 → slice_index widths m ≤ 8 * most
+
+-- the first miniblocks of these widths stand at the end
+abbrev pub AppendsMiniblocks : ℕ → List ℕ → List ℕ → ℕ → List ℕ → List ℕ → Type 0
+AppendsMiniblocks needed widths numbers most old new =
+    Appends (λ bytes used. AreMiniblocks 32 (take needed widths) bytes (take (32 * needed) numbers) used) (32 * most * needed) old new
 
 -- a block stands at the end whose deltas lead to the values from index `at` on
 pub record PutDeltas (w : Width) (values : List ℤ) (at : ℕ) (old new : List ℕ) : Type 0 where
