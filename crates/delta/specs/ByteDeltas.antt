@@ -1,11 +1,12 @@
 -- Byte values by their lengths, or by what they share with the value before:
 -- parquet-format, Encodings.md, "Delta-length byte array" and "Delta Strings" (DELTA_LENGTH_BYTE_ARRAY and DELTA_BYTE_ARRAY).
-use Rattle.std.specs.Prelude.{◌≡◌, ℕ, nat_eq, ◌+◌, ◌*◌, ◌<◌, ◌≤◌, List, [], ◌∷◌, ◌++◌, length, take, drop, map, ℤ, pos, negsuc}
+use Rattle.std.specs.Prelude.{◌≡◌, ℕ, nat_eq, ◌+◌, ◌*◌, ◌<◌, ◌≤◌, All, List, [], ◌∷◌, ◌++◌, length, take, drop, map, ℤ, pos, negsuc}
 use Rattle.std.specs.List.{concat, common_prefix_len}
 use Rattle.std.specs.Int.{w32}
 use Rattle.bits.specs.Codec.{Appends}
 use Rattle.schema.specs.Values.{ValueTree, bytes}
-use Rattle.plain.specs.Plain.{AreBytes, text_size}
+use Rattle.schema.specs.declared.value.Kind.TheVariants.{ByteArray}
+use Rattle.plain.specs.Plain.{AreBytes, IsOfKind, text_size}
 use Rattle.delta.specs.Delta.{IsDelta}
 
 -- the lengths of values, as numbers that a delta has
@@ -139,3 +140,8 @@ NoLengthsOf values = (text : List ℕ) (used : ℕ) → AreBytes text → StandF
 
 abbrev pub NoPrefixesOf : List ValueTree → Type 0
 NoPrefixesOf values = (text : List ℕ) (used : ℕ) → AreBytes text → StandForBytes (IsPrefixed text (length values)) values used → ⊥
+
+-- n byte values by their lengths
+pub record AreByLengths (n : ℕ) (text : List ℕ) (values : List ValueTree) (used : ℕ) : Type 0 where
+  pub fit : All (IsOfKind ByteArray) values
+  pub stand : StandForBytes (IsByteLengths text n) values used

@@ -17,10 +17,11 @@ use std::alloc::Global;
 /// the bytes of all, in at most 170 + 5n bytes and the values' own. The values may be borrowed, as
 /// [`Lends`] says. (parquet-format, Encodings.md, "Delta-length byte array".)
 ///
-/// Refused Value only where one of them is no byte value, and Limit exactly when all are and one has
+/// Refused Value exactly when one of them is no byte value, and Limit exactly when all are and one has
 /// more than 16 MiB. On a refusal `out` is unchanged. Looks at each value three times.
 pub fn encode_lengths<V: Lends>(values: &[V], out: &mut Vec<u8>) -> R<()>
     ensures stands { OnOk result (AppendsByLengths (map V.lent values.now) out.old.items out.new.items) }
+    ensures of_kind { OnOk result (All (IsOfKind Kind.ByteArray) (map V.lent values.now)) }
     ensures only { OnFault result (NoLengthsOf (map V.lent values.now)) }
     ensures unfit { OnFault result (All (IsOfKind Kind.ByteArray) (map V.lent values.now) → ⊥) }
     ensures which { RefusedOnly (λ e. (e ≡ Refusal.Value) ⊎ (e ≡ Refusal.Limit)) result }

@@ -23,11 +23,12 @@ use std::alloc::Global;
 /// 340 + 10n bytes and the values' own. The values may be borrowed, as [`Lends`] says. (parquet-format,
 /// Encodings.md, "Delta Strings".)
 ///
-/// Refused Value only where one of them is no byte value, and Limit exactly when all are and one has
+/// Refused Value exactly when one of them is no byte value, and Limit exactly when all are and one has
 /// more than 16 MiB. On a refusal `out` is unchanged.
 pub fn encode_prefixes<V: Lends>(values: &[V], out: &mut Vec<u8>) -> R<()>
     ensures stands { OnOk result (AppendsByPrefixes (map V.lent values.now) out.old.items out.new.items) }
     ensures longest { OnOk result (AppendsShortest (map V.lent values.now) out.old.items out.new.items) }
+    ensures of_kind { OnOk result (All (IsOfKind Kind.ByteArray) (map V.lent values.now)) }
     ensures only { OnFault result (NoPrefixesOf (map V.lent values.now)) }
     ensures unfit { OnFault result (All (IsOfKind Kind.ByteArray) (map V.lent values.now) → ⊥) }
     ensures which { RefusedOnly (λ e. (e ≡ Refusal.Value) ⊎ (e ≡ Refusal.Limit)) result }
