@@ -10,3 +10,6 @@ pub mod Gathering
 pub mod Cutting
 pub mod Putting
 pub mod Joining
+mod Completing
+mod Sharing
+mod Fitting

@@ -1,3 +1,5 @@
 pub mod Delta
 pub mod ByteDeltas
 pub mod inner
+pub mod ValuesLeft
+pub mod Examples
