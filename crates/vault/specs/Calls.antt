@@ -3,7 +3,7 @@ use Rattle.std.specs.Prelude.{◌≡◌, ◌≢◌, ◌≤◌, ◌<◌, ◌⊎�
 use Rattle.bits.specs.Refusals.{RefusedOnly}
 use Rattle.bits.specs.declared.refusal.Refusal.{Refusal}
 use Rattle.bits.specs.declared.refusal.Refusal.TheVariants.{Memory, InDoubt}
-use Rattle.disk.specs.State.{State, may_leave}
+use Rattle.disk.specs.State.{State}
 use Rattle.disk.specs.declared.binding.Binding.TheVariants.{Folder}
 use Rattle.vault.specs.Views.{Same, AllBut, Swaps, LeavesAfter, LeavesNames, ReadsAs, WasKept, IsKept, IsRooted, StaysRooted, IsGone, root_path, next_path}
 use Rattle.vault.specs.Ways.{IsClearWay, StaysClear, AreRootsClear, LeavesWays, LeavesClear, IsOffTheRoots}

@@ -4,9 +4,9 @@ use Rattle.std.specs.List.{All, slice_index_or}
 use Rattle.std.specs.declared.alloc.Global.{Global}
 use Rattle.bits.specs.declared.refusal.Refusal.{Refusal}
 use Rattle.bits.specs.declared.refusal.Refusal.TheVariants.{InDoubt}
-use Rattle.disk.specs.State.{State, content}
+use Rattle.disk.specs.State.{State}
 use Rattle.vault.specs.declared.commits.NewFile.{NewFile}
-use Rattle.vault.specs.Views.{View, LeavesAfter, LeavesNow, IsNoRoot, IsRooted, StaysRooted, IsBeside, root_path, next_path}
+use Rattle.vault.specs.Views.{View, LeavesAfter, LeavesNow, ReadsAs, IsNoRoot, IsRooted, StaysRooted, IsBeside, root_path}
 use Rattle.vault.specs.Ways.{IsClearWay, StaysClear, AreApart, AreApartFrom, AreRootsClear, IsOffTheRoots}
 use Rattle.vault.specs.Calls.{OnlyFailed}
 
@@ -47,8 +47,12 @@ PreparesOrCommits files root gone u v = Prepares files u v ⊎ Commits files roo
 pub record CommitsAll {T : Type 0} (files : List NewFile) (root : List ℕ) (gone : List (String Global)) (old new : State) (result : Result T Refusal) : Type 0 where
   -- at every moment each image, by itself, has all of the old or all of the new
   pub moments : LeavesAfter (PreparesOrCommits files root gone) old new
+  -- so has the disk as it reads
+  pub seen : ReadsAs (PreparesOrCommits files root gone) old new
   -- after Ok each has the new
   pub done : OnOk result (LeavesNow (Commits files root gone) old new)
+  pub done_seen : OnOk result (ReadsAs (Commits files root gone) old new)
+  pub fresh : OnOk result (IsRooted new)
   -- after Device and Memory each has the old, at every moment
   pub unchanged : IfErr result (λ e. e ≢ InDoubt → LeavesAfter (Prepares files) old new)
   pub rooted : IsRooted old → StaysRooted old new

@@ -1,5 +1,5 @@
 -- Where a file can stand, and what keeps the way to it clear.
-use Rattle.std.specs.Prelude.{◌≡◌, ◌≢◌, ◌≤◌, ℕ, List}
+use Rattle.std.specs.Prelude.{◌≢◌, ◌≤◌, ℕ, List}
 use Rattle.std.specs.List.{All}
 use Rattle.disk.specs.Paths.{IsOnTheWay}
 use Rattle.disk.specs.State.{Image, State, may_leave}

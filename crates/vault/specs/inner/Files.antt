@@ -9,7 +9,7 @@ use Rattle.disk.specs.declared.fault.Fault.TheVariants.{Failed, Memory}
 use Rattle.bits.specs.declared.refusal.Refusal.{Refusal}
 use Rattle.bits.specs.declared.refusal.Refusal.TheVariants as refusal
 use Rattle.vault.specs.Views.{LeavesAfter, Same, AllBut, Swaps, ReadsAs, IsRooted, StaysRooted, IsKept, IsGone, root_path, next_path}
-use Rattle.vault.specs.Ways.{IsClearWay, StaysClear, LeavesClear, LeavesWays, AreRootsClear}
+use Rattle.vault.specs.Ways.{IsClearWay, StaysClear, LeavesClear, LeavesWays}
 
 -- the folder of this path is there, as the disk reads
 abbrev pub IsHoused : State → List ℕ → Type 0

@@ -15,9 +15,10 @@ returns-in_err-swap_root-clause-effect g c honest ready spared =
     let s0 = g.D.Disk.state c.args.vault.now.disk in
     let s1 = g.D.Disk.state c.put_all.new.vault.disk in
     let s2 = g.D.Disk.state c.swap_root.new.self.disk in
+    let h1 = c.put_all.ensures.honest.0 honest in
     refused (CommitsAll c.args.files.now c.args.root.now c.args.gone.now s0 s2) c.from_residual-in_err-swap_root.result _ c.from_residual-in_err-swap_root.ensures.1
-    (commit_doubted c.args.files.now c.args.root.now c.args.gone.now c.requires.files s0 s1 ready _ (c.in_ok-put_all.ensures.effect honest ready) s2 _
-    c.in_ok-put_all.ensures.counts.none (c.in_err-swap_root.ensures.effect (c.put_all.ensures.honest.0 honest)))
+    (commit_doubted c.args.files.now c.args.root.now c.args.gone.now c.requires.files s0 s1 ready _ (c.in_ok-put_all.ensures.effect honest ready)
+    (g.met.D.Disk.lawful c.put_all.new.vault.disk) h1 s2 _ c.in_ok-put_all.ensures.counts.none (c.in_err-swap_root.ensures.effect h1))
 
 pub returns-clause-effect : goal.returns-clause-effect
 returns-clause-effect g c honest ready spared =
@@ -28,4 +29,5 @@ returns-clause-effect g c honest ready spared =
     let h1 = c.put_all.ensures.honest.0 honest in
     let h2 = c.swap_root.ensures.honest.0 h1 in
     commit_done c.args.files.now c.args.root.now c.args.gone.now c.requires.files s0 s1 ready _ (c.in_ok-put_all.ensures.effect honest ready)
-    c.requires.gone spared s2 s3 _ (c.in_ok-swap_root.ensures.effect h1) (c.forget_all.ensures.effect h2)
+    (g.met.D.Disk.lawful c.put_all.new.vault.disk) h1 c.requires.gone spared s2 s3 _ (c.in_ok-swap_root.ensures.effect h1) (c.forget_all.ensures.effect h2)
+    (g.met.D.Disk.lawful c.swap_root.new.self.disk) h2
