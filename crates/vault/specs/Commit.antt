@@ -29,6 +29,12 @@ pub record AreReady (state : State) (files : List NewFile) : Type 0 where
 abbrev pub AreSpared : List NewFile → List (String Global) → Type 0
 AreSpared files gone = All (λ f. IsBeside text_of gone (path_of f)) files
 
+-- what a commit rests on
+pub record CanCommit (state : State) (files : List NewFile) (gone : List (String Global)) : Type 0 where
+  pub honest : state.honest
+  pub ready : AreReady state files
+  pub spared : AreSpared files gone
+
 -- the old root and all that was there, next to new files and the next root
 pub record Prepares (files : List NewFile) (u v : View) : Type 0 where
   pub root : v root_path ≡ u root_path

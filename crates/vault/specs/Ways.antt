@@ -23,6 +23,10 @@ IsOpenWay state path = (c : Image) → may_leave state c → IsOpenIn c path
 abbrev pub IsClearWay : State → List ℕ → Type 0
 IsClearWay state path = (c : Image) → may_leave state c → IsClearIn c path
 
+-- what a put rests on: the disk is honest, and a file can stand at the path
+abbrev pub CanPut : State → List ℕ → Type 0
+CanPut state path = state.honest × IsClearWay state path
+
 -- at each moment from old to new
 abbrev pub StaysClear : State → State → List ℕ → Type 0
 StaysClear old new path = (m : ℕ) (c : Image) → old.moment ≤ m → m ≤ new.moment → new.images m c → IsClearIn c path

@@ -2,12 +2,11 @@
 
 ghost use Rattle.std.specs.Prelude.{◌≡◌, ◌↔◌, ◌≤◌, ◌+◌, IfOk, IsTrue};
 ghost use Rattle.bits.specs.Refusals.{RefusedOnly};
-ghost use Rattle.disk.specs.State.{content};
-ghost use Rattle.vault.specs.Views.{IsRooted, IsGone, HasRoot, bytes_of, root_path, next_path};
-ghost use Rattle.vault.specs.Calls.{HasFailed, Opens};
+ghost use Rattle.vault.specs.Views.{IsRooted, IsGone, ReadsRoot, HasRoot, next_path};
+ghost use Rattle.vault.specs.Calls.{IsHonestDevice, Opens};
 
 use crate::vault::Vault;
-use bits::{R, Refusal};
+use bits::R;
 use disk::Disk;
 use std::alloc::Global;
 
@@ -29,10 +28,10 @@ pub struct Opened {
 /// sync of the dataset's folder, one `read_range` and one removal.
 pub fn open_root<D: Disk>(vault: &mut Vault<D>, alloc: Global) -> R<Opened>
     ensures effect { (D.state vault.old.disk).honest → Opens (D.state vault.old.disk) (D.state vault.new.disk) }
-    ensures stands { (D.state vault.old.disk).honest → IfOk result (λ opened. content (D.state vault.old.disk).seen root_path ≡ bytes_of opened.root) }
+    ensures stands { (D.state vault.old.disk).honest → IfOk result (λ opened. ReadsRoot (D.state vault.old.disk) opened.root) }
     ensures durable { (D.state vault.old.disk).honest → IsRooted (D.state vault.old.disk) → IfOk result (λ opened. HasRoot (D.state vault.new.disk) opened.root) }
     ensures clean { (D.state vault.old.disk).honest → IfOk result (λ opened. IsTrue opened.clean → IsGone (D.state vault.new.disk) next_path) }
-    ensures which { RefusedOnly (λ e. (e ≡ Refusal.Device) × ((D.state vault.old.disk).honest → HasFailed (D.state vault.old.disk) (D.state vault.new.disk))) result }
+    ensures which { RefusedOnly (IsHonestDevice (D.state vault.old.disk) (D.state vault.new.disk)) result }
     ensures counts { (D.state vault.old.disk).failures ≤ (D.state vault.new.disk).failures }
     ensures reads { (D.state vault.new.disk).reads ≤ (D.state vault.old.disk).reads + 1 }
     ensures honest { (D.state vault.old.disk).honest ↔ (D.state vault.new.disk).honest }

@@ -1,4 +1,4 @@
-use Rattle.std.proofs.Common.{Ok, ap, subst}
+use Rattle.std.proofs.Common.{subst}
 use Rattle.std.specs.Prelude.{IsTrue}
 use Rattle.vault.proofs.Openings.{read_opens, forget_opens, opens_on, root_stands, root_read, next_gone}
 use Rattle.vault.proofs.opening.open_root.Goals as goal
@@ -27,7 +27,7 @@ returns-clause-durable g c honest rooted =
     let s3 = g.D.Disk.state c.forget_next.new.self.disk in
     let h1 = c.settle.ensures.honest.0 honest in
     let h2 = c.root.ensures.honest.0 h1 in
-    root_stands s0 s1 c.in_ok-root.root (c.settle.ensures.unchanged honest) (c.in_ok-root.ensures.root_stands h1) (λ none. c.in_ok-root.ensures.absent h1 (ap (λ r. Ok r) none))
+    root_stands s0 s1 c.in_ok-root.root (c.settle.ensures.unchanged honest) (c.in_ok-root.ensures.stands h1)
     s2 s3 (c.in_ok-settle.ensures.durable honest rooted) (c.root.ensures.unchanged h1) (c.forget_next.ensures.effect h2).moments
 
 pub returns-clause-stands : goal.returns-clause-stands
@@ -35,7 +35,7 @@ returns-clause-stands g c honest =
     let s0 = g.D.Disk.state c.args.vault.now.disk in
     let s1 = g.D.Disk.state c.settle.new.self.disk in
     let h1 = c.settle.ensures.honest.0 honest in
-    root_read s0 s1 c.in_ok-root.root (c.settle.ensures.unchanged honest) (c.in_ok-root.ensures.root_stands h1) (λ none. c.in_ok-root.ensures.absent h1 (ap (λ r. Ok r) none))
+    root_read s0 s1 c.in_ok-root.root (c.settle.ensures.unchanged honest) (c.in_ok-root.ensures.stands h1)
 
 pub returns-clause-clean : goal.returns-clause-clean
 returns-clause-clean g c honest clean =
