@@ -15,6 +15,8 @@ mod impossible_calls;
 #[cfg(test)]
 mod many_names;
 #[cfg(test)]
+mod many_stops;
+#[cfg(test)]
 mod memory_disks;
 #[cfg(test)]
 mod real_folders;
