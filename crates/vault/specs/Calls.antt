@@ -57,7 +57,7 @@ pub record Puts {T : Type 0} (path bytes : List ℕ) (old new : State) (result :
   pub seen : ReadsAs (AllBut path) old new
   pub kept : OnOk result (IsKept new path bytes)
   pub rooted : IsRooted old → StaysRooted old new
-  -- nothing or a file stands at the path, whatever is answered
+  -- nothing or a file stands at the path, whatever is returned
   pub own : StaysClear old new path
   pub clear : LeavesClear path old new
   pub cause : OnlyFailed result old new

@@ -1,4 +1,4 @@
--- What a commit of files and a root leaves, told by the bytes that each path has.
+-- What a commit of files and a root leaves, said of the bytes that each path has.
 use Rattle.std.specs.Prelude.{◌≡◌, ◌≢◌, ◌<◌, ◌⊎◌, ℕ, List, Some, length, String, string_bytes, Result, OnOk, IfErr}
 use Rattle.std.specs.List.{All, slice_index_or}
 use Rattle.std.specs.declared.alloc.Global.{Global}

@@ -27,7 +27,7 @@ pub struct NewFile {
 /// and none of them goes (`CanCommit`). At every moment each image, by itself, has the old root and all
 /// that was there, or the new root, each new file, and all that was there but what goes. After Ok each has the new;
 /// after Device and Memory each has the old; after InDoubt each has either. Device and InDoubt come only where the disk
-/// failed. What cannot be forgotten stays, and the answer is Ok all the same.
+/// failed. What cannot be removed stays: the result is Ok then too.
 pub fn commit<D: Disk>(
     vault: &mut Vault<D>,
     files: &[NewFile],

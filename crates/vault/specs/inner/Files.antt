@@ -99,7 +99,7 @@ pub record Turned {T : Type 0} (root : List ℕ) (old new : State) (result : Res
 abbrev pub TurnsWritten : {T : Type 0} → State → State → Result T Fault → Type 0
 TurnsWritten old new result = (root : List ℕ) → IsWritten old next_path root → Turned root old new result
 
--- how a fault is answered
+-- how a fault is reported
 abbrev pub refusal_for : Fault → Refusal
 refusal_for Memory = refusal.Memory
 refusal_for _ = refusal.Device
