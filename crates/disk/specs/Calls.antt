@@ -21,7 +21,7 @@ pub record Binds (path : List ℕ) (to : Binding) (d c : Image) : Type 0 where
   pub names : (q : List ℕ) → (c.names q ≡ d.names q) ⊎ ((q ≡ path) × (c.names q ≡ to))
   pub nodes : (n : ℕ) → c.bytes n ≡ d.bytes n
 
--- `count` bytes are written behind the first `at` of a node: each sector of 512 bytes that is touched may hold any
+-- `count` bytes are written after the first `at` of a node: each sector of 512 bytes that is touched may hold any
 -- bytes, and the length is any between
 pub record Tears (node at count : ℕ) (d c : Image) : Type 0 where
   pub names : (q : List ℕ) → c.names q ≡ d.names q
@@ -69,7 +69,7 @@ pub record Takes {T : Type 0} (Step : Image → Image → Type 0) (old new : Sta
   pub seen : Step old.seen new.seen
   pub refused : IfErr result (λ e. IsRefusal e → IsStill old new)
 
--- one failure is counted just where `Failed` is answered
+-- one failure is counted exactly where the result is `Failed`
 pub record CountsFailure {T : Type 0} (result : Result T Fault) (old new : ℕ) : Type 0 where
   pub later : old ≤ new
   pub failed : IsErrOf result Failed → IsOneMore old new
@@ -111,7 +111,7 @@ pub record Appended {T : Type 0} (path bytes : List ℕ) (old new : State) (resu
 -- After a sync a stop leaves the file's bytes as they read; but a sync after one that failed promises nothing of them.
 pub record Synced {T : Type 0} (path : List ℕ) (old new : State) (result : Result T Fault) : Type 0 where
   pub takes : Takes Stays old new result
-  -- doubt comes here alone, where the sync fails
+  -- doubt comes only here, where the sync fails
   pub doubt : (n : ℕ) → new.doubted n → old.doubted n ⊎ (old.seen.names path ≡ File n)
   pub sure : OnOk result (NoDoubt old new)
   pub done : OnOk result ((n : ℕ) × (old.seen.names path ≡ File n) × ((old.doubted n → ⊥) → (c : Image) → may_leave new c → c.bytes n ≡ old.seen.bytes n))

@@ -1,4 +1,4 @@
--- What a real folder is asked for, and what its answers mean.
+-- What a real folder is asked for, and what its errors mean.
 use Rattle.std.specs.Prelude.{◌≡◌, ◌≢◌, ◌⊎◌, ◌==◌, ℕ, List, [], ◌∷◌, All, codes, Bool, false}
 use Rattle.std.specs.List.{slice_split}
 use Rattle.disk.specs.Paths.{slash, path_in}
@@ -19,7 +19,7 @@ pub record IsPlain (part : List ℕ) : Type 0 where
 abbrev pub IsProper : List ℕ → Type 0
 IsProper path = (path ≡ []) ⊎ All IsPlain (slice_split (λ b. b == slash) path)
 
--- the host's folder for a dataset: the empty text is the folder that the program runs in
+-- the host's folder for a dataset: the empty string is the folder that the program runs in
 abbrev pub folder_or_dot : List ℕ → List ℕ
 folder_or_dot [] = codes "."
 folder_or_dot (b ∷ path) = b ∷ path
@@ -29,7 +29,7 @@ abbrev pub host_path : List ℕ → List ℕ → List ℕ
 host_path root [] = root
 host_path root (b ∷ path) = path_in root (b ∷ path)
 
--- what an error of an input or output call is told as; the system's own want of memory comes in the midst of a call
+-- which fault an error of an input or output call is; the system's own lack of memory comes in the midst of a call
 -- and is a failure
 abbrev pub fault_of : ErrorKind → Bool → Fault
 fault_of NotFound from_system = Absent

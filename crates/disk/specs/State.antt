@@ -24,7 +24,7 @@ pub record IsWhole (image : Image) : Type 0 where
   pub top : image.names [] ≡ Folder
   pub below : (path : List ℕ) → image.names path ≢ Nothing → image.names (folder_of path) ≡ Folder
 
--- what a disk tells of itself
+-- what a disk says of itself
 pub record State : Type 1 where
   -- as it reads
   pub seen : Image

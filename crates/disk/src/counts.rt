@@ -12,7 +12,7 @@ pub fn one_more(count: u64) -> u64
     count.saturating_add(1)
 }
 
-/// The answer as it is; where it is Failed, one failure more.
+/// The result as it is; where it is Failed, one failure more is counted.
 pub fn counted<T>(failures: &mut u64, answer: Result<T, Fault>) -> Result<T, Fault>
     ensures same { result ≡ answer }
     ensures counts { CountsFailure result failures.old failures.new }

@@ -8,14 +8,14 @@ use crate::binding::Entry;
 use crate::fault::Fault;
 use std::alloc::Global;
 
-/// A disk of folders and files. Paths are texts with `/` between their parts, seen from the dataset's own folder,
-/// which is the empty text and is always there.
+/// A disk of folders and files. Paths are strings with `/` between their parts, seen from the dataset's own folder,
+/// which is the empty string and is always there.
 ///
-/// What a call does is promised of an honest disk (`effect`); that each call keeps honesty, what it may answer and
-/// what it counts are promised of every disk (`honest`, `which`, `counts`, `reads`). A stop may come before or within
+/// What a call does is promised of an honest disk (`effect`); that each call keeps honesty, which faults it may
+/// return and what it counts are promised of every disk (`honest`, `which`, `counts`, `reads`). A stop may come before or within
 /// any call, and then leaves one of the model's images of that moment.
 ///
-/// A call that cannot be done at all may always be answered Absent or Exists; it then changes nothing and counts
+/// A call that cannot be done at all may always return Absent or Exists; it then changes nothing and counts
 /// nothing. So no caller can make a healthy disk fail: a failure that is counted is the disk's own.
 pub trait Disk {
     ghost state: { Self → State };
@@ -83,7 +83,7 @@ pub trait Disk {
         ensures honest { (state self.old).honest ↔ (state self.new).honest };
 
     /// After it a stop that leaves the folder leaves its names as they read. Absent where no folder is there.
-    /// Answers no Memory: what it would need counts as a failure.
+    /// Never returns Memory: what it would need counts as a failure.
     fn sync_folder(&mut self, folder: &str) -> Result<(), Fault>
         ensures effect { (state self.old).honest → FolderSynced folder.now (state self.old) (state self.new) result }
         ensures which { IfErr result (λ e. (e ≡ Fault.Absent) ⊎ (e ≡ Fault.Failed)) }
@@ -92,8 +92,8 @@ pub trait Disk {
         ensures honest { (state self.old).honest ↔ (state self.new).honest };
 
     /// Gives a file another name in its folder, in place of the file that had it. Absent where no name is there; Exists
-    /// of a folder, onto a folder, into another folder and onto itself. Answers no Memory: what it would need counts as
-    /// a failure.
+    /// of a folder, onto a folder, into another folder and onto itself. Never returns Memory: what it would need counts
+    /// as a failure.
     fn rename(&mut self, source: &str, target: &str) -> Result<(), Fault>
         ensures effect { (state self.old).honest → Renamed source.now target.now (state self.old) (state self.new) result }
         ensures which { IfErr result (λ e. e ≢ Fault.Memory) }

@@ -1,4 +1,4 @@
-//! Why a disk gave no answer.
+//! Why a call of a disk was not done.
 
 ghost use Rattle.std.specs.Prelude.{◌≡◌, ◌≢◌, is_some};
 ghost use Rattle.std.specs.IoError.{error_kind, raw_os_error};
@@ -8,14 +8,14 @@ ghost use Rattle.disk.specs.declared.fault.Fault.TheVariants.{Exists, Memory};
 use std::alloc::{AllocError, AllocFailed};
 use std::io;
 
-/// Why a disk gave no answer. After all but [`Fault::Failed`] nothing has changed.
+/// Why a call of a disk was not done. After all but [`Fault::Failed`] nothing has changed.
 #[derive(Clone, Copy, Debug, PartialEq, Eq)]
 pub enum Fault {
     /// what was asked for is not there
     Absent,
     /// what is there stands in the way: the name is taken, or is a folder's where a file's is wanted
     Exists,
-    /// the disk failed: the call may have taken effect, not, or in part. Alone counted as a failure.
+    /// the disk failed: the call may have taken effect, not, or in part. Only this one is counted as a failure.
     Failed,
     /// a growth was refused
     Memory,

@@ -19,10 +19,10 @@ use std::fs::Files;
 /// A folder of the host's file system. Its calls go to the system one by one and keep nothing open.
 ///
 /// That the file system keeps the model of [`Disk`] is a premise of whoever uses it: of what it holds nothing is
-/// promised here. `docs/DISK.md` says which file systems are meant. What is promised is which faults are answered, the
+/// promised here. `docs/DISK.md` says which file systems are meant. What is promised is which faults are returned, the
 /// counts of failures and of reads, and that it stays the folder that it was made of (`same_folder`).
 ///
-/// No call leaves the folder: a path with an empty part, `.` or `..` is answered Failed (`outside`), and so is one with
+/// No call leaves the folder: a path with an empty part, `.` or `..` is refused Failed (`outside`), and so is one with
 /// a link, a pipe or another kind of node on its way or at its end.
 #[derive(Drop)]
 pub struct HostDisk<R: Files + Clone + Drop> {
@@ -34,7 +34,7 @@ pub struct HostDisk<R: Files + Clone + Drop> {
 }
 
 impl<R: Files + Clone + Drop> HostDisk<R> {
-    /// The disk of a folder of the host; the empty text is the folder that the program runs in. Asks nothing of the
+    /// The disk of a folder of the host; the empty string is the folder that the program runs in. Asks nothing of the
     /// system. Refused only Memory.
     pub fn new(alloc: Global, files: R, folder: &str) -> Result<HostDisk<R>, Fault>
         ensures starts { IfOk result (λ disk. (disk.failures ≡ 0) × (disk.reads ≡ 0)) }
@@ -156,7 +156,7 @@ impl<R: Files + Clone + Drop> HostDisk<R> {
     }
 }
 
-/// A lack of memory told as a failure, for the calls that answer no Memory.
+/// Out of memory reported as a failure, for the calls that never return Memory.
 fn memory_is_failure(answer: Result<(), Fault>) -> Result<(), Fault>
     ensures told { IsErrOf answer Fault.Memory → IsErrOf result Fault.Failed }
     ensures others { (IsErrOf answer Fault.Memory → ⊥) → result ≡ answer }

@@ -1,4 +1,4 @@
-//! Texts that name files and folders.
+//! Paths of files and folders.
 
 ghost use Rattle.std.specs.Prelude.{◌≡◌, ◌≢◌, ◌<◌, List, ℕ, [], IfOk, IfErr, length, string_bytes};
 ghost use Rattle.disk.specs.Paths.{folder_of, path_in, IsName, IsOnTheWay};
@@ -6,7 +6,7 @@ ghost use Rattle.disk.specs.Paths.{folder_of, path_in, IsName, IsOnTheWay};
 use crate::fault::Fault;
 use std::alloc::Global;
 
-/// The folder that a path lies in; the empty text, which is the dataset's own folder, where the path has no `/`.
+/// The folder that a path lies in; the empty string, which is the dataset's own folder, where the path has no `/`.
 pub fn folder_of(path: &str) -> &str
     ensures value { result.now ≡ folder_of path.now }
     ensures shorter { path.now ≢ [] → length result.now < length path.now }

@@ -7,7 +7,7 @@ use std::fs::{self, File, Files, Metadata, OpenFile, OpenOptions};
 use std::io::{self, ErrorKind, Read, Seek, SeekFrom, Write};
 use std::test::Fail;
 
-/// The host's files, of which each gives and takes a few bytes alone and then fails, and each sync fails.
+/// The host's files, of which each gives and takes only a few bytes and then fails, and each sync fails.
 #[derive(Clone, Drop)]
 struct Faulty {
     rt: HostRuntime,

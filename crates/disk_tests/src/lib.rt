@@ -1,6 +1,6 @@
 //! Tests of the disk's crates: a real folder, a disk in memory stopped at each moment, and the vault over both.
 //!
-//! They hold what no contract says: what a real folder does, that just the outcomes that a list of words picks are
+//! They hold what no contract says: what a real folder does, that exactly the outcomes that a list of words picks are
 //! reached, and that each public call succeeds with ample memory. Each file has one subject.
 #![tactic(auto)]
 
@@ -14,6 +14,8 @@ mod faulty_hosts;
 mod impossible_calls;
 #[cfg(test)]
 mod many_names;
+#[cfg(test)]
+mod many_stops;
 #[cfg(test)]
 mod memory_disks;
 #[cfg(test)]

@@ -2,7 +2,7 @@ use disk::{Disk, Fault};
 use mem_disk::MemDisk;
 use std::alloc::Global;
 
-// A disk with one firm file.
+// A disk with one durable file.
 fn with_file(alloc: Global) -> Result<MemDisk, Fault> {
     let mut disk = MemDisk::new(alloc);
     disk.create("a")?;

@@ -26,7 +26,7 @@ fn host_disk(rt: &HostRuntime, folder: &str) -> Result<HostDisk<HostRuntime>, Fa
     Ok(HostDisk::new(rt.alloc(), rt.clone()?, folder)?)
 }
 
-/// Whether the names are just these, in any order.
+/// Whether the names are exactly these, in any order.
 fn are_listed(entries: &[Entry], wanted: &[(&str, Kind)]) -> bool {
     entries.len() == wanted.len()
         && wanted.iter().all(|(name, kind)| {
@@ -34,7 +34,7 @@ fn are_listed(entries: &[Entry], wanted: &[(&str, Kind)]) -> bool {
         })
 }
 
-/// Answers, each beside the one that is wanted.
+/// Results, each next to the one that is wanted.
 fn check_answers(rt: &impl Abort, answers: &[(Result<(), Fault>, Result<(), Fault>)]) {
     for (nth, (answer, wanted)) in answers.iter().enumerate() {
         assert_eq!(rt; answer, wanted, "call {nth}");

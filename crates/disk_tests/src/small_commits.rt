@@ -27,6 +27,31 @@ pub(crate) fn commit_three<D: Disk>(vault: &mut Vault<D>, alloc: Global) -> R<()
     commit(vault, files.as_slice(), b"the second", gone.as_slice())
 }
 
+/// A commit of one file and a root that hold the number, after which the file of the number before goes.
+pub(crate) fn commit_number<D: Disk>(vault: &mut Vault<D>, alloc: Global, number: u8) -> R<()> {
+    match number % 3 {
+        0 => turn_over(vault, alloc, number, "k=a/part.0.parquet", "k=a/part.2.parquet"),
+        1 => turn_over(vault, alloc, number, "k=a/part.1.parquet", "k=a/part.0.parquet"),
+        _ => turn_over(vault, alloc, number, "k=a/part.2.parquet", "k=a/part.1.parquet"),
+    }
+}
+
+fn turn_over<D: Disk>(
+    vault: &mut Vault<D>,
+    alloc: Global,
+    number: u8,
+    new: &str,
+    old: &str,
+) -> R<()>
+    requires new { IsNoRoot new.now }
+    requires old { IsNoRoot old.now }
+{
+    let bytes = [number];
+    let files = [new_file(alloc, new, bytes.as_slice())?];
+    let gone = [path_of(alloc, old)?];
+    commit(vault, files.as_slice(), bytes.as_slice(), gone.as_slice())
+}
+
 fn path_of(alloc: Global, path: &str) -> R<String>
     requires { IsNoRoot path.now }
     ensures { IfOk result (λ p. IsNoRoot (string_bytes p)) }

@@ -63,7 +63,7 @@ fn told(byte: u8) -> char {
     }
 }
 
-// Tells a file, where it is there.
+// Reports a file, where it is there.
 fn tell_file(
     disk: &mut MemDisk,
     alloc: Global,
@@ -86,7 +86,7 @@ fn tell_file(
     }
 }
 
-// Tells what a disk reads as.
+// Reports what a disk reads as.
 fn tell(disk: &mut MemDisk, alloc: Global) -> Result<String, Fault> {
     let mut text = String::new(alloc);
     match disk.list(alloc, "f") {
@@ -121,7 +121,7 @@ fn images(disk: &MemDisk, alloc: Global) -> Result<Vec<String>, Fault> {
     Ok(images)
 }
 
-// Whether the images are just those that are reported.
+// Whether the images are exactly those that are reported.
 fn are(images: &[String], wanted: &str) -> bool {
     images.iter().all(|image| wanted.split('|').any(|want| want == image.as_str()))
         && wanted
@@ -170,7 +170,7 @@ fn is_sector(bytes: &[u8], kind: u64) -> bool {
     }
 }
 
-// Two sectors of x and one byte more, none of it firm, in a firm name.
+// Two sectors of x and one byte more, none of it durable, in a durable name.
 fn with_three_sectors(alloc: Global) -> Result<MemDisk, Fault> {
     let mut disk = MemDisk::new(alloc);
     disk.create("a")?;

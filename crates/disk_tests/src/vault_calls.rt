@@ -1,4 +1,4 @@
-//! The order of the disk's calls, and what is answered where one of them fails. What they leave of a disk is proved.
+//! The order of the disk's calls, and what is returned where one of them fails. What they leave of a disk is proved.
 
 use crate::fake::Fake;
 use bits::Refusal;

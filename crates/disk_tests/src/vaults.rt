@@ -21,7 +21,9 @@ fn size(vault: &mut Vault<MemDisk>, alloc: Global, path: &str) -> R<usize> {
 #[test]
 fn an_opening_of_an_empty_disk_finds_no_root(rt: HostRuntime) -> Result<(), Fail> {
     let mut vault = empty(rt.alloc());
-    assert!(rt; matches!(open_root(&mut vault, rt.alloc()), Ok(None)));
+    let opened = open_root(&mut vault, rt.alloc())?;
+    assert!(rt; opened.root.is_none());
+    assert!(rt; opened.clean);
     Ok(())
 }
 
@@ -44,14 +46,32 @@ fn an_opening_removes_the_next_root_and_nothing_else(rt: HostRuntime) -> Result<
     vault.swap_root(b"root")?;
     vault.disk.create("_metadata.new")?;
     vault.disk.create("notes.txt")?;
-    let root = open_root(&mut vault, rt.alloc())?;
-    assert!(rt; root.is_some_and(|bytes| bytes.as_slice() == b"root".as_slice()));
+    let opened = open_root(&mut vault, rt.alloc())?;
+    assert!(rt; opened.clean);
+    assert!(rt; opened.root.is_some_and(|bytes| bytes.as_slice() == b"root".as_slice()));
     let names = vault.list(rt.alloc(), "")?;
     assert_eq!(rt; names.len(), 2);
     for entry in names.iter() {
         assert!(rt; entry.name.as_str() != "_metadata.new");
         assert!(rt; entry.kind == Kind::File);
     }
+    Ok(())
+}
+
+#[test]
+fn an_opening_that_cannot_remove_the_next_root_is_not_clean(
+    rt: HostRuntime,
+) -> Result<(), Fail> {
+    let mut vault = empty(rt.alloc());
+    vault.swap_root(b"root")?;
+    vault.disk.create("_metadata.new")?;
+    // the folder's sync and the read pass, the removal fails
+    vault.disk.fail_once(2, 0);
+    let opened = open_root(&mut vault, rt.alloc())?;
+    assert!(rt; !opened.clean);
+    assert!(rt; opened.root.is_some_and(|bytes| bytes.as_slice() == b"root".as_slice()));
+    assert_eq!(rt; vault.disk().failures(), 1);
+    assert!(rt; open_root(&mut vault, rt.alloc())?.clean);
     Ok(())
 }
 

@@ -1,12 +1,13 @@
--- What a `MemDisk` tells of itself.
-use Rattle.std.specs.Prelude.{length}
+-- What a `MemDisk` says of itself.
+use Rattle.std.specs.Prelude.{length, Result}
 use Rattle.disk.specs.State.{State, IsLawful, IsOneMore}
+use Rattle.disk.specs.declared.fault.Fault.{Fault}
 use Rattle.mem_disk.specs.declared.fuse.Done.{Done}
 use Rattle.mem_disk.specs.declared.MemDisk.{MemDisk}
 use Rattle.mem_disk.specs.Loose.{Loose, empty, replayed}
 use Rattle.mem_disk.specs.States.{state_with}
 use Rattle.mem_disk.specs.Fuses.{trip_of}
-use Rattle.mem_disk.specs.Failing.{HasDone}
+use Rattle.mem_disk.specs.Failing.{HasDone, IsToBeDone, StaysUnlessShort}
 use Rattle.mem_disk.specs.Laws.{lawful_with}
 
 abbrev pub state_of : MemDisk → State
@@ -18,6 +19,10 @@ lawful_of disk = lawful_with disk.held.calls.items (length disk.held.nodes.items
 -- what it holds, and what of it is loose
 abbrev pub loose_in : MemDisk → Loose
 loose_in disk = replayed empty disk.held.calls.items
+
+-- shortages are counted only where a call fails that can be done, and is to do it
+abbrev pub ShortOnlyWhere : {T : Type 0} → Type 0 → MemDisk → MemDisk → Result T Fault → Type 0
+ShortOnlyWhere Can old new result = StaysUnlessShort (IsToBeDone (trip_of old.fuse) Can) result old.shortages new.shortages
 
 -- where the fuse trips, the record goes on by what the pick says, or one shortage more is counted
 abbrev pub FailsBy : (Done → Loose → Loose) → MemDisk → MemDisk → Type 0

@@ -26,7 +26,7 @@ written node bytes Nothing l = l
 written node bytes Whole l = appended l node bytes
 written node bytes Part l = appended l node (take (length bytes / 2) bytes)
 
--- a part of a rename is the target's name alone
+-- a part of a rename is the target's name only
 abbrev pub moved : List ℕ → List ℕ → Done → Loose → Loose
 moved source target Nothing l = l
 moved source target Whole l = bound (bound l target (l.names source)) source binding.Nothing
@@ -36,7 +36,7 @@ moved source target Part l = bound l target (l.names source)
 abbrev pub doubtful : ℕ → Done → Loose → Loose
 doubtful node done l = node_doubted (taken (λ x. node_synced x node) done l) node
 
--- a call that fails with this pick makes this of the disk, or was short of memory
+-- a call that fails with this pick makes this of the disk, or was out of memory
 abbrev pub HasDone : (Done → Loose → Loose) → Trip → List Call → List Call → Type 0 → Type 0
 HasDone step trip old new Short = (done : Done) → trip ≡ Fails done → (replayed empty new ≡ step done (replayed empty old)) ⊎ Short
 

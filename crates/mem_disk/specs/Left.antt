@@ -15,7 +15,7 @@ EachOf R [] (y ∷ ys) = ⊥
 EachOf R (x ∷ xs) [] = ⊥
 EachOf R (x ∷ xs) (y ∷ ys) = R x y × EachOf R xs ys
 
--- a name with one of the bindings that it may have, which is firm
+-- a name with one of the bindings that it may have, which is durable
 pub record IsPicked (old new : Name) : Type 0 where
   pub path : string_bytes new.path ≡ string_bytes old.path
   pub now : (new.now ≡ old.now) ⊎ Among new.now old.had.items
@@ -37,13 +37,13 @@ left_within names (suc n) (b ∷ path) = below (left_within names n (folder_of (
 abbrev pub left_in : List Name → List ℕ → Binding
 left_in names path = left_within names (length path) path
 
--- a name that stands for what is there of it, which is firm
+-- a name that stands for what is there of it, which is durable
 pub record IsLeft (there : List ℕ → Binding) (old new : Name) : Type 0 where
   pub path : string_bytes new.path ≡ string_bytes old.path
   pub now : new.now ≡ there (string_bytes old.path)
   pub had : new.had.items ≡ []
 
--- a node with bytes that this one may hold, which are firm
+-- a node with bytes that this one may hold, which are durable
 pub record IsTorn (old new : Node) : Type 0 where
   pub holds : old.synced ≤ length old.bytes.items → MayHold old.synced old.bytes.items new.bytes.items
   pub synced : new.synced ≡ length new.bytes.items

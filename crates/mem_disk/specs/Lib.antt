@@ -6,6 +6,7 @@ pub mod Fuses
 pub mod Shortages
 pub mod Failing
 pub mod Listings
+pub mod Holding
 pub mod Disks
 pub mod Left
 pub mod Picks

@@ -27,6 +27,6 @@ abbrev pub AreListed : List ℕ → List Name → List Entry → Type 0
 AreListed folder [] entries = entries ≡ []
 AreListed folder (x ∷ xs) entries = (IsUnlisted folder x × AreListed folder xs entries) ⊎ ((e : Entry) × (rest : List Entry) × (entries ≡ e ∷ rest) × IsEntryOf folder x e × AreListed folder xs rest)
 
--- what a name is listed as stands behind the entries
+-- what a name is listed as stands after the entries
 abbrev pub AddsEntry : List ℕ → Name → List Entry → List Entry → Type 0
 AddsEntry folder x old new = (IsUnlisted folder x × (new ≡ old)) ⊎ ((e : Entry) × IsEntryOf folder x e × (new ≡ old ++ e ∷ []))

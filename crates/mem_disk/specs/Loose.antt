@@ -61,7 +61,7 @@ appended l node more = record {
   doubted = l.doubted;
 }
 
--- this node's bytes are firm
+-- this node's bytes are durable
 abbrev pub node_synced : Loose → ℕ → Loose
 node_synced l node = record {
   names = l.names;
@@ -71,7 +71,7 @@ node_synced l node = record {
   doubted = l.doubted;
 }
 
--- the names in this folder are firm
+-- the names in this folder are durable
 abbrev pub folder_synced : Loose → List ℕ → Loose
 folder_synced l folder = record {
   names = l.names;
@@ -141,7 +141,7 @@ pub record Shows (entries : List Name) (files : List Node) (l : Loose) : Type 0 
   pub synced : (n : ℕ) → l.synced n ≡ of_node (λ (x : Node). x.synced) 0 files n
   pub doubted : (n : ℕ) → l.doubted n ≡ of_node (λ (x : Node). x.doubted) false files n
 
--- the names and nodes that are kept beside a record of calls
+-- the names and nodes that are kept next to a record of calls
 pub record Keeps (names : List Name) (nodes : List Node) (calls : List Call) : Type 0 where
   pub shows : Shows names nodes (replayed empty calls)
   pub sound : IsSound (replayed empty calls) (length nodes)

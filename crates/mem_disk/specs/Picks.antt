@@ -20,12 +20,12 @@ next_word words = slice_index words 0
 abbrev pub binding_by : Name → ℕ → Binding
 binding_by name word = slice_index_or (name.had.items ++ name.now ∷ []) (word % (length name.had.items + 1)) name.now
 
--- the words behind the choice among these bindings: where there is one alone, none is asked for
+-- the words after the choice among these bindings: where there is only one, none is asked for
 abbrev pub after_had : List Binding → List ℕ → List ℕ
 after_had [] words = words
 after_had (binding ∷ had) words = drop 1 words
 
--- the words behind a name's choice
+-- the words after a name's choice
 abbrev pub after_name : Name → List ℕ → List ℕ
 after_name name words = after_had name.had.items words
 
@@ -48,7 +48,7 @@ byte_by node at word = byte_as (word % 4) node at word
 abbrev pub touched : Node → ℕ → ℕ
 touched node long = (long + 511) / 512 - node.synced / 512
 
--- a node that is firm asks for no word, another for its length's and for one for each touched sector below that
+-- a node that is durable asks for no word, another for its length's and for one for each touched sector below that
 abbrev pub after_node : Node → List ℕ → List ℕ
 after_node node words = if nat_lt node.synced (length node.bytes.items) then drop (1 + touched node (long_by node (next_word words))) words else words
 
@@ -67,7 +67,7 @@ pub record PicksBytes (node : Node) (words bytes : List ℕ) : Type 0 where
 abbrev pub PicksNode : Node → List ℕ → Node → Type 0
 PicksNode node words new = PicksBytes node words new.bytes.items
 
--- the words that are left behind these
+-- the words that remain after these
 abbrev pub words_after : {A : Type 0} → (A → List ℕ → List ℕ) → List A → List ℕ → List ℕ
 words_after after [] words = words
 words_after after (x ∷ xs) words = words_after after xs (after x words)

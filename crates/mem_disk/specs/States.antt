@@ -1,4 +1,4 @@
--- What a record of calls tells of a disk.
+-- What a record of calls says of a disk.
 use Rattle.std.specs.Prelude.{◌≡◌, ◌⊎◌, ℕ, List, length, take, IsTrue, Result, Err}
 use Rattle.disk.specs.State.{State}
 use Rattle.disk.specs.Calls.{Synced}
@@ -19,11 +19,11 @@ state_with calls failures reads = record {
   honest = Unit {0};
 }
 
--- it holds of this answer, and where `Failed` is answered in its place
+-- it holds of this result, and of `Failed` in its place
 abbrev pub AlsoFailed : {T : Type 0} → (Result T Fault → Type 0) → Result T Fault → Type 0
 AlsoFailed P result = P result × P (Err Failed)
 
--- this answer, or `Failed` in its place
+-- this result, or `Failed` in its place
 abbrev pub IsAnswer : {T : Type 0} → Result T Fault → Result T Fault → Type 0
 IsAnswer done result = (result ≡ done) ⊎ (result ≡ Err Failed)
 

@@ -6,7 +6,7 @@ use Rattle.disk.specs.Paths.{folder_of}
 use Rattle.mem_disk.specs.declared.name.Name.{Name}
 use Rattle.mem_disk.specs.declared.node.Node.{Node}
 
--- what is there without a name in the list: the dataset's own folder alone
+-- what is there without a name in the list: only the dataset's own folder
 abbrev pub at_first : List ℕ → Binding
 at_first [] = Folder
 at_first (b ∷ path) = Nothing

@@ -1,13 +1,14 @@
 //! What the calls do to what a disk keeps.
 
-ghost use Rattle.std.specs.Prelude.{◌≡◌, ◌≢◌, ◌<◌, ◌⊎◌, ◌↔◌, ℕ, length, false, IfErr, IsErrOf, IsTrue, OnOk, OnErr, true};
+ghost use Rattle.std.specs.Prelude.{◌≡◌, ◌≢◌, ◌<◌, ◌⊎◌, ◌↔◌, ℕ, length, IfErr, IsErrOf, IsTrue, OnOk, OnErr, true};
 ghost use Rattle.disk.specs.Paths.{folder_of};
 ghost use Rattle.disk.specs.Calls.{IsStill, Created, FolderMade, Appended, Synced, FolderSynced, IsMovable, Renamed, Removed};
 ghost use Rattle.disk.specs.declared.fault.Fault.TheVariants.{Exists, Failed, Memory};
-ghost use Rattle.mem_disk.specs.Loose.{Loose, empty, replayed, image_of, bound, appended, node_synced, folder_synced};
+ghost use Rattle.mem_disk.specs.Loose.{bound, appended, node_synced, folder_synced};
 ghost use Rattle.mem_disk.specs.Shortages.{told_as};
-ghost use Rattle.mem_disk.specs.Failing.{taken, written, moved, doubtful, HasDone, IsVacant, IsFile, IsSureFile, IsToBeDone};
-ghost use Rattle.mem_disk.specs.States.{state_with, AlsoFailed, FailsToSync};
+ghost use Rattle.mem_disk.specs.Failing.{taken, written, moved, doubtful, IsVacant, IsFile, IsSureFile, IsToBeDone};
+ghost use Rattle.mem_disk.specs.States.{AlsoFailed, FailsToSync};
+ghost use Rattle.mem_disk.specs.Holding.{loose_held, image_held, state_held, next_node, IsFileAt, IsSure, DoesBy};
 ghost use Rattle.disk.specs.declared.binding.Binding.TheVariants.{Folder, File};
 ghost use Rattle.disk.specs.declared.binding.Binding.TheVariants as binding;
 
@@ -26,13 +27,13 @@ fn are_beside(source: &str, target: &str) -> bool
 impl Held {
     /// Makes an empty file.
     pub fn create_file(&mut self, trip: Trip, path: &str) -> Result<(), Fault>
-        ensures effect { (f g r s : ℕ) → AlsoFailed (Created path.now (state_with self.old.calls.items f r) (state_with self.new.calls.items g s)) result }
+        ensures effect { (f g r s : ℕ) → AlsoFailed (Created path.now (state_held self.old f r) (state_held self.new g s)) result }
         ensures passes { trip ≡ Trip.Passes → IsErrOf result Failed → ⊥ }
         ensures nothing { trip ≡ Trip.Fails Done.Nothing → self.new.calls.items ≡ self.old.calls.items }
-        ensures extent { IsVacant (image_of (replayed empty self.old.calls.items)) path.now → HasDone (taken (λ l. bound l path.now (File (length self.old.nodes.items)))) trip self.old.calls.items self.new.calls.items (IsErrOf result Memory) }
-        ensures out_of_memory { IsErrOf result Memory → IsToBeDone trip (IsVacant (image_of (replayed empty self.old.calls.items)) path.now) }
-        ensures whole { OnOk result (replayed empty self.new.calls.items ≡ bound (replayed empty self.old.calls.items) path.now (File (length self.old.nodes.items))) }
-        ensures unable { (IsVacant (image_of (replayed empty self.old.calls.items)) path.now → ⊥) → self.new.calls.items ≡ self.old.calls.items }
+        ensures extent { IsVacant (image_held self.old) path.now → DoesBy (taken (λ l. bound l path.now (File (next_node self.old)))) trip self.old self.new result }
+        ensures out_of_memory { IsErrOf result Memory → IsToBeDone trip (IsVacant (image_held self.old) path.now) }
+        ensures whole { OnOk result (loose_held self.new ≡ bound (loose_held self.old) path.now (File (next_node self.old))) }
+        ensures unable { (IsVacant (image_held self.old) path.now → ⊥) → self.new.calls.items ≡ self.old.calls.items }
     {
         if trip == Trip::Fails(Done::Nothing) {
             return Err(Fault::Failed);
@@ -54,13 +55,13 @@ impl Held {
 
     /// Makes a folder.
     pub fn create_folder(&mut self, trip: Trip, path: &str) -> Result<(), Fault>
-        ensures effect { (f g r s : ℕ) → AlsoFailed (FolderMade path.now (state_with self.old.calls.items f r) (state_with self.new.calls.items g s)) result }
+        ensures effect { (f g r s : ℕ) → AlsoFailed (FolderMade path.now (state_held self.old f r) (state_held self.new g s)) result }
         ensures passes { trip ≡ Trip.Passes → IsErrOf result Failed → ⊥ }
         ensures nothing { trip ≡ Trip.Fails Done.Nothing → self.new.calls.items ≡ self.old.calls.items }
-        ensures extent { IsVacant (image_of (replayed empty self.old.calls.items)) path.now → HasDone (taken (λ l. bound l path.now Folder)) trip self.old.calls.items self.new.calls.items (IsErrOf result Memory) }
-        ensures out_of_memory { IsErrOf result Memory → IsToBeDone trip (IsVacant (image_of (replayed empty self.old.calls.items)) path.now) }
-        ensures whole { IsVacant (image_of (replayed empty self.old.calls.items)) path.now → OnOk result (replayed empty self.new.calls.items ≡ bound (replayed empty self.old.calls.items) path.now Folder) }
-        ensures unable { (IsVacant (image_of (replayed empty self.old.calls.items)) path.now → ⊥) → self.new.calls.items ≡ self.old.calls.items }
+        ensures extent { IsVacant (image_held self.old) path.now → DoesBy (taken (λ l. bound l path.now Folder)) trip self.old self.new result }
+        ensures out_of_memory { IsErrOf result Memory → IsToBeDone trip (IsVacant (image_held self.old) path.now) }
+        ensures whole { IsVacant (image_held self.old) path.now → OnOk result (loose_held self.new ≡ bound (loose_held self.old) path.now Folder) }
+        ensures unable { (IsVacant (image_held self.old) path.now → ⊥) → self.new.calls.items ≡ self.old.calls.items }
     {
         if trip == Trip::Fails(Done::Nothing) {
             return Err(Fault::Failed);
@@ -79,13 +80,13 @@ impl Held {
 
     /// Takes a file's name away.
     pub fn remove_file(&mut self, trip: Trip, path: &str) -> Result<(), Fault>
-        ensures effect { (f g r s : ℕ) → AlsoFailed (Removed path.now (state_with self.old.calls.items f r) (state_with self.new.calls.items g s)) result }
+        ensures effect { (f g r s : ℕ) → AlsoFailed (Removed path.now (state_held self.old f r) (state_held self.new g s)) result }
         ensures nothing { trip ≡ Trip.Fails Done.Nothing → self.new.calls.items ≡ self.old.calls.items }
         ensures passes { trip ≡ Trip.Passes → IsErrOf result Failed → ⊥ }
-        ensures extent { IsFile (image_of (replayed empty self.old.calls.items)) path.now → HasDone (taken (λ l. bound l path.now binding.Nothing)) trip self.old.calls.items self.new.calls.items (IsErrOf result Memory) }
-        ensures out_of_memory { IsErrOf result Memory → IsToBeDone trip (IsFile (image_of (replayed empty self.old.calls.items)) path.now) }
-        ensures whole { OnOk result (replayed empty self.new.calls.items ≡ bound (replayed empty self.old.calls.items) path.now binding.Nothing) }
-        ensures unable { (IsFile (image_of (replayed empty self.old.calls.items)) path.now → ⊥) → self.new.calls.items ≡ self.old.calls.items }
+        ensures extent { IsFile (image_held self.old) path.now → DoesBy (taken (λ l. bound l path.now binding.Nothing)) trip self.old self.new result }
+        ensures out_of_memory { IsErrOf result Memory → IsToBeDone trip (IsFile (image_held self.old) path.now) }
+        ensures whole { OnOk result (loose_held self.new ≡ bound (loose_held self.old) path.now binding.Nothing) }
+        ensures unable { (IsFile (image_held self.old) path.now → ⊥) → self.new.calls.items ≡ self.old.calls.items }
     {
         if trip == Trip::Fails(Done::Nothing) {
             return Err(Fault::Failed);
@@ -101,13 +102,13 @@ impl Held {
 
     /// Gives a file another name in its folder. After Memory the target's name may be there, as after a failure.
     pub fn rename_file(&mut self, trip: Trip, source: &str, target: &str) -> Result<(), Fault>
-        ensures effect { (f g r s : ℕ) → AlsoFailed (Renamed source.now target.now (state_with self.old.calls.items f r) (state_with self.new.calls.items g s)) (told_as result) }
+        ensures effect { (f g r s : ℕ) → AlsoFailed (Renamed source.now target.now (state_held self.old f r) (state_held self.new g s)) (told_as result) }
         ensures nothing { trip ≡ Trip.Fails Done.Nothing → self.new.calls.items ≡ self.old.calls.items }
         ensures passes { trip ≡ Trip.Passes → IsErrOf result Failed → ⊥ }
-        ensures extent { IsMovable (image_of (replayed empty self.old.calls.items)) source.now target.now → HasDone (moved source.now target.now) trip self.old.calls.items self.new.calls.items (IsErrOf result Memory) }
-        ensures out_of_memory { IsErrOf result Memory → IsToBeDone trip (IsMovable (image_of (replayed empty self.old.calls.items)) source.now target.now) }
-        ensures whole { OnOk result (replayed empty self.new.calls.items ≡ moved source.now target.now Done.Whole (replayed empty self.old.calls.items)) }
-        ensures unable { (IsMovable (image_of (replayed empty self.old.calls.items)) source.now target.now → ⊥) → self.new.calls.items ≡ self.old.calls.items }
+        ensures extent { IsMovable (image_held self.old) source.now target.now → DoesBy (moved source.now target.now) trip self.old self.new result }
+        ensures out_of_memory { IsErrOf result Memory → IsToBeDone trip (IsMovable (image_held self.old) source.now target.now) }
+        ensures whole { OnOk result (loose_held self.new ≡ moved source.now target.now Done.Whole (loose_held self.old)) }
+        ensures unable { (IsMovable (image_held self.old) source.now target.now → ⊥) → self.new.calls.items ≡ self.old.calls.items }
     {
         if trip == Trip::Fails(Done::Nothing) {
             return Err(Fault::Failed);
@@ -137,14 +138,14 @@ impl Held {
 
     /// Writes after a file's end.
     pub fn append_file(&mut self, trip: Trip, path: &str, bytes: &[u8]) -> Result<(), Fault>
-        ensures effect { (f g r s : ℕ) → AlsoFailed (Appended path.now bytes.now (state_with self.old.calls.items f r) (state_with self.new.calls.items g s)) result }
+        ensures effect { (f g r s : ℕ) → AlsoFailed (Appended path.now bytes.now (state_held self.old f r) (state_held self.new g s)) result }
         ensures which { IfErr result (λ e. e ≢ Exists) }
         ensures passes { trip ≡ Trip.Passes → IsErrOf result Failed → ⊥ }
         ensures nothing { trip ≡ Trip.Fails Done.Nothing → self.new.calls.items ≡ self.old.calls.items }
-        ensures extent { (n : ℕ) → (replayed empty self.old.calls.items).names path.now ≡ File n → HasDone (written n bytes.now) trip self.old.calls.items self.new.calls.items (IsErrOf result Memory) }
-        ensures out_of_memory { IsErrOf result Memory → IsToBeDone trip (IsFile (image_of (replayed empty self.old.calls.items)) path.now) }
-        ensures whole { (n : ℕ) → (replayed empty self.old.calls.items).names path.now ≡ File n → OnOk result (replayed empty self.new.calls.items ≡ appended (replayed empty self.old.calls.items) n bytes.now) }
-        ensures unable { (IsFile (image_of (replayed empty self.old.calls.items)) path.now → ⊥) → self.new.calls.items ≡ self.old.calls.items }
+        ensures extent { (n : ℕ) → IsFileAt self.old path.now n → DoesBy (written n bytes.now) trip self.old self.new result }
+        ensures out_of_memory { IsErrOf result Memory → IsToBeDone trip (IsFile (image_held self.old) path.now) }
+        ensures whole { (n : ℕ) → IsFileAt self.old path.now n → OnOk result (loose_held self.new ≡ appended (loose_held self.old) n bytes.now) }
+        ensures unable { (IsFile (image_held self.old) path.now → ⊥) → self.new.calls.items ≡ self.old.calls.items }
     {
         if trip == Trip::Fails(Done::Nothing) {
             return Err(Fault::Failed);
@@ -164,22 +165,22 @@ impl Held {
     /// Whether a sync of the node has failed.
     fn is_doubted(&self, node: usize) -> bool
         requires { node < length self.now.nodes.items }
-        ensures { result ≡ (replayed empty self.now.calls.items).doubted node }
+        ensures { result ≡ (loose_held self.now).doubted node }
     {
         self.nodes[node].doubted
     }
 
     /// Makes a file's bytes durable, where no sync of it has failed.
     pub fn sync_file(&mut self, trip: Trip, path: &str) -> Result<(), Fault>
-        ensures effect { (f g r s : ℕ) → AlsoFailed (Synced path.now (state_with self.old.calls.items f r) (state_with self.new.calls.items g s)) result }
+        ensures effect { (f g r s : ℕ) → AlsoFailed (Synced path.now (state_held self.old f r) (state_held self.new g s)) result }
         ensures which { IfErr result (λ e. e ≢ Exists) }
         ensures passes { trip ≡ Trip.Passes → IsErrOf result Failed → ⊥ }
-        ensures doubt { IsErrOf result Failed → (n : ℕ) × ((replayed empty self.old.calls.items).names path.now ≡ File n) × ((replayed empty self.new.calls.items).doubted n ≡ true) }
-        ensures nothing { trip ≡ Trip.Fails Done.Nothing → (replayed empty self.new.calls.items).synced ≡ (replayed empty self.old.calls.items).synced }
-        ensures extent { (n : ℕ) → (replayed empty self.old.calls.items).names path.now ≡ File n → (replayed empty self.old.calls.items).doubted n ≡ false → HasDone (doubtful n) trip self.old.calls.items self.new.calls.items (IsErrOf result Memory) }
-        ensures out_of_memory { IsErrOf result Memory → IsSureFile (replayed empty self.old.calls.items) path.now }
-        ensures whole { (n : ℕ) → (replayed empty self.old.calls.items).names path.now ≡ File n → (replayed empty self.old.calls.items).doubted n ≡ false → OnOk result (replayed empty self.new.calls.items ≡ node_synced (replayed empty self.old.calls.items) n) }
-        ensures unable { (IsSureFile (replayed empty self.old.calls.items) path.now → ⊥) → self.new.calls.items ≡ self.old.calls.items }
+        ensures doubt { IsErrOf result Failed → (n : ℕ) × ((loose_held self.old).names path.now ≡ File n) × ((loose_held self.new).doubted n ≡ true) }
+        ensures nothing { trip ≡ Trip.Fails Done.Nothing → (loose_held self.new).synced ≡ (loose_held self.old).synced }
+        ensures extent { (n : ℕ) → IsFileAt self.old path.now n → IsSure self.old n → DoesBy (doubtful n) trip self.old self.new result }
+        ensures out_of_memory { IsErrOf result Memory → IsSureFile (loose_held self.old) path.now }
+        ensures whole { (n : ℕ) → IsFileAt self.old path.now n → IsSure self.old n → OnOk result (loose_held self.new ≡ node_synced (loose_held self.old) n) }
+        ensures unable { (IsSureFile (loose_held self.old) path.now → ⊥) → self.new.calls.items ≡ self.old.calls.items }
     {
         let Binding::File(node) = self.binding(path) else {
             return Err(Fault::Absent)
@@ -201,11 +202,11 @@ impl Held {
 
     // A sync of the node fails and leaves doubt. It was done nevertheless, or not.
     fn fail_sync(&mut self, done: Done, path: &str, node: usize) -> Result<(), AllocError>
-        requires { (replayed empty self.old.calls.items).names path.now ≡ File node }
-        ensures effect { (f g r s : ℕ) → FailsToSync path.now (state_with self.old.calls.items f r) (state_with self.new.calls.items g s) }
-        ensures extent { OnOk result (replayed empty self.new.calls.items ≡ doubtful node done (replayed empty self.old.calls.items)) }
-        ensures nothing { done ≡ Done.Nothing → (replayed empty self.new.calls.items).synced ≡ (replayed empty self.old.calls.items).synced }
-        ensures err { OnErr result ((f g r s : ℕ) → IsStill (state_with self.old.calls.items f r) (state_with self.new.calls.items g s)) }
+        requires { (loose_held self.old).names path.now ≡ File node }
+        ensures effect { (f g r s : ℕ) → FailsToSync path.now (state_held self.old f r) (state_held self.new g s) }
+        ensures extent { OnOk result (loose_held self.new ≡ doubtful node done (loose_held self.old)) }
+        ensures nothing { done ≡ Done.Nothing → (loose_held self.new).synced ≡ (loose_held self.old).synced }
+        ensures err { OnErr result ((f g r s : ℕ) → IsStill (state_held self.old f r) (state_held self.new g s)) }
     {
         match done {
             Done::Nothing => self.doubt(node),
@@ -218,14 +219,14 @@ impl Held {
 
     /// Makes a folder's names durable.
     pub fn sync_names(&mut self, trip: Trip, folder: &str) -> Result<(), Fault>
-        ensures effect { (f g r s : ℕ) → AlsoFailed (FolderSynced folder.now (state_with self.old.calls.items f r) (state_with self.new.calls.items g s)) (told_as result) }
+        ensures effect { (f g r s : ℕ) → AlsoFailed (FolderSynced folder.now (state_held self.old f r) (state_held self.new g s)) (told_as result) }
         ensures which { IfErr result (λ e. e ≢ Exists) }
         ensures passes { trip ≡ Trip.Passes → IsErrOf result Failed → ⊥ }
         ensures nothing { trip ≡ Trip.Fails Done.Nothing → self.new.calls.items ≡ self.old.calls.items }
-        ensures extent { (replayed empty self.old.calls.items).names folder.now ≡ Folder → HasDone (taken (λ l. folder_synced l folder.now)) trip self.old.calls.items self.new.calls.items (IsErrOf result Memory) }
-        ensures out_of_memory { IsErrOf result Memory → IsToBeDone trip ((replayed empty self.old.calls.items).names folder.now ≡ Folder) }
-        ensures whole { OnOk result (replayed empty self.new.calls.items ≡ folder_synced (replayed empty self.old.calls.items) folder.now) }
-        ensures unable { (((replayed empty self.old.calls.items).names folder.now ≡ Folder) → ⊥) → self.new.calls.items ≡ self.old.calls.items }
+        ensures extent { (loose_held self.old).names folder.now ≡ Folder → DoesBy (taken (λ l. folder_synced l folder.now)) trip self.old self.new result }
+        ensures out_of_memory { IsErrOf result Memory → IsToBeDone trip ((loose_held self.old).names folder.now ≡ Folder) }
+        ensures whole { OnOk result (loose_held self.new ≡ folder_synced (loose_held self.old) folder.now) }
+        ensures unable { (((loose_held self.old).names folder.now ≡ Folder) → ⊥) → self.new.calls.items ≡ self.old.calls.items }
     {
         if trip == Trip::Fails(Done::Nothing) {
             return Err(Fault::Failed);

@@ -89,7 +89,7 @@ pub fn count_shortage(shortages: &mut u64, trip: Trip, done: &Result<(), Fault>)
     }
 }
 
-/// What a call that answers no Memory tells: a refused growth as a failure, which is counted as a shortage.
+/// What a call that never returns Memory returns: a refused growth as a failure, which is counted as a shortage.
 pub fn tell_shortage(shortages: &mut u64, done: Result<(), Fault>) -> Result<(), Fault>
     ensures told { result ≡ told_as done }
     ensures out_of_memory { IsErrOf done Memory → IsOneMore shortages.old shortages.new }
@@ -102,7 +102,7 @@ pub fn tell_shortage(shortages: &mut u64, done: Result<(), Fault>) -> Result<(),
     Err(Fault::Failed)
 }
 
-/// The answer of a call that has done this: `Failed`, and counted, where it fails.
+/// The result of a call that has done this: `Failed`, and counted, where it fails.
 pub fn answer<T: Drop>(failures: &mut u64, trip: Trip, done: Result<T, Fault>) -> Result<T, Fault>
     ensures answer { IsAnswer done result }
     ensures counts { CountsFailure result failures.old failures.new }

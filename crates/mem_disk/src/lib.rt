@@ -7,9 +7,9 @@
 //! The record of its calls is the disk: `specs/Loose.antt` says what a record leaves loose (`replayed`) and what a stop
 //! may leave of that (`MayLeave`), and `specs/States.antt` makes of it the state that the trait's contract speaks of,
 //! one moment for each call of the record (`state_with`; of a `MemDisk`: `state_of` in `specs/Disks.antt`). Lists of
-//! names and nodes beside the record answer reads without a replay, and a ghost field ties them to it (`Keeps`).
+//! names and nodes next to the record serve reads without a replay, and a ghost field ties them to it (`Keeps`).
 //! `specs/Fuses.antt` says which calls fail (`Burns`), `specs/Failing.antt` what a call that fails has done (`HasDone`),
-//! `specs/Shortages.antt` what a call that answers no Memory tells when it is short of it, and `specs/Picks.antt` which
+//! `specs/Shortages.antt` what a call that never returns Memory returns when it is out of memory, and `specs/Picks.antt` which
 //! image a list of words picks (`ArePickedBy`).
 //!
 //! A call finds its name by a map, so its time depends neither on the number of names nor on the length of the record.
@@ -73,8 +73,8 @@ impl MemDisk {
     }
 
     /// From now on `k` calls pass, and all later ones fail. Each call of the disk counts, those that read too, but for
-    /// `failures` and `reads`; what was set before is forgotten. A call that fails answers Failed, whatever it would
-    /// have answered. The pick, modulo 3, says what a failed call has done: 0 nothing, 1 the whole, 2 a part (of an
+    /// `failures` and `reads`; what was set before is forgotten. A call that fails returns Failed, whatever it would
+    /// have returned. The pick, modulo 3, says what a failed call has done: 0 nothing, 1 the whole, 2 a part (of an
     /// append the first half, rounded down to whole bytes, of a rename the target's name only, of any other call the
     /// whole).
     pub fn fuse(&mut self, k: u64, pick: u64)
@@ -98,9 +98,9 @@ impl MemDisk {
         self.fuse = Fuse::Once(k, done_of(pick));
     }
 
-    /// How many calls that answered Failed have done less than they were to, since a growth was refused in them: of
-    /// those that the fuse lets fail any that should do something, of all others `rename` and `sync_folder` alone, which
-    /// answer no Memory. It stays at the greatest u64.
+    /// How many calls that returned Failed have done less than they were to, since a growth was refused in them: of
+    /// those that the fuse lets fail any that should do something, of all others only `rename` and `sync_folder`, which
+    /// never return Memory. It stays at the greatest u64.
     pub fn shortages(&self) -> u64
         ensures { result ≡ self.now.shortages }
     {

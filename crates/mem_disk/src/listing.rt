@@ -6,7 +6,8 @@ ghost use Rattle.disk.specs.Calls.{Listed};
 ghost use Rattle.disk.specs.declared.fault.Fault.TheVariants.{Absent, Memory};
 ghost use Rattle.disk.specs.declared.binding.Binding.TheVariants.{Nothing};
 ghost use Rattle.mem_disk.specs.Listings.{IsEntryOf, IsUnlisted, AreListed, AddsEntry, IsKindOf};
-ghost use Rattle.mem_disk.specs.States.{state_with, AlsoFailed};
+ghost use Rattle.mem_disk.specs.States.{AlsoFailed};
+ghost use Rattle.mem_disk.specs.Holding.{state_held};
 
 use crate::held::Held;
 use crate::name::Name;
@@ -96,7 +97,7 @@ fn entries_of(alloc: Global, names: &[Name], folder: &str) -> Result<Vec<Entry>,
 impl Held {
     /// The names in a folder, each once.
     pub fn list_names(&self, alloc: Global, folder: &str) -> Result<Vec<Entry>, Fault>
-        ensures effect { (f g r s : ℕ) → AlsoFailed (Listed (λ entries. entries.items) folder.now (state_with self.now.calls.items f r) (state_with self.now.calls.items g s)) result }
+        ensures effect { (f g r s : ℕ) → AlsoFailed (Listed (λ entries. entries.items) folder.now (state_held self.now f r) (state_held self.now g s)) result }
         ensures which { IfErr result (λ e. (e ≡ Absent) ⊎ (e ≡ Memory)) }
     {
         let Binding::Folder = self.binding(folder) else {

@@ -1,14 +1,15 @@
 //! The disk.
 
-ghost use Rattle.std.specs.Prelude.{◌≡◌, ◌≢◌, ◌⊎◌, ◌↔◌, ℕ, length, false, OnOk, IfErr, IsErrOf};
+ghost use Rattle.std.specs.Prelude.{◌≡◌, ◌≢◌, ◌⊎◌, ◌↔◌, ℕ, OnOk, IfErr, IsErrOf};
 ghost use Rattle.disk.specs.State.{IsOneMore};
 ghost use Rattle.disk.specs.Calls.{CountsFailure, Created, FolderMade, Appended, Synced, FolderSynced, IsMovable, Renamed, Removed, RangeRead, Measured, Listed};
 ghost use Rattle.disk.specs.declared.binding.Binding.TheVariants.{Folder, File};
 ghost use Rattle.disk.specs.declared.binding.Binding.TheVariants as binding;
-ghost use Rattle.mem_disk.specs.Loose.{Loose, bound, appended, node_synced, folder_synced};
-ghost use Rattle.mem_disk.specs.Disks.{state_of, lawful_of, loose_in, FailsBy};
+ghost use Rattle.mem_disk.specs.Loose.{bound, appended, node_synced, folder_synced};
+ghost use Rattle.mem_disk.specs.Disks.{state_of, lawful_of, loose_in, FailsBy, ShortOnlyWhere};
 ghost use Rattle.mem_disk.specs.Fuses.{Burns, trip_of};
-ghost use Rattle.mem_disk.specs.Failing.{taken, written, moved, doubtful, IsVacant, IsFile, IsSureFile, IsToBeDone, StaysUnlessShort};
+ghost use Rattle.mem_disk.specs.Holding.{next_node, IsFileAt, IsSure};
+ghost use Rattle.mem_disk.specs.Failing.{taken, written, moved, doubtful, IsVacant, IsFile, IsSureFile, StaysUnlessShort};
 ghost use Rattle.mem_disk.specs.declared.fuse.Done.TheVariants as extent;
 ghost use Rattle.mem_disk.specs.declared.fuse.Trip.TheVariants as case;
 
@@ -30,9 +31,9 @@ impl Disk for MemDisk {
         ensures fuse { Burns self.old.fuse self.new.fuse result }
         ensures passes { trip_of self.old.fuse ≡ case.Passes → IsErrOf result Fault.Failed → ⊥ }
         ensures nothing { trip_of self.old.fuse ≡ case.Fails extent.Nothing → self.new.held.calls.items ≡ self.old.held.calls.items }
-        ensures extent { IsVacant (state_of self.old).seen path.now → FailsBy (taken (λ l. bound l path.now (File (length self.old.held.nodes.items)))) self.old self.new }
-        ensures ample { StaysUnlessShort (IsToBeDone (trip_of self.old.fuse) (IsVacant (state_of self.old).seen path.now)) result self.old.shortages self.new.shortages }
-        ensures whole { OnOk result (loose_in self.new ≡ bound (loose_in self.old) path.now (File (length self.old.held.nodes.items))) }
+        ensures extent { IsVacant (state_of self.old).seen path.now → FailsBy (taken (λ l. bound l path.now (File (next_node self.old.held)))) self.old self.new }
+        ensures ample { ShortOnlyWhere (IsVacant (state_of self.old).seen path.now) self.old self.new result }
+        ensures whole { OnOk result (loose_in self.new ≡ bound (loose_in self.old) path.now (File (next_node self.old.held))) }
         ensures unable { (IsVacant (state_of self.old).seen path.now → ⊥) → self.new.held.calls.items ≡ self.old.held.calls.items }
     {
         let trip = self.fuse.burn();
@@ -50,7 +51,7 @@ impl Disk for MemDisk {
         ensures passes { trip_of self.old.fuse ≡ case.Passes → IsErrOf result Fault.Failed → ⊥ }
         ensures nothing { trip_of self.old.fuse ≡ case.Fails extent.Nothing → self.new.held.calls.items ≡ self.old.held.calls.items }
         ensures extent { IsVacant (state_of self.old).seen path.now → FailsBy (taken (λ l. bound l path.now Folder)) self.old self.new }
-        ensures ample { StaysUnlessShort (IsToBeDone (trip_of self.old.fuse) (IsVacant (state_of self.old).seen path.now)) result self.old.shortages self.new.shortages }
+        ensures ample { ShortOnlyWhere (IsVacant (state_of self.old).seen path.now) self.old self.new result }
         ensures whole { IsVacant (state_of self.old).seen path.now → OnOk result (loose_in self.new ≡ bound (loose_in self.old) path.now Folder) }
         ensures unable { (IsVacant (state_of self.old).seen path.now → ⊥) → self.new.held.calls.items ≡ self.old.held.calls.items }
     {
@@ -124,9 +125,9 @@ impl Disk for MemDisk {
         ensures fuse { Burns self.old.fuse self.new.fuse result }
         ensures passes { trip_of self.old.fuse ≡ case.Passes → IsErrOf result Fault.Failed → ⊥ }
         ensures nothing { trip_of self.old.fuse ≡ case.Fails extent.Nothing → self.new.held.calls.items ≡ self.old.held.calls.items }
-        ensures extent { (n : ℕ) → (state_of self.old).seen.names path.now ≡ File n → FailsBy (written n bytes.now) self.old self.new }
-        ensures ample { StaysUnlessShort (IsToBeDone (trip_of self.old.fuse) (IsFile (state_of self.old).seen path.now)) result self.old.shortages self.new.shortages }
-        ensures whole { (n : ℕ) → (state_of self.old).seen.names path.now ≡ File n → OnOk result (loose_in self.new ≡ appended (loose_in self.old) n bytes.now) }
+        ensures extent { (n : ℕ) → IsFileAt self.old.held path.now n → FailsBy (written n bytes.now) self.old self.new }
+        ensures ample { ShortOnlyWhere (IsFile (state_of self.old).seen path.now) self.old self.new result }
+        ensures whole { (n : ℕ) → IsFileAt self.old.held path.now n → OnOk result (loose_in self.new ≡ appended (loose_in self.old) n bytes.now) }
         ensures unable { (IsFile (state_of self.old).seen path.now → ⊥) → self.new.held.calls.items ≡ self.old.held.calls.items }
     {
         let trip = self.fuse.burn();
@@ -144,9 +145,9 @@ impl Disk for MemDisk {
         ensures fuse { Burns self.old.fuse self.new.fuse result }
         ensures passes { trip_of self.old.fuse ≡ case.Passes → IsErrOf result Fault.Failed → ⊥ }
         ensures nothing { trip_of self.old.fuse ≡ case.Fails extent.Nothing → (loose_in self.new).synced ≡ (loose_in self.old).synced }
-        ensures extent { (n : ℕ) → (state_of self.old).seen.names path.now ≡ File n → (loose_in self.old).doubted n ≡ false → FailsBy (doubtful n) self.old self.new }
+        ensures extent { (n : ℕ) → IsFileAt self.old.held path.now n → IsSure self.old.held n → FailsBy (doubtful n) self.old self.new }
         ensures ample { StaysUnlessShort (IsSureFile (loose_in self.old) path.now) result self.old.shortages self.new.shortages }
-        ensures whole { (n : ℕ) → (state_of self.old).seen.names path.now ≡ File n → (loose_in self.old).doubted n ≡ false → OnOk result (loose_in self.new ≡ node_synced (loose_in self.old) n) }
+        ensures whole { (n : ℕ) → IsFileAt self.old.held path.now n → IsSure self.old.held n → OnOk result (loose_in self.new ≡ node_synced (loose_in self.old) n) }
         ensures unable { (IsSureFile (loose_in self.old) path.now → ⊥) → self.new.held.calls.items ≡ self.old.held.calls.items }
     {
         let trip = self.fuse.burn();
@@ -165,7 +166,7 @@ impl Disk for MemDisk {
         ensures nothing { trip_of self.old.fuse ≡ case.Fails extent.Nothing → self.new.held.calls.items ≡ self.old.held.calls.items }
         ensures passes { trip_of self.old.fuse ≡ case.Passes → IsErrOf result Fault.Failed → IsOneMore self.old.shortages self.new.shortages }
         ensures extent { (state_of self.old).seen.names folder.now ≡ Folder → FailsBy (taken (λ l. folder_synced l folder.now)) self.old self.new }
-        ensures ample { StaysUnlessShort (IsToBeDone (trip_of self.old.fuse) ((state_of self.old).seen.names folder.now ≡ Folder)) result self.old.shortages self.new.shortages }
+        ensures ample { ShortOnlyWhere ((state_of self.old).seen.names folder.now ≡ Folder) self.old self.new result }
         ensures whole { OnOk result (loose_in self.new ≡ folder_synced (loose_in self.old) folder.now) }
         ensures unable { (((state_of self.old).seen.names folder.now ≡ Folder) → ⊥) → self.new.held.calls.items ≡ self.old.held.calls.items }
     {
@@ -185,7 +186,7 @@ impl Disk for MemDisk {
         ensures nothing { trip_of self.old.fuse ≡ case.Fails extent.Nothing → self.new.held.calls.items ≡ self.old.held.calls.items }
         ensures passes { trip_of self.old.fuse ≡ case.Passes → IsErrOf result Fault.Failed → IsOneMore self.old.shortages self.new.shortages }
         ensures extent { IsMovable (state_of self.old).seen source.now target.now → FailsBy (moved source.now target.now) self.old self.new }
-        ensures ample { StaysUnlessShort (IsToBeDone (trip_of self.old.fuse) (IsMovable (state_of self.old).seen source.now target.now)) result self.old.shortages self.new.shortages }
+        ensures ample { ShortOnlyWhere (IsMovable (state_of self.old).seen source.now target.now) self.old self.new result }
         ensures whole { OnOk result (loose_in self.new ≡ moved source.now target.now extent.Whole (loose_in self.old)) }
         ensures unable { (IsMovable (state_of self.old).seen source.now target.now → ⊥) → self.new.held.calls.items ≡ self.old.held.calls.items }
     {
@@ -204,7 +205,7 @@ impl Disk for MemDisk {
         ensures nothing { trip_of self.old.fuse ≡ case.Fails extent.Nothing → self.new.held.calls.items ≡ self.old.held.calls.items }
         ensures passes { trip_of self.old.fuse ≡ case.Passes → IsErrOf result Fault.Failed → ⊥ }
         ensures extent { IsFile (state_of self.old).seen path.now → FailsBy (taken (λ l. bound l path.now binding.Nothing)) self.old self.new }
-        ensures ample { StaysUnlessShort (IsToBeDone (trip_of self.old.fuse) (IsFile (state_of self.old).seen path.now)) result self.old.shortages self.new.shortages }
+        ensures ample { ShortOnlyWhere (IsFile (state_of self.old).seen path.now) self.old self.new result }
         ensures whole { OnOk result (loose_in self.new ≡ bound (loose_in self.old) path.now binding.Nothing) }
         ensures unable { (IsFile (state_of self.old).seen path.now → ⊥) → self.new.held.calls.items ≡ self.old.held.calls.items }
     {

@@ -9,7 +9,7 @@ use disk::Binding;
 use std::alloc::{AllocError, Global};
 use std::collections::HashMap;
 
-// What a path names at the beginning: the dataset's own folder alone is there.
+// What a path names at the beginning: only the dataset's own folder is there.
 fn first_of(path: &str) -> Binding
     ensures { result ≡ at_first path.now }
 {

@@ -3,8 +3,8 @@
 ghost use Rattle.std.specs.Prelude.{◌≡◌, ◌<◌, ◌⊎◌, ℕ, length, take, drop, IfErr, IfOk};
 ghost use Rattle.disk.specs.Calls.{RangeRead, Measured};
 ghost use Rattle.disk.specs.declared.fault.Fault.TheVariants.{Absent, Memory};
-ghost use Rattle.mem_disk.specs.Loose.{empty, replayed};
-ghost use Rattle.mem_disk.specs.States.{state_with, AlsoFailed};
+ghost use Rattle.mem_disk.specs.States.{AlsoFailed};
+ghost use Rattle.mem_disk.specs.Holding.{loose_held, state_held};
 
 use crate::held::Held;
 use disk::{Binding, Fault};
@@ -26,7 +26,7 @@ impl Held {
     // The bytes of a node.
     fn bytes_of(&self, node: usize) -> &[u8]
         requires { node < length self.now.nodes.items }
-        ensures { result.now ≡ (replayed empty self.now.calls.items).bytes node }
+        ensures { result.now ≡ (loose_held self.now).bytes node }
     {
         &self.nodes[node].bytes
     }
@@ -39,7 +39,7 @@ impl Held {
         from: u64,
         len: usize,
     ) -> Result<Vec<u8>, Fault>
-        ensures effect { (f g r s : ℕ) → AlsoFailed (RangeRead (λ bytes. bytes.items) path.now from len (state_with self.now.calls.items f r) (state_with self.now.calls.items g s)) result }
+        ensures effect { (f g r s : ℕ) → AlsoFailed (RangeRead (λ bytes. bytes.items) path.now from len (state_held self.now f r) (state_held self.now g s)) result }
         ensures which { IfErr result (λ e. (e ≡ Absent) ⊎ (e ≡ Memory)) }
     {
         let Binding::File(node) = self.binding(path) else {
@@ -52,7 +52,7 @@ impl Held {
 
     /// How many bytes a file has.
     pub fn measure_file(&self, path: &str) -> Result<u64, Fault>
-        ensures effect { (f g r s : ℕ) → AlsoFailed (Measured path.now (state_with self.now.calls.items f r) (state_with self.now.calls.items g s)) result }
+        ensures effect { (f g r s : ℕ) → AlsoFailed (Measured path.now (state_held self.now f r) (state_held self.now g s)) result }
         ensures which { IfErr result (λ e. e ≡ Absent) }
     {
         let Binding::File(node) = self.binding(path) else {

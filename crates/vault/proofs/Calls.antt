@@ -1,17 +1,16 @@
 -- What the vault's calls leave, from what their steps do.
-use Rattle.std.proofs.Common.{◌≡◌, ◌≢◌, ◌<◌, ◌≤◌, ◌⊎◌, ◌-◌, ◌^◌, ℕ, List, ⊎_elim, inl, inr, refl, sym, subst, arith, Result, Ok, Err}
+use Rattle.std.proofs.Common.{◌≡◌, ◌≢◌, ◌<◌, ◌≤◌, ◌⊎◌, ◌-◌, ◌^◌, ℕ, List, ⊎_elim, refl, sym, subst, Ok, Err}
 use Rattle.disk.specs.State.{State, IsLawful}
 use Rattle.disk.specs.Calls.{CountsFailure}
-use Rattle.disk.specs.declared.binding.Binding.TheVariants.{Folder}
 use Rattle.disk.specs.declared.fault.Fault.{Fault}
 use Rattle.disk.specs.declared.fault.Fault.TheVariants.{Absent, Exists, Failed, Memory}
 use Rattle.bits.specs.Refusals.{HasCause}
 use Rattle.bits.specs.declared.refusal.Refusal.{Refusal}
 use Rattle.bits.specs.declared.refusal.Refusal.TheVariants.{InDoubt}
-use Rattle.vault.specs.Views.{AllBut, Swaps, root_path, next_path}
-use Rattle.vault.specs.Ways.{IsClearWay, AreRootsClear}
+use Rattle.vault.specs.Views.{AllBut, Swaps, next_path}
+use Rattle.vault.specs.Ways.{IsClearWay}
 use Rattle.vault.specs.Calls.{HasFailed, Puts, SwapsRoot, Forgets}
-use Rattle.vault.specs.inner.Files.{Cleared, Placed, Turned, FailsOnly, IsNoFolder, refusal_for}
+use Rattle.vault.specs.inner.Files.{Cleared, Placed, Turned, FailsOnly, refusal_for}
 use Rattle.vault.proofs.Moments.{widens}
 use Rattle.vault.proofs.Names.{next_alone}
 use Rattle.vault.proofs.Writing.{not_on_its_way}

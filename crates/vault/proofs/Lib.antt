@@ -9,5 +9,5 @@ pub mod Chained
 pub mod Plurals
 pub mod Puts
 pub mod Committed
-pub mod Opened
+pub mod Openings
 pub mod Slashes

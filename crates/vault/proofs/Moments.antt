@@ -1,9 +1,9 @@
 -- How what a stop may leave goes on from call to call.
-use Rattle.std.proofs.Common.{◌≡◌, ◌≢◌, ◌<◌, ◌≤◌, ◌⊎◌, ℕ, zero, suc, List, Some, ⊎_elim, inl, inr, arith, refl, sym, ◌∙◌, subst}
+use Rattle.std.proofs.Common.{◌≡◌, ◌<◌, ◌≤◌, ◌⊎◌, ℕ, zero, suc, List, ⊎_elim, inl, inr, arith, refl, sym, ◌∙◌, subst}
 use Rattle.disk.specs.State.{Image, State, content, may_leave}
 use Rattle.disk.specs.Calls.{Passes, Stays, IsStill}
-use Rattle.vault.specs.Views.{Same, View, LeavesAfter, LeavesNow, IsRooted, IsRootedAt, StaysRooted, IsKept, AllBut, Swaps, root_path, next_path}
-use Rattle.vault.specs.Ways.{IsClearIn, IsClearWay, StaysClear}
+use Rattle.vault.specs.Views.{Same, View, LeavesAfter, LeavesNow, IsRooted, IsRootedAt, StaysRooted, IsKept, AllBut, Swaps}
+use Rattle.vault.specs.Ways.{IsClearWay, StaysClear}
 
 pub le_or : (n k : ℕ) → (k ≤ n) ⊎ (n < k)
 le_or n zero = inl (omega arith)

@@ -1,5 +1,5 @@
 -- What each step of the disk leaves of all that it does not name.
-use Rattle.std.proofs.Common.{◌≡◌, ◌≢◌, ◌⊎◌, ◌≤◌, ℕ, List, Some, None, ⊎_elim, inl, inr, refl, sym, ◌∙◌, ap, subst}
+use Rattle.std.proofs.Common.{◌≡◌, ◌≢◌, ◌⊎◌, ℕ, List, Some, None, ⊎_elim, inl, inr, refl, sym, ◌∙◌, ap, subst}
 use Rattle.disk.specs.Paths.{IsOnTheWay}
 use Rattle.disk.specs.State.{Image, State, held, content, may_leave}
 use Rattle.disk.specs.declared.binding.Binding.{Binding}
@@ -8,7 +8,7 @@ use Rattle.disk.specs.Calls.{Passes, Stays, Binds, Tears, IsStill}
 use Rattle.vault.specs.Views.{View, Same, AllBut, ReadsAs, IsRooted, StaysRooted, root_path}
 use Rattle.vault.specs.Ways.{IsClearIn, IsClearWay, StaysClear, LeavesWays}
 use Rattle.vault.specs.Calls.{LeavesAll}
-use Rattle.vault.specs.inner.Files.{Spares, LeavesBelow, LeavesAbove}
+use Rattle.vault.specs.inner.Files.{Spares}
 use Rattle.vault.proofs.Moments.{came, rooted_joins, clear_joins, one_call, joins, stays_leaves, all_but_same, all_but_twice, same_same}
 
 held_same : (c d : Image) (b : Binding) → ((n : ℕ) → b ≡ File n → c.bytes n ≡ d.bytes n) → held c b ≡ held d b

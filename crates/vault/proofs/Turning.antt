@@ -4,13 +4,13 @@ use Rattle.std.specs.Prelude.{IfErr}
 use Rattle.std.proofs.lemmas.Result.{on_ok_weaker, IfOk-at_ok}
 use Rattle.disk.specs.Paths.{IsOnTheWay}
 use Rattle.disk.specs.State.{Image, State, IsLawful, held, content, may_leave}
-use Rattle.disk.specs.declared.binding.Binding.TheVariants.{Nothing, Folder, File}
+use Rattle.disk.specs.declared.binding.Binding.TheVariants.{Nothing, File}
 use Rattle.disk.specs.declared.fault.Fault.{Fault}
 use Rattle.disk.specs.declared.fault.Fault.TheVariants.{Absent, Failed, Memory}
 use Rattle.disk.specs.Calls.{Passes, Moves, IsStill, Renamed, FolderSynced, IsMovable}
-use Rattle.vault.specs.Views.{Same, View, LeavesAfter, AllBut, Swaps, ReadsAs, IsKept, WasKept, IsRooted, StaysRooted, IsSettled, root_path, next_path}
-use Rattle.vault.specs.Ways.{IsClearWay, StaysClear, LeavesClear, IsOffTheRoots, AreRootsClear}
-use Rattle.vault.specs.inner.Files.{IsWritten, IsHoused, IsNoFolder, Turned, Spares, LeavesBelow}
+use Rattle.vault.specs.Views.{Same, View, LeavesAfter, AllBut, Swaps, ReadsAs, IsKept, WasKept, IsRooted, StaysRooted, IsSettled, root_path, next_path, IsNoFolder}
+use Rattle.vault.specs.Ways.{IsClearWay, StaysClear, LeavesClear, IsOffTheRoots}
+use Rattle.vault.specs.inner.Files.{IsWritten, IsHoused, Turned, Spares, LeavesBelow}
 use Rattle.vault.proofs.Moments.{came, rooted_joins, clear_joins, clear_after, one_call, joins, stays_leaves, stays_may, swaps_same}
 use Rattle.vault.proofs.Steps.{content_along, clear_on, clear_by_names, stays_rooted, stays_clear, stays_reads, folder_is_no_file, nothing_is_no_folder, nothing_is_no_file}
 use Rattle.vault.proofs.Answering.{failed_only, failed_left}

@@ -12,7 +12,7 @@ use Rattle.disk.specs.declared.fault.Fault.TheVariants.{Absent, Exists, Failed}
 use Rattle.disk.specs.Calls.{Passes, Binds, Tears, IsStill, Takes, Removed, FolderMade, Created, Appended, Synced, FolderSynced}
 use Rattle.vault.specs.Views.{LeavesAfter, Same, AllBut, root_path}
 use Rattle.vault.specs.Ways.{IsOpenWay, LeavesClear, LeavesWays}
-use Rattle.vault.specs.inner.Files.{Spares, LeavesBelow, LeavesAbove, NoNewFiles, IsHoused, IsNoFolder, FailsOnly, Cleared, FoldersMade, Written, MadeFirm, Placed}
+use Rattle.vault.specs.inner.Files.{Spares, LeavesBelow, NoNewFiles, IsHoused, FailsOnly, Cleared, FoldersMade, Written, MadeFirm, Placed}
 use Rattle.vault.proofs.Moments.{rooted_joins, stays_rooted_here, clear_joins, stays_clear_here, one_call, joins, widens, nothing_yet, stays_may, still_on, same_same, same_twice}
 use Rattle.vault.proofs.Steps.{binds_spares, tears_spares, stays_spares, spares_on, clear_spared, clear_on, stays_clear, binds_nothing_clear, binds_file_clear, binds_folder_clear, tears_clear, folder_same, rooted_on, folder_is_no_file, nothing_is_no_folder, nothing_is_no_file}
 use Rattle.vault.proofs.Answering.{fails_only, never, failed_only, fails_by_failure}

@@ -1,11 +1,10 @@
 -- What each call of the vault leaves.
-use Rattle.std.specs.Prelude.{◌≡◌, ◌≢◌, ◌≤◌, ◌<◌, ◌⊎◌, ◌^◌, ◌-◌, ◌+◌, ℕ, List, Result, OnOk, IfErr, IsErrOf}
+use Rattle.std.specs.Prelude.{◌≡◌, ◌≢◌, ◌≤◌, ◌<◌, ◌⊎◌, ◌^◌, ◌-◌, ◌+◌, ℕ, List, Some, take, drop, Result, OnOk, IfErr, IsErrOf}
 use Rattle.bits.specs.Refusals.{RefusedOnly}
 use Rattle.bits.specs.declared.refusal.Refusal.{Refusal}
-use Rattle.bits.specs.declared.refusal.Refusal.TheVariants.{Memory, InDoubt}
-use Rattle.disk.specs.State.{State, may_leave}
-use Rattle.disk.specs.declared.binding.Binding.TheVariants.{Folder}
-use Rattle.vault.specs.Views.{Same, AllBut, Swaps, LeavesAfter, LeavesNames, ReadsAs, WasKept, IsKept, IsRooted, StaysRooted, IsGone, root_path, next_path}
+use Rattle.bits.specs.declared.refusal.Refusal.TheVariants.{Truncated, Device, Memory, InDoubt}
+use Rattle.disk.specs.State.{State, content}
+use Rattle.vault.specs.Views.{Same, AllBut, Swaps, LeavesAfter, LeavesNames, ReadsAs, WasKept, IsKept, IsRooted, StaysRooted, IsGone, IsNoFolder, root_path, next_path}
 use Rattle.vault.specs.Ways.{IsClearWay, StaysClear, AreRootsClear, LeavesWays, LeavesClear, IsOffTheRoots}
 
 -- the disk's failures grew, or their count stood at the greatest u64
@@ -23,6 +22,26 @@ pub record CountsOnce {T : Type 0} (result : Result T Refusal) (old new : State)
 abbrev pub OnlyFailed : {T : Type 0} → Result T Refusal → State → State → Type 0
 OnlyFailed result old new = RefusedOnly (λ _. HasFailed old new) result
 
+-- a refusal Device, where the disk failed
+abbrev pub IsDeviceFailure : State → State → Refusal → Type 0
+IsDeviceFailure old new e = (e ≡ Device) × HasFailed old new
+
+-- a refusal Device, which an honest disk brings about only by a failure
+abbrev pub IsHonestDevice : State → State → Refusal → Type 0
+IsHonestDevice old new e = (e ≡ Device) × (old.honest → HasFailed old new)
+
+-- a refusal of a call that reads a path: Device where the disk failed, Truncated where an honest disk has nothing there
+abbrev pub IsReadRefusal : (State → List ℕ → Type 0) → List ℕ → State → State → Refusal → Type 0
+IsReadRefusal IsMissing path old new e = IsDeviceFailure old new e ⊎ ((e ≡ Truncated) × (old.honest → IsMissing old path))
+
+-- a range of the file's bytes, or as much of it as is there, as the disk reads
+abbrev pub IsRangeRead : State → List ℕ → ℕ → ℕ → List ℕ → Type 0
+IsRangeRead state path from len read = (bytes : List ℕ) × (content state.seen path ≡ Some bytes) × (read ≡ take len (drop from bytes))
+
+-- where the path is kept, a range of its bytes
+abbrev pub IsRangeKept : State → List ℕ → ℕ → ℕ → List ℕ → Type 0
+IsRangeKept state path from len read = (bytes : List ℕ) → IsKept state path bytes → read ≡ take len (drop from bytes)
+
 -- a call that only reads
 pub record LeavesAll (old new : State) : Type 0 where
   pub moments : LeavesAfter Same old new
@@ -38,7 +57,7 @@ pub record Puts {T : Type 0} (path bytes : List ℕ) (old new : State) (result :
   pub seen : ReadsAs (AllBut path) old new
   pub kept : OnOk result (IsKept new path bytes)
   pub rooted : IsRooted old → StaysRooted old new
-  -- nothing or a file stands at the path, whatever is answered
+  -- nothing or a file stands at the path, whatever is returned
   pub own : StaysClear old new path
   pub clear : LeavesClear path old new
   pub cause : OnlyFailed result old new
@@ -69,7 +88,7 @@ pub record Forgets {T : Type 0} (path : List ℕ) (old new : State) (result : Re
   pub rooted : IsRooted old → StaysRooted old new
   pub clear : LeavesWays old new
   -- a folder stays, and this is no failure of the disk
-  pub cause : old.seen.names path ≢ Folder → OnlyFailed result old new
+  pub cause : IsNoFolder old path → OnlyFailed result old new
 
 -- An opening: nothing changes at any moment but what stands at the next root's path.
 pub record Opens (old new : State) : Type 0 where

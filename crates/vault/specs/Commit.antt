@@ -1,12 +1,12 @@
--- What a commit of files and a root leaves, told by the bytes that each path has.
+-- What a commit of files and a root leaves, said of the bytes that each path has.
 use Rattle.std.specs.Prelude.{◌≡◌, ◌≢◌, ◌<◌, ◌⊎◌, ℕ, List, Some, length, String, string_bytes, Result, OnOk, IfErr}
 use Rattle.std.specs.List.{All, slice_index_or}
 use Rattle.std.specs.declared.alloc.Global.{Global}
 use Rattle.bits.specs.declared.refusal.Refusal.{Refusal}
 use Rattle.bits.specs.declared.refusal.Refusal.TheVariants.{InDoubt}
-use Rattle.disk.specs.State.{State, content}
+use Rattle.disk.specs.State.{State}
 use Rattle.vault.specs.declared.commits.NewFile.{NewFile}
-use Rattle.vault.specs.Views.{View, LeavesAfter, LeavesNow, IsNoRoot, IsRooted, StaysRooted, IsBeside, root_path, next_path}
+use Rattle.vault.specs.Views.{View, LeavesAfter, LeavesNow, ReadsAs, IsNoRoot, IsRooted, StaysRooted, IsBeside, root_path}
 use Rattle.vault.specs.Ways.{IsClearWay, StaysClear, AreApart, AreApartFrom, AreRootsClear, IsOffTheRoots}
 use Rattle.vault.specs.Calls.{OnlyFailed}
 
@@ -29,6 +29,12 @@ pub record AreReady (state : State) (files : List NewFile) : Type 0 where
 abbrev pub AreSpared : List NewFile → List (String Global) → Type 0
 AreSpared files gone = All (λ f. IsBeside text_of gone (path_of f)) files
 
+-- what a commit rests on
+pub record CanCommit (state : State) (files : List NewFile) (gone : List (String Global)) : Type 0 where
+  pub honest : state.honest
+  pub ready : AreReady state files
+  pub spared : AreSpared files gone
+
 -- the old root and all that was there, next to new files and the next root
 pub record Prepares (files : List NewFile) (u v : View) : Type 0 where
   pub root : v root_path ≡ u root_path
@@ -47,8 +53,12 @@ PreparesOrCommits files root gone u v = Prepares files u v ⊎ Commits files roo
 pub record CommitsAll {T : Type 0} (files : List NewFile) (root : List ℕ) (gone : List (String Global)) (old new : State) (result : Result T Refusal) : Type 0 where
   -- at every moment each image, by itself, has all of the old or all of the new
   pub moments : LeavesAfter (PreparesOrCommits files root gone) old new
+  -- so has the disk as it reads
+  pub seen : ReadsAs (PreparesOrCommits files root gone) old new
   -- after Ok each has the new
   pub done : OnOk result (LeavesNow (Commits files root gone) old new)
+  pub done_seen : OnOk result (ReadsAs (Commits files root gone) old new)
+  pub fresh : OnOk result (IsRooted new)
   -- after Device and Memory each has the old, at every moment
   pub unchanged : IfErr result (λ e. e ≢ InDoubt → LeavesAfter (Prepares files) old new)
   pub rooted : IsRooted old → StaysRooted old new

@@ -3,7 +3,7 @@ use Rattle.std.specs.Prelude.{◌≡◌, ◌≢◌, ◌≤◌, ◌⊎◌, ℕ, L
 use Rattle.std.specs.List.{All}
 use Rattle.std.specs.declared.alloc.Global.{Global}
 use Rattle.disk.specs.State.{Image, State, content, may_leave}
-use Rattle.disk.specs.declared.binding.Binding.TheVariants.{Nothing, File}
+use Rattle.disk.specs.declared.binding.Binding.TheVariants.{Nothing, Folder, File}
 
 -- the bytes of the file at each path, where one is there
 abbrev pub View : Type 0
@@ -52,10 +52,22 @@ IsSettled state = (c : Image) → may_leave state c → content c root_path ≡ 
 abbrev pub IsGone : State → List ℕ → Type 0
 IsGone state path = state.seen.names path ≡ Nothing
 
+-- no folder stands at this path, as the disk reads
+abbrev pub IsNoFolder : State → List ℕ → Type 0
+IsNoFolder state path = state.seen.names path ≢ Folder
+
+-- no file stands at this path, as the disk reads
+abbrev pub IsNoFile : State → List ℕ → Type 0
+IsNoFile state path = content state.seen path ≡ None
+
 -- the bytes of a root that was read
 abbrev pub bytes_of : Option (Vec ℕ Global) → Option (List ℕ)
 bytes_of None = None
 bytes_of (Some bytes) = Some bytes.items
+
+-- the disk reads this root, or none
+abbrev pub ReadsRoot : State → Option (Vec ℕ Global) → Type 0
+ReadsRoot state root = content state.seen root_path ≡ bytes_of root
 
 -- whatever a stop leaves has this root, or none
 abbrev pub HasRoot : State → Option (Vec ℕ Global) → Type 0

@@ -1,5 +1,5 @@
 -- Where a file can stand, and what keeps the way to it clear.
-use Rattle.std.specs.Prelude.{◌≡◌, ◌≢◌, ◌≤◌, ℕ, List}
+use Rattle.std.specs.Prelude.{◌≢◌, ◌≤◌, ℕ, List}
 use Rattle.std.specs.List.{All}
 use Rattle.disk.specs.Paths.{IsOnTheWay}
 use Rattle.disk.specs.State.{Image, State, may_leave}
@@ -22,6 +22,10 @@ IsOpenWay state path = (c : Image) → may_leave state c → IsOpenIn c path
 -- nor a folder at the path itself: a file can stand there in whatever a stop leaves
 abbrev pub IsClearWay : State → List ℕ → Type 0
 IsClearWay state path = (c : Image) → may_leave state c → IsClearIn c path
+
+-- what a put rests on: the disk is honest, and a file can stand at the path
+abbrev pub CanPut : State → List ℕ → Type 0
+CanPut state path = state.honest × IsClearWay state path
 
 -- at each moment from old to new
 abbrev pub StaysClear : State → State → List ℕ → Type 0

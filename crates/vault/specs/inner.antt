@@ -1,3 +1,3 @@
--- Definitions for private functions alone.
+-- Definitions for private functions only.
 pub mod Files
 pub mod Lists

@@ -2,9 +2,9 @@
 
 ghost use Rattle.std.specs.Prelude.{◌≡◌, ◌≢◌, ◌⊎◌, ◌↔◌, IfErr};
 ghost use Rattle.disk.specs.Calls.{CountsFailure, Synced};
-ghost use Rattle.vault.specs.Views.{IsGone, root_path};
+ghost use Rattle.vault.specs.Views.{root_path};
 ghost use Rattle.vault.specs.Ways.{IsOpenWay};
-ghost use Rattle.vault.specs.inner.Files.{Cleared, FoldersMade, Written, MadeFirm, Placed, IsHoused};
+ghost use Rattle.vault.specs.inner.Files.{Cleared, FoldersMade, Written, MadeFirm, Placed, IsHoused, IsVacant};
 
 use disk::{Disk, Fault, folder_of};
 
@@ -54,7 +54,7 @@ fn sync_once<D: Disk>(disk: &mut D, path: &str) -> Result<(), Fault>
 /// Writes a file of its own node where no name is, and syncs it once.
 pub(crate) fn write_new<D: Disk>(disk: &mut D, path: &str, bytes: &[u8]) -> Result<(), Fault>
     requires { path.now ≢ root_path }
-    ensures effect { (D.state disk.old).honest → IsGone (D.state disk.old) path.now → IsHoused (D.state disk.old) path.now → Written path.now bytes.now (D.state disk.old) (D.state disk.new) result }
+    ensures effect { (D.state disk.old).honest → IsVacant (D.state disk.old) path.now → Written path.now bytes.now (D.state disk.old) (D.state disk.new) result }
     ensures counts { CountsFailure result (D.state disk.old).failures (D.state disk.new).failures }
     ensures reads { (D.state disk.new).reads ≡ (D.state disk.old).reads }
     ensures honest { (D.state disk.old).honest ↔ (D.state disk.new).honest }

@@ -14,5 +14,5 @@ mod vault;
 
 pub use commits::{NewFile, commit};
 pub use laws::{apart, way_down};
-pub use opening::open_root;
+pub use opening::{Opened, open_root};
 pub use vault::Vault;

@@ -1,17 +1,17 @@
 //! The root, and the files that are kept next to it.
 
-ghost use Rattle.std.specs.Prelude.{◌≡◌, ◌≢◌, ◌↔◌, ◌⊎◌, ◌^◌, ◌-◌, ℕ, List, OnOk, IfOk, IfErr, IfSome, Some, None, Ok, take, drop};
+ghost use Rattle.std.specs.Prelude.{◌≡◌, ◌≢◌, ◌↔◌, ◌⊎◌, ◌^◌, ◌-◌, ℕ, List, OnOk, IfOk, IfErr, Ok};
 ghost use Rattle.bits.specs.Refusals.{RefusedOnly};
-ghost use Rattle.disk.specs.State.{IsOneMore, content};
+ghost use Rattle.disk.specs.State.{IsOneMore};
 ghost use Rattle.disk.specs.Calls.{CountsFailure, RangeRead, AreNamesIn};
-ghost use Rattle.vault.specs.Views.{IsNoRoot, IsKept, IsRooted, IsSettled, root_path, next_path};
-ghost use Rattle.vault.specs.Ways.{IsClearWay};
-ghost use Rattle.vault.specs.Calls.{LeavesAll, HasFailed, CountsOnce, Puts, SwapsRoot, Forgets};
-ghost use Rattle.vault.specs.inner.Files.{IsWritten, Turned, refusal_for};
+ghost use Rattle.vault.specs.Views.{IsNoRoot, IsKept, IsRooted, IsSettled, IsNoFolder, IsNoFile, ReadsRoot, next_path};
+ghost use Rattle.vault.specs.Ways.{CanPut};
+ghost use Rattle.vault.specs.Calls.{LeavesAll, CountsOnce, IsDeviceFailure, IsHonestDevice, IsReadRefusal, IsRangeRead, IsRangeKept, Puts, SwapsRoot, Forgets};
+ghost use Rattle.vault.specs.inner.Files.{TurnsWritten, refusal_for};
 
 use crate::files::{clear, make_firm, place};
 use bits::{R, Refusal};
-use disk::{Binding, Disk, Entry, Fault};
+use disk::{Disk, Entry, Fault};
 use std::alloc::Global;
 
 const ROOT: &str = "_metadata";
@@ -81,7 +81,7 @@ impl<D: Disk> Vault<D> {
     /// each folder on the way.
     pub fn put(&mut self, path: &str, bytes: &[u8]) -> R<()>
         requires { IsNoRoot path.now }
-        ensures effect { (D.state self.old.disk).honest → IsClearWay (D.state self.old.disk) path.now → Puts path.now bytes.now (D.state self.old.disk) (D.state self.new.disk) result }
+        ensures effect { CanPut (D.state self.old.disk) path.now → Puts path.now bytes.now (D.state self.old.disk) (D.state self.new.disk) result }
         ensures which { RefusedOnly (λ e. e ≡ Refusal.Device) result }
         ensures counts { CountsOnce result (D.state self.old.disk) (D.state self.new.disk) }
         ensures reads { (D.state self.new.disk).reads ≡ (D.state self.old.disk).reads }
@@ -124,7 +124,7 @@ impl<D: Disk> Vault<D> {
     pub fn settle(&mut self) -> R<()>
         ensures unchanged { (D.state self.old.disk).honest → LeavesAll (D.state self.old.disk) (D.state self.new.disk) }
         ensures durable { (D.state self.old.disk).honest → IsRooted (D.state self.old.disk) → OnOk result (IsSettled (D.state self.new.disk)) }
-        ensures which { IfErr result (λ e. (e ≡ Refusal.Device) × ((D.state self.old.disk).honest → HasFailed (D.state self.old.disk) (D.state self.new.disk))) }
+        ensures which { IfErr result (IsHonestDevice (D.state self.old.disk) (D.state self.new.disk)) }
         ensures counts { CountsOnce result (D.state self.old.disk) (D.state self.new.disk) }
         ensures reads { (D.state self.new.disk).reads ≡ (D.state self.old.disk).reads }
         ensures honest { (D.state self.old.disk).honest ↔ (D.state self.new.disk).honest }
@@ -174,7 +174,7 @@ impl<D: Disk> Vault<D> {
     pub fn list(&mut self, alloc: Global, folder: &str) -> R<Vec<Entry>>
         ensures stands { (D.state self.old.disk).honest → IfOk result (λ entries. AreNamesIn (D.state self.old.disk).seen folder.now entries.items) }
         ensures unchanged { (D.state self.old.disk).honest → LeavesAll (D.state self.old.disk) (D.state self.new.disk) }
-        ensures which { RefusedOnly (λ e. ((e ≡ Refusal.Device) × HasFailed (D.state self.old.disk) (D.state self.new.disk)) ⊎ ((e ≡ Refusal.Truncated) × ((D.state self.old.disk).honest → (D.state self.old.disk).seen.names folder.now ≢ Binding.Folder))) result }
+        ensures which { RefusedOnly (IsReadRefusal IsNoFolder folder.now (D.state self.old.disk) (D.state self.new.disk)) result }
         ensures counts { CountsOnce result (D.state self.old.disk) (D.state self.new.disk) }
         ensures reads { (D.state self.new.disk).reads ≡ (D.state self.old.disk).reads }
         ensures honest { (D.state self.old.disk).honest ↔ (D.state self.new.disk).honest }
@@ -191,10 +191,10 @@ impl<D: Disk> Vault<D> {
     /// Of a kept path they are a range of its bytes. Refused Truncated where no file is there, as the disk reads, Device
     /// where the disk failed, and Memory.
     pub fn get_range(&mut self, alloc: Global, path: &str, from: u64, len: usize) -> R<Vec<u8>>
-        ensures stands { (D.state self.old.disk).honest → IfOk result (λ read. (bytes : List ℕ) × (content (D.state self.old.disk).seen path.now ≡ Some bytes) × (read.items ≡ take len (drop from bytes))) }
-        ensures kept { (D.state self.old.disk).honest → (bytes : List ℕ) → IsKept (D.state self.old.disk) path.now bytes → IfOk result (λ read. read.items ≡ take len (drop from bytes)) }
+        ensures stands { (D.state self.old.disk).honest → IfOk result (λ read. IsRangeRead (D.state self.old.disk) path.now from len read.items) }
+        ensures kept { (D.state self.old.disk).honest → IfOk result (λ read. IsRangeKept (D.state self.old.disk) path.now from len read.items) }
         ensures unchanged { (D.state self.old.disk).honest → LeavesAll (D.state self.old.disk) (D.state self.new.disk) }
-        ensures which { RefusedOnly (λ e. ((e ≡ Refusal.Device) × HasFailed (D.state self.old.disk) (D.state self.new.disk)) ⊎ ((e ≡ Refusal.Truncated) × ((D.state self.old.disk).honest → content (D.state self.old.disk).seen path.now ≡ None))) result }
+        ensures which { RefusedOnly (IsReadRefusal IsNoFile path.now (D.state self.old.disk) (D.state self.new.disk)) result }
         ensures counts { CountsOnce result (D.state self.old.disk) (D.state self.new.disk) }
         ensures reads { IsOneMore (D.state self.old.disk).reads (D.state self.new.disk).reads }
         ensures honest { (D.state self.old.disk).honest ↔ (D.state self.new.disk).honest }
@@ -209,10 +209,9 @@ impl<D: Disk> Vault<D> {
     /// The bytes of `_metadata` as the disk reads them, None where it is not there, by one `read_range`. Refused Device
     /// where the disk failed, and Memory.
     pub fn root(&mut self, alloc: Global) -> R<Option<Vec<u8>>>
-        ensures root_stands { (D.state self.old.disk).honest → IfOk result (λ root. IfSome root (λ bytes. content (D.state self.old.disk).seen root_path ≡ Some bytes.items)) }
-        ensures absent { (D.state self.old.disk).honest → result ≡ Ok None → content (D.state self.old.disk).seen root_path ≡ None }
+        ensures stands { (D.state self.old.disk).honest → IfOk result (ReadsRoot (D.state self.old.disk)) }
         ensures unchanged { (D.state self.old.disk).honest → LeavesAll (D.state self.old.disk) (D.state self.new.disk) }
-        ensures which { RefusedOnly (λ e. (e ≡ Refusal.Device) × HasFailed (D.state self.old.disk) (D.state self.new.disk)) result }
+        ensures which { RefusedOnly (IsDeviceFailure (D.state self.old.disk) (D.state self.new.disk)) result }
         ensures counts { CountsOnce result (D.state self.old.disk) (D.state self.new.disk) }
         ensures reads { IsOneMore (D.state self.old.disk).reads (D.state self.new.disk).reads }
         ensures honest { (D.state self.old.disk).honest ↔ (D.state self.new.disk).honest }
@@ -239,7 +238,7 @@ fn read_whole<D: Disk>(disk: &mut D, alloc: Global, path: &str) -> Result<Vec<u8
 // Renames the next root to the root and syncs the dataset's folder. The rules of the disk leave it no cause but a
 // failure.
 fn turn<D: Disk>(disk: &mut D) -> Result<(), Fault>
-    ensures effect { (D.state disk.old).honest → (root : List ℕ) → IsWritten (D.state disk.old) next_path root → Turned root (D.state disk.old) (D.state disk.new) result }
+    ensures effect { (D.state disk.old).honest → TurnsWritten (D.state disk.old) (D.state disk.new) result }
     ensures counts { CountsFailure result (D.state disk.old).failures (D.state disk.new).failures }
     ensures reads { (D.state disk.new).reads ≡ (D.state disk.old).reads }
     ensures honest { (D.state disk.old).honest ↔ (D.state disk.new).honest }

@@ -8,16 +8,12 @@ use Rattle.disk.specs.declared.fault.Fault.{Fault}
 use Rattle.disk.specs.declared.fault.Fault.TheVariants.{Failed, Memory}
 use Rattle.bits.specs.declared.refusal.Refusal.{Refusal}
 use Rattle.bits.specs.declared.refusal.Refusal.TheVariants as refusal
-use Rattle.vault.specs.Views.{LeavesAfter, Same, AllBut, Swaps, ReadsAs, IsRooted, StaysRooted, IsKept, IsGone, root_path, next_path}
-use Rattle.vault.specs.Ways.{IsClearWay, StaysClear, LeavesClear, LeavesWays, AreRootsClear}
+use Rattle.vault.specs.Views.{LeavesAfter, Same, AllBut, Swaps, ReadsAs, IsRooted, StaysRooted, IsKept, IsGone, IsNoFolder, root_path, next_path}
+use Rattle.vault.specs.Ways.{IsClearWay, StaysClear, LeavesClear, LeavesWays}
 
 -- the folder of this path is there, as the disk reads
 abbrev pub IsHoused : State → List ℕ → Type 0
 IsHoused state path = state.seen.names (folder_of path) ≡ Folder
-
--- the path is no folder's, as the disk reads
-abbrev pub IsNoFolder : State → List ℕ → Type 0
-IsNoFolder state path = state.seen.names path ≢ Folder
 
 -- where a stop leaves a file's name, one could have left it before
 abbrev pub NoNewFiles : State → State → Type 0
@@ -66,6 +62,10 @@ pub record IsWritten (state : State) (path bytes : List ℕ) : Type 0 where
   pub seen : state.seen.names path ≡ File node
   pub holds : (c : Image) → may_leave state c → c.bytes node ≡ bytes
 
+-- no name stands at the path, as the disk reads, and its folder is there
+abbrev pub IsVacant : State → List ℕ → Type 0
+IsVacant state path = IsGone state path × IsHoused state path
+
 pub record Written {T : Type 0} (path bytes : List ℕ) (old new : State) (result : Result T Fault) : Type 0 where
   pub spares : Spares path old new
   pub clear : LeavesBelow path old new
@@ -95,7 +95,11 @@ pub record Turned {T : Type 0} (root : List ℕ) (old new : State) (result : Res
   pub done : OnOk result (IsKept new root_path root × IsRooted new)
   pub gone : OnOk result (IsGone new next_path)
 
--- how a fault is answered
+-- where the next root is a file of these bytes
+abbrev pub TurnsWritten : {T : Type 0} → State → State → Result T Fault → Type 0
+TurnsWritten old new result = (root : List ℕ) → IsWritten old next_path root → Turned root old new result
+
+-- how a fault is reported
 abbrev pub refusal_for : Fault → Refusal
 refusal_for Memory = refusal.Memory
 refusal_for _ = refusal.Device

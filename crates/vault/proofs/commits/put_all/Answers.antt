@@ -18,7 +18,7 @@ returns-in_err-put-clause-effect g c honest ready =
     let way = way_here files c.loop-file.file-index c.file-item.result _ _ c.as_str.ensures.value c.as_slice.ensures.value c.loop-file-test.true c.file-item.is s0 s1 ready so_far in
     refused (PutsAll files s0 s2) c.from_residual.result _ c.from_residual.ensures.1
     (put_stops files c.loop-file.file-index c.file-item.result _ _ c.as_str.ensures.value c.as_slice.ensures.value c.loop-file-test.true c.file-item.is s0 s1 ready so_far s2 _
-    c.loop-file.invariant.failures (c.in_err-put.ensures.effect h1 way))
+    c.loop-file.invariant.failures (c.in_err-put.ensures.effect (h1, way)))
 
 pub loop-file-preserved : goal.loop-file-preserved
 loop-file-preserved g c = record {
@@ -34,7 +34,7 @@ loop-file-preserved g c = record {
       let s2 = g.D.Disk.state c.put.new.self.disk in
       let way = way_here files c.loop-file.file-index c.file-item.result _ _ c.as_str.ensures.value c.as_slice.ensures.value c.loop-file-test.true c.file-item.is s0 s1 ready so_far in
       put_more files c.loop-file.file-index c.file-item.result _ _ c.as_str.ensures.value c.as_slice.ensures.value c.loop-file-test.true c.file-item.is s0 s1 ready so_far s2 _
-      (c.in_ok-put.ensures.effect h1 way);
+      (c.in_ok-put.ensures.effect (h1, way));
 }
 
 pub returns-clause-effect : goal.returns-clause-effect

@@ -37,7 +37,7 @@ returns-in_err-write_new-clause-effect g c honest way =
     let first = c.in_ok-clear.ensures.effect honest in
     let made = c.in_ok-make_folders.ensures.effect h1 (still_open path bytes s0 s1 first way) in
     exit (Placed path bytes s0 s3) c.from_residual-in_err-write_new.result _ c.from_residual-in_err-write_new.ensures.1
-    (write_refused path bytes s0 s1 first s2 made s3 _ (c.in_err-write_new.ensures.effect h2 (still_gone path bytes s0 s1 first s2 made) made.housed))
+    (write_refused path bytes s0 s1 first s2 made s3 _ (c.in_err-write_new.ensures.effect h2 (still_gone path bytes s0 s1 first s2 made, made.housed)))
 
 pub returns-clause-effect : goal.returns-clause-effect
 returns-clause-effect g c honest way =
@@ -53,5 +53,5 @@ returns-clause-effect g c honest way =
     let h3 = c.write_new.ensures.honest.0 h2 in
     let first = c.in_ok-clear.ensures.effect honest in
     let made = c.in_ok-make_folders.ensures.effect h1 (still_open path bytes s0 s1 first way) in
-    let written = c.in_ok-write_new.ensures.effect h2 (still_gone path bytes s0 s1 first s2 made) made.housed in
+    let written = c.in_ok-write_new.ensures.effect h2 (still_gone path bytes s0 s1 first s2 made, made.housed) in
     placed_file path bytes s0 s1 first s2 made s3 s4 c.make_firm.result written (c.make_firm.ensures.effect h3 written.written.1)

@@ -1,5 +1,6 @@
-use Rattle.std.proofs.Common.{Ok, Some, None, ◌≡◌, ap}
-use Rattle.vault.proofs.Opened.{read_opens, forget_opens, opens_on, root_stands}
+use Rattle.std.proofs.Common.{subst}
+use Rattle.std.specs.Prelude.{IsTrue}
+use Rattle.vault.proofs.Openings.{read_opens, forget_opens, opens_on, root_stands, root_read, next_gone}
 use Rattle.vault.proofs.opening.open_root.Goals as goal
 
 pub returns-in_err-settle-clause-effect : goal.returns-in_err-settle-clause-effect
@@ -20,10 +21,25 @@ returns-clause-effect g c honest =
 
 pub returns-clause-durable : goal.returns-clause-durable
 returns-clause-durable g c honest rooted =
+    let s0 = g.D.Disk.state c.args.vault.now.disk in
     let s1 = g.D.Disk.state c.settle.new.self.disk in
     let s2 = g.D.Disk.state c.root.new.self.disk in
     let s3 = g.D.Disk.state c.forget_next.new.self.disk in
     let h1 = c.settle.ensures.honest.0 honest in
     let h2 = c.root.ensures.honest.0 h1 in
-    root_stands s1 s2 s3 c.in_ok-root.root (c.in_ok-settle.ensures.durable honest rooted) (c.root.ensures.unchanged h1) (c.forget_next.ensures.effect h2).moments
-    (c.in_ok-root.ensures.root_stands h1) (λ none. c.in_ok-root.ensures.absent h1 (ap (λ r. Ok r) none))
+    root_stands s0 s1 c.in_ok-root.root (c.settle.ensures.unchanged honest) (c.in_ok-root.ensures.stands h1)
+    s2 s3 (c.in_ok-settle.ensures.durable honest rooted) (c.root.ensures.unchanged h1) (c.forget_next.ensures.effect h2).moments
+
+pub returns-clause-stands : goal.returns-clause-stands
+returns-clause-stands g c honest =
+    let s0 = g.D.Disk.state c.args.vault.now.disk in
+    let s1 = g.D.Disk.state c.settle.new.self.disk in
+    let h1 = c.settle.ensures.honest.0 honest in
+    root_read s0 s1 c.in_ok-root.root (c.settle.ensures.unchanged honest) (c.in_ok-root.ensures.stands h1)
+
+pub returns-clause-clean : goal.returns-clause-clean
+returns-clause-clean g c honest clean =
+    let s2 = g.D.Disk.state c.root.new.self.disk in
+    let s3 = g.D.Disk.state c.forget_next.new.self.disk in
+    let h2 = c.root.ensures.honest.0 (c.settle.ensures.honest.0 honest) in
+    next_gone s2 s3 c.forget_next.result (c.forget_next.ensures.effect h2) (subst IsTrue c.is_ok-clean.ensures.value clean)
