@@ -1,0 +1,6 @@
+pub mod Json
+pub mod Reading
+pub mod SchemaJson
+pub mod SchemaPrinted
+pub mod Law
+pub mod inner
