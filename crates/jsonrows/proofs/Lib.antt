@@ -19,3 +19,6 @@ pub mod JsonTexts
 pub mod Numbers
 pub mod RowJson
 pub mod RowsBack
+pub mod Made
+pub mod Operands
+pub mod FilterFaults

@@ -4,6 +4,7 @@
 //! `specs/SchemaJson.antt` which schema a text is, `specs/SchemaPrinted.antt` how one is printed.
 #![tactic(auto)]
 
+mod filter_reading;
 mod json_text;
 mod laws;
 mod row_printing;
@@ -12,6 +13,7 @@ mod schema_notes;
 mod schema_printing;
 mod schema_reading;
 
+pub use filter_reading::filter_from;
 pub use laws::{rows_read_back, schemas_read_back};
 pub use row_printing::row_to;
 pub use row_reading::row_from;

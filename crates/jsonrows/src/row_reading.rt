@@ -95,7 +95,11 @@ fn scalar_from(alloc: Global, leaf_type: &LeafType, json: Json) -> Result<Option
 }
 
 /// A value of a leaf, its repetition aside; none where the JSON value is no such value.
-fn leaf_from(alloc: Global, leaf_type: &LeafType, json: Json) -> Result<Option<Value>, AllocError>
+pub fn leaf_from(
+    alloc: Global,
+    leaf_type: &LeafType,
+    json: Json,
+) -> Result<Option<Value>, AllocError>
     ensures { IfOk result (λ found. option_map value_view found ≡ leaf_read (leaf_type_view leaf_type.now) (view json)) }
 {
     let Some(value) = scalar_from(alloc, leaf_type, json)? else {
