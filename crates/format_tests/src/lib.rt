@@ -27,6 +27,8 @@ mod filters;
 #[cfg(test)]
 mod hybrid_runs;
 #[cfg(test)]
+mod json_filters;
+#[cfg(test)]
 mod json_rows;
 #[cfg(test)]
 mod json_schemas;
