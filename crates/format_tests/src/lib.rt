@@ -27,6 +27,12 @@ mod filters;
 #[cfg(test)]
 mod hybrid_runs;
 #[cfg(test)]
+mod json_filters;
+#[cfg(test)]
+mod json_rows;
+#[cfg(test)]
+mod json_schemas;
+#[cfg(test)]
 mod key_columns;
 #[cfg(test)]
 mod keys_and_folders;

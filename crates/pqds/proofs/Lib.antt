@@ -1,17 +1,4 @@
-pub mod Floats
-pub mod Texts
-pub mod Forms
 pub mod Rows
-pub mod Joined
-pub mod Taken
-pub mod Fitting
-pub mod Said
-pub mod Elements
 pub mod Told
 pub mod Refused
 pub mod Printed
-pub mod SchemaMembers
-pub mod SchemaNotes
-pub mod SchemaLeaves
-pub mod SchemaFields
-pub mod SchemaTexts

@@ -5,7 +5,8 @@ use Rattle.std.proofs.KnownBytes.{Appends-trans}
 use Rattle.std.proofs.lemmas.List.{flat_map_more}
 use Rattle.schema.specs.Values.{ValueTrees}
 use Rattle.schema.specs.Shape.{Fields}
-use Rattle.pqds.specs.Json.{row_text, lines_of}
+use Rattle.jsonrows.specs.Json.{row_text}
+use Rattle.pqds.specs.Program.{lines_of}
 
 -- behind what a writer held stand the lines of the rows before those that are left
 pub record ArePrinted (fs : Fields) (all left : List ValueTrees) (old new : Option (List ℕ)) : Type 0 where

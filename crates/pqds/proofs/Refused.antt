@@ -10,7 +10,7 @@ use Rattle.schema.specs.Shape.{Fields}
 use Rattle.schema.specs.Fits.{RowsFit}
 use Rattle.footer.specs.declared.options.WriteOptions.{WriteOptions}
 use Rattle.footer.specs.Writing.{IsOutOfRange, IsTooMuch, IsToBeWritten}
-use Rattle.pqds.specs.SchemaJson.{IsSchemaText}
+use Rattle.jsonrows.specs.SchemaJson.{IsSchemaText}
 use Rattle.footer.specs.File.{FileMeans}
 use Rattle.footer.specs.Own.{IsLaidOut}
 use Rattle.pqds.specs.Program.{AreRowTexts, HasFirstFault, AreRefusedTexts, AreRefusedFiles, IsFileOf}

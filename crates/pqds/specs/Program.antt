@@ -1,5 +1,5 @@
 -- What the program does with files.
-use Rattle.std.specs.Prelude.{◌≡◌, ◌⊎◌, ℕ, List, [], ◌∷◌, ◌++◌, Option, Some, None, IsTrue}
+use Rattle.std.specs.Prelude.{◌≡◌, ◌⊎◌, ℕ, List, [], ◌∷◌, ◌++◌, flat_map, Option, Some, None, IsTrue}
 use Rattle.std.specs.Io.KnownBytes.{Appends}
 use Rattle.std.specs.Str.Lines.{lines}
 use Rattle.serde_json.specs.Data.{Data, Members}
@@ -15,13 +15,17 @@ use Rattle.footer.specs.declared.options.WriteOptions.{WriteOptions}
 use Rattle.footer.specs.File.{FileMeans}
 use Rattle.footer.specs.Own.{IsLaidOut}
 use Rattle.footer.specs.Writing.{IsOutOfRange, IsTooMuch, IsToBeWritten}
-use Rattle.pqds.specs.Json.{lines_of}
-use Rattle.pqds.specs.Reading.{row_of, line_of, members_read}
-use Rattle.pqds.specs.SchemaJson.{IsSchemaText, IsRefusedSchema}
+use Rattle.jsonrows.specs.Json.{row_text}
+use Rattle.jsonrows.specs.Reading.{row_of, line_of, members_read}
+use Rattle.jsonrows.specs.SchemaJson.{IsSchemaText, IsRefusedSchema}
 
 -- the bytes of the greatest file that is read: 2^31 - 1
 abbrev pub greatest_file : ℕ
 greatest_file = 2147483647
+
+-- each row as a line, ended by a line feed
+abbrev pub lines_of : Fields → List ValueTrees → List ℕ
+lines_of fs rows = flat_map (λ row. row_text fs row ++ 10 ∷ []) rows
 
 -- behind what a writer held, where that is known, stand the lines of the rows that the bytes of a file mean
 pub record WritesRowsOf (bytes : List ℕ) (old new : Option (List ℕ)) : Type 0 where

@@ -11,13 +11,13 @@ ghost use Rattle.schema.specs.Views.{row_view};
 ghost use Rattle.footer.specs.File.{FileMeans};
 ghost use Rattle.footer.specs.Faults.{HasFault};
 ghost use Rattle.footer.specs.Left.{rows_left};
-ghost use Rattle.pqds.specs.Json.{row_text, lines_of};
-ghost use Rattle.pqds.specs.Program.{WritesRowsOf};
+ghost use Rattle.jsonrows.specs.Json.{row_text};
+ghost use Rattle.pqds.specs.Program.{WritesRowsOf, lines_of};
 
 use crate::host::refusal_of;
-use crate::jsonrows::row_to;
 use bits::R;
 use footer::{Rows, read_rows};
+use jsonrows::row_to;
 use schema::{Row, Schema};
 use std::alloc::Global;
 use std::io::Write;

@@ -8,10 +8,9 @@ ghost use Rattle.schema.specs.Views.{rows_view};
 ghost use Rattle.pqds.specs.Program.{IsRefusedLine, AddsRow, AreRowTexts, HasFirstFault, IsFileOf, HaveFile, AreRefusedTexts, AreRefusedFiles};
 
 use crate::host::{put_new, text_of, whole_of};
-use crate::jsonrows::row_from;
-use crate::schema_reading::schema_from;
 use bits::R;
 use footer::{WriteOptions, write_file};
+use jsonrows::{row_from, schema_from};
 use schema::{Row, Schema};
 use std::alloc::Global;
 use std::rt::Files;

@@ -1,9 +1,8 @@
 //! The program `pqds`.
 //!
 //! [`work::work`] is all of it, over two writers; `main` hands it the words of the command line.
-//! `specs/Json.antt` says which line a row has, `specs/Reading.antt` which row a line is,
-//! `specs/SchemaJson.antt` which schema a text is, `specs/SchemaPrinted.antt` how one is printed,
-//! `specs/Program.antt` and `specs/Words.antt` what a call does.
+//! `specs/Program.antt` and `specs/Words.antt` say what a call does. The JSON forms of rows and schemas are
+//! those of the crate `jsonrows`.
 #![tactic(auto)]
 
 mod arguments;
@@ -15,14 +14,7 @@ mod help;
 mod host;
 #[cfg(test)]
 mod host_tests;
-#[cfg(test)]
-mod json_tests;
-mod jsonrows;
 mod one_line;
-mod schema_notes;
-mod schema_reading;
-#[cfg(test)]
-mod schema_reading_tests;
 #[cfg(test)]
 mod tests;
 #[cfg(test)]

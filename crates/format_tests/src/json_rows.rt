@@ -1,0 +1,228 @@
+//! Rows from text, and as text.
+
+use bits::R;
+use jsonrows::{row_from, row_to, schema_from};
+use std::alloc::Global;
+use std::test::*;
+
+const BOOLEAN: &str = r#""type":"boolean""#;
+
+const INT32: &str = r#""type":"int32""#;
+
+const INT64: &str = r#""type":"int64""#;
+
+const SIGNED: &str = r#""type":"int64","note":"int_64""#;
+
+const UINT8: &str = r#""type":"int32","note":"uint_8""#;
+
+const UINT32: &str = r#""type":"int32","note":"uint_32""#;
+
+const UINT64: &str = r#""type":"int64","note":"uint_64""#;
+
+const BYTES: &str = r#""type":"bytes""#;
+
+const TWO_BYTES: &str = r#""type":"fixed","length":2"#;
+
+const UTF8: &str = r#""type":"bytes","note":"utf8""#;
+
+const ENUM: &str = r#""type":"bytes","note":"enum""#;
+
+const JSON: &str = r#""type":"bytes","note":"json""#;
+
+const BSON: &str = r#""type":"bytes","note":"bson""#;
+
+/// One REQUIRED leaf `x`: what the schema says of it that reads the line, and of that which shows the row; a
+/// line, and what comes of it.
+const LEAVES: [[&str; 4]; 55] = [
+    [
+        INT64,
+        INT64,
+        r#"{"x":-9223372036854775808}"#,
+        r#"{"x":-9223372036854775808}"#,
+    ],
+    [
+        INT64,
+        INT64,
+        r#"{"x":9223372036854775807}"#,
+        r#"{"x":9223372036854775807}"#,
+    ],
+    [INT32, INT32, r#"{"x":-2147483648}"#, r#"{"x":-2147483648}"#],
+    [SIGNED, SIGNED, r#"{"x":-1}"#, r#"{"x":-1}"#],
+    [BOOLEAN, BOOLEAN, r#"{"x":true}"#, r#"{"x":true}"#],
+    // Unsigned numbers are the signed ones of their bits.
+    [
+        UINT64,
+        INT64,
+        r#"{"x":18446744073709551615}"#,
+        r#"{"x":-1}"#,
+    ],
+    [UINT64, INT64, r#"{"x":7}"#, r#"{"x":7}"#],
+    [UINT32, INT32, r#"{"x":4294967295}"#, r#"{"x":-1}"#],
+    [UINT8, INT32, r#"{"x":2147483648}"#, r#"{"x":-2147483648}"#],
+    [
+        INT64,
+        UINT64,
+        r#"{"x":-1}"#,
+        r#"{"x":18446744073709551615}"#,
+    ],
+    [INT64, UINT64, r#"{"x":7}"#, r#"{"x":7}"#],
+    [INT32, UINT32, r#"{"x":-1}"#, r#"{"x":4294967295}"#],
+    [INT32, UINT8, r#"{"x":-2147483648}"#, r#"{"x":2147483648}"#],
+    // Bytes are text where they are annotated so.
+    [BYTES, UTF8, r#"{"x":"6a"}"#, r#"{"x":"j"}"#],
+    [BYTES, UTF8, r#"{"x":""}"#, r#"{"x":""}"#],
+    [TWO_BYTES, TWO_BYTES, r#"{"x":"61ff"}"#, r#"{"x":"61ff"}"#],
+    [UTF8, BYTES, r#"{"x":"é"}"#, r#"{"x":"c3a9"}"#],
+    [
+        UTF8,
+        BYTES,
+        r#"{"x":"\ud834\udd1e"}"#,
+        r#"{"x":"f09d849e"}"#,
+    ],
+    [ENUM, BYTES, r#"{"x":"6A"}"#, r#"{"x":"3641"}"#],
+    [JSON, BSON, r#"{"x":"{\u007d"}"#, r#"{"x":"7b7d"}"#],
+    [BSON, JSON, r#"{"x":"7b7d"}"#, r#"{"x":"{}"}"#],
+    [BYTES, ENUM, r#"{"x":"726564"}"#, r#"{"x":"red"}"#],
+    [
+        BYTES,
+        UTF8,
+        r#"{"x":"225c2f7f20f09d849e"}"#,
+        "{\"x\":\"\\\"\\\\/\u{7f} \u{1d11e}\"}",
+    ],
+    [
+        BYTES,
+        UTF8,
+        r#"{"x":"001f080c0a0d09"}"#,
+        r#"{"x":"\u0000\u001f\b\f\n\r\t"}"#,
+    ],
+    // Values that are not the leaf's, of the line or of the row that is shown.
+    [INT32, INT32, r#"{"x":2147483648}"#, "14 RowShape"],
+    [INT32, INT32, r#"{"x":-2147483649}"#, "14 RowShape"],
+    [INT64, INT64, r#"{"x":9223372036854775808}"#, "14 RowShape"],
+    [INT64, INT64, r#"{"x":-9223372036854775809}"#, "14 RowShape"],
+    [
+        UINT64,
+        UINT64,
+        r#"{"x":18446744073709551616}"#,
+        "14 RowShape",
+    ],
+    [UINT64, UINT64, r#"{"x":-1}"#, "14 RowShape"],
+    [UINT32, UINT32, r#"{"x":4294967296}"#, "14 RowShape"],
+    [UINT32, UINT32, r#"{"x":-1}"#, "14 RowShape"],
+    [INT64, INT64, r#"{"x":-0}"#, "14 RowShape"],
+    [INT64, INT64, r#"{"x":1.0}"#, "14 RowShape"],
+    [INT64, INT64, r#"{"x":1e0}"#, "14 RowShape"],
+    [INT64, INT64, r#"{"x":"1"}"#, "14 RowShape"],
+    [INT64, INT64, r#"{"x":true}"#, "14 RowShape"],
+    [INT64, INT64, r#"{"x":null}"#, "14 RowShape"],
+    [INT64, INT64, r#"{"x":[1]}"#, "14 RowShape"],
+    [BOOLEAN, BOOLEAN, r#"{"x":1}"#, "14 RowShape"],
+    [BOOLEAN, BOOLEAN, r#"{"x":"true"}"#, "14 RowShape"],
+    [BYTES, BYTES, r#"{"x":61}"#, "14 RowShape"],
+    [BYTES, BYTES, r#"{"x":"6A"}"#, "14 RowShape"],
+    [BYTES, BYTES, r#"{"x":"6"}"#, "14 RowShape"],
+    [BYTES, BYTES, r#"{"x":"6g"}"#, "14 RowShape"],
+    [TWO_BYTES, TWO_BYTES, r#"{"x":"61"}"#, "14 RowShape"],
+    [TWO_BYTES, TWO_BYTES, r#"{"x":"616263"}"#, "14 RowShape"],
+    [INT64, INT32, r#"{"x":2147483648}"#, "14 RowShape"],
+    [BOOLEAN, INT32, r#"{"x":true}"#, "14 RowShape"],
+    // Lines that are no JSON objects.
+    [INT64, INT64, "", "29 Script"],
+    [INT64, INT64, r#"{"x":1}}"#, "29 Script"],
+    [INT64, INT64, r#"{"x":1,}"#, "29 Script"],
+    [INT64, INT64, r#"{"x":01}"#, "29 Script"],
+    [INT64, INT64, r#"{"x":1e400}"#, "29 Script"],
+    [INT64, INT64, "[1]", "29 Script"],
+];
+
+const FLAT: &str =
+    r#"[{"name":"a","rep":"required","type":"int32"},{"name":"b","rep":"optional","type":"int32"},{"name":"c","rep":"repeated","type":"int32"}]"#;
+
+const NESTED: &str =
+    r#"[{"name":"xs","rep":"optional","note":"list","fields":[{"name":"list","rep":"repeated","fields":[{"name":"element","rep":"optional","type":"int32"}]}]}]"#;
+
+const NAMES: &str =
+    r#"[{"name":"b","rep":"required","type":"int64"},{"name":"é","rep":"required","type":"int64"},{"name":"a\"","rep":"required","type":"int64"},{"name":"B","rep":"required","type":"int64"},{"name":"a","rep":"required","type":"int64"}]"#;
+
+/// A schema, a line, and what comes of it.
+const ROWS: [[&str; 3]; 23] = [
+    [FLAT, r#"{"a":1}"#, r#"{"a":1,"b":null,"c":[]}"#],
+    [
+        FLAT,
+        r#" { "c" : [2,3], "b":5, "a":1 } "#,
+        r#"{"a":1,"b":5,"c":[2,3]}"#,
+    ],
+    [
+        FLAT,
+        r#"{"a":1,"b":null,"a":2}"#,
+        r#"{"a":2,"b":null,"c":[]}"#,
+    ],
+    [FLAT, r#"{"\u0061":1}"#, r#"{"a":1,"b":null,"c":[]}"#],
+    [NESTED, "{}", r#"{"xs":null}"#],
+    [NESTED, r#"{"xs":{}}"#, r#"{"xs":{"list":[]}}"#],
+    [
+        NESTED,
+        r#"{"xs":{"list":[{},{"element":7}]}}"#,
+        r#"{"xs":{"list":[{"element":null},{"element":7}]}}"#,
+    ],
+    // Members stand in the byte order of their names.
+    [
+        NAMES,
+        r#"{"b":0,"é":1,"a\"":2,"B":3,"a":4}"#,
+        r#"{"B":3,"a":4,"a\"":2,"b":0,"é":1}"#,
+    ],
+    [FLAT, "{}", "14 RowShape"],
+    [FLAT, r#"{"b":1}"#, "14 RowShape"],
+    [FLAT, r#"{"a":1,"d":2}"#, "14 RowShape"],
+    [FLAT, r#"{"a":1,"A":2}"#, "14 RowShape"],
+    [FLAT, r#"{"a":null}"#, "14 RowShape"],
+    [FLAT, r#"{"a":{}}"#, "14 RowShape"],
+    [FLAT, r#"{"a":1,"b":[]}"#, "14 RowShape"],
+    [FLAT, r#"{"a":1,"c":null}"#, "14 RowShape"],
+    [FLAT, r#"{"a":1,"c":3}"#, "14 RowShape"],
+    [FLAT, r#"{"a":1,"c":[null]}"#, "14 RowShape"],
+    [FLAT, r#"{"a":1,"c":[1,"2"]}"#, "14 RowShape"],
+    [NESTED, r#"{"xs":[]}"#, "14 RowShape"],
+    [NESTED, r#"{"xs":{"list":[7]}}"#, "14 RowShape"],
+    [NESTED, r#"{"xs":{"list":[null]}}"#, "14 RowShape"],
+    [NESTED, r#"{"xs":{"list":[],"y":1}}"#, "14 RowShape"],
+];
+
+/// The text that the row of a line has in another schema.
+fn shown(alloc: Global, schema: &str, other: &str, line: &str) -> R<String> {
+    let row = row_from(alloc, &schema_from(alloc, schema)?, line)?;
+    row_to(alloc, &schema_from(alloc, other)?, &row)
+}
+
+/// The same, or the refusal.
+fn answer(alloc: Global, schema: &str, other: &str, line: &str) -> R<String> {
+    match shown(alloc, schema, other, line) {
+        Ok(text) => Ok(text),
+        Err(refusal) => Ok(format!(in alloc; "{refusal}")?),
+    }
+}
+
+/// What comes of a line in the schemas of one leaf.
+fn leaf_answer(alloc: Global, leaf: &str, other: &str, line: &str) -> R<String> {
+    let schema = format!(in alloc; "[{{\"name\":\"x\",\"rep\":\"required\",{leaf}}}]")?;
+    let other = format!(in alloc; "[{{\"name\":\"x\",\"rep\":\"required\",{other}}}]")?;
+    answer(alloc, schema.as_str(), other.as_str(), line)
+}
+
+#[test]
+fn values_are_read_and_shown_by_their_annotation(rt: HostRuntime) -> Result<(), Fail> {
+    for [leaf, other, line, wanted] in &LEAVES {
+        let answer = leaf_answer(rt.alloc(), leaf, other, line)?;
+        assert_eq!(rt; answer.as_str(), *wanted);
+    }
+    Ok(())
+}
+
+#[test]
+fn rows_are_read_and_shown_by_their_shape(rt: HostRuntime) -> Result<(), Fail> {
+    for [schema, line, wanted] in &ROWS {
+        let answer = answer(rt.alloc(), schema, schema, line)?;
+        assert_eq!(rt; answer.as_str(), *wanted);
+    }
+    Ok(())
+}

@@ -1,0 +1,167 @@
+-- Filters as JSON values (RFC 8259): the ANDs of terms that an array is, over the leaves of a schema, or the refusal of its first fault.
+use Rattle.std.specs.Prelude.{◌≡◌, ℕ, Bool, true, false, List, [], ◌∷◌, Option, Some, None, option_map, bytes_eq, codes, if◌then◌else◌, Result, Ok, Err}
+use Rattle.std.specs.Cmp.Lexicographic.{pointwise}
+use Rattle.serde_json.specs.Data.{Data, null, boolean, number, string, array, object, Items, no_items, item}
+use Rattle.serde_json.specs.Find.{as_i64}
+use Rattle.serde_json.specs.Read.{read}
+use Rattle.bits.specs.declared.refusal.Refusal.{Refusal}
+use Rattle.bits.specs.declared.refusal.Refusal.TheVariants.{RowShape, Script, Memory}
+use Rattle.schema.specs.declared.value.Kind.{Kind}
+use Rattle.schema.specs.declared.value.Kind.TheVariants.{Boolean, Int32, Int64, ByteArray, FixedLenByteArray}
+use Rattle.schema.specs.Annotations.{LeafType}
+use Rattle.schema.specs.Values.{ValueTree, trees_of}
+use Rattle.schema.specs.Values as value
+use Rattle.schema.specs.Stripe.{Leaf}
+use Rattle.filter.specs.declared.term.Op.{Op}
+use Rattle.filter.specs.declared.term.Op.TheVariants as op
+use Rattle.filter.specs.Terms.{Term, then_rest, each_of}
+use Rattle.jsonrows.specs.Reading.{leaf_read}
+
+-- the items of an array
+abbrev pub listed : Items → List Data
+listed no_items = []
+listed (item d ds) = d ∷ listed ds
+
+-- the second step, where the first has no fault
+infixl 10 ◌>>=◌
+abbrev pub ◌>>=◌ : {A B : Type 0} → Result A Refusal → (A → Result B Refusal) → Result B Refusal
+Ok a >>= f = f a
+Err e >>= f = Err e
+
+-- what is there, or a fault
+abbrev pub or_fault : {A : Type 0} → Refusal → Option A → Result A Refusal
+or_fault e (Some a) = Ok a
+or_fault e None = Err e
+
+-- ---- columns and operators
+
+-- a name
+abbrev pub name_of : Data → Result (List ℕ) Refusal
+name_of (string s) = Ok s
+name_of _ = Err Script
+
+-- a column is a top-level name, or an array of the names on the path to it
+abbrev pub column_of : Data → Result (List (List ℕ)) Refusal
+column_of (string s) = Ok (s ∷ [])
+column_of (array ds) = each_of name_of (listed ds)
+column_of _ = Err Script
+
+-- the operator that a text is
+abbrev pub operator_named : List (List ℕ × Op) → List ℕ → Option Op
+operator_named [] s = None
+operator_named (w ∷ ws) s = if bytes_eq w.0 s then Some w.1 else operator_named ws s
+
+abbrev pub operators : List (List ℕ × Op)
+operators =
+    (codes "==", op.Equal) ∷ (codes "=", op.Equal) ∷ (codes "!=", op.NotEqual) ∷ (codes "<", op.Less) ∷ (codes "<=", op.LessOrEqual) ∷ (codes ">", op.Greater)
+    ∷ (codes ">=", op.GreaterOrEqual) ∷ (codes "in", op.In) ∷ (codes "not in", op.NotIn) ∷ []
+
+abbrev pub operator_of : Data → Result Op Refusal
+operator_of (string s) = or_fault Script (operator_named operators s)
+operator_of _ = Err Script
+
+-- ---- values
+
+-- the type of the leaf with these names on the path to it
+abbrev pub leaf_named : List Leaf → List (List ℕ) → Option LeafType
+leaf_named [] names = None
+leaf_named (l ∷ leaves) names = if pointwise bytes_eq l.path names then Some l.leaf_type else leaf_named leaves names
+
+-- the JSON value is of the kind in which a row has the values of this physical type
+abbrev pub is_of_kind : Kind → Data → Bool
+is_of_kind Boolean (boolean b) = true
+is_of_kind Int32 (number n) = true
+is_of_kind Int64 (number n) = true
+is_of_kind ByteArray (string s) = true
+is_of_kind (FixedLenByteArray n) (string s) = true
+is_of_kind _ _ = false
+
+-- a value by its JSON kind: text as its bytes, a number of 64 bits with its sign
+abbrev pub by_kind : Data → Result ValueTree Refusal
+by_kind null = Ok value.null
+by_kind (boolean b) = Ok (value.boolean b)
+by_kind (number n) = or_fault Script (option_map value.integer (as_i64 n))
+by_kind (string s) = Ok (value.bytes s)
+by_kind (array ds) = Err Script
+by_kind (object ms) = Err Script
+
+-- a value as in the rows of its leaf, and by its kind where that is another one or there is no leaf
+abbrev pub single_value : Option LeafType → Data → Result ValueTree Refusal
+single_value (Some t) d = if is_of_kind t.kind d then or_fault RowShape (leaf_read t d) else by_kind d
+single_value None d = by_kind d
+
+-- an array is a list of values, each read in this same way
+abbrev pub list_value : Result (List ValueTree) Refusal → Result ValueTree Refusal
+list_value (Ok vs) = Ok (value.list (trees_of vs))
+list_value (Err e) = Err e
+
+abbrev mutual
+  pub value_of : Option LeafType → Data → Result ValueTree Refusal
+  value_of t null = single_value t null
+  value_of t (boolean b) = single_value t (boolean b)
+  value_of t (number n) = single_value t (number n)
+  value_of t (string s) = single_value t (string s)
+  value_of t (array ds) = list_value (values_of t ds)
+  value_of t (object ms) = single_value t (object ms)
+
+  pub values_of : Option LeafType → Items → Result (List ValueTree) Refusal
+  values_of t no_items = Ok []
+  values_of t (item d ds) = then_rest (value_of t d) (values_of t ds)
+
+-- ---- terms
+
+-- a term by its three members
+abbrev pub term_by : List Leaf → Data → Data → Data → Result Term Refusal
+term_by leaves c o v = do
+  names ← column_of c
+  operator ← operator_of o
+  operand ← value_of (leaf_named leaves names) v
+  Ok (record { column = names; op = operator; value = operand })
+
+abbrev pub term_in : List Leaf → List Data → Result Term Refusal
+term_in leaves (c ∷ o ∷ v ∷ []) = term_by leaves c o v
+term_in leaves _ = Err Script
+
+-- a term is an array of a column, an operator and a value
+abbrev pub term_of : List Leaf → Data → Result Term Refusal
+term_of leaves (array ds) = term_in leaves (listed ds)
+term_of leaves _ = Err Script
+
+-- an AND is an array of terms
+abbrev pub and_of : List Leaf → Data → Result (List Term) Refusal
+and_of leaves (array ds) = each_of (term_of leaves) (listed ds)
+and_of leaves _ = Err Script
+
+-- a member is a triple where it has three members, the second a text
+abbrev pub are_triple : List Data → Bool
+are_triple (c ∷ string s ∷ v ∷ []) = true
+are_triple _ = false
+
+abbrev pub is_triple : Data → Bool
+is_triple (array ds) = are_triple (listed ds)
+is_triple _ = false
+
+-- one AND
+abbrev pub only_and : Result (List Term) Refusal → Result (List (List Term)) Refusal
+only_and (Ok terms) = Ok (terms ∷ [])
+only_and (Err e) = Err e
+
+-- an array of ANDs, or of triples, which are one AND
+abbrev pub filter_in : List Leaf → List Data → Result (List (List Term)) Refusal
+filter_in leaves [] = Ok []
+filter_in leaves (d ∷ ds) = if is_triple d then only_and (each_of (term_of leaves) (d ∷ ds)) else each_of (and_of leaves) (d ∷ ds)
+
+abbrev pub filter_of : List Leaf → Data → Result (List (List Term)) Refusal
+filter_of leaves (array ds) = filter_in leaves (listed ds)
+filter_of leaves _ = Err Script
+
+-- a text is JSON, and these ANDs of terms
+abbrev pub IsFilterText : List Leaf → List ℕ → List (List Term) → Type 0
+IsFilterText leaves text ands = (d : Data) × (read text ≡ Some d) × (filter_of leaves d ≡ Ok ands)
+
+-- a text is refused so: it is no JSON, or its first fault is this one
+abbrev pub IsRefusedFilter : List Leaf → List ℕ → Refusal → Type 0
+IsRefusedFilter leaves text Script = (d : Data) → read text ≡ Some d → filter_of leaves d ≡ Err Script
+IsRefusedFilter leaves text RowShape = (d : Data) × (read text ≡ Some d) × (filter_of leaves d ≡ Err RowShape)
+IsRefusedFilter leaves text Memory = Unit {0}
+IsRefusedFilter leaves text _ = ⊥

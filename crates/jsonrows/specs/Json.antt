@@ -1,0 +1,79 @@
+-- Rows as JSON text (RFC 8259), one line each.
+use Rattle.std.specs.Prelude.{ℕ, ◌%◌, ◌^◌, ℤ, ◌&&◌, List, Option, Some, if◌then◌else◌}
+use Rattle.std.specs.Int.{w64, cast_unsigned}
+use Rattle.std.specs.Str.{is_utf8}
+use Rattle.serde_json.specs.Data.{Data, Num, unsigned, Items, no_items, item, Members, no_members, put}
+use Rattle.serde_json.specs.Data as json
+use Rattle.serde_json.specs.Find.{of_integer}
+use Rattle.serde_json.specs.Written.{compact_text}
+use Rattle.hex.specs.Hex.{encode_lower}
+use Rattle.schema.specs.declared.value.Repetition.{Repetition}
+use Rattle.schema.specs.declared.value.Repetition.TheVariants.{Required, Optional, Repeated}
+use Rattle.schema.specs.declared.value.Kind.{Kind}
+use Rattle.schema.specs.declared.value.Kind.TheVariants.{Int32}
+use Rattle.schema.specs.declared.order.Order.{Order}
+use Rattle.schema.specs.declared.order.Order.TheVariants.{Unsigned}
+use Rattle.schema.specs.Annotations.{LeafType, is_text, order_of}
+use Rattle.schema.specs.Values.{ValueTree, null, boolean, integer, bytes, group, list, ValueTrees, no_values, value}
+use Rattle.schema.specs.Shape.{Field, leaf, fields, Fields, field, name_of}
+
+-- the unsigned number of the same bits
+abbrev pub unsigned_bits : Kind → ℤ → ℕ
+unsigned_bits Int32 z = cast_unsigned w64 z % 2 ^ 32
+unsigned_bits _ z = cast_unsigned w64 z
+
+-- a number is shown unsigned where the order of its leaf is
+abbrev pub number_json : Kind → Option Order → ℤ → Num
+number_json k (Some Unsigned) z = unsigned (unsigned_bits k z)
+number_json k _ z = of_integer z
+
+-- bytes are shown as text where they are text, and else as hexadecimal digits in lower case
+abbrev pub bytes_json : LeafType → List ℕ → List ℕ
+bytes_json t s = if is_text t.kind t.annotation && is_utf8 s then s else encode_lower s
+
+-- a value of a leaf, its repetition aside
+abbrev pub leaf_json : LeafType → ValueTree → Data
+leaf_json t (boolean b) = json.boolean b
+leaf_json t (integer z) = json.number (number_json t.kind (order_of t) z)
+leaf_json t (bytes s) = json.string (bytes_json t s)
+leaf_json t _ = json.null
+
+-- each item of a list
+abbrev pub items_json : (ValueTree → Data) → ValueTrees → Items
+items_json shown no_values = no_items
+items_json shown (value v vs) = item (shown v) (items_json shown vs)
+
+-- an OPTIONAL value may be null, a REPEATED one is an array
+abbrev pub json_as : Repetition → (ValueTree → Data) → ValueTree → Data
+json_as Required shown v = shown v
+json_as Optional shown null = json.null
+json_as Optional shown v = shown v
+json_as Repeated shown (list vs) = json.array (items_json shown vs)
+json_as Repeated shown _ = json.null
+
+-- a group is an object
+abbrev pub object_json : (ValueTrees → Members) → ValueTree → Data
+object_json shown (group vs) = json.object (shown vs)
+object_json shown _ = json.null
+
+-- a value of a field; the members of an object, which stand in the byte order of their names
+abbrev mutual
+  pub inside_json : Field → ValueTree → Data
+  inside_json (leaf n r t) v = leaf_json t v
+  inside_json (fields n r a fs) v = object_json (members_json fs) v
+
+  pub field_json : Field → ValueTree → Data
+  field_json (leaf n r t) v = json_as r (leaf_json t) v
+  field_json (fields n r a fs) v = json_as r (object_json (members_json fs)) v
+
+  pub members_json : Fields → ValueTrees → Members
+  members_json (field f fs) (value v vs) = put (name_of f) (field_json f v) (members_json fs vs)
+  members_json _ _ = no_members
+
+-- a row is an object with a member for each top-level field
+abbrev pub row_json : Fields → ValueTrees → Data
+row_json fs row = json.object (members_json fs row)
+
+-- the text of a row
+abbrev pub row_text : Fields → ValueTrees → List ℕ
+row_text fs row = compact_text (row_json fs row)

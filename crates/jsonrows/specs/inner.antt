@@ -1,0 +1,3 @@
+pub mod SchemaReading
+pub mod SchemaViews
+pub mod SchemaPrinting

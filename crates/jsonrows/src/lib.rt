@@ -1,0 +1,21 @@
+//! Rows and schemas as JSON text (RFC 8259), and back.
+//!
+//! `specs/Json.antt` says which text a row has, `specs/Reading.antt` which row a text is,
+//! `specs/SchemaJson.antt` which schema a text is, `specs/SchemaPrinted.antt` how one is printed.
+#![tactic(auto)]
+
+mod filter_reading;
+mod json_text;
+mod laws;
+mod row_printing;
+mod row_reading;
+mod schema_notes;
+mod schema_printing;
+mod schema_reading;
+
+pub use filter_reading::filter_from;
+pub use laws::{rows_read_back, schemas_read_back};
+pub use row_printing::row_to;
+pub use row_reading::row_from;
+pub use schema_printing::schema_to;
+pub use schema_reading::schema_from;

@@ -1,2 +1,0 @@
-pub mod SchemaReading
-pub mod SchemaViews
