@@ -2,7 +2,6 @@
 -- A run is seen as the list of the values that it stands for.
 use Rattle.std.specs.Prelude.{◌≡◌, ℕ, ◌+◌, ◌*◌, ◌/◌, ◌^◌, ◌<◌, ◌≤◌, List, [], ◌∷◌, ◌++◌, length, take, replicate, ◌⊎◌}
 use Rattle.std.specs.List.{concat}
-use Rattle.bits.specs.Codec.{Appends}
 use Rattle.bits.specs.Bits.{IsPacked}
 use Rattle.bits.specs.Varint.{IsUleb}
 
@@ -64,7 +63,3 @@ pub record IsHybrid (width : ℕ) (bytes : List ℕ) (n : ℕ) (values : List �
   pub shortest : (k : ℕ) → k < length runs → length (concat (take k runs)) < n
   pub first : values ≡ take n (concat runs)
   pub ends : used ≡ length text
-
--- the bytes of `new` are those of `old` and at most 80 + 9n more, which stand for these n numbers
-abbrev pub AppendsHybrid : ℕ → List ℕ → List ℕ → List ℕ → Type 0
-AppendsHybrid width numbers old new = Appends (λ bytes. IsHybrid width bytes (length numbers) numbers) (80 + 9 * length numbers) old new

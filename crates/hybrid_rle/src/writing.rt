@@ -2,8 +2,9 @@
 
 ghost use Rattle.std.specs.Prelude.{◌≡◌, ℕ, ◌+◌, ◌*◌, ◌%◌, ◌^◌, ◌<◌, ◌≤◌, ◌↔◌, List, length, map, take, replicate, slice_index, All, IfOk, OnOk, OnErr, IsTrue};
 ghost use Rattle.bits.specs.Refusals.{OnFault, RefusedOnly};
-ghost use Rattle.hybrid_rle.specs.Hybrid.{IsHybrid, AppendsHybrid};
-ghost use Rattle.hybrid_rle.specs.inner.Put.{Extends, with_zeros, IsPacking, IsPut};
+ghost use Rattle.bits.specs.Codec.{Appends};
+ghost use Rattle.hybrid_rle.specs.Hybrid.{IsHybrid};
+ghost use Rattle.hybrid_rle.specs.inner.Put.{AppendsHybrid, Extends, with_zeros, IsPacking, IsPut};
 
 use crate::number::{Number, is_narrow};
 use bits::{R, Refusal, pack, write_uleb};
@@ -20,7 +21,7 @@ use bits::{R, Refusal, pack, write_uleb};
 /// `out` is unchanged. Takes time in the numbers; each is looked at at most three times.
 pub fn encode<T: Number>(width: u32, numbers: &[T], out: &mut Vec<u8>) -> R<()>
     requires { width ≤ 64 }
-    ensures stands { OnOk result (AppendsHybrid width (map T.seen numbers.now) out.old.items out.new.items) }
+    ensures stands { let seen = map T.seen numbers.now in OnOk result (Appends (λ bytes. IsHybrid width bytes (length seen) seen) (80 + 9 * length seen) out.old.items out.new.items) }
     ensures only { let seen = map T.seen numbers.now in OnFault result ((bytes : List ℕ) (used : ℕ) → IsHybrid width bytes (length seen) seen used → ⊥) }
     ensures unfit { OnFault result (All (λ x. x < 2 ^ width) (map T.seen numbers.now) → ⊥) }
     ensures which { RefusedOnly (λ e. e ≡ Refusal.Value) result }

@@ -11,16 +11,16 @@ StructsStay = (bytes more : List ℕ) (fields : Fields) (used : ℕ) → IsThrif
 -- where the bytes of a struct are cut, no struct stands
 abbrev pub CutStructsDoNotStand : Type 0
 CutStructsDoNotStand =
-  (bytes more : List ℕ) (fields : Fields) (used : ℕ) → IsThrift (bytes ++ more) fields used → length bytes < used → NothingStands (IsThrift bytes)
+    (bytes more : List ℕ) (fields : Fields) (used : ℕ) → IsThrift (bytes ++ more) fields used → length bytes < used → NothingStands (IsThrift bytes)
 
 -- the bytes that the writing of a struct added stand for it, whatever follows them
 abbrev pub WrittenStructsStand : Type 0
 WrittenStructsStand =
-  (fields : Fields) (most : ℕ) (old new more : List ℕ) → Appends (λ bytes used. IsThrift bytes fields used) most old new →
-  (let text = drop (length old) new in IsThrift (text ++ more) fields (length text))
+    (fields : Fields) (most : ℕ) (old new more : List ℕ) → Appends (λ bytes used. IsThrift bytes fields used) most old new →
+    (let text = drop (length old) new in IsThrift (text ++ more) fields (length text))
 
 -- and for no other struct, and in no other number of bytes
 abbrev pub WrittenStructsAreNoOthers : Type 0
 WrittenStructsAreNoOthers =
-  (fields seen : Fields) (most used : ℕ) (old new more : List ℕ) → Appends (λ bytes used. IsThrift bytes fields used) most old new →
-  (let text = drop (length old) new in IsThrift (text ++ more) seen used → (seen ≡ fields) × (used ≡ length text))
+    (fields seen : Fields) (most used : ℕ) (old new more : List ℕ) → Appends (λ bytes used. IsThrift bytes fields used) most old new →
+    (let text = drop (length old) new in IsThrift (text ++ more) seen used → (seen ≡ fields) × (used ≡ length text))

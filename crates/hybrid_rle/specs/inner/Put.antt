@@ -1,6 +1,7 @@
 -- What writing one run gives: parquet-format, Encodings.md, "Run Length Encoding / Bit-Packing Hybrid".
 use Rattle.std.specs.Prelude.{◌≡◌, ℕ, ◌+◌, ◌-◌, ◌*◌, ◌/◌, ◌^◌, ◌<◌, ◌≤◌, ◌⊎◌, List, ◌∷◌, [], ◌++◌, length, take}
-use Rattle.hybrid_rle.specs.Hybrid.{IsRun}
+use Rattle.bits.specs.Codec.{Appends}
+use Rattle.hybrid_rle.specs.Hybrid.{IsRun, IsHybrid}
 
 -- only the end is new
 abbrev pub Extends : List ℕ → List ℕ → Type 0
@@ -37,3 +38,7 @@ pub record IsPut (width : ℕ) (xs old new : List ℕ) (count : ℕ) : Type 0 wh
   pub exact : count < length xs → length run ≡ count
   pub short : count < length xs → length text ≤ 9 * count
   pub most : length text ≤ 80 + 9 * count
+
+-- the bytes of `new` are those of `old` and at most 80 + 9n more, which stand for these n numbers
+abbrev pub AppendsHybrid : ℕ → List ℕ → List ℕ → List ℕ → Type 0
+AppendsHybrid width numbers old new = Appends (λ bytes. IsHybrid width bytes (length numbers) numbers) (80 + 9 * length numbers) old new
