@@ -187,7 +187,10 @@ fn shredded_rows_are_assembled_again(rt: HostRuntime) -> Result<(), Fail> {
         let columns = to_columns(alloc, borrowed.as_slice())?;
         let again = assemble(alloc, &schema, columns.as_slice())?;
         assert!(rt; are_same(rows.as_slice(), again.as_slice()));
-        assert_eq!(rt; counted(alloc, &schema, columns.as_slice())?, rows.len() as u64);
+        assert_eq!(rt;
+            counted(alloc, &schema, columns.as_slice())?,
+            rows.len() as u64
+        );
     }
     Ok(())
 }
