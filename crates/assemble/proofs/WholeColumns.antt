@@ -1,5 +1,5 @@
 -- Columns in memory.
-use Rattle.std.proofs.Common.{◌≡◌, ◌≤◌, ◌<◌, List, [], ◌∷◌, ◌++◌, map, length, refl, ap, sym, subst, ◌∙◌, arith, append_assoc, None, Option, Result, Ok, Err, inl, inr}
+use Rattle.std.proofs.Common.{ℕ, zero, suc, ◌≡◌, ◌≤◌, ◌<◌, List, [], ◌∷◌, ◌++◌, ◌⊎◌, map, length, slice_index_or, refl, ap, sym, subst, ◌∙◌, arith, append_assoc, None, Option, Result, Ok, Err, inl, inr}
 use Rattle.std.specs.List.{AllByRecursion}
 use Rattle.std.proofs.lemmas.List.{append-nil, map-append}
 use Rattle.bits.specs.declared.refusal.Refusal.{Refusal}
@@ -68,19 +68,37 @@ limit_where fs cs (Err refusal.Limit) short h = absurd h
 limit_where fs cs (Err refusal.Memory) short h = tt
 limit_where fs cs (Err _) short h = short
 
+-- a column is too long, one after another
+abbrev pub HasLong : Columns → Type 0
+HasLong [] = ⊥
+HasLong (c ∷ cs) = (16777216 < length c) ⊎ HasLong cs
+
+long_at : (cs : Columns) (k : ℕ) (c : List Entry) → k < length cs → slice_index_or cs k c ≡ c → 16777216 < length c → HasLong cs
+long_at [] k c lt is long = absurd (omega (arith, lt))
+long_at (d ∷ cs) zero c lt is long = inl (subst (λ (e : List Entry). 16777216 < length e) (sym is) long)
+long_at (d ∷ cs) (suc k) c lt is long = inr (long_at cs k c (omega (arith, lt)) is long)
+
+pub any_long : (cs : Columns) → IsTooLong cs → HasLong cs
+any_long cs h = long_at cs h.0 h.1 h.2 h.3 h.4
+
+long_any : (cs : Columns) → HasLong cs → IsTooLong cs
+long_any [] h = absurd h
+long_any (c ∷ cs) (inl lt) = (0, c, omega arith, refl, lt)
+long_any (c ∷ cs) (inr h) = let w = long_any cs h in let lt = w.2 in (suc w.0, w.1, omega (arith, lt), w.3, w.4)
+
 -- the cursors so far, and the columns that are left
 pub record SoFar (cursors : List Cursor) (columns rest : List Column) : Type 0 where
   pub all : map entries_left cursors ++ columns_view rest ≡ columns_view columns
-  pub short : IsTooLong (map entries_left cursors) → ⊥
+  pub short : HasLong (map entries_left cursors) → ⊥
 
-long_later : (cs ds : Columns) → IsTooLong ds → IsTooLong (cs ++ ds)
+long_later : (cs ds : Columns) → HasLong ds → HasLong (cs ++ ds)
 long_later [] ds h = h
 long_later (c ∷ cs) ds h = inr (long_later cs ds h)
 
 pub too_long : (cursors : List Cursor) (columns rest : List Column) (c : Column) → SoFar cursors columns (c ∷ rest) → 16777216 < length (column_view c) → IsTooLong (columns_view columns)
-too_long cursors columns rest c so lt = subst IsTooLong so.all (long_later (map entries_left cursors) (column_view c ∷ columns_view rest) (inl lt))
+too_long cursors columns rest c so lt = long_any (columns_view columns) (subst HasLong so.all (long_later (map entries_left cursors) (column_view c ∷ columns_view rest) (inl lt)))
 
-short_more : (cs : Columns) (c : List Entry) → (IsTooLong cs → ⊥) → length c ≤ 16777216 → IsTooLong (cs ++ c ∷ []) → ⊥
+short_more : (cs : Columns) (c : List Entry) → (HasLong cs → ⊥) → length c ≤ 16777216 → HasLong (cs ++ c ∷ []) → ⊥
 short_more [] c h le (inl lt) = omega (arith, lt, le)
 short_more [] c h le (inr n) = n
 short_more (d ∷ cs) c h le (inl lt) = h (inl lt)
@@ -91,7 +109,7 @@ one_more cursors columns rest c x so is le =
     let joined : map entries_left (cursors ++ x ∷ []) ≡ map entries_left cursors ++ column_view c ∷ [] = map-append entries_left cursors (x ∷ []) ∙ ap (λ t. map entries_left cursors ++ t ∷ []) is in
     record {
       all = ap (λ t. t ++ columns_view rest) joined ∙ append_assoc (map entries_left cursors) (column_view c ∷ []) (columns_view rest) ∙ so.all;
-      short = λ t. short_more (map entries_left cursors) (column_view c) so.short le (subst IsTooLong joined t);
+      short = λ t. short_more (map entries_left cursors) (column_view c) so.short le (subst HasLong joined t);
     }
 
 pub all_columns : (cursors : List Cursor) (columns : List Column) → SoFar cursors columns [] → map entries_left cursors ≡ columns_view columns

@@ -1,5 +1,6 @@
 -- The rows that columns have: parquet.apache.org, "Nested Encoding".
-use Rattle.std.specs.Prelude.{◌≡◌, List, [], ◌∷◌, map, ◌⊎◌, ◌<◌, length, Bool, true, false, Option, Some, None, Result, Ok, Err}
+use Rattle.std.specs.Prelude.{◌≡◌, List, [], ◌∷◌, map, ◌<◌, length, Bool, true, false, Option, Some, None, Result, Ok, Err}
+use Rattle.std.specs.List.{Any}
 use Rattle.bits.specs.declared.refusal.Refusal.{Refusal}
 use Rattle.bits.specs.declared.refusal.Refusal.TheVariants.{Limit}
 use Rattle.schema.specs.declared.row.Row.{Row}
@@ -55,8 +56,7 @@ NextRow S refused fs old new (Err e) = IsRefusedFor S refused old new (HasFault 
 
 -- a column has more entries than it may have
 abbrev pub IsTooLong : Columns → Type 0
-IsTooLong [] = ⊥
-IsTooLong (c ∷ cs) = (16777216 < length c) ⊎ IsTooLong cs
+IsTooLong cs = Any (λ (c : List Entry). 16777216 < length c) cs
 
 -- and Limit for a column with too many entries
 abbrev pub IsRefusedAs : Fields → Columns → Refusal → Type 0

@@ -49,6 +49,8 @@ mod record_bytes;
 #[cfg(test)]
 mod records;
 #[cfg(test)]
+mod row_sinks;
+#[cfg(test)]
 mod schemas;
 #[cfg(test)]
 mod shredding;

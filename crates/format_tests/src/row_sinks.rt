@@ -1,0 +1,209 @@
+//! What sinks are shown of rows, and sources that promise that their values fit.
+
+ghost use Rattle.std.specs.Prelude.{◌≡◌, None};
+ghost use Rattle.schema.specs.declared.value.Kind.TheVariants.{Int64};
+
+use assemble::{Cursor, Discard, EntrySource, RowSink, count_rows, next_row_to};
+use bits::{Fault, R, Refusal};
+use schema::{Column, Element, Entry, EntryRef, Kind, LeafType, Schema, Value, ValueRef};
+use std::alloc::{AllocError, Global};
+use std::test::*;
+
+const REQUIRED: i32 = 0;
+
+const OPTIONAL: i32 = 1;
+
+const REPEATED: i32 = 2;
+
+const INT64: i32 = 2;
+
+/// A field: a leaf of INT64 where it has no children, and otherwise a group.
+fn element(alloc: Global, name: &str, repetition: i32, children: i32) -> R<Element> {
+    let is_leaf = children == 0;
+    Ok(Element {
+        kind: is_leaf.then_some(INT64),
+        type_length: None,
+        repetition_type: Some(repetition),
+        name: Vec::from_slice(alloc, name.as_bytes())?,
+        num_children: (!is_leaf).then_some(children),
+        converted_type: None,
+        scale: None,
+        precision: None,
+        field_id: None,
+        logical_type: None,
+    })
+}
+
+/// required int64 id; optional group xs { repeated group list { optional int64 element } }
+fn lists(alloc: Global) -> R<Schema> {
+    let mut elements = Vec::new(alloc);
+    elements.push(element(alloc, "root", REQUIRED, 2)?)?;
+    elements.push(element(alloc, "id", REQUIRED, 0)?)?;
+    elements.push(element(alloc, "xs", OPTIONAL, 1)?)?;
+    elements.push(element(alloc, "list", REPEATED, 1)?)?;
+    elements.push(element(alloc, "element", OPTIONAL, 0)?)?;
+    Schema::new(alloc, elements.as_slice())
+}
+
+fn entry(repetition: u32, definition: u32, value: Option<i64>) -> Entry {
+    Entry {
+        repetition,
+        definition,
+        value: value.map(Value::Int),
+    }
+}
+
+/// Three rows: a list of 7 and a null, an empty list, and no list.
+fn columns(alloc: Global) -> R<Vec<Column>> {
+    let mut ids = Vec::new(alloc);
+    for id in 1..4 {
+        ids.push(entry(0, 0, Some(id)))?;
+    }
+    let mut elements = Vec::new(alloc);
+    elements.push(entry(0, 3, Some(7)))?;
+    elements.push(entry(1, 2, None))?;
+    elements.push(entry(0, 1, None))?;
+    elements.push(entry(0, 0, None))?;
+    let mut columns = Vec::new(alloc);
+    columns.push(Column { entries: ids })?;
+    columns.push(Column { entries: elements })?;
+    Ok(columns)
+}
+
+fn cursors<'a>(alloc: Global, columns: &'a [Column]) -> R<Vec<Cursor<'a>>> {
+    let mut cursors = Vec::new(alloc);
+    for column in columns {
+        cursors.push(Cursor::new(column.entries.as_slice()))?;
+    }
+    Ok(cursors)
+}
+
+/// Writes what it is shown: digits, `-` for a null, `(` and `)` around groups, `[` and `]` around lists.
+#[derive(Drop)]
+struct Text {
+    bytes: Vec<u8>,
+}
+
+impl RowSink for Text {
+    ghost shows = { λ _ _. Unit {0} };
+
+    fn value(&mut self, value: ValueRef<'_>) -> Result<(), AllocError> {
+        let byte = match value {
+            ValueRef::Null => b'-',
+            ValueRef::Int(n) => u8::try_from(n).unwrap_or(0).saturating_add(b'0'),
+            _ => b'?',
+        };
+        self.bytes.push(byte)?;
+        Ok(())
+    }
+
+    fn begin_group(&mut self) -> Result<(), AllocError> {
+        self.bytes.push(b'(')?;
+        Ok(())
+    }
+
+    fn end_group(&mut self) -> Result<(), AllocError> {
+        self.bytes.push(b')')?;
+        Ok(())
+    }
+
+    fn begin_list(&mut self) -> Result<(), AllocError> {
+        self.bytes.push(b'[')?;
+        Ok(())
+    }
+
+    fn end_list(&mut self) -> Result<(), AllocError> {
+        self.bytes.push(b']')?;
+        Ok(())
+    }
+}
+
+const TEXTS: [&[u8]; 3] = [b"1([(7)(-)])", b"2([])", b"3-"];
+
+#[test]
+fn a_sink_is_shown_rows_in_order(rt: HostRuntime) -> Result<(), Fail> {
+    let alloc = rt.alloc();
+    let schema = lists(alloc)?;
+    let columns = columns(alloc)?;
+    let mut sources = cursors(alloc, columns.as_slice())?;
+    for expected in TEXTS {
+        let mut text = Text {
+            bytes: Vec::new(alloc),
+        };
+        assert!(rt; next_row_to(&schema, sources.as_mut_slice(), &mut text)?);
+        assert_eq!(rt; text.bytes.as_slice(), expected);
+    }
+    let mut text = Text {
+        bytes: Vec::new(alloc),
+    };
+    assert!(rt; !next_row_to(&schema, sources.as_mut_slice(), &mut text)?);
+    assert!(rt; text.bytes.is_empty());
+    Ok(())
+}
+
+#[test]
+fn rows_are_counted_or_refused(rt: HostRuntime) -> Result<(), Fail> {
+    let alloc = rt.alloc();
+    let schema = lists(alloc)?;
+    let columns = columns(alloc)?;
+    let mut sources = cursors(alloc, columns.as_slice())?;
+    assert_eq!(rt; count_rows(&schema, sources.as_mut_slice())?, 3);
+    assert_eq!(rt; count_rows(&schema, sources.as_mut_slice())?, 0);
+    let mut fewer = Vec::new(alloc);
+    for column in columns.iter().take(1) {
+        fewer.push(Cursor::new(column.entries.as_slice()))?;
+    }
+    let refused = count_rows(&schema, fewer.as_mut_slice());
+    assert!(rt; matches!(refused, Err(Refusal::Levels)));
+    Ok(())
+}
+
+/// Gives the number 7 without end, which fits INT64.
+#[derive(Drop)]
+struct Sevens;
+
+impl EntrySource for Sevens {
+    ghost stands = { λ _ _. ⊥ };
+
+    ghost refused = { λ _. None };
+
+    ghost checked = { λ _ t. t.kind ≡ Int64 };
+
+    fn has_checked(&self, leaf_type: &LeafType) -> bool {
+        leaf_type.kind == Kind::Int64
+    }
+
+    fn peek(&mut self) -> R<Option<(u32, u32)>> {
+        Ok(Some((0, 0)))
+    }
+
+    fn next(&mut self) -> Result<Option<EntryRef<'_>>, Fault> {
+        Ok(Some(EntryRef {
+            repetition: 0,
+            definition: 0,
+            value: Some(ValueRef::Int(7)),
+        }))
+    }
+
+    fn one_list(&self) {}
+}
+
+#[test]
+fn a_source_may_promise_that_its_values_fit(rt: HostRuntime) -> Result<(), Fail> {
+    let alloc = rt.alloc();
+    let mut elements = Vec::new(alloc);
+    elements.push(element(alloc, "root", REQUIRED, 1)?)?;
+    elements.push(element(alloc, "id", REQUIRED, 0)?)?;
+    let schema = Schema::new(alloc, elements.as_slice())?;
+    let mut sources = Vec::new(alloc);
+    sources.push(Sevens)?;
+    let mut text = Text {
+        bytes: Vec::new(alloc),
+    };
+    for _ in 0..3 {
+        assert!(rt; next_row_to(&schema, sources.as_mut_slice(), &mut text)?);
+        assert!(rt; next_row_to(&schema, sources.as_mut_slice(), &mut Discard)?);
+    }
+    assert_eq!(rt; text.bytes.as_slice(), b"777".as_slice());
+    Ok(())
+}
