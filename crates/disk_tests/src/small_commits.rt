@@ -30,9 +30,27 @@ pub(crate) fn commit_three<D: Disk>(vault: &mut Vault<D>, alloc: Global) -> R<()
 /// A commit of one file and a root that hold the number, after which the file of the number before goes.
 pub(crate) fn commit_number<D: Disk>(vault: &mut Vault<D>, alloc: Global, number: u8) -> R<()> {
     match number % 3 {
-        0 => turn_over(vault, alloc, number, "k=a/part.0.parquet", "k=a/part.2.parquet"),
-        1 => turn_over(vault, alloc, number, "k=a/part.1.parquet", "k=a/part.0.parquet"),
-        _ => turn_over(vault, alloc, number, "k=a/part.2.parquet", "k=a/part.1.parquet"),
+        0 => turn_over(
+            vault,
+            alloc,
+            number,
+            "k=a/part.0.parquet",
+            "k=a/part.2.parquet",
+        ),
+        1 => turn_over(
+            vault,
+            alloc,
+            number,
+            "k=a/part.1.parquet",
+            "k=a/part.0.parquet",
+        ),
+        _ => turn_over(
+            vault,
+            alloc,
+            number,
+            "k=a/part.2.parquet",
+            "k=a/part.1.parquet",
+        ),
     }
 }
 

@@ -48,7 +48,11 @@ fn an_opening_removes_the_next_root_and_nothing_else(rt: HostRuntime) -> Result<
     vault.disk.create("notes.txt")?;
     let opened = open_root(&mut vault, rt.alloc())?;
     assert!(rt; opened.clean);
-    assert!(rt; opened.root.is_some_and(|bytes| bytes.as_slice() == b"root".as_slice()));
+    assert!(rt;
+        opened
+            .root
+            .is_some_and(|bytes| bytes.as_slice() == b"root".as_slice())
+    );
     let names = vault.list(rt.alloc(), "")?;
     assert_eq!(rt; names.len(), 2);
     for entry in names.iter() {
@@ -59,9 +63,7 @@ fn an_opening_removes_the_next_root_and_nothing_else(rt: HostRuntime) -> Result<
 }
 
 #[test]
-fn an_opening_that_cannot_remove_the_next_root_is_not_clean(
-    rt: HostRuntime,
-) -> Result<(), Fail> {
+fn an_opening_that_cannot_remove_the_next_root_is_not_clean(rt: HostRuntime) -> Result<(), Fail> {
     let mut vault = empty(rt.alloc());
     vault.swap_root(b"root")?;
     vault.disk.create("_metadata.new")?;
@@ -69,7 +71,11 @@ fn an_opening_that_cannot_remove_the_next_root_is_not_clean(
     vault.disk.fail_once(2, 0);
     let opened = open_root(&mut vault, rt.alloc())?;
     assert!(rt; !opened.clean);
-    assert!(rt; opened.root.is_some_and(|bytes| bytes.as_slice() == b"root".as_slice()));
+    assert!(rt;
+        opened
+            .root
+            .is_some_and(|bytes| bytes.as_slice() == b"root".as_slice())
+    );
     assert_eq!(rt; vault.disk().failures(), 1);
     assert!(rt; open_root(&mut vault, rt.alloc())?.clean);
     Ok(())
