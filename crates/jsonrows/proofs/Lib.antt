@@ -22,3 +22,5 @@ pub mod RowsBack
 pub mod Made
 pub mod Operands
 pub mod FilterFaults
+pub mod Printing
+pub mod Planned

@@ -1,3 +1,4 @@
 pub mod SchemaReading
 pub mod SchemaViews
 pub mod SchemaPrinting
+pub mod Plan

@@ -7,6 +7,8 @@
 mod filter_reading;
 mod json_text;
 mod laws;
+mod members;
+mod printer;
 mod row_printing;
 mod row_reading;
 mod schema_notes;
@@ -15,6 +17,7 @@ mod schema_reading;
 
 pub use filter_reading::filter_from;
 pub use laws::{rows_read_back, schemas_read_back};
+pub use printer::Printer;
 pub use row_printing::row_to;
 pub use row_reading::row_from;
 pub use schema_printing::schema_to;

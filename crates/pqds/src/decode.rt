@@ -12,12 +12,13 @@ ghost use Rattle.footer.specs.File.{FileMeans};
 ghost use Rattle.footer.specs.Faults.{HasFault};
 ghost use Rattle.footer.specs.Left.{rows_left};
 ghost use Rattle.jsonrows.specs.Json.{row_text};
+ghost use Rattle.jsonrows.specs.Printer.{schema_of, IsReady};
 ghost use Rattle.pqds.specs.Program.{WritesRowsOf, lines_of};
 
 use crate::host::refusal_of;
 use bits::R;
 use footer::{Rows, read_rows};
-use jsonrows::row_to;
+use jsonrows::Printer;
 use schema::{Row, Schema};
 use std::alloc::Global;
 use std::io::Write;
@@ -30,14 +31,23 @@ fn write_text<W: Write>(text: &[u8], out: &mut W) -> R<()>
     out.write_all(text).map_err(refusal_of)
 }
 
-/// Writes a row as a line. Refused Device where it cannot be written.
-fn write_row<W: Write>(alloc: Global, schema: &Schema, row: &Row, out: &mut W) -> R<()>
-    ensures stands { OnOk result (Appends (W.contents out.old) (W.contents out.new) (row_text schema.now (row_view row.now) ++ 10 ∷ [])) }
-    ensures which { IsTrue (fits_each schema.now (row_view row.now)) → RefusedOnly (λ e. e ≡ Device) result }
+/// Writes a row as a line, which is made in the room of `line`. Refused Device where it cannot be written.
+fn write_row<W: Write>(
+    printer: &mut Printer<'_>,
+    row: &Row,
+    line: &mut Vec<u8>,
+    out: &mut W,
+) -> R<()>
+    requires { IsReady printer.now }
+    ensures stands { OnOk result (Appends (W.contents out.old) (W.contents out.new) (row_text (schema_of printer.old) (row_view row.now) ++ 10 ∷ [])) }
+    ensures ready { IsReady printer.new }
+    ensures same { schema_of printer.new ≡ schema_of printer.old }
+    ensures which { IsTrue (fits_each (schema_of printer.old) (row_view row.now)) → RefusedOnly (λ e. e ≡ Device) result }
 {
-    let mut text = row_to(alloc, schema, row)?;
-    text.push('\n')?;
-    write_text(text.as_bytes(), out)
+    line.clear();
+    printer.print(row, line)?;
+    line.push(b'\n')?;
+    write_text(line.as_slice(), out)
 }
 
 /// Makes the rows one by one, and writes each as a line. Refused Device where one cannot be written.
@@ -45,8 +55,10 @@ fn write_rows<W: Write>(alloc: Global, schema: &Schema, rows: &mut Rows, out: &m
     ensures stands { OnOk result (Appends (W.contents out.old) (W.contents out.new) (lines_of schema.now (rows_left rows.old))) }
     ensures which { RowsFit schema.now (rows_left rows.old) → RefusedOnly (λ e. e ≡ Device) result }
 {
+    let mut printer = Printer::new(alloc, schema)?;
+    let mut line = Vec::new(alloc);
     while let Some(row) = rows.next()? {
-        write_row(alloc, schema, &row, out)?;
+        write_row(&mut printer, &row, &mut line, out)?;
     }
     out.flush().map_err(refusal_of)
 }
