@@ -1,7 +1,5 @@
 pub mod Framed
-pub mod FlatPages
 pub mod FlatEntries
-pub mod Bodies
 pub mod PlainValues
 pub mod Passed
 pub mod Texts

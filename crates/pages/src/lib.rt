@@ -16,6 +16,7 @@ mod page;
 mod page_reading;
 mod page_writing;
 
+pub use data_page::DataPage;
 pub use encoding::Encoding;
 pub use entry::EntryRef;
 pub use laws::{one_page, pages_of_a_dictionary, worked_examples};
