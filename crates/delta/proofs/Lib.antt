@@ -10,3 +10,4 @@ pub mod Gathering
 pub mod Cutting
 pub mod Putting
 pub mod Joining
+mod Completing

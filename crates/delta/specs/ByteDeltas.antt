@@ -1,6 +1,6 @@
 -- Byte values by their lengths, or by what they share with the value before:
 -- parquet-format, Encodings.md, "Delta-length byte array" and "Delta Strings" (DELTA_LENGTH_BYTE_ARRAY and DELTA_BYTE_ARRAY).
-use Rattle.std.specs.Prelude.{◌≡◌, ℕ, ◌+◌, ◌<◌, ◌≤◌, List, [], ◌∷◌, ◌++◌, length, take, drop, map, ℤ, pos}
+use Rattle.std.specs.Prelude.{◌≡◌, ℕ, ◌+◌, ◌<◌, ◌≤◌, List, [], ◌∷◌, ◌++◌, length, take, drop, map, ℤ, pos, negsuc}
 use Rattle.std.specs.List.{concat}
 use Rattle.std.specs.Int.{w32}
 use Rattle.schema.specs.Values.{ValueTree, bytes}
@@ -51,6 +51,51 @@ pub record IsPrefixed (text : List ℕ) (n : ℕ) (values : List (List ℕ)) (us
   pub others : IsByteLengths (drop at text) n suffixes rest
   pub completed : AreCompleted [] prefixes suffixes values
   pub ends : used ≡ at + rest
+
+-- the last of the values, or the value before them where there are none
+abbrev pub last_value : List ℕ → List (List ℕ) → List ℕ
+last_value before [] = before
+last_value before (value ∷ values) = last_value value values
+
+-- a prefix and a suffix are announced with more than 16 MiB together, and the values before them are there
+pub record IsLongCompletion (prefixes lengths : List ℤ) (text : List ℕ) : Type 0 where
+  pub before : List ℕ
+  pub suffixes : List (List ℕ)
+  pub values : List (List ℕ)
+  pub prefix : ℕ
+  pub announced : ℕ
+  pub later_prefixes : List ℤ
+  pub later_lengths : List ℤ
+  pub rest : List ℕ
+  pub prefixes_are : prefixes ≡ map pos before ++ pos prefix ∷ later_prefixes
+  pub lengths_are : lengths ≡ sizes suffixes ++ pos announced ∷ later_lengths
+  pub joined : text ≡ concat suffixes ++ rest
+  pub completed : AreCompleted [] before suffixes values
+  pub shared : prefix ≤ length (last_value [] values)
+  pub much : 16777216 < prefix + announced
+
+-- one of n values is announced with more than 16 MiB, after values that stand
+pub record IsPrefixesOver (text : List ℕ) (n : ℕ) : Type 0 where
+  pub prefixes : List ℤ
+  pub at : ℕ
+  pub lengths : List ℤ
+  pub then : ℕ
+  pub shared : IsDelta w32 text n prefixes at
+  pub others : IsDelta w32 (drop at text) n lengths then
+  pub over : IsLongCompletion prefixes lengths (drop then (drop at text))
+
+-- a length as a natural number; 0 where it is negative
+abbrev pub natural : ℤ → ℕ
+natural (pos n) = n
+natural (negsuc n) = 0
+
+-- The values that prefix lengths and suffix lengths make of the suffixes at the front of the text, after the value `before`:
+-- each is the prefix of the value before it, and then its suffix.
+abbrev pub completed : List ℕ → List ℤ → List ℤ → List ℕ → List (List ℕ)
+completed before (prefix ∷ prefixes) (size ∷ lengths) text =
+    (take (natural prefix) before ++ take (natural size) text)
+    ∷ completed (take (natural prefix) before ++ take (natural size) text) prefixes lengths (drop (natural size) text)
+completed before prefixes lengths text = []
 
 -- what stands for lists of bytes, stands for byte values
 pub record StandForBytes (Stand : List (List ℕ) → ℕ → Type 0) (values : List ValueTree) (used : ℕ) : Type 0 where

@@ -1,3 +1,4 @@
 pub mod Delta
 pub mod ByteDeltas
 pub mod inner
+pub mod ValuesLeft

@@ -12,7 +12,9 @@ mod header;
 mod integer;
 mod laws;
 mod lengths;
+mod prefixes;
 mod put_lengths;
+mod put_prefixes;
 mod reading;
 mod writing;
 
@@ -20,6 +22,8 @@ pub use codec::Delta;
 pub use integer::Integer;
 pub use laws::{one_byte_list, one_list, one_prefixed_list, worked_examples};
 pub use lengths::decode_lengths;
+pub use prefixes::{Prefixed, decode_prefixes};
 pub use put_lengths::encode_lengths;
+pub use put_prefixes::encode_prefixes;
 pub use reading::{decode, decode_i32, decode_i64};
 pub use writing::{encode_i32, encode_i64};
