@@ -1,20 +1,18 @@
 -- The entries that a data page still has to give.
-use Rattle.std.specs.Prelude.{◌≡◌, ℕ, List, [], ◌∷◌, map, drop, ⊤, Option, Some, None, Result, Ok, Err}
-use Rattle.std.specs.Borrow.{follows_so, Fml, RattleType, MutBor}
-use mathlib.Core.Option.{none}
+use Rattle.std.specs.Prelude.{◌≡◌, ℕ, Bool, true, false, List, [], ◌∷◌, map, drop, Option, Some, None, Result, Ok, Err}
 use Rattle.bits.specs.declared.fault.Fault.{Fault}
 use Rattle.bits.specs.declared.fault.Fault.TheVariants.{Memory}
 use Rattle.schema.specs.Stripe.{Entry}
-use Rattle.schema.specs.declared.borrowed.EntryRef.{EntryRef}
 use Rattle.schema.specs.Borrowed.{entry_ref_view}
 use Rattle.pages.specs.declared.data_page.DataPage.{DataPage}
 
--- P holds of what s is once the result's borrow of it ends
-abbrev pub Rests : (R : RattleType) → MutBor R.Denot → (R.Denot → Type 0) → Fml
-Rests R s P = follows_so R R s.ghost_name none (λ _ _. ⊤) P
-
+-- the entries that are not taken yet
 abbrev pub entries_left : DataPage → List Entry
-entries_left page = map entry_ref_view (drop page.at page.entries.items)
+entries_left page = map entry_ref_view (drop page.index page.entries.items)
+
+-- the entry that was taken last
+abbrev pub entry_taken : DataPage → Entry
+entry_taken page = entry_ref_view page.taken
 
 -- the first of the entries has these levels
 abbrev pub Shows : List Entry → Option (ℕ × ℕ) → Type 0
@@ -22,8 +20,8 @@ Shows es None = es ≡ []
 Shows [] (Some levels) = ⊥
 Shows (e ∷ es) (Some levels) = (e.repetition ≡ levels.0) × (e.definition ≡ levels.1)
 
--- the first of the entries is given and taken; out of memory, nothing is taken
-abbrev pub TakesFirst : List Entry → List Entry → Result (Option EntryRef) Fault → Type 0
-TakesFirst old new (Ok (Some e)) = old ≡ entry_ref_view e ∷ new
-TakesFirst old new (Ok None) = (old ≡ []) × (new ≡ [])
-TakesFirst old new (Err e) = (e ≡ Memory) × (new ≡ old)
+-- one entry is taken, or none at the end; out of memory, none is taken
+abbrev pub Advances : DataPage → DataPage → Result Bool Fault → Type 0
+Advances old new (Ok true) = entries_left old ≡ entry_taken new ∷ entries_left new
+Advances old new (Ok false) = (entries_left old ≡ []) × (entries_left new ≡ [])
+Advances old new (Err fault) = (fault ≡ Memory) × (entries_left new ≡ entries_left old)
