@@ -15,4 +15,6 @@ pub mod SharedValues
 pub mod ListedValues
 pub mod OneBody
 pub mod OneChunk
+pub mod EntriesOf
+pub mod Bodies
 pub mod Worked
