@@ -1,5 +1,5 @@
 -- The bodies of pages, where the levels of the page are known, or the header that its type names.
-use Rattle.std.proofs.Common.{◌≡◌, ℕ, ◌≤◌, List, length, map, Option, Some, None, refl, sym, ap, subst, ◌∙◌, arith, inl, inr, pos}
+use Rattle.std.proofs.Common.{◌≡◌, ℕ, ◌≤◌, List, length, Option, Some, sym, ap, subst, ◌∙◌, arith, inl, inr, pos}
 use Rattle.std.specs.Prelude.{Result, Ok, Err, OnOk}
 use Rattle.std.proofs.lemmas.List.{length-map}
 use Rattle.bits.specs.declared.refusal.Refusal.{Refusal}

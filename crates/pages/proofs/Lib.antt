@@ -1,5 +1,4 @@
 pub mod Framed
-pub mod FlatEntries
 pub mod PlainValues
 pub mod Passed
 pub mod Texts

@@ -1,5 +1,5 @@
 -- Values by each encoding, as values of a leaf.
-use Rattle.std.proofs.Common.{◌≡◌, ℕ, zero, suc, cond, ◌+◌, ◌^◌, ◌<◌, ◌≤◌, Bool, true, false, List, [], ◌∷◌, length, get_or, map, Option, Some, refl, sym, ap, subst, ◌∙◌, arith, inl, inr}
+use Rattle.std.proofs.Common.{◌≡◌, ℕ, zero, suc, cond, ◌<◌, Bool, true, false, List, [], ◌∷◌, length, map, Option, Some, refl, sym, ap, subst, ◌∙◌, arith, inl, inr}
 use Rattle.std.specs.Prelude.{ℤ, All, IsTrue, ◌↔◌, ◌&&◌, ◌==◌}
 use Rattle.std.specs.Int.{Width, w32, w64, from_bool}
 use Rattle.std.specs.List.{AllByRecursion}
@@ -14,11 +14,11 @@ use Rattle.dictionary.specs.IndexPages.{IsIndexPage, AreIndexed}
 use Rattle.schema.specs.declared.value.Kind.{Kind}
 use Rattle.schema.specs.declared.value.Kind.TheVariants.{Boolean, Int32, Int64, ByteArray, FixedLenByteArray}
 use Rattle.schema.specs.Annotations.{LeafType, is_text, Annotation}
-use Rattle.schema.specs.Fits.{fits_leaf, fits_kind}
+use Rattle.schema.specs.Fits.{fits_kind}
 use Rattle.schema.specs.Values.{ValueTree, boolean, integer, bytes as byte_value}
 use Rattle.plain.specs.Plain.{IsOfKind}
 use Rattle.pages.specs.declared.encoding.Encoding.{Encoding}
-use Rattle.pages.specs.declared.encoding.Encoding.TheVariants.{Plain, PlainDictionary, Rle, DeltaBinaryPacked, DeltaLengthByteArray, DeltaByteArray, RleDictionary}
+use Rattle.pages.specs.declared.encoding.Encoding.TheVariants.{PlainDictionary, Rle, DeltaBinaryPacked, DeltaLengthByteArray, DeltaByteArray, RleDictionary}
 use Rattle.pages.specs.Encodings.{IsPrefixed, AreRleBooleans, AreOfDictionary, AreDeltas, AreByLengths, AreByPrefixes, AreValues}
 use Rattle.pages.specs.inner.Reading.{AllFit, HasBytes, AreLeafValues, AreSpelled, StandInAnyChunk, StandInNoChunk}
 use Rattle.bits.specs.declared.refusal.Refusal.{Refusal}
@@ -29,7 +29,7 @@ use Rattle.schema.specs.Borrowed.{value_ref_view}
 use Rattle.dictionary.specs.Entries.{AreEntriesAt}
 use Rattle.delta.specs.ByteDeltas.{IsPrefixesOver}
 use Rattle.pages.specs.Limits.{IsValueOver}
-use Rattle.pages.proofs.OneList.{HybridsAreOne, one_prefix, one_byte_values}
+use Rattle.pages.proofs.OneList.{one_prefix, one_byte_values}
 
 -- the values of a leaf of this kind, by this relation of the encoding
 of_kind : (d : Option (List ValueTree)) (k l : Kind) (e : Encoding) (text : List ℕ) (vs : List ValueTree) → k ≡ l → AreValues d l (Some e) text vs → AreValues d k (Some e) text vs

@@ -1,15 +1,15 @@
 -- Byte values that share prefixes, and what they are checked for.
-use Rattle.std.proofs.Common.{◌≡◌, ℕ, suc, ◌+◌, ◌<◌, ◌≤◌, Bool, true, false, List, [], ◌∷◌, ◌++◌, length, map, Some, Ok, refl, sym, ap, subst, ◌∙◌, arith}
+use Rattle.std.proofs.Common.{◌≡◌, ℕ, suc, Bool, true, false, List, [], ◌∷◌, ◌++◌, length, map, Some, Ok, refl, sym, ap, subst, ◌∙◌, arith}
 use Rattle.std.specs.Prelude.{ℤ, pos, IsTrue, Option}
 use Rattle.std.specs.Int.{Width, w32}
 use Rattle.std.proofs.lemmas.List.{length-map}
 use Rattle.std.proofs.lemmas.List.FromFn.{length-map-range_with_len}
 use Rattle.delta.specs.Delta.{IsDelta}
-use Rattle.delta.specs.ByteDeltas.{AreCompleted, IsPrefixed, IsCutLong, IsLengthsOver, IsPrefixesOver, sizes}
+use Rattle.delta.specs.ByteDeltas.{AreCompleted, IsPrefixed, IsLengthsOver, IsPrefixesOver, sizes}
 use Rattle.delta.specs.ValuesLeft.{values_left, last_taken, Advances}
 use Rattle.delta.specs.declared.prefixes.Prefixed.{Prefixed}
 use Rattle.schema.specs.declared.value.Kind.{Kind}
-use Rattle.schema.specs.declared.value.Kind.TheVariants.{Boolean, Int32, Int64, ByteArray, FixedLenByteArray}
+use Rattle.schema.specs.declared.value.Kind.TheVariants.{ByteArray, FixedLenByteArray}
 use Rattle.schema.specs.Annotations.{LeafType}
 use Rattle.schema.specs.Fits.{fits_leaf}
 use Rattle.schema.specs.Values.{bytes}

@@ -44,7 +44,15 @@ pub fn read_data_page_v1<'a>(
     let count = checked_count(header.num_values, left)?;
     let (repetitions, definitions, text) = read_levels_v1(alloc, header, body, leaf, count)?;
     let encoding = Encoding::of_number(header.encoding);
-    read_entries(alloc, encoding, leaf, dictionary, repetitions, definitions, text)
+    read_entries(
+        alloc,
+        encoding,
+        leaf,
+        dictionary,
+        repetitions,
+        definitions,
+        text,
+    )
 }
 
 /// The entries of a page of version 2, at most `left`.
@@ -67,7 +75,15 @@ pub fn read_data_page_v2<'a>(
     let count = checked_count(header.num_values, left)?;
     let (repetitions, definitions, text) = read_levels_v2(alloc, header, body, leaf, count)?;
     let encoding = Encoding::of_number(header.encoding);
-    read_entries(alloc, encoding, leaf, dictionary, repetitions, definitions, text)
+    read_entries(
+        alloc,
+        encoding,
+        leaf,
+        dictionary,
+        repetitions,
+        definitions,
+        text,
+    )
 }
 
 /// How many entries a page has. Refused Page where that is below 0 or above `left`.

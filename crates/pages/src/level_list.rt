@@ -18,13 +18,7 @@ impl LevelList {
         ensures within { IfSome result (λ _. index < usize.MAX) }
     {
         match self {
-            LevelList::Zeros(count) => {
-                if index < *count {
-                    Some(0)
-                } else {
-                    None
-                }
-            }
+            LevelList::Zeros(count) => { if index < *count { Some(0) } else { None } }
             LevelList::Listed(levels) => levels.as_slice().get(index).copied(),
         }
     }
@@ -44,13 +38,7 @@ impl LevelList {
         ensures { result ≡ length (filter (λ l. l == level) (levels_of self.now)) }
     {
         match self {
-            LevelList::Zeros(count) => {
-                if level == 0 {
-                    *count
-                } else {
-                    0
-                }
-            }
+            LevelList::Zeros(count) => { if level == 0 { *count } else { 0 } }
             LevelList::Listed(levels) => levels.iter().filter(|l| **l == level).count(),
         }
     }

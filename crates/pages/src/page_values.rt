@@ -53,11 +53,7 @@ impl<'a> PageValues<'a> {
     pub fn advance_where(&mut self, full: bool) -> Result<bool, Fault>
         ensures { TakesWhere full self.old self.new result }
     {
-        if full {
-            self.advance()
-        } else {
-            Ok(false)
-        }
+        if full { self.advance() } else { Ok(false) }
     }
 
     /// The value that was taken last.

@@ -12,9 +12,9 @@ ghost use Rattle.pages.specs.Views.{dictionary_view};
 ghost use Rattle.pages.specs.inner.Reading.{AreLeafValues, AreSpelled, StandInAnyChunk, StandInNoChunk, IsOfValuePages};
 
 use crate::encoding::Encoding;
+use crate::indexed_values::read_indexed;
 use crate::level_reading::split_prefixed;
 use crate::page_values::PageValues;
-use crate::indexed_values::read_indexed;
 use crate::shared_values::read_shared;
 use crate::value_checks::{check_texts, check_values};
 use bits::{R, Refusal};

@@ -1,5 +1,5 @@
 -- What the parts of a page's body stand for, and what they are refused for.
-use Rattle.std.specs.Prelude.{◌≡◌, ◌≤◌, ℕ, List, length, map, All, Option, IsTrue, Some, pos}
+use Rattle.std.specs.Prelude.{◌≡◌, ◌≤◌, ℕ, List, length, All, Option, IsTrue, Some, pos}
 use Rattle.std.specs.List.{AllByRecursion}
 use Rattle.bits.specs.declared.refusal.Refusal.{Refusal}
 use Rattle.bits.specs.declared.refusal.Refusal.TheVariants.{Truncated, Thrift, Encoding as EncodingFault, Page as PageFault, Levels, Value, Utf8}

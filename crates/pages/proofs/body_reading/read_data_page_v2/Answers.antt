@@ -1,4 +1,4 @@
-use Rattle.std.proofs.Common.{◌≡◌, ℕ, ◌≤◌, List, length, sym, ap, ◌∙◌, pos, to_z, of_z, w32, rules, arith}
+use Rattle.std.proofs.Common.{◌≡◌, ◌≤◌, List, length, sym, ap, ◌∙◌, to_z, of_z, w32, rules}
 use Rattle.bits.specs.Refusals.{IsFault}
 use Rattle.bits.proofs.Passing.{passes}
 use Rattle.schema.specs.Stripe.{Entry}
@@ -8,7 +8,7 @@ use Rattle.pages.specs.Encodings.{encoding_of}
 use Rattle.pages.specs.Left.{levels_of, entries_left}
 use Rattle.pages.specs.Page.{IsBodyV2, repetitions, definitions}
 use Rattle.pages.specs.Views.{dictionary_view}
-use Rattle.pages.specs.inner.Reading.{AreEntries, IsDataOverV2}
+use Rattle.pages.specs.inner.Reading.{AreEntries}
 use Rattle.pages.proofs.Sections.{count_is}
 use Rattle.pages.proofs.ListedValues.{if_ok, on_fault}
 use Rattle.pages.proofs.EntriesOf.{within_of}

@@ -1,11 +1,10 @@
-use Rattle.std.proofs.Common.{◌≡◌, ℕ, ◌<◌, true, List, length, get_or, Some, refl, sym, ap, subst, ◌∙◌, arith}
-use Rattle.std.specs.Prelude.{IsTrue, slice_get, Bool}
+use Rattle.std.proofs.Common.{◌≡◌, ◌<◌, true, List, length, get_or, Some, refl, ap, subst, ◌∙◌, arith}
+use Rattle.std.specs.Prelude.{slice_get, Bool}
 use Rattle.std.proofs.Math.ListN.{set}
 use Rattle.std.proofs.lemmas.List.{length-set}
 use Rattle.std.proofs.lemmas.Option.{slice_get_read}
 use Rattle.bits.specs.Refusals.{IsFault}
 use Rattle.bits.proofs.Passing.{passes}
-use Rattle.schema.specs.declared.borrowed.ValueRef.{ValueRef}
 use Rattle.schema.specs.Borrowed.{value_ref_view}
 use Rattle.schema.specs.Values.{ValueTree}
 use Rattle.schema.specs.Views.{leaf_type_view}
@@ -43,9 +42,12 @@ loop-index-preserved c =
       | then-not-index+in_ok-check_value w ↦
           (let marked : c.if-not-index.checked.items ≡ set old (get_or is i 0) true = ap (λ x. x.items) w.checked-is in
           let fits = w.in_ok-check_value.ensures.fit in
-          let more = look_up_more t es is i c.loop-index.values.items c.push.new.self.items v c.loop-index-test.true here fits c.in_ok-push.ensures.items inv.1 inv.2 in
-          (ap length marked ∙ length-set old (get_or is i 0) true ∙ inv.0, more.stand, more.fit,
-          λ k u there mark. marks_more t es old (get_or is i 0) k v u (inv.3 k u) fits here there (subst (λ (cs : List Bool). slice_get cs k ≡ Some true) marked mark)))
+          let more = look_up_more t es is i c.loop-index.values.items c.push.new.self.items v c.loop-index-test.true here fits c.in_ok-push.ensures.items inv.1 inv.2 in (
+            ap length marked ∙ length-set old (get_or is i 0) true ∙ inv.0,
+            more.stand,
+            more.fit,
+            λ k u there mark. marks_more t es old (get_or is i 0) k v u (inv.3 k u) fits here there (subst (λ (cs : List Bool). slice_get cs k ≡ Some true) marked mark),
+          ))
       | else-not-index w ↦
           (let same : c.if-not-index.checked.items ≡ old = ap (λ x. x.items) w.checked-is in
           let room_too : get_or is i 0 < length old = omega (arith, room, inv.0) in

@@ -1,4 +1,4 @@
-use Rattle.std.proofs.Common.{◌≡◌, ℕ, true, List, length, map, take, Some}
+use Rattle.std.proofs.Common.{◌≡◌, ℕ, true, length, map, take, Some}
 use Rattle.std.specs.Prelude.{IsTrue, slice_get}
 use Rattle.schema.specs.declared.borrowed.ValueRef.{ValueRef}
 use Rattle.schema.specs.Borrowed.{value_ref_view}

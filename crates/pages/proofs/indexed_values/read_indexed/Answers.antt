@@ -1,5 +1,5 @@
-use Rattle.std.proofs.Common.{◌≡◌, ℕ, List, length, map, Option, Some, refl, sym, ap, subst, ◌∙◌, arith, rules}
-use Rattle.bits.specs.Refusals.{IsFault, OnFault}
+use Rattle.std.proofs.Common.{◌≡◌, ℕ, List, map, Option, Some, ap, subst}
+use Rattle.bits.specs.Refusals.{IsFault}
 use Rattle.bits.proofs.Passing.{passes}
 use Rattle.schema.specs.declared.borrowed.ValueRef.{ValueRef}
 use Rattle.schema.specs.Borrowed.{value_ref_view}
@@ -50,4 +50,3 @@ returns-clause-only_rle_dictionary c =
     on_fault c.look_up.result (λ nothing ws p. other_indexes c.one_list.ensures es t c.args.bytes.now c.args.count c.in_ok-indexes.indexes.items c.in_ok-indexes.field-0-1 ws c.in_ok-indexes.ensures.stands
     (subst (λ (known : List ℕ). (vs : List ValueTree) → AreEntriesAt (map value_ref_view es) known vs → AllFit t vs → ⊥) c.deref.ensures.value nothing)
     (by_rle_dictionary d (map value_ref_view es) t c.args.bytes.now c.args.count ws is p)) c.look_up.ensures.only
-

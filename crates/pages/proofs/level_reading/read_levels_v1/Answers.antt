@@ -1,4 +1,4 @@
-use Rattle.std.proofs.Common.{◌≡◌, ℕ, List, length, ap, sym, ◌∙◌, rules, to_z, of_z, w32}
+use Rattle.std.proofs.Common.{ℕ, List}
 use Rattle.bits.specs.Refusals.{IsFault}
 use Rattle.bits.proofs.Passing.{passes}
 use Rattle.schema.specs.Views.{leaf_view}
@@ -6,7 +6,7 @@ use Rattle.metadata.specs.Views.{data_page_header_view}
 use Rattle.pages.specs.Left.{levels_of}
 use Rattle.pages.specs.Page.{AreLevelsV1}
 use Rattle.pages.specs.inner.Reading.{AreWithin}
-use Rattle.pages.proofs.Sections.{count_is, second_v1}
+use Rattle.pages.proofs.Sections.{second_v1}
 use Rattle.pages.proofs.level_reading.read_levels_v1.Goals as goal
 
 pub returns-in_err-definitions-clause-only : goal.returns-in_err-definitions-clause-only

@@ -1,4 +1,4 @@
-use Rattle.std.proofs.Common.{ℕ, ◌-◌, arith, refl}
+use Rattle.std.proofs.Common.{◌-◌, arith, refl}
 use Rattle.std.specs.Int.Count.{count_leading_zeros}
 use Rattle.pages.proofs.Sections.{digits}
 use Rattle.pages.proofs.level_reading.width_of.Goals as goal

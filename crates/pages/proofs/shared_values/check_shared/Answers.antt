@@ -1,4 +1,4 @@
-use Rattle.std.proofs.Common.{◌≡◌, ℕ, List, length, map, subst, sym, arith}
+use Rattle.std.proofs.Common.{ℕ, List, map, subst, sym, arith}
 use Rattle.std.specs.Prelude.{IsTrue}
 use Rattle.bits.specs.Refusals.{IsFault}
 use Rattle.bits.proofs.Passing.{passes}

@@ -1,4 +1,4 @@
-use Rattle.std.proofs.Common.{◌≡◌, ◌+◌, List, length, map}
+use Rattle.std.proofs.Common.{◌≡◌, ◌+◌, length, map}
 use Rattle.std.specs.Prelude.{◌↔◌}
 use Rattle.schema.specs.Values.{bytes}
 use Rattle.schema.specs.Views.{leaf_type_view}

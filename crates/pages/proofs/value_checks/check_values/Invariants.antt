@@ -1,4 +1,4 @@
-use Rattle.std.proofs.Common.{List, map, drop}
+use Rattle.std.proofs.Common.{map, drop}
 use Rattle.std.specs.Prelude.{◌↔◌}
 use Rattle.schema.specs.Borrowed.{value_ref_view}
 use Rattle.schema.specs.Views.{leaf_type_view}

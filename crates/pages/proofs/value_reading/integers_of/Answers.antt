@@ -1,5 +1,5 @@
 use Rattle.std.proofs.Common.{◌≡◌, get_or, ◌∙◌, rules, to_z, of_z, w32, w64, FitsSigned, subst, sym}
-use Rattle.std.specs.Prelude.{ℤ, pos}
+use Rattle.std.specs.Prelude.{pos}
 use Rattle.std.proofs.lemmas.Int.{to_z-of_z}
 use Rattle.schema.specs.declared.value.Kind.TheVariants.{Int32}
 use Rattle.pages.proofs.LookUps.{integer_more, kind_more}

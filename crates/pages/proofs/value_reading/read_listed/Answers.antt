@@ -1,9 +1,5 @@
-use Rattle.std.proofs.Common.{◌≡◌, ℕ, List, length, map, Option, Some, refl, sym, ap, subst, ◌∙◌, arith, rules}
-use Rattle.bits.specs.Refusals.{IsFault, OnFault}
-use Rattle.bits.proofs.Passing.{passes}
-use Rattle.schema.specs.declared.borrowed.ValueRef.{ValueRef}
+use Rattle.std.proofs.Common.{map}
 use Rattle.schema.specs.Borrowed.{value_ref_view}
-use Rattle.schema.specs.Values.{ValueTree}
 use Rattle.schema.specs.Views.{leaf_type_view}
 use Rattle.pages.specs.declared.encoding.Encoding.TheVariants.{Plain, Rle, DeltaBinaryPacked, DeltaLengthByteArray}
 use Rattle.pages.specs.Views.{dictionary_view}
@@ -41,4 +37,3 @@ returns-in-DeltaLengthByteArray-clause-stands c =
 pub returns-in-DeltaLengthByteArray-clause-only : goal.returns-in-DeltaLengthByteArray-clause-only
 returns-in-DeltaLengthByteArray-clause-only c =
     in_no_chunk c.read_by_lengths.result (dictionary_view c.args.dictionary) (leaf_type_view c.args.leaf_type.now) c.args.encoding DeltaLengthByteArray c.args.bytes.now c.args.count c.in-DeltaLengthByteArray.is c.read_by_lengths.ensures.only
-

@@ -1,9 +1,7 @@
-use Rattle.std.proofs.Common.{◌≡◌, ℕ, List, length, map, Option, Some, refl, sym, ap, subst, ◌∙◌, arith, rules}
-use Rattle.bits.specs.Refusals.{IsFault, OnFault}
+use Rattle.std.proofs.Common.{◌≡◌, List, length, map, refl, ap, ◌∙◌, rules}
+use Rattle.bits.specs.Refusals.{IsFault}
 use Rattle.bits.proofs.Passing.{passes}
-use Rattle.schema.specs.declared.borrowed.ValueRef.{ValueRef}
 use Rattle.schema.specs.Borrowed.{value_ref_view}
-use Rattle.schema.specs.Values.{ValueTree}
 use Rattle.schema.specs.Views.{leaf_type_view}
 use Rattle.std.specs.Prelude.{ℤ, All}
 use Rattle.std.specs.Int.{w32, w64}
@@ -48,4 +46,3 @@ returns-in_ok-numbers-in-Int64-clause-stands c =
     if_ok_both (λ vs. map value_ref_view vs.items ≡ map integer c.deref-in-Int64.result.now) (λ vs. All (IsOfKind Int64) (map value_ref_view vs.items)) (λ vs. StandInAnyChunk t DeltaBinaryPacked text n (map value_ref_view vs.items)) c.long_integers_of.result
     (λ vs are kinds. deltas_stand t Int64 w64 text n (map value_ref_view vs.items) numbers c.in_ok-numbers-in-Int64.field-0-1 c.what_is_of_a_kind_fits_it.ensures c.in-Int64.is (λ a. refl) (λ d p. p)
     (are ∙ ap (λ (zs : List ℤ). map integer zs) c.deref-in-Int64.ensures.value) kinds size c.in_ok-numbers-in-Int64.ensures.stands) c.long_integers_of.ensures.are c.long_integers_of.ensures.of_kind
-

@@ -1,9 +1,4 @@
-use Rattle.std.proofs.Common.{◌≡◌, ℕ, List, length, map, Option, Some, refl, sym, ap, subst, ◌∙◌, arith, rules}
-use Rattle.bits.specs.Refusals.{IsFault, OnFault}
-use Rattle.bits.proofs.Passing.{passes}
-use Rattle.schema.specs.declared.borrowed.ValueRef.{ValueRef}
-use Rattle.schema.specs.Borrowed.{value_ref_view}
-use Rattle.schema.specs.Values.{ValueTree}
+use Rattle.std.proofs.Common.{arith}
 use Rattle.schema.specs.Views.{leaf_type_view}
 use Rattle.pages.specs.declared.encoding.Encoding.TheVariants.{DeltaByteArray}
 use Rattle.pages.specs.Left.{values_left}

@@ -1,4 +1,4 @@
-use Rattle.std.proofs.Common.{◌∙◌, sym, arith}
+use Rattle.std.proofs.Common.{arith}
 use Rattle.pages.specs.Left.{levels_of, values_left}
 use Rattle.pages.proofs.LevelLists.{count_left}
 use Rattle.pages.proofs.data_page.DataPage.len.Goals as goal

@@ -1,4 +1,4 @@
-use Rattle.std.proofs.Common.{◌≡◌, ℕ, length, filter, ap, sym, ◌∙◌, arith}
+use Rattle.std.proofs.Common.{length, filter, ap, sym, ◌∙◌, arith}
 use Rattle.std.specs.Prelude.{◌==◌}
 use Rattle.pages.specs.declared.level_list.LevelList.{LevelList}
 use Rattle.pages.specs.Left.{levels_of}
