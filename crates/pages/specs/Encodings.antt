@@ -1,13 +1,15 @@
 -- Which values stand in the value section of a page: parquet.thrift, Encoding; parquet-format, Encodings.md.
-use Rattle.std.specs.Prelude.{◌≡◌, ℕ, zero, suc, ℤ, pos, ◌^◌, ◌<◌, ◌≤◌, Bool, List, ◌∷◌, ◌++◌, map, length, slice_get, Option, Some, None, if◌then◌else◌}
-use Rattle.std.specs.Int.{from_bool}
-use Rattle.std.specs.List.{AllByRecursion}
+use Rattle.std.specs.Prelude.{◌≡◌, ℕ, ℤ, pos, ◌^◌, ◌<◌, Bool, List, ◌++◌, map, length, Option, Some, None, if◌then◌else◌}
+use Rattle.std.specs.Int.{Width, w32, w64, from_bool}
 use Rattle.std.specs.Ordering.{int_eq}
 use Rattle.byteorder.specs.Endian.{little_bytes}
 use Rattle.hybrid_rle.specs.Hybrid.{IsHybrid}
+use Rattle.delta.specs.Delta.{IsDelta}
+use Rattle.delta.specs.ByteDeltas.{IsByteLengths, IsPrefixed as IsSharedPrefixes, StandForBytes}
+use Rattle.dictionary.specs.IndexPages.{AreIndexed}
 use Rattle.schema.specs.declared.value.Kind.{Kind}
 use Rattle.schema.specs.declared.value.Kind.TheVariants.{Boolean, Int32, Int64, ByteArray, FixedLenByteArray}
-use Rattle.schema.specs.Values.{ValueTree, boolean}
+use Rattle.schema.specs.Values.{ValueTree, boolean, integer}
 use Rattle.plain.specs.Plain.{IsPlain}
 use Rattle.pages.specs.declared.encoding.Encoding.{Encoding}
 use Rattle.pages.specs.declared.encoding.Encoding.TheVariants.{Plain, PlainDictionary, Rle, BitPacked, DeltaBinaryPacked, DeltaLengthByteArray, DeltaByteArray, RleDictionary, ByteStreamSplit}
@@ -46,39 +48,32 @@ pub record AreRleBooleans (text : List ℕ) (values : List ValueTree) : Type 0 w
   pub prefixed : IsPrefixed text inside rest
   pub packed : IsHybrid 1 inside (length bools) (map from_bool bools) used
 
--- indexes of this width: by the hybrid, without a length; of width 0 all are 0, and nothing is read
-abbrev pub AreIndexesOf : ℕ → List ℕ → List ℕ → Type 0
-AreIndexesOf zero text indexes = AllByRecursion (λ i. i ≡ 0) indexes
-AreIndexesOf (suc w) text indexes = (used : ℕ) × IsHybrid (suc w) text (length indexes) indexes used
+-- indexes into a dictionary with these entries, and for each its entry; bytes after them are left
+abbrev pub AreOfDictionary : List ValueTree → List ℕ → List ValueTree → Type 0
+AreOfDictionary entries text values = (used : ℕ) × AreIndexed entries text (length values) values used
 
--- Indexes into a dictionary: one byte of width, at most 32, and the indexes. An index stands for its entry; one past the
--- dictionary stands for nothing. (Encodings.md, "Dictionary Encoding".)
-pub record AreIndexed (dictionary : List ValueTree) (text : List ℕ) (values : List ValueTree) : Type 0 where
-  pub width : ℕ
-  pub rest : List ℕ
-  pub indexes : List ℕ
-  pub begins : text ≡ width ∷ rest
-  pub narrow : width ≤ 32
-  pub are : AreIndexesOf width rest indexes
-  pub entries : map (slice_get dictionary) indexes ≡ map (λ v. Some v) values
+-- numbers as differences of so many bits (Encodings.md, "Delta Encoding")
+abbrev pub AreDeltas : Width → List ℕ → List ValueTree → Type 0
+AreDeltas w text values = (numbers : List ℤ) × (used : ℕ) × (values ≡ map integer numbers) × IsDelta w text (length numbers) numbers used
+
+-- byte values by their lengths (Encodings.md, "Delta-length byte array")
+abbrev pub AreByLengths : List ℕ → List ValueTree → Type 0
+AreByLengths text values = (used : ℕ) × StandForBytes (IsByteLengths text (length values)) values used
+
+-- byte values by what they share with the value before (Encodings.md, "Delta Strings")
+abbrev pub AreByPrefixes : List ℕ → List ValueTree → Type 0
+AreByPrefixes text values = (used : ℕ) × StandForBytes (IsSharedPrefixes text (length values)) values used
 
 -- The table of encodings: the values of a leaf of this type stand in the text, in a chunk that has this dictionary.
--- What has no line has no values. (Each encoding that is added brings its line.)
+-- What has no line has no values.
 abbrev pub AreValues : Option (List ValueTree) → Kind → Option Encoding → List ℕ → List ValueTree → Type 0
 AreValues dictionary kind (Some Plain) text values = ArePlain kind text values
 AreValues dictionary Boolean (Some Rle) text values = AreRleBooleans text values
-AreValues (Some entries) kind (Some PlainDictionary) text values = AreIndexed entries text values
-AreValues (Some entries) kind (Some RleDictionary) text values = AreIndexed entries text values
+AreValues (Some entries) kind (Some PlainDictionary) text values = AreOfDictionary entries text values
+AreValues (Some entries) kind (Some RleDictionary) text values = AreOfDictionary entries text values
+AreValues dictionary Int32 (Some DeltaBinaryPacked) text values = AreDeltas w32 text values
+AreValues dictionary Int64 (Some DeltaBinaryPacked) text values = AreDeltas w64 text values
+AreValues dictionary ByteArray (Some DeltaLengthByteArray) text values = AreByLengths text values
+AreValues dictionary ByteArray (Some DeltaByteArray) text values = AreByPrefixes text values
+AreValues dictionary (FixedLenByteArray n) (Some DeltaByteArray) text values = AreByPrefixes text values
 AreValues dictionary kind encoding text values = ⊥
-
--- An encoding that the format has for the type, and that is not read yet. (Each that is added takes its lines away.)
-abbrev pub IsEncodingToCome : Option (List ValueTree) → Kind → Option Encoding → Type 0
-IsEncodingToCome (Some dictionary) kind (Some PlainDictionary) = Unit {0}
-IsEncodingToCome (Some dictionary) kind (Some RleDictionary) = Unit {0}
-IsEncodingToCome dictionary Boolean (Some Rle) = Unit {0}
-IsEncodingToCome dictionary Int32 (Some DeltaBinaryPacked) = Unit {0}
-IsEncodingToCome dictionary Int64 (Some DeltaBinaryPacked) = Unit {0}
-IsEncodingToCome dictionary ByteArray (Some DeltaLengthByteArray) = Unit {0}
-IsEncodingToCome dictionary ByteArray (Some DeltaByteArray) = Unit {0}
-IsEncodingToCome dictionary (FixedLenByteArray n) (Some DeltaByteArray) = Unit {0}
-IsEncodingToCome dictionary kind encoding = ⊥

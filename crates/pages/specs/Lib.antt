@@ -2,6 +2,7 @@ pub mod Encodings
 pub mod Page
 pub mod Chunk
 pub mod Limits
+pub mod Left
 pub mod Views
 pub mod Flat
 pub mod Apart
@@ -9,3 +10,4 @@ pub mod Greatest
 pub mod Writing
 pub mod Headers
 pub mod Worked
+pub mod inner

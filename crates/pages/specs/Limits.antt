@@ -1,20 +1,24 @@
--- Where a page goes beyond a limit, or is not read yet, and what pages are refused for.
-use Rattle.std.specs.Prelude.{◌≡◌, ℕ, ◌<◌, ◌==◌, pos, List, filter, length, Option, Some}
+-- Where a page goes beyond a limit, and what pages are refused for.
+use Rattle.std.specs.Prelude.{◌≡◌, ℕ, ◌==◌, pos, List, filter, length, Option, Some}
 use Rattle.bits.specs.declared.refusal.Refusal.{Refusal}
 use Rattle.bits.specs.declared.refusal.Refusal.TheVariants.{Truncated, Thrift, Encoding as EncodingFault, Page as PageFault, Levels, Value, Utf8, Limit}
 use Rattle.schema.specs.declared.value.Kind.{Kind}
-use Rattle.schema.specs.Values.{ValueTree}
+use Rattle.schema.specs.declared.value.Kind.TheVariants.{ByteArray, FixedLenByteArray}
 use Rattle.schema.specs.Stripe.{Leaf}
 use Rattle.metadata.specs.Records.{PageHeader, DataPageHeader, DictionaryPageHeader, DataPageHeaderV2}
 use Rattle.plain.specs.Plain.{IsReadOver}
+use Rattle.delta.specs.ByteDeltas.{IsLengthsOver, IsPrefixesOver}
 use Rattle.pages.specs.declared.encoding.Encoding.{Encoding}
-use Rattle.pages.specs.declared.encoding.Encoding.TheVariants.{Plain}
-use Rattle.pages.specs.Encodings.{encoding_of, IsEncodingToCome}
+use Rattle.pages.specs.declared.encoding.Encoding.TheVariants.{Plain, DeltaLengthByteArray, DeltaByteArray}
+use Rattle.pages.specs.Encodings.{encoding_of}
 use Rattle.pages.specs.Page.{AreLevelsV1, AreLevelsV2, IsEncodingOfDictionary, IsFramed}
 
--- one of the n values in the text is announced with more bytes than a value may have; each encoding brings its line
+-- One of the n values in the text is announced with more bytes than a value may have. (A dictionary's values are on its page.)
 abbrev pub IsValueOver : Kind → Option Encoding → List ℕ → ℕ → Type 0
 IsValueOver kind (Some Plain) text n = IsReadOver kind text n
+IsValueOver ByteArray (Some DeltaLengthByteArray) text n = IsLengthsOver text n
+IsValueOver ByteArray (Some DeltaByteArray) text n = IsPrefixesOver text n
+IsValueOver (FixedLenByteArray size) (Some DeltaByteArray) text n = IsPrefixesOver text n
 IsValueOver kind encoding text n = ⊥
 
 -- how many entries with these definition levels have a value
@@ -37,24 +41,6 @@ pub record IsPageOver (leaf : Leaf) (bytes : List ℕ) : Type 0 where
   pub used : ℕ
   pub framed : IsFramed bytes header body used
   pub over : IsBodyOver leaf header body
-
--- Why a page is not read yet; where no value is there, its encoding is not looked at. (Each that is built is taken away,
--- and with the last the type.)
-pub data IsBodyToCome (leaf : Leaf) (d : Option (List ValueTree)) (h : PageHeader) (body : List ℕ) : Type 0 where
-  dictionary_page : h.kind ≡ pos 2 → IsBodyToCome leaf d h body
-  version_2 : h.kind ≡ pos 3 → IsBodyToCome leaf d h body
-  with_repetitions : h.kind ≡ pos 0 → 0 < leaf.greatest_repetition → IsBodyToCome leaf d h body
-  with_definitions : h.kind ≡ pos 0 → 0 < leaf.greatest_definition → IsBodyToCome leaf d h body
-  other_encoding : (own : DataPageHeader) (rs ds text : List ℕ) → h.kind ≡ pos 0 → h.data_page_header ≡ Some own → AreLevelsV1 leaf own body rs ds text
-      → 0 < full leaf ds → IsEncodingToCome d leaf.leaf_type.kind (encoding_of own.encoding) → IsBodyToCome leaf d h body
-
--- the page that begins here is not read yet
-pub record IsPageToCome (leaf : Leaf) (d : Option (List ValueTree)) (bytes : List ℕ) : Type 0 where
-  pub header : PageHeader
-  pub body : List ℕ
-  pub used : ℕ
-  pub framed : IsFramed bytes header body used
-  pub why : IsBodyToCome leaf d header body
 
 -- what a page is refused for
 abbrev pub IsOfPages : Refusal → Type 0

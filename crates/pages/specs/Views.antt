@@ -1,18 +1,25 @@
 -- What pages of the program stand for.
-use Rattle.std.specs.Prelude.{map, option_map}
-use Rattle.schema.specs.Values.{view}
+use Rattle.std.specs.Prelude.{map, List, Option, option_map}
+use Rattle.std.specs.Borrow.{Bor}
+use Rattle.schema.specs.Values.{ValueTree, view}
 use Rattle.schema.specs.Stripe.{Entry}
-use Rattle.schema.specs.Views.{entry_view}
+use Rattle.schema.specs.declared.borrowed.ValueRef.{ValueRef}
+use Rattle.schema.specs.Borrowed.{value_ref_view}
 use Rattle.pages.specs.declared.entry.EntryRef.{EntryRef}
 use Rattle.pages.specs.declared.page.PageRef.{PageRef}
 use Rattle.pages.specs.declared.page.PageRef.TheVariants.{Skipped, Dictionary, Data}
 use Rattle.pages.specs.Page.{Page, skipped, dictionary, entries}
+use Rattle.pages.specs.Left.{entries_left}
 
 abbrev pub page_view : PageRef → Page
 page_view (Skipped body) = skipped
-page_view (Dictionary vs) = dictionary (map view vs.items)
-page_view (Data es) = entries (map entry_view es.items)
+page_view (Dictionary vs) = dictionary (map value_ref_view vs.items)
+page_view (Data page) = entries (entries_left page)
 
--- an entry whose value is lent
+-- a borrowed dictionary
+abbrev pub dictionary_view : Option (Bor (List ValueRef)) → Option (List ValueTree)
+dictionary_view d = option_map (λ x. map value_ref_view x.now) d
+
+-- an entry whose value is borrowed
 abbrev pub entry_ref_view : EntryRef → Entry
 entry_ref_view e = record { repetition = e.repetition; definition = e.definition; value = option_map (λ v. view v.now) e.value }

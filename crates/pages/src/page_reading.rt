@@ -1,9 +1,8 @@
 //! From bytes to pages.
 
-ghost use Rattle.std.specs.Prelude.{◌≡◌, ◌⊎◌, ◌≤◌, ◌++◌, ℕ, pos, List, map, option_map, length, IfOk, OnOk, Err};
+ghost use Rattle.std.specs.Prelude.{◌≡◌, ◌⊎◌, ◌≤◌, ◌++◌, ℕ, pos, List, length, IfOk, OnOk, Err};
 ghost use Rattle.bits.specs.Refusals.{OnFault, RefusedOnly};
 ghost use Rattle.bits.specs.Codec.{NothingStands};
-ghost use Rattle.schema.specs.Values.{view};
 ghost use Rattle.schema.specs.Views.{leaf_view};
 ghost use Rattle.metadata.specs.FromTree.{page_header};
 ghost use Rattle.metadata.specs.Records.{PageHeader as PageHeaderShown};
@@ -11,48 +10,52 @@ ghost use Rattle.metadata.specs.Answers.{StandsFor};
 ghost use Rattle.metadata.specs.Views.{page_header_view};
 ghost use Rattle.pages.specs.Page.{Page, IsPage, IsBody, IsFramed};
 ghost use Rattle.pages.specs.Chunk.{entries_of};
-ghost use Rattle.pages.specs.Limits.{IsBodyOver, IsBodyToCome, IsPageOver, IsPageToCome, IsOfPages};
-ghost use Rattle.pages.specs.Views.{page_view};
+ghost use Rattle.pages.specs.Limits.{IsBodyOver, IsPageOver, IsOfPages};
+ghost use Rattle.pages.specs.Apart.{IsOnlyPage, IsPageOfAtMost};
+ghost use Rattle.pages.specs.Views.{page_view, dictionary_view};
 
-use crate::data_page::read_data_page;
+use crate::body_reading::{read_data_page_v1, read_data_page_v2, read_dictionary};
+use crate::laws::one_page;
 use crate::page::PageRef;
 use bits::{R, Refusal};
 use metadata::{DATA_PAGE, DATA_PAGE_V2, DICTIONARY_PAGE, PageHeader, one_page_header};
-use schema::{Leaf, Value};
+use schema::{Leaf, ValueRef};
 use std::alloc::Global;
 
 /// The page at the front of the bytes, in a chunk of this leaf that has this dictionary and lacks `left`
 /// entries, and how many bytes the page takes, its header among them. What follows is not looked at.
 /// (parquet-format, README.md, "Data Pages".)
 ///
-/// Pages of a type other than DATA_PAGE, DICTIONARY_PAGE and DATA_PAGE_V2 are skipped. Each byte of
-/// the page is read once, but for the fields of its header and text, which is checked to be UTF-8.
-/// Room is asked for only for values that the bytes hold.
+/// Pages of a type other than DATA_PAGE, DICTIONARY_PAGE and DATA_PAGE_V2 are skipped. Values are borrowed
+/// from the bytes, or from the dictionary. Each byte of the page is read once, but for the fields of its
+/// header, and text, which is checked to be UTF-8. Room is asked for only for levels and values that the
+/// bytes hold.
 ///
-/// Refused Limit only where a value is announced with more than 16 MiB, or where the page is not read
-/// yet: a dictionary, a page of version 2, a leaf that an OPTIONAL or REPEATED field leads to, a value
-/// in another encoding than PLAIN. For any other fault, lack of memory aside, only where no page with at
-/// most `left` entries stands at the front: Thrift where the header is no record, Page where the page
-/// goes beyond the bytes, where its size or its count is below 0, and where it has more than `left`
-/// entries, Encoding where the format has no such values, Truncated where the body ends before its
-/// values do, Utf8 where one of them should be text and is not.
+/// Refused Limit only where a value is announced with more than 16 MiB. For any other fault, lack of
+/// memory aside, only where no page with at most `left` entries stands at the front: Thrift where the
+/// header is no record, Page where the page goes beyond the bytes, where its size or its count is below 0,
+/// and where it has more than `left` entries, Encoding where the format has no such values or levels,
+/// Truncated where the body ends before its levels or values do, Levels where a level is above the
+/// greatest, Value where a width, an index or a length cannot be, Utf8 where a value should be text and is
+/// not.
 pub fn read_page<'a>(
     alloc: Global,
     bytes: &'a [u8],
     leaf: &Leaf,
-    dictionary: Option<&[Value]>,
+    dictionary: Option<&[ValueRef<'a>]>,
     left: usize,
 ) -> R<(PageRef<'a>, usize)>
-    ensures stands { IfOk result (λ x. IsPage (leaf_view leaf.now) (option_map (λ d. map view d.now) dictionary.entry) bytes.now (page_view x.0) x.1) }
-    ensures alone { IfOk result (λ x. (page : Page) (used : ℕ) → IsPage (leaf_view leaf.now) (option_map (λ d. map view d.now) dictionary.entry) bytes.now page used → (page ≡ page_view x.0) × (used ≡ x.1)) }
+    ensures stands { let d = dictionary_view dictionary.entry in IfOk result (λ x. IsPage (leaf_view leaf.now) d bytes.now (page_view x.0) x.1) }
+    ensures alone { let d = dictionary_view dictionary.entry in IfOk result (λ x. IsOnlyPage (leaf_view leaf.now) d bytes.now (page_view x.0) x.1) }
     ensures within { IfOk result (λ x. x.1 ≤ length bytes.now) }
     ensures at_most_left { IfOk result (λ x. length (entries_of (page_view x.0)) ≤ left) }
     ensures within_limits { OnOk result (IsPageOver (leaf_view leaf.now) bytes.now → ⊥) }
-    ensures only { OnFault result (NothingStands (λ page used. IsPage (leaf_view leaf.now) (option_map (λ d. map view d.now) dictionary.entry) bytes.now page used × (length (entries_of page) ≤ left))) }
-    ensures limit { result ≡ Err Refusal.Limit → IsPageOver (leaf_view leaf.now) bytes.now ⊎ IsPageToCome (leaf_view leaf.now) (option_map (λ d. map view d.now) dictionary.entry) bytes.now }
+    ensures only { let d = dictionary_view dictionary.entry in OnFault result (NothingStands (IsPageOfAtMost left (leaf_view leaf.now) d bytes.now)) }
+    ensures limit { result ≡ Err Refusal.Limit → IsPageOver (leaf_view leaf.now) bytes.now }
     ensures which { RefusedOnly IsOfPages result }
 {
     one_page_header();
+    one_page();
     let (header, body, used) = read_frame(alloc, bytes)?;
     let page = read_body(alloc, &header, body, leaf, dictionary, left)?;
     Ok((page, used))
@@ -103,26 +106,38 @@ fn read_body<'a>(
     header: &PageHeader,
     body: &'a [u8],
     leaf: &Leaf,
-    dictionary: Option<&[Value]>,
+    dictionary: Option<&[ValueRef<'a>]>,
     left: usize,
 ) -> R<PageRef<'a>>
-    ensures stands { IfOk result (λ p. IsBody (leaf_view leaf.now) (option_map (λ d. map view d.now) dictionary.entry) (page_header_view header.now) body.now (page_view p)) }
-    ensures alone { IfOk result (λ p. (page : Page) → IsBody (leaf_view leaf.now) (option_map (λ d. map view d.now) dictionary.entry) (page_header_view header.now) body.now page → page ≡ page_view p) }
+    ensures stands { let d = dictionary_view dictionary.entry in IfOk result (λ p. IsBody (leaf_view leaf.now) d (page_header_view header.now) body.now (page_view p)) }
     ensures at_most_left { IfOk result (λ p. length (entries_of (page_view p)) ≤ left) }
     ensures within_limits { OnOk result (IsBodyOver (leaf_view leaf.now) (page_header_view header.now) body.now → ⊥) }
-    ensures only { OnFault result ((page : Page) → IsBody (leaf_view leaf.now) (option_map (λ d. map view d.now) dictionary.entry) (page_header_view header.now) body.now page → length (entries_of page) ≤ left → ⊥) }
-    ensures limit { result ≡ Err Refusal.Limit → IsBodyOver (leaf_view leaf.now) (page_header_view header.now) body.now ⊎ IsBodyToCome (leaf_view leaf.now) (option_map (λ d. map view d.now) dictionary.entry) (page_header_view header.now) body.now }
+    ensures only { let d = dictionary_view dictionary.entry in OnFault result ((page : Page) → IsBody (leaf_view leaf.now) d (page_header_view header.now) body.now page → length (entries_of page) ≤ left → ⊥) }
+    ensures limit { result ≡ Err Refusal.Limit → IsBodyOver (leaf_view leaf.now) (page_header_view header.now) body.now }
     ensures which { RefusedOnly IsOfPages result }
 {
     match header.kind {
         DATA_PAGE => match &header.data_page_header {
             Some(own) => {
-                let entries = read_data_page(alloc, own, body, leaf, dictionary, left)?;
-                Ok(PageRef::Data(entries))
+                let page = read_data_page_v1(alloc, own, body, leaf, dictionary, left)?;
+                Ok(PageRef::Data(page))
             }
             None => Err(Refusal::Thrift),
         },
-        DICTIONARY_PAGE | DATA_PAGE_V2 => Err(Refusal::Limit),
+        DATA_PAGE_V2 => match &header.data_page_header_v2 {
+            Some(own) => {
+                let page = read_data_page_v2(alloc, own, body, leaf, dictionary, left)?;
+                Ok(PageRef::Data(page))
+            }
+            None => Err(Refusal::Thrift),
+        },
+        DICTIONARY_PAGE => match &header.dictionary_page_header {
+            Some(own) => {
+                let values = read_dictionary(alloc, own, leaf.leaf_type.kind, body)?;
+                Ok(PageRef::Dictionary(values))
+            }
+            None => Err(Refusal::Thrift),
+        },
         _ => Ok(PageRef::Skipped(body)),
     }
 }
