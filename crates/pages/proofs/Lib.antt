@@ -3,6 +3,7 @@ pub mod FlatEntries
 pub mod PlainValues
 pub mod Passed
 pub mod Texts
+mod FlatPages
 mod Lent
 mod HeaderSize
 mod WrittenPages
