@@ -35,8 +35,8 @@ ends_alike xs [] e h = tt
 ends_alike [] (y ∷ ys) e h = absurd (let n = ap length e in omega (arith, n))
 ends_alike (x ∷ xs) (y ∷ ys) e h = let same : x.repetition ≡ y.repetition = first (level x) (level y) (map level xs) (map level ys) e in omega (arith, same, h)
   where
-    first : (a b : ℕ × ℕ) (as bs : List (ℕ × ℕ)) → a ∷ as ≡ b ∷ bs → a.0 ≡ b.0
-    first a b as bs e = let h : a ≡ b = cc in ap (λ (p : ℕ × ℕ). p.0) h
+    first : (a b : ℕ × ℕ) (us vs : List (ℕ × ℕ)) → a ∷ us ≡ b ∷ vs → a.0 ≡ b.0
+    first a b us vs e = let h : a ≡ b = cc in ap (λ (p : ℕ × ℕ). p.0) h
 
 -- ---- what is left is what the other rows have
 
@@ -63,14 +63,14 @@ same_first fs schema row r rs rest later fit all fit_rest fronts alike =
     let from = subst (λ (t : Columns). Fronts t (columns fs (r ∷ rs)) later) (one_row fs row) fronts in
     let a : Way → List Entry = λ p. drop (length (stripe p (group row) 0 0 0)) (column (r ∷ rs) p) in
     let at : (p : Way) → IsLeafFrom fs 0 p → (t : List Entry) × ((column (r ∷ rs) p ≡ stripe p (group row) 0 0 0 ++ t) × (map level (column rest p) ≡ map level t)) = λ p l.
-        let w = leaf_is_listed_from fs 0 p l in
-        subst (λ (q : Way). (t : List Entry) × ((column (r ∷ rs) q ≡ stripe q (group row) 0 0 0 ++ t) × (map level (column rest q) ≡ map level t))) w.1.1
-        (part (own row) (λ (l : Leaf). column (r ∷ rs) l.steps) (λ (l : Leaf). column rest l.steps) (leaves_of fs) later from alike w.0 w.1.0) in
+    let w = leaf_is_listed_from fs 0 p l in
+    subst (λ (q : Way). (t : List Entry) × ((column (r ∷ rs) q ≡ stripe q (group row) 0 0 0 ++ t) × (map level (column rest q) ≡ map level t))) w.1.1
+    (part (own row) (λ (l : Leaf). column (r ∷ rs) l.steps) (λ (l : Leaf). column rest l.steps) (leaves_of fs) later from alike w.0 w.1.0) in
     let is : (p : Way) (l : IsLeafFrom fs 0 p) → a p ≡ (at p l).0 = λ p l.
-        let t = at p l in
-        ap (drop (length (stripe p (group row) 0 0 0))) t.1.0 ∙ drop-append_seam (stripe p (group row) 0 0 0) t.0 in
+    let t = at p l in
+    ap (drop (length (stripe p (group row) 0 0 0))) t.1.0 ∙ drop-append_seam (stripe p (group row) 0 0 0) t.0 in
     let same : row ≡ r = determined_each fs 0 schema.1 (group row) (group r) row r fit.0 all.0 (At-whole row) (At-whole r) 0 0 0 a (column rs)
-        (λ p l. let t = at p l in subst (Ends 0) (sym (is p l)) (ends_alike (column rest p) t.0 t.1.1 (column_ends fs rest fit_rest p l)))
-        (column_ends fs rs all.1)
-        (λ p l. let t = at p l in ap (λ (x : List Entry). stripe p (group row) 0 0 0 ++ x) (is p l) ∙ sym t.1.0) in
+    (λ p l. let t = at p l in subst (Ends 0) (sym (is p l)) (ends_alike (column rest p) t.0 t.1.1 (column_ends fs rest fit_rest p l)))
+    (column_ends fs rs all.1)
+    (λ p l. let t = at p l in ap (λ (x : List Entry). stripe p (group row) 0 0 0 ++ x) (is p l) ∙ sym t.1.0) in
     (same, others (own r) (λ (l : Leaf). column rs l.steps) (leaves_of fs) later (subst (λ (v : ValueTrees). Fronts (map (own v) (leaves_of fs)) (columns fs (r ∷ rs)) later) same from))

@@ -154,6 +154,7 @@ only_memory fs old new e refused rows s = by e (told refused) (λ fault. only_fa
     told : IsRefusedFor chunk_stands refusal_kept old new (HasFault fs) e → Tells (Unit {0}) (Unit {0}) e
     told (inl h) = absurd (h.1 (columns fs rows) s.stand)
     told (inr h) = h.1.0
+
     by : (e : Refusal) → Tells (Unit {0}) (Unit {0}) e → (IsFault e → ⊥) → e ≡ refusal.Memory
     by refusal.Memory t none = refl
     by refusal.Levels t none = absurd (none tt)

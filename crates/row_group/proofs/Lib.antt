@@ -17,3 +17,4 @@ pub mod InOrder
 pub mod ChunkReaders
 pub mod Starts
 pub mod GroupRows
+pub mod RowsTaken

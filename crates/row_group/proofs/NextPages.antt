@@ -73,8 +73,10 @@ later k d first (entries es) qs parts is e = of_known k d is refl
     of_parts : (c : Option (List ValueTree)) (parts : List (List Entry)) → d ≡ c → entries es ∷ filter is_read qs ≡ map entries parts → Later (known c) d qs
     of_parts c [] same e = cc
     of_parts c (x ∷ xs) same e = record { first = []; parts = xs; is_known = (same, refl); in_order = tails _ _ _ _ e }
+
     apart : (ws : List ValueTree) → entries es ∷ filter is_read qs ≡ dictionary ws ∷ map entries parts → ⊥
     apart ws e = cc
+
     of_known : (k : Known) (o : Option (List ValueTree)) → IsKnown k o first → o ≡ d → Later (known (dictionary_of k)) d qs
     of_known (known c) o is same = of_parts c parts (sym same ∙ is.0) (e ∙ ap (λ (t : List Page). t ++ map entries parts) is.1)
     of_known nothing None is same = of_parts None parts (sym same) (e ∙ ap (λ (t : List Page). t ++ map entries parts) is)
@@ -134,6 +136,7 @@ before unread s p used lacking qs rest h may n = by s.known p refl refl h may n.
       spelled = (used, rest, stands, n.spelled, refl);
       in_order = order;
     }
+
     by : (k : Known) (q : Page) → s.known ≡ k → p ≡ q → IsPage s.leaf (dictionary_of k) s.bytes q used → MayCome k q → IsKnown (known_after k q) n.dictionary_values n.first → AreNext s (p ∷ qs) (used + rest)
     by (known c) (dictionary vs) ek ep h may is = absurd may
     by k skipped ek ep h may is =
@@ -167,8 +170,7 @@ module _ (unread : DictionaryIsNotRead) (s : ChunkLeft) (p : Page) (used lacking
           let all_are : all ≡ entries_of p ++ all_entries qs = joined ∙ ap (λ (t : Page). entries_of t ++ all_entries qs) b.page in
           let total = length-append (entries_of p) (all_entries qs) in
           let size = ap length all_are in
-          let c = h.count in
-          (
+          let c = h.count in (
             all_entries qs,
             b.rest,
             all_are,

@@ -40,7 +40,7 @@ passes_to : DictionaryIsNotRead → (s t new : ChunkLeft) (p : Page) (used : ℕ
 passes_to unread s t new p used some here e may is =
     let known : t.known ≡ s.known = ap (λ (x : ChunkLeft). x.known) e in
     let state : new ≡ after s p used new.lacking =
-        same_state new (after s p used new.lacking) (is.leaf ∙ ap (λ (x : ChunkLeft). x.leaf) e) (is.known ∙ ap (λ (k : Known). known_after k p) known) (is.bytes ∙ ap (λ (x : ChunkLeft). x.bytes) e) refl in
+    same_state new (after s p used new.lacking) (is.leaf ∙ ap (λ (x : ChunkLeft). x.leaf) e) (is.known ∙ ap (λ (k : Known). known_after k p) known) (is.bytes ∙ ap (λ (x : ChunkLeft). x.bytes) e) refl in
     subst (λ (x : ChunkLeft). Passes s x (entries_of p)) (sym state)
     (passes_page unread s p used new.lacking some here (subst (λ (k : Known). MayCome k p) known may) (is.lacking ∙ ap (λ (x : ChunkLeft). x.lacking) e))
 

@@ -114,6 +114,7 @@ page_advanced old r page new (Ok true) f is h = (f.0, f.1, takes)
   where
     here : page_left r.page ≡ entry_taken new ∷ entries_left new
     here = ap page_left is ∙ h
+
     takes : Precede (entry_taken new ∷ []) (chunk_stands old) (chunk_stands (reader r.pages (Some new) r.fault))
     takes = (
       λ rest s. f.2.1 (entry_taken new ∷ rest) (record {
@@ -125,8 +126,7 @@ page_advanced old r page new (Ok true) f is h = (f.0, f.1, takes)
         short = s.short;
       }),
       λ es s.
-          let t = f.2.0 es s in
-          (
+          let t = f.2.0 es s in (
             entries_left new ++ t.rest,
             (
               t.joined ∙ ap (λ (x : List Entry). x ++ t.rest) here,

@@ -2,6 +2,7 @@
 
 ghost use Rattle.std.specs.Prelude.{◌≡◌, ◌≢◌, ℕ, pos, List, drop, IfOk, OnOk, Err};
 ghost use Rattle.bits.specs.Refusals.{OnFault, RefusedOnly};
+ghost use Rattle.schema.specs.Law.{IsSchema};
 ghost use Rattle.schema.specs.Stripe.{Entry, leaves_of};
 ghost use Rattle.schema.specs.Views.{leaf_view};
 ghost use Rattle.metadata.specs.Views.{column_meta_view, group_meta_view};
@@ -28,6 +29,7 @@ pub fn readers_of<'a>(
     meta: &GroupMeta,
     schema: &'a Schema,
 ) -> R<Vec<ChunkReader<'a>>>
+    ensures valid { OnOk result (IsSchema schema.now) }
     ensures stands { IfOk result (λ rs. AreReaders front.now (group_meta_view meta.now).columns (leaves_of schema.now) rs.items) }
     ensures only { OnFault result ((columns : List (List Entry)) → AreChunks front.now (group_meta_view meta.now).columns (leaves_of schema.now) columns → ⊥) }
     ensures limit { result ≡ Err Refusal.Limit → HasColumn schema.now (group_meta_view meta.now) (BeginsWith front.now IsChunkOver) }
@@ -131,4 +133,3 @@ fn from(bytes: &[u8], start: usize) -> &[u8]
     }
     bytes.split_at(start).1
 }
-

@@ -129,13 +129,7 @@ impl<'a> Rows<'a> {
 
 /// Makes the rows of a group, and drops them: there are this many, from chunks that are read to their
 /// ends. Refused Levels for another number; otherwise as [`Rows::of_group`].
-fn check_rows(
-    alloc: Global,
-    front: &[u8],
-    meta: &GroupMeta,
-    schema: &Schema,
-    count: usize,
-) -> R<()>
+fn check_rows(alloc: Global, front: &[u8], meta: &GroupMeta, schema: &Schema, count: usize) -> R<()>
     ensures stands { OnOk result (HasRows front.now schema.now (group_meta_view meta.now) count) }
     ensures only { OnFault result ((rows : List ValueTrees) → AreRowsOfGroup front.now schema.now (group_meta_view meta.now) count rows → ⊥) }
     ensures limit { result ≡ Err Refusal.Limit → HasColumn schema.now (group_meta_view meta.now) (BeginsWith front.now IsChunkOver) }
@@ -161,9 +155,9 @@ fn count_rows(alloc: Global, schema: &Schema, readers: &mut [ChunkReader<'_>]) -
     ensures refused { IfErr result (IsRefusedFor chunk_stands refusal_kept readers.old readers.new (HasFault schema.now)) }
 {
     'rows: for count in 0..usize::MAX {
-        if next_row(alloc, schema, readers)?.is_none() {
+        let Some(_) = next_row(alloc, schema, readers)? else {
             return Ok(count);
-        }
+        };
     }
     // Never reached: no group has as many rows.
     Err(Refusal::Memory)

@@ -30,7 +30,7 @@ returns-in_err-check_column-clause-only c =
     c.from_residual.result c.in_err-check_column.field-0.0 c.from_residual.ensures.1
     (λ fault columns h.
     let w = column_at c.args.front.now chunk_meta_view leaf_view chunks.items leaves i c.index.result.now c.index-leaves-place.result (omega (arith, chunks.ok.0)) (omega arith) c.index.ensures c.index-leaves-place.is columns
-        (subst (λ (t : List Leaf). AreChunks c.args.front.now (map chunk_meta_view chunks.items) t columns) (sym c.leaves-leaves.ensures.leaves_are) h) in
+    (subst (λ (t : List Leaf). AreChunks c.args.front.now (map chunk_meta_view chunks.items) t columns) (sym c.leaves-leaves.ensures.leaves_are) h) in
     c.in_err-check_column.ensures.only fault w.0 w.1)
 
 pub returns-in_err-check_column-clause-limit : goal.returns-in_err-check_column-clause-limit
@@ -77,9 +77,8 @@ returns-clause-stands c =
     let chunks = c.args.meta.now.columns in
     let leaves = c.leaves-leaves.result.now in
     let P = IsSound c.args.front.now in
-    let done = c.loop-place.invariant.0 in
-    (
+    let done = c.loop-place.invariant.0 in (
       done,
       subst (λ (t : List Leaf). EachChunk P (map chunk_meta_view chunks.items) t done) c.leaves-leaves.ensures.leaves_are
-      (at_end P chunk_meta_view leaf_view chunks.items leaves c.loop-place.place done (omega (arith, chunks.ok.0)) (omega arith) c.loop-place.invariant.1),
+          (at_end P chunk_meta_view leaf_view chunks.items leaves c.loop-place.place done (omega (arith, chunks.ok.0)) (omega arith) c.loop-place.invariant.1),
     )

@@ -30,7 +30,7 @@ returns-in_err-reader-clause-only c =
     c.from_residual-in_err-reader.result c.in_err-reader.field-0.0 c.from_residual-in_err-reader.ensures.1
     (λ fault columns h.
     let w = column_at c.args.front.now chunk_meta_view leaf_view chunks.items leaves i c.index.result.now c.index-leaves-place.result (omega (arith, chunks.ok.0)) (omega arith) c.index.ensures c.index-leaves-place.is columns
-        (subst (λ (t : List Leaf). AreChunks c.args.front.now (map chunk_meta_view chunks.items) t columns) (sym c.leaves-leaves.ensures.leaves_are) h) in
+    (subst (λ (t : List Leaf). AreChunks c.args.front.now (map chunk_meta_view chunks.items) t columns) (sym c.leaves-leaves.ensures.leaves_are) h) in
     c.in_err-reader.ensures.only fault w.0 w.1)
 
 pub returns-in_err-reader-clause-limit : goal.returns-in_err-reader-clause-limit
