@@ -1,10 +1,9 @@
-use Rattle.std.proofs.Common.{◌≡◌, ◌++◌, length}
+use Rattle.std.proofs.Common.{◌≡◌, ◌++◌, List}
+use Rattle.schema.specs.Values.{ValueTrees}
 use Rattle.schema.specs.Views.{rows_view}
-use Rattle.row_group.specs.Left.{rows_left}
+use Rattle.row_group.specs.Left.{RowsStand}
 use Rattle.row_group.proofs.rows.Rows.collected.Given as goal
 
-abbrev pub invariant-loop-rows : goal.invariant-loop-rows
-invariant-loop-rows l = rows_view l.rows.items ++ rows_left l.self ≡ rows_left l.initial.self
-
-abbrev pub decreases-loop-rows : goal.decreases-loop-rows
-decreases-loop-rows l = length (rows_left l.self)
+-- the rows so far, and those that are left, are all
+abbrev pub invariant-rows : goal.invariant-rows
+invariant-rows l = (stood : List ValueTrees) → RowsStand l.initial.self stood → (rest : List ValueTrees) × (stood ≡ rows_view l.rows.items ++ rest) × RowsStand l.self rest

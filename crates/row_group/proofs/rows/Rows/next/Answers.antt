@@ -1,33 +1,17 @@
-use Rattle.std.proofs.Common.{ℕ, ◌-◌, List, ◌∷◌, map, drop, sym, ap, ◌∙◌}
+use Rattle.std.proofs.Common.{◌≡◌, ◌-◌, ◌∙◌, List, refl, sym, subst}
 use Rattle.std.specs.Vec.{with_items}
-use Rattle.std.specs.declared.alloc.Global.{Global}
-use Rattle.std.specs.declared.vec.IntoIter.{IntoIter}
 use Rattle.std.proofs.lemmas.List.{with_items_is}
-use Rattle.schema.specs.declared.row.Entry.{Entry as CodeEntry}
-use Rattle.schema.specs.Values.{ValueTrees, trees_of}
-use Rattle.row_group.specs.Moving.{columns_left, first_value, rows_of}
-use Rattle.row_group.proofs.RowsOf.{IsLater, no_rows_of, is_later}
+use Rattle.assemble.specs.RowsOf.{StandForRows}
+use Rattle.row_group.specs.declared.chunk_reader.ChunkReader.{ChunkReader}
+use Rattle.row_group.specs.Left.{chunk_stands}
+use Rattle.row_group.proofs.GroupRows.{only_memory}
+use Rattle.row_group.proofs.RowsTaken.{takes}
 use Rattle.row_group.proofs.rows.Rows.next.Goals as goal
-use Rattle.row_group.proofs.rows.Rows.next.Goals.{In_ok-row}
 
-pub returns-then-self-eq0-clause-ends : goal.returns-then-self-eq0-clause-ends
-returns-then-self-eq0-clause-ends c = λ _.
-    let left = columns_left c.args.self.now.columns.items in
-    ap (λ (n : ℕ). rows_of n left) c.if-self-eq0.true ∙ no_rows_of left
+pub returns-in-Ok-clause-takes : goal.returns-in-Ok-clause-takes
+returns-in-Ok-clause-takes c =
+    takes c.one_page.ensures.page c.one_page.ensures.chunk c.columns_determine_rows.ensures c.args.self.now (record { alloc = c.args.self.now.alloc; schema = c.args.self.now.schema; readers = with_items c.args.self.now.readers c.next_row.new.sources; left = c.args.self.now.left - 1; is_broken = c.args.self.now.is_broken }) c.as_mut_slice.result.now c.next_row.new.sources c.in-Ok.row c.if-self-eq0.false c.as_mut_slice.ensures.value
+    (record { schema = refl; readers = with_items_is c.args.self.now.readers c.next_row.new.sources (c.next_row.auto.sources ∙ c.as_mut_slice.ensures.len); left = refl; whole = refl }) c.in-Ok.ensures.row
 
-later : (c : In_ok-row) → IsLater c.args.self.now.left (columns_left c.args.self.now.columns.items) (columns_left (with_items c.args.self.now.columns c.next_row.new.columns).items)
-later c =
-    let lent = c.as_mut_slice.ensures.value in
-    let kept = with_items_is c.args.self.now.columns c.next_row.new.columns (c.next_row.auto.columns ∙ c.as_mut_slice.ensures.len) in
-    is_later _ _ _ c.if-self-eq0.false c.args.self.now.even
-    (ap columns_left kept ∙ c.in_ok-row.ensures.rest ∙ ap (λ (t : List (IntoIter CodeEntry Global)). map (drop 1) (columns_left t)) lent)
-
-pub invariant_of-self-2 : goal.invariant_of-self-2
-invariant_of-self-2 c = record { even = (later (goal.at.invariant_of-self-2 c).In_ok-row).counts }
-
-pub returns-clause-takes : goal.returns-clause-takes
-returns-clause-takes c =
-    let rest = rows_of (c.args.self.now.left - 1) (columns_left (with_items c.args.self.now.columns c.next_row.new.columns).items) in
-    let lent = c.as_mut_slice.ensures.value in
-    (later (goal.at.returns-clause-takes c).In_ok-row).rows
-    ∙ ap (λ (t : ValueTrees). t ∷ rest) (ap (λ (t : List (IntoIter CodeEntry Global)). trees_of (map first_value (columns_left t))) (sym lent) ∙ sym c.in_ok-row.ensures.values)
+pub returns-in-Err-clause-takes : goal.returns-in-Err-clause-takes
+returns-in-Err-clause-takes c = λ rows s. only_memory c.args.self.now.schema.now c.as_mut_slice.result.now c.next_row.new.sources c.in-Err.refusal c.in-Err.ensures.row rows (subst (λ (rs : List ChunkReader). StandForRows chunk_stands rs c.args.self.now.schema.now rows) (sym c.as_mut_slice.ensures.value) s.columns)
