@@ -3,9 +3,12 @@ pub mod FlatEntries
 pub mod PlainValues
 pub mod Passed
 pub mod Texts
-mod Lent
-mod HeaderSize
-mod WrittenPages
+pub mod WrittenEntries
+pub mod WrittenHeaders
+pub mod WrittenLevels
+pub mod WrittenValues
+pub mod WrittenParts
+pub mod WrittenPages
 pub mod OneList
 pub mod OneBody
 pub mod OneChunk

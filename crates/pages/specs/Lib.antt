@@ -8,5 +8,7 @@ pub mod Flat
 pub mod Apart
 pub mod Greatest
 pub mod Writing
+pub mod WrittenValues
 pub mod Headers
+pub mod inner
 pub mod Worked

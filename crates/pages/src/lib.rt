@@ -9,18 +9,24 @@
 
 mod data_page;
 mod encoding;
-mod entry;
+mod header_writing;
 mod laws;
+mod level_writing;
 mod limits;
 mod page;
 mod page_reading;
+mod page_version;
 mod page_writing;
+mod parts_writing;
+mod section_writing;
+mod value_writing;
+mod written_entries;
 
 pub use data_page::DataPage;
 pub use encoding::Encoding;
-pub use entry::EntryRef;
 pub use laws::{one_page, pages_of_a_dictionary, worked_examples};
 pub use limits::MOST_BYTES_OF_PAGE;
 pub use page::PageRef;
 pub use page_reading::read_page;
+pub use page_version::PageVersion;
 pub use page_writing::write_page;
