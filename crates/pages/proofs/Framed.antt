@@ -1,6 +1,6 @@
 -- The frame of a page, its header and where its body lies, is one, whatever dictionary the chunk has.
 use Rattle.std.proofs.Common.{◌≡◌, ℕ, ◌≤◌, List, [], ◌++◌, length, take, drop, Option, sym, ap, subst, ◌∙◌, arith, inl, inr}
-use Rattle.std.specs.Prelude.{ℤ, pos, ◌⊎◌}
+use Rattle.std.specs.Prelude.{ℤ, pos}
 use Rattle.std.proofs.Math.Seq.{take-append_seam}
 use Rattle.bits.specs.Codec.{IsFunctional, NothingStands}
 use Rattle.thrift_compact.specs.Tree.{Fields, no_fields, field}
@@ -12,7 +12,7 @@ use Rattle.metadata.specs.Records.{PageHeader}
 use Rattle.metadata.specs.Answers.{StandsFor}
 use Rattle.pages.specs.Page.{Page, skipped, dictionary, entries, IsFramed, IsBody, IsPage}
 use Rattle.pages.specs.Chunk.{entries_of}
-use Rattle.pages.specs.Limits.{IsBodyOver, IsBodyToCome, IsPageOver, IsPageToCome}
+use Rattle.pages.specs.Limits.{IsBodyOver, IsPageOver}
 use Rattle.pages.specs.Apart.{HasNoEntries, DictionaryIsNotRead, EntriesStandAlone, NoPageOfNoBytes}
 
 -- two frames of some bytes are the same
@@ -113,7 +113,5 @@ framed_short leaf bytes h body used one framed short p =
     let same = one_frame bytes p.header h p.body body p.used used one p.framed framed in
     short (subst (λ (k : PageHeader). IsBodyOver leaf k body) same.header (subst (λ (t : List ℕ). IsBodyOver leaf p.header t) same.inside p.over))
 
-pub framed_limit : (leaf : Leaf) (d : Option (List ValueTree)) (bytes : List ℕ) (h : PageHeader) (body : List ℕ) (used : ℕ) → IsFramed bytes h body used
-    → IsBodyOver leaf h body ⊎ IsBodyToCome leaf d h body → IsPageOver leaf bytes ⊎ IsPageToCome leaf d bytes
-framed_limit leaf d bytes h body used framed (inl p) = inl (record { header = h; body = body; used = used; framed = framed; over = p })
-framed_limit leaf d bytes h body used framed (inr p) = inr (record { header = h; body = body; used = used; framed = framed; why = p })
+pub framed_limit : (leaf : Leaf) (bytes : List ℕ) (h : PageHeader) (body : List ℕ) (used : ℕ) → IsFramed bytes h body used → IsBodyOver leaf h body → IsPageOver leaf bytes
+framed_limit leaf bytes h body used framed p = record { header = h; body = body; used = used; framed = framed; over = p }

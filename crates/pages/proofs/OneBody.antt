@@ -1,15 +1,14 @@
 -- What the body of a page stands for, where its header is known, is one page.
-use Rattle.std.proofs.Common.{◌≡◌, ℕ, ◌<◌, ◌≤◌, List, [], ◌∷◌, map, length, drop, Option, Some, None, refl, sym, ap, subst, ◌∙◌, arith, inl, inr}
-use Rattle.std.specs.Prelude.{pos, IsTrue, MatchOption}
+use Rattle.std.proofs.Common.{◌≡◌, ℕ, ◌<◌, List, [], ◌∷◌, length, Option, Some, None, refl, sym, ap, subst, ◌∙◌, arith, inl, inr}
+use Rattle.std.specs.Prelude.{IsTrue, MatchOption}
 use Rattle.std.specs.List.{AllByRecursion}
-use Rattle.std.proofs.lemmas.List.{length-map}
 use Rattle.bits.specs.Codec.{IsFunctional}
 use Rattle.schema.specs.declared.value.Kind.{Kind}
 use Rattle.schema.specs.Annotations.{LeafType}
 use Rattle.schema.specs.Fits.{fits_leaf}
 use Rattle.schema.specs.Values.{ValueTree}
 use Rattle.schema.specs.Stripe.{Leaf, Entry}
-use Rattle.schema.specs.Law.{IsEntry, IsEntryOf}
+use Rattle.schema.specs.Law.{IsEntryOf}
 use Rattle.metadata.specs.Records.{PageHeader, DataPageHeader, DataPageHeaderV2, DictionaryPageHeader}
 use Rattle.metadata.specs.FromTree.{page_header}
 use Rattle.metadata.specs.Answers.{StandsFor}
@@ -17,7 +16,7 @@ use Rattle.plain.specs.Plain.{IsPlain}
 use Rattle.pages.specs.declared.encoding.Encoding.{Encoding}
 use Rattle.pages.specs.Encodings.{encoding_of, AreValues}
 use Rattle.pages.specs.Page.{Page, skipped, dictionary, entries, repetitions, definitions, values, Spell, IsSectionV1, IsSectionV2, AreLevelsV1, AreLevelsV2, IsBodyV1, IsBodyV2, IsDictionaryBody, IsBody, IsPage}
-use Rattle.pages.proofs.OneList.{PlainsAreOne, HybridsAreOne, one_spelled, one_section_v1, one_section_v2}
+use Rattle.pages.proofs.OneList.{PlainsAreOne, HybridsAreOne, ListsAreOne, one_spelled, one_section_v1, one_section_v2}
 use Rattle.pages.proofs.Framed.{of_frame}
 
 -- ---- entries
@@ -74,10 +73,10 @@ same_entries leaf (x ∷ es) (f ∷ fs) p q rs ds vs =
         let v_is = first_value v w (values es) (values fs) vs in
         joined r s c d (Some v) (Some w) er ed (ap (λ (t : ValueTree). Some t) v_is.0) (rest v_is.1)
 
-one_entries : PlainsAreOne → HybridsAreOne → (leaf : Leaf) (d : Option (List ValueTree)) (e : Option Encoding) (text : List ℕ) (es fs : List Entry) → AllByRecursion (IsEntryOf leaf) es → AllByRecursion (IsEntryOf leaf) fs
+one_entries : ListsAreOne → (leaf : Leaf) (d : Option (List ValueTree)) (e : Option Encoding) (text : List ℕ) (es fs : List Entry) → AllByRecursion (IsEntryOf leaf) es → AllByRecursion (IsEntryOf leaf) fs
     → repetitions es ≡ repetitions fs → definitions es ≡ definitions fs → Spell (AreValues d leaf.leaf_type.kind e) text (values es) → Spell (AreValues d leaf.leaf_type.kind e) text (values fs) → es ≡ fs
-one_entries plain law leaf d e text es fs p q rs ds a b =
-    same_entries leaf es fs p q rs ds (one_spelled plain law d leaf.leaf_type.kind e text (values es) (values fs) (same_count leaf es fs p q ds) a b)
+one_entries laws leaf d e text es fs p q rs ds a b =
+    same_entries leaf es fs p q rs ds (one_spelled laws d leaf.leaf_type.kind e text (values es) (values fs) (same_count leaf es fs p q ds) a b)
 
 -- ---- bodies
 
@@ -105,15 +104,15 @@ one_text_v2 law leaf h body rs us ds cs text behind p q =
     (subst (λ (t : List ℕ). IsSectionV2 leaf.greatest_definition h.definition_levels_byte_length t ds text) first.1 p.second) q.second in
     (first.0, second.0, second.1)
 
-one_body_v1 : PlainsAreOne → HybridsAreOne → (leaf : Leaf) (d : Option (List ValueTree)) (h : DataPageHeader) (body : List ℕ) (es fs : List Entry) → IsBodyV1 leaf d h body es → IsBodyV1 leaf d h body fs → es ≡ fs
-one_body_v1 plain law leaf d h body es fs p q =
-    let same = one_text_v1 law leaf h body (repetitions es) (repetitions fs) (definitions es) (definitions fs) p.text q.text p.levels q.levels in
-    one_entries plain law leaf d (encoding_of h.encoding) q.text es fs p.each q.each same.0 same.1 (subst (λ (t : List ℕ). Spell (AreValues d leaf.leaf_type.kind (encoding_of h.encoding)) t (values es)) same.2 p.spelled) q.spelled
+one_body_v1 : ListsAreOne → (leaf : Leaf) (d : Option (List ValueTree)) (h : DataPageHeader) (body : List ℕ) (es fs : List Entry) → IsBodyV1 leaf d h body es → IsBodyV1 leaf d h body fs → es ≡ fs
+one_body_v1 laws leaf d h body es fs p q =
+    let same = one_text_v1 laws.hybrid leaf h body (repetitions es) (repetitions fs) (definitions es) (definitions fs) p.text q.text p.levels q.levels in
+    one_entries laws leaf d (encoding_of h.encoding) q.text es fs p.each q.each same.0 same.1 (subst (λ (t : List ℕ). Spell (AreValues d leaf.leaf_type.kind (encoding_of h.encoding)) t (values es)) same.2 p.spelled) q.spelled
 
-one_body_v2 : PlainsAreOne → HybridsAreOne → (leaf : Leaf) (d : Option (List ValueTree)) (h : DataPageHeaderV2) (body : List ℕ) (es fs : List Entry) → IsBodyV2 leaf d h body es → IsBodyV2 leaf d h body fs → es ≡ fs
-one_body_v2 plain law leaf d h body es fs p q =
-    let same = one_text_v2 law leaf h body (repetitions es) (repetitions fs) (definitions es) (definitions fs) p.text q.text p.levels q.levels in
-    one_entries plain law leaf d (encoding_of h.encoding) q.text es fs p.each q.each same.0 same.1 (subst (λ (t : List ℕ). Spell (AreValues d leaf.leaf_type.kind (encoding_of h.encoding)) t (values es)) same.2 p.spelled) q.spelled
+one_body_v2 : ListsAreOne → (leaf : Leaf) (d : Option (List ValueTree)) (h : DataPageHeaderV2) (body : List ℕ) (es fs : List Entry) → IsBodyV2 leaf d h body es → IsBodyV2 leaf d h body fs → es ≡ fs
+one_body_v2 laws leaf d h body es fs p q =
+    let same = one_text_v2 laws.hybrid leaf h body (repetitions es) (repetitions fs) (definitions es) (definitions fs) p.text q.text p.levels q.levels in
+    one_entries laws leaf d (encoding_of h.encoding) q.text es fs p.each q.each same.0 same.1 (subst (λ (t : List ℕ). Spell (AreValues d leaf.leaf_type.kind (encoding_of h.encoding)) t (values es)) same.2 p.spelled) q.spelled
 
 one_dictionary : PlainsAreOne → (kind : Kind) (h : DictionaryPageHeader) (body : List ℕ) (vs ws : List ValueTree) → IsDictionaryBody kind h body vs → IsDictionaryBody kind h body ws → vs ≡ ws
 one_dictionary plain kind h body vs ws p q =
@@ -122,39 +121,39 @@ one_dictionary plain kind h body vs ws p q =
     let size : length vs ≡ length ws = cc in
     (plain kind (length ws) body vs ws p.spelled.0 q.spelled.0 (subst (λ (n : ℕ). IsPlain kind n body vs p.spelled.0) size p.spelled.1) q.spelled.1).0
 
-one_body : PlainsAreOne → HybridsAreOne → (leaf : Leaf) (d : Option (List ValueTree)) (h : PageHeader) (body : List ℕ) (p q : Page) → IsBody leaf d h body p → IsBody leaf d h body q → p ≡ q
-one_body plain law leaf d h body skipped skipped a b = refl
-one_body plain law leaf d h body skipped (dictionary ws) a b = absurd (a.1 b.1)
-one_body plain law leaf d h body skipped (entries fs) a (inl b) = absurd (a.0 b.1)
-one_body plain law leaf d h body skipped (entries fs) a (inr b) = absurd (a.2 b.1)
-one_body plain law leaf d h body (dictionary vs) skipped a b = absurd (b.1 a.1)
-one_body plain law leaf d h body (dictionary vs) (dictionary ws) a b =
+one_body : ListsAreOne → (leaf : Leaf) (d : Option (List ValueTree)) (h : PageHeader) (body : List ℕ) (p q : Page) → IsBody leaf d h body p → IsBody leaf d h body q → p ≡ q
+one_body laws leaf d h body skipped skipped a b = refl
+one_body laws leaf d h body skipped (dictionary ws) a b = absurd (a.1 b.1)
+one_body laws leaf d h body skipped (entries fs) a (inl b) = absurd (a.0 b.1)
+one_body laws leaf d h body skipped (entries fs) a (inr b) = absurd (a.2 b.1)
+one_body laws leaf d h body (dictionary vs) skipped a b = absurd (b.1 a.1)
+one_body laws leaf d h body (dictionary vs) (dictionary ws) a b =
     let x = a.2 in
     let y = b.2 in
     let same : a.0 ≡ b.0 = cc in
-    ap (λ (t : List ValueTree). dictionary t) (one_dictionary plain leaf.leaf_type.kind b.0 body vs ws (subst (λ (o : DictionaryPageHeader). IsDictionaryBody leaf.leaf_type.kind o body vs) same a.3) b.3)
-one_body plain law leaf d h body (dictionary vs) (entries fs) a (inl b) = let x = a.1 in let y = b.1 in cc
-one_body plain law leaf d h body (dictionary vs) (entries fs) a (inr b) = let x = a.1 in let y = b.1 in cc
-one_body plain law leaf d h body (entries es) skipped (inl a) b = absurd (b.0 a.1)
-one_body plain law leaf d h body (entries es) skipped (inr a) b = absurd (b.2 a.1)
-one_body plain law leaf d h body (entries es) (dictionary ws) (inl a) b = let x = a.1 in let y = b.1 in cc
-one_body plain law leaf d h body (entries es) (dictionary ws) (inr a) b = let x = a.1 in let y = b.1 in cc
-one_body plain law leaf d h body (entries es) (entries fs) (inl a) (inl b) =
+    ap (λ (t : List ValueTree). dictionary t) (one_dictionary laws.plain leaf.leaf_type.kind b.0 body vs ws (subst (λ (o : DictionaryPageHeader). IsDictionaryBody leaf.leaf_type.kind o body vs) same a.3) b.3)
+one_body laws leaf d h body (dictionary vs) (entries fs) a (inl b) = let x = a.1 in let y = b.1 in cc
+one_body laws leaf d h body (dictionary vs) (entries fs) a (inr b) = let x = a.1 in let y = b.1 in cc
+one_body laws leaf d h body (entries es) skipped (inl a) b = absurd (b.0 a.1)
+one_body laws leaf d h body (entries es) skipped (inr a) b = absurd (b.2 a.1)
+one_body laws leaf d h body (entries es) (dictionary ws) (inl a) b = let x = a.1 in let y = b.1 in cc
+one_body laws leaf d h body (entries es) (dictionary ws) (inr a) b = let x = a.1 in let y = b.1 in cc
+one_body laws leaf d h body (entries es) (entries fs) (inl a) (inl b) =
     let x = a.2 in
     let y = b.2 in
     let same : a.0 ≡ b.0 = cc in
-    ap (λ (t : List Entry). entries t) (one_body_v1 plain law leaf d b.0 body es fs (subst (λ (o : DataPageHeader). IsBodyV1 leaf d o body es) same a.3) b.3)
-one_body plain law leaf d h body (entries es) (entries fs) (inl a) (inr b) = let x = a.1 in let y = b.1 in cc
-one_body plain law leaf d h body (entries es) (entries fs) (inr a) (inl b) = let x = a.1 in let y = b.1 in cc
-one_body plain law leaf d h body (entries es) (entries fs) (inr a) (inr b) =
+    ap (λ (t : List Entry). entries t) (one_body_v1 laws leaf d b.0 body es fs (subst (λ (o : DataPageHeader). IsBodyV1 leaf d o body es) same a.3) b.3)
+one_body laws leaf d h body (entries es) (entries fs) (inl a) (inr b) = let x = a.1 in let y = b.1 in cc
+one_body laws leaf d h body (entries es) (entries fs) (inr a) (inl b) = let x = a.1 in let y = b.1 in cc
+one_body laws leaf d h body (entries es) (entries fs) (inr a) (inr b) =
     let x = a.2 in
     let y = b.2 in
     let same : a.0 ≡ b.0 = cc in
-    ap (λ (t : List Entry). entries t) (one_body_v2 plain law leaf d b.0 body es fs (subst (λ (o : DataPageHeaderV2). IsBodyV2 leaf d o body es) same a.3) b.3)
+    ap (λ (t : List Entry). entries t) (one_body_v2 laws leaf d b.0 body es fs (subst (λ (o : DataPageHeaderV2). IsBodyV2 leaf d o body es) same a.3) b.3)
 
 -- ---- the page
 
-pub one_page : PlainsAreOne → HybridsAreOne → IsFunctional (StandsFor page_header) → (leaf : Leaf) (d : Option (List ValueTree)) → IsFunctional (IsPage leaf d)
-one_page plain law one leaf d bytes p q used taken a b =
+pub one_page : ListsAreOne → IsFunctional (StandsFor page_header) → (leaf : Leaf) (d : Option (List ValueTree)) → IsFunctional (IsPage leaf d)
+one_page laws one leaf d bytes p q used taken a b =
     let frame = of_frame leaf d bytes a.header a.body used q taken one a.framed b in
-    (one_body plain law leaf d a.header a.body p q a.stands_for frame.0, sym frame.1)
+    (one_body laws leaf d a.header a.body p q a.stands_for frame.0, sym frame.1)

@@ -1,7 +1,7 @@
 -- The values in a text, and the levels in a section, are one list of so many.
-use Rattle.std.proofs.Common.{◌≡◌, ℕ, zero, suc, ◌+◌, ◌*◌, ◌^◌, ◌<◌, ◌≤◌, Bool, true, false, List, [], ◌∷◌, ◌++◌, map, length, get_or, take, drop, Option, Some, None, refl, sym, ap, subst, ◌∙◌, arith, append_assoc, inl, inr}
-use Rattle.std.specs.Prelude.{ℤ, pos, slice_get}
-use Rattle.std.specs.Int.{from_bool}
+use Rattle.std.proofs.Common.{◌≡◌, ℕ, zero, suc, ◌*◌, ◌^◌, ◌<◌, ◌≤◌, Bool, true, false, List, [], ◌∷◌, ◌++◌, map, length, get_or, take, drop, Option, Some, refl, sym, ap, subst, ◌∙◌, arith, append_assoc, inl, inr}
+use Rattle.std.specs.Prelude.{ℤ}
+use Rattle.std.specs.Int.{Width, w32, w64, from_bool}
 use Rattle.std.specs.List.{AllByRecursion}
 use Rattle.std.proofs.lemmas.List.{length-map, take_at, drop_at}
 use Rattle.std.proofs.lemmas.Bool.{cases_lt}
@@ -11,14 +11,17 @@ use Rattle.byteorder.specs.Endian.{little_bytes, little_number}
 use Rattle.byteorder.specs.Numbers.{little_number-reads_back}
 use Rattle.bits.specs.Codec.{IsFunctional}
 use Rattle.hybrid_rle.specs.Hybrid.{IsHybrid}
+use Rattle.delta.specs.Delta.{IsDelta}
+use Rattle.delta.specs.ByteDeltas.{IsByteLengths, IsPrefixed as IsSharedPrefixes, StandForBytes}
+use Rattle.dictionary.specs.IndexPages.{AreIndexed}
 use Rattle.schema.specs.declared.value.Kind.{Kind}
-use Rattle.schema.specs.declared.value.Kind.TheVariants.{Boolean}
-use Rattle.schema.specs.Values.{ValueTree, boolean}
+use Rattle.schema.specs.declared.value.Kind.TheVariants.{Boolean, Int32, Int64, ByteArray, FixedLenByteArray}
+use Rattle.schema.specs.Values.{ValueTree, boolean, integer, bytes as byte_value}
 use Rattle.plain.specs.Plain.{IsPlain}
 use Rattle.pages.specs.declared.encoding.Encoding.{Encoding}
-use Rattle.pages.specs.declared.encoding.Encoding.TheVariants.{Plain, PlainDictionary, Rle, RleDictionary}
-use Rattle.pages.specs.Encodings.{IsPrefixed, ArePlain, AreRleBooleans, AreIndexesOf, AreIndexed, AreValues}
-use Rattle.pages.specs.Page.{AreLevels, AreZero, AreLevelsOrZero, IsSectionV1, IsSectionV2, Spell}
+use Rattle.pages.specs.declared.encoding.Encoding.TheVariants.{Plain, PlainDictionary, Rle, DeltaBinaryPacked, DeltaLengthByteArray, DeltaByteArray, RleDictionary}
+use Rattle.pages.specs.Encodings.{IsPrefixed, AreRleBooleans, AreOfDictionary, AreDeltas, AreValues}
+use Rattle.pages.specs.Page.{AreLevels, AreLevelsOrZero, IsSectionV1, IsSectionV2, Spell}
 
 -- at most one list of so many PLAIN values, and of so many numbers by the hybrid
 abbrev pub PlainsAreOne : Type 0
@@ -26,6 +29,22 @@ PlainsAreOne = (kind : Kind) (n : ℕ) → IsFunctional (IsPlain kind n)
 
 abbrev pub HybridsAreOne : Type 0
 HybridsAreOne = (width n : ℕ) → IsFunctional (λ bytes. IsHybrid width bytes n)
+
+-- and of so many values of a dictionary, and of so many numbers as deltas
+abbrev pub IndexedAreOne : Type 0
+IndexedAreOne = (entries : List ValueTree) (n : ℕ) → IsFunctional (λ bytes. AreIndexed entries bytes n)
+
+abbrev pub DeltasAreOne : Type 0
+DeltasAreOne = (w : Width) (n : ℕ) → IsFunctional (λ bytes. IsDelta w bytes n)
+
+-- what the crates of the encodings prove
+pub record ListsAreOne : Type 0 where
+  pub plain : PlainsAreOne
+  pub hybrid : HybridsAreOne
+  pub indexed : IndexedAreOne
+  pub deltas : DeltasAreOne
+  pub lengths : (n : ℕ) → IsFunctional (λ bytes. IsByteLengths bytes n)
+  pub prefixes : (n : ℕ) → IsFunctional (λ bytes. IsSharedPrefixes bytes n)
 
 -- ---- lists
 
@@ -63,12 +82,6 @@ bits_one (false ∷ xs) (false ∷ ys) e = ap (λ (t : List Bool). false ∷ t) 
 bits_one (true ∷ xs) (false ∷ ys) e = absurd (let h = ap (λ (t : List ℕ). get_or t 0 0) e in omega (arith, h))
 bits_one (false ∷ xs) (true ∷ ys) e = absurd (let h = ap (λ (t : List ℕ). get_or t 0 0) e in omega (arith, h))
 
-somes_one : {A : Type 0} (xs ys : List A) → map (λ x. Some x) xs ≡ map (λ y. Some y) ys → xs ≡ ys
-somes_one [] [] e = refl
-somes_one [] (y ∷ ys) e = cc
-somes_one (x ∷ xs) [] e = cc
-somes_one (x ∷ xs) (y ∷ ys) e = let rest = somes_one xs ys (ap (drop 1) e) in cc
-
 -- ---- values
 
 -- the same list by the hybrid, where both have so many
@@ -83,37 +96,44 @@ one_booleans law text vs ws size p q =
     (subst (λ (t : List ℕ). IsHybrid 1 t (length p.bools) (map from_bool p.bools) p.used) inside p.packed) q.packed) in
     p.are ∙ ap (λ (bs : List Bool). map boolean bs) same ∙ sym q.are
 
-one_indexes : HybridsAreOne → (width : ℕ) (text xs ys : List ℕ) → length xs ≡ length ys → AreIndexesOf width text xs → AreIndexesOf width text ys → xs ≡ ys
-one_indexes law zero text xs ys size p q = all_zero xs ys size p q
-one_indexes law (suc w) text xs ys size p q = one_hybrid law (suc w) text xs ys (length xs) (length ys) p.0 q.0 size p.1 q.1
+-- where both have as many, a relation of n values has one list
+one_of_so_many : {Y : Type 0} (Stands : ℕ → List ℕ → List Y → ℕ → Type 0) (m n : ℕ) (text : List ℕ) (xs ys : List Y) (u v : ℕ) → IsFunctional (Stands n) → m ≡ n → Stands m text xs u → Stands n text ys v → xs ≡ ys
+one_of_so_many Stands m n text xs ys u v law same p q = (law text xs ys u v (subst (λ (k : ℕ). Stands k text xs u) same p) q).0
 
-first_is : (a b : ℕ) (xs ys : List ℕ) → a ∷ xs ≡ b ∷ ys → (a ≡ b) × (xs ≡ ys)
-first_is a b xs ys e = (cc, cc)
+one_indexed : IndexedAreOne → (entries : List ValueTree) (text : List ℕ) (vs ws : List ValueTree) → length vs ≡ length ws → AreOfDictionary entries text vs → AreOfDictionary entries text ws → vs ≡ ws
+one_indexed law entries text vs ws size p q = one_of_so_many (λ n bytes. AreIndexed entries bytes n) (length vs) (length ws) text vs ws p.0 q.0 (law entries (length ws)) size p.1 q.1
 
-one_indexed : HybridsAreOne → (d : List ValueTree) (text : List ℕ) (vs ws : List ValueTree) → length vs ≡ length ws → AreIndexed d text vs → AreIndexed d text ws → vs ≡ ws
-one_indexed law d text vs ws size p q =
-    let same = first_is p.width q.width p.rest q.rest (sym p.begins ∙ q.begins) in
-    let many : length p.indexes ≡ length vs = sym (length-map p.indexes (slice_get d)) ∙ ap length p.entries ∙ length-map vs (λ v. Some v) in
-    let more : length q.indexes ≡ length ws = sym (length-map q.indexes (slice_get d)) ∙ ap length q.entries ∙ length-map ws (λ v. Some v) in
-    let are : AreIndexesOf q.width q.rest p.indexes = subst (λ (t : List ℕ). AreIndexesOf q.width t p.indexes) same.1 (subst (λ (w : ℕ). AreIndexesOf w p.rest p.indexes) same.0 p.are) in
-    let indexes = one_indexes law q.width q.rest p.indexes q.indexes (many ∙ size ∙ sym more) are q.are in
-    somes_one vs ws (sym p.entries ∙ ap (λ (t : List ℕ). map (slice_get d) t) indexes ∙ q.entries)
+one_numbers : DeltasAreOne → (w : Width) (text : List ℕ) (vs ws : List ValueTree) → length vs ≡ length ws → AreDeltas w text vs → AreDeltas w text ws → vs ≡ ws
+one_numbers law w text vs ws size p q =
+    let count : length p.0 ≡ length q.0 = sym (length-map p.0 integer) ∙ sym (ap length p.2) ∙ size ∙ ap length q.2 ∙ length-map q.0 integer in
+    let same = one_of_so_many (λ n bytes. IsDelta w bytes n) (length p.0) (length q.0) text p.0 q.0 p.1 q.1 (law w (length q.0)) count p.3 q.3 in
+    p.2 ∙ ap (λ (zs : List ℤ). map integer zs) same ∙ sym q.2
 
-one_values : PlainsAreOne → HybridsAreOne → (d : Option (List ValueTree)) (kind : Kind) (e : Option Encoding) (text : List ℕ) (vs ws : List ValueTree) → length vs ≡ length ws → AreValues d kind e text vs → AreValues d kind e text ws → vs ≡ ws
-one_values plain law d kind (Some Plain) text vs ws size p q = (plain kind (length ws) text vs ws p.0 q.0 (subst (λ (n : ℕ). IsPlain kind n text vs p.0) size p.1) q.1).0
-one_values plain law d Boolean (Some Rle) text vs ws size p q = one_booleans law text vs ws size p q
-one_values plain law (Some es) kind (Some PlainDictionary) text vs ws size p q = one_indexed law es text vs ws size p q
-one_values plain law (Some es) kind (Some RleDictionary) text vs ws size p q = one_indexed law es text vs ws size p q
-one_values plain law d kind e text vs ws size p q = absurd p
+one_byte_values : (Stands : ℕ → List ℕ → List (List ℕ) → ℕ → Type 0) → ((n : ℕ) → IsFunctional (Stands n)) → (text : List ℕ) (vs ws : List ValueTree) (u v : ℕ) → length vs ≡ length ws
+    → StandForBytes (Stands (length vs) text) vs u → StandForBytes (Stands (length ws) text) ws v → vs ≡ ws
+one_byte_values Stands law text vs ws u v size p q =
+    p.are ∙ ap (λ (ts : List (List ℕ)). map byte_value ts) (one_of_so_many Stands (length vs) (length ws) text p.texts q.texts u v (law (length ws)) size p.stand q.stand) ∙ sym q.are
+
+one_values : ListsAreOne → (d : Option (List ValueTree)) (kind : Kind) (e : Option Encoding) (text : List ℕ) (vs ws : List ValueTree) → length vs ≡ length ws → AreValues d kind e text vs → AreValues d kind e text ws → vs ≡ ws
+one_values laws d kind (Some Plain) text vs ws size p q = one_of_so_many (λ n bytes. IsPlain kind n bytes) (length vs) (length ws) text vs ws p.0 q.0 (laws.plain kind (length ws)) size p.1 q.1
+one_values laws d Boolean (Some Rle) text vs ws size p q = one_booleans laws.hybrid text vs ws size p q
+one_values laws (Some es) kind (Some PlainDictionary) text vs ws size p q = one_indexed laws.indexed es text vs ws size p q
+one_values laws (Some es) kind (Some RleDictionary) text vs ws size p q = one_indexed laws.indexed es text vs ws size p q
+one_values laws d Int32 (Some DeltaBinaryPacked) text vs ws size p q = one_numbers laws.deltas w32 text vs ws size p q
+one_values laws d Int64 (Some DeltaBinaryPacked) text vs ws size p q = one_numbers laws.deltas w64 text vs ws size p q
+one_values laws d ByteArray (Some DeltaLengthByteArray) text vs ws size p q = one_byte_values (λ n bytes. IsByteLengths bytes n) laws.lengths text vs ws p.0 q.0 size p.1 q.1
+one_values laws d ByteArray (Some DeltaByteArray) text vs ws size p q = one_byte_values (λ n bytes. IsSharedPrefixes bytes n) laws.prefixes text vs ws p.0 q.0 size p.1 q.1
+one_values laws d (FixedLenByteArray k) (Some DeltaByteArray) text vs ws size p q = one_byte_values (λ n bytes. IsSharedPrefixes bytes n) laws.prefixes text vs ws p.0 q.0 size p.1 q.1
+one_values laws d kind e text vs ws size p q = absurd p
 
 none_left : (vs ws : List ValueTree) → length vs ≡ length ws → vs ≡ [] → vs ≡ ws
 none_left vs [] size none = none
 none_left vs (w ∷ ws) size none = absurd (omega (arith, size, ap length none))
 
-pub one_spelled : PlainsAreOne → HybridsAreOne → (d : Option (List ValueTree)) (kind : Kind) (e : Option Encoding) (text : List ℕ) (vs ws : List ValueTree) → length vs ≡ length ws → Spell (AreValues d kind e) text vs → Spell (AreValues d kind e) text ws → vs ≡ ws
-one_spelled plain law d kind e text vs ws size (inl none) q = none_left vs ws size none
-one_spelled plain law d kind e text vs ws size (inr p) (inl none) = sym (none_left ws vs (sym size) none)
-one_spelled plain law d kind e text vs ws size (inr p) (inr q) = one_values plain law d kind e text vs ws size p q
+pub one_spelled : ListsAreOne → (d : Option (List ValueTree)) (kind : Kind) (e : Option Encoding) (text : List ℕ) (vs ws : List ValueTree) → length vs ≡ length ws → Spell (AreValues d kind e) text vs → Spell (AreValues d kind e) text ws → vs ≡ ws
+one_spelled laws d kind e text vs ws size (inl none) q = none_left vs ws size none
+one_spelled laws d kind e text vs ws size (inr p) (inl none) = sym (none_left ws vs (sym size) none)
+one_spelled laws d kind e text vs ws size (inr p) (inr q) = one_values laws d kind e text vs ws size p q
 
 -- ---- levels
 

@@ -1,7 +1,6 @@
 -- Which values stand in the value section of a page: parquet.thrift, Encoding; parquet-format, Encodings.md.
-use Rattle.std.specs.Prelude.{◌≡◌, ℕ, zero, suc, ℤ, pos, ◌^◌, ◌<◌, ◌≤◌, Bool, List, ◌∷◌, ◌++◌, map, length, slice_get, Option, Some, None, if◌then◌else◌}
+use Rattle.std.specs.Prelude.{◌≡◌, ℕ, ℤ, pos, ◌^◌, ◌<◌, Bool, List, ◌++◌, map, length, Option, Some, None, if◌then◌else◌}
 use Rattle.std.specs.Int.{Width, w32, w64, from_bool}
-use Rattle.std.specs.List.{AllByRecursion}
 use Rattle.std.specs.Ordering.{int_eq}
 use Rattle.byteorder.specs.Endian.{little_bytes}
 use Rattle.hybrid_rle.specs.Hybrid.{IsHybrid}

@@ -1,5 +1,5 @@
 -- Where a page goes beyond a limit, and what pages are refused for.
-use Rattle.std.specs.Prelude.{◌≡◌, ℕ, ◌<◌, ◌==◌, pos, List, filter, length, Option, Some}
+use Rattle.std.specs.Prelude.{◌≡◌, ℕ, ◌==◌, pos, List, filter, length, Option, Some}
 use Rattle.bits.specs.declared.refusal.Refusal.{Refusal}
 use Rattle.bits.specs.declared.refusal.Refusal.TheVariants.{Truncated, Thrift, Encoding as EncodingFault, Page as PageFault, Levels, Value, Utf8, Limit}
 use Rattle.schema.specs.declared.value.Kind.{Kind}

@@ -11,8 +11,9 @@ ghost use Rattle.pages.specs.Writing.{StandsAsPage};
 ghost use Rattle.pages.specs.Worked.{number_leaf, text_leaf, five_null_six, three_lists, page_of_version_1, page_of_version_2, page_of_texts, page_of_lists};
 ghost use Rattle.pages.specs.Apart.{DictionaryIsNotRead, EntriesStandAlone, NoPageOfNoBytes};
 
+use delta::{one_byte_list, one_prefixed_list};
+use dictionary::one_list_of_values;
 use metadata::one_page_header;
-use plain::one_list;
 
 /// Skipped pages and dictionary pages are the same pages whatever dictionary the chunk has. Where a
 /// data page stands, neither of them does, under any dictionary. Nothing is a page of no bytes.
@@ -31,8 +32,12 @@ pub fn one_page()
     ensures chunk { (leaf : Leaf) (n : ℕ) → IsFunctional (λ bytes. IsChunk leaf bytes n) }
 {
     one_page_header();
-    one_list();
+    plain::one_list();
     hybrid_rle::one_list();
+    one_list_of_values();
+    delta::one_list();
+    one_byte_list();
+    one_prefixed_list();
 }
 
 /// Pages made by hand from the standard: 5, null and 6 of an OPTIONAL leaf as a page of version 1 and as
