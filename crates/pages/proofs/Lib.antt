@@ -9,6 +9,7 @@ pub mod WrittenLevels
 pub mod WrittenValues
 pub mod WrittenParts
 pub mod WrittenPages
+pub mod WrittenDictionaries
 pub mod OneList
 pub mod OneBody
 pub mod OneChunk

@@ -25,8 +25,8 @@ use Rattle.pages.specs.Page.{IsPage, entries, AreZero, AreLevelsOrZero, IsSectio
 use Rattle.pages.specs.declared.header_writing.DataPageHead.{DataPageHead}
 use Rattle.pages.specs.declared.header_writing.SectionSizes.{SectionSizes}
 use Rattle.pages.specs.Headers.{number_of, data_header, section, body_of, rows_in, nulls_in, AreLevelsIn, IsHeaded, IsWrittenPage}
-use Rattle.pages.specs.Writing.{page_weight, StandsAsPage}
-use Rattle.pages.specs.WrittenValues.{AreValuesIn}
+use Rattle.pages.specs.Writing.{page_weight, StandsAsPage, StandsByIndexes}
+use Rattle.pages.specs.WrittenValues.{AreValuesIn, AreIndexesIn}
 use Rattle.pages.specs.inner.Put.{before, most_of_values, AreSections, AreParts, IsDataPage}
 use Rattle.pages.proofs.Texts.{kinds_of_fit}
 use Rattle.pages.proofs.WrittenLevels.{repetitions_within, definitions_within}
@@ -178,5 +178,16 @@ page_stands leaf version encoding es old new each p = record {
   stands = λ more d.
       let here = p.stands more in
       written_page leaf version encoding (AreValuesIn leaf.leaf_type.kind encoding (values es)) es (p.text ++ more) (length p.text) d each here (values_stand d leaf.leaf_type.kind encoding (values es) here.text here.spelled);
+  short = p.short;
+}
+
+pub page_stands_by_indexes : (leaf : Leaf) (version : PageVersion) (size : ℕ) (indexes : List ℕ) (es : List Entry) (old new : List ℕ) → AllByRecursion (IsEntryOf leaf) es
+    → Appends (IsWrittenPage leaf version RleDictionary (AreIndexesIn size indexes) es) (page_weight es) old new → Appends (StandsByIndexes leaf size indexes es) (page_weight es) old new
+page_stands_by_indexes leaf version size indexes es old new each p = record {
+  text = p.text;
+  joined = p.joined;
+  stands = λ more d sized are.
+      let here = p.stands more in
+      written_page leaf version RleDictionary (AreIndexesIn size indexes) es (p.text ++ more) (length p.text) (Some d) each here (indexes_stand d leaf.leaf_type.kind size indexes here.text (values es) sized are here.spelled);
   short = p.short;
 }

@@ -2,6 +2,8 @@
 -- parquet-format, README.md, "Data Pages".
 use Rattle.std.specs.Prelude.{◌≡◌, ◌==◌, ◌≤◌, ℕ, zero, suc, ◌-◌, ℤ, pos, false, List, [], ◌++◌, map, filter, length, Some, None}
 use Rattle.byteorder.specs.Endian.{little_bytes}
+use Rattle.schema.specs.declared.value.Kind.{Kind}
+use Rattle.schema.specs.Values.{ValueTree}
 use Rattle.schema.specs.Stripe.{Leaf, Entry}
 use Rattle.thrift_compact.specs.Compact.{IsThrift}
 use Rattle.metadata.specs.Records.{PageHeader}
@@ -10,6 +12,7 @@ use Rattle.pages.specs.declared.encoding.Encoding.{Encoding}
 use Rattle.pages.specs.declared.encoding.Encoding.TheVariants.{Plain, PlainDictionary, Rle, BitPacked, DeltaBinaryPacked, DeltaLengthByteArray, DeltaByteArray, RleDictionary, ByteStreamSplit}
 use Rattle.pages.specs.declared.page_version.PageVersion.{PageVersion}
 use Rattle.pages.specs.declared.page_version.PageVersion.TheVariants.{V1, V2}
+use Rattle.pages.specs.WrittenValues.{AreValuesIn}
 use Rattle.pages.specs.Greatest.{most_of_page}
 use Rattle.pages.specs.Page.{AreLevels, IsFramed, repetitions, definitions, values}
 
@@ -79,3 +82,10 @@ pub record IsWrittenPage (leaf : Leaf) (version : PageVersion) (encoding : Encod
   pub small : length (body_of version leaf repetition_bytes definition_bytes text) ≤ most_of_page
   pub headed : IsHeaded (page_header_of version encoding es (length (body_of version leaf repetition_bytes definition_bytes text)) (length repetition_bytes) (length definition_bytes))
       (body_of version leaf repetition_bytes definition_bytes text) bytes used
+
+-- The first `used` bytes are the page of a dictionary with these entries as it is written: its header, and the entries, which fill the body.
+pub record IsWrittenDictionary (kind : Kind) (vs : List ValueTree) (bytes : List ℕ) (used : ℕ) : Type 0 where
+  pub text : List ℕ
+  pub spelled : AreValuesIn kind Plain vs text
+  pub small : length text ≤ most_of_page
+  pub headed : IsHeaded (dictionary_header (length text) (length vs)) text bytes used

@@ -1,5 +1,5 @@
 -- The pages that are written, what they stand for, and what they weigh.
-use Rattle.std.specs.Prelude.{◌≡◌, ◌⊎◌, ℕ, ◌+◌, ◌*◌, ◌<◌, List, length, Option, Some}
+use Rattle.std.specs.Prelude.{◌≡◌, ◌⊎◌, ℕ, ◌+◌, ◌*◌, ◌<◌, All, List, length, Option, Some}
 use Rattle.std.specs.List.{Any, AllByRecursion}
 use Rattle.bits.specs.declared.refusal.Refusal.{Refusal}
 use Rattle.bits.specs.declared.refusal.Refusal.TheVariants.{Levels, Value, Encoding as EncodingFault, Limit}
@@ -50,10 +50,18 @@ abbrev pub StandsByIndexes : Leaf → ℕ → List ℕ → List Entry → List �
 StandsByIndexes leaf size indexes es bytes used =
     (d : List ValueTree) → length d ≡ size → AreEntriesAt d indexes (values es) → IsPage leaf (Some d) bytes (entries es) used
 
+-- an index for each value of the entries, none of them past the end of a dictionary with so many entries
+abbrev pub AreIndexesFor : ℕ → List ℕ → List Entry → Type 0
+AreIndexesFor size indexes es = (length indexes ≡ length (values es)) × All (λ i. i < size) indexes
+
 -- the page is that of a dictionary with these entries, in a chunk of any leaf of this type
 abbrev pub StandsAsDictionary : Kind → List ValueTree → List ℕ → ℕ → Type 0
 StandsAsDictionary kind vs bytes used =
     (leaf : Leaf) (d : Option (List ValueTree)) → leaf.leaf_type.kind ≡ kind → IsPage leaf d bytes (dictionary vs) used
+
+-- an entry of a dictionary is too long, or its page weighs more than a page may have
+abbrev pub IsDictionaryTooMuch : List ValueTree → Type 0
+IsDictionaryTooMuch vs = Any IsTooLong vs ⊎ (most_of_page < weight_of (length vs) vs)
 
 -- what entries are refused for that should make a page
 abbrev pub IsOfWriting : Refusal → Type 0

@@ -8,8 +8,10 @@
 #![tactic(auto)]
 
 mod data_page;
+mod dictionary_page_writing;
 mod encoding;
 mod header_writing;
+mod index_page_writing;
 mod laws;
 mod level_writing;
 mod limits;
@@ -23,7 +25,9 @@ mod value_writing;
 mod written_entries;
 
 pub use data_page::DataPage;
+pub use dictionary_page_writing::write_dictionary_page;
 pub use encoding::Encoding;
+pub use index_page_writing::write_index_page;
 pub use laws::{one_page, pages_of_a_dictionary, worked_examples};
 pub use limits::MOST_BYTES_OF_PAGE;
 pub use page::PageRef;

@@ -112,6 +112,20 @@ pub(crate) fn values_of<'a>(alloc: Global, entries: &[EntryRef<'a>]) -> R<Vec<Va
     Ok(values)
 }
 
+/// How many of the entries have a value.
+pub(crate) fn count_values(entries: &[EntryRef<'_>]) -> usize
+    ensures count { result ≡ length (values (map entry_ref_view entries.now)) }
+    ensures few { result ≤ length entries.now }
+{
+    let mut count = 0;
+    for entry in entries {
+        if entry.value.is_some() {
+            count += 1;
+        }
+    }
+    count
+}
+
 /// The repetition levels of the entries.
 pub(crate) fn repetitions_of(alloc: Global, entries: &[EntryRef<'_>]) -> R<Vec<u32>>
     ensures are { IfOk result (λ levels. levels.items ≡ repetitions (map entry_ref_view entries.now)) }
