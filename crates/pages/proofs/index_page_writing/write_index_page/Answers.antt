@@ -1,14 +1,12 @@
-use Rattle.std.proofs.Common.{◌≡◌, ◌+◌, ◌-◌, ◌*◌, ◌∙◌, [], List, ℕ, length, map, refl, arith, ap, subst, sym}
+use Rattle.std.proofs.Common.{◌≡◌, ◌+◌, ◌-◌, ◌*◌, ◌∙◌, [], length, map, arith, sym}
 use Rattle.std.proofs.lemmas.List.{length-map}
 use Rattle.std.proofs.lemmas.Result.{on_ok_weaker}
-use Rattle.bits.specs.Codec.{Appends}
 use Rattle.schema.specs.Borrowed.{entry_ref_view}
 use Rattle.schema.specs.Views.{leaf_view}
 use Rattle.dictionary.specs.IndexPages.{IsIndexPage}
 use Rattle.pages.specs.declared.encoding.Encoding.TheVariants.{RleDictionary}
 use Rattle.pages.specs.Page.{values}
 use Rattle.pages.specs.WrittenValues.{AreIndexesIn}
-use Rattle.pages.proofs.Passed.{on_ok_all}
 use Rattle.pages.proofs.WrittenPages.{entries_written, parts_are, fills, page_stands_by_indexes}
 use Rattle.pages.proofs.index_page_writing.write_index_page.Goals as goal
 

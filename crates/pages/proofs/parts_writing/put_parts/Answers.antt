@@ -1,4 +1,4 @@
-use Rattle.std.proofs.Common.{◌≡◌, ◌+◌, ◌++◌, List, ℕ, length, take, drop, arith}
+use Rattle.std.proofs.Common.{◌≡◌, ◌+◌, ◌++◌, length, take, drop, arith}
 use Rattle.schema.specs.Views.{leaf_view}
 use Rattle.pages.specs.Headers.{section}
 use Rattle.pages.specs.inner.Put.{before}

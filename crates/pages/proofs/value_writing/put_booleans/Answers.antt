@@ -1,11 +1,10 @@
-use Rattle.std.proofs.Common.{◌≡◌, ◌++◌, ◌∙◌, List, ℕ, ◌+◌, ◌*◌, map, length, ap, subst, arith, sym, rules}
+use Rattle.std.proofs.Common.{◌≡◌, ◌∙◌, List, ℕ, ◌+◌, ◌*◌, map, length, subst, arith, sym, rules}
 use Rattle.bits.specs.declared.refusal.Refusal.TheVariants.{Limit}
 use Rattle.bits.specs.Refusals.{HasCause}
 use Rattle.bits.specs.Codec.{Appends}
 use Rattle.std.specs.Prelude.{All, ◌<◌, ◌^◌}
 use Rattle.hybrid_rle.specs.Hybrid.{IsHybrid}
 use Rattle.schema.specs.Borrowed.{value_ref_view}
-use Rattle.byteorder.specs.Endian.{little_bytes}
 use Rattle.bits.proofs.Passing.{passes}
 use Rattle.pages.proofs.WrittenLevels.{seen_same}
 use Rattle.pages.proofs.WrittenValues.{booleans_put, narrow_bits, only_narrow}
