@@ -13,7 +13,7 @@ use Rattle.schema.specs.Values.{ValueTree, integer, bytes}
 use Rattle.schema.specs.Law.{IsEntryOf}
 use Rattle.plain.specs.Plain.{IsPlain}
 use Rattle.hybrid_rle.specs.Hybrid.{IsRun, IsHybrid}
-use Rattle.metadata.specs.Records.{DataPageHeaderV2, DictionaryPageHeader}
+use Rattle.metadata.specs.Records.{PageHeader, DataPageHeaderV2, DictionaryPageHeader}
 use Rattle.metadata.specs.FromTree.{page_header}
 use Rattle.metadata.specs.Answers.{StandsFor}
 use Rattle.pages.specs.declared.encoding.Encoding.TheVariants.{Plain}
