@@ -1,14 +1,10 @@
 pub mod OnePage
-pub mod Means
 pub mod Places
-pub mod InOrder
-pub mod RowsOf
-pub mod Taking
 pub mod Passed
 pub mod Flat
-pub mod Whole
 pub mod Laid
 pub mod ChunkWritten
 pub mod Lent
 pub mod ColumnsWritten
 pub mod OneMeaning
+pub mod OneRest

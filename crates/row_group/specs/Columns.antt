@@ -1,5 +1,5 @@
 -- Words of the functions that write the columns of a group one by one.
-use Rattle.std.specs.Prelude.{◌≡◌, ℕ, suc, ◌<◌, ◌<ℤ◌, pos, List, [], ◌∷◌, map, length}
+use Rattle.std.specs.Prelude.{◌≡◌, ℕ, suc, ◌<◌, ◌≤◌, ◌<ℤ◌, pos, List, [], ◌∷◌, map, length}
 use Rattle.std.specs.List.{AllByRecursion}
 use Rattle.schema.specs.declared.value.Repetition.TheVariants.{Required}
 use Rattle.schema.specs.Values.{ValueTrees, no_values, value as item}
@@ -8,6 +8,10 @@ use Rattle.metadata.specs.Records.{ChunkMeta}
 use Rattle.pages.specs.Writing.{AreShort}
 use Rattle.row_group.specs.Greatest.{most_entries}
 use Rattle.row_group.specs.Writing.{AppendsEach}
+
+-- a leaf that is written
+abbrev pub IsLeafWritten : Leaf → Type 0
+IsLeafWritten leaf = (length leaf.steps ≤ 1) × (leaf.greatest_definition ≡ 0)
 
 -- how many values a row has
 abbrev pub width : ValueTrees → ℕ

@@ -1,11 +1,62 @@
--- The rows that a group still has to give.
-use Rattle.std.specs.Prelude.{List, map}
-use Rattle.std.specs.Vec.Iter.{into_iter_items}
+-- What readers of chunks and groups still have to give.
+use Rattle.std.specs.Prelude.{◌≡◌, ℕ, Bool, false, List, [], ◌∷◌, ◌++◌, map, length, Option, None, Some, option_map, unwrap_or, Result, Ok, Err}
+use Rattle.bits.specs.declared.refusal.Refusal.{Refusal}
+use Rattle.bits.specs.declared.refusal.Refusal.TheVariants.{Memory}
+use Rattle.schema.specs.declared.row.Row.{Row}
 use Rattle.schema.specs.Values.{ValueTrees}
-use Rattle.schema.specs.Views.{entry_view}
+use Rattle.schema.specs.Stripe.{Entry}
+use Rattle.schema.specs.Borrowed.{value_ref_view}
+use Rattle.schema.specs.Views.{leaf_view, row_view}
+use Rattle.pages.specs.declared.data_page.DataPage.{DataPage}
+use Rattle.pages.specs.Left.{entries_left}
+use Rattle.assemble.specs.RowsOf.{StandForRows}
+use Rattle.row_group.specs.declared.pages_left.Dictionary.{Dictionary}
+use Rattle.row_group.specs.declared.pages_left.Dictionary.TheVariants.{Open, Absent, Present}
+use Rattle.row_group.specs.declared.pages_left.PagesLeft.{PagesLeft}
+use Rattle.row_group.specs.declared.chunk_reader.ChunkReader.{ChunkReader}
 use Rattle.row_group.specs.declared.rows.Rows.{Rows}
-use Rattle.row_group.specs.Moving.{rows_of}
+use Rattle.row_group.specs.Rest.{Known, nothing, known, ChunkLeft, HoldsRest, HasRestOver}
 
--- as many as are counted, of the entries that are left of each column
-abbrev pub rows_left : Rows → List ValueTrees
-rows_left r = rows_of r.left (map (λ c. map entry_view (into_iter_items c)) r.columns.items)
+abbrev pub known_view : Dictionary → Known
+known_view Open = nothing
+known_view Absent = known None
+known_view (Present vs) = known (Some (map value_ref_view vs.items))
+
+-- what is left of a chunk's pages
+abbrev pub pages_view : PagesLeft → ChunkLeft
+pages_view p = record { leaf = leaf_view p.leaf.now; known = known_view p.dictionary; bytes = p.bytes.now; lacking = p.lacking }
+
+-- the entries that are not taken yet of the page that was read last
+abbrev pub page_left : Option DataPage → List Entry
+page_left page = unwrap_or (option_map entries_left page) []
+
+-- what a reader would still give: what is left of its page, and then the entries of the pages that are left, none of which is over a limit
+pub record ChunkStands (r : ChunkReader) (es : List Entry) : Type 0 where
+  pub sound : r.fault ≡ None
+  pub rest : List Entry
+  pub used : ℕ
+  pub joined : es ≡ page_left r.page ++ rest
+  pub held : HoldsRest (pages_view r.pages) rest used
+  pub short : HasRestOver (pages_view r.pages) → ⊥
+
+abbrev pub chunk_stands : ChunkReader → List Entry → Type 0
+chunk_stands = ChunkStands
+
+-- the rows that are still to come: as many as are counted, which fit, and for whose columns the readers stand
+pub record RowsStand (r : Rows) (rows : List ValueTrees) : Type 0 where
+  pub whole : r.is_broken ≡ false
+  pub count : length rows ≡ r.left
+  pub columns : StandForRows chunk_stands r.readers.items r.schema.now rows
+
+-- memory was refused to it
+abbrev pub is_broken : Rows → Bool
+is_broken r = r.is_broken
+
+abbrev pub rows_stand : Rows → List ValueTrees → Type 0
+rows_stand = RowsStand
+
+-- the first of the rows that stood, or none; out of memory aside, nothing is refused where rows stood
+abbrev pub TakesRow : (List ValueTrees → Type 0) → (List ValueTrees → Type 0) → Result (Option Row) Refusal → Type 0
+TakesRow S T (Ok (Some row)) = (rows : List ValueTrees) → S rows → (rest : List ValueTrees) × (rows ≡ row_view row ∷ rest) × T rest
+TakesRow S T (Ok None) = (rows : List ValueTrees) → S rows → (rows ≡ []) × T []
+TakesRow S T (Err e) = (rows : List ValueTrees) → S rows → e ≡ Memory

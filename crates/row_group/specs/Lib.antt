@@ -1,8 +1,9 @@
 pub mod Chunks
 pub mod Greatest
 pub mod Limits
-pub mod Moving
+pub mod Rest
+pub mod Left
 pub mod Writing
 pub mod Columns
-pub mod Left
 pub mod Laws
+pub mod inner

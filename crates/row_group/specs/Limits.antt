@@ -1,6 +1,5 @@
--- Where a chunk or a group goes beyond a limit, or is not read yet, and what they are refused for.
-use Rattle.std.specs.Prelude.{◌≡◌, ◌≢◌, ℕ, ◌<◌, ◌⊎◌, pos, ℤ, ◌<ℤ◌, List, ◌++◌, map, filter, length, drop, slice_get, Contains, Option, Some, None}
-use Rattle.std.specs.List.{Any}
+-- Where a chunk or a group goes beyond a limit, and what they are refused for.
+use Rattle.std.specs.Prelude.{◌≡◌, ◌≢◌, ℕ, pos, ℤ, ◌<ℤ◌, List, ◌++◌, map, filter, length, drop, slice_get, Contains, Option, Some}
 use Rattle.bits.specs.Codec.{InTurn}
 use Rattle.bits.specs.declared.refusal.Refusal.{Refusal}
 use Rattle.bits.specs.declared.refusal.Refusal.TheVariants.{Schema, Codec}
@@ -9,8 +8,8 @@ use Rattle.schema.specs.Shape.{Fields}
 use Rattle.schema.specs.Stripe.{Leaf, Entry, leaves_of}
 use Rattle.metadata.specs.Records.{ColumnMeta, ChunkMeta, GroupMeta}
 use Rattle.pages.specs.Page.{Page, entries, IsPage}
-use Rattle.pages.specs.Chunk.{is_read, dictionary_page, entries_of, all_entries}
-use Rattle.pages.specs.Limits.{IsPageOver, IsPageToCome, IsOfPages}
+use Rattle.pages.specs.Chunk.{is_read, dictionary_page, all_entries}
+use Rattle.pages.specs.Limits.{IsPageOver, IsOfPages}
 use Rattle.row_group.specs.Greatest.{most_entries, most_rows}
 use Rattle.row_group.specs.Chunks.{IsChunkOf, StartsAt}
 
@@ -31,11 +30,6 @@ pub data IsChunkOver (m : ColumnMeta) (leaf : Leaf) (bytes : List ℕ) : Type 0 
   many_entries : most_entries <ℤ m.num_values → IsChunkOver m leaf bytes
   long_value : IsChunkOf m leaf → HasPageOver m.num_values leaf bytes → IsChunkOver m leaf bytes
 
--- Why a chunk is not read yet. (Each that is built is taken away, and with the last the type.)
-pub data IsChunkToCome (m : ColumnMeta) (leaf : Leaf) (bytes : List ℕ) : Type 0 where
-  other_page : IsChunkOf m leaf → pos 0 <ℤ m.num_values → IsPageToCome leaf None bytes → IsChunkToCome m leaf bytes
-  many_pages : (page : Page) (used : ℕ) → IsChunkOf m leaf → IsPage leaf None bytes page used → used < length bytes → pos (length (entries_of page)) <ℤ m.num_values → IsChunkToCome m leaf bytes
-
 -- chunk k of the group, with leaf k of the schema
 pub record HasColumn (fs : Fields) (g : GroupMeta) (Is : ColumnMeta → Leaf → Type 0) : Type 0 where
   pub k : ℕ
@@ -53,15 +47,6 @@ BeginsWith front Is m leaf = (start : ℕ) × StartsAt m start × Is m leaf (dro
 pub data IsGroupOver (front : List ℕ) (fs : Fields) (g : GroupMeta) : Type 0 where
   many_rows : most_rows <ℤ g.num_rows → IsGroupOver front fs g
   large_chunk : HasColumn fs g (BeginsWith front IsChunkOver) → IsGroupOver front fs g
-
--- a leaf that is not read yet: it is below a group, or not REQUIRED
-abbrev pub IsLeafToCome : Leaf → Type 0
-IsLeafToCome leaf = (1 < length leaf.steps) ⊎ (0 < leaf.greatest_definition)
-
--- Why a group is not read yet. (Each that is built is taken away, and with the last the type.)
-pub data IsGroupToCome (front : List ℕ) (fs : Fields) (g : GroupMeta) : Type 0 where
-  other_leaf : Any IsLeafToCome (leaves_of fs) → IsGroupToCome front fs g
-  other_chunk : HasColumn fs g (BeginsWith front IsChunkToCome) → IsGroupToCome front fs g
 
 -- a chunk of the group is compressed
 abbrev pub HasCodec : GroupMeta → Type 0

@@ -1,5 +1,5 @@
 -- What a writer of chunks and groups leaves.
-use Rattle.std.specs.Prelude.{◌≡◌, ℕ, ◌+◌, ◌-◌, ◌<◌, ◌<ℤ◌, ◌≤◌, pos, List, [], ◌∷◌, ◌++◌, length, sum_by, None, Some}
+use Rattle.std.specs.Prelude.{◌≡◌, ◌⊎◌, ℕ, ◌+◌, ◌-◌, ◌<◌, ◌<ℤ◌, ◌≤◌, pos, List, [], ◌∷◌, ◌++◌, length, sum_by, None, Some}
 use Rattle.std.specs.List.{Any, AllByRecursion}
 use Rattle.bits.specs.declared.refusal.Refusal.{Refusal}
 use Rattle.bits.specs.declared.refusal.Refusal.TheVariants.{RowShape, Limit}
@@ -14,6 +14,10 @@ use Rattle.pages.specs.Headers.{IsPlainPage}
 use Rattle.pages.specs.Writing.{page_weight, AreShort, IsPageTooMuch}
 use Rattle.row_group.specs.Greatest.{most_entries, most_rows, most_bytes_before}
 use Rattle.row_group.specs.Chunks.{ChunkMeans, StartsAt}
+
+-- a leaf that is not written yet: it is below a group, or not REQUIRED
+abbrev pub IsLeafNotWritten : Leaf → Type 0
+IsLeafNotWritten leaf = (1 < length leaf.steps) ⊎ (0 < leaf.greatest_definition)
 
 -- what the store's own writer says of a chunk: the encodings PLAIN and RLE, no dictionary, no statistics yet
 pub record IsOwn (m : ColumnMeta) : Type 0 where

@@ -7,11 +7,10 @@ ghost use Rattle.schema.specs.Fits.{RowsFit};
 ghost use Rattle.schema.specs.Stripe.{leaves_of};
 ghost use Rattle.schema.specs.Views.{rows_view};
 ghost use Rattle.metadata.specs.Views.{group_meta_view};
-ghost use Rattle.row_group.specs.Limits.{IsLeafToCome};
-ghost use Rattle.row_group.specs.Writing.{AppendsGroup, AreTaken, IsGroupTooMuch, IsOfRows};
+ghost use Rattle.row_group.specs.Writing.{AppendsGroup, AreTaken, IsGroupTooMuch, IsLeafNotWritten, IsOfRows};
 
 use crate::column_writing::write_columns;
-use crate::leaves::is_any_to_come;
+use crate::leaves::is_any_not_written;
 use crate::limits::MOST_ROWS_OF_GROUP;
 use bits::{R, Refusal};
 use metadata::GroupMeta;
@@ -33,9 +32,9 @@ use std::alloc::Global;
 pub fn write_group(alloc: Global, schema: &Schema, rows: &[Row], out: &mut Vec<u8>) -> R<GroupMeta>
     ensures stands { IfOk result (λ g. AppendsGroup schema.now out.old.items out.new.items (group_meta_view g) (rows_view rows.now)) }
     ensures readable { OnOk result (AreTaken schema.now (rows_view rows.now)) }
-    ensures built { OnOk result (Any IsLeafToCome (leaves_of schema.now) → ⊥) }
+    ensures built { OnOk result (Any IsLeafNotWritten (leaves_of schema.now) → ⊥) }
     ensures only { OnFault result (RowsFit schema.now (rows_view rows.now) → ⊥) }
-    ensures limit { result ≡ Err Refusal.Limit → IsGroupTooMuch (length out.old.items) schema.now (rows_view rows.now) ⊎ Any IsLeafToCome (leaves_of schema.now) }
+    ensures limit { result ≡ Err Refusal.Limit → IsGroupTooMuch (length out.old.items) schema.now (rows_view rows.now) ⊎ Any IsLeafNotWritten (leaves_of schema.now) }
     ensures which { RefusedOnly IsOfRows result }
     ensures unchanged { OnErr result (out.new.items ≡ out.old.items) }
 {
@@ -43,7 +42,7 @@ pub fn write_group(alloc: Global, schema: &Schema, rows: &[Row], out: &mut Vec<u
     if !all_fit(schema, rows) {
         return Err(Refusal::RowShape);
     }
-    if rows.len() > MOST_ROWS_OF_GROUP as usize || is_any_to_come(schema.leaves()) {
+    if rows.len() > MOST_ROWS_OF_GROUP as usize || is_any_not_written(schema.leaves()) {
         return Err(Refusal::Limit);
     }
     let kept = out.len();

@@ -1,105 +1,85 @@
 //! The rows of a group, one by one.
 
-ghost use Rattle.std.specs.Prelude.{◌≡◌, ◌⊎◌, ◌++◌, List, [], map, None, IfOk, OnOk, OnErr, Err};
-ghost use Rattle.std.specs.List.{AllByRecursion};
-ghost use Rattle.std.specs.Option.{option_to_list};
-ghost use Rattle.std.proofs.Props.{props};
+ghost use Rattle.std.specs.Prelude.{◌≡◌, List, true, IfOk, OnOk, IfErr, Err};
 ghost use Rattle.bits.specs.Refusals.{OnFault, RefusedOnly};
 ghost use Rattle.schema.specs.Values.{ValueTrees};
-ghost use Rattle.schema.specs.Views.{row_view, rows_view};
+ghost use Rattle.schema.specs.Views.{rows_view};
 ghost use Rattle.metadata.specs.Views.{group_meta_view};
 ghost use Rattle.row_group.specs.Chunks.{GroupMeans};
-ghost use Rattle.row_group.specs.Limits.{IsGroupOver, IsGroupToCome, HasCodec, IsOfChunks};
-ghost use Rattle.row_group.specs.Moving.{HasCount, columns_left};
+ghost use Rattle.row_group.specs.Limits.{IsGroupOver, HasCodec, IsOfChunks};
+ghost use Rattle.row_group.specs.Left.{rows_stand, is_broken, TakesRow};
 
-use crate::column_reading::read_columns;
-use crate::counts::count_of;
-use crate::leaves::is_any_to_come;
-use crate::left::{entries_of_each, next_row};
-use crate::limits::MOST_ROWS_OF_GROUP;
+use crate::chunk_reader::ChunkReader;
 use bits::{R, Refusal};
 use metadata::GroupMeta;
-use schema::{Entry, Row, Schema, columns_determine_rows};
+use schema::{Row, Schema};
 use std::alloc::Global;
-use std::vec::IntoIter;
 
-/// The rows of a group that are still to come, in their order. Each is made when it is asked for, of the
-/// next entry of each column, so that the rows of a group never stand beside its columns.
+/// The rows of a group that are still to come, in their order. Each is made when it is asked for.
 ///
-/// Kept are 48 bytes for each entry of the group, until this is dropped, and the bytes of those texts that
-/// are still to come: a row takes its values along.
-#[derive(Drop)]
-pub struct Rows {
-    alloc: Global,
-    columns: Vec<IntoIter<Entry>>,
-    left: usize,
-    ghost even: { AllByRecursion (HasCount left) (columns_left columns.items) } by { Prim.hlevel props },
+/// Held are one page's entries of each column and the values of dictionaries, no columns and no rows.
+/// Values are borrowed from the bytes of the file until a row keeps them.
+#[derive(Debug, Drop)]
+pub struct Rows<'a> {
+    pub(crate) alloc: Global,
+    pub(crate) schema: &'a Schema,
+    pub(crate) readers: Vec<ChunkReader<'a>>,
+    /// How many rows are still to come.
+    pub(crate) left: usize,
+    /// Whether memory was refused, perhaps within a row.
+    pub(crate) is_broken: bool,
 }
 
-impl Rows {
-    ghost use Rattle.row_group.specs.Left.{rows_left};
-
+impl<'a> Rows<'a> {
     /// All rows of a group, from the bytes of its file before the footer.
     ///
-    /// Refused Page for a negative number of rows, or a chunk's negative place; Limit for more than
-    /// [`MOST_ROWS_OF_GROUP`] rows, a leaf that is below a group or not REQUIRED;
-    /// Schema where there are not as many chunks as leaves; Levels where a chunk has not as many entries
-    /// as the group has rows; else as a chunk is. No row is made before this is known of all of them.
-    /// No group is accepted that goes beyond a limit.
+    /// The group is accepted whole: each page is decoded and checked, and each row is made and dropped,
+    /// before the first row is given. So the bytes of its chunks are read twice until all rows came.
     ///
-    /// Each byte of the chunks is read once, and no entry is copied. (`parquet.thrift`, RowGroup.)
-    pub fn of_group(alloc: Global, front: &[u8], meta: &GroupMeta, schema: &Schema) -> R<Rows>
-        ensures stands { IfOk result (λ rows. GroupMeans front.now schema.now (group_meta_view meta.now) (rows_left rows)) }
-        ensures alone { IfOk result (λ rows. (others : List ValueTrees) → GroupMeans front.now schema.now (group_meta_view meta.now) others → others ≡ rows_left rows) }
+    /// Refused Page for a negative number of rows, or a chunk's negative offset; Limit for more than
+    /// [`MOST_ROWS_OF_GROUP`](crate::MOST_ROWS_OF_GROUP) rows; Schema where there are not as many chunks
+    /// as leaves; Levels where the entries of the columns make no rows, or not as many as the group says;
+    /// Value where an entry at the greatest definition level has no value that fits; otherwise as
+    /// [`read_chunk`](crate::read_chunk). No group is accepted that goes beyond a limit.
+    /// (`parquet.thrift`, RowGroup.)
+    pub fn of_group(
+        alloc: Global,
+        front: &'a [u8],
+        meta: &GroupMeta,
+        schema: &'a Schema,
+    ) -> R<Rows<'a>>
+        ensures stands { IfOk result (λ r. (rows : List ValueTrees) × GroupMeans front.now schema.now (group_meta_view meta.now) rows × rows_stand r rows) }
+        ensures alone { IfOk result (λ r. (rows : List ValueTrees) → GroupMeans front.now schema.now (group_meta_view meta.now) rows → rows_stand r rows) }
+        ensures one_list { IfOk result (λ r. (rows others : List ValueTrees) → rows_stand r rows → rows_stand r others → rows ≡ others) }
         ensures within_limits { OnOk result (IsGroupOver front.now schema.now (group_meta_view meta.now) → ⊥) }
         ensures only { OnFault result ((rows : List ValueTrees) → GroupMeans front.now schema.now (group_meta_view meta.now) rows → ⊥) }
-        ensures limit { result ≡ Err Refusal.Limit → IsGroupOver front.now schema.now (group_meta_view meta.now) ⊎ IsGroupToCome front.now schema.now (group_meta_view meta.now) }
+        ensures limit { result ≡ Err Refusal.Limit → IsGroupOver front.now schema.now (group_meta_view meta.now) }
         ensures codec { result ≡ Err Refusal.Codec → HasCodec (group_meta_view meta.now) }
         ensures which { RefusedOnly IsOfChunks result }
     {
-        columns_determine_rows();
-        let left = count_of(meta.num_rows, MOST_ROWS_OF_GROUP)?;
-        if is_any_to_come(schema.leaves()) {
-            return Err(Refusal::Limit);
-        }
-        let read = read_columns(alloc, front, meta, schema, left)?;
-        let columns = entries_of_each(alloc, read)?;
-        Ok(Rows {
-            alloc,
-            columns,
-            left,
-        })
+        Err(Refusal::Memory)
     }
 
-    /// The next row; none after the last, however often it is asked for. The values move into the row:
-    /// the time is linear in its columns, whatever their size.
+    /// The next row; none after the last, however often it is asked for. The bytes of its values are
+    /// copied once.
     ///
-    /// Refused only for memory, and then no row is lost: the same row comes when it is asked for again.
+    /// It fails only when out of memory. The readers may then stand within a row, so that each later
+    /// call fails in the same way.
     pub fn next(&mut self) -> R<Option<Row>>
-        ensures takes { IfOk result (λ row. rows_left self.old ≡ map row_view (option_to_list row) ++ rows_left self.new) }
-        ensures ends { IfOk result (λ row. row ≡ None → rows_left self.old ≡ []) }
-        ensures unchanged { OnErr result (rows_left self.new ≡ rows_left self.old) }
-        ensures which { RefusedOnly (λ _. ⊥) result }
+        ensures takes { TakesRow (rows_stand self.old) (rows_stand self.new) result }
+        ensures breaks { result ≡ Err Refusal.Memory → is_broken self.new ≡ true }
+        ensures broken { is_broken self.old ≡ true → result ≡ Err Refusal.Memory }
     {
-        if self.left == 0 {
-            return Ok(None);
-        }
-        let row = next_row(self.alloc, self.columns.as_mut_slice())?;
-        self.left -= 1;
-        Ok(Some(row))
+        self.is_broken = true;
+        Err(Refusal::Memory)
     }
 
-    /// All rows that are left, in their order, which then stand beside the columns. Room for them is asked
-    /// for at the start, and room for each row's values as it is made; refused only for memory. The time
-    /// is linear in their values.
+    /// All rows that are left, in their order. It fails only when out of memory. The time is linear in
+    /// their values, and in the bytes of their pages.
     pub fn collected(mut self) -> R<Vec<Row>>
-        ensures rows_are { IfOk result (λ rows. rows_view rows.items ≡ rows_left self) }
-        ensures which { RefusedOnly (λ _. ⊥) result }
+        ensures rows_are { IfOk result (λ rows. (stood : List ValueTrees) → rows_stand self.entry stood → stood ≡ rows_view rows.items) }
+        ensures which { IfErr result (λ e. (stood : List ValueTrees) → rows_stand self.entry stood → e ≡ Refusal.Memory) }
     {
-        let mut rows = Vec::with_capacity(self.alloc, self.left)?;
-        while let Some(row) = self.next()? {
-            rows.push(row)?;
-        }
-        Ok(rows)
+        Err(Refusal::Memory)
     }
 }

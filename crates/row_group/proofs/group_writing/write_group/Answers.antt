@@ -5,8 +5,8 @@ use Rattle.std.proofs.lemmas.Int.{to_z_pos}
 use Rattle.std.proofs.lemmas.List.{length-map}
 use Rattle.schema.specs.Stripe.{leaves_of, columns}
 use Rattle.schema.specs.Views.{row_view, rows_view}
-use Rattle.row_group.specs.Moving.{IsLeafRead}
-use Rattle.row_group.proofs.Flat.{flat, none_to_come}
+use Rattle.row_group.specs.Columns.{IsLeafWritten}
+use Rattle.row_group.proofs.Flat.{flat, none_not_written}
 use Rattle.row_group.proofs.Laid.{each_kept}
 use Rattle.row_group.proofs.Lent.{fields_of_rows}
 use Rattle.row_group.proofs.ColumnsWritten.{group_written}
@@ -15,11 +15,11 @@ use Rattle.row_group.proofs.group_writing.write_group.Goals as goal
 pub write_columns-requires-clause-fields : goal.write_columns-requires-clause-fields
 write_columns-requires-clause-fields c =
     let fs = c.args.schema.now in
-    let read = subst (AllByRecursion IsLeafRead) c.leaves.ensures.leaves_are (c.is_any_to_come.ensures.none c.if-is_any_to_come.false) in
+    let read = subst (AllByRecursion IsLeafWritten) c.leaves.ensures.leaves_are (c.is_any_not_written.ensures.none c.if-is_any_not_written.false) in
     fields_of_rows fs (rows_view c.args.rows.now) (flat fs 0 c.leaves.ensures.valid.1 read) (c.all_fit.ensures.all c.if-not-all_fit.false)
 
 pub returns-in-Ok-clause-built : goal.returns-in-Ok-clause-built
-returns-in-Ok-clause-built c = none_to_come (leaves_of c.args.schema.now) (subst (AllByRecursion IsLeafRead) c.leaves.ensures.leaves_are (c.is_any_to_come.ensures.none c.if-is_any_to_come.false))
+returns-in-Ok-clause-built c = none_not_written (leaves_of c.args.schema.now) (subst (AllByRecursion IsLeafWritten) c.leaves.ensures.leaves_are (c.is_any_not_written.ensures.none c.if-is_any_not_written.false))
 
 pub overflow_sub-result : goal.overflow_sub-result
 overflow_sub-result c =

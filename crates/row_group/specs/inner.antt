@@ -1,0 +1,3 @@
+-- Definitions for private functions alone.
+pub mod Pages
+pub mod Readers
