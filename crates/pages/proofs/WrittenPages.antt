@@ -86,7 +86,7 @@ written_page leaf V1 encoding Are es bytes used d each p spelled =
       stands_for = inl (_, refl, refl, record { text = p.text; levels = levels; each = each; spelled = inr (subst (λ (e : Option Encoding). AreValues d leaf.leaf_type.kind e p.text (values es)) (sym (encoding_again encoding)) spelled) });
     }
 written_page leaf V2 encoding Are es bytes used d each p spelled =
-    let levels : AreLevelsV2 leaf (record { num_values = pos (length es); num_nulls = Some (pos (length es - length (values es))); num_rows = Some (pos (rows_in es)); encoding = pos (number_of encoding); definition_levels_byte_length = pos (length p.definition_bytes); repetition_levels_byte_length = pos (length p.repetition_bytes); is_compressed = Some false; statistics = None }) (body_of V2 leaf p.repetition_bytes p.definition_bytes p.text) (repetitions es) (definitions es) p.text = record {
+    let levels : AreLevelsV2 leaf (record { num_values = pos (length es); num_nulls = Some (pos (nulls_in es)); num_rows = Some (pos (rows_in es)); encoding = pos (number_of encoding); definition_levels_byte_length = pos (length p.definition_bytes); repetition_levels_byte_length = pos (length p.repetition_bytes); is_compressed = Some false; statistics = None }) (body_of V2 leaf p.repetition_bytes p.definition_bytes p.text) (repetitions es) (definitions es) p.text = record {
       count = counted es;
       paired = paired es;
       between = p.definition_bytes ++ p.text;
@@ -122,6 +122,16 @@ indexes_stand d kind size indexes text vs sized are p =
     })
 
 -- ---- from the parts
+
+-- each entry has a value or none
+nulls_here : (r d : ℕ) (o : Option ValueTree) (es : List Entry) → nulls_in es + length (values es) ≡ length es
+    → nulls_in (record { repetition = r; definition = d; value = o } ∷ es) + length (values (record { repetition = r; definition = d; value = o } ∷ es)) ≡ suc (length es)
+nulls_here r d None es rest = omega (arith, rest)
+nulls_here r d (Some v) es rest = omega (arith, rest)
+
+pub nulls_and_values : (es : List Entry) → nulls_in es + length (values es) ≡ length es
+nulls_and_values [] = omega arith
+nulls_and_values (e ∷ es) = nulls_here e.repetition e.definition e.value es (nulls_and_values es)
 
 -- the page of these parts is the page of the entries
 pub entries_written : (leaf : Leaf) (head : DataPageHead) (es : List Entry) (Are : List ℕ → Type 0) (r d text old new : List ℕ) → head.entries ≡ length es → head.nulls ≡ nulls_in es → head.rows ≡ rows_in es

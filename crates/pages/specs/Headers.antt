@@ -1,6 +1,6 @@
 -- The bytes of the pages that are written: parquet.thrift, PageHeader, DataPageHeader, DictionaryPageHeader, DataPageHeaderV2;
 -- parquet-format, README.md, "Data Pages".
-use Rattle.std.specs.Prelude.{◌≡◌, ◌==◌, ◌≤◌, ℕ, zero, suc, ◌-◌, ℤ, pos, false, List, [], ◌++◌, map, filter, length, Some, None}
+use Rattle.std.specs.Prelude.{◌≡◌, ◌==◌, ◌≤◌, ℕ, zero, suc, pos, false, List, [], ◌++◌, map, filter, length, is_none, Some, None}
 use Rattle.byteorder.specs.Endian.{little_bytes}
 use Rattle.schema.specs.declared.value.Kind.{Kind}
 use Rattle.schema.specs.Values.{ValueTree}
@@ -31,15 +31,51 @@ number_of ByteStreamSplit = 9
 -- The header of a data page: its numbers of entries, nulls and rows, the bytes of its body, and of each section of levels.
 -- Levels are RLE; no statistics and no checksum are there, and nothing is compressed.
 abbrev pub data_header : PageVersion → Encoding → ℕ → ℕ → ℕ → ℕ → ℕ → ℕ → PageHeader
-data_header V1 encoding count nulls rows size repetition_bytes definition_bytes =
-    record { kind = pos 0; uncompressed_page_size = Some (pos size); compressed_page_size = pos size; crc = None; data_page_header = Some (record { num_values = pos count; encoding = pos (number_of encoding); definition_level_encoding = Some (pos 3); repetition_level_encoding = Some (pos 3); statistics = None }); dictionary_page_header = None; data_page_header_v2 = None }
-data_header V2 encoding count nulls rows size repetition_bytes definition_bytes =
-    record { kind = pos 3; uncompressed_page_size = Some (pos size); compressed_page_size = pos size; crc = None; data_page_header = None; dictionary_page_header = None; data_page_header_v2 = Some (record { num_values = pos count; num_nulls = Some (pos nulls); num_rows = Some (pos rows); encoding = pos (number_of encoding); definition_levels_byte_length = pos definition_bytes; repetition_levels_byte_length = pos repetition_bytes; is_compressed = Some false; statistics = None }) }
+data_header V1 encoding count nulls rows size repetition_bytes definition_bytes = record {
+  kind = pos 0;
+  uncompressed_page_size = Some (pos size);
+  compressed_page_size = pos size;
+  crc = None;
+  data_page_header = Some (record {
+    num_values = pos count;
+    encoding = pos (number_of encoding);
+    definition_level_encoding = Some (pos 3);
+    repetition_level_encoding = Some (pos 3);
+    statistics = None;
+  });
+  dictionary_page_header = None;
+  data_page_header_v2 = None;
+}
+data_header V2 encoding count nulls rows size repetition_bytes definition_bytes = record {
+  kind = pos 3;
+  uncompressed_page_size = Some (pos size);
+  compressed_page_size = pos size;
+  crc = None;
+  data_page_header = None;
+  dictionary_page_header = None;
+  data_page_header_v2 = Some (record {
+    num_values = pos count;
+    num_nulls = Some (pos nulls);
+    num_rows = Some (pos rows);
+    encoding = pos (number_of encoding);
+    definition_levels_byte_length = pos definition_bytes;
+    repetition_levels_byte_length = pos repetition_bytes;
+    is_compressed = Some false;
+    statistics = None;
+  });
+}
 
 -- the header of a dictionary page with this many bytes of body and this many PLAIN entries
 abbrev pub dictionary_header : ℕ → ℕ → PageHeader
-dictionary_header size count =
-    record { kind = pos 2; uncompressed_page_size = Some (pos size); compressed_page_size = pos size; crc = None; data_page_header = None; dictionary_page_header = Some (record { num_values = pos count; encoding = pos 0; is_sorted = None }); data_page_header_v2 = None }
+dictionary_header size count = record {
+  kind = pos 2;
+  uncompressed_page_size = Some (pos size);
+  compressed_page_size = pos size;
+  crc = None;
+  data_page_header = None;
+  dictionary_page_header = Some (record { num_values = pos count; encoding = pos 0; is_sorted = None });
+  data_page_header_v2 = None;
+}
 
 -- The first `used` bytes are this header and this body. The header has exactly the fields of its record, in the order of their ids.
 pub record IsHeaded (header : PageHeader) (body bytes : List ℕ) (used : ℕ) : Type 0 where
@@ -51,7 +87,7 @@ abbrev pub rows_in : List Entry → ℕ
 rows_in es = length (filter (λ e. e.repetition == 0) es)
 
 abbrev pub nulls_in : List Entry → ℕ
-nulls_in es = length es - length (values es)
+nulls_in es = length (filter (λ e. is_none e.value) es)
 
 -- levels by the hybrid, which fill their section; none where the greatest level is 0
 abbrev pub AreLevelsIn : ℕ → List ℕ → List ℕ → Type 0
@@ -64,11 +100,15 @@ section V1 zero inside = inside
 section V1 (suc g) inside = little_bytes 4 (length inside) ++ inside
 section V2 g inside = inside
 
+-- the body: both sections, and the values
 abbrev pub body_of : PageVersion → Leaf → List ℕ → List ℕ → List ℕ → List ℕ
-body_of version leaf repetition_bytes definition_bytes text = section version leaf.greatest_repetition repetition_bytes ++ (section version leaf.greatest_definition definition_bytes ++ text)
+body_of version leaf repetition_bytes definition_bytes text =
+    section version leaf.greatest_repetition repetition_bytes ++ (section version leaf.greatest_definition definition_bytes ++ text)
 
+-- the header of these entries' page
 abbrev pub page_header_of : PageVersion → Encoding → List Entry → ℕ → ℕ → ℕ → PageHeader
-page_header_of version encoding es size repetition_bytes definition_bytes = data_header version encoding (length es) (nulls_in es) (rows_in es) size repetition_bytes definition_bytes
+page_header_of version encoding es size repetition_bytes definition_bytes =
+    data_header version encoding (length es) (nulls_in es) (rows_in es) size repetition_bytes definition_bytes
 
 -- The first `used` bytes are a page of these entries as it is written: its header, its sections of levels, and its values,
 -- which fill the rest of the body as the relation of their encoding says.

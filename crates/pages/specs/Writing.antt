@@ -63,10 +63,17 @@ StandsAsDictionary kind vs bytes used =
 abbrev pub IsDictionaryTooMuch : List ValueTree → Type 0
 IsDictionaryTooMuch vs = Any IsTooLong vs ⊎ (most_of_page < weight_of (length vs) vs)
 
--- what entries are refused for that should make a page
-abbrev pub IsOfWriting : Refusal → Type 0
-IsOfWriting Levels = Unit {0}
-IsOfWriting Value = Unit {0}
-IsOfWriting EncodingFault = Unit {0}
-IsOfWriting Limit = Unit {0}
-IsOfWriting _ = ⊥
+-- what entries are refused for that should make a page of this encoding
+abbrev pub IsOfWriting : Kind → Encoding → Refusal → Type 0
+IsOfWriting kind encoding Levels = Unit {0}
+IsOfWriting kind encoding Value = Unit {0}
+IsOfWriting kind encoding EncodingFault = IsEncodingFor kind encoding → ⊥
+IsOfWriting kind encoding Limit = Unit {0}
+IsOfWriting kind encoding _ = ⊥
+
+-- and where each encoding fits
+abbrev pub IsOfEntries : Refusal → Type 0
+IsOfEntries Levels = Unit {0}
+IsOfEntries Value = Unit {0}
+IsOfEntries Limit = Unit {0}
+IsOfEntries _ = ⊥

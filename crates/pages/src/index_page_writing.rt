@@ -11,7 +11,7 @@ ghost use Rattle.pages.specs.declared.encoding.Encoding.TheVariants.{RleDictiona
 ghost use Rattle.pages.specs.Page.{values};
 ghost use Rattle.pages.specs.Headers.{IsWrittenPage};
 ghost use Rattle.pages.specs.WrittenValues.{AreIndexesIn};
-ghost use Rattle.pages.specs.Writing.{page_weight, IsPageTooMuch, AreIndexesFor, StandsByIndexes, IsOfWriting};
+ghost use Rattle.pages.specs.Writing.{page_weight, IsPageTooMuch, AreIndexesFor, StandsByIndexes, IsOfEntries};
 
 use crate::encoding::Encoding;
 use crate::header_writing::DataPageHead;
@@ -49,7 +49,7 @@ pub fn write_index_page(
     ensures size { OnOk result (length out.new.items ≤ length out.old.items + 2147484671) }
     ensures only { OnFault result (AreIndexesFor size indexes.now (map entry_ref_view entries.now) → AllByRecursion (IsEntryOf (leaf_view leaf.now)) (map entry_ref_view entries.now) → ⊥) }
     ensures limit { result ≡ Err Refusal.Limit → IsPageTooMuch (map entry_ref_view entries.now) }
-    ensures which { RefusedOnly IsOfWriting result }
+    ensures which { RefusedOnly IsOfEntries result }
     ensures unchanged { OnErr result (out.new.items ≡ out.old.items) }
 {
     check_entries(leaf, entries)?;

@@ -36,10 +36,10 @@ use std::alloc::Global;
 /// for the next page. The time is linear in the entries and the bytes of their values.
 ///
 /// Refused Levels or Value only where an entry is none of the leaf's: a level is above its greatest, or a
-/// value is missing, is there and should not be, or does not fit. Refused Encoding exactly when values of
+/// value is missing, is there and should not be, or does not fit. Refused Encoding only where values of
 /// the leaf's type are not written in this encoding: PLAIN is for all types, RLE for BOOLEAN,
 /// DELTA_BINARY_PACKED for INT32 and INT64, DELTA_LENGTH_BYTE_ARRAY for BYTE_ARRAY, and DELTA_BYTE_ARRAY
-/// for both types of bytes. Refused Limit only where a value has more than 16 MiB, or where the page
+/// for both types of bytes; in another one no page is written. Refused Limit only where a value has more than 16 MiB, or where the page
 /// weighs more than [`MOST_BYTES_OF_PAGE`](crate::MOST_BYTES_OF_PAGE). After a refusal `out` is unchanged.
 pub fn write_page(
     alloc: Global,
@@ -58,7 +58,7 @@ pub fn write_page(
     ensures size { OnOk result (length out.new.items ≤ length out.old.items + 2147484671) }
     ensures only { OnFault result (IsEncodingFor leaf.now.leaf_type.kind encoding → AllByRecursion (IsEntryOf (leaf_view leaf.now)) (map entry_ref_view entries.now) → ⊥) }
     ensures limit { result ≡ Err Refusal.Limit → IsPageTooMuch (map entry_ref_view entries.now) }
-    ensures which { RefusedOnly IsOfWriting result }
+    ensures which { RefusedOnly (IsOfWriting leaf.now.leaf_type.kind encoding) result }
     ensures unchanged { OnErr result (out.new.items ≡ out.old.items) }
 {
     what_is_of_a_kind_fits_it();

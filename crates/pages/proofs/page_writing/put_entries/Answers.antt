@@ -8,7 +8,7 @@ use Rattle.schema.specs.Views.{leaf_view}
 use Rattle.pages.specs.Page.{values}
 use Rattle.pages.specs.WrittenValues.{AreWritten, AreValuesIn}
 use Rattle.pages.specs.inner.Put.{most_of_values}
-use Rattle.pages.proofs.WrittenPages.{entries_written, parts_are, fills}
+use Rattle.pages.proofs.WrittenPages.{entries_written, parts_are, fills, nulls_and_values}
 use Rattle.pages.proofs.page_writing.put_entries.Goals as goal
 
 pub returns-clause-written : goal.returns-clause-written
@@ -25,5 +25,5 @@ returns-clause-written c =
     let parts = parts_are leaf es mid c.as_slice.result.now p.text c.in_ok-sections.sections sections (c.as_slice.ensures.value ∙ p.joined) in
     on_ok_weaker c.put_data_page.result
     (entries_written leaf (record { version = c.args.version; encoding = c.args.encoding; entries = length c.args.entries.now; nulls = length c.args.entries.now - length c.args.values.now; rows = c.count_rows.result }) es (AreValuesIn kind c.args.encoding vs) sections.repetition_bytes sections.definition_bytes p.text c.args.out.now.items c.put_data_page.new.out.items
-    count (omega (arith, count, some)) c.count_rows.ensures.rows sections.first sections.second (fills (AreWritten kind c.args.encoding vs) (most_of_values vs) mid c.put_values.new.out.items p) sections.first_short sections.second_short p.short (omega (arith, count, some, c.requires.few)))
+    count (omega (arith, count, some, nulls_and_values es)) c.count_rows.ensures.rows sections.first sections.second (fills (AreWritten kind c.args.encoding vs) (most_of_values vs) mid c.put_values.new.out.items p) sections.first_short sections.second_short p.short (omega (arith, count, some, c.requires.few)))
     (c.put_data_page.ensures.stands sections.repetition_bytes sections.definition_bytes p.text parts)

@@ -1,7 +1,7 @@
 use Rattle.std.proofs.Common.{◌<◌, ◌∷◌, [], map, ap, ◌∙◌, arith}
 use Rattle.std.proofs.lemmas.List.{map-append}
 use Rattle.schema.specs.Views.{row_view}
-use Rattle.pages.specs.Views.{entry_ref_view}
+use Rattle.schema.specs.Borrowed.{entry_ref_view}
 use Rattle.row_group.specs.Columns.{width}
 use Rattle.row_group.proofs.Places.{all_here}
 use Rattle.row_group.proofs.Lent.{width_of, entry_gathered}
