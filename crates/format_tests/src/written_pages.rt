@@ -17,7 +17,12 @@ const NUMBERS: [Levels; 2] = [(0, 0, Some(1)), (0, 0, Some(300))];
 const FIVE_NULL_SIX: [Levels; 3] = [(0, 1, Some(5)), (0, 0, None), (0, 1, Some(6))];
 
 /// The rows [5, 6], [] and [7] of a REPEATED leaf.
-const LISTS: [Levels; 4] = [(0, 1, Some(5)), (1, 1, Some(6)), (0, 0, None), (0, 1, Some(7))];
+const LISTS: [Levels; 4] = [
+    (0, 1, Some(5)),
+    (1, 1, Some(6)),
+    (0, 0, None),
+    (0, 1, Some(7)),
+];
 
 /// The first row of NUMBERS, PLAIN in version 1.
 const ONE_ROW: [u8; 25] = [
@@ -173,7 +178,15 @@ fn page_of(
 ) -> R<Vec<u8>> {
     let mut scratch = Vec::from_slice(alloc, &[9, 9, 9])?;
     let mut out = Vec::new(alloc);
-    write_page(alloc, leaf, version, encoding, entries, &mut scratch, &mut out)?;
+    write_page(
+        alloc,
+        leaf,
+        version,
+        encoding,
+        entries,
+        &mut scratch,
+        &mut out,
+    )?;
     Ok(out)
 }
 
@@ -218,8 +231,26 @@ fn levels_are_written_in_each_version(rt: HostRuntime) -> Result<(), Fail> {
     let alloc = rt.alloc();
     let plain = Encoding::Plain;
     let optional = leaf_of(alloc, Kind::Int32, None, (0, 1));
-    assert!(rt; is_page(alloc, &optional, PageVersion::V1, plain, &FIVE_NULL_SIX, &OPTIONAL_V1)?);
-    assert!(rt; is_page(alloc, &optional, PageVersion::V2, plain, &FIVE_NULL_SIX, &OPTIONAL_V2)?);
+    assert!(rt;
+        is_page(
+            alloc,
+            &optional,
+            PageVersion::V1,
+            plain,
+            &FIVE_NULL_SIX,
+            &OPTIONAL_V1
+        )?
+    );
+    assert!(rt;
+        is_page(
+            alloc,
+            &optional,
+            PageVersion::V2,
+            plain,
+            &FIVE_NULL_SIX,
+            &OPTIONAL_V2
+        )?
+    );
     let repeated = leaf_of(alloc, Kind::Int32, None, (1, 1));
     assert!(rt; is_page(alloc, &repeated, PageVersion::V1, plain, &LISTS, &LISTS_V1)?);
     assert!(rt; is_page(alloc, &repeated, PageVersion::V2, plain, &LISTS, &LISTS_V2)?);
@@ -231,7 +262,13 @@ fn booleans_are_written_by_rle(rt: HostRuntime) -> Result<(), Fail> {
     let leaf = leaf_of(rt.alloc(), Kind::Boolean, None, (0, 0));
     let values = [Value::Bool(true), Value::Bool(false), Value::Bool(true)];
     let entries = flat(rt.alloc(), &values)?;
-    let page = page_of(rt.alloc(), &leaf, PageVersion::V1, Encoding::Rle, entries.as_slice())?;
+    let page = page_of(
+        rt.alloc(),
+        &leaf,
+        PageVersion::V1,
+        Encoding::Rle,
+        entries.as_slice(),
+    )?;
     assert_eq!(rt; page.as_slice(), BOOLEANS.as_slice());
     Ok(())
 }
@@ -242,7 +279,13 @@ fn byte_arrays_are_written_by_their_lengths(rt: HostRuntime) -> Result<(), Fail>
     let values = texts(rt.alloc(), [b"a", b"bb", b""])?;
     let entries = flat(rt.alloc(), values.as_slice())?;
     let encoding = Encoding::DeltaLengthByteArray;
-    let page = page_of(rt.alloc(), &leaf, PageVersion::V1, encoding, entries.as_slice())?;
+    let page = page_of(
+        rt.alloc(),
+        &leaf,
+        PageVersion::V1,
+        encoding,
+        entries.as_slice(),
+    )?;
     assert_eq!(rt; page.as_slice(), LENGTHS.as_slice());
     Ok(())
 }
@@ -263,10 +306,28 @@ fn a_dictionary_and_its_indexes_are_written(rt: HostRuntime) -> Result<(), Fail>
     let mut scratch = Vec::new(alloc);
     let indexes = dictionary.indexes();
     let version = PageVersion::V1;
-    write_index_page(alloc, &leaf, version, entries.as_slice(), indexes, 2, &mut scratch, &mut out)?;
+    write_index_page(
+        alloc,
+        &leaf,
+        version,
+        entries.as_slice(),
+        indexes,
+        2,
+        &mut scratch,
+        &mut out,
+    )?;
     assert_eq!(rt; out.as_slice(), INDEXES.as_slice());
     for (wrong, size) in [([0, 1].as_slice(), 2), ([0, 1, 2].as_slice(), 2)] {
-        let refused = write_index_page(alloc, &leaf, version, entries.as_slice(), wrong, size, &mut scratch, &mut out);
+        let refused = write_index_page(
+            alloc,
+            &leaf,
+            version,
+            entries.as_slice(),
+            wrong,
+            size,
+            &mut scratch,
+            &mut out,
+        );
         assert!(rt; matches!(refused, Err(Refusal::Value)));
     }
     assert_eq!(rt; out.as_slice(), INDEXES.as_slice());
@@ -291,17 +352,39 @@ fn entries_that_are_not_of_the_leaf_are_refused(rt: HostRuntime) -> Result<(), F
     let mut out = Vec::from_slice(alloc, &[7])?;
     for (levels, refusal) in &WRONG {
         let entries = entries_of(alloc, &[*levels])?;
-        let refused = write_page(alloc, &leaf, PageVersion::V2, Encoding::Plain, entries.as_slice(), &mut scratch, &mut out);
+        let refused = write_page(
+            alloc,
+            &leaf,
+            PageVersion::V2,
+            Encoding::Plain,
+            entries.as_slice(),
+            &mut scratch,
+            &mut out,
+        );
         assert!(rt; matches!(refused, Err(fault) if fault == *refusal));
     }
     let wide = entries_of(alloc, &[(0, 1, Some(2147483648))])?;
-    let refused = write_page(alloc, &leaf, PageVersion::V1, Encoding::Plain, wide.as_slice(), &mut scratch, &mut out);
+    let refused = write_page(
+        alloc,
+        &leaf,
+        PageVersion::V1,
+        Encoding::Plain,
+        wide.as_slice(),
+        &mut scratch,
+        &mut out,
+    );
     assert!(rt; matches!(refused, Err(Refusal::Value)));
     assert_eq!(rt; out.as_slice(), [7].as_slice());
     let text = leaf_of(alloc, Kind::ByteArray, Some(0), (0, 0));
     let values = texts(alloc, [b"a", b"\xFF", b""])?;
     let entries = flat(alloc, values.as_slice())?;
-    let refused = page_of(alloc, &text, PageVersion::V1, Encoding::Plain, entries.as_slice());
+    let refused = page_of(
+        alloc,
+        &text,
+        PageVersion::V1,
+        Encoding::Plain,
+        entries.as_slice(),
+    );
     assert!(rt; matches!(refused, Err(Refusal::Value)));
     Ok(())
 }
@@ -333,7 +416,11 @@ fn is_read_back(alloc: Global, kind: Kind, encoding: Encoding, values: &[Value])
 #[test]
 fn written_pages_are_read_back(rt: HostRuntime) -> Result<(), Fail> {
     let alloc = rt.alloc();
-    let numbers = [Value::Int(-2147483648), Value::Int(2147483647), Value::Int(0)];
+    let numbers = [
+        Value::Int(-2147483648),
+        Value::Int(2147483647),
+        Value::Int(0),
+    ];
     for encoding in [Encoding::Plain, Encoding::DeltaBinaryPacked] {
         assert!(rt; is_read_back(alloc, Kind::Int32, encoding, &numbers)?);
         assert!(rt; is_read_back(alloc, Kind::Int64, encoding, &numbers)?);
@@ -344,9 +431,20 @@ fn written_pages_are_read_back(rt: HostRuntime) -> Result<(), Fail> {
     }
     let fixed = texts(alloc, [b"abc", b"abd", b"\x00\xFF\x07"])?;
     for encoding in [Encoding::Plain, Encoding::DeltaByteArray] {
-        assert!(rt; is_read_back(alloc, Kind::FixedLenByteArray(3), encoding, fixed.as_slice())?);
+        assert!(rt;
+            is_read_back(
+                alloc,
+                Kind::FixedLenByteArray(3),
+                encoding,
+                fixed.as_slice()
+            )?
+        );
     }
-    let encodings = [Encoding::Plain, Encoding::DeltaLengthByteArray, Encoding::DeltaByteArray];
+    let encodings = [
+        Encoding::Plain,
+        Encoding::DeltaLengthByteArray,
+        Encoding::DeltaByteArray,
+    ];
     for encoding in encodings {
         assert!(rt; is_read_back(alloc, Kind::ByteArray, encoding, fixed.as_slice())?);
         assert!(rt; is_read_back(alloc, Kind::ByteArray, encoding, &[])?);

@@ -10,6 +10,7 @@ pub mod WrittenValues
 pub mod WrittenParts
 pub mod WrittenPages
 pub mod WrittenDictionaries
+pub mod WrittenPlain
 pub mod OneList
 pub mod OneBody
 pub mod OneChunk

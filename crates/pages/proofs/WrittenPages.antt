@@ -114,12 +114,14 @@ values_stand d kind encoding vs text p = absurd p
 -- so do indexes, in a chunk with their dictionary
 pub indexes_stand : (d : List ValueTree) (kind : Kind) (size : ℕ) (indexes text : List ℕ) (vs : List ValueTree) → length d ≡ size → AreEntriesAt d indexes vs → IsIndexPage size text (length indexes) indexes (length text) → AreValues (Some d) kind (Some RleDictionary) text vs
 indexes_stand d kind size indexes text vs sized are p =
-    let count : length indexes ≡ length vs = sym (length-map indexes (λ i. slice_get d i)) ∙ ap length are ∙ length-map vs (λ v. Some v) in
-    (length text, record {
-      indexes = indexes;
-      stand = subst (λ (n : ℕ). IsIndexPage n text (length vs) indexes (length text)) (sym sized) (subst (λ (n : ℕ). IsIndexPage size text n indexes (length text)) count p);
-      are = are;
-    })
+    let count : length indexes ≡ length vs = sym (length-map indexes (λ i. slice_get d i)) ∙ ap length are ∙ length-map vs (λ v. Some v) in (
+      length text,
+      record {
+        indexes = indexes;
+        stand = subst (λ (n : ℕ). IsIndexPage n text (length vs) indexes (length text)) (sym sized) (subst (λ (n : ℕ). IsIndexPage size text n indexes (length text)) count p);
+        are = are;
+      },
+    )
 
 -- ---- from the parts
 

@@ -89,7 +89,6 @@ pub only_narrow : (Also : Refusal → Type 0) (e : Refusal) → HasCause (λ f. 
 only_narrow Also Memory cause never = tt
 only_narrow Also e cause never = absurd (never (subst IsFault (sym cause) tt))
 
-
 -- values of numbers and booleans are never too long
 never_long : (kind : Kind) (v : ValueTree) → IsOfKind kind v → IsTooLong v → (text : List ℕ) × (v ≡ byte_value text)
 never_long kind (byte_value text) is long = (text, refl)

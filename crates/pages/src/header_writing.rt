@@ -14,7 +14,8 @@ use crate::limits::MOST_BYTES_OF_PAGE;
 use crate::page_version::PageVersion;
 use bits::{R, Refusal};
 use metadata::{
-    DATA_PAGE, DATA_PAGE_V2, DICTIONARY_PAGE, DataPageHeader, DataPageHeaderV2, DictionaryPageHeader, PageHeader,
+    DATA_PAGE, DATA_PAGE_V2, DICTIONARY_PAGE, DataPageHeader, DataPageHeaderV2,
+    DictionaryPageHeader, PageHeader,
 };
 use std::alloc::Global;
 
@@ -110,7 +111,12 @@ fn data_header(head: DataPageHead, size: usize, sections: SectionSizes) -> PageH
 
 /// Writes the header of a dictionary page with this many bytes of body and this many entries. Refused Limit
 /// exactly when one of them is more than an i32 holds. After a refusal `out` is unchanged.
-pub(crate) fn put_dictionary_header(alloc: Global, size: usize, count: usize, out: &mut Vec<u8>) -> R<()>
+pub(crate) fn put_dictionary_header(
+    alloc: Global,
+    size: usize,
+    count: usize,
+    out: &mut Vec<u8>,
+) -> R<()>
     ensures stands { OnOk result (Appends (λ bytes. IsThrift bytes (page_header_fields (dictionary_header_shown size count))) 128 out.old.items out.new.items) }
     ensures fits { OnOk result ((size ≤ most_of_page) × (count ≤ most_of_page)) }
     ensures limit { result ≡ Err Refusal.Limit → (most_of_page < size) ⊎ (most_of_page < count) }

@@ -40,12 +40,7 @@ pub(crate) fn put_sections(
 }
 
 /// Writes the repetition levels at the end.
-fn put_repetitions(
-    alloc: Global,
-    leaf: &Leaf,
-    entries: &[EntryRef<'_>],
-    out: &mut Vec<u8>,
-) -> R<()>
+fn put_repetitions(alloc: Global, leaf: &Leaf, entries: &[EntryRef<'_>], out: &mut Vec<u8>) -> R<()>
     requires { AllByRecursion (IsEntryOf (leaf_view leaf.now)) (map entry_ref_view entries.now) }
     ensures stands { OnOk result (Puts (AreLevelsIn leaf.now.greatest_repetition (repetitions (map entry_ref_view entries.now))) (80 + 9 * length entries.now) out.old.items out.new.items) }
     ensures which { RefusedMemoryOnly result }
@@ -58,12 +53,7 @@ fn put_repetitions(
 }
 
 /// Writes the definition levels at the end.
-fn put_definitions(
-    alloc: Global,
-    leaf: &Leaf,
-    entries: &[EntryRef<'_>],
-    out: &mut Vec<u8>,
-) -> R<()>
+fn put_definitions(alloc: Global, leaf: &Leaf, entries: &[EntryRef<'_>], out: &mut Vec<u8>) -> R<()>
     requires { AllByRecursion (IsEntryOf (leaf_view leaf.now)) (map entry_ref_view entries.now) }
     ensures stands { OnOk result (Puts (AreLevelsIn leaf.now.greatest_definition (definitions (map entry_ref_view entries.now))) (80 + 9 * length entries.now) out.old.items out.new.items) }
     ensures which { RefusedMemoryOnly result }

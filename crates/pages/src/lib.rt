@@ -20,6 +20,7 @@ mod page_reading;
 mod page_version;
 mod page_writing;
 mod parts_writing;
+mod plain_page_writing;
 mod section_writing;
 mod value_writing;
 mod written_entries;

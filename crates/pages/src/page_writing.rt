@@ -19,6 +19,7 @@ use crate::header_writing::DataPageHead;
 use crate::level_writing::put_sections;
 use crate::page_version::PageVersion;
 use crate::parts_writing::put_data_page;
+use crate::plain_page_writing::{has_known_size, put_plain_page};
 use crate::value_writing::put_values;
 use crate::written_entries::{check_entries, count_rows, values_of};
 use bits::{R, Refusal};
@@ -64,7 +65,16 @@ pub fn write_page(
     what_is_of_a_kind_fits_it();
     check_entries(leaf, entries)?;
     let values = values_of(alloc, entries)?;
-    put_entries(alloc, leaf, version, encoding, entries, values.as_slice(), scratch, out)
+    put_entries(
+        alloc,
+        leaf,
+        version,
+        encoding,
+        entries,
+        values.as_slice(),
+        scratch,
+        out,
+    )
 }
 
 /// Writes the entries, which are the leaf's and have these values.
@@ -89,8 +99,6 @@ fn put_entries(
     ensures which { RefusedOnly (IsOfPageWriting leaf.now.leaf_type.kind encoding (map entry_ref_view entries.now)) result }
     ensures unchanged { OnErr result (out.new.items ≡ out.old.items) }
 {
-    let sections = put_sections(alloc, leaf, entries, scratch)?;
-    put_values(alloc, leaf.leaf_type.kind, encoding, values, scratch)?;
     let head = DataPageHead {
         version,
         encoding,
@@ -98,5 +106,10 @@ fn put_entries(
         nulls: entries.len() - values.len(),
         rows: count_rows(entries),
     };
+    if has_known_size(leaf, encoding) {
+        return put_plain_page(alloc, leaf, head, values, out);
+    }
+    let sections = put_sections(alloc, leaf, entries, scratch)?;
+    put_values(alloc, leaf.leaf_type.kind, encoding, values, scratch)?;
     put_data_page(alloc, leaf, head, sections, scratch.as_slice(), out)
 }

@@ -1,5 +1,5 @@
 -- What the parts of a page leave in a buffer.
-use Rattle.std.specs.Prelude.{◌≡◌, ◌⊎◌, ◌≤◌, ◌<◌, ℕ, zero, suc, ◌+◌, ◌*◌, List, ◌++◌, length}
+use Rattle.std.specs.Prelude.{◌≡◌, ◌⊎◌, ◌≤◌, ◌<◌, ℕ, zero, suc, ◌+◌, ◌*◌, List, [], ◌++◌, length}
 use Rattle.std.specs.List.{Any}
 use Rattle.bits.specs.declared.refusal.Refusal.{Refusal}
 use Rattle.bits.specs.declared.refusal.Refusal.TheVariants.{Encoding as EncodingFault, Limit}
@@ -8,9 +8,11 @@ use Rattle.schema.specs.Stripe.{Leaf, Entry}
 use Rattle.schema.specs.Values.{ValueTree}
 use Rattle.plain.specs.Plain.{IsTooLong, text_size}
 use Rattle.pages.specs.declared.encoding.Encoding.{Encoding}
+use Rattle.pages.specs.declared.encoding.Encoding.TheVariants.{Plain}
 use Rattle.pages.specs.declared.page_version.PageVersion.{PageVersion}
 use Rattle.pages.specs.declared.page_version.PageVersion.TheVariants.{V1, V2}
 use Rattle.pages.specs.Greatest.{most_of_page}
+use Rattle.pages.specs.WrittenValues.{AreValuesIn}
 use Rattle.pages.specs.Writing.{IsEncodingFor, IsPageTooMuch}
 use Rattle.pages.specs.Page.{repetitions, definitions}
 use Rattle.bits.specs.Codec.{Appends}
@@ -79,3 +81,15 @@ abbrev pub IsOfPageWriting : Kind → Encoding → List Entry → Refusal → Ty
 IsOfPageWriting kind encoding es EncodingFault = IsEncodingFor kind encoding → ⊥
 IsOfPageWriting kind encoding es Limit = IsPageTooMuch es
 IsOfPageWriting kind encoding es _ = ⊥
+
+-- a data page without levels, of these values in PLAIN, stands at the end
+pub record IsPlainDataPage (leaf : Leaf) (head : DataPageHead) (vs : List ValueTree) (old new : List ℕ) : Type 0 where
+  pub text : List ℕ
+  pub spelled : AreValuesIn leaf.leaf_type.kind Plain vs text
+  pub short : length text ≤ most_of_values vs
+  pub page : IsDataPage leaf head [] [] text old new
+
+-- what PLAIN values are refused for that should make a page of n entries
+abbrev pub IsOfPlainWriting : ℕ → List ValueTree → Refusal → Type 0
+IsOfPlainWriting n vs Limit = Any IsTooLong vs ⊎ (most_of_page < most_of_values vs) ⊎ (most_of_page < n)
+IsOfPlainWriting n vs _ = ⊥
