@@ -306,12 +306,7 @@ fn prefixes_that_are_not_there_are_refused(rt: HostRuntime) -> Result<(), Fail> 
     let first = shared(rt.alloc(), &[1, 0], &[4, 2], b"axisle")?;
     let negative_prefix = shared(rt.alloc(), &[0, -1], &[4, 2], b"axisle")?;
     let negative_suffix = shared(rt.alloc(), &[0, 0], &[4, -2], b"axisle")?;
-    for bytes in [
-        longer_than_the_value,
-        first,
-        negative_prefix,
-        negative_suffix,
-    ] {
+    for bytes in [longer_than_the_value, first, negative_prefix, negative_suffix] {
         let refused = decode_prefixes(rt.alloc(), &bytes, 2);
         assert!(rt; matches!(refused, Err(Refusal::Value)));
     }

@@ -1,5 +1,5 @@
 -- The pages of dictionaries that are written.
-use Rattle.std.proofs.Common.{◌≡◌, ℕ, ◌+◌, ◌-◌, ◌*◌, ◌^◌, ◌≤◌, ◌<◌, List, ◌++◌, length, Option, Some, refl, sym, ap, subst, ◌∙◌, arith, inl, inr, true, pos}
+use Rattle.std.proofs.Common.{◌≡◌, ℕ, ◌+◌, ◌-◌, ◌^◌, ◌≤◌, ◌<◌, List, length, Some, refl, sym, ap, subst, arith, inl, inr, true, pos}
 use Rattle.std.specs.Prelude.{◌⊎◌, All, min}
 use Rattle.std.proofs.lemmas.List.{length-append}
 use Rattle.bits.specs.Codec.{Appends}
@@ -13,8 +13,7 @@ use Rattle.plain.specs.Plain.{IsPlain, HasZeroPadding, IsOfKind, plain_size}
 use Rattle.pages.specs.declared.encoding.Encoding.TheVariants.{Plain}
 use Rattle.pages.specs.Encodings.{ArePlain}
 use Rattle.pages.specs.Greatest.{most_of_page}
-use Rattle.pages.specs.Headers.{dictionary_header, IsHeaded, IsWrittenDictionary}
-use Rattle.pages.specs.Page.{IsDictionaryBody}
+use Rattle.pages.specs.Headers.{dictionary_header, IsWrittenDictionary}
 use Rattle.pages.specs.Writing.{weight_of, IsDictionaryTooMuch, StandsAsDictionary}
 use Rattle.pages.specs.WrittenValues.{AreWritten}
 use Rattle.pages.specs.inner.Put.{most_of_values}

@@ -1,8 +1,8 @@
 -- Headers that are written, and the pages of them.
-use Rattle.std.proofs.Common.{◌≡◌, ℕ, ◌+◌, ◌≤◌, List, [], ◌++◌, length, drop, Some, refl, sym, ap, subst, ◌∙◌, arith, append_assoc, pos, true, false, Result, Ok, Err}
+use Rattle.std.proofs.Common.{◌≡◌, ℕ, ◌+◌, ◌≤◌, List, ◌++◌, length, drop, Some, refl, sym, ap, subst, ◌∙◌, arith, append_assoc, pos, true, false, Result, Ok, Err}
 use Rattle.std.proofs.lemmas.List.{length-append, drop_at}
 use Rattle.bits.specs.declared.refusal.Refusal.{Refusal}
-use Rattle.bits.specs.declared.refusal.Refusal.TheVariants.{Thrift, Limit, Memory}
+use Rattle.bits.specs.declared.refusal.Refusal.TheVariants.{Thrift, Memory}
 use Rattle.bits.specs.Refusals.{RefusedOnly}
 use Rattle.bits.specs.Codec.{Appends}
 use Rattle.thrift_compact.specs.Compact.{IsThrift}

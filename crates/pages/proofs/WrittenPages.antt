@@ -1,10 +1,9 @@
 -- What is written is a page of its entries.
-use Rattle.std.proofs.Common.{◌≡◌, ℕ, zero, suc, ◌+◌, ◌-◌, ◌*◌, ◌^◌, ◌≤◌, ◌<◌, List, [], ◌∷◌, ◌++◌, length, map, Option, Some, None, refl, sym, ap, subst, ◌∙◌, arith, append_assoc, inl, inr, pos, false}
-use Rattle.std.specs.Prelude.{◌⊎◌, ◌↔◌, All, IsTrue, MatchOption, slice_get}
-use Rattle.std.specs.Int.{w32, w64}
+use Rattle.std.proofs.Common.{◌≡◌, ℕ, zero, suc, ◌+◌, ◌*◌, ◌^◌, ◌≤◌, ◌<◌, List, [], ◌∷◌, ◌++◌, length, Option, Some, None, refl, sym, ap, subst, ◌∙◌, arith, append_assoc, inl, inr, pos, false}
+use Rattle.std.specs.Prelude.{◌↔◌, All, IsTrue, MatchOption, slice_get}
 use Rattle.std.specs.List.{Any, AllByRecursion}
-use Rattle.std.proofs.lemmas.List.{append-nil, length-append, length-map}
-use Rattle.std.proofs.lemmas.List.Elements.{recursion_from_All, All-from_recursion}
+use Rattle.std.proofs.lemmas.List.{append-nil, length-map}
+use Rattle.std.proofs.lemmas.List.Elements.{All-from_recursion}
 use Rattle.bits.specs.Codec.{Appends}
 use Rattle.schema.specs.declared.value.Kind.{Kind}
 use Rattle.schema.specs.declared.value.Kind.TheVariants.{Boolean, Int32, Int64, ByteArray, FixedLenByteArray}
@@ -20,17 +19,16 @@ use Rattle.pages.specs.declared.encoding.Encoding.TheVariants.{Plain, Rle, Delta
 use Rattle.pages.specs.declared.page_version.PageVersion.{PageVersion}
 use Rattle.pages.specs.declared.page_version.PageVersion.TheVariants.{V1, V2}
 use Rattle.pages.specs.Encodings.{encoding_of, AreValues}
-use Rattle.pages.specs.Greatest.{most_of_page}
-use Rattle.pages.specs.Page.{IsPage, entries, AreZero, AreLevelsOrZero, IsSectionV1, IsSectionV2, AreLevelsV1, AreLevelsV2, IsBodyV1, IsBodyV2, repetitions, definitions, values}
+use Rattle.pages.specs.Page.{IsPage, entries, AreZero, IsSectionV1, IsSectionV2, AreLevelsV1, AreLevelsV2, repetitions, definitions, values}
 use Rattle.pages.specs.declared.header_writing.DataPageHead.{DataPageHead}
 use Rattle.pages.specs.declared.header_writing.SectionSizes.{SectionSizes}
 use Rattle.pages.specs.Headers.{number_of, data_header, section, body_of, rows_in, nulls_in, AreLevelsIn, IsHeaded, IsWrittenPage}
 use Rattle.pages.specs.Writing.{page_weight, StandsAsPage, StandsByIndexes}
 use Rattle.pages.specs.WrittenValues.{AreValuesIn, AreIndexesIn}
-use Rattle.pages.specs.inner.Put.{before, most_of_values, AreSections, AreParts, IsDataPage}
+use Rattle.pages.specs.inner.Put.{most_of_values, AreSections, AreParts, IsDataPage}
 use Rattle.pages.proofs.Texts.{kinds_of_fit}
 use Rattle.pages.proofs.WrittenLevels.{repetitions_within, definitions_within}
-use Rattle.pages.proofs.WrittenParts.{length-section, length-body}
+use Rattle.pages.proofs.WrittenParts.{length-body}
 
 encoding_again : (encoding : Encoding) → encoding_of (pos (number_of encoding)) ≡ Some encoding
 encoding_again Plain = refl

@@ -1,5 +1,5 @@
 -- A header and the parts of a body.
-use Rattle.std.proofs.Common.{◌≡◌, ℕ, zero, suc, ◌+◌, ◌≤◌, List, [], ◌∷◌, ◌++◌, length, take, drop, Some, refl, sym, ap, subst, ◌∙◌, arith, append_assoc, pos, true}
+use Rattle.std.proofs.Common.{◌≡◌, ℕ, zero, suc, ◌+◌, ◌≤◌, List, ◌++◌, length, take, drop, Some, refl, sym, ap, subst, ◌∙◌, arith, append_assoc, pos, true}
 use Rattle.std.proofs.lemmas.List.{length-append, take_at, drop_at}
 use Rattle.bits.specs.Codec.{Appends}
 use Rattle.thrift_compact.specs.Compact.{IsThrift}
@@ -13,7 +13,7 @@ use Rattle.pages.specs.declared.page_version.PageVersion.TheVariants.{V1, V2}
 use Rattle.pages.specs.declared.header_writing.DataPageHead.{DataPageHead}
 use Rattle.pages.specs.declared.header_writing.SectionSizes.{SectionSizes}
 use Rattle.pages.specs.Greatest.{most_of_page}
-use Rattle.pages.specs.Headers.{data_header, section, body_of, IsHeaded}
+use Rattle.pages.specs.Headers.{data_header, section, body_of}
 use Rattle.pages.specs.inner.Put.{before, AreParts, header_of, IsDataPage}
 use Rattle.pages.proofs.WrittenHeaders.{has_own_data, headed}
 

@@ -1,5 +1,5 @@
 -- PLAIN pages without levels that are written.
-use Rattle.std.proofs.Common.{◌≡◌, ℕ, ◌+◌, ◌-◌, ◌^◌, ◌≤◌, ◌<◌, List, [], ◌++◌, length, Some, refl, sym, ap, subst, ◌∙◌, arith, inl, inr, true}
+use Rattle.std.proofs.Common.{◌≡◌, ℕ, ◌+◌, ◌-◌, ◌^◌, ◌≤◌, ◌<◌, List, [], ◌++◌, length, Some, refl, sym, ap, subst, arith, inl, inr, true}
 use Rattle.std.specs.Prelude.{◌⊎◌, All, min}
 use Rattle.std.specs.List.{Any}
 use Rattle.std.proofs.lemmas.List.{append-nil, length-append}
@@ -20,7 +20,6 @@ use Rattle.pages.specs.declared.encoding.Encoding.TheVariants.{Plain}
 use Rattle.pages.specs.declared.page_version.PageVersion.{PageVersion}
 use Rattle.pages.specs.declared.page_version.PageVersion.TheVariants.{V1, V2}
 use Rattle.pages.specs.declared.header_writing.DataPageHead.{DataPageHead}
-use Rattle.pages.specs.declared.header_writing.SectionSizes.{SectionSizes}
 use Rattle.pages.specs.Greatest.{most_of_page}
 use Rattle.pages.specs.Headers.{data_header, section, rows_in, nulls_in, AreLevelsIn, IsWrittenPage}
 use Rattle.pages.specs.Page.{repetitions, definitions, values}

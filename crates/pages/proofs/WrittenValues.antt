@@ -1,32 +1,28 @@
 -- Values that are written, in the table of encodings.
-use Rattle.std.proofs.Common.{◌≡◌, ℕ, zero, suc, ◌+◌, ◌*◌, ◌^◌, ◌<◌, ◌≤◌, Bool, true, false, List, [], ◌∷◌, ◌++◌, length, map, get_or, Result, Ok, Err, refl, sym, ap, subst, ◌∙◌, arith, append_assoc, inl, inr}
-use Rattle.std.specs.Prelude.{ℤ, All, ◌⊎◌, Option, Some}
+use Rattle.std.proofs.Common.{◌≡◌, ℕ, suc, ◌+◌, ◌*◌, ◌^◌, ◌<◌, ◌≤◌, Bool, true, false, List, [], ◌∷◌, ◌++◌, length, map, get_or, Result, Ok, Err, refl, sym, ap, subst, ◌∙◌, arith, append_assoc}
+use Rattle.std.specs.Prelude.{ℤ, All}
 use Rattle.std.specs.Result.{OnOk}
-use Rattle.std.specs.Int.{Width, w32, w64, from_bool}
+use Rattle.std.specs.Int.{Width, from_bool}
 use Rattle.std.specs.List.{Any, AllByRecursion}
 use Rattle.std.proofs.lemmas.List.{append-nil, length-append, length-map, append_cancel_left}
 use Rattle.std.proofs.lemmas.List.Elements.{recursion_from_All, All-from_recursion}
 use Rattle.std.proofs.Math.Nat.{mul-add}
 use Rattle.byteorder.specs.Endian.{little_bytes}
 use Rattle.bits.specs.declared.refusal.Refusal.{Refusal}
-use Rattle.bits.specs.declared.refusal.Refusal.TheVariants.{Limit, Memory, Value, Encoding as EncodingFault}
+use Rattle.bits.specs.declared.refusal.Refusal.TheVariants.{Limit, Memory, Value}
 use Rattle.bits.specs.Refusals.{IsFault, HasCause, OnFault, RefusedOnly, LimitJustWhere}
 use Rattle.bits.specs.Codec.{Appends}
 use Rattle.hybrid_rle.specs.Hybrid.{IsHybrid}
 use Rattle.delta.specs.Delta.{IsDelta}
-use Rattle.delta.specs.ByteDeltas.{IsByteLengths, IsPrefixed as IsSharedPrefixes, StandForBytes}
 use Rattle.schema.specs.declared.value.Kind.{Kind}
 use Rattle.schema.specs.declared.value.Kind.TheVariants.{Boolean, Int32, Int64, ByteArray, FixedLenByteArray}
 use Rattle.schema.specs.Values.{ValueTree, boolean, integer, bytes as byte_value}
-use Rattle.plain.specs.Plain.{IsPlain, HasZeroPadding, IsOfKind, IsTooLong, IsWriteOver, plain_size, text_size, bit_of}
+use Rattle.plain.specs.Plain.{IsPlain, HasZeroPadding, IsOfKind, IsTooLong, plain_size, text_size, bit_of}
 use Rattle.plain.proofs.Seen.{none_any}
 use Rattle.pages.specs.declared.encoding.Encoding.{Encoding}
-use Rattle.pages.specs.declared.encoding.Encoding.TheVariants.{Plain, Rle, DeltaBinaryPacked, DeltaLengthByteArray, DeltaByteArray, PlainDictionary, BitPacked, RleDictionary, ByteStreamSplit}
-use Rattle.pages.specs.Greatest.{most_of_page}
-use Rattle.pages.specs.Encodings.{AreValues}
-use Rattle.pages.specs.Writing.{IsEncodingFor}
-use Rattle.pages.specs.WrittenValues.{AreBooleansIn, AreDeltasIn, AreWritten}
-use Rattle.pages.specs.inner.Put.{most_of_values, IsOfValueWriting}
+use Rattle.pages.specs.declared.encoding.Encoding.TheVariants.{Plain, Rle}
+use Rattle.pages.specs.WrittenValues.{AreDeltasIn, AreWritten}
+use Rattle.pages.specs.inner.Put.{most_of_values}
 use Rattle.pages.proofs.WrittenLevels.{seen_same}
 
 -- two facts of what is written

@@ -1,6 +1,6 @@
 -- The bytes of the pages that are written: parquet.thrift, PageHeader, DataPageHeader, DictionaryPageHeader, DataPageHeaderV2;
 -- parquet-format, README.md, "Data Pages".
-use Rattle.std.specs.Prelude.{◌≡◌, ◌==◌, ◌≤◌, ℕ, zero, suc, pos, false, List, [], ◌++◌, map, filter, length, is_none, Some, None}
+use Rattle.std.specs.Prelude.{◌≡◌, ◌==◌, ◌≤◌, ℕ, zero, suc, pos, false, List, [], ◌++◌, filter, length, is_none, Some, None}
 use Rattle.byteorder.specs.Endian.{little_bytes}
 use Rattle.schema.specs.declared.value.Kind.{Kind}
 use Rattle.schema.specs.Values.{ValueTree}
@@ -14,7 +14,7 @@ use Rattle.pages.specs.declared.page_version.PageVersion.{PageVersion}
 use Rattle.pages.specs.declared.page_version.PageVersion.TheVariants.{V1, V2}
 use Rattle.pages.specs.WrittenValues.{AreValuesIn}
 use Rattle.pages.specs.Greatest.{most_of_page}
-use Rattle.pages.specs.Page.{AreLevels, IsFramed, repetitions, definitions, values}
+use Rattle.pages.specs.Page.{AreLevels, IsFramed, repetitions, definitions}
 
 -- the number of an encoding (parquet.thrift, Encoding)
 abbrev pub number_of : Encoding → ℕ

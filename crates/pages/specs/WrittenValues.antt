@@ -1,5 +1,5 @@
 -- Values as they are written in an encoding: parquet.thrift, Encoding; parquet-format, Encodings.md.
-use Rattle.std.specs.Prelude.{◌≡◌, ℕ, ◌+◌, ◌*◌, ℤ, Bool, List, map, length}
+use Rattle.std.specs.Prelude.{◌≡◌, ℕ, ◌+◌, ℤ, Bool, List, map, length}
 use Rattle.std.specs.Int.{Width, w32, w64, from_bool}
 use Rattle.hybrid_rle.specs.Hybrid.{IsHybrid}
 use Rattle.delta.specs.Delta.{IsDelta}
