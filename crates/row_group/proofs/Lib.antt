@@ -8,3 +8,13 @@ pub mod Lent
 pub mod ColumnsWritten
 pub mod OneMeaning
 pub mod OneRest
+pub mod NextPages
+pub mod PageSteps
+pub mod Readers
+pub mod WholeChunk
+pub mod FirstRow
+pub mod InOrder
+pub mod ChunkReaders
+pub mod Starts
+pub mod GroupRows
+pub mod RowsTaken

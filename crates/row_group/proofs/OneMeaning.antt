@@ -38,7 +38,7 @@ one_column_of_file law front m leaf es fs p q =
     let same = one_start m p.start q.start p.starts q.starts in
     (law m leaf (drop q.start front) es fs p.used q.used (subst (λ (n : ℕ). ChunkMeans m leaf (drop n front) es p.used) same p.means) q.means).0
 
-one_columns : FilesHoldOneColumn → (front : List ℕ) (cs : List ChunkMeta) (leaves : List Leaf) (xs ys : List (List Entry)) → AreChunks front cs leaves xs → AreChunks front cs leaves ys → xs ≡ ys
+pub one_columns : FilesHoldOneColumn → (front : List ℕ) (cs : List ChunkMeta) (leaves : List Leaf) (xs ys : List (List Entry)) → AreChunks front cs leaves xs → AreChunks front cs leaves ys → xs ≡ ys
 one_columns law front [] [] [] [] p q = refl
 one_columns law front [] [] [] (b ∷ ys) p q = absurd q
 one_columns law front [] [] (a ∷ xs) ys p q = absurd p

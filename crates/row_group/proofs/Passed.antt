@@ -9,3 +9,7 @@ same_err e f g p q = cc
 pub passed : {X Y : Type 0} (r : Result X Refusal) (e f : Refusal) → IsErrAnd r (λ g. g ≡ e) → r ≡ Err f → ◌≡◌ {A = Result Y Refusal} (Err e) (Err f)
 passed (Ok x) e f is same = absurd is
 passed (Err g) e f is same = let h : g ≡ f = cc in same_err g e f is h
+
+pub passed_is : {X : Type 0} (r : Result X Refusal) (e f : Refusal) → IsErrAnd r (λ g. g ≡ e) → r ≡ Err f → e ≡ f
+passed_is (Ok x) e f is same = absurd is
+passed_is (Err g) e f is same = let h : g ≡ f = cc in cc

@@ -5,6 +5,7 @@ use Rattle.bits.specs.declared.refusal.Refusal.TheVariants.{Memory}
 use Rattle.schema.specs.declared.row.Row.{Row}
 use Rattle.schema.specs.Values.{ValueTrees}
 use Rattle.schema.specs.Stripe.{Entry}
+use Rattle.schema.specs.Law.{IsSchema}
 use Rattle.schema.specs.Borrowed.{value_ref_view}
 use Rattle.schema.specs.Views.{leaf_view, row_view}
 use Rattle.pages.specs.declared.data_page.DataPage.{DataPage}
@@ -45,6 +46,7 @@ chunk_stands = ChunkStands
 -- the rows that are still to come: as many as are counted, which fit, and for whose columns the readers stand
 pub record RowsStand (r : Rows) (rows : List ValueTrees) : Type 0 where
   pub whole : r.is_broken ≡ false
+  pub schema : IsSchema r.schema.now
   pub count : length rows ≡ r.left
   pub columns : StandForRows chunk_stands r.readers.items r.schema.now rows
 

@@ -24,6 +24,10 @@ pub record ChunkLeft : Type 0 where
   pub bytes : List ℕ
   pub lacking : ℕ
 
+-- a chunk of n entries with no page read
+abbrev pub all_pages : Leaf → List ℕ → ℕ → ChunkLeft
+all_pages leaf bytes n = record { leaf = leaf; known = nothing; bytes = bytes; lacking = n }
+
 -- the dictionary that the pages have, and the page that it still has to have
 abbrev pub IsKnown : Known → Option (List ValueTree) → List Page → Type 0
 IsKnown nothing d first = first ≡ dictionary_page d

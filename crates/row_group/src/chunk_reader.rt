@@ -1,17 +1,20 @@
 //! The entries of a chunk, one by one.
 
-ghost use Rattle.std.specs.Prelude.{◌≡◌, ◌≢◌, ◌<ℤ◌, ◌↔◌, ℕ, pos, List, IfOk, Err, option_map};
+ghost use Rattle.std.specs.Prelude.{◌≡◌, ◌≢◌, ◌<ℤ◌, ◌↔◌, ℕ, pos, List, length, IfOk, Err, option_map};
 ghost use Rattle.bits.specs.Faults.{refusal_of};
 ghost use Rattle.bits.specs.Refusals.{OnFault, RefusedOnly};
 ghost use Rattle.bits.specs.Codec.{NothingStands};
 ghost use Rattle.schema.specs.Stripe.{Entry};
+ghost use Rattle.schema.specs.Borrowed.{entry_ref_view};
 ghost use Rattle.schema.specs.Views.{leaf_view};
 ghost use Rattle.metadata.specs.Views.{column_meta_view};
 ghost use Rattle.row_group.specs.Chunks.{ChunkMeans};
 ghost use Rattle.row_group.specs.Greatest.{most_entries};
 ghost use Rattle.row_group.specs.Limits.{IsChunkOver, IsOfChunks};
-ghost use Rattle.row_group.specs.Left.{chunk_stands};
+ghost use Rattle.row_group.specs.Left.{page_left, chunk_stands};
+ghost use Rattle.row_group.specs.inner.Readers.{kept_fault, Fills, AdvancesReader, last_taken};
 
+use crate::chunk_record::check_record;
 use crate::pages_left::PagesLeft;
 use assemble::EntrySource;
 use bits::{Fault, R, Refusal};
@@ -53,7 +56,82 @@ impl<'a> ChunkReader<'a> {
         ensures codec { result ≡ Err Refusal.Codec → (column_meta_view meta.now).codec ≢ pos 0 }
         ensures which { RefusedOnly IsOfChunks result }
     {
-        Err(Refusal::Memory)
+        let count = check_record(meta, leaf)?;
+        Ok(ChunkReader {
+            pages: PagesLeft::new(alloc, bytes, leaf, count),
+            page: None,
+            fault: None,
+        })
+    }
+
+    /// Reads on until an entry is there, or none is left. Refused with the fault that is kept, or with
+    /// that of a page, which is kept unless it is Memory.
+    fn fill(&mut self) -> Result<(), Fault>
+        ensures { Fills self.old self.new result }
+    {
+        if let Some(fault) = self.fault {
+            return Err(fault);
+        }
+        if self.page_len() > 0 {
+            return Ok(());
+        }
+        match self.pages.next_page() {
+            Ok(page) => {
+                self.page = page;
+                Ok(())
+            }
+            Err(fault) => {
+                self.fault = kept(fault);
+                Err(fault)
+            }
+        }
+    }
+
+    /// How many entries of the page are not taken yet.
+    fn page_len(&self) -> usize
+        ensures { result ≡ length (page_left self.now.page) }
+    {
+        match &self.page {
+            Some(page) => page.len(),
+            None => 0,
+        }
+    }
+}
+
+/// The fault, unless it is Memory: that one may not come again.
+fn kept(fault: Fault) -> Option<Fault>
+    ensures { result ≡ kept_fault fault }
+{
+    match fault {
+        Fault::Memory => None,
+        _ => Some(fault),
+    }
+}
+
+impl<'a> ChunkReader<'a> {
+    /// Takes the next entry, if there is one: `entry` is that one from then on. Refused as `fill`.
+    fn advance(&mut self) -> Result<bool, Fault>
+        ensures { AdvancesReader self.old self.new result }
+    {
+        self.fill()?;
+        match &mut self.page {
+            None => Ok(false),
+            Some(page) => page.advance(),
+        }
+    }
+
+    /// The entry that was taken last; before the first one, an entry without a value.
+    fn entry(&self) -> EntryRef<'_>
+        ensures { entry_ref_view result ≡ last_taken self.now }
+    {
+        match &self.page {
+            Some(page) => page.entry(),
+            None => EntryRef {
+                repetition: 0,
+                definition: 0,
+                value: None,
+            },
+        }
     }
 }
 
@@ -63,11 +141,19 @@ impl<'a> EntrySource for ChunkReader<'a> {
     ghost refused = { λ r. option_map refusal_of r.fault };
 
     fn peek(&mut self) -> R<Option<(u32, u32)>> {
-        Err(Refusal::Memory)
+        self.fill()?;
+        match &self.page {
+            None => Ok(None),
+            Some(page) => Ok(page.peek()),
+        }
     }
 
     fn next(&mut self) -> Result<Option<EntryRef<'_>>, Fault> {
-        Err(Fault::Memory)
+        if self.advance()? {
+            Ok(Some(self.entry()))
+        } else {
+            Ok(None)
+        }
     }
 
     fn one_list(&self) {

@@ -1,21 +1,24 @@
 //! From bytes to columns.
 
-ghost use Rattle.std.specs.Prelude.{◌≡◌, ◌≢◌, ℕ, pos, ◌≤◌, List, length, IfOk, OnOk, Err};
-ghost use Rattle.bits.specs.Refusals.{OnFault, RefusedOnly};
+ghost use Rattle.std.specs.Prelude.{◌≡◌, ◌≢◌, ℕ, pos, ◌≤◌, ◌++◌, List, map, length, IfOk, IfErr, OnOk, Err};
+ghost use Rattle.bits.specs.Refusals.{OnFault, RefusedOnly, RefusedMemoryOnly};
 ghost use Rattle.bits.specs.Codec.{NothingStands};
 ghost use Rattle.schema.specs.Stripe.{Entry};
-ghost use Rattle.schema.specs.Views.{leaf_view, column_view};
+ghost use Rattle.schema.specs.Views.{leaf_view, entry_view, column_view};
 ghost use Rattle.metadata.specs.Views.{column_meta_view};
 ghost use Rattle.row_group.specs.Chunks.{ChunkMeans};
+ghost use Rattle.pages.specs.Left.{entries_left};
 ghost use Rattle.row_group.specs.Limits.{IsChunkOver, IsOfChunks};
+ghost use Rattle.row_group.specs.Left.{pages_view};
+ghost use Rattle.row_group.specs.inner.Pages.{PassesAll, IsRefusedWithin};
 
+use crate::chunk_record::check_record;
+use crate::pages_left::PagesLeft;
 use bits::{R, Refusal};
 use metadata::ColumnMeta;
+use pages::DataPage;
 use schema::{Column, Leaf};
 use std::alloc::Global;
-
-/// The number of CompressionCodec (`parquet.thrift`) for chunks that are stored as they are.
-pub const UNCOMPRESSED: i32 = 0;
 
 /// Reads the pages of a chunk, which begin where `bytes` does, and keeps nothing of them. Returns how
 /// many bytes they take.
@@ -31,7 +34,10 @@ pub fn check_chunk(alloc: Global, bytes: &[u8], meta: &ColumnMeta, leaf: &Leaf) 
     ensures codec { result ≡ Err Refusal.Codec → (column_meta_view meta.now).codec ≢ pos 0 }
     ensures which { RefusedOnly IsOfChunks result }
 {
-    Err(Refusal::Memory)
+    let count = check_record(meta, leaf)?;
+    let mut pages = PagesLeft::new(alloc, bytes, leaf, count);
+    skip_entries(&mut pages)?;
+    Ok(bytes.len() - pages.bytes.len())
 }
 
 /// The column of a chunk, from the bytes that begin where the chunk starts, and how many of them its
@@ -55,5 +61,41 @@ pub fn read_chunk(alloc: Global, bytes: &[u8], meta: &ColumnMeta, leaf: &Leaf) -
     ensures codec { result ≡ Err Refusal.Codec → (column_meta_view meta.now).codec ≢ pos 0 }
     ensures which { RefusedOnly IsOfChunks result }
 {
-    Err(Refusal::Memory)
+    let count = check_record(meta, leaf)?;
+    let mut pages = PagesLeft::new(alloc, bytes, leaf, count);
+    let entries = read_entries(alloc, &mut pages)?;
+    Ok((Column { entries }, bytes.len() - pages.bytes.len()))
+}
+
+/// Reads all pages that are left, and drops their entries.
+fn skip_entries(pages: &mut PagesLeft<'_>) -> R<()>
+    ensures stands { OnOk result ((es : List Entry) × PassesAll (pages_view pages.old) (pages_view pages.new) es) }
+    ensures refused { IfErr result (IsRefusedWithin (pages_view pages.old)) }
+{
+    while let Some(_) = pages.next_page()? {}
+    Ok(())
+}
+
+/// Reads all pages that are left: their entries.
+fn read_entries(alloc: Global, pages: &mut PagesLeft<'_>) -> R<Vec<schema::Entry>>
+    ensures stands { IfOk result (λ es. PassesAll (pages_view pages.old) (pages_view pages.new) (map entry_view es.items)) }
+    ensures refused { IfErr result (IsRefusedWithin (pages_view pages.old)) }
+{
+    let mut entries = Vec::new(alloc);
+    while let Some(page) = pages.next_page()? {
+        push_entries(alloc, page, &mut entries)?;
+    }
+    Ok(entries)
+}
+
+/// Puts copies of a page's entries after those that are there.
+fn push_entries(alloc: Global, mut page: DataPage<'_>, entries: &mut Vec<schema::Entry>) -> R<()>
+    ensures stands { OnOk result (map entry_view entries.new.items ≡ map entry_view entries.old.items ++ entries_left page.entry) }
+    ensures which { RefusedMemoryOnly result }
+{
+    entries.reserve(page.len())?;
+    while page.advance()? {
+        entries.push(page.entry().to_entry(alloc)?)?;
+    }
+    Ok(())
 }

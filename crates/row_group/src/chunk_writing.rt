@@ -14,7 +14,7 @@ ghost use Rattle.pages.specs.Writing.{page_weight, AreShort, IsPageTooMuch, IsOf
 ghost use Rattle.row_group.specs.Greatest.{most_entries};
 ghost use Rattle.row_group.specs.Writing.{AppendsChunk, IsChunkTooMuch, IsOwnPage};
 
-use crate::chunk_reading::UNCOMPRESSED;
+use crate::chunk_record::UNCOMPRESSED;
 use crate::limits::{MOST_BYTES_BEFORE_CHUNK, MOST_ENTRIES_OF_CHUNK};
 use bits::{R, Refusal};
 use metadata::ColumnMeta;

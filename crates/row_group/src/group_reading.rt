@@ -8,6 +8,7 @@ ghost use Rattle.metadata.specs.Views.{group_meta_view};
 ghost use Rattle.row_group.specs.Chunks.{GroupMeans};
 ghost use Rattle.row_group.specs.Limits.{IsGroupOver, HasCodec, IsOfChunks};
 
+use crate::laws::one_meaning;
 use crate::rows::Rows;
 use bits::{R, Refusal};
 use metadata::GroupMeta;
@@ -27,5 +28,6 @@ pub fn read_group(alloc: Global, front: &[u8], meta: &GroupMeta, schema: &Schema
     ensures codec { result ≡ Err Refusal.Codec → HasCodec (group_meta_view meta.now) }
     ensures which { RefusedOnly IsOfChunks result }
 {
-    Err(Refusal::Memory)
+    one_meaning();
+    Rows::of_group(alloc, front, meta, schema)?.collected()
 }

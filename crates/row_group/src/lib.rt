@@ -8,9 +8,11 @@
 
 mod chunk_reader;
 mod chunk_reading;
+mod chunk_record;
 mod chunk_writing;
 mod column_writing;
 mod counts;
+mod group_chunks;
 mod group_reading;
 mod group_writing;
 mod laws;

@@ -1,5 +1,18 @@
 //! What is left of a chunk's pages.
 
+ghost use Rattle.std.specs.Prelude.{◌≡◌, ◌<◌, ◌≤◌, length};
+ghost use Rattle.bits.specs.Faults.{refusal_of};
+ghost use Rattle.bits.specs.Refusals.{HasCause};
+ghost use Rattle.schema.specs.Views.{leaf_view};
+ghost use Rattle.pages.specs.Chunk.{entries_of};
+ghost use Rattle.pages.specs.Limits.{IsOfPages};
+ghost use Rattle.pages.specs.Views.{dictionary_view, page_view};
+ghost use Rattle.row_group.specs.Rest.{dictionary_of, all_pages};
+ghost use Rattle.row_group.specs.Left.{known_view, pages_view};
+ghost use Rattle.row_group.specs.inner.Pages.{NextPage, ReadsPage, TakesPage};
+
+use bits::{Fault, Refusal};
+use pages::{DataPage, PageRef, pages_of_a_dictionary, read_page};
 use schema::{Leaf, ValueRef};
 use std::alloc::Global;
 
@@ -14,6 +27,18 @@ pub enum Dictionary<'a> {
     Present(Vec<ValueRef<'a>>),
 }
 
+impl<'a> Dictionary<'a> {
+    /// The values, where there is a dictionary.
+    fn values(&self) -> Option<&[ValueRef<'a>]>
+        ensures { dictionary_view result ≡ dictionary_of (known_view self.now) }
+    {
+        match self {
+            Dictionary::Present(values) => Some(values.as_slice()),
+            _ => None,
+        }
+    }
+}
+
 /// The pages of a chunk that are not read yet.
 #[derive(Debug, Drop)]
 pub struct PagesLeft<'a> {
@@ -24,4 +49,102 @@ pub struct PagesLeft<'a> {
     pub(crate) bytes: &'a [u8],
     /// How many entries the pages that were read lack.
     pub(crate) lacking: usize,
+}
+
+/// The refusal of a page, which owns no memory.
+fn fault_of(refusal: &Refusal) -> Fault
+    requires { HasCause IsOfPages refusal.now }
+    ensures { refusal_of result ≡ refusal.now }
+{
+    match refusal {
+        Refusal::Truncated => Fault::Truncated,
+        Refusal::Thrift => Fault::Thrift,
+        Refusal::Encoding => Fault::Encoding,
+        Refusal::Page => Fault::Page,
+        Refusal::Levels => Fault::Levels,
+        Refusal::Value => Fault::Value,
+        Refusal::Utf8 => Fault::Utf8,
+        Refusal::Limit => Fault::Limit,
+        _ => Fault::Memory,
+    }
+}
+
+impl<'a> PagesLeft<'a> {
+    /// All pages of a chunk of this many entries, which begin where `bytes` does.
+    pub fn new(alloc: Global, bytes: &'a [u8], leaf: &'a Leaf, count: usize) -> PagesLeft<'a>
+        ensures { pages_view result ≡ all_pages (leaf_view leaf.now) bytes.now count }
+    {
+        PagesLeft {
+            alloc,
+            leaf,
+            dictionary: Dictionary::Open,
+            bytes,
+            lacking: count,
+        }
+    }
+
+    /// The next page with entries, or none where no entries are lacking. Skipped pages, pages without
+    /// entries and the dictionary are passed.
+    ///
+    /// Refused Page for a dictionary that is not the first page, skipped ones aside; otherwise as the
+    /// pages are. After a refusal other than Memory nothing is promised of what is left.
+    pub fn next_page(&mut self) -> Result<Option<DataPage<'a>>, Fault>
+        ensures { NextPage (pages_view self.old) (pages_view self.new) result }
+    {
+        'pages: for _ in 0..u64::MAX {
+            if self.lacking == 0 {
+                return Ok(None);
+            }
+            if let Some(page) = self.read_page()? {
+                return Ok(Some(page));
+            }
+        }
+        // Never reached: no chunk has as many pages.
+        Err(Fault::Memory)
+    }
+
+    /// Reads one page: its entries, or none where it has no entries.
+    fn read_page(&mut self) -> Result<Option<DataPage<'a>>, Fault>
+        requires { 0 < self.old.lacking }
+        ensures { ReadsPage (pages_view self.old) (pages_view self.new) result }
+    {
+        pages_of_a_dictionary();
+        let dictionary = self.dictionary.values();
+        match read_page(self.alloc, self.bytes, self.leaf, dictionary, self.lacking) {
+            Err(refusal) => Err(fault_of(&refusal)),
+            Ok((page, used)) => {
+                self.bytes = self.bytes.split_at(used).1;
+                self.take(page)
+            }
+        }
+    }
+
+    /// Takes a page that was read: its entries, or none where it has no entries. Refused Page where it
+    /// is a dictionary that may not come.
+    fn take(&mut self, page: PageRef<'a>) -> Result<Option<DataPage<'a>>, Fault>
+        requires { length (entries_of (page_view page)) ≤ self.old.lacking }
+        ensures { TakesPage (pages_view self.old) (pages_view self.new) (page_view page.entry) result }
+    {
+        match page {
+            PageRef::Skipped(_) => Ok(None),
+            PageRef::Dictionary(values) => {
+                let Dictionary::Open = self.dictionary else {
+                    return Err(Fault::Page);
+                };
+                self.dictionary = Dictionary::Present(values);
+                Ok(None)
+            }
+            PageRef::Data(page) => {
+                if let Dictionary::Open = self.dictionary {
+                    self.dictionary = Dictionary::Absent;
+                }
+                let count = page.len();
+                self.lacking -= count;
+                if count == 0 {
+                    return Ok(None);
+                }
+                Ok(Some(page))
+            }
+        }
+    }
 }

@@ -1,18 +1,27 @@
 //! The rows of a group, one by one.
 
-ghost use Rattle.std.specs.Prelude.{◌≡◌, List, true, IfOk, OnOk, IfErr, Err};
+ghost use Rattle.std.specs.Prelude.{◌≡◌, List, true, map, IfOk, OnOk, IfErr, Err};
 ghost use Rattle.bits.specs.Refusals.{OnFault, RefusedOnly};
 ghost use Rattle.schema.specs.Values.{ValueTrees};
 ghost use Rattle.schema.specs.Views.{rows_view};
 ghost use Rattle.metadata.specs.Views.{group_meta_view};
+ghost use Rattle.assemble.specs.Standing.{IsRefusedFor};
+ghost use Rattle.assemble.specs.RowsOf.{HasFault};
 ghost use Rattle.row_group.specs.Chunks.{GroupMeans};
-ghost use Rattle.row_group.specs.Limits.{IsGroupOver, HasCodec, IsOfChunks};
-ghost use Rattle.row_group.specs.Left.{rows_stand, is_broken, TakesRow};
+ghost use Rattle.row_group.specs.Limits.{IsChunkOver, IsGroupOver, HasColumn, BeginsWith, HasCodec, IsOfChunks};
+ghost use Rattle.row_group.specs.Left.{chunk_stands, rows_stand, is_broken, TakesRow};
+ghost use Rattle.row_group.specs.inner.Readers.{HasRows, AreRowsOfGroup, CountsRows, refusal_kept};
 
 use crate::chunk_reader::ChunkReader;
+use crate::counts::count_of;
+use crate::group_chunks::{check_chunks, readers_of};
+use crate::laws::one_meaning;
+use crate::limits::MOST_ROWS_OF_GROUP;
+use assemble::next_row;
 use bits::{R, Refusal};
 use metadata::GroupMeta;
-use schema::{Row, Schema};
+use pages::one_page;
+use schema::{Row, Schema, columns_determine_rows};
 use std::alloc::Global;
 
 /// The rows of a group that are still to come, in their order. Each is made when it is asked for.
@@ -37,11 +46,10 @@ impl<'a> Rows<'a> {
     /// before the first row is given. So the bytes of its chunks are read twice until all rows came.
     ///
     /// Refused Page for a negative number of rows, or a chunk's negative offset; Limit for more than
-    /// [`MOST_ROWS_OF_GROUP`](crate::MOST_ROWS_OF_GROUP) rows; Schema where there are not as many chunks
-    /// as leaves; Levels where the entries of the columns make no rows, or not as many as the group says;
-    /// Value where an entry at the greatest definition level has no value that fits; otherwise as
-    /// [`read_chunk`](crate::read_chunk). No group is accepted that goes beyond a limit.
-    /// (`parquet.thrift`, RowGroup.)
+    /// [`MOST_ROWS_OF_GROUP`] rows; Schema where there are not as many chunks as leaves; Levels where the
+    /// entries of the columns make no rows, or not as many as the group says; Value where an entry at the
+    /// greatest definition level has no value that fits; otherwise as [`read_chunk`](crate::read_chunk).
+    /// No group is accepted that goes beyond a limit. (`parquet.thrift`, RowGroup.)
     pub fn of_group(
         alloc: Global,
         front: &'a [u8],
@@ -57,7 +65,18 @@ impl<'a> Rows<'a> {
         ensures codec { result ≡ Err Refusal.Codec → HasCodec (group_meta_view meta.now) }
         ensures which { RefusedOnly IsOfChunks result }
     {
-        Err(Refusal::Memory)
+        one_meaning();
+        columns_determine_rows();
+        let left = count_of(meta.num_rows, MOST_ROWS_OF_GROUP)?;
+        check_rows(alloc, front, meta, schema, left)?;
+        let readers = readers_of(alloc, front, meta, schema)?;
+        Ok(Rows {
+            alloc,
+            schema,
+            readers,
+            left,
+            is_broken: false,
+        })
     }
 
     /// The next row; none after the last, however often it is asked for. The bytes of its values are
@@ -70,8 +89,24 @@ impl<'a> Rows<'a> {
         ensures breaks { result ≡ Err Refusal.Memory → is_broken self.new ≡ true }
         ensures broken { is_broken self.old ≡ true → result ≡ Err Refusal.Memory }
     {
-        self.is_broken = true;
-        Err(Refusal::Memory)
+        if self.is_broken {
+            return Err(Refusal::Memory);
+        }
+        if self.left == 0 {
+            return Ok(None);
+        }
+        one_page();
+        columns_determine_rows();
+        match next_row(self.alloc, self.schema, self.readers.as_mut_slice()) {
+            Ok(row) => {
+                self.left -= 1;
+                Ok(row)
+            }
+            Err(refusal) => {
+                self.is_broken = true;
+                Err(refusal)
+            }
+        }
     }
 
     /// All rows that are left, in their order. It fails only when out of memory. The time is linear in
@@ -80,6 +115,50 @@ impl<'a> Rows<'a> {
         ensures rows_are { IfOk result (λ rows. (stood : List ValueTrees) → rows_stand self.entry stood → stood ≡ rows_view rows.items) }
         ensures which { IfErr result (λ e. (stood : List ValueTrees) → rows_stand self.entry stood → e ≡ Refusal.Memory) }
     {
+        let mut rows = Vec::new(self.alloc);
+        'rows: for _ in 0..u64::MAX {
+            match self.next()? {
+                None => return Ok(rows),
+                Some(row) => rows.push(row)?,
+            }
+        }
+        // Never reached: no vector has as many rows.
         Err(Refusal::Memory)
     }
+}
+
+/// Makes the rows of a group, and drops them: there are this many, from chunks that are read to their
+/// ends. Refused Levels for another number; otherwise as [`Rows::of_group`].
+fn check_rows(alloc: Global, front: &[u8], meta: &GroupMeta, schema: &Schema, count: usize) -> R<()>
+    ensures stands { OnOk result (HasRows front.now schema.now (group_meta_view meta.now) count) }
+    ensures only { OnFault result ((rows : List ValueTrees) → AreRowsOfGroup front.now schema.now (group_meta_view meta.now) count rows → ⊥) }
+    ensures limit { result ≡ Err Refusal.Limit → HasColumn schema.now (group_meta_view meta.now) (BeginsWith front.now IsChunkOver) }
+    ensures codec { result ≡ Err Refusal.Codec → HasCodec (group_meta_view meta.now) }
+    ensures which { RefusedOnly IsOfChunks result }
+{
+    one_meaning();
+    columns_determine_rows();
+    let mut readers = readers_of(alloc, front, meta, schema)?;
+    match count_rows(alloc, schema, readers.as_mut_slice()) {
+        Ok(rows) if rows == count => Ok(()),
+        Ok(_) => Err(Refusal::Levels),
+        Err(refusal) => {
+            check_chunks(alloc, front, meta, schema)?;
+            Err(refusal)
+        }
+    }
+}
+
+/// How many rows the readers give.
+fn count_rows(alloc: Global, schema: &Schema, readers: &mut [ChunkReader<'_>]) -> R<usize>
+    ensures stands { IfOk result (λ n. CountsRows schema.now readers.old n) }
+    ensures refused { IfErr result (IsRefusedFor chunk_stands refusal_kept readers.old readers.new (HasFault schema.now)) }
+{
+    'rows: for count in 0..usize::MAX {
+        let Some(_) = next_row(alloc, schema, readers)? else {
+            return Ok(count);
+        };
+    }
+    // Never reached: no group has as many rows.
+    Err(Refusal::Memory)
 }

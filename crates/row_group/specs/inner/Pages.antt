@@ -20,6 +20,7 @@ pub record Passes (old new : ChunkLeft) (es : List Entry) : Type 0 where
   pub within : used ≤ length old.bytes
   pub leaf : new.leaf ≡ old.leaf
   pub bytes : new.bytes ≡ drop used old.bytes
+  pub lacking : new.lacking + length es ≡ old.lacking
   pub onward : (all : List Entry) (u : ℕ) → HoldsRest old all u → (rest : List Entry) × (v : ℕ) × (all ≡ es ++ rest) × (u ≡ used + v) × HoldsRest new rest v
   pub back : (rest : List Entry) (v : ℕ) → HoldsRest new rest v → HoldsRest old (es ++ rest) (used + v)
   pub over_onward : HasRestOver old → HasRestOver new
@@ -42,6 +43,16 @@ abbrev pub NextPage : ChunkLeft → ChunkLeft → Result (Option DataPage) Fault
 NextPage old new (Ok (Some page)) = Passes old new (entries_left page) × (0 < length (entries_left page))
 NextPage old new (Ok None) = Passes old new [] × (new.lacking ≡ 0)
 NextPage old new (Err f) = IsRefusedAt old new (refusal_of f)
+
+-- all pages are read, and these are their entries
+abbrev pub PassesAll : ChunkLeft → ChunkLeft → List Entry → Type 0
+PassesAll old new es = Passes old new es × (new.lacking ≡ 0)
+
+-- Limit: a page is over a limit; else, out of memory aside, nothing stood
+abbrev pub IsRefusedWithin : ChunkLeft → Refusal → Type 0
+IsRefusedWithin old Memory = Unit {0}
+IsRefusedWithin old Limit = HasRestOver old
+IsRefusedWithin old e = IsOfPages e × NothingStands (HoldsRest old)
 
 -- whether the page may come next: a dictionary only before all pages that are read
 abbrev pub MayCome : Known → Page → Type 0

@@ -1,21 +1,83 @@
 -- The readers of a group's chunks.
-use Rattle.std.specs.Prelude.{◌≡◌, ℕ, List, [], ◌∷◌, None}
-use Rattle.schema.specs.Stripe.{Leaf, Entry}
-use Rattle.metadata.specs.Records.{ColumnMeta, ChunkMeta}
+use Rattle.std.specs.Prelude.{◌≡◌, ℕ, Bool, true, false, List, [], ◌∷◌, length, Option, None, Some, Result, Ok, Err, option_map, unwrap_or}
+use Rattle.bits.specs.Faults.{refusal_of}
+use Rattle.bits.specs.declared.fault.Fault.{Fault}
+use Rattle.bits.specs.declared.fault.Fault.TheVariants as fault
+use Rattle.bits.specs.declared.refusal.Refusal.{Refusal}
+use Rattle.schema.specs.Values.{ValueTrees}
+use Rattle.schema.specs.Shape.{Fields}
+use Rattle.schema.specs.Fits.{RowsFit}
+use Rattle.schema.specs.Stripe.{Leaf, Entry, leaves_of, columns}
+use Rattle.metadata.specs.Records.{ColumnMeta, ChunkMeta, GroupMeta}
+use Rattle.assemble.specs.RowsOf.{StandForRows}
 use Rattle.row_group.specs.declared.chunk_reader.ChunkReader.{ChunkReader}
-use Rattle.row_group.specs.Chunks.{ColumnMeans}
+use Rattle.row_group.specs.Chunks.{ColumnMeans, AreChunks}
 use Rattle.row_group.specs.Limits.{IsChunkOver, BeginsWith}
-use Rattle.row_group.specs.Left.{chunk_stands}
+use Rattle.pages.specs.Left.{entry_taken}
+use Rattle.assemble.specs.Sources.{Same, Precede, StandsOnly, Refuses, Keeps}
+use Rattle.row_group.specs.Left.{page_left, chunk_stands}
 
 -- the reader stands for the entries of the chunk, where no page of it is over a limit
 pub record IsReaderOf (front : List ℕ) (m : ColumnMeta) (leaf : Leaf) (r : ChunkReader) : Type 0 where
-  pub sound : r.fault ≡ None
   pub means : (es : List Entry) → chunk_stands r es → ColumnMeans front m leaf es
   pub short : (es : List Entry) → chunk_stands r es → BeginsWith front IsChunkOver m leaf → ⊥
   pub stands : (es : List Entry) → ColumnMeans front m leaf es → (BeginsWith front IsChunkOver m leaf → ⊥) → chunk_stands r es
 
--- a reader for each chunk, in the order of the leaves
+-- a fault is kept, unless it is Memory
+abbrev pub kept_fault : Fault → Option Fault
+kept_fault fault.Memory = None
+kept_fault f = Some f
+
+-- an entry is there now, or none is left; what stood stands still. A refusal is kept, out of memory aside, and then nothing stood
+abbrev pub Fills : ChunkReader → ChunkReader → Result (Unit {0}) Fault → Type 0
+Fills old new (Ok x) = (old.fault ≡ None) × (new.fault ≡ None) × Same (chunk_stands old) (chunk_stands new) × (page_left new.page ≡ [] → StandsOnly (chunk_stands new) [])
+Fills old new (Err f) = Refuses (chunk_stands old) (option_map refusal_of old.fault) (refusal_of f) × Same (chunk_stands old) (chunk_stands new) × Keeps (option_map refusal_of old.fault) (option_map refusal_of new.fault) (refusal_of f)
+
+-- the entry that was taken last off the page
+abbrev pub last_taken : ChunkReader → Entry
+last_taken r = unwrap_or (option_map entry_taken r.page) (record { repetition = 0; definition = 0; value = None })
+
+-- the next entry is taken, or none is left
+abbrev pub AdvancesReader : ChunkReader → ChunkReader → Result Bool Fault → Type 0
+AdvancesReader old new (Ok true) = (old.fault ≡ None) × (new.fault ≡ None) × Precede (last_taken new ∷ []) (chunk_stands old) (chunk_stands new)
+AdvancesReader old new (Ok false) = (old.fault ≡ None) × (new.fault ≡ None) × StandsOnly (chunk_stands old) [] × Same (chunk_stands old) (chunk_stands new)
+AdvancesReader old new (Err f) = Refuses (chunk_stands old) (option_map refusal_of old.fault) (refusal_of f) × Same (chunk_stands old) (chunk_stands new) × Keeps (option_map refusal_of old.fault) (option_map refusal_of new.fault) (refusal_of f)
+
+-- for each chunk and its leaf, in the order of the leaves, something that is so
+abbrev pub EachChunk : {X : Type 0} → (ColumnMeta → Leaf → X → Type 0) → List ChunkMeta → List Leaf → List X → Type 0
+EachChunk P [] [] [] = Unit {0}
+EachChunk P (c ∷ cs) (leaf ∷ leaves) (x ∷ xs) = P c.meta_data leaf x × EachChunk P cs leaves xs
+EachChunk P _ _ _ = ⊥
+
+-- a reader for each chunk
 abbrev pub AreReaders : List ℕ → List ChunkMeta → List Leaf → List ChunkReader → Type 0
-AreReaders front [] [] [] = Unit {0}
-AreReaders front (c ∷ cs) (leaf ∷ leaves) (r ∷ readers) = IsReaderOf front c.meta_data leaf r × AreReaders front cs leaves readers
-AreReaders front _ _ _ = ⊥
+AreReaders front = EachChunk (IsReaderOf front)
+
+-- the chunk holds these entries, and is not over a limit
+abbrev pub IsSound : List ℕ → ColumnMeta → Leaf → List Entry → Type 0
+IsSound front m leaf es = ColumnMeans front m leaf es × (BeginsWith front IsChunkOver m leaf → ⊥)
+
+-- the chunks hold these columns, and none is over a limit
+abbrev pub AreSound : List ℕ → List ChunkMeta → List Leaf → List (List Entry) → Type 0
+AreSound front = EachChunk (IsSound front)
+
+-- the refusal that a reader keeps
+abbrev pub refusal_kept : ChunkReader → Option Refusal
+refusal_kept r = option_map refusal_of r.fault
+
+-- as many rows as are counted, which fit, and for whose columns the readers stand
+abbrev pub CountsRows : Fields → List ChunkReader → ℕ → Type 0
+CountsRows fs readers n = (rows : List ValueTrees) × (length rows ≡ n) × StandForRows chunk_stands readers fs rows
+
+-- the chunks of the group hold the columns of so many rows, which fit, and none is over a limit
+pub record HasRows (front : List ℕ) (fs : Fields) (g : GroupMeta) (n : ℕ) : Type 0 where
+  pub rows : List ValueTrees
+  pub count : length rows ≡ n
+  pub fit : RowsFit fs rows
+  pub sound : AreSound front g.columns (leaves_of fs) (columns fs rows)
+
+-- the chunks of the group hold the columns of these rows, which are so many and fit
+pub record AreRowsOfGroup (front : List ℕ) (fs : Fields) (g : GroupMeta) (n : ℕ) (rows : List ValueTrees) : Type 0 where
+  pub count : length rows ≡ n
+  pub fit : RowsFit fs rows
+  pub chunks : AreChunks front g.columns (leaves_of fs) (columns fs rows)

@@ -1,0 +1,63 @@
+-- One page after the other.
+use Rattle.std.proofs.Common.{◌≡◌, ℕ, ◌+◌, ◌<◌, ◌≤◌, List, [], ◌∷◌, ◌++◌, length, drop, Option, Some, None, Result, Ok, Err, refl, sym, ap, subst, ◌∙◌, arith}
+use Rattle.std.specs.Result.{IsErrAnd}
+use Rattle.bits.specs.Codec.{NothingStands}
+use Rattle.bits.specs.Faults.{refusal_of}
+use Rattle.bits.specs.Refusals.{IsFault, HasCause}
+use Rattle.bits.specs.declared.fault.Fault.{Fault}
+use Rattle.bits.specs.declared.fault.Fault.TheVariants as fault
+use Rattle.bits.specs.declared.refusal.Refusal.{Refusal}
+use Rattle.bits.specs.declared.refusal.Refusal.TheVariants as refusal
+use Rattle.schema.specs.Stripe.{Leaf, Entry}
+use Rattle.pages.specs.declared.data_page.DataPage.{DataPage}
+use Rattle.pages.specs.Page.{Page}
+use Rattle.pages.specs.Chunk.{entries_of}
+use Rattle.pages.specs.Left.{entries_left}
+use Rattle.pages.specs.Limits.{IsPageOver, IsOfPages}
+use Rattle.pages.specs.Apart.{DictionaryIsNotRead, IsPageOfAtMost}
+use Rattle.row_group.specs.Rest.{Known, dictionary_of, ChunkLeft, HoldsRest}
+use Rattle.row_group.specs.inner.Pages.{Passes, IsRefusedAt, ReadsPage, NextPage, MayCome, known_after, IsAfter, TakesPage}
+use Rattle.row_group.proofs.NextPages.{after, IsHere, passes_page, nothing_after, nothing_here, over_here, passes_none, passes_then}
+
+abbrev left_of : Leaf → Known → List ℕ → ℕ → ChunkLeft
+left_of leaf k bytes lacking = record { leaf = leaf; known = k; bytes = bytes; lacking = lacking }
+
+same_state : (s t : ChunkLeft) → s.leaf ≡ t.leaf → s.known ≡ t.known → s.bytes ≡ t.bytes → s.lacking ≡ t.lacking → s ≡ t
+same_state s t a b c d =
+    ap (λ (x : Leaf). left_of x s.known s.bytes s.lacking) a ∙ ap (λ (x : Known). left_of t.leaf x s.bytes s.lacking) b ∙ ap (λ (x : List ℕ). left_of t.leaf t.known x s.lacking) c ∙ ap (λ (x : ℕ). left_of t.leaf t.known t.bytes x) d
+
+-- ---- the page is refused
+
+pub read_refused : DictionaryIsNotRead → (s : ChunkLeft) (e : Refusal) → 0 < s.lacking → HasCause IsOfPages e → (IsFault e → NothingStands (IsPageOfAtMost s.lacking s.leaf (dictionary_of s.known) s.bytes))
+    → (e ≡ refusal.Limit → IsPageOver s.leaf s.bytes) → IsRefusedAt s s e
+read_refused unread s refusal.Memory some cause only limit = passes_none s
+read_refused unread s refusal.Limit some cause only limit = over_here s some (limit refl)
+read_refused unread s _ some cause only limit = (cause, nothing_here unread s some (λ p used h few. only tt p used (h, few)))
+
+-- ---- the page is taken
+
+passes_to : DictionaryIsNotRead → (s t new : ChunkLeft) (p : Page) (used : ℕ) → 0 < s.lacking → IsHere s p used → t ≡ left_of s.leaf s.known (drop used s.bytes) s.lacking → MayCome t.known p → IsAfter t new p → Passes s new (entries_of p)
+passes_to unread s t new p used some here e may is =
+    let known : t.known ≡ s.known = ap (λ (x : ChunkLeft). x.known) e in
+    let state : new ≡ after s p used new.lacking =
+    same_state new (after s p used new.lacking) (is.leaf ∙ ap (λ (x : ChunkLeft). x.leaf) e) (is.known ∙ ap (λ (k : Known). known_after k p) known) (is.bytes ∙ ap (λ (x : ChunkLeft). x.bytes) e) refl in
+    subst (λ (x : ChunkLeft). Passes s x (entries_of p)) (sym state)
+    (passes_page unread s p used new.lacking some here (subst (λ (k : Known). MayCome k p) known may) (is.lacking ∙ ap (λ (x : ChunkLeft). x.lacking) e))
+
+pub page_taken : DictionaryIsNotRead → (s t new : ChunkLeft) (p : Page) (used : ℕ) (r : Result (Option DataPage) Fault) → 0 < s.lacking → IsHere s p used → t ≡ left_of s.leaf s.known (drop used s.bytes) s.lacking → TakesPage t new p r → ReadsPage s new r
+page_taken unread s t new p used (Ok (Some given)) some here e h = (subst (Passes s new) (sym h.2) (passes_to unread s t new p used some here e h.0 h.1), h.3)
+page_taken unread s t new p used (Ok None) some here e h = subst (Passes s new) h.2 (passes_to unread s t new p used some here e h.0 h.1)
+page_taken unread s t new p used (Err f) some here e h =
+    subst (λ (g : Fault). IsRefusedAt s new (refusal_of g)) (sym h.0)
+    (tt, nothing_after unread s p used some here (λ may. h.1 (subst (λ (k : Known). MayCome k p) (sym (ap (λ (x : ChunkLeft). x.known) e)) may)))
+
+-- ---- one after the other
+
+pub refused_later : (s t u : ChunkLeft) (e : Refusal) → Passes s t [] → IsRefusedAt t u e → IsRefusedAt s u e
+refused_later s t u refusal.Memory p h = passes_then s t u [] [] p h
+refused_later s t u refusal.Limit p h = p.over_back h
+refused_later s t u _ p h = (h.0, λ es n held. let a = p.onward es n held in h.1 a.0 a.1 a.4)
+
+pub next_refused : (s u : ChunkLeft) (r : Result (Option DataPage) Fault) (f : Fault) → IsErrAnd r (λ g. g ≡ f) → IsRefusedAt s u (refusal_of f) → NextPage s u r
+next_refused s u (Ok x) f is h = absurd is
+next_refused s u (Err g) f is h = subst (λ (x : Fault). IsRefusedAt s u (refusal_of x)) (sym is) h
