@@ -66,3 +66,5 @@ mod varints_and_bits;
 mod written_files;
 #[cfg(test)]
 mod written_groups;
+#[cfg(test)]
+mod written_pages;

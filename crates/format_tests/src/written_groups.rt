@@ -1,9 +1,8 @@
 use crate::chunks_and_groups::{element, fields, front};
 use bits::{R, Refusal};
 use metadata::{ColumnMeta, GroupMeta};
-use pages::EntryRef;
 use row_group::{read_group, write_chunk, write_group};
-use schema::{Leaf, Row, Schema, Value};
+use schema::{EntryRef, Leaf, Row, Schema, Value, ValueRef};
 use std::alloc::Global;
 use std::test::*;
 
@@ -43,7 +42,7 @@ fn entry_of(value: &Value) -> EntryRef<'_> {
     EntryRef {
         repetition: 0,
         definition: 0,
-        value: Some(value),
+        value: Some(ValueRef::of(value)),
     }
 }
 

@@ -2,11 +2,15 @@ pub mod Framed
 pub mod PlainValues
 pub mod Passed
 pub mod Texts
-mod FlatPages
 pub mod LevelLists
-mod Lent
-mod HeaderSize
-mod WrittenPages
+pub mod WrittenEntries
+pub mod WrittenHeaders
+pub mod WrittenLevels
+pub mod WrittenValues
+pub mod WrittenParts
+pub mod WrittenPages
+pub mod WrittenDictionaries
+pub mod WrittenPlain
 pub mod OneList
 pub mod Sections
 pub mod LookUps

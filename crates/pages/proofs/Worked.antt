@@ -13,10 +13,12 @@ use Rattle.schema.specs.Values.{ValueTree, integer, bytes}
 use Rattle.schema.specs.Law.{IsEntryOf}
 use Rattle.plain.specs.Plain.{IsPlain}
 use Rattle.hybrid_rle.specs.Hybrid.{IsRun, IsHybrid}
-use Rattle.metadata.specs.Records.{DataPageHeaderV2, DictionaryPageHeader}
+use Rattle.metadata.specs.Records.{PageHeader, DataPageHeaderV2, DictionaryPageHeader}
 use Rattle.metadata.specs.FromTree.{page_header}
 use Rattle.metadata.specs.Answers.{StandsFor}
-use Rattle.pages.specs.Headers.{written_header}
+use Rattle.pages.specs.declared.encoding.Encoding.TheVariants.{Plain}
+use Rattle.pages.specs.declared.page_version.PageVersion.TheVariants.{V1}
+use Rattle.pages.specs.Headers.{data_header}
 use Rattle.pages.specs.Page.{dictionary, IsPage}
 use Rattle.pages.specs.Writing.{StandsAsPage}
 use Rattle.pages.specs.Worked.{number_leaf, text_leaf, five_null_six, three_lists, page_of_version_1, page_of_version_2, page_of_texts, page_of_lists}
@@ -85,6 +87,9 @@ header_is kind size step used own text behind small few low high h ends flat =
     }
 
 -- that of a page of version 1
+abbrev written_header : ℕ → ℕ → PageHeader
+written_header size count = data_header V1 Plain count 0 0 size 0 0
+
 header_v1 : (size count : ℕ) (body : List ℕ) → size < 64 → count < 64 → StandsFor page_header (header_bytes 0 size 2 (number_bytes (count ∷ 0 ∷ 3 ∷ 3 ∷ []) (0 ∷ 0 ∷ body))) (written_header size count) 17
 header_v1 size count body small few = record {
   fields = header_fields 0 size 2 (number_fields 0 (count ∷ 0 ∷ 3 ∷ 3 ∷ []) no_fields);

@@ -1,156 +1,203 @@
--- A header and the values behind it are a page.
-use Rattle.std.proofs.Common.{◌≡◌, ℕ, suc, ◌+◌, ◌-◌, ◌*◌, ◌^◌, ◌≤◌, ◌<◌, List, [], ◌∷◌, ◌++◌, length, drop, Some, None, refl, sym, ap, subst, ◌∙◌, arith, append_assoc, inl, inr, pos}
-use Rattle.std.specs.Prelude.{◌⊎◌, ◌↔◌, All, IsTrue, map, min}
+-- What is written is a page of its entries.
+use Rattle.std.proofs.Common.{◌≡◌, ℕ, zero, suc, ◌+◌, ◌*◌, ◌^◌, ◌≤◌, ◌<◌, List, [], ◌∷◌, ◌++◌, length, Option, Some, None, refl, sym, ap, subst, ◌∙◌, arith, append_assoc, inl, inr, pos, false}
+use Rattle.std.specs.Prelude.{◌↔◌, All, IsTrue, MatchOption, slice_get}
 use Rattle.std.specs.List.{Any, AllByRecursion}
-use Rattle.std.proofs.lemmas.List.{append-nil, length-append, length-map, drop_at, append_cancel_left}
-use Rattle.std.proofs.lemmas.List.Elements.{recursion_from_All}
-use Rattle.std.proofs.Math.Nat.{mul-add}
+use Rattle.std.proofs.lemmas.List.{append-nil, length-map}
+use Rattle.std.proofs.lemmas.List.Elements.{All-from_recursion}
 use Rattle.bits.specs.Codec.{Appends}
 use Rattle.schema.specs.declared.value.Kind.{Kind}
 use Rattle.schema.specs.declared.value.Kind.TheVariants.{Boolean, Int32, Int64, ByteArray, FixedLenByteArray}
-use Rattle.schema.specs.Fits.{fits_kind, fits_leaf}
-use Rattle.schema.specs.Values.{ValueTree, bytes as byte_value}
+use Rattle.schema.specs.Values.{ValueTree}
 use Rattle.schema.specs.Stripe.{Leaf, Entry}
-use Rattle.thrift_compact.specs.Length.{size_struct}
-use Rattle.metadata.specs.Records.{DataPageHeader, PageHeader}
-use Rattle.thrift_compact.specs.Compact.{IsThrift}
-use Rattle.metadata.specs.FromTree.{page_header}
-use Rattle.metadata.specs.ToTree.{page_header_fields}
-use Rattle.plain.specs.Plain.{IsPlain, HasZeroPadding, IsOfKind, IsTooLong, plain_size, text_size}
-use Rattle.pages.specs.Greatest.{most_of_page}
-use Rattle.pages.specs.Page.{values}
-use Rattle.pages.specs.Flat.{flat}
-use Rattle.pages.specs.Headers.{written_header, IsPlainPage}
-use Rattle.pages.specs.Writing.{page_weight, AreShort, IsPageTooMuch, long_value, heavy_page, StandsAsPage}
-use Rattle.pages.proofs.HeaderSize.{header_size}
+use Rattle.schema.specs.Fits.{fits_kind, fits_leaf}
+use Rattle.schema.specs.Law.{IsEntryOf}
+use Rattle.plain.specs.Plain.{IsOfKind, IsTooLong}
+use Rattle.dictionary.specs.Entries.{AreEntriesAt}
+use Rattle.dictionary.specs.IndexPages.{IsIndexPage}
+use Rattle.pages.specs.declared.encoding.Encoding.{Encoding}
+use Rattle.pages.specs.declared.encoding.Encoding.TheVariants.{Plain, Rle, DeltaBinaryPacked, DeltaLengthByteArray, DeltaByteArray, PlainDictionary, BitPacked, RleDictionary, ByteStreamSplit}
+use Rattle.pages.specs.declared.page_version.PageVersion.{PageVersion}
+use Rattle.pages.specs.declared.page_version.PageVersion.TheVariants.{V1, V2}
+use Rattle.pages.specs.Encodings.{encoding_of, AreValues}
+use Rattle.pages.specs.Page.{IsPage, entries, AreZero, IsSectionV1, IsSectionV2, AreLevelsV1, AreLevelsV2, repetitions, definitions, values}
+use Rattle.pages.specs.declared.header_writing.DataPageHead.{DataPageHead}
+use Rattle.pages.specs.declared.header_writing.SectionSizes.{SectionSizes}
+use Rattle.pages.specs.Headers.{number_of, data_header, section, body_of, rows_in, nulls_in, AreLevelsIn, IsHeaded, IsWrittenPage}
+use Rattle.pages.specs.Writing.{page_weight, StandsAsPage, StandsByIndexes}
+use Rattle.pages.specs.WrittenValues.{AreValuesIn, AreIndexesIn}
+use Rattle.pages.specs.inner.Put.{most_of_values, AreSections, AreParts, IsDataPage}
 use Rattle.pages.proofs.Texts.{kinds_of_fit}
-use Rattle.pages.proofs.FlatPages.{flat_values, flat_body}
+use Rattle.pages.proofs.WrittenLevels.{repetitions_within, definitions_within}
+use Rattle.pages.proofs.WrittenParts.{length-body}
 
-within : (n most : ℕ) → n ≤ most → most ≤ 1024 → n ≤ 1024
-within n most le few = omega (arith, le, few)
+encoding_again : (encoding : Encoding) → encoding_of (pos (number_of encoding)) ≡ Some encoding
+encoding_again Plain = refl
+encoding_again PlainDictionary = refl
+encoding_again Rle = refl
+encoding_again BitPacked = refl
+encoding_again DeltaBinaryPacked = refl
+encoding_again DeltaLengthByteArray = refl
+encoding_again DeltaByteArray = refl
+encoding_again RleDictionary = refl
+encoding_again ByteStreamSplit = refl
 
--- the header of a page, as its record is written
-pub header_put : (h : PageHeader) (size count : ℕ) (old new : List ℕ) → h ≡ written_header size count → Appends (λ bytes. IsThrift bytes (page_header_fields h)) (size_struct (page_header_fields h)) old new
-    → Appends (λ bytes. IsThrift bytes (page_header_fields (written_header size count))) 1024 old new
-header_put h size count old new is p =
-    let most : length p.text ≤ size_struct (page_header_fields (written_header size count)) = subst (λ (x : PageHeader). length p.text ≤ size_struct (page_header_fields x)) is p.short in
+-- ---- levels
+
+none_above : (levels : List ℕ) → AllByRecursion (λ l. l ≤ 0) levels → AreZero levels
+none_above [] within = tt
+none_above (l ∷ levels) (here, within) = (omega (arith, here), none_above levels within)
+
+section_v1 : (g : ℕ) (levels inside behind : List ℕ) → AllByRecursion (λ l. l ≤ g) levels → length inside < 2 ^ 32 → AreLevelsIn g levels inside → IsSectionV1 g (Some (pos 3)) (section V1 g inside ++ behind) levels behind
+section_v1 zero levels inside behind within small none = (none_above levels within, sym (ap (λ (t : List ℕ). t ++ behind) none))
+section_v1 (suc g) levels inside behind within small p = (inr refl, (inside, record { short = small; joined = refl }, p.0))
+
+section_v2 : (g : ℕ) (levels inside behind : List ℕ) → AllByRecursion (λ l. l ≤ g) levels → AreLevelsIn g levels inside → IsSectionV2 g (pos (length inside)) (inside ++ behind) levels behind
+section_v2 zero levels inside behind within none = (inside, refl, refl, none_above levels within)
+section_v2 (suc g) levels inside behind within p = (inside, refl, refl, p.0)
+
+counted : (es : List Entry) → pos (length es) ≡ pos (length (definitions es))
+counted es = ap pos (sym (length-map es (λ e. e.definition)))
+
+paired : (es : List Entry) → length (repetitions es) ≡ length (definitions es)
+paired es = length-map es (λ e. e.repetition) ∙ sym (length-map es (λ e. e.definition))
+
+-- ---- pages
+
+-- a page that is written stands for its entries, where its values stand in their section
+pub written_page : (leaf : Leaf) (version : PageVersion) (encoding : Encoding) (Are : List ℕ → Type 0) (es : List Entry) (bytes : List ℕ) (used : ℕ) (d : Option (List ValueTree)) → AllByRecursion (IsEntryOf leaf) es
+    → (p : IsWrittenPage leaf version encoding Are es bytes used) → AreValues d leaf.leaf_type.kind (Some encoding) p.text (values es) → IsPage leaf d bytes (entries es) used
+written_page leaf V1 encoding Are es bytes used d each p spelled =
+    let size = length-body V1 leaf p.repetition_bytes p.definition_bytes p.text in
+    let first_small : length p.repetition_bytes < 2 ^ 32 = omega (arith, size, p.small) in
+    let second_small : length p.definition_bytes < 2 ^ 32 = omega (arith, size, p.small) in
+    let levels : AreLevelsV1 leaf (record { num_values = pos (length es); encoding = pos (number_of encoding); definition_level_encoding = Some (pos 3); repetition_level_encoding = Some (pos 3); statistics = None }) (body_of V1 leaf p.repetition_bytes p.definition_bytes p.text) (repetitions es) (definitions es) p.text = record {
+      count = counted es;
+      paired = paired es;
+      between = section V1 leaf.greatest_definition p.definition_bytes ++ p.text;
+      first = section_v1 leaf.greatest_repetition (repetitions es) p.repetition_bytes (section V1 leaf.greatest_definition p.definition_bytes ++ p.text) (repetitions_within leaf es each) first_small p.first;
+      second = section_v1 leaf.greatest_definition (definitions es) p.definition_bytes p.text (definitions_within leaf es each) second_small p.second;
+    } in
     record {
-      text = p.text;
-      joined = p.joined;
-      stands = λ more. subst (λ (x : PageHeader). IsThrift (p.text ++ more) (page_header_fields x) (length p.text)) is (p.stands more);
-      short = within (length p.text) (size_struct (page_header_fields (written_header size count))) most (header_size size count);
+      header = _;
+      body = body_of V1 leaf p.repetition_bytes p.definition_bytes p.text;
+      framed = p.headed.framed;
+      stands_for = inl (_, refl, refl, record { text = p.text; levels = levels; each = each; spelled = inr (subst (λ (e : Option Encoding). AreValues d leaf.leaf_type.kind e p.text (values es)) (sym (encoding_again encoding)) spelled) });
+    }
+written_page leaf V2 encoding Are es bytes used d each p spelled =
+    let levels : AreLevelsV2 leaf (record { num_values = pos (length es); num_nulls = Some (pos (nulls_in es)); num_rows = Some (pos (rows_in es)); encoding = pos (number_of encoding); definition_levels_byte_length = pos (length p.definition_bytes); repetition_levels_byte_length = pos (length p.repetition_bytes); is_compressed = Some false; statistics = None }) (body_of V2 leaf p.repetition_bytes p.definition_bytes p.text) (repetitions es) (definitions es) p.text = record {
+      count = counted es;
+      paired = paired es;
+      between = p.definition_bytes ++ p.text;
+      first = section_v2 leaf.greatest_repetition (repetitions es) p.repetition_bytes (p.definition_bytes ++ p.text) (repetitions_within leaf es each) p.first;
+      second = section_v2 leaf.greatest_definition (definitions es) p.definition_bytes p.text (definitions_within leaf es each) p.second;
+    } in
+    record {
+      header = _;
+      body = body_of V2 leaf p.repetition_bytes p.definition_bytes p.text;
+      framed = p.headed.framed;
+      stands_for = inr (_, refl, refl, record { text = p.text; levels = levels; each = each; spelled = inr (subst (λ (e : Option Encoding). AreValues d leaf.leaf_type.kind e p.text (values es)) (sym (encoding_again encoding)) spelled) });
     }
 
--- the header says the length of what is written behind it
-pub page_put : (kind : Kind) (vs : List ValueTree) (size count : ℕ) (old mid new : List ℕ) → count ≡ length vs → size ≡ min (plain_size kind vs) (2 ^ 64 - 1) → size ≤ most_of_page
-    → ((m n : ℕ) → page_header (page_header_fields (written_header m n)) ≡ Some (written_header m n)) → Appends (λ bytes. IsThrift bytes (page_header_fields (written_header size count))) 1024 old mid → Appends (λ bytes. IsPlain kind (length vs) bytes vs) (plain_size kind vs) mid new
-    → Appends (HasZeroPadding kind (length vs)) (plain_size kind vs) mid new → length new ≡ length mid + plain_size kind vs → Appends (IsPlainPage kind vs) (1024 + plain_size kind vs) old new
-page_put kind vs size count old mid new many sized few again p q z total =
-    let long : size ≡ length q.text = omega (arith, sized, few, total, ap length q.joined, length-append mid q.text) in
-    let spelled : IsPlain kind (length vs) q.text vs (length q.text) = subst (λ (t : List ℕ). IsPlain kind (length vs) t vs (length q.text)) (append-nil q.text) (q.stands []) in
-    let same : z.text ++ [] ≡ q.text = append-nil z.text ∙ append_cancel_left mid z.text q.text (sym z.joined ∙ q.joined) in
-    let padding = subst (λ (t : List ℕ). HasZeroPadding kind (length vs) t (length t)) (sym (append-nil z.text) ∙ same) (subst (λ (t : List ℕ). HasZeroPadding kind (length vs) t (length z.text)) (append-nil z.text) (z.stands [])) in
+-- values that are written stand in the table of encodings
+pub values_stand : (d : Option (List ValueTree)) (kind : Kind) (encoding : Encoding) (vs : List ValueTree) (text : List ℕ) → AreValuesIn kind encoding vs text → AreValues d kind (Some encoding) text vs
+values_stand d kind Plain vs text p = (length text, p.0)
+values_stand d Boolean Rle vs text p = record { bools = p.bools; inside = p.inside; rest = p.rest; used = length p.inside; are = p.are; prefixed = p.prefixed; packed = p.packed }
+values_stand d Int32 DeltaBinaryPacked vs text p = (p.0, length text, p.1, p.2)
+values_stand d Int64 DeltaBinaryPacked vs text p = (p.0, length text, p.1, p.2)
+values_stand d ByteArray DeltaLengthByteArray vs text p = (length text, p)
+values_stand d ByteArray DeltaByteArray vs text p = (length text, p)
+values_stand d (FixedLenByteArray n) DeltaByteArray vs text p = (length text, p)
+values_stand d kind encoding vs text p = absurd p
+
+-- so do indexes, in a chunk with their dictionary
+pub indexes_stand : (d : List ValueTree) (kind : Kind) (size : ℕ) (indexes text : List ℕ) (vs : List ValueTree) → length d ≡ size → AreEntriesAt d indexes vs → IsIndexPage size text (length indexes) indexes (length text) → AreValues (Some d) kind (Some RleDictionary) text vs
+indexes_stand d kind size indexes text vs sized are p =
+    let count : length indexes ≡ length vs = sym (length-map indexes (λ i. slice_get d i)) ∙ ap length are ∙ length-map vs (λ v. Some v) in (
+      length text,
+      record {
+        indexes = indexes;
+        stand = subst (λ (n : ℕ). IsIndexPage n text (length vs) indexes (length text)) (sym sized) (subst (λ (n : ℕ). IsIndexPage size text n indexes (length text)) count p);
+        are = are;
+      },
+    )
+
+-- ---- from the parts
+
+-- each entry has a value or none
+nulls_here : (r d : ℕ) (o : Option ValueTree) (es : List Entry) → nulls_in es + length (values es) ≡ length es
+    → nulls_in (record { repetition = r; definition = d; value = o } ∷ es) + length (values (record { repetition = r; definition = d; value = o } ∷ es)) ≡ suc (length es)
+nulls_here r d None es rest = omega (arith, rest)
+nulls_here r d (Some v) es rest = omega (arith, rest)
+
+pub nulls_and_values : (es : List Entry) → nulls_in es + length (values es) ≡ length es
+nulls_and_values [] = omega arith
+nulls_and_values (e ∷ es) = nulls_here e.repetition e.definition e.value es (nulls_and_values es)
+
+-- the page of these parts is the page of the entries
+pub entries_written : (leaf : Leaf) (head : DataPageHead) (es : List Entry) (Are : List ℕ → Type 0) (r d text old new : List ℕ) → head.entries ≡ length es → head.nulls ≡ nulls_in es → head.rows ≡ rows_in es
+    → AreLevelsIn leaf.greatest_repetition (repetitions es) r → AreLevelsIn leaf.greatest_definition (definitions es) d → Are text
+    → length r ≤ 80 + 9 * length es → length d ≤ 80 + 9 * length es → length text ≤ most_of_values (values es) → length (values es) ≤ length es
+    → IsDataPage leaf head r d text old new → Appends (IsWrittenPage leaf head.version head.encoding Are es) (page_weight es) old new
+entries_written leaf head es Are r d text old new entries_are nulls_are rows_are first second spelled r_short d_short text_short few p =
+    let body = body_of head.version leaf r d text in
+    let a = subst (λ (n : ℕ). Appends (IsHeaded (data_header head.version head.encoding n head.nulls head.rows (length body) (length r) (length d)) body) (136 + length r + length d + length text) old new) entries_are p.stands in
+    let b = subst (λ (n : ℕ). Appends (IsHeaded (data_header head.version head.encoding (length es) n head.rows (length body) (length r) (length d)) body) (136 + length r + length d + length text) old new) nulls_are a in
+    let q = subst (λ (n : ℕ). Appends (IsHeaded (data_header head.version head.encoding (length es) (nulls_in es) n (length body) (length r) (length d)) body) (136 + length r + length d + length text) old new) rows_are b in
     record {
-      text = p.text ++ q.text;
-      joined = q.joined ∙ ap (λ (t : List ℕ). t ++ q.text) p.joined ∙ append_assoc old p.text q.text;
-      stands = λ more.
-          let whole : (p.text ++ q.text) ++ more ≡ p.text ++ (q.text ++ more) = append_assoc p.text q.text more in
-          let named = subst (λ (n : ℕ). IsThrift (p.text ++ (q.text ++ more)) (page_header_fields (written_header n count)) (length p.text)) long (p.stands (q.text ++ more)) in
-          let counted = subst (λ (n : ℕ). IsThrift (p.text ++ (q.text ++ more)) (page_header_fields (written_header (length q.text) n)) (length p.text)) many named in
-          let here = subst (λ (t : List ℕ). IsThrift t (page_header_fields (written_header (length q.text) (length vs))) (length p.text)) (sym whole) counted in
-          record {
-            body = q.text;
-            spelled = spelled;
-            padding = padding;
-            bare = here;
-            framed = record {
-              header_end = length p.text;
-              rest = more;
-              begins = record { fields = page_header_fields (written_header (length q.text) (length vs)); spelled = here; record_of = again (length q.text) (length vs) };
-              follows = ap (λ (t : List ℕ). drop (length p.text) t) whole ∙ drop_at p.text (q.text ++ more) (length p.text) refl;
-              size = refl;
-              ends = length-append p.text q.text;
-            };
-          };
-      short = omega (arith, length-append p.text q.text, p.short, q.short);
+      text = q.text;
+      joined = q.joined;
+      stands = λ more. record { repetition_bytes = r; definition_bytes = d; text = text; first = first; second = second; spelled = spelled; small = p.small; headed = q.stands more };
+      short = omega (arith, q.short, r_short, d_short, text_short, few);
     }
 
--- ---- weights
-
-fixed_size : (k : ℕ) (vs : List ValueTree) → AllByRecursion (IsOfKind (FixedLenByteArray k)) vs → k * length vs ≡ text_size vs
-fixed_size k [] are = omega arith
-fixed_size k (byte_value text ∷ vs) are =
-    let next : k * (1 + length vs) ≡ k * 1 + k * length vs = mul-add k 1 (length vs) in
-    let one : 1 + length vs ≡ suc (length vs) = omega arith in
-    omega (arith, fixed_size k vs are.1, are.0.1, next, ap (λ (n : ℕ). k * n) one)
-fixed_size k (_ ∷ vs) are = absurd are.0
-
--- values take no more bytes than they weigh
-light : (kind : Kind) (vs : List ValueTree) → AllByRecursion (IsOfKind kind) vs → plain_size kind vs ≤ 64 * length vs + text_size vs
-light Boolean vs are = omega arith
-light Int32 vs are = omega arith
-light Int64 vs are = omega arith
-light ByteArray vs are = omega arith
-light (FixedLenByteArray k) vs are = omega (arith, fixed_size k vs are)
-
-weight_is : (vs : List ValueTree) → page_weight (map flat vs) ≡ 1024 + 64 * length vs + text_size vs
-weight_is vs = omega (arith, length-map vs flat, ap text_size (flat_values vs))
-
--- ---- the entries of a page that is written
-
--- entries that a leaf without levels has, and their values
-pub record AreOfLeaf (leaf : Leaf) (es : List Entry) (vs : List ValueTree) : Type 0 where
-  pub no_repetition : leaf.greatest_repetition ≡ 0
-  pub no_definition : leaf.greatest_definition ≡ 0
-  pub are : es ≡ map flat vs
-  pub fit : AllByRecursion (λ v. IsTrue (fits_leaf leaf.leaf_type v)) vs
-  pub of_kind : AllByRecursion (IsOfKind leaf.leaf_type.kind) vs
-
-pub of_leaf : (leaf : Leaf) (es : List Entry) (vs : List ValueTree) → leaf.greatest_repetition ≤ 0 → leaf.greatest_definition ≤ 0 → es ≡ map flat vs → AllByRecursion (λ v. IsTrue (fits_leaf leaf.leaf_type v)) vs
-    → ((kind : Kind) (v : ValueTree) → IsOfKind kind v ↔ IsTrue (fits_kind kind v)) → AreOfLeaf leaf es vs
-of_leaf leaf es vs r g are fit law = record { no_repetition = omega (arith, r); no_definition = omega (arith, g); are = are; fit = fit; of_kind = kinds_of_fit leaf.leaf_type vs law fit }
-
-plain_page : (leaf : Leaf) (vs : List ValueTree) (bytes : List ℕ) (used : ℕ) → leaf.greatest_repetition ≡ 0 → leaf.greatest_definition ≡ 0 → AllByRecursion (λ v. IsTrue (fits_leaf leaf.leaf_type v)) vs
-    → IsPlainPage leaf.leaf_type.kind vs bytes used → StandsAsPage leaf (map flat vs) bytes used
-plain_page leaf vs bytes used r g fit p d =
-    let header = written_header (length p.body) (length vs) in
-    let own : DataPageHeader = record { num_values = pos (length vs); encoding = pos 0; definition_level_encoding = Some (pos 3); repetition_level_encoding = Some (pos 3); statistics = None } in
-    record {
-      header = header;
-      body = p.body;
-      framed = p.framed;
-      stands_for = inl (own, refl, refl, flat_body leaf d own p.body (length vs) vs r g refl refl fit (inr (length p.body, p.spelled)));
-    }
-
-flat_page : (leaf : Leaf) (vs : List ValueTree) (old new : List ℕ) → leaf.greatest_repetition ≡ 0 → leaf.greatest_definition ≡ 0 → AllByRecursion (λ v. IsTrue (fits_leaf leaf.leaf_type v)) vs → AllByRecursion (IsOfKind leaf.leaf_type.kind) vs
-    → Appends (IsPlainPage leaf.leaf_type.kind vs) (1024 + plain_size leaf.leaf_type.kind vs) old new → Appends (StandsAsPage leaf (map flat vs)) (page_weight (map flat vs)) old new
-flat_page leaf vs old new r g fit of_kind p = record {
-  text = p.text;
-  joined = p.joined;
-  stands = λ more. plain_page leaf vs (p.text ++ more) (length p.text) r g fit (p.stands more);
-  short = omega (arith, p.short, light leaf.leaf_type.kind vs of_kind, weight_is vs);
+-- the sections and the values after them, as parts
+pub parts_are : (leaf : Leaf) (es : List Entry) (mid parts text : List ℕ) (sizes : SectionSizes) → (p : AreSections leaf es mid sizes.repetitions sizes.definitions) → parts ≡ mid ++ text → AreParts parts sizes p.repetition_bytes p.definition_bytes text
+parts_are leaf es mid parts text sizes p joined = record {
+  joined = joined ∙ ap (λ (t : List ℕ). t ++ text) p.joined ∙ append_assoc p.repetition_bytes p.definition_bytes text;
+  first = p.first_size;
+  second = p.second_size;
 }
 
-pub page_stands : (leaf : Leaf) (es : List Entry) (vs : List ValueTree) (old new : List ℕ) → AreOfLeaf leaf es vs → Appends (IsPlainPage leaf.leaf_type.kind vs) (1024 + plain_size leaf.leaf_type.kind vs) old new → Appends (StandsAsPage leaf es) (page_weight es) old new
-page_stands leaf es vs old new has p =
-    subst (λ (t : List Entry). Appends (StandsAsPage leaf t) (page_weight t) old new) (sym has.are) (flat_page leaf vs old new has.no_repetition has.no_definition has.fit has.of_kind p)
+-- what stands whatever follows, with nothing after it
+pub fills : (Stands : List ℕ → ℕ → Type 0) (most : ℕ) (old new : List ℕ) → (p : Appends Stands most old new) → Stands p.text (length p.text)
+fills Stands most old new p = subst (λ (t : List ℕ). Stands t (length p.text)) (append-nil p.text) (p.stands [])
 
-values_are : (leaf : Leaf) (es : List Entry) (vs : List ValueTree) → AreOfLeaf leaf es vs → values es ≡ vs
-values_are leaf es vs has = ap (λ (t : List Entry). values t) has.are ∙ flat_values vs
+-- ---- the values of entries
 
-pub page_written : (leaf : Leaf) (es : List Entry) (vs : List ValueTree) (old new : List ℕ) → AreOfLeaf leaf es vs → Appends (IsPlainPage leaf.leaf_type.kind vs) (1024 + plain_size leaf.leaf_type.kind vs) old new
-    → Appends (IsPlainPage leaf.leaf_type.kind (values es)) (page_weight es) old new
-page_written leaf es vs old new has p = record {
+fit_here : (leaf : Leaf) (r d : ℕ) (o : Option ValueTree) (es : List Entry) → MatchOption o (d < leaf.greatest_definition) (λ v. (d ≡ leaf.greatest_definition) × IsTrue (fits_leaf leaf.leaf_type v)) → AllByRecursion (λ v. IsTrue (fits_leaf leaf.leaf_type v)) (values es)
+    → AllByRecursion (λ v. IsTrue (fits_leaf leaf.leaf_type v)) (values (record { repetition = r; definition = d; value = o } ∷ es))
+fit_here leaf r d None es here fit = fit
+fit_here leaf r d (Some v) es here fit = (here.1, fit)
+
+fit_values : (leaf : Leaf) (es : List Entry) → AllByRecursion (IsEntryOf leaf) es → AllByRecursion (λ v. IsTrue (fits_leaf leaf.leaf_type v)) (values es)
+fit_values leaf [] all = tt
+fit_values leaf (e ∷ es) (here, all) = fit_here leaf e.repetition e.definition e.value es here.value (fit_values leaf es all)
+
+pub kinds_in : (leaf : Leaf) (es : List Entry) → ((kind : Kind) (v : ValueTree) → IsOfKind kind v ↔ IsTrue (fits_kind kind v)) → AllByRecursion (IsEntryOf leaf) es → All (IsOfKind leaf.leaf_type.kind) (values es)
+kinds_in leaf es law all = All-from_recursion (IsOfKind leaf.leaf_type.kind) (values es) (kinds_of_fit leaf.leaf_type (values es) law (fit_values leaf es all))
+
+pub all_short : (vs : List ValueTree) → (Any IsTooLong vs → ⊥) → AllByRecursion (λ v. IsTooLong v → ⊥) vs
+all_short [] none = tt
+all_short (v ∷ vs) none = (λ long. none (0, v, omega arith, refl, long), all_short vs (λ any. none (suc any.0, any.1, omega (arith, any.2), any.3, any.4)))
+
+pub page_stands : (leaf : Leaf) (version : PageVersion) (encoding : Encoding) (es : List Entry) (old new : List ℕ) → AllByRecursion (IsEntryOf leaf) es → Appends (IsWrittenPage leaf version encoding (AreValuesIn leaf.leaf_type.kind encoding (values es)) es) (page_weight es) old new
+    → Appends (StandsAsPage leaf es) (page_weight es) old new
+page_stands leaf version encoding es old new each p = record {
   text = p.text;
   joined = p.joined;
-  stands = λ more. subst (λ (t : List ValueTree). IsPlainPage leaf.leaf_type.kind t (p.text ++ more) (length p.text)) (sym (values_are leaf es vs has)) (p.stands more);
-  short = omega (arith, p.short, light leaf.leaf_type.kind vs has.of_kind, weight_is vs, ap (λ (t : List Entry). page_weight t) has.are);
+  stands = λ more d.
+      let here = p.stands more in
+      written_page leaf version encoding (AreValuesIn leaf.leaf_type.kind encoding (values es)) es (p.text ++ more) (length p.text) d each here (values_stand d leaf.leaf_type.kind encoding (values es) here.text here.spelled);
+  short = p.short;
 }
 
-pub page_short : (leaf : Leaf) (es : List Entry) (vs : List ValueTree) → AreOfLeaf leaf es vs → All (λ v. IsTooLong v → ⊥) vs → AreShort es
-page_short leaf es vs has short = subst (λ (t : List ValueTree). AllByRecursion (λ v. IsTooLong v → ⊥) t) (sym (values_are leaf es vs has)) (recursion_from_All (λ v. IsTooLong v → ⊥) vs short)
-
-pub page_too_much : (leaf : Leaf) (es : List Entry) (vs : List ValueTree) → AreOfLeaf leaf es vs → Any IsTooLong vs ⊎ (most_of_page < plain_size leaf.leaf_type.kind vs) ⊎ (most_of_page < length vs) → IsPageTooMuch es
-page_too_much leaf es vs has (inl long) = long_value (subst (λ (t : List ValueTree). Any IsTooLong t) (sym (values_are leaf es vs has)) long)
-page_too_much leaf es vs has (inr (inl big)) = heavy_page (omega (arith, big, light leaf.leaf_type.kind vs has.of_kind, weight_is vs, ap (λ (t : List Entry). page_weight t) has.are))
-page_too_much leaf es vs has (inr (inr many)) = heavy_page (omega (arith, many, weight_is vs, ap (λ (t : List Entry). page_weight t) has.are))
+pub page_stands_by_indexes : (leaf : Leaf) (version : PageVersion) (size : ℕ) (indexes : List ℕ) (es : List Entry) (old new : List ℕ) → AllByRecursion (IsEntryOf leaf) es
+    → Appends (IsWrittenPage leaf version RleDictionary (AreIndexesIn size indexes) es) (page_weight es) old new → Appends (StandsByIndexes leaf size indexes es) (page_weight es) old new
+page_stands_by_indexes leaf version size indexes es old new each p = record {
+  text = p.text;
+  joined = p.joined;
+  stands = λ more d sized are.
+      let here = p.stands more in
+      written_page leaf version RleDictionary (AreIndexesIn size indexes) es (p.text ++ more) (length p.text) (Some d) each here (indexes_stand d leaf.leaf_type.kind size indexes here.text (values es) sized are here.spelled);
+  short = p.short;
+}

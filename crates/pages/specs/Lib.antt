@@ -8,6 +8,8 @@ pub mod Flat
 pub mod Apart
 pub mod Greatest
 pub mod Writing
+pub mod WrittenValues
 pub mod Headers
+pub mod inner
 pub mod Worked
 pub mod inner

@@ -1,11 +1,9 @@
 -- What pages of the program stand for.
 use Rattle.std.specs.Prelude.{map, List, Option, option_map}
 use Rattle.std.specs.Borrow.{Bor}
-use Rattle.schema.specs.Values.{ValueTree, view}
-use Rattle.schema.specs.Stripe.{Entry}
+use Rattle.schema.specs.Values.{ValueTree}
 use Rattle.schema.specs.declared.borrowed.ValueRef.{ValueRef}
 use Rattle.schema.specs.Borrowed.{value_ref_view}
-use Rattle.pages.specs.declared.entry.EntryRef.{EntryRef}
 use Rattle.pages.specs.declared.page.PageRef.{PageRef}
 use Rattle.pages.specs.declared.page.PageRef.TheVariants.{Skipped, Dictionary, Data}
 use Rattle.pages.specs.Page.{Page, skipped, dictionary, entries}
@@ -19,7 +17,3 @@ page_view (Data page) = entries (entries_left page)
 -- a borrowed dictionary
 abbrev pub dictionary_view : Option (Bor (List ValueRef)) → Option (List ValueTree)
 dictionary_view d = option_map (λ x. map value_ref_view x.now) d
-
--- an entry whose value is borrowed
-abbrev pub entry_ref_view : EntryRef → Entry
-entry_ref_view e = record { repetition = e.repetition; definition = e.definition; value = option_map (λ v. view v.now) e.value }

@@ -1,2 +1,3 @@
--- Definitions for private functions only.
+-- Definitions for private functions alone.
 pub mod Reading
+pub mod Put

@@ -1,7 +1,8 @@
 //! Encodings of values.
 
-ghost use Rattle.std.specs.Prelude.{◌≡◌};
+ghost use Rattle.std.specs.Prelude.{◌≡◌, pos};
 ghost use Rattle.pages.specs.Encodings.{encoding_of};
+ghost use Rattle.pages.specs.Headers.{number_of};
 
 /// An encoding of values (`parquet.thrift`, Encoding).
 #[derive(Debug, Clone, Copy, PartialEq, Eq)]
@@ -33,6 +34,23 @@ impl Encoding {
             8 => Some(Encoding::RleDictionary),
             9 => Some(Encoding::ByteStreamSplit),
             _ => None,
+        }
+    }
+
+    /// The number that the format has for the encoding.
+    pub fn number(self) -> i32
+        ensures { result ≡ pos (number_of self) }
+    {
+        match self {
+            Encoding::Plain => 0,
+            Encoding::PlainDictionary => 2,
+            Encoding::Rle => 3,
+            Encoding::BitPacked => 4,
+            Encoding::DeltaBinaryPacked => 5,
+            Encoding::DeltaLengthByteArray => 6,
+            Encoding::DeltaByteArray => 7,
+            Encoding::RleDictionary => 8,
+            Encoding::ByteStreamSplit => 9,
         }
     }
 }

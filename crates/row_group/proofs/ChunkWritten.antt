@@ -5,12 +5,11 @@ use Rattle.std.proofs.lemmas.List.{append-nil, append_cancel_left, length-append
 use Rattle.bits.specs.Codec.{Appends}
 use Rattle.schema.specs.Stripe.{Leaf, Entry}
 use Rattle.metadata.specs.Records.{ColumnMeta}
-use Rattle.pages.specs.Page.{entries, values}
+use Rattle.pages.specs.Page.{entries}
 use Rattle.pages.specs.Chunk.{IsChunk}
-use Rattle.pages.specs.Headers.{IsPlainPage}
 use Rattle.pages.specs.Writing.{page_weight, StandsAsPage}
 use Rattle.row_group.specs.Chunks.{IsChunkOf}
-use Rattle.row_group.specs.Writing.{IsOwn, AppendsChunk}
+use Rattle.row_group.specs.Writing.{IsOwn, IsOwnPage, AppendsChunk}
 use Rattle.row_group.proofs.OnePage.{one_page, no_page}
 
 -- ---- the pages
@@ -53,7 +52,7 @@ pub record Says (m : ColumnMeta) (leaf : Leaf) (start bytes many : ℕ) : Type 0
   pub own : IsOwn m
 
 pub chunk_written : (m : ColumnMeta) (leaf : Leaf) (old new : List ℕ) (es : List Entry) (size : ℕ) → size ≡ length new - length old → Says m leaf (length old) size (length es)
-    → Appends (StandsAsChunk leaf es) (page_weight es) old new → (0 < length es → Appends (IsPlainPage leaf.leaf_type.kind (values es)) (page_weight es) old new) → AppendsChunk leaf old new m es
+    → Appends (StandsAsChunk leaf es) (page_weight es) old new → (0 < length es → Appends (IsOwnPage leaf es) (page_weight es) old new) → AppendsChunk leaf old new m es
 chunk_written m leaf old new es size filled s p page =
     let same : size ≡ length p.text = omega (arith, filled, ap length p.joined, length-append old p.text) in
     record {
@@ -61,7 +60,7 @@ chunk_written m leaf old new es size filled s p page =
       joined = p.joined;
       starts = record { page = length old; data_page = s.place; begins = rw s.own.dictionary refl };
       fills = λ more. record { is = s.is; count = s.count; held = p.stands more };
-      page = λ some. form_kept (IsPlainPage leaf.leaf_type.kind (values es)) (page_weight es) old new p.text p.joined (page some);
+      page = λ some. form_kept (IsOwnPage leaf es) (page_weight es) old new p.text p.joined (page some);
       size = s.size ∙ ap (λ (n : ℕ). Some (pos n)) same;
       plain_size = s.plain_size ∙ ap (λ (n : ℕ). Some (pos n)) same;
       own = s.own;

@@ -10,7 +10,10 @@ use Rattle.schema.specs.Stripe.{Leaf, Entry, leaves_of, columns}
 use Rattle.metadata.specs.Records.{ColumnMeta, ChunkMeta, GroupMeta}
 use Rattle.plain.specs.Plain.{IsTooLong}
 use Rattle.pages.specs.Page.{values}
-use Rattle.pages.specs.Headers.{IsPlainPage}
+use Rattle.pages.specs.declared.encoding.Encoding.TheVariants.{Plain}
+use Rattle.pages.specs.declared.page_version.PageVersion.TheVariants.{V1}
+use Rattle.pages.specs.Headers.{IsWrittenPage}
+use Rattle.pages.specs.WrittenValues.{AreValuesIn}
 use Rattle.pages.specs.Writing.{page_weight, AreShort, IsPageTooMuch}
 use Rattle.row_group.specs.Greatest.{most_entries, most_rows, most_bytes_before}
 use Rattle.row_group.specs.Chunks.{ChunkMeans, StartsAt}
@@ -25,6 +28,10 @@ pub record IsOwn (m : ColumnMeta) : Type 0 where
   pub dictionary : m.dictionary_page_offset ≡ None
   pub statistics : m.statistics ≡ None
 
+-- a page of these entries as the store's own writer has it: version 1, PLAIN
+abbrev pub IsOwnPage : Leaf → List Entry → List ℕ → ℕ → Type 0
+IsOwnPage leaf es bytes used = IsWrittenPage leaf V1 Plain (AreValuesIn leaf.leaf_type.kind Plain (values es)) es bytes used
+
 -- The bytes of `new` are those of `old` and a chunk of these entries, which starts right behind `old` and whose pages fill
 -- just what was written, whatever follows it; so says its record. Where there are entries, it is one page, as they are written.
 pub record AppendsChunk (leaf : Leaf) (old new : List ℕ) (m : ColumnMeta) (es : List Entry) : Type 0 where
@@ -32,7 +39,7 @@ pub record AppendsChunk (leaf : Leaf) (old new : List ℕ) (m : ColumnMeta) (es 
   pub joined : new ≡ old ++ text
   pub starts : StartsAt m (length old)
   pub fills : (more : List ℕ) → ChunkMeans m leaf (text ++ more) es (length text)
-  pub page : 0 < length es → (more : List ℕ) → IsPlainPage leaf.leaf_type.kind (values es) (text ++ more) (length text)
+  pub page : 0 < length es → (more : List ℕ) → IsOwnPage leaf es (text ++ more) (length text)
   pub size : m.total_compressed_size ≡ Some (pos (length text))
   pub plain_size : m.total_uncompressed_size ≡ Some (pos (length text))
   pub own : IsOwn m

@@ -1,27 +1,25 @@
 //! From entries to chunks.
 
-ghost use Rattle.std.specs.Prelude.{◌≡◌, ◌⊎◌, ◌<◌, ◌<ℤ◌, pos, map, length, IfOk, OnOk, OnErr, Err};
+ghost use Rattle.std.specs.Prelude.{◌≡◌, ◌<◌, ◌<ℤ◌, pos, map, length, IfOk, OnOk, OnErr, Err};
 ghost use Rattle.std.specs.Rc.{rc_str_bytes};
 ghost use Rattle.std.specs.List.{AllByRecursion};
 ghost use Rattle.bits.specs.Codec.{Appends};
 ghost use Rattle.bits.specs.Refusals.{OnFault, RefusedOnly};
+ghost use Rattle.schema.specs.Borrowed.{entry_ref_view};
 ghost use Rattle.schema.specs.Law.{IsEntryOf};
 ghost use Rattle.schema.specs.Views.{leaf_view};
 ghost use Rattle.metadata.specs.Views.{column_meta_view};
 ghost use Rattle.pages.specs.Chunk.{IsChunk};
-ghost use Rattle.pages.specs.Headers.{IsPlainPage};
-ghost use Rattle.pages.specs.Page.{values};
-ghost use Rattle.pages.specs.Views.{entry_ref_view};
-ghost use Rattle.pages.specs.Writing.{page_weight, AreShort, IsPageTooMuch, IsLeafToBeWritten, IsOfWriting};
+ghost use Rattle.pages.specs.Writing.{page_weight, AreShort, IsPageTooMuch, IsOfEntries};
 ghost use Rattle.row_group.specs.Greatest.{most_entries};
-ghost use Rattle.row_group.specs.Writing.{AppendsChunk, IsChunkTooMuch};
+ghost use Rattle.row_group.specs.Writing.{AppendsChunk, IsChunkTooMuch, IsOwnPage};
 
 use crate::chunk_record::UNCOMPRESSED;
 use crate::limits::{MOST_BYTES_BEFORE_CHUNK, MOST_ENTRIES_OF_CHUNK};
 use bits::{R, Refusal};
 use metadata::ColumnMeta;
-use pages::{EntryRef, write_page};
-use schema::Leaf;
+use pages::{Encoding, PageVersion, write_page};
+use schema::{EntryRef, Leaf};
 use std::alloc::Global;
 use std::rc::RcStr;
 
@@ -30,14 +28,13 @@ use std::rc::RcStr;
 const ENCODINGS: [i32; 2] = [0, 3];
 
 /// Writes the entries at the end of a file's bytes, as a chunk of the leaf, and returns its record:
-/// one page as of [`write_page`], or none where there are no entries. The chunk starts where the bytes
+/// one PLAIN page of version 1 as of [`write_page`], or none where there are no entries. The chunk starts where the bytes
 /// ended, both sizes in the record are those of the bytes that were written, and its encodings are PLAIN
 /// and RLE. (`parquet.thrift`, ColumnMetaData.)
 ///
 /// Refused Levels or Value only where an entry is none of the leaf's. Refused Limit only where there
-/// are more than 16,777,216 entries, where the page is too much for one, where `out` has 2^31 bytes
-/// already, or where the leaf's pages are not written yet; of no entries any leaf's chunk is written.
-/// After a refusal `out` is as it was.
+/// are more than 16,777,216 entries, where the page is too much for one, or where `out` has 2^31 bytes
+/// already. After a refusal `out` is as it was.
 ///
 /// The entries are gone through as often as by [`write_page`]; beside what that takes, memory is asked
 /// for the record alone, and before anything is written.
@@ -51,8 +48,8 @@ pub fn write_chunk(
     ensures within_limits { OnOk result (AreShort (map entry_ref_view entries.now)) }
     ensures entries_within_limits { OnOk result (most_entries <ℤ pos (length (map entry_ref_view entries.now)) → ⊥) }
     ensures only { OnFault result (AllByRecursion (IsEntryOf (leaf_view leaf.now)) (map entry_ref_view entries.now) → ⊥) }
-    ensures limit { result ≡ Err Refusal.Limit → IsChunkTooMuch (length out.old.items) (map entry_ref_view entries.now) ⊎ IsLeafToBeWritten (leaf_view leaf.now) }
-    ensures which { RefusedOnly IsOfWriting result }
+    ensures limit { result ≡ Err Refusal.Limit → IsChunkTooMuch (length out.old.items) (map entry_ref_view entries.now) }
+    ensures which { RefusedOnly IsOfEntries result }
     ensures unchanged { OnErr result (out.new.items ≡ out.old.items) }
 {
     let start = out.len();
@@ -93,15 +90,17 @@ fn bytes_of_names(alloc: Global, names: &[RcStr]) -> R<Vec<Vec<u8>>>
 /// Writes the pages of a chunk of these entries: one, or none where there are no entries.
 fn write_pages(alloc: Global, leaf: &Leaf, entries: &[EntryRef<'_>], out: &mut Vec<u8>) -> R<()>
     ensures stands { let es = map entry_ref_view entries.now in OnOk result (Appends (λ bytes used. IsChunk (leaf_view leaf.now) bytes (length es) es used) (page_weight es) out.old.items out.new.items) }
-    ensures written { let es = map entry_ref_view entries.now in OnOk result (0 < length es → Appends (IsPlainPage leaf.now.leaf_type.kind (values es)) (page_weight es) out.old.items out.new.items) }
+    ensures written { let es = map entry_ref_view entries.now in OnOk result (0 < length es → Appends (IsOwnPage (leaf_view leaf.now) es) (page_weight es) out.old.items out.new.items) }
     ensures within_limits { OnOk result (AreShort (map entry_ref_view entries.now)) }
     ensures only { OnFault result (AllByRecursion (IsEntryOf (leaf_view leaf.now)) (map entry_ref_view entries.now) → ⊥) }
-    ensures limit { result ≡ Err Refusal.Limit → IsPageTooMuch (map entry_ref_view entries.now) ⊎ IsLeafToBeWritten (leaf_view leaf.now) }
-    ensures which { RefusedOnly IsOfWriting result }
+    ensures limit { result ≡ Err Refusal.Limit → IsPageTooMuch (map entry_ref_view entries.now) }
+    ensures which { RefusedOnly IsOfEntries result }
     ensures unchanged { OnErr result (out.new.items ≡ out.old.items) }
 {
     if entries.is_empty() {
         return Ok(());
     }
-    write_page(alloc, leaf, entries, out)
+    let mut scratch = Vec::new(alloc);
+    let (version, encoding) = (PageVersion::V1, Encoding::Plain);
+    write_page(alloc, leaf, version, encoding, entries, &mut scratch, out)
 }

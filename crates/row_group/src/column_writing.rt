@@ -3,11 +3,11 @@
 ghost use Rattle.std.specs.Prelude.{◌≡◌, ◌<ℤ◌, pos, map, length, take, IfOk, OnOk, OnErr, Err};
 ghost use Rattle.std.specs.List.{AllByRecursion};
 ghost use Rattle.bits.specs.Refusals.{RefusedOnly};
+ghost use Rattle.schema.specs.Borrowed.{entry_ref_view};
 ghost use Rattle.schema.specs.Law.{IsEntryOf};
 ghost use Rattle.schema.specs.Stripe.{leaves_of, column};
 ghost use Rattle.schema.specs.Views.{leaf_view, rows_view};
 ghost use Rattle.metadata.specs.Views.{column_meta_view, chunk_meta_view};
-ghost use Rattle.pages.specs.Views.{entry_ref_view};
 ghost use Rattle.pages.specs.Writing.{AreShort};
 ghost use Rattle.row_group.specs.Greatest.{most_entries};
 ghost use Rattle.row_group.specs.Writing.{AppendsChunk, IsChunkTooMuch, IsGroupTooMuch};
@@ -16,8 +16,7 @@ ghost use Rattle.row_group.specs.Columns.{AreFilled, way_at, IsFieldOf, column_o
 use crate::chunk_writing::write_chunk;
 use bits::{R, Refusal};
 use metadata::{ChunkMeta, ColumnMeta};
-use pages::EntryRef;
-use schema::{Leaf, Row, Schema};
+use schema::{EntryRef, Leaf, Row, Schema, ValueRef};
 use std::alloc::Global;
 
 /// The column of a REQUIRED top-level leaf: the values at a place of the rows, lent.
@@ -31,7 +30,7 @@ fn entries_at<'a>(alloc: Global, place: usize, rows: &'a [Row]) -> R<Vec<EntryRe
         entries.push(EntryRef {
             repetition: 0,
             definition: 0,
-            value: Some(&row.values[place]),
+            value: Some(ValueRef::of(&row.values[place])),
         })?;
     }
     Ok(entries)

@@ -7,7 +7,7 @@ use Rattle.schema.specs.declared.value.Kind.{Kind}
 use Rattle.schema.specs.declared.value.Kind.TheVariants.{Boolean, Int32, Int64, ByteArray, FixedLenByteArray}
 use Rattle.schema.specs.Listed.{type_number}
 use Rattle.schema.specs.Views.{leaf_view}
-use Rattle.pages.specs.Views.{entry_ref_view}
+use Rattle.schema.specs.Borrowed.{entry_ref_view}
 use Rattle.row_group.proofs.ChunkWritten.{chunk_written}
 use Rattle.row_group.proofs.chunk_writing.write_chunk.Goals as goal
 

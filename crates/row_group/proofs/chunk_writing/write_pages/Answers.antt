@@ -3,7 +3,7 @@ use Rattle.std.proofs.lemmas.Bool.Decides.{nat_tests}
 use Rattle.std.proofs.lemmas.List.{length-map}
 use Rattle.std.proofs.lemmas.Result.{on_ok_weaker}
 use Rattle.schema.specs.Views.{leaf_view}
-use Rattle.pages.specs.Views.{entry_ref_view}
+use Rattle.schema.specs.Borrowed.{entry_ref_view}
 use Rattle.row_group.proofs.ChunkWritten.{page_written, nothing_written}
 use Rattle.row_group.proofs.chunk_writing.write_pages.Goals as goal
 

@@ -1,7 +1,7 @@
 use Rattle.std.proofs.Common.{◌≡◌, ◌++◌, map, drop}
 use Rattle.schema.specs.Stripe.{column}
 use Rattle.schema.specs.Views.{rows_view}
-use Rattle.pages.specs.Views.{entry_ref_view}
+use Rattle.schema.specs.Borrowed.{entry_ref_view}
 use Rattle.row_group.specs.Columns.{way_at}
 use Rattle.row_group.proofs.column_writing.entries_at.Given as goal
 

@@ -1,12 +1,12 @@
--- Entries whose values are lent.
+-- The entries that a page is written of.
 use Rattle.std.proofs.Common.{◌≡◌, ℕ, ◌<◌, List, length, get_or, sym, ap, subst, ◌∙◌, arith}
 use Rattle.std.specs.Prelude.{map}
 use Rattle.std.specs.List.{AllByRecursion}
 use Rattle.std.proofs.lemmas.List.{length-map, get_or-map}
 use Rattle.std.proofs.lemmas.List.Elements.{All-from_recursion, All-get_or}
 use Rattle.schema.specs.Stripe.{Entry}
-use Rattle.pages.specs.declared.entry.EntryRef.{EntryRef}
-use Rattle.pages.specs.Views.{entry_ref_view}
+use Rattle.schema.specs.declared.borrowed.EntryRef.{EntryRef}
+use Rattle.schema.specs.Borrowed.{entry_ref_view}
 
 -- what holds of all holds of the one at a place
 pub entry_here : (P : Entry → Type 0) (es : List EntryRef) (i : ℕ) (e : EntryRef) → i < length es → e ≡ get_or es i e → AllByRecursion P (map entry_ref_view es) → P (entry_ref_view e)

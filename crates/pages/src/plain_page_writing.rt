@@ -1,0 +1,84 @@
+//! PLAIN pages without levels, whose size is known before their values are written.
+
+ghost use Rattle.std.specs.Prelude.{◌≡◌, ◌⊎◌, ◌<◌, ◌≤◌, All, map, length, take, true, OnOk, OnErr};
+ghost use Rattle.std.specs.List.{Any};
+ghost use Rattle.bits.specs.Refusals.{RefusedOnly};
+ghost use Rattle.schema.specs.Borrowed.{value_ref_view};
+ghost use Rattle.schema.specs.Views.{leaf_view};
+ghost use Rattle.plain.specs.Plain.{IsOfKind, IsTooLong};
+ghost use Rattle.pages.specs.inner.Put.{IsPlainDataPage, IsOfPlainWriting};
+
+use crate::encoding::Encoding;
+use crate::header_writing::{DataPageHead, SectionSizes, put_data_header};
+use bits::R;
+use metadata::page_header_again;
+use plain::{encode, encoded_size};
+use schema::{Leaf, ValueRef};
+use std::alloc::Global;
+
+/// Whether a page's size is known before its values are written: they are PLAIN, without levels.
+pub(crate) fn has_known_size(leaf: &Leaf, encoding: Encoding) -> bool
+    ensures encoding { result ≡ true → encoding ≡ Encoding.Plain }
+    ensures repetition { result ≡ true → leaf.now.greatest_repetition ≡ 0 }
+    ensures definition { result ≡ true → leaf.now.greatest_definition ≡ 0 }
+{
+    match encoding {
+        Encoding::Plain => leaf.greatest_repetition == 0 && leaf.greatest_definition == 0,
+        _ => false,
+    }
+}
+
+/// Writes a page of these values at the end: its header, and then the values where they belong. After
+/// a refusal `out` is unchanged.
+pub(crate) fn put_plain_page(
+    alloc: Global,
+    leaf: &Leaf,
+    head: DataPageHead,
+    values: &[ValueRef<'_>],
+    out: &mut Vec<u8>,
+) -> R<()>
+    requires nulls { head.nulls ≤ head.entries }
+    requires rows { head.rows ≤ head.entries }
+    requires repetition { leaf.now.greatest_repetition ≡ 0 }
+    requires definition { leaf.now.greatest_definition ≡ 0 }
+    requires of_kind { All (IsOfKind leaf.now.leaf_type.kind) (map value_ref_view values.now) }
+    ensures stands { OnOk result (IsPlainDataPage (leaf_view leaf.now) head (map value_ref_view values.now) out.old.items out.new.items) }
+    ensures within_limits { OnOk result (Any IsTooLong (map value_ref_view values.now) → ⊥) }
+    ensures which { RefusedOnly (IsOfPlainWriting head.entries (map value_ref_view values.now)) result }
+    ensures unchanged { OnErr result (out.new.items ≡ out.old.items) }
+{
+    let kept = out.len();
+    let done = put_header_and_values(alloc, leaf, head, values, out);
+    if done.is_err() {
+        out.truncate(kept);
+    }
+    done
+}
+
+/// Writes the header and the values; where it is refused, the header may stand there.
+fn put_header_and_values(
+    alloc: Global,
+    leaf: &Leaf,
+    head: DataPageHead,
+    values: &[ValueRef<'_>],
+    out: &mut Vec<u8>,
+) -> R<()>
+    requires nulls { head.nulls ≤ head.entries }
+    requires rows { head.rows ≤ head.entries }
+    requires repetition { leaf.now.greatest_repetition ≡ 0 }
+    requires definition { leaf.now.greatest_definition ≡ 0 }
+    requires of_kind { All (IsOfKind leaf.now.leaf_type.kind) (map value_ref_view values.now) }
+    ensures stands { OnOk result (IsPlainDataPage (leaf_view leaf.now) head (map value_ref_view values.now) out.old.items out.new.items) }
+    ensures within_limits { OnOk result (Any IsTooLong (map value_ref_view values.now) → ⊥) }
+    ensures which { RefusedOnly (IsOfPlainWriting head.entries (map value_ref_view values.now)) result }
+    ensures front { OnErr result (take (length out.old.items) out.new.items ≡ out.old.items) }
+{
+    page_header_again();
+    let none = SectionSizes {
+        repetitions: 0,
+        definitions: 0,
+    };
+    let size = encoded_size(leaf.leaf_type.kind, values)?;
+    put_data_header(alloc, head, size, none, out)?;
+    encode(leaf.leaf_type.kind, values, out)
+}
