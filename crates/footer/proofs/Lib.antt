@@ -1,6 +1,9 @@
 pub mod Frames
 pub mod OneFile
 pub mod Single
+pub mod GroupRows
+pub mod Taken
+
 pub mod Meaning
 pub mod Ends
 pub mod Writable

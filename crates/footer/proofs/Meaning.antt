@@ -1,5 +1,5 @@
 -- What a file means, from its footer, its schema and its groups.
-use Rattle.std.proofs.Common.{◌≡◌, ℕ, List, subst, inl, inr}
+use Rattle.std.proofs.Common.{◌≡◌, ℕ, List, subst}
 use Rattle.std.specs.Prelude.{Contains}
 use Rattle.bits.specs.declared.refusal.Refusal.{Refusal}
 use Rattle.bits.specs.declared.refusal.Refusal.TheVariants as refusal
@@ -10,7 +10,7 @@ use Rattle.schema.specs.Faults.{HasFault as HasSchemaFault}
 use Rattle.metadata.specs.Records.{FileMeta, GroupMeta}
 use Rattle.row_group.specs.Limits.{IsGroupOver}
 use Rattle.footer.specs.File.{IsFile, GroupsMean, FileMeans}
-use Rattle.footer.specs.Faults.{IsLong, HasGroup, HasGroupsFault, IsOverLimit, long, large_schema, HasFault, many_groups, large_group, other_group}
+use Rattle.footer.specs.Faults.{IsLong, HasGroup, HasGroupsFault, IsOverLimit, long, large_schema, HasFault, large_group}
 
 -- the file has this front and this record, and no other
 abbrev pub IsOnly : List ℕ → List ℕ → FileMeta → Type 0
@@ -41,9 +41,7 @@ one_meaning bytes front meta fs xs alone law schema one gs rows p = let s = seen
 -- a fault of the groups is one of the file
 pub of_groups : (bytes front : List ℕ) (meta : FileMeta) (fs : Fields) → IsFile bytes front meta → IsSchemaOf meta.schema fs → (e : Refusal) → HasGroupsFault front fs meta.row_groups e → HasFault bytes e
 of_groups bytes front meta fs file schema refusal.Codec (g, among, is) = record { front = front; meta = meta; fs = fs; group = g; file = file; schema = schema; among = among; is = is }
-of_groups bytes front meta fs file schema refusal.Limit (inl many) = inr (many_groups fs (record { front = front; meta = meta; file = file; is = (schema, many) }))
-of_groups bytes front meta fs file schema refusal.Limit (inr (g, among, inl over)) = inl (large_group (record { front = front; meta = meta; fs = fs; group = g; file = file; schema = schema; among = among; is = over }))
-of_groups bytes front meta fs file schema refusal.Limit (inr (g, among, inr other)) = inr (other_group (record { front = front; meta = meta; fs = fs; group = g; file = file; schema = schema; among = among; is = other }))
+of_groups bytes front meta fs file schema refusal.Limit (g, among, over) = large_group (record { front = front; meta = meta; fs = fs; group = g; file = file; schema = schema; among = among; is = over })
 of_groups bytes front meta fs file schema refusal.Memory w = tt
 of_groups bytes front meta fs file schema refusal.Truncated w = tt
 of_groups bytes front meta fs file schema refusal.Thrift w = tt
@@ -60,7 +58,7 @@ pub of_schema : (bytes front : List ℕ) (meta : FileMeta) → IsFile bytes fron
 of_schema bytes front meta file refusal.Schema w = tt
 of_schema bytes front meta file (refusal.Float path) w = record { front = front; meta = meta; file = file; is = w }
 of_schema bytes front meta file (refusal.Int96 path) w = record { front = front; meta = meta; file = file; is = w }
-of_schema bytes front meta file refusal.Limit w = inl (large_schema (record { front = front; meta = meta; file = file; is = w }))
+of_schema bytes front meta file refusal.Limit w = large_schema (record { front = front; meta = meta; file = file; is = w })
 of_schema bytes front meta file refusal.Memory w = tt
 of_schema bytes front meta file e w = absurd w
 

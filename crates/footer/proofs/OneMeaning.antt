@@ -1,16 +1,16 @@
 -- A file means one list of rows.
-use Rattle.std.proofs.Common.{◌≡◌, ℕ, List, [], ◌∷◌, ◌++◌, refl, sym, ap, subst, ◌∙◌}
+use Rattle.std.proofs.Common.{◌≡◌, ℕ, List, [], ◌∷◌, refl, sym, ap, ◌∙◌}
 use Rattle.std.specs.Prelude.{flat_map}
 use Rattle.bits.specs.Codec.{IsFunctional}
 use Rattle.schema.specs.Values.{ValueTrees}
 use Rattle.schema.specs.Shape.{Fields}
 use Rattle.schema.specs.Law.{IsSchema}
-use Rattle.schema.specs.Listing.{IsSchemaOf, ListsMeanOneSchema}
+use Rattle.schema.specs.Listing.{ListsMeanOneSchema}
 use Rattle.metadata.specs.Records.{FileMeta, GroupMeta}
 use Rattle.metadata.specs.FromTree.{file_meta}
 use Rattle.metadata.specs.Answers.{StandsFor}
 use Rattle.row_group.specs.Laws.{GroupsHaveOneList}
-use Rattle.footer.specs.File.{IsFile, AreGroups, GroupsMean, FileMeans}
+use Rattle.footer.specs.File.{IsFile, AreGroups, GroupsMean}
 use Rattle.footer.specs.Laws.{FilesMeanOneList}
 use Rattle.footer.proofs.OneFile.{one_file}
 use Rattle.footer.proofs.Meaning.{seen}

@@ -6,7 +6,7 @@ use Rattle.bits.specs.declared.refusal.Refusal.TheVariants.{Truncated, Magic, Th
 use Rattle.schema.specs.Shape.{Fields}
 use Rattle.schema.specs.Listing.{IsSchemaOf, ListHasLeaf, is_floating, is_int96, IsTooLarge}
 use Rattle.metadata.specs.Records.{FileMeta, GroupMeta}
-use Rattle.row_group.specs.Limits.{IsGroupOver, IsGroupToCome, HasCodec, IsOfChunks}
+use Rattle.row_group.specs.Limits.{IsGroupOver, HasCodec, IsOfChunks}
 use Rattle.footer.specs.Greatest.{most_of_file, most_of_footer}
 use Rattle.footer.specs.File.{magic, IsFile}
 
@@ -48,7 +48,7 @@ pub record HasGroup (bytes : List ℕ) (Is : List ℕ → Fields → GroupMeta �
 -- that fault is in the groups, where the refusal names one that others can see
 abbrev pub HasGroupsFault : List ℕ → Fields → List GroupMeta → Refusal → Type 0
 HasGroupsFault front fs gs Codec = (g : GroupMeta) × Contains gs g × HasCodec g
-HasGroupsFault front fs gs Limit = (1 < length gs) ⊎ ((g : GroupMeta) × Contains gs g × (IsGroupOver front fs g ⊎ IsGroupToCome front fs g))
+HasGroupsFault front fs gs Limit = (g : GroupMeta) × Contains gs g × IsGroupOver front fs g
 HasGroupsFault front fs gs Memory = Unit {0}
 HasGroupsFault front fs gs e = IsOfChunks e
 
@@ -57,11 +57,6 @@ pub data IsOverLimit (bytes : List ℕ) : Type 0 where
   long : IsLong bytes → IsOverLimit bytes
   large_schema : HasFooter bytes (λ m. IsTooLarge m.schema) → IsOverLimit bytes
   large_group : HasGroup bytes IsGroupOver → IsOverLimit bytes
-
--- Why a file is not read yet. (Each that is built is taken away, and with the last the type.)
-pub data IsFileToCome (bytes : List ℕ) : Type 0 where
-  many_groups : (fs : Fields) → HasFooter bytes (λ m. IsSchemaOf m.schema fs × (1 < length m.row_groups)) → IsFileToCome bytes
-  other_group : HasGroup bytes IsGroupToCome → IsFileToCome bytes
 
 -- that fault is in the file, where the refusal names one that others can see; no other refusal is answered
 abbrev pub HasFault : List ℕ → Refusal → Type 0
@@ -77,7 +72,7 @@ HasFault bytes Page = Unit {0}
 HasFault bytes Levels = Unit {0}
 HasFault bytes Value = Unit {0}
 HasFault bytes Utf8 = Unit {0}
-HasFault bytes Limit = IsOverLimit bytes ⊎ IsFileToCome bytes
+HasFault bytes Limit = IsOverLimit bytes
 HasFault bytes Memory = Unit {0}
 HasFault bytes _ = ⊥
 

@@ -1,9 +1,57 @@
--- The rows that a file still has to give.
-use Rattle.std.specs.Prelude.{List, [], unwrap_or, option_map}
+-- The rows that a file has, and those that it still has to give.
+use Rattle.std.specs.Prelude.{◌≡◌, ℕ, List, [], ◌∷◌, ◌++◌, map, Bool, true, false, Option, Some, None, Result, Ok, Err}
+use Rattle.bits.specs.declared.refusal.Refusal.{Refusal}
+use Rattle.bits.specs.declared.refusal.Refusal.TheVariants.{Memory}
+use Rattle.schema.specs.declared.row.Row.{Row}
 use Rattle.schema.specs.Values.{ValueTrees}
-use Rattle.row_group.specs.Left.{rows_left as rows_of_group}
+use Rattle.schema.specs.Shape.{Fields}
+use Rattle.schema.specs.Views.{row_view}
+use Rattle.metadata.specs.Records.{GroupMeta}
+use Rattle.metadata.specs.Views.{group_meta_view}
+use Rattle.row_group.specs.Taken.{IsReadable}
+pub use Rattle.row_group.specs.Taken.{TakesRow}
+use Rattle.row_group.specs.Left.{rows_stand as rows_of_group_stand}
+use Rattle.row_group.specs.declared.rows.Rows.{Rows as GroupRows}
+use Rattle.footer.specs.File.{LiesHere}
 use Rattle.footer.specs.declared.rows.Rows.{Rows}
+use Rattle.footer.specs.declared.file_reader.FileReader.{FileReader}
 
--- those of its group
-abbrev pub rows_left : Rows → List ValueTrees
-rows_left r = unwrap_or (option_map rows_of_group r.group) []
+-- the groups lie in this file, and have these rows, each group its own; no group goes beyond a limit
+abbrev pub GroupsHold : List ℕ → Fields → List GroupMeta → List ValueTrees → Type 0
+GroupsHold front fs [] rows = rows ≡ []
+GroupsHold front fs (g ∷ gs) rows =
+    (first : List ValueTrees) × (rest : List ValueTrees) × (rows ≡ first ++ rest)
+    × LiesHere g × IsReadable front fs g first × GroupsHold front fs gs rest
+
+-- the rows of an accepted file
+abbrev pub rows_of_file : FileReader → List ValueTrees → Type 0
+rows_of_file file rows = GroupsHold file.front.now file.schema (map group_meta_view file.groups.items) rows
+
+-- what is left of the group that was begun
+abbrev pub rows_of_begun : Option GroupRows → List ValueTrees → Type 0
+rows_of_begun None rows = rows ≡ []
+rows_of_begun (Some group) rows = rows_of_group_stand group rows
+
+-- what is left: of the group that was begun, and then of all other groups
+pub record rows_stand (left : Rows) (rows : List ValueTrees) : Type 0 where
+  pub first : List ValueTrees
+  pub rest : List ValueTrees
+  pub joined : rows ≡ first ++ rest
+  pub of_group : rows_of_begun left.group first
+  pub of_others : GroupsHold left.front.now left.schema.now (map group_meta_view left.groups.now) rest
+
+-- what is left of the groups that are not begun
+abbrev pub others_hold : Rows → List ValueTrees → Type 0
+others_hold left rows = GroupsHold left.front.now left.schema.now (map group_meta_view left.groups.now) rows
+
+-- the next row of the group that was begun is taken, or it has none left
+abbrev pub TakesOfGroup : Rows → Rows → Result (Option Row) Refusal → Type 0
+TakesOfGroup old new (Ok (Some row)) = (rows : List ValueTrees) → rows_stand old rows → (rest : List ValueTrees) × (rows ≡ row_view row ∷ rest) × rows_stand new rest
+TakesOfGroup old new (Ok None) = (rows : List ValueTrees) → rows_stand old rows → others_hold new rows
+TakesOfGroup old new (Err e) = (rows : List ValueTrees) → rows_stand old rows → e ≡ Memory
+
+-- the next group is begun, or there is none
+abbrev pub BeginsGroup : Rows → Rows → Result Bool Refusal → Type 0
+BeginsGroup old new (Ok true) = (rows : List ValueTrees) → others_hold old rows → rows_stand new rows
+BeginsGroup old new (Ok false) = (rows : List ValueTrees) → others_hold old rows → (rows ≡ []) × rows_stand new []
+BeginsGroup old new (Err e) = (rows : List ValueTrees) → others_hold old rows → e ≡ Memory

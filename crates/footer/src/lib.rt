@@ -6,17 +6,18 @@
 //! into one. `specs/Laws.antt` says that a file means one list of rows.
 #![tactic(auto)]
 
-mod file_reading;
+mod file_reader;
 mod file_writing;
 mod footer_reading;
 mod footer_record;
 mod footer_writing;
+mod groups;
 mod laws;
 mod limits;
 mod options;
 mod rows;
 
-pub use file_reading::{read_file, read_rows};
+pub use file_reader::{FileReader, read_file};
 pub use file_writing::write_file;
 pub use footer_reading::read_footer;
 pub use laws::one_list_of_rows;

@@ -1,31 +1,54 @@
 //! The rows of a file, one by one.
 
-ghost use Rattle.std.specs.Prelude.{◌≡◌, ◌++◌, [], map, None, IfOk, OnErr};
-ghost use Rattle.std.specs.Option.{option_to_list};
-ghost use Rattle.bits.specs.Refusals.{RefusedOnly};
-ghost use Rattle.schema.specs.Views.{row_view, rows_view};
-ghost use Rattle.footer.specs.Left.{rows_left};
+ghost use Rattle.std.specs.Prelude.{◌≡◌, ◌<◌, List, length, IfOk, IsTrue};
+ghost use Rattle.bits.specs.Refusals.{RefusedMemoryOnly};
+ghost use Rattle.schema.specs.Values.{ValueTrees};
+ghost use Rattle.schema.specs.Views.{rows_view};
+ghost use Rattle.row_group.specs.Taken.{TakesRow};
 
-use bits::R;
-use schema::Row;
+use bits::{R, Refusal};
+use metadata::GroupMeta;
+use schema::{Row, Schema};
 use std::alloc::Global;
 
-/// The rows of a file that are still to be made, one by one, from its columns.
+/// The rows of an accepted file that are still to come, in their order. Each is made when it is asked
+/// for. Kept are one page of each column of one group, and no other rows.
 #[derive(Drop)]
-pub struct Rows {
+pub struct Rows<'a> {
     pub(crate) alloc: Global,
-    /// Those of its group, where it has one.
-    pub(crate) group: Option<row_group::Rows>,
+    pub(crate) front: &'a [u8],
+    pub(crate) schema: &'a Schema,
+    /// The groups that are not begun yet.
+    pub(crate) groups: &'a [GroupMeta],
+    /// What is left of the group that was begun.
+    pub(crate) group: Option<row_group::Rows<'a>>,
 }
 
-impl Rows {
-    /// The next row; none after the last. Refused only for memory, and then no row is lost. The values
-    /// move out of the columns; the time is linear in how many there are.
+impl<'a> Rows<'a> {
+    ghost use Rattle.footer.specs.Left.{rows_stand, TakesOfGroup, BeginsGroup};
+
+    /// The next row; none after the last, however often it is asked for.
+    ///
+    /// It fails only when out of memory. Where that was within a row, it fails from then on: the file has
+    /// to be read again for the rest.
     pub fn next(&mut self) -> R<Option<Row>>
-        ensures takes { IfOk result (λ row. rows_left self.old ≡ map row_view (option_to_list row) ++ rows_left self.new) }
-        ensures ends { IfOk result (λ row. row ≡ None → rows_left self.old ≡ []) }
-        ensures unchanged { OnErr result (rows_left self.new ≡ rows_left self.old) }
-        ensures which { RefusedOnly (λ _. ⊥) result }
+        ensures takes { TakesRow (rows_stand self.old) (rows_stand self.new) result }
+    {
+        if let Some(row) = self.next_of_group()? {
+            return Ok(Some(row));
+        }
+        while self.begin_group()? {
+            if let Some(row) = self.next_of_group()? {
+                return Ok(Some(row));
+            }
+        }
+        Ok(None)
+    }
+
+    /// The next row of the group that was begun, or none where none of it is left.
+    fn next_of_group(&mut self) -> R<Option<Row>>
+        ensures takes { TakesOfGroup self.old self.new result }
+        ensures kept { self.new.groups.now ≡ self.old.groups.now }
     {
         match &mut self.group {
             Some(group) => group.next(),
@@ -33,14 +56,34 @@ impl Rows {
         }
     }
 
-    /// All rows that are left. Refused only for memory. Time and memory are linear in their values.
-    pub fn collected(self) -> R<Vec<Row>>
-        ensures rows_are { IfOk result (λ rows. rows_view rows.items ≡ rows_left self) }
-        ensures which { RefusedOnly (λ _. ⊥) result }
+    /// Begins the next group; false where there is none. Nothing is to be left of the group before.
+    fn begin_group(&mut self) -> R<bool>
+        ensures begins { BeginsGroup self.old self.new result }
+        ensures fewer { IfOk result (λ b. IsTrue b → length self.new.groups.now < length self.old.groups.now) }
     {
-        match self.group {
-            Some(group) => group.collected(),
-            None => Ok(Vec::new(self.alloc)),
+        let Some((group, others)) = self.groups.split_first() else {
+            self.group = None;
+            return Ok(false);
+        };
+        let rows = row_group::Rows::new(self.alloc, self.front, group, self.schema)?;
+        self.group = Some(rows);
+        self.groups = others;
+        Ok(true)
+    }
+
+    /// All rows that are left. It fails only when out of memory. Time and memory are linear in their values.
+    pub fn collected(mut self) -> R<Vec<Row>>
+        ensures rows_are { IfOk result (λ rows. (all : List ValueTrees) → rows_stand self.entry all → all ≡ rows_view rows.items) }
+        ensures which { (all : List ValueTrees) → rows_stand self.entry all → RefusedMemoryOnly result }
+    {
+        let mut rows = Vec::new(self.alloc);
+        'row: for _ in 0..u64::MAX {
+            match self.next()? {
+                Some(row) => rows.push(row)?,
+                None => return Ok(rows),
+            }
         }
+        // Never reached: no vector has as many rows.
+        Err(Refusal::Memory)
     }
 }

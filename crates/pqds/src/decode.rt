@@ -10,14 +10,14 @@ ghost use Rattle.schema.specs.Fits.{fits_each, RowsFit};
 ghost use Rattle.schema.specs.Views.{row_view};
 ghost use Rattle.footer.specs.File.{FileMeans};
 ghost use Rattle.footer.specs.Faults.{HasFault};
-ghost use Rattle.footer.specs.Left.{rows_left};
+ghost use Rattle.footer.specs.Left.{rows_stand};
 ghost use Rattle.jsonrows.specs.Json.{row_text};
 ghost use Rattle.jsonrows.specs.Printer.{schema_of, IsReady};
 ghost use Rattle.pqds.specs.Program.{WritesRowsOf, lines_of};
 
 use crate::host::refusal_of;
-use bits::R;
-use footer::{Rows, read_rows};
+use bits::{R, Refusal};
+use footer::{FileReader, Rows};
 use jsonrows::Printer;
 use schema::{Row, Schema};
 use std::alloc::Global;
@@ -51,23 +51,32 @@ fn write_row<W: Write>(
 }
 
 /// Makes the rows one by one, and writes each as a line. Refused Device where one cannot be written.
-fn write_rows<W: Write>(alloc: Global, schema: &Schema, rows: &mut Rows, out: &mut W) -> R<()>
-    ensures stands { OnOk result (Appends (W.contents out.old) (W.contents out.new) (lines_of schema.now (rows_left rows.old))) }
-    ensures which { RowsFit schema.now (rows_left rows.old) → RefusedOnly (λ e. e ≡ Device) result }
+fn write_rows<W: Write>(
+    alloc: Global,
+    schema: &Schema,
+    rows: &mut Rows<'_>,
+    out: &mut W,
+) -> R<()>
+    ensures stands { (all : List ValueTrees) → rows_stand rows.old all → OnOk result (Appends (W.contents out.old) (W.contents out.new) (lines_of schema.now all)) }
+    ensures which { (all : List ValueTrees) → rows_stand rows.old all → RowsFit schema.now all → RefusedOnly (λ e. e ≡ Device) result }
 {
     let mut printer = Printer::new(alloc, schema)?;
     let mut line = Vec::new(alloc);
-    while let Some(row) = rows.next()? {
-        write_row(&mut printer, &row, &mut line, out)?;
+    'row: for _ in 0..u64::MAX {
+        match rows.next()? {
+            Some(row) => write_row(&mut printer, &row, &mut line, out)?,
+            None => return out.flush().map_err(refusal_of),
+        }
     }
-    out.flush().map_err(refusal_of)
+    // Never reached: no file has as many rows.
+    Err(Refusal::Memory)
 }
 
-/// Writes the rows that the bytes of a file mean, each as a line of JSON. Refused as `read_rows` is, and
-/// then nothing is written; Device where a line cannot be written. Once the file was accepted, the rows are
-/// made, written and let go one by one, and for one of them Memory may be answered, where lines before it are
-/// written. The time is that of `read_rows`, and linear in the lines; the memory is that of `read_rows`, and of
-/// a row and its line.
+/// Writes the rows that the bytes of a file mean, each as a line of JSON. Refused as [`FileReader::new`] is,
+/// and then nothing is written; Device where a line cannot be written. Once the file was accepted, the rows
+/// are made, written and let go one by one, and for one of them Memory may be returned, where lines before it
+/// are written. The file is decoded twice: once to accept it, and once for its rows. Time is linear in what is
+/// decoded and in the lines; memory is that of one page of each column of a group, of a row and of its line.
 pub fn decode<W: Write>(alloc: Global, bytes: &[u8], out: &mut W) -> R<()>
     ensures stands { OnOk result (WritesRowsOf bytes.now (W.contents out.old) (W.contents out.new)) }
     ensures only { IfErr result (λ e. IsFault e → e ≢ Device → (fs : Fields) (rows : List ValueTrees) → FileMeans bytes.now fs rows → ⊥) }
@@ -75,6 +84,7 @@ pub fn decode<W: Write>(alloc: Global, bytes: &[u8], out: &mut W) -> R<()>
     ensures which { IfErr result (λ e. (e ≡ Device) ⊎ HasFault bytes.now e) }
     ensures unchanged { IfErr result (λ e. e ≢ Device → e ≢ Memory → W.contents out.new ≡ W.contents out.old) }
 {
-    let (schema, mut rows) = read_rows(alloc, bytes)?;
-    write_rows(alloc, &schema, &mut rows, out)
+    let file = FileReader::new(alloc, bytes)?;
+    let mut rows = file.rows(alloc);
+    write_rows(alloc, file.schema(), &mut rows, out)
 }

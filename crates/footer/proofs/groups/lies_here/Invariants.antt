@@ -3,7 +3,7 @@ use Rattle.std.specs.Prelude.{None}
 use Rattle.std.specs.List.{AllByRecursion}
 use Rattle.metadata.specs.Records.{ChunkMeta}
 use Rattle.metadata.specs.Views.{chunk_meta_view}
-use Rattle.footer.proofs.file_reading.lies_here.Given as goal
+use Rattle.footer.proofs.groups.lies_here.Given as goal
 
 -- all lie here just where those that are left do
 abbrev pub invariant-loop-chunk : goal.invariant-loop-chunk
