@@ -11,7 +11,7 @@ use Rattle.schema.specs.Shape.{Fields}
 use Rattle.metadata.specs.Records.{GroupMeta}
 use Rattle.row_group.specs.Chunks.{GroupMeans}
 use Rattle.row_group.specs.Limits.{IsGroupOver, HasCodec, IsOfChunks}
-use Rattle.row_group.specs.Taken.{IsReadable}
+use Rattle.row_group.specs.Limits.{IsReadable}
 use Rattle.footer.specs.File.{LiesHere, AreGroups, GroupsMean}
 use Rattle.footer.specs.Faults.{HasGroupsFault}
 use Rattle.footer.specs.Left.{GroupsHold}

@@ -6,7 +6,7 @@ use Rattle.bits.specs.declared.refusal.Refusal.{Refusal}
 use Rattle.bits.specs.declared.refusal.Refusal.TheVariants.{Memory}
 use Rattle.schema.specs.declared.row.Row.{Row}
 use Rattle.schema.specs.Values.{ValueTrees}
-use Rattle.row_group.specs.Taken.{TakesRow}
+use Rattle.row_group.specs.Left.{TakesRow}
 
 -- a refusal that is passed on
 pub passes_row : (S T : List ValueTrees → Type 0) (r : Result (Option Row) Refusal) (e : Refusal) → IsErrAnd r (λ f. f ≡ e) → ((rows : List ValueTrees) → S rows → e ≡ Memory) → TakesRow S T r

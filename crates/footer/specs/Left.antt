@@ -8,8 +8,8 @@ use Rattle.schema.specs.Shape.{Fields}
 use Rattle.schema.specs.Views.{row_view}
 use Rattle.metadata.specs.Records.{GroupMeta}
 use Rattle.metadata.specs.Views.{group_meta_view}
-use Rattle.row_group.specs.Taken.{IsReadable}
-pub use Rattle.row_group.specs.Taken.{TakesRow}
+use Rattle.row_group.specs.Limits.{IsReadable}
+pub use Rattle.row_group.specs.Left.{TakesRow}
 use Rattle.row_group.specs.Left.{rows_stand as rows_of_group_stand}
 use Rattle.row_group.specs.declared.rows.Rows.{Rows as GroupRows}
 use Rattle.footer.specs.File.{LiesHere}

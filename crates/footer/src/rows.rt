@@ -4,7 +4,7 @@ ghost use Rattle.std.specs.Prelude.{◌≡◌, ◌<◌, List, length, IfOk, IsTr
 ghost use Rattle.bits.specs.Refusals.{RefusedMemoryOnly};
 ghost use Rattle.schema.specs.Values.{ValueTrees};
 ghost use Rattle.schema.specs.Views.{rows_view};
-ghost use Rattle.row_group.specs.Taken.{TakesRow};
+ghost use Rattle.row_group.specs.Left.{TakesRow};
 
 use bits::{R, Refusal};
 use metadata::GroupMeta;

@@ -17,4 +17,5 @@ pub mod InOrder
 pub mod ChunkReaders
 pub mod Starts
 pub mod GroupRows
+pub mod Fresh
 pub mod RowsTaken

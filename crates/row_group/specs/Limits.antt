@@ -3,7 +3,7 @@ use Rattle.std.specs.Prelude.{◌≡◌, ◌≢◌, ℕ, pos, ℤ, ◌<ℤ◌, L
 use Rattle.bits.specs.Codec.{InTurn}
 use Rattle.bits.specs.declared.refusal.Refusal.{Refusal}
 use Rattle.bits.specs.declared.refusal.Refusal.TheVariants.{Schema, Codec}
-use Rattle.schema.specs.Values.{ValueTree}
+use Rattle.schema.specs.Values.{ValueTree, ValueTrees}
 use Rattle.schema.specs.Shape.{Fields}
 use Rattle.schema.specs.Stripe.{Leaf, Entry, leaves_of}
 use Rattle.metadata.specs.Records.{ColumnMeta, ChunkMeta, GroupMeta}
@@ -11,7 +11,7 @@ use Rattle.pages.specs.Page.{Page, entries, IsPage}
 use Rattle.pages.specs.Chunk.{is_read, dictionary_page, all_entries}
 use Rattle.pages.specs.Limits.{IsPageOver, IsOfPages}
 use Rattle.row_group.specs.Greatest.{most_entries, most_rows}
-use Rattle.row_group.specs.Chunks.{IsChunkOf, StartsAt}
+use Rattle.row_group.specs.Chunks.{IsChunkOf, StartsAt, GroupMeans}
 
 -- Behind pages that stand as the first ones of a chunk, with its dictionary where they have one, and that hold fewer entries
 -- than so many, one page has a value that is too long.
@@ -57,3 +57,8 @@ abbrev pub IsOfChunks : Refusal → Type 0
 IsOfChunks Schema = Unit {0}
 IsOfChunks Codec = Unit {0}
 IsOfChunks e = IsOfPages e
+
+-- a group has these rows, and goes beyond no limit
+pub record IsReadable (front : List ℕ) (fs : Fields) (g : GroupMeta) (rows : List ValueTrees) : Type 0 where
+  pub means : GroupMeans front fs g rows
+  pub within_limits : IsGroupOver front fs g → ⊥

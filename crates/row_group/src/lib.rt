@@ -28,4 +28,4 @@ pub use group_reading::read_group;
 pub use group_writing::write_group;
 pub use laws::{an_appended_group_has_its_rows, one_meaning};
 pub use limits::{MOST_BYTES_BEFORE_CHUNK, MOST_ENTRIES_OF_CHUNK, MOST_ROWS_OF_GROUP};
-pub use rows::Rows;
+pub use rows::{Rows, check_group};

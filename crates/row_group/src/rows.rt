@@ -1,14 +1,14 @@
 //! The rows of a group, one by one.
 
 ghost use Rattle.std.specs.Prelude.{◌≡◌, List, true, map, IfOk, OnOk, IfErr, Err};
-ghost use Rattle.bits.specs.Refusals.{OnFault, RefusedOnly};
+ghost use Rattle.bits.specs.Refusals.{OnFault, RefusedOnly, RefusedMemoryOnly};
 ghost use Rattle.schema.specs.Values.{ValueTrees};
 ghost use Rattle.schema.specs.Views.{rows_view};
 ghost use Rattle.metadata.specs.Views.{group_meta_view};
 ghost use Rattle.assemble.specs.Standing.{IsRefusedFor};
 ghost use Rattle.assemble.specs.RowsOf.{HasFault};
 ghost use Rattle.row_group.specs.Chunks.{GroupMeans};
-ghost use Rattle.row_group.specs.Limits.{IsChunkOver, IsGroupOver, HasColumn, BeginsWith, HasCodec, IsOfChunks};
+ghost use Rattle.row_group.specs.Limits.{IsChunkOver, IsGroupOver, HasColumn, BeginsWith, HasCodec, IsOfChunks, IsReadable};
 ghost use Rattle.row_group.specs.Left.{chunk_stands, rows_stand, is_broken, TakesRow};
 ghost use Rattle.row_group.specs.inner.Readers.{HasRows, AreRowsOfGroup, CountsRows, refusal_kept};
 
@@ -79,6 +79,30 @@ impl<'a> Rows<'a> {
         })
     }
 
+    /// All rows of a group that [`check_group`] accepted. No page is read yet.
+    ///
+    /// Of such a group it fails only when out of memory, and so do its rows; another may be refused, here
+    /// or at each row, as [`Rows::of_group`] refuses it. (`parquet.thrift`, RowGroup.)
+    pub fn new(
+        alloc: Global,
+        front: &'a [u8],
+        meta: &GroupMeta,
+        schema: &'a Schema,
+    ) -> R<Rows<'a>>
+        ensures stands { IfOk result (λ r. (rows : List ValueTrees) → IsReadable front.now schema.now (group_meta_view meta.now) rows → rows_stand r rows) }
+        ensures which { (rows : List ValueTrees) → IsReadable front.now schema.now (group_meta_view meta.now) rows → RefusedMemoryOnly result }
+    {
+        let left = count_of(meta.num_rows, MOST_ROWS_OF_GROUP)?;
+        let readers = readers_of(alloc, front, meta, schema)?;
+        Ok(Rows {
+            alloc,
+            schema,
+            readers,
+            left,
+            is_broken: false,
+        })
+    }
+
     /// The next row; none after the last, however often it is asked for. The bytes of its values are
     /// copied once.
     ///
@@ -125,6 +149,20 @@ impl<'a> Rows<'a> {
         // Never reached: no vector has as many rows.
         Err(Refusal::Memory)
     }
+}
+
+/// Reads a group, and keeps nothing: each page is decoded and checked, and each row is made and dropped.
+/// Refused as [`Rows::of_group`]. (`parquet.thrift`, RowGroup.)
+pub fn check_group(alloc: Global, front: &[u8], meta: &GroupMeta, schema: &Schema) -> R<()>
+    ensures stands { OnOk result ((rows : List ValueTrees) × IsReadable front.now schema.now (group_meta_view meta.now) rows) }
+    ensures only { OnFault result ((rows : List ValueTrees) → GroupMeans front.now schema.now (group_meta_view meta.now) rows → ⊥) }
+    ensures limit { result ≡ Err Refusal.Limit → IsGroupOver front.now schema.now (group_meta_view meta.now) }
+    ensures codec { result ≡ Err Refusal.Codec → HasCodec (group_meta_view meta.now) }
+    ensures which { RefusedOnly IsOfChunks result }
+{
+    let count = count_of(meta.num_rows, MOST_ROWS_OF_GROUP)?;
+    check_rows(alloc, front, meta, schema, count)?;
+    Ok(())
 }
 
 /// Makes the rows of a group, and drops them: there are this many, from chunks that are read to their

@@ -5,7 +5,7 @@ use Rattle.bits.proofs.Passing.{passes}
 use Rattle.bits.specs.Refusals.{HasCause}
 use Rattle.schema.specs.Values.{ValueTrees}
 use Rattle.schema.specs.Views.{row_view, rows_view}
-use Rattle.row_group.specs.Taken.{TakesRow}
+use Rattle.row_group.specs.Left.{TakesRow}
 use Rattle.footer.specs.Left.{rows_stand}
 use Rattle.footer.proofs.Taken.{one_taken}
 use Rattle.footer.proofs.rows.Rows.collected.Goals as goal
