@@ -1,7 +1,7 @@
 //! Rows from text, and as text.
 
 use bits::R;
-use jsonrows::{row_from, row_to, schema_from};
+use jsonrows::{Printer, row_from, row_to, schema_from};
 use std::alloc::Global;
 use std::test::*;
 
@@ -194,7 +194,18 @@ fn shown(alloc: Global, schema: &str, other: &str, line: &str) -> R<String> {
     row_to(alloc, &schema_from(alloc, other)?, &row)
 }
 
-/// The same, or the refusal.
+/// What a printer prints of it, twice.
+fn printed(alloc: Global, schema: &str, other: &str, line: &str) -> R<Vec<u8>> {
+    let row = row_from(alloc, &schema_from(alloc, schema)?, line)?;
+    let other = schema_from(alloc, other)?;
+    let mut printer = Printer::new(alloc, &other)?;
+    let mut out = Vec::new(alloc);
+    printer.print(&row, &mut out)?;
+    printer.print(&row, &mut out)?;
+    Ok(out)
+}
+
+/// The text of a row, or the refusal.
 fn answer(alloc: Global, schema: &str, other: &str, line: &str) -> R<String> {
     match shown(alloc, schema, other, line) {
         Ok(text) => Ok(text),
@@ -223,6 +234,23 @@ fn rows_are_read_and_shown_by_their_shape(rt: HostRuntime) -> Result<(), Fail> {
     for [schema, line, wanted] in &ROWS {
         let answer = answer(rt.alloc(), schema, schema, line)?;
         assert_eq!(rt; answer.as_str(), *wanted);
+    }
+    Ok(())
+}
+
+#[test]
+fn a_printer_prints_what_row_to_returns(rt: HostRuntime) -> Result<(), Fail> {
+    let alloc = rt.alloc();
+    for [schema, line, _] in &ROWS {
+        let text = match shown(alloc, schema, schema, line) {
+            Ok(text) => text.repeat(alloc, 2)?,
+            Err(_) => String::new(alloc),
+        };
+        let printed = match printed(alloc, schema, schema, line) {
+            Ok(printed) => printed,
+            Err(_) => Vec::new(alloc),
+        };
+        assert!(rt; printed.as_slice() == text.as_bytes(), "{line}");
     }
     Ok(())
 }
