@@ -1,6 +1,6 @@
 use bits::{R, Refusal};
-use pages::{Encoding, EntryRef, PageRef, read_page, write_page};
-use schema::{Annotation, Entry, Kind, Leaf, LeafType, Value, same};
+use pages::{DataPage, PageRef, read_page};
+use schema::{Annotation, Kind, Leaf, LeafType, ValueRef};
 use std::alloc::Global;
 use std::test::*;
 
@@ -34,11 +34,15 @@ fn leaf_of(alloc: Global, kind: Kind, converted_type: Option<i32>) -> Leaf {
 }
 
 /// How many entries and bytes a page of numbers has.
-fn counted(alloc: Global, bytes: &[u8], dictionary: Option<&[Value]>) -> R<(usize, usize)> {
+fn counted<'a>(
+    alloc: Global,
+    bytes: &'a [u8],
+    dictionary: Option<&[ValueRef<'a>]>,
+) -> R<(usize, usize)> {
     let leaf = leaf_of(alloc, Kind::Int64, None);
     let (page, used) = read_page(alloc, bytes, &leaf, dictionary, 2)?;
     match page {
-        PageRef::Data(entries) => Ok((entries.len(), used)),
+        PageRef::Data(page) => Ok((page.len(), used)),
         _ => Ok((0, used)),
     }
 }
@@ -52,41 +56,42 @@ fn changed(place: usize, byte: u8) -> [u8; 33] {
     bytes
 }
 
+/// The entries of a data page, and how many bytes it takes.
+fn data_page<'a>(
+    alloc: Global,
+    bytes: &'a [u8],
+    leaf: &Leaf,
+    left: usize,
+) -> R<(DataPage<'a>, usize)> {
+    match read_page(alloc, bytes, leaf, None, left)? {
+        (PageRef::Data(page), used) => Ok((page, used)),
+        _ => Err(Refusal::Page),
+    }
+}
+
 #[test]
 fn a_page_of_two_numbers_is_read(rt: HostRuntime) -> Result<(), Fail> {
     let leaf = leaf_of(rt.alloc(), Kind::Int64, None);
-    let (page, used) = read_page(rt.alloc(), NUMBERS.as_slice(), &leaf, None, 5)?;
+    let (mut page, used) = data_page(rt.alloc(), NUMBERS.as_slice(), &leaf, 5)?;
     assert_eq!(rt; used, 33);
-    let is_right = match page {
-        PageRef::Data(entries) => match entries.as_slice() {
-            [one, other] => {
-                matches!(one.value, Some(Value::Int(1)))
-                    && matches!(other.value, Some(Value::Int(300)))
-            }
-            _ => false,
-        },
-        _ => false,
-    };
-    assert!(rt; is_right);
+    for number in [1, 300] {
+        assert!(rt; page.advance()?);
+        assert!(rt; matches!(page.entry().value, Some(ValueRef::Int(value)) if value == number));
+    }
+    assert!(rt; !page.advance()?);
     Ok(())
 }
 
 #[test]
 fn a_page_of_two_texts_is_read(rt: HostRuntime) -> Result<(), Fail> {
     let leaf = leaf_of(rt.alloc(), Kind::ByteArray, Some(0));
-    let (page, used) = read_page(rt.alloc(), TEXTS.as_slice(), &leaf, None, 2)?;
+    let (mut page, used) = data_page(rt.alloc(), TEXTS.as_slice(), &leaf, 2)?;
     assert_eq!(rt; used, 26);
-    let is_right = match page {
-        PageRef::Data(entries) => match entries.as_slice() {
-            [one, other] => {
-                matches!(&one.value, Some(Value::Bytes(text)) if text.as_slice() == b"a".as_slice())
-                    && matches!(&other.value, Some(Value::Bytes(text)) if text.is_empty())
-            }
-            _ => false,
-        },
-        _ => false,
-    };
-    assert!(rt; is_right);
+    for text in [b"a".as_slice(), b"".as_slice()] {
+        assert!(rt; page.advance()?);
+        assert!(rt; matches!(page.entry().value, Some(ValueRef::Bytes(value)) if value == text));
+    }
+    assert!(rt; !page.advance()?);
     Ok(())
 }
 
@@ -136,10 +141,11 @@ fn other_encodings_are_refused(rt: HostRuntime) {
         let other = counted(rt.alloc(), changed(10, encoding).as_slice(), None);
         assert!(rt; matches!(other, Err(Refusal::Encoding)));
     }
+    // Bytes that are no deltas, and an index past a dictionary of no entries.
     let delta = counted(rt.alloc(), changed(10, 0x0A).as_slice(), None);
-    assert!(rt; matches!(delta, Err(Refusal::Limit)));
+    assert!(rt; matches!(delta, Err(Refusal::Value)));
     let indexes = counted(rt.alloc(), changed(10, 0x10).as_slice(), Some(&[]));
-    assert!(rt; matches!(indexes, Err(Refusal::Limit)));
+    assert!(rt; matches!(indexes, Err(Refusal::Value)));
 }
 
 #[test]
@@ -148,116 +154,4 @@ fn a_page_of_another_type_is_passed_over(rt: HostRuntime) {
     assert!(rt; matches!(index, Ok((0, 33))));
     let dictionary = counted(rt.alloc(), changed(1, 0x04).as_slice(), None);
     assert!(rt; matches!(dictionary, Err(Refusal::Thrift)));
-}
-
-/// The entry of a value of a leaf without levels.
-fn entry_of(value: &Value) -> EntryRef<'_> {
-    EntryRef {
-        repetition: 0,
-        definition: 0,
-        value: Some(value),
-    }
-}
-
-/// A page of the values.
-fn written(alloc: Global, leaf: &Leaf, values: &[Value]) -> R<Vec<u8>> {
-    let mut entries = Vec::new(alloc);
-    for value in values {
-        entries.push(entry_of(value))?;
-    }
-    let mut out = Vec::new(alloc);
-    write_page(alloc, leaf, entries.as_slice(), &mut out)?;
-    Ok(out)
-}
-
-#[test]
-fn two_numbers_are_written(rt: HostRuntime) -> Result<(), Fail> {
-    let leaf = leaf_of(rt.alloc(), Kind::Int64, None);
-    let page = written(rt.alloc(), &leaf, &[Value::Int(1), Value::Int(300)])?;
-    assert_eq!(rt; page.as_slice(), NUMBERS.as_slice());
-    Ok(())
-}
-
-#[test]
-fn two_texts_are_written(rt: HostRuntime) -> Result<(), Fail> {
-    let leaf = leaf_of(rt.alloc(), Kind::ByteArray, Some(0));
-    let one = Value::Bytes(Vec::from_slice(rt.alloc(), b"a")?);
-    let values = vec![in rt.alloc(); one, Value::Bytes(Vec::new(rt.alloc()))]?;
-    let page = written(rt.alloc(), &leaf, values.as_slice())?;
-    assert_eq!(rt; page.as_slice(), TEXTS.as_slice());
-    Ok(())
-}
-
-/// Whether the entries are those of the values.
-fn are_entries_of(entries: &[Entry], values: &[Value]) -> bool {
-    if entries.len() != values.len() {
-        return false;
-    }
-    for (i, entry) in entries.iter().enumerate() {
-        let is_right = match &entry.value {
-            Some(value) => same(value, &values[i]),
-            None => false,
-        };
-        if !is_right {
-            return false;
-        }
-    }
-    true
-}
-
-/// Whether a page of the values is read as their entries.
-fn is_read_back(alloc: Global, kind: Kind, values: &[Value]) -> R<bool> {
-    let leaf = leaf_of(alloc, kind, None);
-    let page = written(alloc, &leaf, values)?;
-    let (read, used) = read_page(alloc, page.as_slice(), &leaf, None, values.len())?;
-    match read {
-        PageRef::Data(entries) => {
-            Ok(used == page.len() && are_entries_of(entries.as_slice(), values))
-        }
-        _ => Ok(false),
-    }
-}
-
-#[test]
-fn written_pages_are_read_back(rt: HostRuntime) -> Result<(), Fail> {
-    let numbers = [
-        Value::Int(-2147483648),
-        Value::Int(2147483647),
-        Value::Int(0),
-    ];
-    assert!(rt; is_read_back(rt.alloc(), Kind::Int32, &numbers)?);
-    assert!(rt; is_read_back(rt.alloc(), Kind::Int64, &numbers)?);
-    let truths = [Value::Bool(true), Value::Bool(false), Value::Bool(true)];
-    assert!(rt; is_read_back(rt.alloc(), Kind::Boolean, &truths)?);
-    let one = Value::Bytes(Vec::from_slice(rt.alloc(), b"abc")?);
-    let other = Value::Bytes(Vec::from_slice(rt.alloc(), &[0, 255, 7])?);
-    let fixed = vec![in rt.alloc(); one, other]?;
-    assert!(rt; is_read_back(rt.alloc(), Kind::FixedLenByteArray(3), fixed.as_slice())?);
-    for kind in [Kind::Boolean, Kind::Int32, Kind::ByteArray] {
-        assert!(rt; is_read_back(rt.alloc(), kind, &[])?);
-    }
-    Ok(())
-}
-
-#[test]
-fn entries_that_are_not_of_the_leaf_are_refused(rt: HostRuntime) -> Result<(), Fail> {
-    let mut out = Vec::from_slice(rt.alloc(), &[7])?;
-    let leaf = leaf_of(rt.alloc(), Kind::Int32, None);
-    let (right, wide) = (Value::Int(1), Value::Int(2147483648));
-    let mut missing = entry_of(&right);
-    missing.value = None;
-    for bad in [entry_of(&wide), missing] {
-        let wrong = write_page(rt.alloc(), &leaf, &[entry_of(&right), bad], &mut out);
-        assert!(rt; matches!(wrong, Err(Refusal::Value)));
-    }
-    let mut above = entry_of(&right);
-    above.definition = 1;
-    let wrong = write_page(rt.alloc(), &leaf, &[above], &mut out);
-    assert!(rt; matches!(wrong, Err(Refusal::Levels)));
-    let mut optional = leaf_of(rt.alloc(), Kind::Int32, None);
-    optional.greatest_definition = 1;
-    let wrong = write_page(rt.alloc(), &optional, &[above], &mut out);
-    assert!(rt; matches!(wrong, Err(Refusal::Limit)));
-    assert_eq!(rt; out.as_slice(), [7].as_slice());
-    Ok(())
 }
