@@ -34,13 +34,9 @@ fn leaf_of(alloc: Global, kind: Kind, converted_type: Option<i32>) -> Leaf {
 }
 
 /// How many entries and bytes a page of numbers has.
-fn counted<'a>(
-    alloc: Global,
-    bytes: &'a [u8],
-    dictionary: Option<&[ValueRef<'a>]>,
-) -> R<(usize, usize)> {
+fn counted(alloc: Global, bytes: &[u8]) -> R<(usize, usize)> {
     let leaf = leaf_of(alloc, Kind::Int64, None);
-    let (page, used) = read_page(alloc, bytes, &leaf, dictionary, 2)?;
+    let (page, used) = read_page(alloc, bytes, &leaf, None, 2)?;
     match page {
         PageRef::Data(page) => Ok((page.len(), used)),
         _ => Ok((0, used)),
@@ -63,8 +59,9 @@ fn data_page<'a>(
     leaf: &Leaf,
     left: usize,
 ) -> R<(DataPage<'a>, usize)> {
-    match read_page(alloc, bytes, leaf, None, left)? {
-        (PageRef::Data(page), used) => Ok((page, used)),
+    let (page, used) = read_page(alloc, bytes, leaf, None, left)?;
+    match page {
+        PageRef::Data(entries) => Ok((entries, used)),
         _ => Err(Refusal::Page),
     }
 }
@@ -108,10 +105,10 @@ fn bytes_that_are_not_text_are_refused_where_text_is_asked(rt: HostRuntime) {
 
 #[test]
 fn a_changed_page_size_is_refused(rt: HostRuntime) {
-    let cut = counted(rt.alloc(), changed(5, 0x1E).as_slice(), None);
+    let cut = counted(rt.alloc(), changed(5, 0x1E).as_slice());
     assert!(rt; matches!(cut, Err(Refusal::Truncated)));
     for size in [0x22, 0x40, 0x1F] {
-        let beyond = counted(rt.alloc(), changed(5, size).as_slice(), None);
+        let beyond = counted(rt.alloc(), changed(5, size).as_slice());
         assert!(rt; matches!(beyond, Err(Refusal::Page)));
     }
 }
@@ -119,7 +116,7 @@ fn a_changed_page_size_is_refused(rt: HostRuntime) {
 #[test]
 fn each_front_of_a_page_goes_beyond_its_bytes(rt: HostRuntime) {
     for end in 0..33 {
-        let front = counted(rt.alloc(), NUMBERS.split_at(end).0, None);
+        let front = counted(rt.alloc(), NUMBERS.split_at(end).0);
         assert!(rt; matches!(front, Err(Refusal::Page)));
     }
 }
@@ -127,10 +124,10 @@ fn each_front_of_a_page_goes_beyond_its_bytes(rt: HostRuntime) {
 #[test]
 fn more_entries_than_are_lacking_are_refused(rt: HostRuntime) {
     for count in [0x06, 0x03] {
-        let many = counted(rt.alloc(), changed(8, count).as_slice(), None);
+        let many = counted(rt.alloc(), changed(8, count).as_slice());
         assert!(rt; matches!(many, Err(Refusal::Page)));
     }
-    let none = counted(rt.alloc(), changed(8, 0x00).as_slice(), None);
+    let none = counted(rt.alloc(), changed(8, 0x00).as_slice());
     assert!(rt; matches!(none, Ok((0, 33))));
 }
 
@@ -138,20 +135,18 @@ fn more_entries_than_are_lacking_are_refused(rt: HostRuntime) {
 fn other_encodings_are_refused(rt: HostRuntime) {
     // PLAIN_DICTIONARY without a dictionary, DELTA_LENGTH_BYTE_ARRAY, RLE, and a number of none.
     for encoding in [0x04, 0x0C, 0x06, 0x02] {
-        let other = counted(rt.alloc(), changed(10, encoding).as_slice(), None);
+        let other = counted(rt.alloc(), changed(10, encoding).as_slice());
         assert!(rt; matches!(other, Err(Refusal::Encoding)));
     }
-    // Bytes that are no deltas, and an index past a dictionary of no entries.
-    let delta = counted(rt.alloc(), changed(10, 0x0A).as_slice(), None);
+    // Bytes that are no deltas.
+    let delta = counted(rt.alloc(), changed(10, 0x0A).as_slice());
     assert!(rt; matches!(delta, Err(Refusal::Value)));
-    let indexes = counted(rt.alloc(), changed(10, 0x10).as_slice(), Some(&[]));
-    assert!(rt; matches!(indexes, Err(Refusal::Value)));
 }
 
 #[test]
 fn a_page_of_another_type_is_passed_over(rt: HostRuntime) {
-    let index = counted(rt.alloc(), changed(1, 0x02).as_slice(), None);
+    let index = counted(rt.alloc(), changed(1, 0x02).as_slice());
     assert!(rt; matches!(index, Ok((0, 33))));
-    let dictionary = counted(rt.alloc(), changed(1, 0x04).as_slice(), None);
+    let dictionary = counted(rt.alloc(), changed(1, 0x04).as_slice());
     assert!(rt; matches!(dictionary, Err(Refusal::Thrift)));
 }

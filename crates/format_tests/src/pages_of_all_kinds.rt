@@ -58,6 +58,11 @@ const A_AND_B: [u8; 23] = [
     0x15, 4, 0x15, 0x14, 0x15, 0x14, 0x4C, 0x15, 4, 0x15, 0, 0, 0, 1, 0, 0, 0, 97, 1, 0, 0, 0, 98,
 ];
 
+/// The dictionary page of a.
+const ONLY_A: [u8; 18] = [
+    0x15, 4, 0x15, 0x0A, 0x15, 0x0A, 0x4C, 0x15, 2, 0x15, 0, 0, 0, 1, 0, 0, 0, 97,
+];
+
 /// 1 to 5 as deltas without bits.
 const ONE_TO_FIVE: [u8; 10] = [0x80, 1, 4, 5, 2, 2, 0, 0, 0, 0];
 
@@ -92,7 +97,7 @@ fn leaf_of(alloc: Global, kind: Kind, converted_type: Option<i32>, greatest: (u3
 
 /// A page of version 1, with levels in RLE.
 fn version_1(alloc: Global, count: u8, encoding: u8, body: &[u8]) -> R<Vec<u8>> {
-    let size = (body.len() as u8).wrapping_mul(2);
+    let size = (body.len() % 64) as u8 * 2;
     let (count, encoding) = (count.wrapping_mul(2), encoding.wrapping_mul(2));
     let mut page = Vec::new(alloc);
     page.extend_from_slice(&[0x15, 0, 0x15, size, 0x15, size, 0x2C])?;
@@ -109,7 +114,7 @@ fn version_2(
     sections: (u8, u8),
     body: &[u8],
 ) -> R<Vec<u8>> {
-    let size = (body.len() as u8).wrapping_mul(2);
+    let size = (body.len() % 64) as u8 * 2;
     let (count, encoding) = (count.wrapping_mul(2), encoding.wrapping_mul(2));
     let (definitions, repetitions) = (sections.0.wrapping_mul(2), sections.1.wrapping_mul(2));
     let mut page = Vec::new(alloc);
@@ -157,6 +162,11 @@ fn is_page<'a>(
     Ok(page.peek().is_none() && !page.advance()?)
 }
 
+/// Whether the bytes are a page of these entries, in a chunk without a dictionary.
+fn holds(alloc: Global, bytes: &[u8], leaf: &Leaf, entries: &[Shown]) -> R<bool> {
+    is_page(alloc, bytes, leaf, None, entries)
+}
+
 /// The refusal of a page that should have at most three entries.
 fn refusal_of(alloc: Global, bytes: &[u8], leaf: &Leaf) -> Option<Refusal> {
     match read_page(alloc, bytes, leaf, None, 3) {
@@ -179,9 +189,9 @@ fn entries_with_levels_are_read_in_both_versions(rt: HostRuntime) -> Result<(), 
     let optional = leaf_of(alloc, Kind::Int32, None, (0, 1));
     let five_null_six = [number(0, 1, 5), missing(0, 0), number(0, 1, 6)];
     let first = version_1(alloc, 3, 0, &[2, 0, 0, 0, 3, 5, 5, 0, 0, 0, 6, 0, 0, 0])?;
-    assert!(rt; is_page(alloc, &first, &optional, None, &five_null_six)?);
+    assert!(rt; holds(alloc, &first, &optional, &five_null_six)?);
     let second = version_2(alloc, 3, 0, (2, 0), &[3, 5, 5, 0, 0, 0, 6, 0, 0, 0])?;
-    assert!(rt; is_page(alloc, &second, &optional, None, &five_null_six)?);
+    assert!(rt; holds(alloc, &second, &optional, &five_null_six)?);
     // The rows [5, 6], [] and [7].
     let lists = [
         number(0, 1, 5),
@@ -194,11 +204,11 @@ fn entries_with_levels_are_read_in_both_versions(rt: HostRuntime) -> Result<(), 
     let mut body = Vec::from_slice(alloc, &sections)?;
     body.extend_from_slice(&[5, 0, 0, 0, 6, 0, 0, 0, 7, 0, 0, 0])?;
     let first = version_1(alloc, 4, 0, &body)?;
-    assert!(rt; is_page(alloc, &first, &repeated, None, &lists)?);
+    assert!(rt; holds(alloc, &first, &repeated, &lists)?);
     let mut body = Vec::from_slice(alloc, &[3, 2, 4, 1, 3, 2])?;
     body.extend_from_slice(&[5, 0, 0, 0, 6, 0, 0, 0, 7, 0, 0, 0])?;
     let second = version_2(alloc, 4, 0, (4, 2), &body)?;
-    assert!(rt; is_page(alloc, &second, &repeated, None, &lists)?);
+    assert!(rt; holds(alloc, &second, &repeated, &lists)?);
     Ok(())
 }
 
@@ -207,12 +217,13 @@ fn indexes_are_looked_up(rt: HostRuntime) -> Result<(), Fail> {
     let alloc = rt.alloc();
     let leaf = leaf_of(alloc, Kind::ByteArray, Some(0), (0, 0));
     let entries = dictionary_of(alloc, &A_AND_B, &leaf)?;
+    let fewer = dictionary_of(alloc, &ONLY_A, &leaf)?;
     let all = Some(entries.as_slice());
     let shown = [text(b"a"), text(b"b"), text(b"a")];
     for encoding in [2, 8] {
         let page = version_1(alloc, 3, encoding, &[1, 3, 2])?;
         assert!(rt; is_page(alloc, &page, &leaf, all, &shown)?);
-        let past = read_page(alloc, &page, &leaf, Some(entries.as_slice().split_at(1).0), 3);
+        let past = read_page(alloc, &page, &leaf, Some(fewer.as_slice()), 3);
         assert!(rt; matches!(past, Err(Refusal::Value)));
         assert!(rt; matches!(refusal_of(alloc, &page, &leaf), Some(Refusal::Encoding)));
     }
@@ -246,9 +257,9 @@ fn booleans_are_read_by_rle(rt: HostRuntime) -> Result<(), Fail> {
     let leaf = leaf_of(alloc, Kind::Boolean, None, (0, 0));
     let shown = [truth(true), truth(false), truth(true)];
     let first = version_1(alloc, 3, 3, &[2, 0, 0, 0, 3, 5])?;
-    assert!(rt; is_page(alloc, &first, &leaf, None, &shown)?);
+    assert!(rt; holds(alloc, &first, &leaf, &shown)?);
     let second = version_2(alloc, 3, 3, (0, 0), &[2, 0, 0, 0, 3, 5])?;
-    assert!(rt; is_page(alloc, &second, &leaf, None, &shown)?);
+    assert!(rt; holds(alloc, &second, &leaf, &shown)?);
     let numbers = leaf_of(alloc, Kind::Int32, None, (0, 0));
     assert!(rt; matches!(refusal_of(alloc, &first, &numbers), Some(Refusal::Encoding)));
     Ok(())
@@ -266,10 +277,10 @@ fn deltas_are_read_in_both_versions(rt: HostRuntime) -> Result<(), Fail> {
         number(0, 0, 5),
     ];
     let first = version_1(alloc, 5, 5, &ONE_TO_FIVE)?;
-    assert!(rt; is_page(alloc, &first, &short, None, &five)?);
+    assert!(rt; holds(alloc, &first, &short, &five)?);
     let long = leaf_of(alloc, Kind::Int64, None, (0, 0));
     let second = version_2(alloc, 2, 5, (0, 0), &FAR)?;
-    assert!(rt; is_page(alloc, &second, &long, None, &[number(0, 0, 1), number(0, 0, 300)])?);
+    assert!(rt; holds(alloc, &second, &long, &[number(0, 0, 1), number(0, 0, 300)])?);
     let other_count = version_1(alloc, 3, 5, &FAR)?;
     assert!(rt; matches!(refusal_of(alloc, &other_count, &long), Some(Refusal::Value)));
     let bytes = leaf_of(alloc, Kind::ByteArray, None, (0, 0));
@@ -284,15 +295,15 @@ fn byte_values_are_read_by_lengths_and_prefixes(rt: HostRuntime) -> Result<(), F
     let leaf = leaf_of(alloc, Kind::ByteArray, Some(0), (0, 0));
     let shown = [text(b"a"), text(b"bb"), text(b"")];
     let first = version_1(alloc, 3, 6, &BY_LENGTHS)?;
-    assert!(rt; is_page(alloc, &first, &leaf, None, &shown)?);
+    assert!(rt; holds(alloc, &first, &leaf, &shown)?);
     let second = version_2(alloc, 3, 6, (0, 0), &BY_LENGTHS)?;
-    assert!(rt; is_page(alloc, &second, &leaf, None, &shown)?);
+    assert!(rt; holds(alloc, &second, &leaf, &shown)?);
     let shown = [text(b"axis"), text(b"axle")];
     let first = version_1(alloc, 2, 7, &BY_PREFIXES)?;
-    assert!(rt; is_page(alloc, &first, &leaf, None, &shown)?);
+    assert!(rt; holds(alloc, &first, &leaf, &shown)?);
     let second = version_2(alloc, 2, 7, (0, 0), &BY_PREFIXES)?;
     let fixed = leaf_of(alloc, Kind::FixedLenByteArray(4), None, (0, 0));
-    assert!(rt; is_page(alloc, &second, &fixed, None, &shown)?);
+    assert!(rt; holds(alloc, &second, &fixed, &shown)?);
     let shorter = leaf_of(alloc, Kind::FixedLenByteArray(3), None, (0, 0));
     assert!(rt; matches!(refusal_of(alloc, &second, &shorter), Some(Refusal::Value)));
     let mut wrong = BY_PREFIXES;
@@ -310,9 +321,9 @@ fn levels_are_at_most_the_greatest(rt: HostRuntime) -> Result<(), Fail> {
     assert!(rt; matches!(refusal_of(alloc, &above, &leaf), Some(Refusal::Levels)));
     let nulls = version_1(alloc, 3, 9, &[2, 0, 0, 0, 6, 1])?;
     let shown = [missing(0, 1), missing(0, 1), missing(0, 1)];
-    assert!(rt; is_page(alloc, &nulls, &leaf, None, &shown)?);
-    let few = read_page(alloc, &nulls, &leaf, None, 2);
-    assert!(rt; matches!(few, Err(Refusal::Page)));
+    assert!(rt; holds(alloc, &nulls, &leaf, &shown)?);
+    let many = version_1(alloc, 4, 9, &[2, 0, 0, 0, 8, 1])?;
+    assert!(rt; matches!(refusal_of(alloc, &many, &leaf), Some(Refusal::Page)));
     let cut = version_1(alloc, 3, 0, &[3, 0, 0, 0, 6, 1])?;
     assert!(rt; matches!(refusal_of(alloc, &cut, &leaf), Some(Refusal::Truncated)));
     Ok(())
@@ -328,11 +339,11 @@ fn the_encoding_of_absent_levels_is_ignored(rt: HostRuntime) -> Result<(), Fail>
         }
     }
     let required = leaf_of(alloc, Kind::Int32, None, (0, 0));
-    assert!(rt; is_page(alloc, &page, &required, None, &[number(0, 0, 5)])?);
+    assert!(rt; holds(alloc, &page, &required, &[number(0, 0, 5)])?);
     let optional = leaf_of(alloc, Kind::Int32, None, (0, 1));
     assert!(rt; matches!(refusal_of(alloc, &page, &optional), Some(Refusal::Encoding)));
     let skipped = version_2(alloc, 1, 0, (1, 2), &[9, 9, 9, 5, 0, 0, 0])?;
-    assert!(rt; is_page(alloc, &skipped, &required, None, &[number(0, 0, 5)])?);
+    assert!(rt; holds(alloc, &skipped, &required, &[number(0, 0, 5)])?);
     Ok(())
 }
 
@@ -343,9 +354,9 @@ fn bytes_after_the_last_value_are_ignored(rt: HostRuntime) -> Result<(), Fail> {
     let mut body = Vec::from_slice(alloc, &BY_LENGTHS)?;
     body.extend_from_slice(&[1, 2, 3])?;
     let page = version_1(alloc, 3, 6, &body)?;
-    assert!(rt; is_page(alloc, &page, &leaf, None, &[text(b"a"), text(b"bb"), text(b"")])?);
+    assert!(rt; holds(alloc, &page, &leaf, &[text(b"a"), text(b"bb"), text(b"")])?);
     let truths = leaf_of(alloc, Kind::Boolean, None, (0, 0));
     let page = version_1(alloc, 1, 3, &[2, 0, 0, 0, 3, 5, 7, 7])?;
-    assert!(rt; is_page(alloc, &page, &truths, None, &[truth(true)])?);
+    assert!(rt; holds(alloc, &page, &truths, &[truth(true)])?);
     Ok(())
 }
