@@ -285,7 +285,12 @@ fn deltas_are_read_in_both_versions(rt: HostRuntime) -> Result<(), Fail> {
     assert!(rt; matches!(refusal_of(alloc, &other_count, &long), Some(Refusal::Value)));
     let bytes = leaf_of(alloc, Kind::ByteArray, None, (0, 0));
     let other_type = version_1(alloc, 2, 5, &FAR)?;
-    assert!(rt; matches!(refusal_of(alloc, &other_type, &bytes), Some(Refusal::Encoding)));
+    assert!(rt;
+        matches!(
+            refusal_of(alloc, &other_type, &bytes),
+            Some(Refusal::Encoding)
+        )
+    );
     Ok(())
 }
 
