@@ -7,6 +7,8 @@
 #[cfg(test)]
 mod assembling;
 #[cfg(test)]
+mod chunk_offsets;
+#[cfg(test)]
 mod chunks_and_groups;
 #[cfg(test)]
 mod codecs;
@@ -41,7 +43,7 @@ mod nested_round_trips;
 #[cfg(test)]
 mod page_bytes;
 #[cfg(test)]
-mod pages_not_read_yet;
+mod pages_of_all_kinds;
 #[cfg(test)]
 mod plain_values;
 #[cfg(test)]

@@ -1,6 +1,6 @@
 use bits::{R, Refusal};
-use pages::{PageRef, read_page};
-use schema::{Annotation, Kind, Leaf, LeafType, Value};
+use pages::{DataPage, PageRef, read_page};
+use schema::{Annotation, Kind, Leaf, LeafType, ValueRef};
 use std::alloc::Global;
 use std::test::*;
 
@@ -34,11 +34,11 @@ fn leaf_of(alloc: Global, kind: Kind, converted_type: Option<i32>) -> Leaf {
 }
 
 /// How many entries and bytes a page of numbers has.
-fn counted(alloc: Global, bytes: &[u8], dictionary: Option<&[Value]>) -> R<(usize, usize)> {
+fn counted(alloc: Global, bytes: &[u8]) -> R<(usize, usize)> {
     let leaf = leaf_of(alloc, Kind::Int64, None);
-    let (page, used) = read_page(alloc, bytes, &leaf, dictionary, 2)?;
+    let (page, used) = read_page(alloc, bytes, &leaf, None, 2)?;
     match page {
-        PageRef::Data(entries) => Ok((entries.len(), used)),
+        PageRef::Data(page) => Ok((page.len(), used)),
         _ => Ok((0, used)),
     }
 }
@@ -52,41 +52,43 @@ fn changed(place: usize, byte: u8) -> [u8; 33] {
     bytes
 }
 
+/// The entries of a data page, and how many bytes it takes.
+fn data_page<'a>(
+    alloc: Global,
+    bytes: &'a [u8],
+    leaf: &Leaf,
+    left: usize,
+) -> R<(DataPage<'a>, usize)> {
+    let (page, used) = read_page(alloc, bytes, leaf, None, left)?;
+    match page {
+        PageRef::Data(entries) => Ok((entries, used)),
+        _ => Err(Refusal::Page),
+    }
+}
+
 #[test]
 fn a_page_of_two_numbers_is_read(rt: HostRuntime) -> Result<(), Fail> {
     let leaf = leaf_of(rt.alloc(), Kind::Int64, None);
-    let (page, used) = read_page(rt.alloc(), NUMBERS.as_slice(), &leaf, None, 5)?;
+    let (mut page, used) = data_page(rt.alloc(), NUMBERS.as_slice(), &leaf, 5)?;
     assert_eq!(rt; used, 33);
-    let is_right = match page {
-        PageRef::Data(entries) => match entries.as_slice() {
-            [one, other] => {
-                matches!(one.value, Some(Value::Int(1)))
-                    && matches!(other.value, Some(Value::Int(300)))
-            }
-            _ => false,
-        },
-        _ => false,
-    };
-    assert!(rt; is_right);
+    for number in [1, 300] {
+        assert!(rt; page.advance()?);
+        assert!(rt; matches!(page.entry().value, Some(ValueRef::Int(value)) if value == number));
+    }
+    assert!(rt; !page.advance()?);
     Ok(())
 }
 
 #[test]
 fn a_page_of_two_texts_is_read(rt: HostRuntime) -> Result<(), Fail> {
     let leaf = leaf_of(rt.alloc(), Kind::ByteArray, Some(0));
-    let (page, used) = read_page(rt.alloc(), TEXTS.as_slice(), &leaf, None, 2)?;
+    let (mut page, used) = data_page(rt.alloc(), TEXTS.as_slice(), &leaf, 2)?;
     assert_eq!(rt; used, 26);
-    let is_right = match page {
-        PageRef::Data(entries) => match entries.as_slice() {
-            [one, other] => {
-                matches!(&one.value, Some(Value::Bytes(text)) if text.as_slice() == b"a".as_slice())
-                    && matches!(&other.value, Some(Value::Bytes(text)) if text.is_empty())
-            }
-            _ => false,
-        },
-        _ => false,
-    };
-    assert!(rt; is_right);
+    for text in [b"a".as_slice(), b"".as_slice()] {
+        assert!(rt; page.advance()?);
+        assert!(rt; matches!(page.entry().value, Some(ValueRef::Bytes(value)) if value == text));
+    }
+    assert!(rt; !page.advance()?);
     Ok(())
 }
 
@@ -103,10 +105,10 @@ fn bytes_that_are_not_text_are_refused_where_text_is_asked(rt: HostRuntime) {
 
 #[test]
 fn a_changed_page_size_is_refused(rt: HostRuntime) {
-    let cut = counted(rt.alloc(), changed(5, 0x1E).as_slice(), None);
+    let cut = counted(rt.alloc(), changed(5, 0x1E).as_slice());
     assert!(rt; matches!(cut, Err(Refusal::Truncated)));
     for size in [0x22, 0x40, 0x1F] {
-        let beyond = counted(rt.alloc(), changed(5, size).as_slice(), None);
+        let beyond = counted(rt.alloc(), changed(5, size).as_slice());
         assert!(rt; matches!(beyond, Err(Refusal::Page)));
     }
 }
@@ -114,7 +116,7 @@ fn a_changed_page_size_is_refused(rt: HostRuntime) {
 #[test]
 fn each_front_of_a_page_goes_beyond_its_bytes(rt: HostRuntime) {
     for end in 0..33 {
-        let front = counted(rt.alloc(), NUMBERS.split_at(end).0, None);
+        let front = counted(rt.alloc(), NUMBERS.split_at(end).0);
         assert!(rt; matches!(front, Err(Refusal::Page)));
     }
 }
@@ -122,10 +124,10 @@ fn each_front_of_a_page_goes_beyond_its_bytes(rt: HostRuntime) {
 #[test]
 fn more_entries_than_are_lacking_are_refused(rt: HostRuntime) {
     for count in [0x06, 0x03] {
-        let many = counted(rt.alloc(), changed(8, count).as_slice(), None);
+        let many = counted(rt.alloc(), changed(8, count).as_slice());
         assert!(rt; matches!(many, Err(Refusal::Page)));
     }
-    let none = counted(rt.alloc(), changed(8, 0x00).as_slice(), None);
+    let none = counted(rt.alloc(), changed(8, 0x00).as_slice());
     assert!(rt; matches!(none, Ok((0, 33))));
 }
 
@@ -133,19 +135,18 @@ fn more_entries_than_are_lacking_are_refused(rt: HostRuntime) {
 fn other_encodings_are_refused(rt: HostRuntime) {
     // PLAIN_DICTIONARY without a dictionary, DELTA_LENGTH_BYTE_ARRAY, RLE, and a number of none.
     for encoding in [0x04, 0x0C, 0x06, 0x02] {
-        let other = counted(rt.alloc(), changed(10, encoding).as_slice(), None);
+        let other = counted(rt.alloc(), changed(10, encoding).as_slice());
         assert!(rt; matches!(other, Err(Refusal::Encoding)));
     }
-    let delta = counted(rt.alloc(), changed(10, 0x0A).as_slice(), None);
-    assert!(rt; matches!(delta, Err(Refusal::Limit)));
-    let indexes = counted(rt.alloc(), changed(10, 0x10).as_slice(), Some(&[]));
-    assert!(rt; matches!(indexes, Err(Refusal::Limit)));
+    // Bytes that are no deltas.
+    let delta = counted(rt.alloc(), changed(10, 0x0A).as_slice());
+    assert!(rt; matches!(delta, Err(Refusal::Value)));
 }
 
 #[test]
 fn a_page_of_another_type_is_passed_over(rt: HostRuntime) {
-    let index = counted(rt.alloc(), changed(1, 0x02).as_slice(), None);
+    let index = counted(rt.alloc(), changed(1, 0x02).as_slice());
     assert!(rt; matches!(index, Ok((0, 33))));
-    let dictionary = counted(rt.alloc(), changed(1, 0x04).as_slice(), None);
+    let dictionary = counted(rt.alloc(), changed(1, 0x04).as_slice());
     assert!(rt; matches!(dictionary, Err(Refusal::Thrift)));
 }

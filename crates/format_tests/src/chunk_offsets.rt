@@ -1,22 +1,14 @@
 use bits::{R, Refusal};
 use metadata::{ChunkMeta, ColumnMeta, GroupMeta};
-use pages::{PageRef, read_page};
 use row_group::read_group;
-use schema::{Element, Row, Schema, Value};
+use schema::{Element, Row, Schema};
 use std::alloc::Global;
 use std::test::*;
 
-/// A page of version 1 with the INT32 values 1 and 300 in PLAIN: the count stands at 8, the encoding at 10.
+/// A page of version 1 with the INT32 values 1 and 300 in PLAIN.
 const INTEGERS: [u8; 25] = [
     0x15, 0, 0x15, 0x10, 0x15, 0x10, 0x2C, 0x15, 4, 0x15, 0, 0x15, 6, 0x15, 6, 0, 0, 1, 0, 0, 0,
     44, 1, 0, 0,
-];
-
-/// A page of version 1 with the booleans true, false and true by RLE: after their length, two bytes, a
-/// header of one group of eight and the bits.
-const BOOLEANS: [u8; 23] = [
-    0x15, 0, 0x15, 0x0C, 0x15, 0x0C, 0x2C, 0x15, 6, 0x15, 6, 0x15, 6, 0x15, 6, 0, 0, 2, 0, 0, 0, 3,
-    5,
 ];
 
 /// A schema of one REQUIRED field `n` of this type.
@@ -37,50 +29,6 @@ fn fields(alloc: Global, kind: i32) -> R<Schema> {
         })?;
     }
     Schema::new(alloc, elements.as_slice())
-}
-
-/// How many entries the page has that begins here, and how many bytes.
-fn counted(
-    alloc: Global,
-    bytes: &[u8],
-    kind: i32,
-    dictionary: Option<&[Value]>,
-) -> R<(usize, usize)> {
-    let schema = fields(alloc, kind)?;
-    let Some(leaf) = schema.leaves().first() else {
-        return Err(Refusal::Schema);
-    };
-    let (page, used) = read_page(alloc, bytes, leaf, dictionary, 3)?;
-    match page {
-        PageRef::Data(entries) => Ok((entries.len(), used)),
-        _ => Ok((0, used)),
-    }
-}
-
-/// The page of integers with another count and another encoding.
-fn integers(count: u8, encoding: u8) -> [u8; 25] {
-    let mut bytes = INTEGERS;
-    bytes[8] = count.wrapping_mul(2);
-    bytes[10] = encoding.wrapping_mul(2);
-    bytes
-}
-
-#[test]
-fn booleans_by_rle_are_not_read_yet(rt: HostRuntime) {
-    let booleans = counted(rt.alloc(), BOOLEANS.as_slice(), 0, None);
-    assert!(rt; matches!(booleans, Err(Refusal::Limit)));
-    let integers = counted(rt.alloc(), integers(2, 3).as_slice(), 1, None);
-    assert!(rt; matches!(integers, Err(Refusal::Encoding)));
-}
-
-#[test]
-fn a_page_without_values_has_no_encoding(rt: HostRuntime) {
-    for encoding in [1, 3, 5, 8] {
-        let none = counted(rt.alloc(), integers(0, encoding).as_slice(), 1, Some(&[]));
-        assert!(rt; matches!(none, Ok((0, 25))));
-    }
-    let some = counted(rt.alloc(), integers(2, 5).as_slice(), 1, None);
-    assert!(rt; matches!(some, Err(Refusal::Limit)));
 }
 
 /// The rows of a group of one chunk, whose pages begin at 4 and whose record puts a dictionary here.
