@@ -1,5 +1,5 @@
 -- A reader of a chunk, entry by entry.
-use Rattle.std.proofs.Common.{◌≡◌, ℕ, ◌+◌, ◌<◌, Bool, true, false, List, [], ◌∷◌, ◌++◌, length, Option, Some, None, Result, Ok, Err, option_map, refl, sym, ap, subst, ◌∙◌, arith}
+use Rattle.std.proofs.Common.{◌≡◌, ℕ, ◌+◌, Bool, true, false, List, [], ◌∷◌, ◌++◌, length, Option, Some, None, Result, Ok, Err, option_map, refl, sym, ap, subst, ◌∙◌, arith}
 use Rattle.bits.specs.Faults.{refusal_of}
 use Rattle.bits.specs.declared.fault.Fault.{Fault}
 use Rattle.bits.specs.declared.fault.Fault.TheVariants as fault
@@ -11,10 +11,10 @@ use Rattle.pages.specs.Left.{entries_left, entry_taken, Shows as PageShows, Adva
 use Rattle.assemble.specs.Sources.{NothingStands, StandsOnly, Same, Precede, Refuses, Keeps, Begins, Shows}
 use Rattle.row_group.specs.declared.pages_left.PagesLeft.{PagesLeft}
 use Rattle.row_group.specs.declared.chunk_reader.ChunkReader.{ChunkReader}
-use Rattle.row_group.specs.Rest.{ChunkLeft, HoldsRest, HasRestOver}
-use Rattle.row_group.specs.Left.{pages_view, page_left, ChunkStands, chunk_stands}
+use Rattle.row_group.specs.Rest.{HoldsRest, HasRestOver}
+use Rattle.row_group.specs.Left.{pages_view, page_left, chunk_stands}
 use Rattle.row_group.specs.inner.Pages.{Passes, IsRefusedAt, NextPage}
-use Rattle.row_group.specs.inner.Readers.{kept_fault, Fills, AdvancesReader}
+use Rattle.row_group.specs.inner.Readers.{kept_fault, AdvancesReader}
 use Rattle.row_group.proofs.NextPages.{holds_nothing}
 
 pub empty : {A : Type 0} (xs : List A) → length xs ≡ 0 → xs ≡ []
