@@ -24,7 +24,7 @@ is_bytes (bytes t) is = refl
 is_bytes (group vs) is = absurd is
 is_bytes (list vs) is = absurd is
 
-are_bytes : (vs : List ValueTree) → All (IsOfKind ByteArray) vs → vs ≡ map bytes (map text_of vs)
+pub are_bytes : (vs : List ValueTree) → All (IsOfKind ByteArray) vs → vs ≡ map bytes (map text_of vs)
 are_bytes [] all = refl
 are_bytes (v ∷ vs) all =
     let here : v ≡ bytes (text_of v) = is_bytes v (all 0 v (omega arith)) in

@@ -11,3 +11,5 @@ pub mod Cutting
 pub mod Putting
 pub mod Joining
 mod Completing
+mod Sharing
+mod Fitting

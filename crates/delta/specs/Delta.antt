@@ -4,7 +4,7 @@ use Rattle.std.specs.List.{range_with_len}
 use Rattle.std.specs.Int.{Width, int_wrap, byte_len}
 use Rattle.bits.specs.Bits.{IsPacked}
 use Rattle.bits.specs.Varint.{IsUleb, zigzag_of}
-use Rattle.bits.specs.Codec.{InTurn}
+use Rattle.bits.specs.Codec.{InTurn, Appends}
 
 -- the sum of signed numbers
 abbrev pub total : List ℤ → ℤ
@@ -78,3 +78,7 @@ pub record IsDelta (w : Width) (bytes : List ℕ) (n : ℕ) (values : List ℤ) 
 -- how many bytes n numbers take at most
 abbrev pub most_bytes : Width → ℕ → ℕ
 most_bytes w n = 42 + 32 * byte_len w + (byte_len w + 1) * n
+
+-- numbers are written at the end, and the bytes stand for them whatever follows
+abbrev pub AppendsDelta : Width → List ℤ → List ℕ → List ℕ → Type 0
+AppendsDelta w values old new = Appends (λ bytes. IsDelta w bytes (length values) values) (most_bytes w (length values)) old new

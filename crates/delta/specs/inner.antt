@@ -2,3 +2,4 @@
 pub mod Taken
 pub mod Cut
 pub mod Put
+pub mod Shared

@@ -1,9 +1,9 @@
-//! Numbers as differences (parquet-format, Encodings.md, "Delta Encoding") and byte values by their
-//! lengths ("Delta-length byte array"), from bytes and to bytes.
+//! Numbers as differences (parquet-format, Encodings.md, "Delta Encoding"), byte values by their
+//! lengths ("Delta-length byte array") and by what they share with the value before ("Delta
+//! Strings"), from bytes and to bytes.
 //!
 //! `specs/Delta.antt` and `specs/ByteDeltas.antt` carry the contracts: which bytes stand for which
-//! values. They also define byte values by what they share with the value before ("Delta Strings"),
-//! which are not read or written yet.
+//! values. `specs/ValuesLeft.antt` says what a reader of shared prefixes still gives.
 #![tactic(auto)]
 
 mod blocks;
@@ -18,7 +18,7 @@ mod put_prefixes;
 mod reading;
 mod writing;
 
-pub use codec::Delta;
+pub use codec::{Delta, DeltaLengths};
 pub use integer::Integer;
 pub use laws::{one_byte_list, one_list, one_prefixed_list, worked_examples};
 pub use lengths::decode_lengths;

@@ -1,10 +1,10 @@
 //! Byte values after their lengths.
 
-ghost use Rattle.std.specs.Prelude.{◌≡◌, ℕ, ◌+◌, ◌*◌, ◌≤◌, ◌⊎◌, All, length, map, IfOk, OnOk, OnErr};
+ghost use Rattle.std.specs.Prelude.{◌≡◌, ℕ, ◌+◌, ◌*◌, ◌≤◌, ◌⊎◌, List, All, length, map, IfOk, OnOk, OnErr};
 ghost use Rattle.bits.specs.Refusals.{OnFault, RefusedOnly, RefusedMemoryOnly, LimitJustWhere};
 ghost use Rattle.bits.specs.Codec.{Appends};
-ghost use Rattle.plain.specs.Plain.{IsOfKind, IsTooLong, IsWriteOver, text_size};
-ghost use Rattle.delta.specs.ByteDeltas.{sizes, IsByteLengths, StandForBytes};
+ghost use Rattle.plain.specs.Plain.{AreBytes, IsOfKind, IsTooLong, IsWriteOver, text_size};
+ghost use Rattle.delta.specs.ByteDeltas.{sizes, AppendsByLengths, NoLengthsOf};
 ghost use Rattle.delta.specs.inner.Put.{Extends, text_of};
 
 use crate::writing::encode_i32;
@@ -17,10 +17,12 @@ use std::alloc::Global;
 /// the bytes of all, in at most 170 + 5n bytes and the values' own. The values may be borrowed, as
 /// [`Lends`] says. (parquet-format, Encodings.md, "Delta-length byte array".)
 ///
-/// Refused Value only where one of them is no byte value, and Limit exactly when all are and one has
+/// Refused Value exactly when one of them is no byte value, and Limit exactly when all are and one has
 /// more than 16 MiB. On a refusal `out` is unchanged. Looks at each value three times.
 pub fn encode_lengths<V: Lends>(values: &[V], out: &mut Vec<u8>) -> R<()>
-    ensures stands { let seen = map V.lent values.now in OnOk result (Appends (λ bytes. StandForBytes (IsByteLengths bytes (length seen)) seen) (170 + 5 * length seen + text_size seen) out.old.items out.new.items) }
+    ensures stands { OnOk result (AppendsByLengths (map V.lent values.now) out.old.items out.new.items) }
+    ensures of_kind { OnOk result (All (IsOfKind Kind.ByteArray) (map V.lent values.now)) }
+    ensures only { OnFault result (NoLengthsOf (map V.lent values.now)) }
     ensures unfit { OnFault result (All (IsOfKind Kind.ByteArray) (map V.lent values.now) → ⊥) }
     ensures which { RefusedOnly (λ e. (e ≡ Refusal.Value) ⊎ (e ≡ Refusal.Limit)) result }
     ensures limit { LimitJustWhere (IsWriteOver Kind.ByteArray (map V.lent values.now)) result }
@@ -41,7 +43,7 @@ pub fn encode_lengths<V: Lends>(values: &[V], out: &mut Vec<u8>) -> R<()>
 fn put_lengths<V: Lends>(lengths: &[i32], values: &[V], out: &mut Vec<u8>) -> R<()>
     requires kind { All (IsOfKind Kind.ByteArray) (map V.lent values.now) }
     requires lengths { lengths.now ≡ sizes (map text_of (map V.lent values.now)) }
-    ensures stands { let seen = map V.lent values.now in OnOk result (Appends (λ bytes. StandForBytes (IsByteLengths bytes (length seen)) seen) (170 + 5 * length seen + text_size seen) out.old.items out.new.items) }
+    ensures stands { OnOk result (AppendsByLengths (map V.lent values.now) out.old.items out.new.items) }
     ensures front { Extends out.old.items out.new.items }
 {
     encode_i32(lengths, out)?;
@@ -65,7 +67,7 @@ fn lengths_of<V: Lends>(alloc: Global, values: &[V]) -> R<Vec<i32>>
 }
 
 /// The bytes of a byte value.
-fn bytes_of<V: Lends>(value: &V) -> &[u8]
+pub fn bytes_of<V: Lends>(value: &V) -> &[u8]
     ensures { result.now ≡ text_of (V.lent value.now) }
 {
     match value.lend() {

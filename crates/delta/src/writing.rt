@@ -4,9 +4,9 @@ ghost use Rattle.std.specs.Prelude.{◌≡◌, ℕ, ◌+◌, ◌-◌, ◌*◌, �
 ghost use Rattle.std.specs.Int.{w32, w64, byte_len, int_wrap};
 ghost use Rattle.bits.specs.Refusals.{RefusedMemoryOnly};
 ghost use Rattle.bits.specs.Codec.{Appends};
-ghost use Rattle.delta.specs.Delta.{IsMiniblock, AreMiniblocks, IsBlock, AreBlocks, IsDelta, most_bytes};
+ghost use Rattle.delta.specs.Delta.{IsMiniblock, AreMiniblocks, IsBlock, AreBlocks, IsDelta, AppendsDelta};
 ghost use Rattle.delta.specs.inner.Taken.{Adds, deltas_of};
-ghost use Rattle.delta.specs.inner.Put.{Extends, PutDeltas};
+ghost use Rattle.delta.specs.inner.Put.{Extends, PutDeltas, AddsBlock, AreWithin, AppendsMiniblocks};
 
 use crate::integer::Integer;
 use bits::{R, pack, write_uleb, zigzag};
@@ -36,7 +36,7 @@ pub fn encode_i64(values: &[i64], out: &mut Vec<u8>) -> R<()>
 
 /// Writes the numbers at the end of `out`.
 pub fn encode<T: Integer>(values: &[T], out: &mut Vec<u8>) -> R<()>
-    ensures stands { let seen = map T.seen values.now in OnOk result (Appends (λ bytes. IsDelta T.width bytes (length seen) seen) (most_bytes T.width (length seen)) out.old.items out.new.items) }
+    ensures stands { OnOk result (AppendsDelta T.width (map T.seen values.now) out.old.items out.new.items) }
     ensures which { RefusedMemoryOnly result }
     ensures unchanged { OnErr result (out.new.items ≡ out.old.items) }
 {
@@ -50,7 +50,7 @@ pub fn encode<T: Integer>(values: &[T], out: &mut Vec<u8>) -> R<()>
 
 /// Writes the header and the blocks; where it is refused, some of them may stand there.
 fn put_values<T: Integer>(values: &[T], out: &mut Vec<u8>) -> R<()>
-    ensures stands { let seen = map T.seen values.now in OnOk result (Appends (λ bytes. IsDelta T.width bytes (length seen) seen) (most_bytes T.width (length seen)) out.old.items out.new.items) }
+    ensures stands { OnOk result (AppendsDelta T.width (map T.seen values.now) out.old.items out.new.items) }
     ensures which { RefusedMemoryOnly result }
     ensures front { Extends out.old.items out.new.items }
 {
@@ -111,7 +111,7 @@ fn block_numbers<T: Integer>(values: &[T], at: usize, least: i64) -> [u64; 128]
     requires some { at < length values.now }
     ensures count { length result ≡ 128 }
     ensures narrow { All (λ x. x < 2 ^ (8 * byte_len T.width)) result }
-    ensures added { let seen = map T.seen values.now in Adds T.width (deltas_of least (take (min (length seen - at) 128) result)) (take at seen) (take (at + min (length seen - at) 128) seen) }
+    ensures added { AddsBlock T.width (map T.seen values.now) at least result }
 {
     let mut numbers = [0; 128];
     for i in 0..(values.len() - at).min(128) {
@@ -159,7 +159,7 @@ fn put_miniblocks(numbers: &[u64], widths: &[u8], needed: usize, out: &mut Vec<u
     requires narrow { (m : ℕ) → m < 4 → All (λ x. x < 2 ^ slice_index widths.now m) (take 32 (drop (32 * m) numbers.now)) }
     requires held { (m : ℕ) → m < 4 → slice_index widths.now m ≤ 64 }
     requires few { needed ≤ 4 }
-    ensures stands { (most : ℕ) → ((m : ℕ) → m < 4 → slice_index widths.now m ≤ 8 * most) → OnOk result (Appends (λ bytes used. AreMiniblocks 32 (take needed widths.now) bytes (take (32 * needed) numbers.now) used) (32 * most * needed) out.old.items out.new.items) }
+    ensures stands { (most : ℕ) → AreWithin most widths.now → OnOk result (AppendsMiniblocks needed widths.now numbers.now most out.old.items out.new.items) }
     ensures which { RefusedMemoryOnly result }
     ensures front { Extends out.old.items out.new.items }
 {

@@ -1,5 +1,8 @@
-use bits::Refusal;
-use delta::{decode_i32, decode_i64, decode_lengths, encode_i32, encode_i64, encode_lengths};
+use bits::{R, Refusal};
+use delta::{
+    Prefixed, decode_i32, decode_i64, decode_lengths, decode_prefixes, encode_i32, encode_i64,
+    encode_lengths, encode_prefixes,
+};
 use schema::{Value, ValueRef};
 use std::alloc::Global;
 use std::test::*;
@@ -219,5 +222,119 @@ fn a_negative_length_is_refused_and_a_long_one_over_the_limit(rt: HostRuntime) -
     let longest = [0x80, 0x01, 0x04, 0x01, 0x80, 0x80, 0x80, 0x10];
     let cut = decode_lengths::<Value>(rt.alloc(), &longest, 1);
     assert!(rt; matches!(cut, Err(Refusal::Truncated)));
+    Ok(())
+}
+
+/// axis, axle, babble and babyhood: prefixes 0, 2, 0, 3, and the suffixes axis, le, babble, yhood.
+const FOUR_VALUES: [u8; 61] = [
+    0x80, 0x01, 0x04, 0x04, 0x00, 0x03, 0x03, 0, 0, 0, 0x44, 0x01, 0, 0, 0, 0, 0, 0, 0, 0, 0, 0,
+    0x80, 0x01, 0x04, 0x04, 0x08, 0x03, 0x03, 0, 0, 0, 0x70, 0, 0, 0, 0, 0, 0, 0, 0, 0, 0, 0, 0x61,
+    0x78, 0x69, 0x73, 0x6C, 0x65, 0x62, 0x61, 0x62, 0x62, 0x6C, 0x65, 0x79, 0x68, 0x6F, 0x6F, 0x64,
+];
+
+const FOUR_WORDS: [&[u8]; 4] = [b"axis", b"axle", b"babble", b"babyhood"];
+
+/// The bytes of these prefix lengths, suffix lengths and suffixes.
+fn shared(alloc: Global, prefixes: &[i32], lengths: &[i32], suffixes: &[u8]) -> R<Vec<u8>> {
+    let mut bytes = Vec::new(alloc);
+    encode_i32(prefixes, &mut bytes)?;
+    encode_i32(lengths, &mut bytes)?;
+    bytes.extend_from_slice(suffixes)?;
+    Ok(bytes)
+}
+
+/// Whether the next value is this one.
+fn next_is(values: &mut Prefixed<'_>, wanted: Option<&[u8]>) -> R<bool> {
+    Ok(values.next()? == wanted)
+}
+
+#[test]
+fn values_are_read_by_their_prefixes(rt: HostRuntime) -> Result<(), Fail> {
+    let (mut values, used) = decode_prefixes(rt.alloc(), &FOUR_VALUES, 4)?;
+    assert_eq!(rt; (values.len(), used), (4, 61));
+    assert!(rt; values.value().is_empty());
+    for word in &FOUR_WORDS {
+        assert!(rt; next_is(&mut values, Some(*word))?);
+        assert_eq!(rt; values.value(), *word);
+    }
+    assert!(rt; next_is(&mut values, None)?);
+    assert!(rt; next_is(&mut values, None)?);
+    assert_eq!(rt; values.len(), 0);
+    for size in 0..FOUR_VALUES.len() {
+        let cut = decode_prefixes(rt.alloc(), &FOUR_VALUES[..size], 4);
+        assert!(rt; matches!(cut, Err(Refusal::Truncated)));
+    }
+    Ok(())
+}
+
+#[test]
+fn values_are_written_by_their_prefixes(rt: HostRuntime) -> Result<(), Fail> {
+    let mut values = Vec::new(rt.alloc());
+    for word in &FOUR_WORDS {
+        values.push(ValueRef::Bytes(*word))?;
+    }
+    let mut out = vec![in rt.alloc(); 7_u8; 1]?;
+    encode_prefixes(values.as_slice(), &mut out)?;
+    assert_eq!(rt; &out.as_slice()[1..], FOUR_VALUES.as_slice());
+    let refused = encode_prefixes([ValueRef::Int(1)].as_slice(), &mut out);
+    assert!(rt; matches!(refused, Err(Refusal::Value)));
+    let long = vec![in rt.alloc(); 0_u8; 16_777_217]?;
+    let refused = encode_prefixes([ValueRef::Bytes(long.as_slice())].as_slice(), &mut out);
+    assert!(rt; matches!(refused, Err(Refusal::Limit)));
+    assert_eq!(rt; out.len(), 62);
+    Ok(())
+}
+
+#[test]
+fn no_values_by_their_prefixes_take_two_headers(rt: HostRuntime) -> Result<(), Fail> {
+    let bytes = [0x80, 0x01, 0x04, 0, 0, 0x80, 0x01, 0x04, 0, 0];
+    let (mut values, used) = decode_prefixes(rt.alloc(), &bytes, 0)?;
+    assert_eq!(rt; (values.len(), used), (0, 10));
+    assert!(rt; !values.advance()?);
+    let mut out = Vec::new(rt.alloc());
+    encode_prefixes::<ValueRef<'_>>(&[], &mut out)?;
+    assert_eq!(rt; out.as_slice(), bytes.as_slice());
+    Ok(())
+}
+
+#[test]
+fn prefixes_that_are_not_there_are_refused(rt: HostRuntime) -> Result<(), Fail> {
+    let whole = shared(rt.alloc(), &[0, 4], &[4, 2], b"axisle")?;
+    let (values, used) = decode_prefixes(rt.alloc(), &whole, 2)?;
+    assert_eq!(rt; (values.len(), used), (2, whole.len()));
+    let longer_than_the_value = shared(rt.alloc(), &[0, 5], &[4, 2], b"axisle")?;
+    let first = shared(rt.alloc(), &[1, 0], &[4, 2], b"axisle")?;
+    let negative_prefix = shared(rt.alloc(), &[0, -1], &[4, 2], b"axisle")?;
+    let negative_suffix = shared(rt.alloc(), &[0, 0], &[4, -2], b"axisle")?;
+    for bytes in [longer_than_the_value, first, negative_prefix, negative_suffix] {
+        let refused = decode_prefixes(rt.alloc(), &bytes, 2);
+        assert!(rt; matches!(refused, Err(Refusal::Value)));
+    }
+    let cut = shared(rt.alloc(), &[0, 4], &[4, 2], b"axisl")?;
+    let refused = decode_prefixes(rt.alloc(), &cut, 2);
+    assert!(rt; matches!(refused, Err(Refusal::Truncated)));
+    Ok(())
+}
+
+#[test]
+fn a_long_chain_of_long_values_is_read_in_little_memory(rt: HostRuntime) -> Result<(), Fail> {
+    let longest = vec![in rt.alloc(); 0x2A_u8; 16_777_216]?;
+    let mut prefixes = vec![in rt.alloc(); 16_777_216_i32; 1000]?;
+    let mut lengths = vec![in rt.alloc(); 0_i32; 1000]?;
+    prefixes[0] = 0;
+    lengths[0] = 16_777_216;
+    let bytes = shared(rt.alloc(), &prefixes, &lengths, &longest)?;
+    let (mut values, used) = decode_prefixes(rt.alloc(), &bytes, 1000)?;
+    assert_eq!(rt; used, bytes.len());
+    let mut count = 0_usize;
+    while let Some(value) = values.next()? {
+        assert_eq!(rt; value.len(), 16_777_216);
+        count += 1;
+    }
+    assert_eq!(rt; count, 1000);
+    lengths[999] = 1;
+    let over = shared(rt.alloc(), &prefixes, &lengths, &longest)?;
+    let refused = decode_prefixes(rt.alloc(), &over, 1000);
+    assert!(rt; matches!(refused, Err(Refusal::Limit)));
     Ok(())
 }

@@ -10,3 +10,4 @@ pub mod Greatest
 pub mod Writing
 pub mod Headers
 pub mod Worked
+pub mod inner

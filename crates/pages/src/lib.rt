@@ -7,14 +7,22 @@
 //! `specs/Headers.antt` which header it has. `specs/Worked.antt` has pages made by hand.
 #![tactic(auto)]
 
+mod body_reading;
 mod data_page;
 mod encoding;
 mod entry;
+mod indexed_values;
 mod laws;
+mod level_list;
+mod level_reading;
 mod limits;
 mod page;
 mod page_reading;
+mod page_values;
 mod page_writing;
+mod shared_values;
+mod value_checks;
+mod value_reading;
 
 pub use data_page::DataPage;
 pub use encoding::Encoding;
