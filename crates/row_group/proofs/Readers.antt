@@ -155,3 +155,11 @@ page_shows old r page (Some levels) f is h = (ap (λ (x : Option Fault). option_
     begins : (xs es rest : List Entry) → es ≡ xs ++ rest → PageShows xs (Some levels) → Begins es levels.0 levels.1
     begins [] es rest e h = absurd h
     begins (x ∷ xs) es rest e h = subst (λ (t : List Entry). Begins t levels.0 levels.1) (sym e) h
+
+-- ---- no entry is left
+
+pub none_taken : (old r : ChunkReader) → Filled old r → r.page ≡ None → AdvancesReader old r (Ok false)
+none_taken old r f is = let s = f.3 (ap page_left is) in (f.0, f.1, (f.2.1 [] s.0, λ es t. s.1 es (f.2.0 es t)), f.2)
+
+pub none_shows : (old r : ChunkReader) → Filled old r → r.page ≡ None → Shows (chunk_stands old) (option_map refusal_of old.fault) (Ok None)
+none_shows old r f is = let s = f.3 (ap page_left is) in (ap (λ (x : Option Fault). option_map refusal_of x) f.0, (f.2.1 [] s.0, λ es t. s.1 es (f.2.0 es t)))
