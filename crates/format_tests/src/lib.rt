@@ -11,6 +11,8 @@ mod chunk_offsets;
 #[cfg(test)]
 mod chunks_and_groups;
 #[cfg(test)]
+mod chunks_of_several_pages;
+#[cfg(test)]
 mod codecs;
 #[cfg(test)]
 mod copies;

@@ -1,5 +1,5 @@
 -- A reader of a chunk, entry by entry.
-use Rattle.std.proofs.Common.{◌≡◌, ℕ, ◌+◌, ◌<◌, Bool, true, false, List, [], ◌∷◌, ◌++◌, length, Option, Some, None, Result, Ok, Err, option_map, refl, sym, ap, subst, ◌∙◌, arith}
+use Rattle.std.proofs.Common.{◌≡◌, ℕ, ◌+◌, Bool, true, false, List, [], ◌∷◌, ◌++◌, length, Option, Some, None, Result, Ok, Err, option_map, refl, sym, ap, subst, ◌∙◌, arith}
 use Rattle.bits.specs.Faults.{refusal_of}
 use Rattle.bits.specs.declared.fault.Fault.{Fault}
 use Rattle.bits.specs.declared.fault.Fault.TheVariants as fault
@@ -11,10 +11,10 @@ use Rattle.pages.specs.Left.{entries_left, entry_taken, Shows as PageShows, Adva
 use Rattle.assemble.specs.Sources.{NothingStands, StandsOnly, Same, Precede, Refuses, Keeps, Begins, Shows}
 use Rattle.row_group.specs.declared.pages_left.PagesLeft.{PagesLeft}
 use Rattle.row_group.specs.declared.chunk_reader.ChunkReader.{ChunkReader}
-use Rattle.row_group.specs.Rest.{ChunkLeft, HoldsRest, HasRestOver}
-use Rattle.row_group.specs.Left.{pages_view, page_left, ChunkStands, chunk_stands}
+use Rattle.row_group.specs.Rest.{HoldsRest, HasRestOver}
+use Rattle.row_group.specs.Left.{pages_view, page_left, chunk_stands}
 use Rattle.row_group.specs.inner.Pages.{Passes, IsRefusedAt, NextPage}
-use Rattle.row_group.specs.inner.Readers.{kept_fault, Fills, AdvancesReader}
+use Rattle.row_group.specs.inner.Readers.{kept_fault, AdvancesReader}
 use Rattle.row_group.proofs.NextPages.{holds_nothing}
 
 pub empty : {A : Type 0} (xs : List A) → length xs ≡ 0 → xs ≡ []
@@ -155,3 +155,11 @@ page_shows old r page (Some levels) f is h = (ap (λ (x : Option Fault). option_
     begins : (xs es rest : List Entry) → es ≡ xs ++ rest → PageShows xs (Some levels) → Begins es levels.0 levels.1
     begins [] es rest e h = absurd h
     begins (x ∷ xs) es rest e h = subst (λ (t : List Entry). Begins t levels.0 levels.1) (sym e) h
+
+-- ---- no entry is left
+
+pub none_taken : (old r : ChunkReader) → Filled old r → r.page ≡ None → AdvancesReader old r (Ok false)
+none_taken old r f is = let s = f.3 (ap page_left is) in (f.0, f.1, (f.2.1 [] s.0, λ es t. s.1 es (f.2.0 es t)), f.2)
+
+pub none_shows : (old r : ChunkReader) → Filled old r → r.page ≡ None → Shows (chunk_stands old) (option_map refusal_of old.fault) (Ok None)
+none_shows old r f is = let s = f.3 (ap page_left is) in (ap (λ (x : Option Fault). option_map refusal_of x) f.0, (f.2.1 [] s.0, λ es t. s.1 es (f.2.0 es t)))

@@ -1,4 +1,4 @@
-use Rattle.std.proofs.Common.{◌≡◌, [], Option, length, sym, subst, ◌∙◌, arith}
+use Rattle.std.proofs.Common.{◌≡◌, [], Option, sym, subst, arith}
 use Rattle.bits.specs.declared.fault.Fault.{Fault}
 use Rattle.assemble.specs.Sources.{StandsOnly, Same, Keeps}
 use Rattle.bits.specs.Faults.{refusal_of}
