@@ -150,7 +150,7 @@ text_sizes : (ts : List (List ℕ)) → text_size (map bytes ts) ≡ length (con
 text_sizes [] = refl
 text_sizes (t ∷ ts) = omega (arith, length-append t (concat ts), text_sizes ts)
 
--- no suffix is longer than it has to be
+-- so they take few bytes
 pub prefixed_short : (vs : List ValueTree) (ps : List ℤ) (sv : List ValueTree) (old new : List ℕ) → ps ≡ map pos (longest_prefixes [] (map text_of vs))
     → sv ≡ map bytes (shortest_suffixes [] (map text_of vs)) → ArePut ps sv old new → (texts : List (List ℕ)) → vs ≡ map bytes texts
     → length new ≤ length old + (340 + 10 * length vs + length (concat (shortest_suffixes [] texts)))

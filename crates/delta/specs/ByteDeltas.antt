@@ -116,7 +116,7 @@ abbrev pub longest_prefixes : List ℕ → List (List ℕ) → List ℕ
 longest_prefixes before [] = []
 longest_prefixes before (value ∷ values) = shared_size before value ∷ longest_prefixes value values
 
--- what is left of the values after these prefixes
+-- the rest of each value after its prefix
 abbrev pub shortest_suffixes : List ℕ → List (List ℕ) → List (List ℕ)
 shortest_suffixes before [] = []
 shortest_suffixes before (value ∷ values) = drop (shared_size before value) value ∷ shortest_suffixes value values
@@ -129,9 +129,9 @@ AppendsByLengths values old new = Appends (λ bytes. StandForBytes (IsByteLength
 abbrev pub AppendsByPrefixes : List ValueTree → List ℕ → List ℕ → Type 0
 AppendsByPrefixes values old new = Appends (λ bytes. StandForBytes (IsPrefixed bytes (length values)) values) (340 + 10 * length values + text_size values) old new
 
--- values are written at the end with suffixes that are as short as can be
-abbrev pub AppendsShortest : List ValueTree → List ℕ → List ℕ → Type 0
-AppendsShortest values old new =
+-- the end has at most 340 + 10n bytes and what values do not share with the value before them
+abbrev pub IsShortByPrefixes : List ValueTree → List ℕ → List ℕ → Type 0
+IsShortByPrefixes values old new =
     (texts : List (List ℕ)) → values ≡ map bytes texts → length new ≤ length old + (340 + 10 * length values + length (concat (shortest_suffixes [] texts)))
 
 -- no bytes stand for the values, by their lengths or by their prefixes

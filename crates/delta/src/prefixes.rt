@@ -28,16 +28,16 @@ pub struct Prefixed<'a> {
 /// The first `n` byte values, to be taken one by one, and how many bytes they take. Bytes after them
 /// are ignored.
 ///
-/// The lengths of the shared prefixes stand first, as [`decode_i32`] reads them,
-/// then the lengths of the suffixes, and then the bytes of all suffixes. Each value is a prefix of the
-/// value before it followed by its suffix. (parquet-format, Encodings.md, "Delta Strings".)
+/// The lengths of the shared prefixes stand first, as [`decode_i32`] reads them, then the lengths of
+/// the suffixes, and then the bytes of all suffixes. Each value is a prefix of the value before it
+/// followed by its suffix. (parquet-format, Encodings.md, "Delta Strings".)
 ///
 /// Refused Limit exactly when a prefix and a suffix are announced with more than 16 MiB together, the
 /// prefix is no longer than the value before, and the values before are there. Refused Truncated,
-/// Thrift and Value (as by [`decode_i32`], a negative length, and a prefix longer
-/// than the value before) only where no `n` values stand there.
+/// Thrift and Value (as by [`decode_i32`], a negative length, and a prefix longer than the value
+/// before) only where no `n` values stand there.
 ///
-/// Looks only at the lengths: one pass over each, which asks for 8 bytes for each value.
+/// Looks only at the lengths, in one pass over each list, and keeps both: 8 bytes for each value.
 pub fn decode_prefixes<'a>(alloc: Global, bytes: &'a [u8], n: usize) -> R<(Prefixed<'a>, usize)>
     ensures stands { IfOk result (λ x. IsPrefixed bytes.now n (values_left x.0) x.1) }
     ensures none_taken { IfOk result (λ x. last_taken x.0 ≡ []) }
@@ -109,7 +109,7 @@ fn lengths_within(prefix: i32, suffix: i32, before: usize, left: usize) -> R<(us
 
 impl<'a> Prefixed<'a> {
     /// The next value, which is taken, or none at the end. It lies in memory that the next call uses
-    /// again. It is refused only when out of memory, and then nothing is taken.
+    /// again. It fails only when out of memory, and then nothing is taken. Linear in the suffix.
     pub fn next<'s>(&'s mut self) -> Result<Option<&'s [u8]>, Fault>
         ensures gives { Gives (values_left self.old) result }
         ensures* takes { sem 𝓛 (EndsAs self.entry result) }
@@ -121,14 +121,15 @@ impl<'a> Prefixed<'a> {
         }
     }
 
-    /// Takes the next value, if there is one: [`value`](Prefixed::value) is that one from then on. It is
-    /// refused only when out of memory, and then nothing is taken.
+    /// Takes the next value and returns whether there was one. From then on it is
+    /// [`value`](Prefixed::value). It fails only when out of memory, and then nothing is taken.
     pub fn advance(&mut self) -> Result<bool, Fault>
         ensures { Advances self.old self.new result }
     {
         if self.index >= self.prefixes.len() || self.index >= self.lengths.len() {
             return Ok(false);
         }
+        // `decode_prefixes` has checked the lengths: nothing is cut off below.
         let shared = natural(self.prefixes[self.index]);
         let size = natural(self.lengths[self.index]);
         let (suffix, rest) = self.rest.split_at(size.min(self.rest.len()));

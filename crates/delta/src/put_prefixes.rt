@@ -7,7 +7,7 @@ ghost use Rattle.bits.specs.Codec.{Appends};
 ghost use Rattle.schema.specs.Values.{bytes};
 ghost use Rattle.schema.specs.Borrowed.{value_ref_view};
 ghost use Rattle.plain.specs.Plain.{AreBytes, IsOfKind, IsTooLong, IsWriteOver, text_size};
-ghost use Rattle.delta.specs.ByteDeltas.{AppendsByPrefixes, AppendsShortest, NoPrefixesOf, shared_size, longest_prefixes, shortest_suffixes};
+ghost use Rattle.delta.specs.ByteDeltas.{AppendsByPrefixes, IsShortByPrefixes, NoPrefixesOf, shared_size, longest_prefixes, shortest_suffixes};
 ghost use Rattle.delta.specs.inner.Put.{Extends, ArePut, text_of, before_at};
 
 use crate::put_lengths::{bytes_of, encode_lengths};
@@ -20,14 +20,14 @@ use std::alloc::Global;
 /// Writes the byte values at the end of `out`, each as the longest prefix that it shares with the value
 /// before it and the rest of it: the lengths of the prefixes, as [`encode_i32`] writes
 /// them, the lengths of the suffixes in the same way, and then the bytes of all suffixes, in at most
-/// 340 + 10n bytes and the values' own. The values may be borrowed, as [`Lends`] says. (parquet-format,
+/// 340 + 10n bytes and what the values do not share with the one before. The values may be borrowed, as [`Lends`] says. (parquet-format,
 /// Encodings.md, "Delta Strings".)
 ///
 /// Refused Value exactly when one of them is no byte value, and Limit exactly when all are and one has
 /// more than 16 MiB. On a refusal `out` is unchanged.
 pub fn encode_prefixes<V: Lends>(values: &[V], out: &mut Vec<u8>) -> R<()>
     ensures stands { OnOk result (AppendsByPrefixes (map V.lent values.now) out.old.items out.new.items) }
-    ensures longest { OnOk result (AppendsShortest (map V.lent values.now) out.old.items out.new.items) }
+    ensures short { OnOk result (IsShortByPrefixes (map V.lent values.now) out.old.items out.new.items) }
     ensures of_kind { OnOk result (All (IsOfKind Kind.ByteArray) (map V.lent values.now)) }
     ensures only { OnFault result (NoPrefixesOf (map V.lent values.now)) }
     ensures unfit { OnFault result (All (IsOfKind Kind.ByteArray) (map V.lent values.now) → ⊥) }

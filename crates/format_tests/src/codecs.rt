@@ -3,6 +3,7 @@
 ghost use Rattle.std.specs.Prelude.{◌≡◌, map, IfOk};
 
 use bits::{R, ValueCodec};
+use delta::DeltaLengths;
 use plain::Plain;
 use schema::{Kind, Value, same};
 use std::alloc::Global;
@@ -25,6 +26,18 @@ fn values_come_back_through_a_codec(rt: HostRuntime) -> Result<(), Fail> {
     let plain = Plain { kind: Kind::Int64 };
     let read = reread(&plain, rt.alloc(), values.as_slice())?;
     assert_eq!(rt; read.len(), 3);
+    for (value, wanted) in read.iter().zip(values.iter()) {
+        assert!(rt; same(value, wanted));
+    }
+    Ok(())
+}
+
+#[test]
+fn byte_values_come_back_by_their_lengths(rt: HostRuntime) -> Result<(), Fail> {
+    let text = Vec::from_slice(rt.alloc(), b"babyhood".as_slice())?;
+    let values = [Value::Bytes(Vec::new(rt.alloc())), Value::Bytes(text)];
+    let read = reread(&DeltaLengths, rt.alloc(), values.as_slice())?;
+    assert_eq!(rt; read.len(), 2);
     for (value, wanted) in read.iter().zip(values.iter()) {
         assert!(rt; same(value, wanted));
     }

@@ -101,12 +101,6 @@ pub framed_fails : (leaf : Leaf) (d : Option (List ValueTree)) (bytes : List ℕ
     → ((page : Page) → IsBody leaf d h body page → length (entries_of page) ≤ left → ⊥) → NoPage leaf d bytes left
 framed_fails leaf d bytes h body used left one framed nothing page taken (p, few) = nothing page (of_frame leaf d bytes h body used page taken one framed p).0 few
 
-pub framed_alone : (leaf : Leaf) (d : Option (List ValueTree)) (bytes : List ℕ) (h : PageHeader) (body : List ℕ) (used : ℕ) (known : Page) → IsFunctional (StandsFor page_header) → IsFramed bytes h body used
-    → ((page : Page) → IsBody leaf d h body page → page ≡ known) → (page : Page) (taken : ℕ) → IsPage leaf d bytes page taken → (page ≡ known) × (taken ≡ used)
-framed_alone leaf d bytes h body used known one framed alone page taken p =
-    let here = of_frame leaf d bytes h body used page taken one framed p in
-    (alone page here.0, here.1)
-
 pub framed_short : (leaf : Leaf) (bytes : List ℕ) (h : PageHeader) (body : List ℕ) (used : ℕ) → IsFunctional (StandsFor page_header) → IsFramed bytes h body used
     → (IsBodyOver leaf h body → ⊥) → IsPageOver leaf bytes → ⊥
 framed_short leaf bytes h body used one framed short p =

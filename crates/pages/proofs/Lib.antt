@@ -1,5 +1,4 @@
 pub mod Framed
-pub mod FlatEntries
 pub mod PlainValues
 pub mod Passed
 pub mod Texts
@@ -11,7 +10,14 @@ pub mod WrittenParts
 pub mod WrittenPages
 pub mod WrittenDictionaries
 pub mod WrittenPlain
+pub mod LevelLists
 pub mod OneList
+pub mod Sections
+pub mod LookUps
+pub mod SharedValues
+pub mod ListedValues
 pub mod OneBody
 pub mod OneChunk
+pub mod EntriesOf
+pub mod Bodies
 pub mod Worked

@@ -81,10 +81,10 @@ one_entries laws leaf d e text es fs p q rs ds a b =
 -- ---- bodies
 
 -- the same levels, and the same text behind them
-abbrev IsOneText : List ℕ → List ℕ → List ℕ → List ℕ → List ℕ → List ℕ → Type 0
+abbrev pub IsOneText : List ℕ → List ℕ → List ℕ → List ℕ → List ℕ → List ℕ → Type 0
 IsOneText rs us ds cs text behind = (rs ≡ us) × (ds ≡ cs) × (text ≡ behind)
 
-one_text_v1 : HybridsAreOne → (leaf : Leaf) (h : DataPageHeader) (body rs us ds cs text behind : List ℕ) → AreLevelsV1 leaf h body rs ds text → AreLevelsV1 leaf h body us cs behind → IsOneText rs us ds cs text behind
+pub one_text_v1 : HybridsAreOne → (leaf : Leaf) (h : DataPageHeader) (body rs us ds cs text behind : List ℕ) → AreLevelsV1 leaf h body rs ds text → AreLevelsV1 leaf h body us cs behind → IsOneText rs us ds cs text behind
 one_text_v1 law leaf h body rs us ds cs text behind p q =
     let a = p.count in
     let b = q.count in
@@ -94,7 +94,7 @@ one_text_v1 law leaf h body rs us ds cs text behind p q =
     (subst (λ (t : List ℕ). IsSectionV1 leaf.greatest_definition h.definition_level_encoding t ds text) first.1 p.second) q.second in
     (first.0, second.0, second.1)
 
-one_text_v2 : HybridsAreOne → (leaf : Leaf) (h : DataPageHeaderV2) (body rs us ds cs text behind : List ℕ) → AreLevelsV2 leaf h body rs ds text → AreLevelsV2 leaf h body us cs behind → IsOneText rs us ds cs text behind
+pub one_text_v2 : HybridsAreOne → (leaf : Leaf) (h : DataPageHeaderV2) (body rs us ds cs text behind : List ℕ) → AreLevelsV2 leaf h body rs ds text → AreLevelsV2 leaf h body us cs behind → IsOneText rs us ds cs text behind
 one_text_v2 law leaf h body rs us ds cs text behind p q =
     let a = p.count in
     let b = q.count in

@@ -55,7 +55,7 @@ one_front a b r s size same = (
   sym (drop_at a r (length a) refl) ∙ ap (drop (length a)) same ∙ drop_at b s (length a) (sym size),
 )
 
-one_prefix : (text a b r s : List ℕ) → IsPrefixed text a r → IsPrefixed text b s → (a ≡ b) × (r ≡ s)
+pub one_prefix : (text a b r s : List ℕ) → IsPrefixed text a r → IsPrefixed text b s → (a ≡ b) × (r ≡ s)
 one_prefix text a b r s p q =
     let x : text ≡ little_bytes 4 (length a) ++ (a ++ r) = p.joined ∙ append_assoc (little_bytes 4 (length a)) a r in
     let y : text ≡ little_bytes 4 (length b) ++ (b ++ s) = q.joined ∙ append_assoc (little_bytes 4 (length b)) b s in
@@ -109,7 +109,7 @@ one_numbers law w text vs ws size p q =
     let same = one_of_so_many (λ n bytes. IsDelta w bytes n) (length p.0) (length q.0) text p.0 q.0 p.1 q.1 (law w (length q.0)) count p.3 q.3 in
     p.2 ∙ ap (λ (zs : List ℤ). map integer zs) same ∙ sym q.2
 
-one_byte_values : (Stands : ℕ → List ℕ → List (List ℕ) → ℕ → Type 0) → ((n : ℕ) → IsFunctional (Stands n)) → (text : List ℕ) (vs ws : List ValueTree) (u v : ℕ) → length vs ≡ length ws
+pub one_byte_values : (Stands : ℕ → List ℕ → List (List ℕ) → ℕ → Type 0) → ((n : ℕ) → IsFunctional (Stands n)) → (text : List ℕ) (vs ws : List ValueTree) (u v : ℕ) → length vs ≡ length ws
     → StandForBytes (Stands (length vs) text) vs u → StandForBytes (Stands (length ws) text) ws v → vs ≡ ws
 one_byte_values Stands law text vs ws u v size p q =
     p.are ∙ ap (λ (ts : List (List ℕ)). map byte_value ts) (one_of_so_many Stands (length vs) (length ws) text p.texts q.texts u v (law (length ws)) size p.stand q.stand) ∙ sym q.are
@@ -144,20 +144,20 @@ not_wider g v w holds least wide =
     let twice : 2 ^ suc v ≡ 2 ^ v * 2 = pow-suc 2 v in
     omega (arith, holds, least, more, twice)
 
-one_width : (g : ℕ) (text us : List ℕ) (rs : List ℕ) (p : AreLevels g text rs) (q : AreLevels g text us) → p.width ≡ q.width
-one_width g text us rs p q =
-    elim (cases_lt p.width q.width) [
-      | inl lt ↦ absurd (not_wider g p.width q.width p.holds q.least lt)
+pub one_width : (g v w : ℕ) → g < 2 ^ v → 2 ^ v ≤ 2 * g → g < 2 ^ w → 2 ^ w ≤ 2 * g → v ≡ w
+one_width g v w holds least has few =
+    elim (cases_lt v w) [
+      | inl lt ↦ absurd (not_wider g v w holds few lt)
       | inr le ↦
-          elim (cases_lt q.width p.width) [
-            | inl lt ↦ absurd (not_wider g q.width p.width q.holds p.least lt)
+          elim (cases_lt w v) [
+            | inl lt ↦ absurd (not_wider g w v has least lt)
             | inr ge ↦ omega (arith, le, ge)
           ]
     ]
 
-one_levels : HybridsAreOne → (g : ℕ) (text rs us : List ℕ) → length rs ≡ length us → AreLevels g text rs → AreLevels g text us → rs ≡ us
+pub one_levels : HybridsAreOne → (g : ℕ) (text rs us : List ℕ) → length rs ≡ length us → AreLevels g text rs → AreLevels g text us → rs ≡ us
 one_levels law g text rs us size p q =
-    let same = one_width g text us rs p q in
+    let same = one_width g p.width q.width p.holds p.least q.holds q.least in
     one_hybrid law q.width text rs us (length rs) (length us) p.used q.used size (subst (λ (w : ℕ). IsHybrid w text (length rs) rs p.used) same p.packed) q.packed
 
 pub one_section_v1 : HybridsAreOne → (g : ℕ) (e : Option ℤ) (text rs us behind after : List ℕ) → length rs ≡ length us → IsSectionV1 g e text rs behind → IsSectionV1 g e text us after → (rs ≡ us) × (behind ≡ after)

@@ -1,18 +1,81 @@
 -- The entries that a data page still has to give.
-use Rattle.std.specs.Prelude.{◌≡◌, ℕ, Bool, true, false, List, [], ◌∷◌, map, drop, Option, Some, None, Result, Ok, Err}
+use Rattle.std.specs.Prelude.{◌≡◌, ◌==◌, ℕ, Bool, true, false, List, [], ◌∷◌, map, drop, replicate, Option, Some, None, Result, Ok, Err}
 use Rattle.bits.specs.declared.fault.Fault.{Fault}
 use Rattle.bits.specs.declared.fault.Fault.TheVariants.{Memory}
+use Rattle.schema.specs.Values.{ValueTree, bytes}
 use Rattle.schema.specs.Stripe.{Entry}
-use Rattle.schema.specs.Borrowed.{entry_ref_view}
+use Rattle.schema.specs.Borrowed.{value_ref_view}
+use Rattle.delta.specs.ValuesLeft.{values_left as byte_values_left, last_taken}
+use Rattle.pages.specs.declared.level_list.LevelList.{LevelList}
+use Rattle.pages.specs.declared.level_list.LevelList.TheVariants.{Zeros, Listed as ListedLevels}
+use Rattle.pages.specs.declared.page_values.PageValues.{PageValues}
+use Rattle.pages.specs.declared.page_values.PageValues.TheVariants.{Listed, Shared}
+use Rattle.pages.specs.declared.page_values.ListedValues.{ListedValues}
 use Rattle.pages.specs.declared.data_page.DataPage.{DataPage}
+
+-- the levels, one for each entry
+abbrev pub levels_of : LevelList → List ℕ
+levels_of (Zeros count) = replicate count 0
+levels_of (ListedLevels levels) = levels.items
+
+-- the values of a list that are not taken yet
+abbrev pub listed_left : ListedValues → List ValueTree
+listed_left l = map value_ref_view (drop l.index l.values.items)
+
+-- the values that are not taken yet
+abbrev pub values_left : PageValues → List ValueTree
+values_left (Listed values) = listed_left values
+values_left (Shared values) = map bytes (byte_values_left values)
+
+-- the value that was taken last
+abbrev pub value_taken : PageValues → ValueTree
+value_taken (Listed values) = value_ref_view values.taken
+value_taken (Shared values) = bytes (last_taken values)
+
+-- one value of a list is taken, or none at the end
+abbrev pub TakesListed : ListedValues → ListedValues → Bool → Type 0
+TakesListed old new true = listed_left old ≡ value_ref_view new.taken ∷ listed_left new
+TakesListed old new false = (listed_left old ≡ []) × (listed_left new ≡ [])
+
+-- one value is taken, or none at the end; out of memory, none is taken
+abbrev pub TakesValue : PageValues → PageValues → Result Bool Fault → Type 0
+TakesValue old new (Ok true) = values_left old ≡ value_taken new ∷ values_left new
+TakesValue old new (Ok false) = (values_left old ≡ []) × (values_left new ≡ [])
+TakesValue old new (Err fault) = (fault ≡ Memory) × (values_left new ≡ values_left old)
+
+-- so it is where the entry is full; no value is taken where it is not
+abbrev pub TakesWhere : Bool → PageValues → PageValues → Result Bool Fault → Type 0
+TakesWhere true old new result = TakesValue old new result
+TakesWhere false old new (Ok found) = (found ≡ false) × (values_left new ≡ values_left old)
+TakesWhere false old new (Err fault) = ⊥
+
+-- the entry of these levels, with the first of the values where it is full
+abbrev pub entry_by : Bool → ℕ → ℕ → List ValueTree → Entry
+entry_by true r d (v ∷ vs) = record { repetition = r; definition = d; value = Some v }
+entry_by full r d vs = record { repetition = r; definition = d; value = None }
+
+-- the values after the entry's own
+abbrev pub values_after : Bool → List ValueTree → List ValueTree
+values_after true (v ∷ vs) = vs
+values_after full vs = vs
+
+-- the entries of these levels: those at the greatest definition level have the values, in turn
+abbrev pub entries_by : ℕ → List ℕ → List ℕ → List ValueTree → List Entry
+entries_by greatest (r ∷ rs) (d ∷ ds) vs = entry_by (d == greatest) r d vs ∷ entries_by greatest rs ds (values_after (d == greatest) vs)
+entries_by greatest rs ds vs = []
 
 -- the entries that are not taken yet
 abbrev pub entries_left : DataPage → List Entry
-entries_left page = map entry_ref_view (drop page.index page.entries.items)
+entries_left page = entries_by page.greatest (drop page.index (levels_of page.repetitions)) (drop page.index (levels_of page.definitions)) (values_left page.values)
+
+-- the value of the entry that was taken last, where it has one
+abbrev pub value_where : Bool → ValueTree → Option ValueTree
+value_where true v = Some v
+value_where false v = None
 
 -- the entry that was taken last
 abbrev pub entry_taken : DataPage → Entry
-entry_taken page = entry_ref_view page.taken
+entry_taken page = record { repetition = page.repetition; definition = page.definition; value = value_where page.has_value (value_taken page.values) }
 
 -- the first of the entries has these levels
 abbrev pub Shows : List Entry → Option (ℕ × ℕ) → Type 0

@@ -1,2 +1,3 @@
--- Definitions for private functions alone.
+-- Definitions for private functions only.
 pub mod Put
+pub mod Reading

@@ -2,6 +2,8 @@
 
 ghost use Rattle.std.specs.Prelude.{◌≡◌, length};
 
+use crate::level_list::LevelList;
+use crate::page_values::PageValues;
 use bits::Fault;
 use schema::EntryRef;
 
@@ -9,29 +11,60 @@ use schema::EntryRef;
 /// page was read: taking one fails only when out of memory.
 #[derive(Debug, Drop)]
 pub struct DataPage<'a> {
-    entries: Vec<EntryRef<'a>>,
+    repetitions: LevelList,
+    definitions: LevelList,
+    /// The leaf's greatest definition level: the entries at it have a value.
+    greatest: u32,
+    values: PageValues<'a>,
     index: usize,
-    taken: EntryRef<'a>,
+    /// The entry that was taken last.
+    repetition: u32,
+    definition: u32,
+    has_value: bool,
 }
 
 impl<'a> DataPage<'a> {
     ghost use Rattle.schema.specs.Borrowed.{entry_ref_view};
-    ghost use Rattle.pages.specs.Left.{entries_left, entry_taken, Shows, Advances};
+    ghost use Rattle.pages.specs.Left.{levels_of, values_left, entries_by, entries_left, entry_taken, Shows, Advances};
+
+    /// The entries of these levels; those at the greatest definition level have the values, in turn.
+    pub(crate) fn of(
+        greatest: u32,
+        repetitions: LevelList,
+        definitions: LevelList,
+        values: PageValues<'a>,
+    ) -> DataPage<'a>
+        ensures { entries_left result ≡ entries_by greatest (levels_of repetitions) (levels_of definitions) (values_left values.entry) }
+    {
+        DataPage {
+            repetitions,
+            definitions,
+            greatest,
+            values,
+            index: 0,
+            repetition: 0,
+            definition: 0,
+            has_value: false,
+        }
+    }
 
     /// How many entries are not taken yet.
     pub fn len(&self) -> usize
         ensures { result ≡ length (entries_left self.now) }
     {
-        self.entries.len().saturating_sub(self.index)
+        let entries = self.repetitions.len().min(self.definitions.len());
+        entries.saturating_sub(self.index)
     }
 
     /// The levels of the next entry, repetition first, or none at the end. No entry is taken.
     pub fn peek(&self) -> Option<(u32, u32)>
         ensures { Shows (entries_left self.now) result }
     {
-        match self.entries.as_slice().get(self.index) {
-            None => None,
-            Some(entry) => Some((entry.repetition, entry.definition)),
+        let repetition = self.repetitions.get(self.index);
+        let definition = self.definitions.get(self.index);
+        match (repetition, definition) {
+            (Some(repetition), Some(definition)) => Some((repetition, definition)),
+            _ => None,
         }
     }
 
@@ -40,14 +73,17 @@ impl<'a> DataPage<'a> {
     pub fn advance(&mut self) -> Result<bool, Fault>
         ensures { Advances self.old self.new result }
     {
-        match self.entries.as_slice().get(self.index) {
-            None => Ok(false),
-            Some(entry) => {
-                self.taken = *entry;
-                self.index += 1;
-                Ok(true)
-            }
-        }
+        let repetition = self.repetitions.get(self.index);
+        let definition = self.definitions.get(self.index);
+        let (Some(repetition), Some(definition)) = (repetition, definition) else {
+            return Ok(false);
+        };
+        let is_full = definition == self.greatest;
+        self.has_value = self.values.advance_where(is_full)?;
+        self.repetition = repetition;
+        self.definition = definition;
+        self.index += 1;
+        Ok(true)
     }
 
     /// The entry that was taken last. Its value lies in the bytes of the chunk, in those of its
@@ -55,6 +91,15 @@ impl<'a> DataPage<'a> {
     pub fn entry(&self) -> EntryRef<'_>
         ensures { entry_ref_view result ≡ entry_taken self.now }
     {
-        self.taken
+        let value = if self.has_value {
+            Some(self.values.value())
+        } else {
+            None
+        };
+        EntryRef {
+            repetition: self.repetition,
+            definition: self.definition,
+            value,
+        }
     }
 }

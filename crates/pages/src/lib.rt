@@ -2,26 +2,34 @@
 //!
 //! `specs/Page.antt` says which page the bytes at a front are (`IsPage`), `specs/Chunk.antt` which entries
 //! the pages of a chunk hold, `specs/Encodings.antt` has the table of encodings, `specs/Limits.antt` what is
-//! beyond a limit and what is not read yet, `specs/Apart.antt` what one page says of every other page of the
-//! same bytes. `specs/Writing.antt` says what a written page weighs, and which entries are not written,
-//! `specs/Headers.antt` which header it has. `specs/Worked.antt` has pages made by hand.
+//! beyond a limit, `specs/Apart.antt` what one page says of every other page of the
+//! same bytes. `specs/Writing.antt` says what a written page stands for and weighs, `specs/Headers.antt` which
+//! bytes it has, and `specs/WrittenValues.antt` which bytes its values have. `specs/Worked.antt` has pages made by hand.
 #![tactic(auto)]
 
+mod body_reading;
 mod data_page;
 mod dictionary_page_writing;
 mod encoding;
 mod header_writing;
 mod index_page_writing;
+mod indexed_values;
 mod laws;
+mod level_list;
+mod level_reading;
 mod level_writing;
 mod limits;
 mod page;
 mod page_reading;
+mod page_values;
 mod page_version;
 mod page_writing;
 mod parts_writing;
 mod plain_page_writing;
 mod section_writing;
+mod shared_values;
+mod value_checks;
+mod value_reading;
 mod value_writing;
 mod written_entries;
 

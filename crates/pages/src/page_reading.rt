@@ -8,12 +8,14 @@ ghost use Rattle.metadata.specs.FromTree.{page_header};
 ghost use Rattle.metadata.specs.Records.{PageHeader as PageHeaderShown};
 ghost use Rattle.metadata.specs.Answers.{StandsFor};
 ghost use Rattle.metadata.specs.Views.{page_header_view};
-ghost use Rattle.pages.specs.Page.{IsPage, IsFramed};
+ghost use Rattle.pages.specs.Page.{Page, IsPage, IsBody, IsFramed};
 ghost use Rattle.pages.specs.Chunk.{entries_of};
-ghost use Rattle.pages.specs.Limits.{IsPageOver, IsOfPages};
+ghost use Rattle.pages.specs.Limits.{IsBodyOver, IsPageOver, IsOfPages};
 ghost use Rattle.pages.specs.Apart.{IsOnlyPage, IsPageOfAtMost};
 ghost use Rattle.pages.specs.Views.{page_view, dictionary_view};
 
+use crate::body_reading::{read_data_page_v1, read_data_page_v2, read_dictionary};
+use crate::laws::one_page;
 use crate::page::PageRef;
 use bits::{R, Refusal};
 use metadata::{DATA_PAGE, DATA_PAGE_V2, DICTIONARY_PAGE, PageHeader, one_page_header};
@@ -52,7 +54,11 @@ pub fn read_page<'a>(
     ensures limit { result ≡ Err Refusal.Limit → IsPageOver (leaf_view leaf.now) bytes.now }
     ensures which { RefusedOnly IsOfPages result }
 {
-    Err(Refusal::Memory)
+    one_page_header();
+    one_page();
+    let (header, body, used) = read_frame(alloc, bytes)?;
+    let page = read_body(alloc, &header, body, leaf, dictionary, left)?;
+    Ok((page, used))
 }
 
 /// The header at the front of the bytes, the body after it, and how many bytes both take.
@@ -91,5 +97,47 @@ fn read_header(alloc: Global, bytes: &[u8]) -> R<(PageHeader, usize)>
     match PageHeader::read(alloc, bytes) {
         Err(Refusal::Truncated) => Err(Refusal::Page),
         read => read,
+    }
+}
+
+/// What the body of a page stands for.
+fn read_body<'a>(
+    alloc: Global,
+    header: &PageHeader,
+    body: &'a [u8],
+    leaf: &Leaf,
+    dictionary: Option<&[ValueRef<'a>]>,
+    left: usize,
+) -> R<PageRef<'a>>
+    ensures stands { let d = dictionary_view dictionary.entry in IfOk result (λ p. IsBody (leaf_view leaf.now) d (page_header_view header.now) body.now (page_view p)) }
+    ensures at_most_left { IfOk result (λ p. length (entries_of (page_view p)) ≤ left) }
+    ensures within_limits { OnOk result (IsBodyOver (leaf_view leaf.now) (page_header_view header.now) body.now → ⊥) }
+    ensures only { let d = dictionary_view dictionary.entry in OnFault result ((page : Page) → IsBody (leaf_view leaf.now) d (page_header_view header.now) body.now page → length (entries_of page) ≤ left → ⊥) }
+    ensures limit { result ≡ Err Refusal.Limit → IsBodyOver (leaf_view leaf.now) (page_header_view header.now) body.now }
+    ensures which { RefusedOnly IsOfPages result }
+{
+    match header.kind {
+        DATA_PAGE => match &header.data_page_header {
+            Some(own) => {
+                let page = read_data_page_v1(alloc, own, body, leaf, dictionary, left)?;
+                Ok(PageRef::Data(page))
+            }
+            None => Err(Refusal::Thrift),
+        },
+        DATA_PAGE_V2 => match &header.data_page_header_v2 {
+            Some(own) => {
+                let page = read_data_page_v2(alloc, own, body, leaf, dictionary, left)?;
+                Ok(PageRef::Data(page))
+            }
+            None => Err(Refusal::Thrift),
+        },
+        DICTIONARY_PAGE => match &header.dictionary_page_header {
+            Some(own) => {
+                let values = read_dictionary(alloc, own, leaf.leaf_type.kind, body)?;
+                Ok(PageRef::Dictionary(values))
+            }
+            None => Err(Refusal::Thrift),
+        },
+        _ => Ok(PageRef::Skipped(body)),
     }
 }

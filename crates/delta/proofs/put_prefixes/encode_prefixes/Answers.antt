@@ -14,8 +14,8 @@ returns-clause-stands g c =
     (c.deref.ensures.value ∙ c.in_ok-prefixes.ensures.prefixes) (ap (λ t. map value_ref_view t) c.deref-2.ensures.value ∙ c.in_ok-prefixes.ensures.suffixes)
     (from_ok c.put_parts-done.result (sym c.is_err.ensures.value ∙ c.if-is_err.false) c.put_parts-done.ensures.put)
 
-pub returns-clause-longest : goal.returns-clause-longest
-returns-clause-longest g c =
+pub returns-clause-short : goal.returns-clause-short
+returns-clause-short g c =
     prefixed_short (map g.V.Lends.lent c.args.values.now) c.deref.result.now (map value_ref_view c.deref-2.result.now) c.args.out.now.items c.put_parts-done.new.out.items
     (c.deref.ensures.value ∙ c.in_ok-prefixes.ensures.prefixes) (ap (λ t. map value_ref_view t) c.deref-2.ensures.value ∙ c.in_ok-prefixes.ensures.suffixes)
     (from_ok c.put_parts-done.result (sym c.is_err.ensures.value ∙ c.if-is_err.false) c.put_parts-done.ensures.put)

@@ -1,0 +1,45 @@
+//! The levels of the entries of a page.
+
+ghost use Rattle.std.specs.Prelude.{◌≡◌, ℕ, ◌<◌, length, filter, ◌==◌, slice_get, IfSome};
+
+/// One level for each entry of a page. Where all are 0, only their count is held.
+#[derive(Debug, Drop)]
+pub enum LevelList {
+    Zeros(usize),
+    Listed(Vec<u32>),
+}
+
+impl LevelList {
+    ghost use Rattle.pages.specs.Left.{levels_of};
+
+    /// The level at an index.
+    pub fn get(&self, index: usize) -> Option<u32>
+        ensures level { result ≡ slice_get (levels_of self.now) index }
+        ensures within { IfSome result (λ _. index < usize.MAX) }
+    {
+        match self {
+            LevelList::Zeros(count) => { if index < *count { Some(0) } else { None } }
+            LevelList::Listed(levels) => levels.as_slice().get(index).copied(),
+        }
+    }
+
+    /// How many levels there are.
+    pub fn len(&self) -> usize
+        ensures { result ≡ length (levels_of self.now) }
+    {
+        match self {
+            LevelList::Zeros(count) => *count,
+            LevelList::Listed(levels) => levels.len(),
+        }
+    }
+
+    /// How many of the levels are this one.
+    pub fn count_of(&self, level: u32) -> usize
+        ensures { result ≡ length (filter (λ l. l == level) (levels_of self.now)) }
+    {
+        match self {
+            LevelList::Zeros(count) => { if level == 0 { *count } else { 0 } }
+            LevelList::Listed(levels) => levels.iter().filter(|l| **l == level).count(),
+        }
+    }
+}

@@ -1,0 +1,86 @@
+//! The values of a data page.
+
+ghost use Rattle.std.specs.Prelude.{◌≡◌};
+
+use bits::Fault;
+use delta::Prefixed;
+use schema::ValueRef;
+
+/// The values of a data page that are not taken yet: a list of them, or those that share prefixes, of
+/// which only the one that was taken last is held.
+#[derive(Debug, Drop)]
+pub enum PageValues<'a> {
+    Listed(ListedValues<'a>),
+    Shared(Prefixed<'a>),
+}
+
+/// Values, the first `index` of which are taken.
+#[derive(Debug, Drop)]
+pub struct ListedValues<'a> {
+    values: Vec<ValueRef<'a>>,
+    index: usize,
+    taken: ValueRef<'a>,
+}
+
+impl<'a> PageValues<'a> {
+    ghost use Rattle.std.specs.Prelude.{map};
+    ghost use Rattle.schema.specs.Borrowed.{value_ref_view};
+    ghost use Rattle.pages.specs.Left.{values_left, value_taken, TakesValue, TakesWhere};
+
+    /// These values, none of which is taken.
+    pub fn of(values: Vec<ValueRef<'a>>) -> PageValues<'a>
+        ensures { values_left result ≡ map value_ref_view values.entry.items }
+    {
+        PageValues::Listed(ListedValues {
+            values,
+            index: 0,
+            taken: ValueRef::Null,
+        })
+    }
+
+    /// Takes the next value, if there is one: [`value`](PageValues::value) is that one from then on. It
+    /// fails only when out of memory, and then nothing is taken.
+    fn advance(&mut self) -> Result<bool, Fault>
+        ensures { TakesValue self.old self.new result }
+    {
+        match self {
+            PageValues::Listed(values) => Ok(values.advance()),
+            PageValues::Shared(values) => values.advance(),
+        }
+    }
+
+    /// Takes the next value, if there is one, for an entry that is full; for another one it takes none.
+    pub fn advance_where(&mut self, full: bool) -> Result<bool, Fault>
+        ensures { TakesWhere full self.old self.new result }
+    {
+        if full { self.advance() } else { Ok(false) }
+    }
+
+    /// The value that was taken last.
+    pub fn value(&self) -> ValueRef<'_>
+        ensures { value_ref_view result ≡ value_taken self.now }
+    {
+        match self {
+            PageValues::Listed(values) => values.taken,
+            PageValues::Shared(values) => ValueRef::Bytes(values.value()),
+        }
+    }
+}
+
+impl<'a> ListedValues<'a> {
+    ghost use Rattle.pages.specs.Left.{TakesListed};
+
+    /// Takes the next value, if there is one.
+    fn advance(&mut self) -> bool
+        ensures { TakesListed self.old self.new result }
+    {
+        match self.values.as_slice().get(self.index) {
+            None => false,
+            Some(value) => {
+                self.taken = *value;
+                self.index += 1;
+                true
+            }
+        }
+    }
+}

@@ -1,0 +1,99 @@
+//! Whether values are a leaf's.
+
+ghost use Rattle.std.specs.Prelude.{◌≡◌, ◌⊎◌, ◌&&◌, ◌==◌, ℕ, All, List, map, length, true, OnOk, IsTrue};
+ghost use Rattle.std.specs.Option.{option_map_or};
+ghost use Rattle.std.specs.Str.{is_utf8};
+ghost use Rattle.bits.specs.Refusals.{OnFault, RefusedOnly};
+ghost use Rattle.schema.specs.Borrowed.{value_ref_view};
+ghost use Rattle.schema.specs.Fits.{fits_kind, fits_leaf, is_valid_text, are_bytes};
+ghost use Rattle.schema.specs.Views.{leaf_type_view};
+ghost use Rattle.plain.specs.Plain.{IsOfKind};
+ghost use Rattle.pages.specs.inner.Reading.{AllFit};
+
+use bits::{R, Refusal};
+use plain::what_is_of_a_kind_fits_it;
+use schema::{Kind, LeafType, ValueRef};
+use simdutf8::basic::from_utf8;
+
+/// Refused Utf8 where values of the leaf's physical type should be text and one of them is not.
+pub fn check_texts(leaf_type: &LeafType, values: &[ValueRef<'_>]) -> R<()>
+    requires { All (IsOfKind leaf_type.now.kind) (map value_ref_view values.now) }
+    ensures fit { OnOk result (AllFit (leaf_type_view leaf_type.now) (map value_ref_view values.now)) }
+    ensures only { OnFault result (AllFit (leaf_type_view leaf_type.now) (map value_ref_view values.now) → ⊥) }
+    ensures which { RefusedOnly (λ e. (e ≡ Refusal.Value) ⊎ (e ≡ Refusal.Utf8)) result }
+{
+    what_is_of_a_kind_fits_it();
+    if leaf_type.is_text() {
+        return check_values(leaf_type, values);
+    }
+    Ok(())
+}
+
+/// Refused where a value is not the leaf's, as [`check_value`] refuses it.
+pub fn check_values(leaf_type: &LeafType, values: &[ValueRef<'_>]) -> R<()>
+    ensures fit { OnOk result (AllFit (leaf_type_view leaf_type.now) (map value_ref_view values.now)) }
+    ensures only { OnFault result (AllFit (leaf_type_view leaf_type.now) (map value_ref_view values.now) → ⊥) }
+    ensures which { RefusedOnly (λ e. (e ≡ Refusal.Value) ⊎ (e ≡ Refusal.Utf8)) result }
+{
+    for value in values {
+        check_value(leaf_type, *value)?;
+    }
+    Ok(())
+}
+
+/// Refused Value where the value is not of the leaf's physical type, and Utf8 where it should be text
+/// and is not.
+pub fn check_value(leaf_type: &LeafType, value: ValueRef<'_>) -> R<()>
+    ensures fit { OnOk result (IsTrue (fits_leaf (leaf_type_view leaf_type.now) (value_ref_view value.entry))) }
+    ensures only { OnFault result (IsTrue (fits_leaf (leaf_type_view leaf_type.now) (value_ref_view value.entry)) → ⊥) }
+    ensures which { RefusedOnly (λ e. (e ≡ Refusal.Value) ⊎ (e ≡ Refusal.Utf8)) result }
+{
+    if !is_of_kind(leaf_type.kind, value) {
+        return Err(Refusal::Value);
+    }
+    if leaf_type.is_text() && !is_text(value) {
+        return Err(Refusal::Utf8);
+    }
+    Ok(())
+}
+
+/// Whether a value is of a physical type: numbers within its bits, bytes of its length.
+pub fn is_of_kind(kind: Kind, value: ValueRef<'_>) -> bool
+    ensures { result ≡ fits_kind kind (value_ref_view value.entry) }
+{
+    match (kind, value) {
+        (Kind::Boolean, ValueRef::Bool(_)) => true,
+        (Kind::Int32, ValueRef::Int(number)) => i32::try_from(number).is_ok(),
+        (Kind::Int64, ValueRef::Int(_)) => true,
+        (Kind::ByteArray, ValueRef::Bytes(bytes)) => has_length(bytes, None),
+        (Kind::FixedLenByteArray(size), ValueRef::Bytes(bytes)) => has_length(bytes, Some(size)),
+        _ => false,
+    }
+}
+
+/// Whether bytes are of the wanted length, where one is.
+fn has_length(bytes: &[u8], wanted: Option<u32>) -> bool
+    ensures { result ≡ (option_map_or (λ n. length bytes.now == n) wanted true && are_bytes bytes.now) }
+{
+    match wanted {
+        Some(wanted) => bytes.len() as u64 == u64::from(wanted),
+        None => true,
+    }
+}
+
+/// Whether a value is text.
+pub fn is_text(value: ValueRef<'_>) -> bool
+    ensures { result ≡ is_valid_text (value_ref_view value.entry) }
+{
+    match value {
+        ValueRef::Bytes(bytes) => is_utf8(bytes),
+        _ => false,
+    }
+}
+
+/// Whether bytes are UTF-8.
+fn is_utf8(bytes: &[u8]) -> bool
+    ensures { result ≡ is_utf8 bytes.now }
+{
+    from_utf8(bytes).is_ok()
+}
