@@ -76,7 +76,7 @@ const FILES: [(&[Piece], &[Piece], &str); 20] = [
         ],
         "9 Page",
     ),
-    // BOOLEAN in RLE, and 8 fixed bytes in DELTA_BYTE_ARRAY: not read yet.
+    // BOOLEAN in RLE, and 8 fixed bytes in DELTA_BYTE_ARRAY, of bytes that are none.
     (
         PAGE_IN_RLE,
         &[
@@ -86,7 +86,7 @@ const FILES: [(&[Piece], &[Piece], &str); 20] = [
             New(&[0x00]),
             From(71, 108),
         ],
-        "13 Limit",
+        "1 Truncated",
     ),
     (
         PAGE_IN_DELTA_BYTE_ARRAY,
@@ -97,13 +97,13 @@ const FILES: [(&[Piece], &[Piece], &str); 20] = [
             New(&[0x0E]),
             From(71, 108),
         ],
-        "13 Limit",
+        "11 Value",
     ),
-    // INT64 in DELTA_BINARY_PACKED: not read yet either.
+    // INT64 in DELTA_BINARY_PACKED, of bytes that are none.
     (
         &[From(0, 14), New(&[0x0A]), From(15, 37)],
         FOOTER,
-        "13 Limit",
+        "11 Value",
     ),
     // INT64 in RLE, in DELTA_BYTE_ARRAY, in BIT_PACKED, in BYTE_STREAM_SPLIT, and in number 10.
     (PAGE_IN_RLE, FOOTER, "8 Encoding"),

@@ -1,5 +1,5 @@
 use bits::{R, Refusal};
-use footer::{read_file, read_footer, read_rows};
+use footer::{FileReader, read_file, read_footer};
 use schema::{Annotation, ConvertedType, Row, Value};
 use std::alloc::Global;
 use std::test::*;
@@ -145,7 +145,8 @@ fn two_rows_and_no_rows_are_read(rt: HostRuntime) -> Result<(), Fail> {
 
 /// The values of this many rows of a file, made one by one, and those of the rows that are left.
 fn parted(alloc: Global, bytes: &[u8], count: usize) -> R<(String, String)> {
-    let (_, mut rows) = read_rows(alloc, bytes)?;
+    let file = FileReader::new(alloc, bytes)?;
+    let mut rows = file.rows(alloc);
     let mut taken = Vec::new(alloc);
     for _ in 0..count {
         if let Some(row) = rows.next()? {

@@ -27,6 +27,8 @@ mod faults;
 #[cfg(test)]
 mod files;
 #[cfg(test)]
+mod files_of_all_kinds;
+#[cfg(test)]
 mod filters;
 #[cfg(test)]
 mod hybrid_runs;

@@ -10,6 +10,5 @@ pub mod Greatest
 pub mod Writing
 pub mod WrittenValues
 pub mod Headers
-pub mod inner
 pub mod Worked
 pub mod inner

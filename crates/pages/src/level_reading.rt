@@ -199,7 +199,7 @@ fn are_within(levels: &[u32], greatest: u32) -> bool
 }
 
 /// How many binary digits a level that is above 0 has.
-fn width_of(level: u32) -> u32
+pub fn width_of(level: u32) -> u32
     requires { 0 < level }
     ensures holds { level < 2 ^ result }
     ensures least { 2 ^ result ≤ 2 * level }

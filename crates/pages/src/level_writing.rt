@@ -1,6 +1,6 @@
 //! Sections of levels, from entries to bytes.
 
-ghost use Rattle.std.specs.Prelude.{◌≡◌, ◌+◌, ◌*◌, ◌^◌, ◌<◌, ◌≤◌, map, length, IfOk, OnOk};
+ghost use Rattle.std.specs.Prelude.{◌≡◌, ◌+◌, ◌*◌, ◌<◌, ◌≤◌, map, length, IfOk, OnOk};
 ghost use Rattle.std.specs.List.{AllByRecursion};
 ghost use Rattle.bits.specs.Refusals.{RefusedMemoryOnly};
 ghost use Rattle.schema.specs.Borrowed.{entry_ref_view};
@@ -11,6 +11,7 @@ ghost use Rattle.pages.specs.Page.{repetitions, definitions};
 ghost use Rattle.pages.specs.inner.Put.{Puts, AreSections};
 
 use crate::header_writing::SectionSizes;
+use crate::level_reading::width_of;
 use crate::written_entries::{definitions_of, repetitions_of};
 use bits::R;
 use schema::{EntryRef, Leaf};
@@ -73,14 +74,4 @@ fn put_levels(greatest: u32, levels: &[u32], out: &mut Vec<u8>) -> R<()>
     ensures which { RefusedMemoryOnly result }
 {
     hybrid_rle::encode(width_of(greatest), levels, out)
-}
-
-/// How many binary digits the number has.
-fn width_of(greatest: u32) -> u32
-    requires { 0 < greatest }
-    ensures within { result ≤ 32 }
-    ensures holds { greatest < 2 ^ result }
-    ensures least { 2 ^ result ≤ 2 * greatest }
-{
-    greatest.ilog2() + 1
 }

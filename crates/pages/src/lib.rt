@@ -3,9 +3,9 @@
 //! `specs/Page.antt` says which page the bytes at a front are (`IsPage`), `specs/Chunk.antt` which entries
 //! the pages of a chunk hold, `specs/Encodings.antt` has the table of encodings, `specs/Limits.antt` what is
 //! beyond a limit, `specs/Left.antt` which entries a data page still has to give, `specs/Apart.antt` what one
-//! page says of every other page of the same bytes. `specs/Writing.antt` says what a written page weighs,
-//! and which entries are not written, `specs/Headers.antt` which header it has. `specs/Worked.antt` has
-//! pages made by hand.
+//! page says of every other page of the same bytes. `specs/Writing.antt` says what a written page stands for
+//! and weighs, `specs/Headers.antt` which bytes it has, and `specs/WrittenValues.antt` which bytes its values
+//! have. `specs/Worked.antt` has pages made by hand.
 #![tactic(auto)]
 
 mod body_reading;

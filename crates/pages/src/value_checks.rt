@@ -58,7 +58,7 @@ pub fn check_value(leaf_type: &LeafType, value: ValueRef<'_>) -> R<()>
 }
 
 /// Whether a value is of a physical type: numbers within its bits, bytes of its length.
-fn is_of_kind(kind: Kind, value: ValueRef<'_>) -> bool
+pub fn is_of_kind(kind: Kind, value: ValueRef<'_>) -> bool
     ensures { result ≡ fits_kind kind (value_ref_view value.entry) }
 {
     match (kind, value) {
@@ -82,7 +82,7 @@ fn has_length(bytes: &[u8], wanted: Option<u32>) -> bool
 }
 
 /// Whether a value is text.
-fn is_text(value: ValueRef<'_>) -> bool
+pub fn is_text(value: ValueRef<'_>) -> bool
     ensures { result ≡ is_valid_text (value_ref_view value.entry) }
 {
     match value {

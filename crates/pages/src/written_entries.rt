@@ -1,20 +1,18 @@
 //! The entries that a page is written of.
 
-ghost use Rattle.std.specs.Prelude.{◌≡◌, ◌==◌, ◌≤◌, ◌⊎◌, ◌&&◌, map, length, vec_len, IfOk, IfErr, OnOk, OnErr, true};
-ghost use Rattle.std.specs.Option.{option_map_or};
+ghost use Rattle.std.specs.Prelude.{◌≡◌, ◌≤◌, ◌⊎◌, map, length, vec_len, IfOk, IfErr, OnOk, OnErr};
 ghost use Rattle.std.specs.List.{AllByRecursion};
-ghost use Rattle.std.specs.Str.{is_utf8};
 ghost use Rattle.bits.specs.Refusals.{RefusedMemoryOnly};
 ghost use Rattle.schema.specs.Borrowed.{value_ref_view, entry_ref_view};
-ghost use Rattle.schema.specs.Fits.{fits_kind, fits_leaf, is_valid_text, are_bytes};
+ghost use Rattle.schema.specs.Fits.{fits_leaf};
 ghost use Rattle.schema.specs.Law.{IsEntryOf};
 ghost use Rattle.schema.specs.Views.{leaf_type_view, leaf_view};
 ghost use Rattle.pages.specs.Headers.{rows_in};
 ghost use Rattle.pages.specs.Page.{repetitions, definitions, values};
 
+use crate::value_checks::{is_of_kind, is_text};
 use bits::{R, Refusal};
-use schema::{EntryRef, Kind, Leaf, LeafType, ValueRef};
-use simdutf8::basic::from_utf8;
+use schema::{EntryRef, Leaf, LeafType, ValueRef};
 use std::alloc::Global;
 
 /// Refused Levels or Value exactly when an entry is none of the leaf's.
@@ -52,49 +50,6 @@ fn is_value_of(leaf_type: &LeafType, value: ValueRef<'_>) -> bool
     ensures { result ≡ fits_leaf (leaf_type_view leaf_type.now) (value_ref_view value.entry) }
 {
     is_of_kind(leaf_type.kind, value) && (!leaf_type.is_text() || is_text(value))
-}
-
-/// Whether a value is of a type: numbers within its bits, bytes of its length.
-fn is_of_kind(kind: Kind, value: ValueRef<'_>) -> bool
-    ensures { result ≡ fits_kind kind (value_ref_view value.entry) }
-{
-    match (kind, value) {
-        (Kind::Boolean, ValueRef::Bool(_)) => true,
-        (Kind::Int32, ValueRef::Int(number)) => i32::try_from(number).is_ok(),
-        (Kind::Int64, ValueRef::Int(_)) => true,
-        (Kind::ByteArray, ValueRef::Bytes(bytes)) => has_length(bytes, None),
-        (Kind::FixedLenByteArray(length), ValueRef::Bytes(bytes)) => {
-            has_length(bytes, Some(length))
-        }
-        _ => false,
-    }
-}
-
-/// Whether bytes are of the wanted length, where one is.
-fn has_length(bytes: &[u8], wanted: Option<u32>) -> bool
-    ensures { result ≡ (option_map_or (λ n. length bytes.now == n) wanted true && are_bytes bytes.now) }
-{
-    match wanted {
-        Some(wanted) => bytes.len() as u64 == u64::from(wanted),
-        None => true,
-    }
-}
-
-/// Whether a value is text.
-fn is_text(value: ValueRef<'_>) -> bool
-    ensures { result ≡ is_valid_text (value_ref_view value.entry) }
-{
-    match value {
-        ValueRef::Bytes(bytes) => is_utf8(bytes),
-        _ => false,
-    }
-}
-
-/// Whether bytes are UTF-8.
-fn is_utf8(bytes: &[u8]) -> bool
-    ensures { result ≡ is_utf8 bytes.now }
-{
-    from_utf8(bytes).is_ok()
 }
 
 /// The values of the entries that have one.
