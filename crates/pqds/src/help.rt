@@ -47,12 +47,11 @@ The file is refused, with status 1 and one line on standard error, by one of the
     7 Int96        an INT96 column, whose path follows
     8 Encoding     an encoding that is not known, or not for this type or place
     9 Page         a page or chunk whose sizes, offsets or counts cannot be
-    10 Levels      the columns have not as many values as there are rows
+    10 Levels      no rows have the columns' levels, or not as many as the row group says
     11 Value       bytes that are no value in their encoding
     12 Utf8        text that is not UTF-8
-    13 Limit       the file goes beyond a limit, or holds what is not read yet: more than one row group or page
-                   to a chunk, pages of version 2, dictionaries, optional, repeated or nested columns, other
-                   encodings than PLAIN
+    13 Limit       the file goes beyond a limit: 2147483647 bytes, a footer of 16 MiB, 1024 columns, 32 fields on
+                   the path of one, 16777216 rows of a group or entries of a column in it, a value of 16 MiB
     25 Device      the file cannot be read, or standard output not be written
     28 Memory      there was no memory left
 
