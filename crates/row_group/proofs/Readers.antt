@@ -79,7 +79,7 @@ nothing_short r over es h = h.short over
 abbrev Refused : ChunkReader → PagesLeft → Fault → Type 0
 Refused r pages f =
     Refuses (chunk_stands r) (option_map refusal_of r.fault) (refusal_of f)
-    × Same (chunk_stands r) (chunk_stands (reader pages r.page (kept_fault f)))
+    × Same (chunk_stands r) (chunk_stands (reader pages None (kept_fault f)))
     × Keeps (option_map refusal_of r.fault) (option_map refusal_of (kept_fault f)) (refusal_of f)
 
 again : (r : ChunkReader) (f : Fault) → r.fault ≡ None → NothingStands (chunk_stands r) → (refusal_of f ≡ refusal.Memory → ⊥) → Refuses (chunk_stands r) (option_map refusal_of r.fault) (refusal_of f)
@@ -92,10 +92,10 @@ again r f sound none not = subst (λ (o : Option Fault). Refuses (chunk_stands r
 pub refused : (r : ChunkReader) (pages : PagesLeft) (f : Fault) → r.fault ≡ None → page_left r.page ≡ [] → IsRefusedAt (pages_view r.pages) (pages_view pages) (refusal_of f) → Refused r pages f
 refused r pages fault.Memory sound none p = (tt, memory r pages sound none p, sym (ap (λ (o : Option Fault). option_map refusal_of o) sound))
   where
-    memory : (r : ChunkReader) (pages : PagesLeft) → r.fault ≡ None → page_left r.page ≡ [] → Passes (pages_view r.pages) (pages_view pages) [] → Same (chunk_stands r) (chunk_stands (reader pages r.page None))
-    memory r pages sound none p = moved r pages r.page None refl none (subst (Passes (pages_view r.pages) (pages_view pages)) (sym none) p) sound
-refused r pages fault.Limit sound none p = let n = nothing_short r p in (again r fault.Limit sound n (λ e. cc), same_nothing r pages r.page fault.Limit n, refl)
-refused r pages f sound none p = let n = nothing_stands r p.1 in (again r f sound n (λ e. cc), same_nothing r pages r.page f n, refl)
+    memory : (r : ChunkReader) (pages : PagesLeft) → r.fault ≡ None → page_left r.page ≡ [] → Passes (pages_view r.pages) (pages_view pages) [] → Same (chunk_stands r) (chunk_stands (reader pages None None))
+    memory r pages sound none p = moved r pages None None refl none p sound
+refused r pages fault.Limit sound none p = let n = nothing_short r p in (again r fault.Limit sound n (λ e. cc), same_nothing r pages None fault.Limit n, refl)
+refused r pages f sound none p = let n = nothing_stands r p.1 in (again r f sound n (λ e. cc), same_nothing r pages None f n, refl)
 
 -- ---- an entry is taken
 

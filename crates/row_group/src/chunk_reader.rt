@@ -74,6 +74,7 @@ impl<'a> ChunkReader<'a> {
         if self.page_len() > 0 {
             return Ok(());
         }
+        self.page = None;
         match self.pages.next_page() {
             Ok(page) => {
                 self.page = page;
