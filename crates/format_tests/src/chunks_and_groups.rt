@@ -97,13 +97,6 @@ fn read_both(alloc: Global, num_rows: i64, first: ColumnMeta) -> R<Vec<Row>> {
     read_group(alloc, bytes.as_slice(), &group, &fields(alloc)?)
 }
 
-/// The same, where they are still to come.
-fn rows_of_both(alloc: Global) -> R<Rows> {
-    let group = group_of(alloc, 2, integers(alloc)?)?;
-    let bytes = front(alloc)?;
-    Rows::of_group(alloc, bytes.as_slice(), &group, &fields(alloc)?)
-}
-
 /// The integers' column, from these bytes.
 fn read_first(alloc: Global, bytes: &[u8], meta: &ColumnMeta) -> R<(Column, usize)> {
     let schema = fields(alloc)?;
@@ -128,7 +121,10 @@ fn two_columns_are_two_rows(rt: HostRuntime) -> Result<(), Fail> {
 #[test]
 fn rows_come_one_by_one(rt: HostRuntime) -> Result<(), Fail> {
     let alloc = rt.alloc();
-    let mut rows = rows_of_both(alloc)?;
+    let group = group_of(alloc, 2, integers(alloc)?)?;
+    let bytes = front(alloc)?;
+    let schema = fields(alloc)?;
+    let mut rows = Rows::of_group(alloc, bytes.as_slice(), &group, &schema)?;
     for expected in [
         "Some(Row { values: [Int(1), Bytes([97])] })",
         "Some(Row { values: [Int(300), Bytes([98, 99])] })",
@@ -145,7 +141,10 @@ fn rows_come_one_by_one(rt: HostRuntime) -> Result<(), Fail> {
 #[test]
 fn the_rows_that_are_left_are_collected(rt: HostRuntime) -> Result<(), Fail> {
     let alloc = rt.alloc();
-    let mut rows = rows_of_both(alloc)?;
+    let group = group_of(alloc, 2, integers(alloc)?)?;
+    let bytes = front(alloc)?;
+    let schema = fields(alloc)?;
+    let mut rows = Rows::of_group(alloc, bytes.as_slice(), &group, &schema)?;
     let first = rows.next()?;
     assert!(rt; first.is_some());
     let rest = rows.collected()?;
@@ -210,14 +209,14 @@ fn a_page_that_lacks_an_entry_is_refused_page(rt: HostRuntime) -> Result<(), Fai
 }
 
 #[test]
-fn a_second_page_is_refused_limit(rt: HostRuntime) -> Result<(), Fail> {
+fn a_second_page_past_the_count_is_refused_page(rt: HostRuntime) -> Result<(), Fail> {
     let alloc = rt.alloc();
     let mut meta = integers(alloc)?;
     meta.num_values = 3;
     let mut bytes = Vec::from_slice(alloc, INTEGERS.as_slice())?;
     bytes.extend_from_slice(&INTEGERS)?;
     let answer = read_first(alloc, bytes.as_slice(), &meta);
-    assert!(rt; matches!(&answer, Err(Refusal::Limit)));
+    assert!(rt; matches!(&answer, Err(Refusal::Page)));
     Ok(())
 }
 

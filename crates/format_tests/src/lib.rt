@@ -9,6 +9,8 @@ mod assembling;
 #[cfg(test)]
 mod chunks_and_groups;
 #[cfg(test)]
+mod chunks_of_several_pages;
+#[cfg(test)]
 mod codecs;
 #[cfg(test)]
 mod copies;

@@ -1,5 +1,5 @@
 -- A reader of a whole chunk.
-use Rattle.std.proofs.Common.{◌≡◌, ℕ, List, [], ◌++◌, Option, None, refl, sym, ap, subst, ◌∙◌}
+use Rattle.std.proofs.Common.{◌≡◌, ℕ, List, None, refl, sym, subst}
 use Rattle.std.specs.Prelude.{◌↔◌}
 use Rattle.schema.specs.Stripe.{Leaf, Entry}
 use Rattle.metadata.specs.Records.{ColumnMeta}

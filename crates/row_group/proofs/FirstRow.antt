@@ -1,8 +1,7 @@
 -- The first row of columns is the first of their rows.
-use Rattle.std.proofs.Common.{◌≡◌, ℕ, suc, ◌≤◌, ◌-◌, true, List, [], ◌∷◌, ◌++◌, map, length, drop, refl, sym, ap, subst, ◌∙◌, arith, inl, inr, Option}
+use Rattle.std.proofs.Common.{◌≡◌, ℕ, List, [], ◌∷◌, ◌++◌, map, length, drop, refl, sym, ap, subst, ◌∙◌, arith, inl, inr}
 use Rattle.std.proofs.Math.Seq.{drop-append_seam}
 use Rattle.std.proofs.lemmas.List.{append-nil, append_cancel_left}
-use Rattle.bits.specs.declared.refusal.Refusal.{Refusal}
 use Rattle.schema.specs.Values.{ValueTrees, group}
 use Rattle.schema.specs.Shape.{Fields}
 use Rattle.schema.specs.Fits.{RowsFit}
@@ -11,7 +10,6 @@ use Rattle.schema.specs.Law.{IsSchema}
 use Rattle.schema.proofs.LeafLaws.{Way, IsLeafFrom, Mem, leaf_is_listed_from}
 use Rattle.schema.proofs.Determined.{Ends, column_ends, determined_each, At-whole}
 use Rattle.assemble.specs.Columns.{Columns, level, AreAlike, Fronts}
-use Rattle.assemble.specs.RowsOf.{IsFirstRow}
 
 -- ---- one leaf of the columns
 

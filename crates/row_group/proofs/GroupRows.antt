@@ -1,5 +1,5 @@
 -- The rows of a group, by the readers of its chunks.
-use Rattle.std.proofs.Common.{◌≡◌, ℕ, suc, ◌-◌, ◌<◌, false, List, [], ◌∷◌, map, length, Option, Some, None, Result, Ok, Err, refl, sym, ap, subst, ◌∙◌, arith, inl, inr}
+use Rattle.std.proofs.Common.{◌≡◌, ℕ, ◌<◌, List, [], ◌∷◌, length, Some, None, Ok, refl, sym, ap, subst, ◌∙◌, arith, inl, inr}
 use Rattle.std.specs.Prelude.{pos, ◌<ℤ◌}
 use Rattle.bits.specs.declared.refusal.Refusal.{Refusal}
 use Rattle.bits.specs.declared.refusal.Refusal.TheVariants as refusal
@@ -7,11 +7,10 @@ use Rattle.bits.specs.Refusals.{IsFault, HasCause}
 use Rattle.schema.specs.declared.row.Row.{Row}
 use Rattle.schema.specs.Values.{ValueTrees}
 use Rattle.schema.specs.Shape.{Fields}
-use Rattle.schema.specs.Fits.{RowsFit}
 use Rattle.schema.specs.Stripe.{Leaf, Entry, leaves_of, columns}
 use Rattle.schema.specs.Views.{row_view}
 use Rattle.schema.specs.Law.{IsSchema, ColumnsDetermineRows}
-use Rattle.metadata.specs.Records.{ColumnMeta, ChunkMeta, GroupMeta}
+use Rattle.metadata.specs.Records.{ChunkMeta, GroupMeta}
 use Rattle.assemble.specs.Columns.{Columns, Tells}
 use Rattle.assemble.specs.Standing.{AllStand, IsRefusedFor}
 use Rattle.assemble.specs.RowsOf.{StandForRows, HasFault, NextRow}
@@ -19,10 +18,10 @@ use Rattle.assemble.proofs.WholeColumns.{only_faults}
 use Rattle.row_group.specs.declared.chunk_reader.ChunkReader.{ChunkReader}
 use Rattle.row_group.specs.Chunks.{AreChunks, GroupMeans}
 use Rattle.row_group.specs.Greatest.{most_rows}
-use Rattle.row_group.specs.Limits.{IsChunkOver, HasColumn, BeginsWith, IsGroupOver, many_rows, large_chunk, IsOfChunks}
+use Rattle.row_group.specs.Limits.{IsGroupOver, many_rows, large_chunk, IsOfChunks}
 use Rattle.row_group.specs.Laws.{FilesHoldOneColumn}
-use Rattle.row_group.specs.Left.{ChunkStands, chunk_stands}
-use Rattle.row_group.specs.inner.Readers.{EachChunk, IsReaderOf, AreReaders, AreSound, HasRows, AreRowsOfGroup, CountsRows, refusal_kept}
+use Rattle.row_group.specs.Left.{chunk_stands}
+use Rattle.row_group.specs.inner.Readers.{AreReaders, AreSound, HasRows, AreRowsOfGroup, CountsRows, refusal_kept}
 use Rattle.row_group.proofs.OneRest.{PagesAreOne, ChunksAreOne, one_reader}
 use Rattle.row_group.proofs.OneMeaning.{one_columns}
 use Rattle.row_group.proofs.InOrder.{sound_chunks, no_column_over}

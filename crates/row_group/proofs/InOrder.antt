@@ -1,5 +1,5 @@
 -- The chunks of a group, one by one.
-use Rattle.std.proofs.Common.{◌≡◌, ℕ, zero, suc, ◌+◌, ◌<◌, ◌≤◌, Some, None, List, [], ◌∷◌, ◌++◌, map, length, get_or, drop, refl, sym, ap, subst, ◌∙◌, arith, append_assoc}
+use Rattle.std.proofs.Common.{◌≡◌, ℕ, zero, suc, ◌+◌, ◌<◌, ◌≤◌, Some, List, [], ◌∷◌, ◌++◌, map, length, get_or, drop, refl, sym, subst, arith, append_assoc}
 use Rattle.std.specs.Prelude.{slice_get}
 use Rattle.std.proofs.lemmas.List.{append-nil, at_drop_all}
 use Rattle.schema.specs.Shape.{Fields}
@@ -7,7 +7,7 @@ use Rattle.schema.specs.Stripe.{Leaf, Entry, leaves_of}
 use Rattle.metadata.specs.Records.{ColumnMeta, ChunkMeta, GroupMeta}
 use Rattle.row_group.specs.Chunks.{ColumnMeans, AreChunks}
 use Rattle.row_group.specs.Limits.{IsChunkOver, HasColumn, BeginsWith}
-use Rattle.row_group.specs.inner.Readers.{EachChunk, IsSound, AreSound}
+use Rattle.row_group.specs.inner.Readers.{EachChunk, AreSound}
 use Rattle.row_group.proofs.Places.{reads}
 
 -- `done` is so of the chunks before these and their leaves

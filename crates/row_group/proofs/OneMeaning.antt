@@ -2,13 +2,11 @@
 use Rattle.std.proofs.Common.{◌≡◌, ℕ, List, [], ◌∷◌, length, drop, Option, Some, None, refl, sym, ap, subst, ◌∙◌}
 use Rattle.std.specs.Prelude.{ℤ, pos, negsuc}
 use Rattle.bits.specs.Codec.{IsFunctional}
-use Rattle.schema.specs.Values.{ValueTrees}
-use Rattle.schema.specs.Shape.{Fields}
 use Rattle.schema.specs.Stripe.{Leaf, Entry, leaves_of, columns}
-use Rattle.schema.specs.Law.{IsSchema, ColumnsDetermineRows}
-use Rattle.metadata.specs.Records.{ColumnMeta, ChunkMeta, GroupMeta}
+use Rattle.schema.specs.Law.{ColumnsDetermineRows}
+use Rattle.metadata.specs.Records.{ColumnMeta, ChunkMeta}
 use Rattle.pages.specs.Chunk.{IsChunk}
-use Rattle.row_group.specs.Chunks.{ChunkMeans, first_page, StartsAt, ColumnMeans, AreChunks, GroupMeans}
+use Rattle.row_group.specs.Chunks.{ChunkMeans, first_page, StartsAt, AreChunks}
 use Rattle.row_group.specs.Laws.{ChunksHoldOneColumn, FilesHoldOneColumn, GroupsHaveOneList}
 
 abbrev pub PagesHoldOneColumn : Type 0

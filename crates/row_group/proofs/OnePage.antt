@@ -1,7 +1,7 @@
 -- Chunks of one page, or of none.
 use Rattle.std.proofs.Common.{◌≡◌, ℕ, ◌<◌, List, [], ◌∷◌, length, take, None, refl, sym, subst, arith}
 use Rattle.std.proofs.lemmas.List.{append-nil}
-use Rattle.schema.specs.Stripe.{Leaf, Entry}
+use Rattle.schema.specs.Stripe.{Leaf}
 use Rattle.pages.specs.Page.{Page, skipped, dictionary, entries, IsPage}
 use Rattle.pages.specs.Chunk.{entries_of, all_entries, IsChunk}
 

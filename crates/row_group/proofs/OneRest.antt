@@ -1,12 +1,12 @@
 -- What is left of a chunk holds one list of entries.
-use Rattle.std.proofs.Common.{◌≡◌, ℕ, suc, ◌+◌, ◌<◌, List, [], ◌∷◌, ◌++◌, map, filter, length, take, drop, Option, None, refl, sym, ap, subst, ◌∙◌, arith}
+use Rattle.std.proofs.Common.{◌≡◌, ℕ, suc, ◌+◌, ◌<◌, List, [], ◌∷◌, ◌++◌, map, length, take, drop, Option, refl, sym, ap, subst, ◌∙◌, arith}
 use Rattle.std.proofs.lemmas.List.{length-append}
 use Rattle.bits.specs.Codec.{IsFunctional, InTurn}
 use Rattle.schema.specs.Values.{ValueTree}
 use Rattle.schema.specs.Stripe.{Leaf, Entry}
 use Rattle.pages.specs.Page.{Page, entries, IsPage}
-use Rattle.pages.specs.Chunk.{is_read, entries_of, all_entries, IsChunk}
-use Rattle.row_group.specs.Rest.{Known, nothing, known, ChunkLeft, IsKnown, AreNext, HoldsRest}
+use Rattle.pages.specs.Chunk.{entries_of, all_entries, IsChunk}
+use Rattle.row_group.specs.Rest.{Known, nothing, known, ChunkLeft, IsKnown, HoldsRest}
 use Rattle.row_group.specs.declared.chunk_reader.ChunkReader.{ChunkReader}
 use Rattle.row_group.specs.Left.{page_left, pages_view, ChunkStands}
 

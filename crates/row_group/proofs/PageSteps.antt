@@ -1,21 +1,19 @@
 -- One page after the other.
-use Rattle.std.proofs.Common.{◌≡◌, ℕ, ◌+◌, ◌<◌, ◌≤◌, List, [], ◌∷◌, ◌++◌, length, drop, Option, Some, None, Result, Ok, Err, refl, sym, ap, subst, ◌∙◌, arith}
+use Rattle.std.proofs.Common.{◌≡◌, ℕ, ◌<◌, List, [], drop, Option, Some, None, Result, Ok, Err, refl, sym, ap, subst, ◌∙◌}
 use Rattle.std.specs.Result.{IsErrAnd}
 use Rattle.bits.specs.Codec.{NothingStands}
 use Rattle.bits.specs.Faults.{refusal_of}
 use Rattle.bits.specs.Refusals.{IsFault, HasCause}
 use Rattle.bits.specs.declared.fault.Fault.{Fault}
-use Rattle.bits.specs.declared.fault.Fault.TheVariants as fault
 use Rattle.bits.specs.declared.refusal.Refusal.{Refusal}
 use Rattle.bits.specs.declared.refusal.Refusal.TheVariants as refusal
-use Rattle.schema.specs.Stripe.{Leaf, Entry}
+use Rattle.schema.specs.Stripe.{Leaf}
 use Rattle.pages.specs.declared.data_page.DataPage.{DataPage}
 use Rattle.pages.specs.Page.{Page}
 use Rattle.pages.specs.Chunk.{entries_of}
-use Rattle.pages.specs.Left.{entries_left}
 use Rattle.pages.specs.Limits.{IsPageOver, IsOfPages}
 use Rattle.pages.specs.Apart.{DictionaryIsNotRead, IsPageOfAtMost}
-use Rattle.row_group.specs.Rest.{Known, dictionary_of, ChunkLeft, HoldsRest}
+use Rattle.row_group.specs.Rest.{Known, dictionary_of, ChunkLeft}
 use Rattle.row_group.specs.inner.Pages.{Passes, IsRefusedAt, ReadsPage, NextPage, MayCome, known_after, IsAfter, TakesPage}
 use Rattle.row_group.proofs.NextPages.{after, IsHere, passes_page, nothing_after, nothing_here, over_here, passes_none, passes_then}
 

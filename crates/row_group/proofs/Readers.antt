@@ -1,5 +1,5 @@
 -- A reader of a chunk, entry by entry.
-use Rattle.std.proofs.Common.{◌≡◌, ℕ, ◌+◌, ◌<◌, Bool, true, false, List, [], ◌∷◌, ◌++◌, length, Option, Some, None, Result, Ok, Err, option_map, refl, sym, ap, subst, ◌∙◌, arith}
+use Rattle.std.proofs.Common.{◌≡◌, ℕ, ◌+◌, Bool, true, false, List, [], ◌∷◌, ◌++◌, length, Option, Some, None, Result, Ok, Err, option_map, refl, sym, ap, subst, ◌∙◌, arith}
 use Rattle.bits.specs.Faults.{refusal_of}
 use Rattle.bits.specs.declared.fault.Fault.{Fault}
 use Rattle.bits.specs.declared.fault.Fault.TheVariants as fault
@@ -11,10 +11,10 @@ use Rattle.pages.specs.Left.{entries_left, entry_taken, Shows as PageShows, Adva
 use Rattle.assemble.specs.Sources.{NothingStands, StandsOnly, Same, Precede, Refuses, Keeps, Begins, Shows}
 use Rattle.row_group.specs.declared.pages_left.PagesLeft.{PagesLeft}
 use Rattle.row_group.specs.declared.chunk_reader.ChunkReader.{ChunkReader}
-use Rattle.row_group.specs.Rest.{ChunkLeft, HoldsRest, HasRestOver}
-use Rattle.row_group.specs.Left.{pages_view, page_left, ChunkStands, chunk_stands}
+use Rattle.row_group.specs.Rest.{HoldsRest, HasRestOver}
+use Rattle.row_group.specs.Left.{pages_view, page_left, chunk_stands}
 use Rattle.row_group.specs.inner.Pages.{Passes, IsRefusedAt, NextPage}
-use Rattle.row_group.specs.inner.Readers.{kept_fault, Fills, AdvancesReader}
+use Rattle.row_group.specs.inner.Readers.{kept_fault, AdvancesReader}
 use Rattle.row_group.proofs.NextPages.{holds_nothing}
 
 pub empty : {A : Type 0} (xs : List A) → length xs ≡ 0 → xs ≡ []
@@ -79,7 +79,7 @@ nothing_short r over es h = h.short over
 abbrev Refused : ChunkReader → PagesLeft → Fault → Type 0
 Refused r pages f =
     Refuses (chunk_stands r) (option_map refusal_of r.fault) (refusal_of f)
-    × Same (chunk_stands r) (chunk_stands (reader pages r.page (kept_fault f)))
+    × Same (chunk_stands r) (chunk_stands (reader pages None (kept_fault f)))
     × Keeps (option_map refusal_of r.fault) (option_map refusal_of (kept_fault f)) (refusal_of f)
 
 again : (r : ChunkReader) (f : Fault) → r.fault ≡ None → NothingStands (chunk_stands r) → (refusal_of f ≡ refusal.Memory → ⊥) → Refuses (chunk_stands r) (option_map refusal_of r.fault) (refusal_of f)
@@ -92,10 +92,10 @@ again r f sound none not = subst (λ (o : Option Fault). Refuses (chunk_stands r
 pub refused : (r : ChunkReader) (pages : PagesLeft) (f : Fault) → r.fault ≡ None → page_left r.page ≡ [] → IsRefusedAt (pages_view r.pages) (pages_view pages) (refusal_of f) → Refused r pages f
 refused r pages fault.Memory sound none p = (tt, memory r pages sound none p, sym (ap (λ (o : Option Fault). option_map refusal_of o) sound))
   where
-    memory : (r : ChunkReader) (pages : PagesLeft) → r.fault ≡ None → page_left r.page ≡ [] → Passes (pages_view r.pages) (pages_view pages) [] → Same (chunk_stands r) (chunk_stands (reader pages r.page None))
-    memory r pages sound none p = moved r pages r.page None refl none (subst (Passes (pages_view r.pages) (pages_view pages)) (sym none) p) sound
-refused r pages fault.Limit sound none p = let n = nothing_short r p in (again r fault.Limit sound n (λ e. cc), same_nothing r pages r.page fault.Limit n, refl)
-refused r pages f sound none p = let n = nothing_stands r p.1 in (again r f sound n (λ e. cc), same_nothing r pages r.page f n, refl)
+    memory : (r : ChunkReader) (pages : PagesLeft) → r.fault ≡ None → page_left r.page ≡ [] → Passes (pages_view r.pages) (pages_view pages) [] → Same (chunk_stands r) (chunk_stands (reader pages None None))
+    memory r pages sound none p = moved r pages None None refl none p sound
+refused r pages fault.Limit sound none p = let n = nothing_short r p in (again r fault.Limit sound n (λ e. cc), same_nothing r pages None fault.Limit n, refl)
+refused r pages f sound none p = let n = nothing_stands r p.1 in (again r f sound n (λ e. cc), same_nothing r pages None f n, refl)
 
 -- ---- an entry is taken
 
@@ -155,3 +155,11 @@ page_shows old r page (Some levels) f is h = (ap (λ (x : Option Fault). option_
     begins : (xs es rest : List Entry) → es ≡ xs ++ rest → PageShows xs (Some levels) → Begins es levels.0 levels.1
     begins [] es rest e h = absurd h
     begins (x ∷ xs) es rest e h = subst (λ (t : List Entry). Begins t levels.0 levels.1) (sym e) h
+
+-- ---- no entry is left
+
+pub none_taken : (old r : ChunkReader) → Filled old r → r.page ≡ None → AdvancesReader old r (Ok false)
+none_taken old r f is = let s = f.3 (ap page_left is) in (f.0, f.1, (f.2.1 [] s.0, λ es t. s.1 es (f.2.0 es t)), f.2)
+
+pub none_shows : (old r : ChunkReader) → Filled old r → r.page ≡ None → Shows (chunk_stands old) (option_map refusal_of old.fault) (Ok None)
+none_shows old r f is = let s = f.3 (ap page_left is) in (ap (λ (x : Option Fault). option_map refusal_of x) f.0, (f.2.1 [] s.0, λ es t. s.1 es (f.2.0 es t)))

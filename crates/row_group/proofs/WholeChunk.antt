@@ -1,20 +1,20 @@
 -- A whole chunk, by its pages.
-use Rattle.std.proofs.Common.{◌≡◌, ℕ, ◌+◌, ◌-◌, ◌<◌, ◌≤◌, List, [], ◌∷◌, ◌++◌, map, length, take, drop, Option, Some, None, refl, sym, ap, subst, ◌∙◌, arith}
-use Rattle.std.specs.Prelude.{pos, ◌<ℤ◌, ◌↔◌}
+use Rattle.std.proofs.Common.{◌≡◌, ℕ, ◌+◌, ◌-◌, ◌<◌, ◌≤◌, List, [], ◌∷◌, ◌++◌, map, length, take, refl, sym, ap, subst, ◌∙◌, arith}
+use Rattle.std.specs.Prelude.{pos, ◌<ℤ◌}
 use Rattle.std.proofs.lemmas.Int.{ints}
 use Rattle.std.proofs.lemmas.List.{append-nil, length-drop}
-use Rattle.bits.specs.Codec.{InTurn, NothingStands}
+use Rattle.bits.specs.Codec.{NothingStands}
 use Rattle.bits.specs.Refusals.{IsFault, HasCause}
 use Rattle.bits.specs.declared.refusal.Refusal.{Refusal}
 use Rattle.bits.specs.declared.refusal.Refusal.TheVariants as refusal
 use Rattle.schema.specs.Stripe.{Leaf, Entry}
 use Rattle.metadata.specs.Records.{ColumnMeta}
-use Rattle.pages.specs.Page.{Page, entries, IsPage}
-use Rattle.pages.specs.Chunk.{dictionary_page, all_entries, IsChunk}
+use Rattle.pages.specs.Page.{Page, entries}
+use Rattle.pages.specs.Chunk.{dictionary_page, all_entries}
 use Rattle.pages.specs.Limits.{IsOfPages}
 use Rattle.row_group.specs.Chunks.{IsChunkOf, ChunkMeans}
 use Rattle.row_group.specs.Greatest.{most_entries}
-use Rattle.row_group.specs.Limits.{HasPageOver, IsChunkOver, many_entries, long_value, IsOfChunks}
+use Rattle.row_group.specs.Limits.{IsChunkOver, many_entries, long_value, IsOfChunks}
 use Rattle.row_group.specs.Rest.{ChunkLeft, all_pages, AreNext, HoldsRest, HasRestOver}
 use Rattle.row_group.specs.inner.Pages.{Passes, PassesAll, IsRefusedAt, IsRefusedWithin}
 use Rattle.row_group.proofs.NextPages.{holds_nothing}

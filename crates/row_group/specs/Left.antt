@@ -1,13 +1,14 @@
 -- What readers of chunks and groups still have to give.
-use Rattle.std.specs.Prelude.{◌≡◌, ℕ, Bool, false, List, [], ◌∷◌, ◌++◌, map, length, Option, None, Some, option_map, unwrap_or, Result, Ok, Err}
+use Rattle.std.specs.Prelude.{◌≡◌, ◌↔◌, ℕ, Bool, false, List, [], ◌∷◌, ◌++◌, map, length, Option, None, Some, option_map, unwrap_or, Result, Ok, Err}
 use Rattle.bits.specs.declared.refusal.Refusal.{Refusal}
 use Rattle.bits.specs.declared.refusal.Refusal.TheVariants.{Memory}
 use Rattle.schema.specs.declared.row.Row.{Row}
 use Rattle.schema.specs.Values.{ValueTrees}
-use Rattle.schema.specs.Stripe.{Entry}
+use Rattle.schema.specs.Stripe.{Leaf, Entry}
 use Rattle.schema.specs.Law.{IsSchema}
 use Rattle.schema.specs.Borrowed.{value_ref_view}
 use Rattle.schema.specs.Views.{leaf_view, row_view}
+use Rattle.metadata.specs.Records.{ColumnMeta}
 use Rattle.pages.specs.declared.data_page.DataPage.{DataPage}
 use Rattle.pages.specs.Left.{entries_left}
 use Rattle.assemble.specs.RowsOf.{StandForRows}
@@ -16,6 +17,8 @@ use Rattle.row_group.specs.declared.pages_left.Dictionary.TheVariants.{Open, Abs
 use Rattle.row_group.specs.declared.pages_left.PagesLeft.{PagesLeft}
 use Rattle.row_group.specs.declared.chunk_reader.ChunkReader.{ChunkReader}
 use Rattle.row_group.specs.declared.rows.Rows.{Rows}
+use Rattle.row_group.specs.Chunks.{ChunkMeans}
+use Rattle.row_group.specs.Limits.{IsChunkOver}
 use Rattle.row_group.specs.Rest.{Known, nothing, known, ChunkLeft, HoldsRest, HasRestOver}
 
 abbrev pub known_view : Dictionary → Known
@@ -42,6 +45,10 @@ pub record ChunkStands (r : ChunkReader) (es : List Entry) : Type 0 where
 
 abbrev pub chunk_stands : ChunkReader → List Entry → Type 0
 chunk_stands = ChunkStands
+
+-- the reader stands for the entries of the chunk, where its record and its pages are within the limits
+abbrev pub StandsForChunk : ColumnMeta → Leaf → List ℕ → ChunkReader → Type 0
+StandsForChunk m leaf bytes r = (es : List Entry) → chunk_stands r es ↔ (((used : ℕ) × ChunkMeans m leaf bytes es used) × (IsChunkOver m leaf bytes → ⊥))
 
 -- the rows that are still to come: as many as are counted, which fit, and for whose columns the readers stand
 pub record RowsStand (r : Rows) (rows : List ValueTrees) : Type 0 where

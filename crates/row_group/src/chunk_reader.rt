@@ -1,17 +1,16 @@
 //! The entries of a chunk, one by one.
 
-ghost use Rattle.std.specs.Prelude.{◌≡◌, ◌≢◌, ◌<ℤ◌, ◌↔◌, ℕ, pos, List, length, IfOk, Err, option_map};
+ghost use Rattle.std.specs.Prelude.{◌≡◌, ◌≢◌, ◌<ℤ◌, pos, List, length, IfOk, Err, option_map};
 ghost use Rattle.bits.specs.Faults.{refusal_of};
 ghost use Rattle.bits.specs.Refusals.{OnFault, RefusedOnly};
 ghost use Rattle.bits.specs.Codec.{NothingStands};
-ghost use Rattle.schema.specs.Stripe.{Entry};
 ghost use Rattle.schema.specs.Borrowed.{entry_ref_view};
 ghost use Rattle.schema.specs.Views.{leaf_view};
 ghost use Rattle.metadata.specs.Views.{column_meta_view};
 ghost use Rattle.row_group.specs.Chunks.{ChunkMeans};
 ghost use Rattle.row_group.specs.Greatest.{most_entries};
-ghost use Rattle.row_group.specs.Limits.{IsChunkOver, IsOfChunks};
-ghost use Rattle.row_group.specs.Left.{page_left, chunk_stands};
+ghost use Rattle.row_group.specs.Limits.{IsOfChunks};
+ghost use Rattle.row_group.specs.Left.{page_left, chunk_stands, StandsForChunk};
 ghost use Rattle.row_group.specs.inner.Readers.{kept_fault, Fills, AdvancesReader, last_taken};
 
 use crate::chunk_record::check_record;
@@ -50,7 +49,7 @@ impl<'a> ChunkReader<'a> {
         meta: &ColumnMeta,
         leaf: &'a Leaf,
     ) -> R<ChunkReader<'a>>
-        ensures stands { IfOk result (λ r. (es : List Entry) → chunk_stands r es ↔ (((used : ℕ) × ChunkMeans (column_meta_view meta.now) (leaf_view leaf.now) bytes.now es used) × (IsChunkOver (column_meta_view meta.now) (leaf_view leaf.now) bytes.now → ⊥))) }
+        ensures stands { IfOk result (StandsForChunk (column_meta_view meta.now) (leaf_view leaf.now) bytes.now) }
         ensures only { OnFault result (NothingStands (ChunkMeans (column_meta_view meta.now) (leaf_view leaf.now) bytes.now)) }
         ensures limit { result ≡ Err Refusal.Limit → most_entries <ℤ (column_meta_view meta.now).num_values }
         ensures codec { result ≡ Err Refusal.Codec → (column_meta_view meta.now).codec ≢ pos 0 }
@@ -75,6 +74,7 @@ impl<'a> ChunkReader<'a> {
         if self.page_len() > 0 {
             return Ok(());
         }
+        self.page = None;
         match self.pages.next_page() {
             Ok(page) => {
                 self.page = page;

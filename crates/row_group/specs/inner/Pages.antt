@@ -1,5 +1,5 @@
 -- Pages that are read off what is left of a chunk.
-use Rattle.std.specs.Prelude.{◌≡◌, ℕ, ◌+◌, ◌<◌, ◌≤◌, List, [], ◌++◌, length, drop, Option, Some, None, Result, Ok, Err, OnSome}
+use Rattle.std.specs.Prelude.{◌≡◌, ℕ, ◌+◌, ◌<◌, ◌≤◌, List, [], ◌++◌, length, drop, Option, Some, None, Result, Ok, Err}
 use Rattle.bits.specs.Codec.{NothingStands}
 use Rattle.bits.specs.Faults.{refusal_of}
 use Rattle.bits.specs.declared.fault.Fault.{Fault}
@@ -12,7 +12,7 @@ use Rattle.pages.specs.Page.{Page, skipped, dictionary, entries}
 use Rattle.pages.specs.Chunk.{entries_of}
 use Rattle.pages.specs.Left.{entries_left}
 use Rattle.pages.specs.Limits.{IsOfPages}
-use Rattle.row_group.specs.Rest.{Known, nothing, known, dictionary_of, ChunkLeft, HoldsRest, HasRestOver}
+use Rattle.row_group.specs.Rest.{Known, known, dictionary_of, ChunkLeft, HoldsRest, HasRestOver}
 
 -- `new` is what is left of `old` after pages that hold these entries
 pub record Passes (old new : ChunkLeft) (es : List Entry) : Type 0 where

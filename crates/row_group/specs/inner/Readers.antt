@@ -28,10 +28,17 @@ abbrev pub kept_fault : Fault → Option Fault
 kept_fault fault.Memory = None
 kept_fault f = Some f
 
+-- a refusal: nothing is taken, and the fault is kept
+abbrev pub KeepsFault : ChunkReader → ChunkReader → Fault → Type 0
+KeepsFault old new f =
+    Refuses (chunk_stands old) (option_map refusal_of old.fault) (refusal_of f)
+    × Same (chunk_stands old) (chunk_stands new)
+    × Keeps (option_map refusal_of old.fault) (option_map refusal_of new.fault) (refusal_of f)
+
 -- an entry is there now, or none is left; what stood stands still. A refusal is kept, out of memory aside, and then nothing stood
 abbrev pub Fills : ChunkReader → ChunkReader → Result (Unit {0}) Fault → Type 0
 Fills old new (Ok x) = (old.fault ≡ None) × (new.fault ≡ None) × Same (chunk_stands old) (chunk_stands new) × (page_left new.page ≡ [] → StandsOnly (chunk_stands new) [])
-Fills old new (Err f) = Refuses (chunk_stands old) (option_map refusal_of old.fault) (refusal_of f) × Same (chunk_stands old) (chunk_stands new) × Keeps (option_map refusal_of old.fault) (option_map refusal_of new.fault) (refusal_of f)
+Fills old new (Err f) = KeepsFault old new f
 
 -- the entry that was taken last off the page
 abbrev pub last_taken : ChunkReader → Entry
@@ -41,7 +48,7 @@ last_taken r = unwrap_or (option_map entry_taken r.page) (record { repetition = 
 abbrev pub AdvancesReader : ChunkReader → ChunkReader → Result Bool Fault → Type 0
 AdvancesReader old new (Ok true) = (old.fault ≡ None) × (new.fault ≡ None) × Precede (last_taken new ∷ []) (chunk_stands old) (chunk_stands new)
 AdvancesReader old new (Ok false) = (old.fault ≡ None) × (new.fault ≡ None) × StandsOnly (chunk_stands old) [] × Same (chunk_stands old) (chunk_stands new)
-AdvancesReader old new (Err f) = Refuses (chunk_stands old) (option_map refusal_of old.fault) (refusal_of f) × Same (chunk_stands old) (chunk_stands new) × Keeps (option_map refusal_of old.fault) (option_map refusal_of new.fault) (refusal_of f)
+AdvancesReader old new (Err f) = KeepsFault old new f
 
 -- for each chunk and its leaf, in the order of the leaves, something that is so
 abbrev pub EachChunk : {X : Type 0} → (ColumnMeta → Leaf → X → Type 0) → List ChunkMeta → List Leaf → List X → Type 0

@@ -1,15 +1,14 @@
-use Rattle.std.proofs.Common.{◌≡◌, ℕ, List, length, map, ◌-◌, arith}
+use Rattle.std.proofs.Common.{arith}
 use Rattle.bits.specs.Refusals.{IsFault, HasCause}
 use Rattle.bits.specs.Codec.{NothingStands}
 use Rattle.bits.proofs.Passing.{passes}
-use Rattle.schema.specs.Stripe.{Entry}
-use Rattle.schema.specs.Views.{leaf_view, entry_view}
+use Rattle.schema.specs.Views.{leaf_view}
 use Rattle.metadata.specs.Views.{column_meta_view}
 use Rattle.row_group.specs.Chunks.{ChunkMeans}
 use Rattle.row_group.specs.Limits.{IsOfChunks}
 use Rattle.row_group.specs.Left.{pages_view}
 use Rattle.row_group.proofs.Passed.{passed_is}
-use Rattle.row_group.proofs.WholeChunk.{IsRecord, IsWhole, refused_which, chunk_refused, chunk_over, not_codec, chunk_whole, chunk_of_rest, passes_shorter, whole_alone, whole_short}
+use Rattle.row_group.proofs.WholeChunk.{IsRecord, refused_which, chunk_refused, chunk_over, not_codec, chunk_whole, chunk_of_rest, passes_shorter, whole_alone, whole_short}
 use Rattle.row_group.proofs.chunk_reading.read_chunk.Goals as goal
 
 pub returns-in_err-entries-clause-only : goal.returns-in_err-entries-clause-only

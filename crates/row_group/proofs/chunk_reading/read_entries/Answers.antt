@@ -1,8 +1,7 @@
-use Rattle.std.proofs.Common.{◌≡◌, List, map, [], ◌++◌, Option, Ok, sym, ap, subst, ◌∙◌}
+use Rattle.std.proofs.Common.{map, [], Option, Ok, sym, ap, subst}
 use Rattle.std.proofs.lemmas.List.{append-nil}
 use Rattle.bits.proofs.Passing.{passes}
 use Rattle.bits.specs.Faults.{refusal_of}
-use Rattle.schema.specs.Stripe.{Entry}
 use Rattle.schema.specs.Views.{entry_view}
 use Rattle.pages.specs.declared.data_page.DataPage.{DataPage}
 use Rattle.pages.specs.Left.{entries_left}

@@ -1,18 +1,12 @@
-use Rattle.std.proofs.Common.{◌≡◌, ℕ, List, sym, ap, subst, ◌∙◌}
-use Rattle.std.proofs.lemmas.Result.{IfOk-weaker, IfErr-weaker}
-use Rattle.bits.specs.declared.refusal.Refusal.{Refusal}
+use Rattle.std.proofs.Common.{List}
 use Rattle.bits.specs.Refusals.{IsFault}
-use Rattle.bits.specs.Codec.{NothingStands}
 use Rattle.bits.proofs.Passing.{passes}
 use Rattle.schema.specs.Stripe.{Entry}
 use Rattle.schema.specs.Views.{leaf_view}
 use Rattle.metadata.specs.Views.{column_meta_view}
-use Rattle.row_group.specs.declared.chunk_reader.ChunkReader.{ChunkReader}
-use Rattle.row_group.specs.Chunks.{ChunkMeans, ColumnMeans}
-use Rattle.row_group.specs.Limits.{IsChunkOver, many_entries}
-use Rattle.row_group.specs.inner.Readers.{IsReaderOf}
-use Rattle.row_group.proofs.Passed.{passed_is, passed}
-use Rattle.row_group.proofs.Starts.{IsStart, at_start, over_here, over_there, column_there, reader_is}
+use Rattle.row_group.specs.Chunks.{ColumnMeans}
+use Rattle.row_group.proofs.Passed.{passed}
+use Rattle.row_group.proofs.Starts.{IsStart, at_start, over_here, over_there, column_there}
 use Rattle.row_group.proofs.group_chunks.check_column.Goals as goal
 
 pub returns-in_err-start-clause-only : goal.returns-in_err-start-clause-only

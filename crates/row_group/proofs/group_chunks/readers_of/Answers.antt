@@ -1,14 +1,13 @@
-use Rattle.std.proofs.Common.{◌≡◌, ◌+◌, ◌<◌, List, [], ◌∷◌, ◌++◌, length, map, drop, sym, ap, subst, ◌∙◌, arith}
+use Rattle.std.proofs.Common.{◌+◌, ◌<◌, List, length, map, drop, sym, ap, subst, ◌∙◌, arith}
 use Rattle.std.specs.List.{slice_get}
 use Rattle.std.proofs.lemmas.List.{length-map, get_or-map}
 use Rattle.bits.specs.Refusals.{IsFault}
 use Rattle.bits.proofs.Passing.{passes}
 use Rattle.schema.specs.Stripe.{Leaf, Entry, leaves_of}
 use Rattle.schema.specs.Views.{leaf_view}
-use Rattle.metadata.specs.Views.{chunk_meta_view, group_meta_view}
-use Rattle.row_group.specs.declared.chunk_reader.ChunkReader.{ChunkReader}
+use Rattle.metadata.specs.Views.{chunk_meta_view}
 use Rattle.row_group.specs.Chunks.{AreChunks}
-use Rattle.row_group.specs.inner.Readers.{IsReaderOf, IsSound, EachChunk}
+use Rattle.row_group.specs.inner.Readers.{IsReaderOf, EachChunk}
 use Rattle.row_group.proofs.Places.{gets_here}
 use Rattle.row_group.proofs.Passed.{passed}
 use Rattle.row_group.proofs.InOrder.{UpTo, none_done, one_done, at_place, at_end, column_at, as_many}

@@ -1,18 +1,14 @@
-use Rattle.std.proofs.Common.{◌≡◌, ◌≢◌, ◌∙◌, ℕ, List, Result, Err, sym, ap, subst}
-use Rattle.std.proofs.lemmas.Result.{IfErr-weaker}
-use Rattle.bits.specs.Refusals.{IsFault, HasCause}
+use Rattle.std.proofs.Common.{◌≡◌, List, Result, Err, subst}
+use Rattle.bits.specs.Refusals.{IsFault}
 use Rattle.bits.specs.declared.refusal.Refusal.{Refusal}
 use Rattle.bits.proofs.Passing.{passes}
 use Rattle.schema.specs.Values.{ValueTrees}
-use Rattle.schema.specs.Stripe.{leaves_of}
 use Rattle.metadata.specs.Views.{group_meta_view}
 use Rattle.assemble.specs.Standing.{IsRefusedFor}
 use Rattle.assemble.specs.RowsOf.{HasFault}
 use Rattle.row_group.specs.declared.chunk_reader.ChunkReader.{ChunkReader}
-use Rattle.row_group.specs.Limits.{IsOfChunks}
 use Rattle.row_group.specs.Left.{chunk_stands}
-use Rattle.row_group.specs.inner.Readers.{AreReaders, AreRowsOfGroup, HasRows, CountsRows, refusal_kept}
-use Rattle.row_group.proofs.Passed.{passed}
+use Rattle.row_group.specs.inner.Readers.{AreRowsOfGroup, HasRows, CountsRows, refusal_kept}
 use Rattle.row_group.proofs.GroupRows.{counted_rows, same_count, no_rows, tells, tells_which, tells_no_limit, tells_no_codec}
 use Rattle.row_group.proofs.rows.check_rows.Goals as goal
 

@@ -1,7 +1,6 @@
-use Rattle.std.proofs.Common.{◌≡◌, ◌∙◌, ◌+◌, List, [], ◌∷◌, ◌++◌, Option, Some, None, Ok, length, sym, ap, subst, refl, arith}
+use Rattle.std.proofs.Common.{◌≡◌, ◌∙◌, [], ◌∷◌, ◌++◌, Option, Ok, sym, ap, subst, refl, arith}
 use Rattle.std.proofs.lemmas.List.{length-append}
 use Rattle.schema.specs.declared.row.Row.{Row}
-use Rattle.schema.specs.Fits.{RowsFit}
 use Rattle.schema.specs.Stripe.{columns}
 use Rattle.schema.specs.Views.{row_view}
 use Rattle.assemble.specs.Standing.{AllStand}

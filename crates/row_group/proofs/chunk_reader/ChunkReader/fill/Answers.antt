@@ -1,4 +1,4 @@
-use Rattle.std.proofs.Common.{◌≡◌, [], Option, length, sym, subst, ◌∙◌, arith}
+use Rattle.std.proofs.Common.{◌≡◌, [], Option, None, sym, subst, arith}
 use Rattle.bits.specs.declared.fault.Fault.{Fault}
 use Rattle.assemble.specs.Sources.{StandsOnly, Same, Keeps}
 use Rattle.bits.specs.Faults.{refusal_of}
@@ -24,5 +24,5 @@ returns-in-Err c =
     let pages = c.next_page.new.self in
     let none : page_left r.page ≡ [] = empty (page_left r.page) (omega (arith, c.page_len.ensures, c.if-page_len-gt0.false)) in
     let f = refused r pages c.in-Err.fault c.in_default.is none c.in-Err.ensures in
-    let kept = subst (λ (g : Option Fault). Same (chunk_stands r) (chunk_stands (reader pages r.page g)) × Keeps (option_map refusal_of r.fault) (option_map refusal_of g) (refusal_of c.in-Err.fault)) (sym c.kept-self.ensures) (f.1, f.2) in
+    let kept = subst (λ (g : Option Fault). Same (chunk_stands r) (chunk_stands (reader pages None g)) × Keeps (option_map refusal_of r.fault) (option_map refusal_of g) (refusal_of c.in-Err.fault)) (sym c.kept-self.ensures) (f.1, f.2) in
     (f.0, kept.0, kept.1)

@@ -1,7 +1,6 @@
-use Rattle.std.proofs.Common.{◌≡◌, ℕ, List, Option, Err, sym, ap, subst, ◌∙◌}
+use Rattle.std.proofs.Common.{ℕ, List, Option, Err, sym, ap, subst, ◌∙◌}
 use Rattle.bits.specs.Codec.{NothingStands}
 use Rattle.schema.specs.Values.{ValueTree}
-use Rattle.bits.specs.declared.refusal.Refusal.{Refusal}
 use Rattle.pages.specs.Page.{IsPage}
 use Rattle.pages.specs.Apart.{IsOnlyPage, IsPageOfAtMost}
 use Rattle.pages.specs.Views.{page_view}

@@ -3,7 +3,7 @@ use Rattle.std.proofs.lemmas.List.{map-append}
 use Rattle.schema.specs.declared.row.Row.{Row}
 use Rattle.schema.specs.Values.{ValueTrees}
 use Rattle.schema.specs.Views.{row_view, rows_view}
-use Rattle.row_group.specs.Left.{RowsStand, rows_stand, TakesRow}
+use Rattle.row_group.specs.Left.{rows_stand, TakesRow}
 use Rattle.row_group.proofs.rows.Rows.collected.Goals as goal
 
 pub rows-init : goal.rows-init
