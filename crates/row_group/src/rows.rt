@@ -5,19 +5,17 @@ ghost use Rattle.bits.specs.Refusals.{OnFault, RefusedOnly, RefusedMemoryOnly};
 ghost use Rattle.schema.specs.Values.{ValueTrees};
 ghost use Rattle.schema.specs.Views.{rows_view};
 ghost use Rattle.metadata.specs.Views.{group_meta_view};
-ghost use Rattle.assemble.specs.Standing.{IsRefusedFor};
-ghost use Rattle.assemble.specs.RowsOf.{HasFault};
 ghost use Rattle.row_group.specs.Chunks.{GroupMeans};
 ghost use Rattle.row_group.specs.Limits.{IsChunkOver, IsGroupOver, HasColumn, BeginsWith, HasCodec, IsOfChunks, IsReadable};
-ghost use Rattle.row_group.specs.Left.{chunk_stands, rows_stand, is_broken, TakesRow};
-ghost use Rattle.row_group.specs.inner.Readers.{HasRows, AreRowsOfGroup, CountsRows, refusal_kept};
+ghost use Rattle.row_group.specs.Left.{rows_stand, is_broken, TakesRow};
+ghost use Rattle.row_group.specs.inner.Readers.{HasRows, AreRowsOfGroup};
 
 use crate::chunk_reader::ChunkReader;
 use crate::counts::count_of;
 use crate::group_chunks::{check_chunks, readers_of};
 use crate::laws::one_meaning;
 use crate::limits::MOST_ROWS_OF_GROUP;
-use assemble::next_row;
+use assemble::{count_rows, next_row};
 use bits::{R, Refusal};
 use metadata::GroupMeta;
 use pages::one_page;
@@ -42,7 +40,7 @@ pub struct Rows<'a> {
 impl<'a> Rows<'a> {
     /// All rows of a group, from the bytes of its file before the footer.
     ///
-    /// The group is accepted whole: each page is decoded and checked, and each row is made and dropped,
+    /// The group is accepted whole: each page is decoded and checked, and its rows are counted,
     /// before the first row is given. So the bytes of its chunks are read twice until all rows came.
     ///
     /// Refused Page for a negative number of rows, or a chunk's negative offset; Limit for more than
@@ -151,7 +149,7 @@ impl<'a> Rows<'a> {
     }
 }
 
-/// Reads a group, and keeps nothing: each page is decoded and checked, and each row is made and dropped.
+/// Reads a group, and keeps nothing: each page is decoded and checked, and the rows are counted.
 /// Refused as [`Rows::of_group`]. (`parquet.thrift`, RowGroup.)
 pub fn check_group(alloc: Global, front: &[u8], meta: &GroupMeta, schema: &Schema) -> R<()>
     ensures stands { OnOk result ((rows : List ValueTrees) × IsReadable front.now schema.now (group_meta_view meta.now) rows) }
@@ -165,7 +163,7 @@ pub fn check_group(alloc: Global, front: &[u8], meta: &GroupMeta, schema: &Schem
     Ok(())
 }
 
-/// Makes the rows of a group, and drops them: there are this many, from chunks that are read to their
+/// Counts the rows of a group, and makes none: there are this many, from chunks that are read to their
 /// ends. Refused Levels for another number; otherwise as [`Rows::of_group`].
 fn check_rows(alloc: Global, front: &[u8], meta: &GroupMeta, schema: &Schema, count: usize) -> R<()>
     ensures stands { OnOk result (HasRows front.now schema.now (group_meta_view meta.now) count) }
@@ -177,26 +175,12 @@ fn check_rows(alloc: Global, front: &[u8], meta: &GroupMeta, schema: &Schema, co
     one_meaning();
     columns_determine_rows();
     let mut readers = readers_of(alloc, front, meta, schema)?;
-    match count_rows(alloc, schema, readers.as_mut_slice()) {
-        Ok(rows) if rows == count => Ok(()),
+    match count_rows(schema, readers.as_mut_slice()) {
+        Ok(rows) if rows == count as u64 => Ok(()),
         Ok(_) => Err(Refusal::Levels),
         Err(refusal) => {
             check_chunks(alloc, front, meta, schema)?;
             Err(refusal)
         }
     }
-}
-
-/// How many rows the readers give.
-fn count_rows(alloc: Global, schema: &Schema, readers: &mut [ChunkReader<'_>]) -> R<usize>
-    ensures stands { IfOk result (λ n. CountsRows schema.now readers.old n) }
-    ensures refused { IfErr result (IsRefusedFor chunk_stands refusal_kept readers.old readers.new (HasFault schema.now)) }
-{
-    'rows: for count in 0..usize::MAX {
-        let Some(_) = next_row(alloc, schema, readers)? else {
-            return Ok(count);
-        };
-    }
-    // Never reached: no group has as many rows.
-    Err(Refusal::Memory)
 }

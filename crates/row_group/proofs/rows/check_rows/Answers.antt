@@ -43,8 +43,8 @@ returns-clause-only c = λ fault rows k.
     let fs = c.args.schema.now in
     let g = group_meta_view c.args.meta.now in
     let rs = c.in_ok-readers.readers.items in
-    let new = c.count_rows.new.readers in
-    let refused = subst (λ (xs : List ChunkReader). IsRefusedFor chunk_stands refusal_kept xs new (HasFault fs) c.in-Err.refusal) c.as_mut_slice.ensures.value c.in-Err.ensures.refused in
+    let new = c.count_rows.new.sources in
+    let refused = subst (λ (xs : List ChunkReader). IsRefusedFor chunk_stands refusal_kept xs new (HasFault fs) c.in-Err.refusal) c.as_mut_slice.ensures.value c.in-Err.ensures.which in
     let sound = c.in_ok-check_chunks-in-Err.ensures.stands in
     no_rows c.args.front.now fs g c.args.count rs new sound.0 c.in-Err.refusal c.in_ok-readers.ensures.stands sound.1 refused fault rows k
 
@@ -53,8 +53,8 @@ returns-clause-limit c = λ limit.
     let fs = c.args.schema.now in
     let g = group_meta_view c.args.meta.now in
     let rs = c.in_ok-readers.readers.items in
-    let new = c.count_rows.new.readers in
-    let refused = subst (λ (xs : List ChunkReader). IsRefusedFor chunk_stands refusal_kept xs new (HasFault fs) c.in-Err.refusal) c.as_mut_slice.ensures.value c.in-Err.ensures.refused in
+    let new = c.count_rows.new.sources in
+    let refused = subst (λ (xs : List ChunkReader). IsRefusedFor chunk_stands refusal_kept xs new (HasFault fs) c.in-Err.refusal) c.as_mut_slice.ensures.value c.in-Err.ensures.which in
     let sound = c.in_ok-check_chunks-in-Err.ensures.stands in
     absurd (tells_no_limit c.in-Err.refusal (tells c.args.front.now fs g rs new sound.0 c.in-Err.refusal c.in_ok-readers.ensures.stands sound.1 refused) (err_is _ _ limit))
 
@@ -63,8 +63,8 @@ returns-clause-codec c = λ codec.
     let fs = c.args.schema.now in
     let g = group_meta_view c.args.meta.now in
     let rs = c.in_ok-readers.readers.items in
-    let new = c.count_rows.new.readers in
-    let refused = subst (λ (xs : List ChunkReader). IsRefusedFor chunk_stands refusal_kept xs new (HasFault fs) c.in-Err.refusal) c.as_mut_slice.ensures.value c.in-Err.ensures.refused in
+    let new = c.count_rows.new.sources in
+    let refused = subst (λ (xs : List ChunkReader). IsRefusedFor chunk_stands refusal_kept xs new (HasFault fs) c.in-Err.refusal) c.as_mut_slice.ensures.value c.in-Err.ensures.which in
     let sound = c.in_ok-check_chunks-in-Err.ensures.stands in
     absurd (tells_no_codec c.in-Err.refusal (tells c.args.front.now fs g rs new sound.0 c.in-Err.refusal c.in_ok-readers.ensures.stands sound.1 refused) (err_is _ _ codec))
 
@@ -73,7 +73,7 @@ returns-clause-which c =
     let fs = c.args.schema.now in
     let g = group_meta_view c.args.meta.now in
     let rs = c.in_ok-readers.readers.items in
-    let new = c.count_rows.new.readers in
-    let refused = subst (λ (xs : List ChunkReader). IsRefusedFor chunk_stands refusal_kept xs new (HasFault fs) c.in-Err.refusal) c.as_mut_slice.ensures.value c.in-Err.ensures.refused in
+    let new = c.count_rows.new.sources in
+    let refused = subst (λ (xs : List ChunkReader). IsRefusedFor chunk_stands refusal_kept xs new (HasFault fs) c.in-Err.refusal) c.as_mut_slice.ensures.value c.in-Err.ensures.which in
     let sound = c.in_ok-check_chunks-in-Err.ensures.stands in
     tells_which c.in-Err.refusal (tells c.args.front.now fs g rs new sound.0 c.in-Err.refusal c.in_ok-readers.ensures.stands sound.1 refused)
