@@ -19,7 +19,7 @@ use Rattle.metadata.specs.Records.{FileMeta, GroupMeta}
 use Rattle.metadata.specs.Weight as record_weight
 use Rattle.metadata.specs.Weight.{IsOfTheWriter}
 use Rattle.pages.specs.Writing.{page_weight}
-use Rattle.row_group.specs.Limits.{IsLeafToCome}
+use Rattle.row_group.specs.Writing.{IsLeafNotWritten}
 use Rattle.row_group.specs.Writing as group_limit
 use Rattle.row_group.specs.Writing.{IsGroupTooMuch, AreTaken}
 use Rattle.row_group.proofs.Laid.{each_short}
@@ -111,7 +111,7 @@ is_heavy fs o n rows front gs meta is p within some few long = record { groups =
 
 -- rows that are too much for a group are too much for the file
 pub too_much : (fs : Fields) (o : WriteOptions) (rows : List ValueTrees) → 1 ≤ o.group_rows → length rows ≤ o.group_rows → o.group_rows ≤ 1048576 → 0 < length rows
-    → IsGroupTooMuch 4 fs rows ⊎ Any IsLeafToCome (leaves_of fs) → IsTooMuch fs o rows ⊎ IsToBeWritten fs o rows
+    → IsGroupTooMuch 4 fs rows ⊎ Any IsLeafNotWritten (leaves_of fs) → IsTooMuch fs o rows ⊎ IsToBeWritten fs o rows
 too_much fs o rows some few large there (inl (group_limit.many_rows h)) = absurd (omega (ints, arith, h, few, large))
 too_much fs o [] some few large there (inl (group_limit.many_entries h)) = absurd (omega (arith, there))
 too_much fs o (row ∷ rows) some few large there (inl (group_limit.many_entries h)) =
@@ -125,7 +125,7 @@ too_much fs o rows some few large there (inr h) = inr (other_leaf there h)
 
 -- what is written is nothing that is still to be written
 pub all_built : (fs : Fields) (o : WriteOptions) (rows : List ValueTrees) → length rows ≤ o.group_rows → length rows ≤ o.page_rows → (o.page_version ≡ 2 → ⊥) → o.style ≡ Plain
-    → (0 < length rows → Any IsLeafToCome (leaves_of fs) → ⊥) → IsToBeWritten fs o rows → ⊥
+    → (0 < length rows → Any IsLeafNotWritten (leaves_of fs) → ⊥) → IsToBeWritten fs o rows → ⊥
 all_built fs o rows few short first plain none (many_groups h) = omega (arith, few, h)
 all_built fs o rows few short first plain none (many_pages h) = omega (arith, short, h)
 all_built fs o rows few short first plain none (second_version h) = first h

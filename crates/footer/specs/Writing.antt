@@ -10,7 +10,7 @@ use Rattle.plain.specs.Plain.{IsTooLong}
 use Rattle.pages.specs.Page.{values}
 use Rattle.pages.specs.Writing.{page_weight}
 use Rattle.row_group.specs.Greatest.{most_entries}
-use Rattle.row_group.specs.Limits.{IsLeafToCome}
+use Rattle.row_group.specs.Writing.{IsLeafNotWritten}
 use Rattle.row_group.specs.Writing.{AreTaken}
 use Rattle.footer.specs.Greatest.{most_of_file, most_of_footer}
 use Rattle.footer.specs.declared.options.Style.TheVariants.{Plain}
@@ -73,7 +73,7 @@ pub data IsToBeWritten (fs : Fields) (o : WriteOptions) (rows : List ValueTrees)
   many_pages : o.page_rows < length rows → IsToBeWritten fs o rows
   second_version : o.page_version ≡ 2 → IsToBeWritten fs o rows
   other_style : o.style ≢ Plain → IsToBeWritten fs o rows
-  other_leaf : 0 < length rows → Any IsLeafToCome (leaves_of fs) → IsToBeWritten fs o rows
+  other_leaf : 0 < length rows → Any IsLeafNotWritten (leaves_of fs) → IsToBeWritten fs o rows
 
 -- a reader takes the file, whose groups have so many rows each: it is within the limits, and so are its footer, the columns
 -- of each group and their values

@@ -31,7 +31,7 @@ impl<'a> FileReader<'a> {
 
     /// Accepts the bytes of a file, or refuses them.
     ///
-    /// Every page of every column is read and checked, and the rows are assembled and let go, so that a row
+    /// Every page of every column is read and checked, and the rows are counted, so that a row
     /// is later refused only for memory. What the footer says beside its schema, its groups and their
     /// chunks' places is not looked at: key-values, statistics, indexes, sizes, the file's number of rows.
     /// Time is linear in the bytes of the file and in the entries of all its chunks, with their bytes:

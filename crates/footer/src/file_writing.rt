@@ -9,7 +9,7 @@ ghost use Rattle.schema.specs.Shape.{Fields};
 ghost use Rattle.schema.specs.Stripe.{leaves_of};
 ghost use Rattle.schema.specs.Views.{rows_view};
 ghost use Rattle.metadata.specs.Views.{group_meta_view};
-ghost use Rattle.row_group.specs.Limits.{IsLeafToCome};
+ghost use Rattle.row_group.specs.Writing.{IsLeafNotWritten};
 ghost use Rattle.row_group.specs.Writing.{AreTaken, IsGroupTooMuch, IsOfRows};
 ghost use Rattle.footer.specs.File.{FileMeans};
 ghost use Rattle.footer.specs.Own.{groups_of, AppendsGroups, IsLaidOut};
@@ -62,9 +62,9 @@ fn write_groups(
 ) -> R<Vec<GroupMeta>>
     ensures stands { IfOk result (λ gs. AppendsGroups schema.now out.old.items out.new.items (map group_meta_view gs.items) (groups_of (rows_view rows.now))) }
     ensures readable { OnOk result (AreTaken schema.now (rows_view rows.now)) }
-    ensures built { OnOk result (0 < length rows.now → Any IsLeafToCome (leaves_of schema.now) → ⊥) }
+    ensures built { OnOk result (0 < length rows.now → Any IsLeafNotWritten (leaves_of schema.now) → ⊥) }
     ensures only { OnFault result (RowsFit schema.now (rows_view rows.now) → ⊥) }
-    ensures limit { result ≡ Err Refusal.Limit → IsGroupTooMuch (length out.old.items) schema.now (rows_view rows.now) ⊎ Any IsLeafToCome (leaves_of schema.now) }
+    ensures limit { result ≡ Err Refusal.Limit → IsGroupTooMuch (length out.old.items) schema.now (rows_view rows.now) ⊎ Any IsLeafNotWritten (leaves_of schema.now) }
     ensures has_rows { OnErr result (0 < length rows.now) }
     ensures which { RefusedOnly IsOfRows result }
 {

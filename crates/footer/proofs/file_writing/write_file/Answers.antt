@@ -7,7 +7,7 @@ use Rattle.bits.specs.declared.refusal.Refusal.{Refusal}
 use Rattle.schema.specs.Stripe.{leaves_of}
 use Rattle.schema.specs.Views.{rows_view, row_view}
 use Rattle.metadata.specs.Views.{group_meta_view, file_meta_view}
-use Rattle.row_group.specs.Limits.{IsLeafToCome}
+use Rattle.row_group.specs.Writing.{IsLeafNotWritten}
 use Rattle.row_group.specs.Writing.{IsGroupTooMuch}
 use Rattle.footer.specs.File.{magic, FileMeans}
 use Rattle.footer.specs.Writing.{IsOutOfRange, IsTooMuch, heavy, IsToBeWritten}
@@ -29,7 +29,7 @@ returns-in_err-groups-clause-limit c =
     let few = c.is_to_be_written.ensures.one_group c.if-is_to_be_written.false in
     let there = c.in_err-groups.ensures.has_rows in
     passes_limit (IsOutOfRange o ⊎ (IsTooMuch fs o rows ⊎ IsToBeWritten fs o rows)) c.from_residual-in_err-groups.result c.in_err-groups.field-0.0 c.from_residual-in_err-groups.ensures.1
-    (λ is. inr (too_much fs o rows bounds.0 (omega (arith, size, few)) bounds.1 (omega (arith, size, there)) (subst (λ (t : List ℕ). IsGroupTooMuch (length t) fs rows ⊎ Any IsLeafToCome (leaves_of fs)) c.in_ok-front.ensures.items (c.in_err-groups.ensures.limit (ap Err is)))))
+    (λ is. inr (too_much fs o rows bounds.0 (omega (arith, size, few)) bounds.1 (omega (arith, size, there)) (subst (λ (t : List ℕ). IsGroupTooMuch (length t) fs rows ⊎ Any IsLeafNotWritten (leaves_of fs)) c.in_ok-front.ensures.items (c.in_err-groups.ensures.limit (ap Err is)))))
 
 pub returns-clause-means : goal.returns-clause-means
 returns-clause-means c =
