@@ -61,7 +61,8 @@ const FEWER: [u8; 27] = [
     1, 5, 0, 0, 0,
 ];
 
-const ROWS: &str = "[Row { values: [List([Int(5), Int(6)]), Int(5)] }, Row { values: [List([]), Null] }, Row { values: [List([Int(7)]), Int(6)] }]";
+const ROWS: &str =
+    "[Row { values: [List([Int(5), Int(6)]), Int(5)] }, Row { values: [List([]), Null] }, Row { values: [List([Int(7)]), Int(6)] }]";
 
 fn element(alloc: Global, name: &str, kind: Option<i32>, repetition: i32) -> R<Element> {
     Ok(Element {
@@ -220,13 +221,19 @@ fn a_thousand_empty_pages_are_passed(rt: HostRuntime) -> Result<(), Fail> {
     for _ in 0..1000 {
         bytes.extend_from_slice(&EMPTY)?;
     }
-    assert_eq!(rt; checked(alloc, &[bytes.as_slice(), LISTS.as_slice()], 4)?, 25_043);
+    assert_eq!(rt;
+        checked(alloc, &[bytes.as_slice(), LISTS.as_slice()], 4)?,
+        25_043
+    );
     Ok(())
 }
 
 #[test]
 fn bytes_after_the_last_page_are_left(rt: HostRuntime) -> Result<(), Fail> {
-    assert_eq!(rt; checked(rt.alloc(), &[LISTS.as_slice(), EMPTY.as_slice()], 4)?, 43);
+    assert_eq!(rt;
+        checked(rt.alloc(), &[LISTS.as_slice(), EMPTY.as_slice()], 4)?,
+        43
+    );
     assert_eq!(rt; checked(rt.alloc(), &[EMPTY.as_slice()], 0)?, 0);
     Ok(())
 }
@@ -292,13 +299,28 @@ fn columns_that_make_no_rows_are_refused(rt: HostRuntime) -> Result<(), Fail> {
     let schema = fields(alloc)?;
     let fewer = joined(alloc, &[LISTS.as_slice(), FEWER.as_slice()])?;
     let group = group_of(alloc, 43, 4, 2, 3)?;
-    assert!(rt; matches!(read_group(alloc, fewer.as_slice(), &group, &schema), Err(Refusal::Levels)));
+    assert!(rt;
+        matches!(
+            read_group(alloc, fewer.as_slice(), &group, &schema),
+            Err(Refusal::Levels)
+        )
+    );
     let both = joined(alloc, &[LISTS.as_slice(), NUMBERS.as_slice()])?;
     let group = group_of(alloc, 43, 4, 3, 4)?;
-    assert!(rt; matches!(read_group(alloc, both.as_slice(), &group, &schema), Err(Refusal::Levels)));
+    assert!(rt;
+        matches!(
+            read_group(alloc, both.as_slice(), &group, &schema),
+            Err(Refusal::Levels)
+        )
+    );
     let inside = joined(alloc, &[GOES_ON.as_slice(), NUMBERS.as_slice()])?;
     let group = group_of(alloc, 33, 2, 3, 3)?;
-    assert!(rt; matches!(read_group(alloc, inside.as_slice(), &group, &schema), Err(Refusal::Levels)));
+    assert!(rt;
+        matches!(
+            read_group(alloc, inside.as_slice(), &group, &schema),
+            Err(Refusal::Levels)
+        )
+    );
     Ok(())
 }
 
@@ -307,11 +329,7 @@ fn a_page_that_is_refused_names_the_group_s_fault(rt: HostRuntime) -> Result<(),
     let alloc = rt.alloc();
     let bytes = joined(
         alloc,
-        &[
-            BEGINS.as_slice(),
-            DICTIONARY.as_slice(),
-            NUMBERS.as_slice(),
-        ],
+        &[BEGINS.as_slice(), DICTIONARY.as_slice(), NUMBERS.as_slice()],
     )?;
     let group = group_of(alloc, 50, 4, 3, 3)?;
     let read = read_group(alloc, bytes.as_slice(), &group, &fields(alloc)?);
