@@ -70,7 +70,7 @@ stand_one one chunks (r ∷ rs) (x ∷ xs) (y ∷ ys) p q = ap (λ (t : List Ent
 -- ---- the group is accepted
 
 pub counted_rows : (front : List ℕ) (fs : Fields) (g : GroupMeta) (rs : List ChunkReader) (n : ℕ) → AreReaders front g.columns (leaves_of fs) rs → CountsRows fs rs n → HasRows front fs g n
-counted_rows front fs g rs n readers w = record { rows = w.0; count = w.1; fit = w.2.fit; sound = readers_sound front g.columns (leaves_of fs) rs (columns fs w.0) readers w.2.stand }
+counted_rows front fs g rs n readers w = record { rows = w.0; count = w.1.0; fit = w.1.1.fit; sound = readers_sound front g.columns (leaves_of fs) rs (columns fs w.0) readers w.1.1.stand }
 
 -- other rows with these columns are as many
 pub same_count : FilesHoldOneColumn → ColumnsDetermineRows → (front : List ℕ) (fs : Fields) (g : GroupMeta) (n m : ℕ) → IsSchema fs → HasRows front fs g n → (rows : List ValueTrees) → AreRowsOfGroup front fs g m rows → n ≡ m

@@ -74,7 +74,7 @@ refusal_kept r = option_map refusal_of r.fault
 
 -- as many rows as are counted, which fit, and for whose columns the readers stand
 abbrev pub CountsRows : Fields → List ChunkReader → ℕ → Type 0
-CountsRows fs readers n = (rows : List ValueTrees) × (length rows ≡ n) × StandForRows chunk_stands readers fs rows
+CountsRows fs readers n = (rows : List ValueTrees) × ((length rows ≡ n) × StandForRows chunk_stands readers fs rows)
 
 -- the chunks of the group hold the columns of so many rows, which fit, and none is over a limit
 pub record HasRows (front : List ℕ) (fs : Fields) (g : GroupMeta) (n : ℕ) : Type 0 where

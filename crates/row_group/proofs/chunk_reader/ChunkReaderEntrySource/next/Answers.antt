@@ -16,4 +16,4 @@ returns-then-branch c =
     let precede = subst (λ (e : Entry). Precede (e ∷ []) (chunk_stands old) (chunk_stands new)) (sym c.entry.ensures) took.2 in
     let sound = ap (λ (o : Option Fault). option_map refusal_of o) took.0 in
     let kept = ap (λ (o : Option Fault). option_map refusal_of o) (took.1 ∙ sym took.0) in
-    ((refl, λ _. tt, (precede, kept)), record { gives = sound; takes = tt })
+    ((refl, λ _. tt, (precede, kept)), record { gives = sound; suited = λ t h. absurd h; takes = tt })

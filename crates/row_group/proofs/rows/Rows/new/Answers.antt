@@ -1,9 +1,8 @@
-use Rattle.std.proofs.Common.{◌≡◌, ℕ, List, refl, ap, arith, Err}
+use Rattle.std.proofs.Common.{◌≡◌, length, refl, ap, arith, Err}
 use Rattle.std.specs.Prelude.{pos}
 use Rattle.std.proofs.lemmas.Int.{ints}
 use Rattle.bits.specs.Refusals.{HasCause}
 use Rattle.bits.proofs.Passing.{passes}
-use Rattle.schema.specs.Values.{ValueTrees}
 use Rattle.metadata.specs.Views.{group_meta_view}
 use Rattle.row_group.specs.Limits.{many_rows, large_chunk}
 use Rattle.row_group.proofs.GroupRows.{rows_of_group, stand_for}
@@ -13,7 +12,10 @@ use Rattle.row_group.proofs.rows.Rows.new.Goals as goal
 pub returns-in_err-left-clause-which : goal.returns-in_err-left-clause-which
 returns-in_err-left-clause-which c = λ rows r.
     passes (HasCause (λ _. ⊥)) c.from_residual.result c.in_err-left.field-0.0 c.from_residual.ensures.1
-    (memory_only c.in_err-left.field-0.0 ? ?)
+    (memory_only c.in_err-left.field-0.0 (λ fault. let m = r.means.count in c.in_err-left.ensures.only fault (length rows) (omega (arith, ints, m)))
+     (λ is.
+         let over = c.in_err-left.ensures.limit (ap Err is) in
+         r.within_limits (many_rows (omega (arith, ints, over)))))
 
 pub returns-in_err-readers-clause-which : goal.returns-in_err-readers-clause-which
 returns-in_err-readers-clause-which c = λ rows r.
