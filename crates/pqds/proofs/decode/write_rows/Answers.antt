@@ -1,10 +1,9 @@
-use Rattle.std.proofs.Common.{◌≡◌, List, [], ◌∷◌, ◌++◌, ◌∙◌, Ok, sym, subst}
+use Rattle.std.proofs.Common.{◌≡◌, [], ◌∷◌, ◌++◌, ◌∙◌, Ok, sym, subst}
 use Rattle.std.specs.Prelude.{Some, None, IsTrue}
 use Rattle.std.specs.Io.KnownBytes.{Appends}
 use Rattle.bits.proofs.Passing.{passes}
 use Rattle.bits.specs.Refusals.{HasCause}
 use Rattle.bits.specs.declared.refusal.Refusal.TheVariants.{Device}
-use Rattle.schema.specs.Values.{ValueTrees}
 use Rattle.schema.specs.Fits.{fits_each, RowsFit}
 use Rattle.schema.specs.Views.{row_view}
 use Rattle.footer.specs.Left.{rows_stand, TakesRow}
@@ -16,7 +15,7 @@ use Rattle.pqds.proofs.decode.write_rows.Goals as goal
 pub returns-in_err-row-clause-which : goal.returns-in_err-row-clause-which
 returns-in_err-row-clause-which g c = λ all s fits.
     let p = c.row.invariant.printed all s in
-    passes (HasCause (λ e. e ≡ Device)) c.from_residual.result c.in_err-row.field-0.0 c.from_residual.ensures.1 (subst (HasCause (λ e. e ≡ Device)) (sym (c.in_err-row.ensures.takes p.0 p.1)) tt)
+    passes (HasCause (λ e. e ≡ Device)) c.from_residual-in_err-row.result c.in_err-row.field-0.0 c.from_residual-in_err-row.ensures.1 (subst (HasCause (λ e. e ≡ Device)) (sym (c.in_err-row.ensures.takes p.0 p.1)) tt)
 
 pub returns-in_err-write_row-in-Some-clause-which : goal.returns-in_err-write_row-in-Some-clause-which
 returns-in_err-write_row-in-Some-clause-which g c = λ all s fits.
