@@ -3,7 +3,6 @@ pub mod OneFile
 pub mod Single
 pub mod GroupRows
 pub mod Taken
-
 pub mod Meaning
 pub mod Ends
 pub mod Writable

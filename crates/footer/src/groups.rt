@@ -16,12 +16,7 @@ use std::alloc::Global;
 
 /// Reads the groups, from the bytes of their file before the footer, one after the other. Refused Page where
 /// a chunk lies in another file, and else as a group is.
-pub fn check_groups(
-    alloc: Global,
-    front: &[u8],
-    groups: &[GroupMeta],
-    schema: &Schema,
-) -> R<()>
+pub fn check_groups(alloc: Global, front: &[u8], groups: &[GroupMeta], schema: &Schema) -> R<()>
     ensures stands { let gs = map group_meta_view groups.now in OnOk result ((rows : List ValueTrees) × GroupsHold front.now schema.now gs rows) }
     ensures only { let gs = map group_meta_view groups.now in OnFault result ((rows : List ValueTrees) → GroupsMean front.now schema.now gs rows → ⊥) }
     ensures which { IfErr result (HasGroupsFault front.now schema.now (map group_meta_view groups.now)) }

@@ -27,18 +27,90 @@ struct Pages {
 /// Columns as other tools write them: a boolean, a list and a map in their three-level form, an optional
 /// number, a required and an optional text.
 const FIELDS: &[Named] = &[
-    Named { name: "schema", kind: None, repetition: 0, children: Some(6), converted: None },
-    Named { name: "b", kind: Some(0), repetition: 0, children: None, converted: None },
-    Named { name: "l", kind: None, repetition: 1, children: Some(1), converted: Some(3) },
-    Named { name: "list", kind: None, repetition: 2, children: Some(1), converted: None },
-    Named { name: "element", kind: Some(1), repetition: 1, children: None, converted: None },
-    Named { name: "m", kind: None, repetition: 1, children: Some(1), converted: Some(1) },
-    Named { name: "key_value", kind: None, repetition: 2, children: Some(2), converted: None },
-    Named { name: "key", kind: Some(6), repetition: 0, children: None, converted: Some(0) },
-    Named { name: "value", kind: Some(1), repetition: 1, children: None, converted: None },
-    Named { name: "n", kind: Some(2), repetition: 1, children: None, converted: None },
-    Named { name: "p", kind: Some(6), repetition: 0, children: None, converted: Some(0) },
-    Named { name: "t", kind: Some(6), repetition: 1, children: None, converted: Some(0) },
+    Named {
+        name: "schema",
+        kind: None,
+        repetition: 0,
+        children: Some(6),
+        converted: None,
+    },
+    Named {
+        name: "b",
+        kind: Some(0),
+        repetition: 0,
+        children: None,
+        converted: None,
+    },
+    Named {
+        name: "l",
+        kind: None,
+        repetition: 1,
+        children: Some(1),
+        converted: Some(3),
+    },
+    Named {
+        name: "list",
+        kind: None,
+        repetition: 2,
+        children: Some(1),
+        converted: None,
+    },
+    Named {
+        name: "element",
+        kind: Some(1),
+        repetition: 1,
+        children: None,
+        converted: None,
+    },
+    Named {
+        name: "m",
+        kind: None,
+        repetition: 1,
+        children: Some(1),
+        converted: Some(1),
+    },
+    Named {
+        name: "key_value",
+        kind: None,
+        repetition: 2,
+        children: Some(2),
+        converted: None,
+    },
+    Named {
+        name: "key",
+        kind: Some(6),
+        repetition: 0,
+        children: None,
+        converted: Some(0),
+    },
+    Named {
+        name: "value",
+        kind: Some(1),
+        repetition: 1,
+        children: None,
+        converted: None,
+    },
+    Named {
+        name: "n",
+        kind: Some(2),
+        repetition: 1,
+        children: None,
+        converted: None,
+    },
+    Named {
+        name: "p",
+        kind: Some(6),
+        repetition: 0,
+        children: None,
+        converted: Some(0),
+    },
+    Named {
+        name: "t",
+        kind: Some(6),
+        repetition: 1,
+        children: None,
+        converted: Some(0),
+    },
 ];
 
 /// true, false and true by RLE: four bytes of length, and one group of eight bits.
@@ -96,13 +168,55 @@ const TEXTS: &[u8] = &[
 ];
 
 const CHUNKS: &[Pages] = &[
-    Pages { path: &["b"], kind: 0, entries: 3, dictionary: 0, pages: BOOLEANS },
-    Pages { path: &["l", "list", "element"], kind: 1, entries: 4, dictionary: 0, pages: ELEMENTS },
-    Pages { path: &["m", "key_value", "key"], kind: 6, entries: 4, dictionary: 0, pages: KEYS },
-    Pages { path: &["m", "key_value", "value"], kind: 1, entries: 4, dictionary: 0, pages: VALUES },
-    Pages { path: &["n"], kind: 2, entries: 3, dictionary: 0, pages: NUMBERS },
-    Pages { path: &["p"], kind: 6, entries: 3, dictionary: 0, pages: PREFIXED },
-    Pages { path: &["t"], kind: 6, entries: 3, dictionary: 23, pages: TEXTS },
+    Pages {
+        path: &["b"],
+        kind: 0,
+        entries: 3,
+        dictionary: 0,
+        pages: BOOLEANS,
+    },
+    Pages {
+        path: &["l", "list", "element"],
+        kind: 1,
+        entries: 4,
+        dictionary: 0,
+        pages: ELEMENTS,
+    },
+    Pages {
+        path: &["m", "key_value", "key"],
+        kind: 6,
+        entries: 4,
+        dictionary: 0,
+        pages: KEYS,
+    },
+    Pages {
+        path: &["m", "key_value", "value"],
+        kind: 1,
+        entries: 4,
+        dictionary: 0,
+        pages: VALUES,
+    },
+    Pages {
+        path: &["n"],
+        kind: 2,
+        entries: 3,
+        dictionary: 0,
+        pages: NUMBERS,
+    },
+    Pages {
+        path: &["p"],
+        kind: 6,
+        entries: 3,
+        dictionary: 0,
+        pages: PREFIXED,
+    },
+    Pages {
+        path: &["t"],
+        kind: 6,
+        entries: 3,
+        dictionary: 23,
+        pages: TEXTS,
+    },
 ];
 
 const ROWS: &[&str] = &[

@@ -51,12 +51,7 @@ fn write_row<W: Write>(
 }
 
 /// Makes the rows one by one, and writes each as a line. Refused Device where one cannot be written.
-fn write_rows<W: Write>(
-    alloc: Global,
-    schema: &Schema,
-    rows: &mut Rows<'_>,
-    out: &mut W,
-) -> R<()>
+fn write_rows<W: Write>(alloc: Global, schema: &Schema, rows: &mut Rows<'_>, out: &mut W) -> R<()>
     ensures stands { (all : List ValueTrees) → rows_stand rows.old all → OnOk result (Appends (W.contents out.old) (W.contents out.new) (lines_of schema.now all)) }
     ensures which { (all : List ValueTrees) → rows_stand rows.old all → RowsFit schema.now all → RefusedOnly (λ e. e ≡ Device) result }
 {

@@ -81,12 +81,7 @@ impl<'a> Rows<'a> {
     ///
     /// Of such a group it fails only when out of memory, and so do its rows; another may be refused, here
     /// or at each row, as [`Rows::of_group`] refuses it. (`parquet.thrift`, RowGroup.)
-    pub fn new(
-        alloc: Global,
-        front: &'a [u8],
-        meta: &GroupMeta,
-        schema: &'a Schema,
-    ) -> R<Rows<'a>>
+    pub fn new(alloc: Global, front: &'a [u8], meta: &GroupMeta, schema: &'a Schema) -> R<Rows<'a>>
         ensures stands { IfOk result (λ r. (rows : List ValueTrees) → IsReadable front.now schema.now (group_meta_view meta.now) rows → rows_stand r rows) }
         ensures which { (rows : List ValueTrees) → IsReadable front.now schema.now (group_meta_view meta.now) rows → RefusedMemoryOnly result }
     {

@@ -41,8 +41,7 @@ row-preserved g c = record {
       let p = c.row.invariant.printed all s in
       let takes : TakesRow (rows_stand c.row.rows) (rows_stand c.next.new.self) (Ok (Some c.in-Some.row)) = rw c.in-Some.is at c.in_ok-row.ensures.takes in
       let next = takes p.0 p.1 in
-      let line = subst (λ f. Appends (g.W.Write.contents c.row.out) (g.W.Write.contents c.write_row.new.out) (row_text f (row_view c.in-Some.row) ++ 10 ∷ [])) c.row.invariant.same c.in_ok-write_row-in-Some.ensures.stands in
-      (
+      let line = subst (λ f. Appends (g.W.Write.contents c.row.out) (g.W.Write.contents c.write_row.new.out) (row_text f (row_view c.in-Some.row) ++ 10 ∷ [])) c.row.invariant.same c.in_ok-write_row-in-Some.ensures.stands in (
         next.0,
         next.2,
         one_more fs all p.0 next.0 (row_view c.in-Some.row) (g.W.Write.contents c.args.out.now) (g.W.Write.contents c.row.out) (g.W.Write.contents c.write_row.new.out) p.2 next.1 line,

@@ -44,8 +44,7 @@ returns-clause-stands c =
     let front = c.in_ok-front.front.now in
     let fs = c.in_ok-schema.schema in
     let held : (rows : List ValueTrees) × GroupsHold front fs (map group_meta_view c.in_ok-front.record.row_groups.items) rows =
-        subst (λ gs. (rows : List ValueTrees) × GroupsHold front fs (map group_meta_view gs) rows) c.as_slice-2.ensures.value c.in_ok-check_groups.ensures.stands in
-    (
+    subst (λ gs. (rows : List ValueTrees) × GroupsHold front fs (map group_meta_view gs) rows) c.as_slice-2.ensures.value c.in_ok-check_groups.ensures.stands in (
       held.0,
       record {
         front = front;
@@ -62,9 +61,9 @@ returns-clause-alone c = λ gs rows p.
     let front = c.in_ok-front.front.now in
     let fs = c.in_ok-schema.schema in
     let held : (rows : List ValueTrees) × GroupsHold front fs (map group_meta_view c.in_ok-front.record.row_groups.items) rows =
-        subst (λ gs. (rows : List ValueTrees) × GroupsHold front fs (map group_meta_view gs) rows) c.as_slice-2.ensures.value c.in_ok-check_groups.ensures.stands in
+    subst (λ gs. (rows : List ValueTrees) × GroupsHold front fs (map group_meta_view gs) rows) c.as_slice-2.ensures.value c.in_ok-check_groups.ensures.stands in
     let same = seen c.args.bytes.now front (file_meta_view c.in_ok-front.record) fs c.in_ok-front.ensures.alone c.a_list_means_one_schema.ensures
-        (subst (λ xs. IsSchemaOf (elements_view xs) fs) c.as_slice.ensures.value c.in_ok-schema.ensures.stands) gs rows p in
+    (subst (λ xs. IsSchemaOf (elements_view xs) fs) c.as_slice.ensures.value c.in_ok-schema.ensures.stands) gs rows p in
     (same.0, mean_holds front fs (map group_meta_view c.in_ok-front.record.row_groups.items) held.0 rows held.1 same.1)
 
 pub returns-clause-within_limits : goal.returns-clause-within_limits
@@ -72,7 +71,7 @@ returns-clause-within_limits c =
     let front = c.in_ok-front.front.now in
     let fs = c.in_ok-schema.schema in
     let held : (rows : List ValueTrees) × GroupsHold front fs (map group_meta_view c.in_ok-front.record.row_groups.items) rows =
-        subst (λ gs. (rows : List ValueTrees) × GroupsHold front fs (map group_meta_view gs) rows) c.as_slice-2.ensures.value c.in_ok-check_groups.ensures.stands in
+    subst (λ gs. (rows : List ValueTrees) × GroupsHold front fs (map group_meta_view gs) rows) c.as_slice-2.ensures.value c.in_ok-check_groups.ensures.stands in
     not_over c.args.bytes.now front (file_meta_view c.in_ok-front.record) fs c.in_ok-front.ensures.alone c.a_list_means_one_schema.ensures
     (subst (λ xs. IsSchemaOf (elements_view xs) fs) c.as_slice.ensures.value c.in_ok-schema.ensures.stands) c.in_ok-front.ensures.within_limits
     (subst (λ xs. IsTooLarge (elements_view xs) → ⊥) c.as_slice.ensures.value c.in_ok-schema.ensures.within_limits)

@@ -13,9 +13,9 @@ pub returns-in_err-left-clause-which : goal.returns-in_err-left-clause-which
 returns-in_err-left-clause-which c = λ rows r.
     passes (HasCause (λ _. ⊥)) c.from_residual.result c.in_err-left.field-0.0 c.from_residual.ensures.1
     (memory_only c.in_err-left.field-0.0 (λ fault. let m = r.means.count in c.in_err-left.ensures.only fault (length rows) (omega (arith, ints, m)))
-     (λ is.
-         let over = c.in_err-left.ensures.limit (ap Err is) in
-         r.within_limits (many_rows (omega (arith, ints, over)))))
+    (λ is.
+    let over = c.in_err-left.ensures.limit (ap Err is) in
+    r.within_limits (many_rows (omega (arith, ints, over)))))
 
 pub returns-in_err-readers-clause-which : goal.returns-in_err-readers-clause-which
 returns-in_err-readers-clause-which c = λ rows r.
