@@ -150,7 +150,7 @@ fn group_of(
     columns.push(ChunkMeta {
         file_path: None,
         file_offset: None,
-        meta_data: record(alloc, "o", num_numbers, lists as i64)?,
+        meta_data: record(alloc, "o", num_numbers, i64::try_from(lists).unwrap_or(0))?,
     })?;
     Ok(GroupMeta {
         columns,

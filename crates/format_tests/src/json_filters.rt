@@ -152,7 +152,7 @@ fn schemas_are_printed_as_they_are_read(rt: HostRuntime) -> Result<(), Fail> {
 }
 
 /// The texts of a schema of this many columns, and of a row in it.
-fn wide(alloc: Global, columns: u32) -> R<[String; 2]> {
+fn wide(alloc: Global, columns: u32) -> R<(String, String)> {
     let mut schema = String::new(alloc);
     let mut row = String::new(alloc);
     for column in 0..columns {
@@ -164,18 +164,18 @@ fn wide(alloc: Global, columns: u32) -> R<[String; 2]> {
         let member = format!(in alloc; "{before}\"c{column:04}\":{column}")?;
         row.push_str(member.as_str())?;
     }
-    Ok([
-        format!(in alloc; "[{schema}]")?,
-        format!(in alloc; "{{{row}}}")?,
-    ])
+    let schema = format!(in alloc; "[{schema}]")?;
+    let row = format!(in alloc; "{{{row}}}")?;
+    Ok((schema, row))
 }
 
 #[test]
 fn a_row_of_a_thousand_columns_reads_back(rt: HostRuntime) -> Result<(), Fail> {
-    let [schema, row] = wide(rt.alloc(), 1000)?;
-    let schema = schema_from(rt.alloc(), schema.as_str())?;
-    let read = row_from(rt.alloc(), &schema, row.as_str())?;
-    let text = row_to(rt.alloc(), &schema, &read)?;
+    let alloc = rt.alloc();
+    let (printed, row) = wide(alloc, 1000)?;
+    let schema = schema_from(alloc, printed.as_str())?;
+    let read = row_from(alloc, &schema, row.as_str())?;
+    let text = row_to(alloc, &schema, &read)?;
     assert!(rt; text.as_str() == row.as_str(), "{text}");
     Ok(())
 }
