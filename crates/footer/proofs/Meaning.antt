@@ -33,11 +33,6 @@ pub no_rows : (bytes front : List ℕ) (meta : FileMeta) (fs : Fields) → IsOnl
     → (gs : Fields) (rows : List ValueTrees) → FileMeans bytes gs rows → ⊥
 no_rows bytes front meta fs alone law schema nothing gs rows p = nothing rows (seen bytes front meta fs alone law schema gs rows p).1
 
--- at most one list of rows
-pub one_meaning : (bytes front : List ℕ) (meta : FileMeta) (fs : Fields) (xs : List ValueTrees) → IsOnly bytes front meta → ListsMeanOneSchema → IsSchemaOf meta.schema fs → ((rows : List ValueTrees) → GroupsMean front fs meta.row_groups rows → rows ≡ xs)
-    → (gs : Fields) (rows : List ValueTrees) → FileMeans bytes gs rows → (gs ≡ fs) × (rows ≡ xs)
-one_meaning bytes front meta fs xs alone law schema one gs rows p = let s = seen bytes front meta fs alone law schema gs rows p in (s.0, one rows s.1)
-
 -- a fault of the groups is one of the file
 pub of_groups : (bytes front : List ℕ) (meta : FileMeta) (fs : Fields) → IsFile bytes front meta → IsSchemaOf meta.schema fs → (e : Refusal) → HasGroupsFault front fs meta.row_groups e → HasFault bytes e
 of_groups bytes front meta fs file schema refusal.Codec (g, among, is) = record { front = front; meta = meta; fs = fs; group = g; file = file; schema = schema; among = among; is = is }
