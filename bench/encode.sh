@@ -1,9 +1,12 @@
 #!/bin/sh
-# Encodes rows of a number and a text, decodes them again, and prints rows and bytes per second beside `cat` of
-# the same files in the same run, for 100,000 and for 1,000,000 rows: a cost that is linear has the same rows per
-# second in both. The rows are made by python3, in a temporary folder, which is removed.
+# Encodes rows of a number and a text in each style, decodes them again, and prints rows and bytes per second beside
+# `cat` of the same files in the same run, for 100,000 and for 1,000,000 rows: a cost that is linear has the same rows
+# per second in both. The rows are made by python3, in a temporary folder, which is removed. Each time is the best of
+# three, and that of a style is also given as a multiple of the time of `plain`.
 #
 #     bench/encode.sh [ROWS]...        other numbers of rows (at most 1048576 each)
+#
+# Where ENCODER names a program, it is run beside: as ENCODER n:i,t:s ROWS OUT, where i is a number and s a text.
 top=$(CDPATH='' cd -- "$(dirname -- "$0")/.." && pwd) || exit 1
 room=$(mktemp -d) || exit 1
 trap 'rm -rf "$room"' EXIT
@@ -12,7 +15,7 @@ trap 'rm -rf "$room"' EXIT
 [ $# -gt 0 ] || set -- 100000 1000000
 for rows in "$@"; do
     python3 - "$top/pqds" "$room" "$rows" <<'PYTHON' || exit 1
-import os, resource, subprocess, sys, time
+import os, subprocess, sys, time
 
 program, room, rows = sys.argv[1], sys.argv[2], int(sys.argv[3])
 schema, lines, file, printed = (os.path.join(room, name) for name in ("schema.json", "rows.jsonl", "rows.parquet", "printed.jsonl"))
@@ -25,27 +28,37 @@ with open(lines, "w") as out:
         out.write('{"n":%d,"t":"row %08d%s"}\n' % (number, n, "x" * (n % 8)))
 
 
-def measured(what, words, read, out=subprocess.DEVNULL):
-    """Runs the words, and prints what they took; the bytes are those that are read."""
-    before = resource.getrusage(resource.RUSAGE_CHILDREN).ru_maxrss
-    begun = time.monotonic()
-    status = subprocess.run(words, stdout=out).returncode
-    seconds = max(time.monotonic() - begun, 0.001)
-    most = max(before, resource.getrusage(resource.RUSAGE_CHILDREN).ru_maxrss) * 1024
+def measured(what, words, read, out=None, times=3, than=None):
+    """Runs the words, and prints what they took at best; the bytes are those that are read."""
+    seconds = float("inf")
+    for _ in range(times):
+        if os.path.exists(file) and file in words and file != read:
+            os.remove(file)
+        begun = time.monotonic()
+        with open(out or os.devnull, "wb") as sink:
+            child = subprocess.Popen(words, stdout=sink)
+            _, status, used = os.wait4(child.pid, 0)
+        seconds = min(seconds, max(time.monotonic() - begun, 0.001))
+        if status:
+            sys.exit(f"{what} ended with {status}")
     size = os.path.getsize(read)
-    print(f"{what:22} status {status}, {rows} rows, {size} bytes read, {seconds:.2f} s, {rows / seconds:,.0f} rows/s, {size / seconds / 1e6:,.1f} MB/s, at most {most / 1e6:,.0f} MB of memory so far")
-    if status:
-        sys.exit(1)
+    beside = f", {seconds / than:.1f} times as long" if than else ""
+    print(f"{what:22} {rows} rows, {size} bytes read, {seconds:.2f} s, {rows / seconds:,.0f} rows/s, {size / seconds / 1e6:,.1f} MB/s, at most {used.ru_maxrss * 1024 / 1e6:,.0f} MB{beside}")
+    return seconds
 
 
 options = ["--group-rows", "1048576", "--page-rows", "1048576"]
-measured("encode", [program, "encode", schema, lines, file] + options, lines)
+other = os.environ.get("ENCODER")
+beside = measured("the other program", [other, "n:i,t:s", lines, file], lines) if other else None
 measured("cat of the lines", ["cat", lines], lines)
-with open(printed, "wb") as out:
-    measured("decode", [program, "decode", file], file, out)
+same, plain = True, None
+for style in ("plain", "dictionary", "delta", "lengths"):
+    took = measured(f"encode {style}", [program, "encode", schema, lines, file, "--style", style] + options, lines, than=plain or beside)
+    plain = plain or took
+    measured(f"decode {style}", [program, "decode", file], file, printed)
+    with open(lines, "rb") as one, open(printed, "rb") as again:
+        same = same and one.read() == again.read()
 measured("cat of the file", ["cat", file], file)
-with open(lines, "rb") as one, open(printed, "rb") as other:
-    same = one.read() == other.read()
 print("the lines are the same again" if same else "the lines DIFFER")
 for path in (lines, file, printed):
     os.remove(path)

@@ -28,6 +28,7 @@ impl<'a> EntrySource for Cursor<'a> {
 
     ghost refused = { λ _. None };
 
+    #[inline(always)]
     fn peek(&mut self) -> R<Option<(u32, u32)>> {
         match self.entries.first() {
             None => Ok(None),
@@ -35,6 +36,7 @@ impl<'a> EntrySource for Cursor<'a> {
         }
     }
 
+    #[inline(always)]
     fn next(&mut self) -> Result<Option<EntryRef<'_>>, Fault> {
         match self.entries.split_first() {
             None => Ok(None),

@@ -2,6 +2,7 @@
 //! shown the value.
 
 ghost use Rattle.std.specs.Prelude.{◌≡◌, ◌==◌, ◌&&◌, ◌+◌, ◌<◌, ◌≤◌, ◌^◌, length, map, true, None, IfOk, OnOk, IfErr};
+ghost use Rattle.bits.specs.Faults.{refusal_of};
 ghost use Rattle.schema.specs.Views.{leaf_type_view, field_view, field_views};
 ghost use Rattle.schema.specs.Law.{IsValid, AreValid};
 ghost use Rattle.schema.specs.Stripe.{entry};
@@ -17,7 +18,7 @@ ghost use Rattle.assemble.specs.inner.Steps.{IsMemory, ReadsLeaf, missing_value,
 use crate::fits::fits;
 use crate::sink::RowSink;
 use crate::source::EntrySource;
-use bits::{R, Refusal};
+use bits::{Fault, R, Refusal};
 use schema::{EntryRef, Field, LeafType, Repetition, ValueRef};
 use std::alloc::AllocError;
 
@@ -39,26 +40,28 @@ impl Place {
 }
 
 /// Takes the next entry, which has these levels and a value that fits, and shows the value.
+// Each value of a leaf comes through here: what is returned fits two registers.
+#[inline(always)]
 fn read_leaf<S: EntrySource, K: RowSink>(
     leaf_type: &LeafType,
     place: Place,
     source: &mut S,
     sink: &mut K,
-) -> R<()>
+) -> Result<(), Fault>
     ensures reads { OnOk result (Visits (K.shows sink.old) (K.shows sink.new) tokens (ReadsLeaf (leaf_type_view leaf_type.now) place.repetition place.definition (S.stands source.old) (S.stands source.new))) }
-    ensures refused { IfErr result (IsSourceRefusedFor S.stands S.refused source.old source.new (IsLeafFaulty place.repetition place.definition (leaf_type_view leaf_type.now))) }
+    ensures refused { IfErr result (λ f. IsSourceRefusedFor S.stands S.refused source.old source.new (IsLeafFaulty place.repetition place.definition (leaf_type_view leaf_type.now)) (refusal_of f)) }
     ensures kept { OnOk result (S.refused source.new ≡ S.refused source.old) }
 {
     let checked = source.has_checked(leaf_type);
     match source.next()? {
         Some(entry) if place.is_of(&entry) => match entry.value {
-            Some(value) if checked || fits(leaf_type, value) => {
-                sink.value(value)?;
-                Ok(())
-            }
-            _ => Err(Refusal::Value),
+            Some(value) if checked || fits(leaf_type, value) => match sink.value(value) {
+                Ok(()) => Ok(()),
+                Err(_) => Err(Fault::Memory),
+            },
+            _ => Err(Fault::Value),
         },
-        _ => Err(Refusal::Levels),
+        _ => Err(Fault::Levels),
     }
 }
 
@@ -193,9 +196,36 @@ pub fn read_fields<S: EntrySource, K: RowSink>(
 {
     let mut used = 0;
     for field in fields {
-        used += read_field(field, place, &mut sources[used..], sink)?;
+        used += read_next(field, place, &mut sources[used..], sink)?;
     }
     Ok(used)
+}
+
+/// Shows the value of a field as [`read_field`] does, that of a REQUIRED leaf at once.
+#[cycle(read)]
+#[inline(always)]
+fn read_next<S: EntrySource, K: RowSink>(
+    field: &Field,
+    place: Place,
+    sources: &mut [S],
+    sink: &mut K,
+) -> R<usize>
+    requires valid { IsValid (field_view field.now) }
+    requires room { count_leaves (field_view field.now) ≤ length sources.old }
+    requires deep { place.definition + tall (field_view field.now) < 2 ^ 32 }
+    requires own { place.own ≤ place.definition }
+    ensures reads { OnOk result (Visits (K.shows sink.old) (K.shows sink.new) tokens (ReadsField S.stands (field_view field.now) place sources.old sources.new)) }
+    ensures refused { IfErr result (IsRefusedFor S.stands S.refused sources.old sources.new (IsFieldFaulty (field_view field.now) place)) }
+    ensures kept { OnOk result (map S.refused sources.new ≡ map S.refused sources.old) }
+    ensures used { IfOk result (λ used. used ≡ count_leaves (field_view field.now)) }
+{
+    if let Field::Leaf { leaf_type, .. } = field {
+        if let Repetition::Required = field.repetition() {
+            read_leaf(leaf_type, place, &mut sources[0], sink)?;
+            return Ok(1);
+        }
+    }
+    read_field(field, place, sources, sink)
 }
 
 /// Shows the items of a list, one at least, and returns how many leaves the field has.

@@ -6,8 +6,8 @@ pub mod Taken
 pub mod Meaning
 pub mod Ends
 pub mod Writable
-pub mod Grouped
+pub mod Parted
+pub mod InGroups
 pub mod Weighed
-pub mod NoRows
 pub mod Whole
 pub mod OneMeaning

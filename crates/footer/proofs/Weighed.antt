@@ -1,6 +1,6 @@
 -- What a written footer and a written file weigh.
-use Rattle.std.proofs.Common.{◌≡◌, ℕ, suc, ◌+◌, ◌*◌, ◌^◌, ◌<◌, ◌≤◌, List, [], ◌∷◌, length, map, refl, ap, arith, length-append}
-use Rattle.std.specs.Prelude.{sum_by, None, All}
+use Rattle.std.proofs.Common.{◌≡◌, ℕ, suc, ◌+◌, ◌*◌, ◌^◌, ◌<◌, ◌≤◌, List, [], ◌∷◌, ◌++◌, length, map, refl, sym, ap, subst, arith, length-append}
+use Rattle.std.specs.Prelude.{sum_by, Option, None, IfSome, All}
 use Rattle.std.specs.List.{AllByRecursion}
 use Rattle.std.proofs.lemmas.List.{length-map, length-replicate}
 use Rattle.std.proofs.Math.Nat.{suc-mul}
@@ -12,10 +12,15 @@ use Rattle.schema.specs.Stripe.{Leaf, Entry, below, leaves, leaves_from, leaves_
 use Rattle.schema.specs.Listed.{listing, listings}
 use Rattle.schema.specs.Law.{IsWithinLimits}
 use Rattle.schema.proofs.Kept.{all_joined}
-use Rattle.metadata.specs.Records.{ColumnMeta, ChunkMeta, GroupMeta, type_order}
+use Rattle.pages.specs.declared.encoding.Encoding.{Encoding}
+use Rattle.pages.specs.declared.encoding.Encoding.TheVariants.{Plain, Rle}
+use Rattle.metadata.specs.Records.{Statistics, ColumnMeta, ChunkMeta, GroupMeta, type_order}
 use Rattle.metadata.specs.Weight as record_weight
-use Rattle.metadata.specs.Weight.{text_weight, IsOwnColumn, IsOfTheWriter}
-use Rattle.row_group.specs.Writing.{IsOwn, AppendsEach}
+use Rattle.metadata.specs.Weight.{text_weight, AreOwnStatistics, IsOwnColumn, IsOfTheWriter}
+use Rattle.row_group.specs.declared.options.ChunkOptions.{ChunkOptions}
+use Rattle.row_group.specs.Styles.{encoding_of, numbers_with_levels}
+use Rattle.row_group.specs.Spelled.{HasPages, of_values, of_indexes, AreStatisticsOf}
+use Rattle.row_group.specs.Writing.{AppendsChunk, AppendsEach}
 use Rattle.footer.specs.Greatest.{most_of_footer}
 use Rattle.footer.specs.Writing.{footer_weight}
 use Rattle.footer.specs.Own.{AppendsGroups, own_record}
@@ -69,70 +74,87 @@ one_weighs c l here path =
     omega (arith, none, names)
 
 -- the chunks of a group weigh what its leaves do
-chunks_weigh : (ls : List Leaf) (cols : List (List Entry)) (old new : List ℕ) (cs : List ChunkMeta) → AppendsEach ls cols old new cs → sum_by record_weight.chunk_weight cs ≡ sum_by leaf_weight ls
-chunks_weigh [] [] old new [] p = refl
-chunks_weigh [] [] old new (c ∷ cs) p = absurd p
-chunks_weigh [] (es ∷ cols) old new cs p = absurd p
-chunks_weigh (l ∷ ls) [] old new cs p = absurd p
-chunks_weigh (l ∷ ls) (es ∷ cols) old new [] p = absurd p
-chunks_weigh (l ∷ ls) (es ∷ cols) old new (c ∷ cs) p =
+chunks_weigh : (o : ChunkOptions) (ls : List Leaf) (cols : List (List Entry)) (old new : List ℕ) (cs : List ChunkMeta) → AppendsEach o ls cols old new cs → sum_by record_weight.chunk_weight cs ≡ sum_by leaf_weight ls
+chunks_weigh o [] [] old new [] p = refl
+chunks_weigh o [] [] old new (c ∷ cs) p = absurd p
+chunks_weigh o [] (es ∷ cols) old new cs p = absurd p
+chunks_weigh o (l ∷ ls) [] old new cs p = absurd p
+chunks_weigh o (l ∷ ls) (es ∷ cols) old new [] p = absurd p
+chunks_weigh o (l ∷ ls) (es ∷ cols) old new (c ∷ cs) p =
     let one = one_weighs c l p.2.here (p.1.fills []).is.path in
-    let rest = chunks_weigh ls cols p.0 new cs p.3 in
+    let rest = chunks_weigh o ls cols p.0 new cs p.3 in
     omega (arith, one, rest, sum_by-cons record_weight.chunk_weight c cs, sum_by-cons leaf_weight l ls)
 
-own_column : (m : ColumnMeta) (l : Leaf) → IsOwn m → m.path_in_schema ≡ l.path → length l.path ≤ 32 → leaf_weight l < 2 ^ 32 → IsOwnColumn m
-own_column m l own path few light = record {
-  encodings = rw (own.encodings) (omega arith);
-  path = rw path few;
-  names = rw path (All-from_recursion (λ (name : List ℕ). length name < 2 ^ 32) l.path (short_names (2 ^ 32) l.path (omega (arith, light))));
-  statistics = rw (own.statistics) tt;
-}
+-- at most two encodings
+few_numbers : (encoding : Encoding) → length (numbers_with_levels encoding) ≤ 10
+few_numbers Plain = omega arith
+few_numbers Rle = omega arith
+few_numbers encoding = omega arith
+
+-- and three with a dictionary
+few_encodings : (l : Leaf) (o : ChunkOptions) (es : List Entry) (parts : List (List Entry)) (m : ColumnMeta) (start : ℕ) (bytes : List ℕ) (used : ℕ) → HasPages l o es parts m start bytes used
+    → IfSome m.encodings (λ encodings. length encodings ≤ 10)
+few_encodings l o es parts m start bytes used (of_values none pages) = rw (pages.encodings) (few_numbers (encoding_of o.style l.leaf_type.kind))
+few_encodings l o es parts m start bytes used (of_indexes has pages) = rw (pages.encodings) (omega arith)
+
+own_statistics : (l : Leaf) (es : List Entry) (written : Option Statistics) → AreStatisticsOf l es written → IfSome written AreOwnStatistics
+own_statistics l es written s = subst (λ (w : Option Statistics). IfSome w AreOwnStatistics) (sym s.spelled) (record { max = refl; min = refl; max_value = s.short_max; min_value = s.short_min })
+
+own_column : (l : Leaf) (o : ChunkOptions) (old new : List ℕ) (m : ColumnMeta) (es : List Entry) → AppendsChunk l o old new m es → length l.path ≤ 32 → leaf_weight l < 2 ^ 32 → IsOwnColumn m
+own_column l o old new m es p few light =
+    let path = (p.fills []).is.path in
+    record {
+      encodings = few_encodings l o es p.parts m (length old) (p.text ++ []) (length p.text) (p.pages []);
+      path = rw path few;
+      names = rw path (All-from_recursion (λ (name : List ℕ). length name < 2 ^ 32) l.path (short_names (2 ^ 32) l.path (omega (arith, light))));
+      statistics = own_statistics l es m.statistics p.statistics;
+    }
 
 -- they are as the writer makes them, where they are light
-own_columns : (ls : List Leaf) (cols : List (List Entry)) (old new : List ℕ) (cs : List ChunkMeta) → AppendsEach ls cols old new cs → AllByRecursion (λ (l : Leaf). length l.path ≤ 32) ls → sum_by leaf_weight ls < 2 ^ 32
+own_columns : (o : ChunkOptions) (ls : List Leaf) (cols : List (List Entry)) (old new : List ℕ) (cs : List ChunkMeta) → AppendsEach o ls cols old new cs → AllByRecursion (λ (l : Leaf). length l.path ≤ 32) ls → sum_by leaf_weight ls < 2 ^ 32
     → AllByRecursion (λ (chunk : ChunkMeta). IsOwnColumn chunk.meta_data) cs
-own_columns [] [] old new [] p few light = tt
-own_columns [] [] old new (c ∷ cs) p few light = absurd p
-own_columns [] (es ∷ cols) old new cs p few light = absurd p
-own_columns (l ∷ ls) [] old new cs p few light = absurd p
-own_columns (l ∷ ls) (es ∷ cols) old new [] p few light = absurd p
-own_columns (l ∷ ls) (es ∷ cols) old new (c ∷ cs) p few light =
+own_columns o [] [] old new [] p few light = tt
+own_columns o [] [] old new (c ∷ cs) p few light = absurd p
+own_columns o [] (es ∷ cols) old new cs p few light = absurd p
+own_columns o (l ∷ ls) [] old new cs p few light = absurd p
+own_columns o (l ∷ ls) (es ∷ cols) old new [] p few light = absurd p
+own_columns o (l ∷ ls) (es ∷ cols) old new (c ∷ cs) p few light =
     let sum = sum_by-cons leaf_weight l ls in
-    (own_column c.meta_data l p.1.own (p.1.fills []).is.path few.0 (omega (arith, sum, light)), own_columns ls cols p.0 new cs p.3 few.1 (omega (arith, sum, light)))
+    (own_column l o old p.0 c.meta_data es p.1 few.0 (omega (arith, sum, light)), own_columns o ls cols p.0 new cs p.3 few.1 (omega (arith, sum, light)))
 
 -- what each group weighs in the record
 abbrev group_weight : Fields → ℕ
 group_weight fs = 64 + sum_by leaf_weight (leaves_of fs)
 
-groups_weigh : (fs : Fields) (old new : List ℕ) (gs : List GroupMeta) (groups : List (List ValueTrees)) → AppendsGroups fs old new gs groups → sum_by record_weight.group_weight gs ≡ length groups * group_weight fs
-groups_weigh fs old new [] [] p = omega arith
-groups_weigh fs old new [] (rows ∷ others) p = absurd p
-groups_weigh fs old new (g ∷ gs) [] p = absurd p
-groups_weigh fs old new (g ∷ gs) (rows ∷ others) p =
-    let one = chunks_weigh (leaves_of fs) (columns fs rows) old p.0 g.columns p.1.chunks in
-    let rest = groups_weigh fs p.0 new gs others p.2 in
+groups_weigh : (fs : Fields) (o : ChunkOptions) (old new : List ℕ) (gs : List GroupMeta) (groups : List (List ValueTrees)) → AppendsGroups fs o old new gs groups → sum_by record_weight.group_weight gs ≡ length groups * group_weight fs
+groups_weigh fs o old new [] [] p = omega arith
+groups_weigh fs o old new [] (rows ∷ others) p = absurd p
+groups_weigh fs o old new (g ∷ gs) [] p = absurd p
+groups_weigh fs o old new (g ∷ gs) (rows ∷ others) p =
+    let one = chunks_weigh o (leaves_of fs) (columns fs rows) old p.0 g.columns p.1.chunks in
+    let rest = groups_weigh fs o p.0 new gs others p.2 in
     omega (arith, one, rest, sum_by-cons record_weight.group_weight g gs, suc-mul (length others) (group_weight fs))
 
--- the record weighs what is told of its schema
-pub same_weight : (fs : Fields) (n : ℕ) (old new : List ℕ) (gs : List GroupMeta) (groups : List (List ValueTrees)) → AppendsGroups fs old new gs groups
+-- the record weighs what its schema and its groups say
+pub same_weight : (fs : Fields) (o : ChunkOptions) (n : ℕ) (old new : List ℕ) (gs : List GroupMeta) (groups : List (List ValueTrees)) → AppendsGroups fs o old new gs groups
     → record_weight.footer_weight [] (own_record fs n gs) ≡ footer_weight fs (length groups)
-same_weight fs n old new gs groups p = let weight = groups_weigh fs old new gs groups p in omega (arith, weight)
+same_weight fs o n old new gs groups p = let weight = groups_weigh fs o old new gs groups p in omega (arith, weight)
 
-own_groups : (fs : Fields) (old new : List ℕ) (gs : List GroupMeta) (groups : List (List ValueTrees)) → AppendsGroups fs old new gs groups → IsWithinLimits fs
+own_groups : (fs : Fields) (o : ChunkOptions) (old new : List ℕ) (gs : List GroupMeta) (groups : List (List ValueTrees)) → AppendsGroups fs o old new gs groups → IsWithinLimits fs
     → footer_weight fs (length groups) ≤ most_of_footer → AllByRecursion (λ (group : GroupMeta). AllByRecursion (λ (chunk : ChunkMeta). IsOwnColumn chunk.meta_data) group.columns) gs
-own_groups fs old new [] groups p within light = tt
-own_groups fs old new (g ∷ gs) [] p within light = absurd p
-own_groups fs old new (g ∷ gs) (rows ∷ others) p within light =
+own_groups fs o old new [] groups p within light = tt
+own_groups fs o old new (g ∷ gs) [] p within light = absurd p
+own_groups fs o old new (g ∷ gs) (rows ∷ others) p within light =
     let product = suc-mul (length others) (group_weight fs) in (
-      own_columns (leaves_of fs) (columns fs rows) old p.0 g.columns p.1.chunks (short_paths (leaves_of fs) (named_from 0 fs) within.depth) (omega (arith, light, product)),
-      own_groups fs p.0 new gs others p.2 within (omega (arith, light, product)),
+      own_columns o (leaves_of fs) (columns fs rows) old p.0 g.columns p.1.chunks (short_paths (leaves_of fs) (named_from 0 fs) within.depth) (omega (arith, light, product)),
+      own_groups fs o p.0 new gs others p.2 within (omega (arith, light, product)),
     )
 
 -- it is one of the writer's
-pub of_the_writer : (fs : Fields) (n : ℕ) (old new : List ℕ) (gs : List GroupMeta) (groups : List (List ValueTrees)) → AppendsGroups fs old new gs groups → IsWithinLimits fs
+pub of_the_writer : (fs : Fields) (o : ChunkOptions) (n : ℕ) (old new : List ℕ) (gs : List GroupMeta) (groups : List (List ValueTrees)) → AppendsGroups fs o old new gs groups → IsWithinLimits fs
     → footer_weight fs (length groups) ≤ most_of_footer → IsOfTheWriter [] (own_record fs n gs)
-of_the_writer fs n old new gs groups p within light = record {
-  columns = All-from_recursion (λ (group : GroupMeta). All (λ (chunk : ChunkMeta). IsOwnColumn chunk.meta_data) group.columns) gs (all_groups gs (own_groups fs old new gs groups p within light));
+of_the_writer fs o n old new gs groups p within light = record {
+  columns = All-from_recursion (λ (group : GroupMeta). All (λ (chunk : ChunkMeta). IsOwnColumn chunk.meta_data) group.columns) gs (all_groups gs (own_groups fs o old new gs groups p within light));
   pairs = tt;
   created_by = refl;
   column_orders = let few = few_from 0 fs in omega (arith, few, length-replicate (length (leaves_of fs)) type_order);

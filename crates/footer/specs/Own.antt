@@ -10,19 +10,16 @@ use Rattle.metadata.specs.FromTree.{file_meta}
 use Rattle.metadata.specs.ToTree.{file_meta_fields}
 use Rattle.metadata.specs.Answers.{StandsFor}
 use Rattle.row_group.specs.Writing.{AppendsGroup}
+use Rattle.row_group.specs.declared.options.ChunkOptions.{ChunkOptions}
+use Rattle.footer.specs.declared.options.WriteOptions.{WriteOptions}
 use Rattle.footer.specs.File.{magic, IsFramed}
-use Rattle.footer.specs.Writing.{AreGrouped}
+use Rattle.footer.specs.Writing.{chunk_options, groups_of}
 
--- the rows as groups: one has all of them, and where there are no rows there is none
-abbrev pub groups_of : List ValueTrees → List (List ValueTrees)
-groups_of [] = []
-groups_of (row ∷ rows) = (row ∷ rows) ∷ []
-
--- the bytes of `new` are those of `old` and the chunks of these groups, each group of its rows, one right behind the other
-abbrev pub AppendsGroups : Fields → List ℕ → List ℕ → List GroupMeta → List (List ValueTrees) → Type 0
-AppendsGroups fs old new [] [] = new ≡ old
-AppendsGroups fs old new (g ∷ gs) (rows ∷ others) = (middle : List ℕ) × AppendsGroup fs old middle g rows × AppendsGroups fs middle new gs others
-AppendsGroups fs old new _ _ = ⊥
+-- the bytes of `new` are those of `old` and the chunks of these groups, each group of its rows, one right after the other
+abbrev pub AppendsGroups : Fields → ChunkOptions → List ℕ → List ℕ → List GroupMeta → List (List ValueTrees) → Type 0
+AppendsGroups fs o old new [] [] = new ≡ old
+AppendsGroups fs o old new (g ∷ gs) (rows ∷ others) = (middle : List ℕ) × AppendsGroup fs o old middle g rows × AppendsGroups fs o middle new gs others
+AppendsGroups fs o old new _ _ = ⊥
 
 -- the record of a file with this schema, so many rows, and these groups: the writer is `pqds`, and each column has the order of its type
 abbrev pub own_record : Fields → ℕ → List GroupMeta → FileMeta
@@ -39,12 +36,10 @@ pub record IsFilled (bytes front : List ℕ) (meta : FileMeta) : Type 0 where
 abbrev pub EndsWith : List ℕ → FileMeta → List ℕ → Type 0
 EndsWith front meta bytes = (chunks : List ℕ) → front ≡ magic ++ chunks → IsFilled bytes front meta
 
--- The file as the store lays it out: `PAR1`; the chunks of the rows, in groups of this many each, one right behind the other
--- up to the footer; the writer's own record of them, which fills the footer; its length, and `PAR1`.
-pub record IsLaidOut (size : ℕ) (fs : Fields) (rows : List ValueTrees) (bytes : List ℕ) : Type 0 where
+-- The file as the store lays it out: `PAR1`; the chunks of the rows, in groups of as many as the options say, one right after the
+-- other up to the footer; the writer's own record of them, which fills the footer; its length, and `PAR1`.
+pub record IsLaidOut (o : WriteOptions) (fs : Fields) (rows : List ValueTrees) (bytes : List ℕ) : Type 0 where
   pub front : List ℕ
   pub metas : List GroupMeta
-  pub groups : List (List ValueTrees)
   pub file : IsFilled bytes front (own_record fs (length rows) metas)
-  pub grouped : AreGrouped size rows groups
-  pub chunks : AppendsGroups fs magic front metas groups
+  pub chunks : AppendsGroups fs (chunk_options o) magic front metas (groups_of o.group_rows rows)

@@ -1,34 +1,31 @@
 //! From rows to the bytes of a file.
 
-ghost use Rattle.std.specs.Prelude.{◌≡◌, ◌⊎◌, ◌≤◌, ◌<◌, List, map, length, true, false, IfOk, OnOk, OnErr, Err};
-ghost use Rattle.std.specs.List.{Any};
+ghost use Rattle.std.specs.Prelude.{◌≡◌, List, map, length, true, false, IfOk, OnOk, OnErr, Err};
+ghost use Rattle.std.specs.List.{AllByRecursion};
+ghost use Rattle.std.specs.Prelude.{◌⊎◌};
 ghost use Rattle.bits.specs.Refusals.{OnFault, RefusedOnly};
 ghost use Rattle.schema.specs.Fits.{RowsFit};
-ghost use Rattle.schema.specs.Values.{ValueTrees};
-ghost use Rattle.schema.specs.Shape.{Fields};
-ghost use Rattle.schema.specs.Stripe.{leaves_of};
 ghost use Rattle.schema.specs.Views.{rows_view};
 ghost use Rattle.metadata.specs.Views.{group_meta_view};
-ghost use Rattle.row_group.specs.Writing.{IsLeafNotWritten};
-ghost use Rattle.row_group.specs.Writing.{AreTaken, IsGroupTooMuch, IsOfRows};
-ghost use Rattle.footer.specs.File.{FileMeans};
-ghost use Rattle.footer.specs.Own.{groups_of, AppendsGroups, IsLaidOut};
-ghost use Rattle.footer.specs.Writing.{IsOutOfRange, IsTooMuch, IsToBeWritten, IsTaken};
+ghost use Rattle.row_group.specs.Writing.{AreTaken, IsOfRows};
+ghost use Rattle.footer.specs.File.{magic, FileMeans};
+ghost use Rattle.footer.specs.Own.{AppendsGroups, IsLaidOut};
+ghost use Rattle.footer.specs.Writing.{chunk_options, groups_of, IsOutOfRange, IsTooMuch, IsTaken};
 
 use crate::footer_record::record_of;
 use crate::footer_writing::ended;
 use crate::limits::MAGIC;
-use crate::options::{Style, WriteOptions};
+use crate::options::WriteOptions;
 use bits::{R, Refusal};
 use metadata::GroupMeta;
-use row_group::write_group;
+use row_group::{an_appended_group_has_its_rows, write_group};
 use schema::{Row, Schema};
 use std::alloc::Global;
 
 /// The most rows that a written group may have.
 const MOST_GROUP_ROWS: u32 = 1_048_576;
 
-/// Whether the options are refused for good.
+/// Whether the options are refused, whatever the rows.
 fn is_out_of_range(options: &WriteOptions) -> bool
     ensures within { result ≡ false → IsOutOfRange options.now → ⊥ }
     ensures out { result ≡ true → IsOutOfRange options.now }
@@ -39,62 +36,51 @@ fn is_out_of_range(options: &WriteOptions) -> bool
         || (options.page_version != 1 && options.page_version != 2)
 }
 
-/// Whether this many rows are not written yet with these options.
-fn is_to_be_written(options: &WriteOptions, rows: usize) -> bool
-    ensures one_group { result ≡ false → rows ≤ options.now.group_rows }
-    ensures one_page { result ≡ false → rows ≤ options.now.page_rows }
-    ensures first { result ≡ false → options.now.page_version ≡ 2 → ⊥ }
-    ensures plain { result ≡ false → options.now.style ≡ Style.Plain }
-    ensures why { result ≡ true → (fs : Fields) (trees : List ValueTrees) → length trees ≡ rows → IsToBeWritten fs options.now trees }
-{
-    rows > options.group_rows as usize
-        || rows > options.page_rows as usize
-        || options.page_version == 2
-        || options.style != Style::Plain
-}
-
-/// Writes the chunks of the rows at the end of `out`: one group, or none where there are no rows.
+/// Writes the rows after the magic, in groups of as many as the options say, and returns the groups' records.
 fn write_groups(
     alloc: Global,
     schema: &Schema,
+    options: &WriteOptions,
     rows: &[Row],
     out: &mut Vec<u8>,
 ) -> R<Vec<GroupMeta>>
-    ensures stands { IfOk result (λ gs. AppendsGroups schema.now out.old.items out.new.items (map group_meta_view gs.items) (groups_of (rows_view rows.now))) }
-    ensures readable { OnOk result (AreTaken schema.now (rows_view rows.now)) }
-    ensures built { OnOk result (0 < length rows.now → Any IsLeafNotWritten (leaves_of schema.now) → ⊥) }
+    requires in_range { IsOutOfRange options.now → ⊥ }
+    requires begun { out.old.items ≡ magic }
+    ensures stands { IfOk result (λ gs. AppendsGroups schema.now (chunk_options options.now) magic out.new.items (map group_meta_view gs.items) (groups_of options.now.group_rows (rows_view rows.now))) }
+    ensures readable { OnOk result (AllByRecursion (AreTaken schema.now) (groups_of options.now.group_rows (rows_view rows.now))) }
     ensures only { OnFault result (RowsFit schema.now (rows_view rows.now) → ⊥) }
-    ensures limit { result ≡ Err Refusal.Limit → IsGroupTooMuch (length out.old.items) schema.now (rows_view rows.now) ⊎ Any IsLeafNotWritten (leaves_of schema.now) }
-    ensures has_rows { OnErr result (0 < length rows.now) }
+    ensures limit { result ≡ Err Refusal.Limit → IsTooMuch schema.now options.now (rows_view rows.now) }
     ensures which { RefusedOnly IsOfRows result }
 {
-    if rows.is_empty() {
-        return Ok(Vec::new(alloc));
-    }
-    let group = write_group(alloc, schema, rows, out)?;
+    let size = options.group_rows as usize;
+    let chunk_options = options.of_chunks();
     let mut groups = Vec::new(alloc);
-    groups.push(group)?;
+    let mut rest = rows;
+    while !rest.is_empty() {
+        let (group, others) = rest.split_at(size.min(rest.len()));
+        let meta = write_group(alloc, schema, chunk_options, group, out)?;
+        groups.push(meta)?;
+        rest = others;
+    }
     Ok(groups)
 }
 
 /// The bytes of a file that means these rows of this schema (parquet-format, README.md, "File
 /// format"): `PAR1`, the row groups, each with a chunk for each leaf in the order of the leaves, the
-/// footer, its length, and `PAR1`, each right after the other. The rows are borrowed; their values are copied
-/// into the bytes alone.
+/// footer, its length, and `PAR1`, each right after the other. The rows are borrowed.
 ///
-/// Written today are files of at most one row group whose columns are all REQUIRED and at the top
-/// level, each in one page of version 1 in PLAIN. A file of no rows has no group, whatever its columns.
-/// The footer names its writer `pqds`, and the order of each column as its type's; no statistics are
-/// written yet.
+/// A group has `group_rows` rows, the last one the rest; so no rows make no group. Chunks and their pages are
+/// as [`write_group`] writes them. The footer names its writer `pqds`, and the order of each column as its
+/// type's.
 ///
-/// Refused RowShape exactly when a row does not fit the schema, lack of memory and Limit aside. Refused Limit
-/// for a number of rows in a group outside 1 to 1,048,576, for pages of no rows, for a version other than
-/// 1 and 2; for a value of more than 16 MiB; for more than 16,777,216 entries in a column of a group; for what is not
-/// written yet, which is always refused: more rows than a group or a page should have, version 2, another
-/// style, rows of other columns; and where the footer is longer than 16 MiB, or the file than 2^31 - 1
-/// bytes, which comes only where it weighs more.
+/// Refused RowShape only where a row does not fit the schema. Refused Limit only for options out of range (a
+/// number of rows in a group outside 1 to 1,048,576, pages of no rows, a version other than 1 and 2), for a
+/// value of more than 16 MiB, for more than 16,777,216 entries in a column of a group, and where the footer is
+/// longer than 16 MiB, or the file than 2^31 - 1 bytes, which comes only where it weighs more. Where several
+/// are so, any of them may come.
 ///
-/// The time is linear in the rows and the schema.
+/// The time is linear in the rows, the schema, and the bytes of both. Apart from the rows and the file, the
+/// entries of one group stand in memory at a time.
 pub fn write_file(
     alloc: Global,
     schema: &Schema,
@@ -102,22 +88,19 @@ pub fn write_file(
     rows: &[Row],
 ) -> R<Vec<u8>>
     ensures means { IfOk result (λ file. FileMeans file.items schema.now (rows_view rows.now)) }
-    ensures laid_out { IfOk result (λ file. IsLaidOut options.now.group_rows schema.now (rows_view rows.now) file.items) }
+    ensures laid_out { IfOk result (λ file. IsLaidOut options.now schema.now (rows_view rows.now) file.items) }
     ensures readable { IfOk result (λ file. IsTaken options.now.group_rows schema.now (rows_view rows.now) file.items) }
     ensures options { OnOk result (IsOutOfRange options.now → ⊥) }
-    ensures built { OnOk result (IsToBeWritten schema.now options.now (rows_view rows.now) → ⊥) }
     ensures only { OnFault result (RowsFit schema.now (rows_view rows.now) → ⊥) }
-    ensures limit { result ≡ Err Refusal.Limit → IsOutOfRange options.now ⊎ (IsTooMuch schema.now options.now (rows_view rows.now) ⊎ IsToBeWritten schema.now options.now (rows_view rows.now)) }
+    ensures limit { result ≡ Err Refusal.Limit → IsOutOfRange options.now ⊎ IsTooMuch schema.now options.now (rows_view rows.now) }
     ensures which { RefusedOnly IsOfRows result }
 {
+    an_appended_group_has_its_rows();
     if is_out_of_range(options) {
         return Err(Refusal::Limit);
     }
-    if is_to_be_written(options, rows.len()) {
-        return Err(Refusal::Limit);
-    }
     let mut front = Vec::from_slice(alloc, MAGIC)?;
-    let groups = write_groups(alloc, schema, rows, &mut front)?;
+    let groups = write_groups(alloc, schema, options, rows, &mut front)?;
     let record = record_of(alloc, schema, rows.len(), groups)?;
     ended(alloc, front, &record)
 }

@@ -1,6 +1,6 @@
 //! The record of a file that is written.
 
-ghost use Rattle.std.specs.Prelude.{◌≡◌, ◌≤◌, map, replicate, IfOk, OnOk, option_map};
+ghost use Rattle.std.specs.Prelude.{◌≡◌, ◌<◌, ◌^◌, map, replicate, IfOk, OnOk, option_map};
 ghost use Rattle.bits.specs.Refusals.{RefusedOnly};
 ghost use Rattle.thrift_compact.specs.View.{tree_view};
 ghost use Rattle.schema.specs.Elements.{element_view, elements_view};
@@ -88,7 +88,7 @@ pub fn record_of(
     rows: usize,
     row_groups: Vec<GroupMeta>,
 ) -> R<FileMeta>
-    requires { rows ≤ 1048576 }
+    requires { rows < 2 ^ 63 }
     ensures meta_is { IfOk result (λ meta. file_meta_view meta ≡ own_record schema.now rows (map group_meta_view row_groups.items)) }
     ensures writable { IfOk result (λ meta. EachKeepsWritten (file_meta_view meta)) }
     ensures listed { OnOk result (IsSchemaOf (elements_of schema.now) schema.now) }

@@ -22,5 +22,5 @@ pub use file_writing::write_file;
 pub use footer_reading::read_footer;
 pub use laws::one_list_of_rows;
 pub use limits::{MOST_BYTES_OF_FILE, MOST_BYTES_OF_FOOTER};
-pub use options::{Style, WriteOptions};
+pub use options::WriteOptions;
 pub use rows::Rows;

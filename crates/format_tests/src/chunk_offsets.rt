@@ -1,6 +1,6 @@
+use crate::chunks_and_groups::read_all;
 use bits::{R, Refusal};
 use metadata::{ChunkMeta, ColumnMeta, GroupMeta};
-use row_group::read_group;
 use schema::{Element, Row, Schema};
 use std::alloc::Global;
 use std::test::*;
@@ -59,7 +59,7 @@ fn rows_of(alloc: Global, rows: i64, data_page: i64, dictionary: i64) -> R<Vec<R
         total_byte_size: None,
         num_rows: rows,
     };
-    read_group(alloc, front.as_slice(), &group, &fields(alloc, 1)?)
+    read_all(alloc, front.as_slice(), &group, &fields(alloc, 1)?)
 }
 
 #[test]

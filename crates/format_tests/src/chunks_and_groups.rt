@@ -90,11 +90,20 @@ fn group_of(alloc: Global, num_rows: i64, first: ColumnMeta) -> R<GroupMeta> {
     })
 }
 
+/// All rows of a group.
+pub fn read_all(alloc: Global, front: &[u8], meta: &GroupMeta, schema: &Schema) -> R<Vec<Row>> {
+    let mut all = Vec::new(alloc);
+    for place in 0..schema.leaves().len() {
+        all.push(place)?;
+    }
+    read_group(alloc, front, meta, schema, all.as_slice())
+}
+
 /// The rows of a group of these chunks.
 fn read_both(alloc: Global, num_rows: i64, first: ColumnMeta) -> R<Vec<Row>> {
     let group = group_of(alloc, num_rows, first)?;
     let bytes = front(alloc)?;
-    read_group(alloc, bytes.as_slice(), &group, &fields(alloc)?)
+    read_all(alloc, bytes.as_slice(), &group, &fields(alloc)?)
 }
 
 /// The integers' column, from these bytes.

@@ -1,6 +1,7 @@
+use crate::chunks_and_groups::read_all;
 use bits::{R, Refusal};
 use metadata::{ChunkMeta, ColumnMeta, GroupMeta};
-use row_group::{Rows, check_chunk, read_chunk, read_group};
+use row_group::{Rows, check_chunk, read_chunk};
 use schema::{Element, Schema};
 use std::alloc::Global;
 use std::test::*;
@@ -165,7 +166,7 @@ fn printed(alloc: Global, pages: &[&[u8]]) -> R<String> {
     let lists = bytes.len();
     bytes.extend_from_slice(&NUMBERS)?;
     let group = group_of(alloc, lists, 4, 3, 3)?;
-    let rows = read_group(alloc, bytes.as_slice(), &group, &fields(alloc)?)?;
+    let rows = read_all(alloc, bytes.as_slice(), &group, &fields(alloc)?)?;
     Ok(format!(in alloc; "{rows:?}")?)
 }
 
@@ -301,7 +302,7 @@ fn columns_that_make_no_rows_are_refused(rt: HostRuntime) -> Result<(), Fail> {
     let group = group_of(alloc, 43, 4, 2, 3)?;
     assert!(rt;
         matches!(
-            read_group(alloc, fewer.as_slice(), &group, &schema),
+            read_all(alloc, fewer.as_slice(), &group, &schema),
             Err(Refusal::Levels)
         )
     );
@@ -309,7 +310,7 @@ fn columns_that_make_no_rows_are_refused(rt: HostRuntime) -> Result<(), Fail> {
     let group = group_of(alloc, 43, 4, 3, 4)?;
     assert!(rt;
         matches!(
-            read_group(alloc, both.as_slice(), &group, &schema),
+            read_all(alloc, both.as_slice(), &group, &schema),
             Err(Refusal::Levels)
         )
     );
@@ -317,7 +318,7 @@ fn columns_that_make_no_rows_are_refused(rt: HostRuntime) -> Result<(), Fail> {
     let group = group_of(alloc, 33, 2, 3, 3)?;
     assert!(rt;
         matches!(
-            read_group(alloc, inside.as_slice(), &group, &schema),
+            read_all(alloc, inside.as_slice(), &group, &schema),
             Err(Refusal::Levels)
         )
     );
@@ -332,7 +333,7 @@ fn a_page_that_is_refused_names_the_group_s_fault(rt: HostRuntime) -> Result<(),
         &[BEGINS.as_slice(), DICTIONARY.as_slice(), NUMBERS.as_slice()],
     )?;
     let group = group_of(alloc, 50, 4, 3, 3)?;
-    let read = read_group(alloc, bytes.as_slice(), &group, &fields(alloc)?);
+    let read = read_all(alloc, bytes.as_slice(), &group, &fields(alloc)?);
     assert!(rt; matches!(read, Err(Refusal::Page)));
     Ok(())
 }

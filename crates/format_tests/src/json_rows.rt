@@ -1,7 +1,7 @@
 //! Rows from text, and as text.
 
 use bits::R;
-use jsonrows::{Printer, row_from, row_to, schema_from};
+use jsonrows::{Printer, Reader, row_from, row_to, schema_from};
 use std::alloc::Global;
 use std::test::*;
 
@@ -194,6 +194,16 @@ fn shown(alloc: Global, schema: &str, other: &str, line: &str) -> R<String> {
     row_to(alloc, &schema_from(alloc, other)?, &row)
 }
 
+/// The same by a reader that read the line before, and refused another text.
+fn shown_again(alloc: Global, schema: &str, other: &str, line: &str) -> R<String> {
+    let schema = schema_from(alloc, schema)?;
+    let mut reader = Reader::new(alloc, &schema)?;
+    drop(reader.read(line));
+    drop(reader.read("{"));
+    let row = reader.read(line)?;
+    row_to(alloc, &schema_from(alloc, other)?, &row)
+}
+
 /// What a printer prints of it, twice.
 fn printed(alloc: Global, schema: &str, other: &str, line: &str) -> R<Vec<u8>> {
     let row = row_from(alloc, &schema_from(alloc, schema)?, line)?;
@@ -213,11 +223,31 @@ fn answer(alloc: Global, schema: &str, other: &str, line: &str) -> R<String> {
     }
 }
 
+/// The same by a reader.
+fn answer_again(alloc: Global, schema: &str, other: &str, line: &str) -> R<String> {
+    match shown_again(alloc, schema, other, line) {
+        Ok(text) => Ok(text),
+        Err(refusal) => Ok(format!(in alloc; "{refusal}")?),
+    }
+}
+
+/// A schema of one leaf.
+fn leaf_schema(alloc: Global, leaf: &str) -> R<String> {
+    Ok(format!(in alloc; "[{{\"name\":\"x\",\"rep\":\"required\",{leaf}}}]")?)
+}
+
 /// What comes of a line in the schemas of one leaf.
 fn leaf_answer(alloc: Global, leaf: &str, other: &str, line: &str) -> R<String> {
-    let schema = format!(in alloc; "[{{\"name\":\"x\",\"rep\":\"required\",{leaf}}}]")?;
-    let other = format!(in alloc; "[{{\"name\":\"x\",\"rep\":\"required\",{other}}}]")?;
+    let schema = leaf_schema(alloc, leaf)?;
+    let other = leaf_schema(alloc, other)?;
     answer(alloc, schema.as_str(), other.as_str(), line)
+}
+
+/// The same by a reader.
+fn leaf_answer_again(alloc: Global, leaf: &str, other: &str, line: &str) -> R<String> {
+    let schema = leaf_schema(alloc, leaf)?;
+    let other = leaf_schema(alloc, other)?;
+    answer_again(alloc, schema.as_str(), other.as_str(), line)
 }
 
 #[test]
@@ -233,6 +263,19 @@ fn values_are_read_and_shown_by_their_annotation(rt: HostRuntime) -> Result<(), 
 fn rows_are_read_and_shown_by_their_shape(rt: HostRuntime) -> Result<(), Fail> {
     for [schema, line, wanted] in &ROWS {
         let answer = answer(rt.alloc(), schema, schema, line)?;
+        assert_eq!(rt; answer.as_str(), *wanted);
+    }
+    Ok(())
+}
+
+#[test]
+fn a_reader_reads_what_row_from_reads(rt: HostRuntime) -> Result<(), Fail> {
+    for [leaf, other, line, wanted] in &LEAVES {
+        let answer = leaf_answer_again(rt.alloc(), leaf, other, line)?;
+        assert_eq!(rt; answer.as_str(), *wanted);
+    }
+    for [schema, line, wanted] in &ROWS {
+        let answer = answer_again(rt.alloc(), schema, schema, line)?;
         assert_eq!(rt; answer.as_str(), *wanted);
     }
     Ok(())

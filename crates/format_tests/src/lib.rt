@@ -7,6 +7,8 @@
 #[cfg(test)]
 mod assembling;
 #[cfg(test)]
+mod bad_pages;
+#[cfg(test)]
 mod chunk_offsets;
 #[cfg(test)]
 mod chunks_and_groups;
@@ -16,6 +18,8 @@ mod chunks_of_several_pages;
 mod codecs;
 #[cfg(test)]
 mod copies;
+#[cfg(test)]
+mod cut_groups;
 #[cfg(test)]
 mod deltas;
 #[cfg(test)]
@@ -74,3 +78,5 @@ mod written_files;
 mod written_groups;
 #[cfg(test)]
 mod written_pages;
+#[cfg(test)]
+mod written_styles;

@@ -20,13 +20,13 @@ const SCHEMAS: u64 = 60;
 
 /// A linear congruential generator (Knuth's MMIX).
 #[derive(Debug, Drop)]
-struct Random {
-    state: u64,
+pub(crate) struct Random {
+    pub(crate) state: u64,
 }
 
 impl Random {
     /// A number below this one, or 0.
-    fn below(&mut self, bound: u16) -> u16 {
+    pub(crate) fn below(&mut self, bound: u16) -> u16 {
         self.state = self
             .state
             .wrapping_mul(6364136223846793005)
@@ -61,7 +61,7 @@ fn element(alloc: Global, random: &mut Random, number: usize, children: i32) -> 
 }
 
 /// A random schema, nested at most six deep: `open` holds how many children each open group still lacks.
-fn random_schema(alloc: Global, random: &mut Random) -> R<Schema> {
+pub(crate) fn random_schema(alloc: Global, random: &mut Random) -> R<Schema> {
     let mut elements = Vec::new(alloc);
     let mut open: Vec<i32> = Vec::new(alloc);
     for number in 0..200 {
@@ -139,7 +139,7 @@ fn random_value(alloc: Global, random: &mut Random, field: &Field) -> R<Value> {
 }
 
 #[cycle(values)]
-fn random_values(alloc: Global, random: &mut Random, fields: &[Field]) -> R<Vec<Value>> {
+pub(crate) fn random_values(alloc: Global, random: &mut Random, fields: &[Field]) -> R<Vec<Value>> {
     let mut values = Vec::new(alloc);
     for field in fields {
         values.push(random_value(alloc, random, field)?)?;
@@ -156,7 +156,7 @@ fn random_rows(alloc: Global, random: &mut Random, schema: &Schema) -> R<Vec<Row
     Ok(rows)
 }
 
-fn are_same(a: &[Row], b: &[Row]) -> bool {
+pub(crate) fn are_same(a: &[Row], b: &[Row]) -> bool {
     a.len() == b.len()
         && a.iter().zip(b.iter()).all(|(a, b)| {
             a.values.len() == b.values.len()

@@ -80,7 +80,12 @@ const BY_PREFIXES: [u8; 26] = [
 ];
 
 /// A leaf; converted type 0 is UTF8.
-fn leaf_of(alloc: Global, kind: Kind, converted_type: Option<i32>, greatest: (u32, u32)) -> Leaf {
+pub fn leaf_of(
+    alloc: Global,
+    kind: Kind,
+    converted_type: Option<i32>,
+    greatest: (u32, u32),
+) -> Leaf {
     Leaf {
         path: Vec::new(alloc),
         steps: Vec::new(alloc),
@@ -96,7 +101,7 @@ fn leaf_of(alloc: Global, kind: Kind, converted_type: Option<i32>, greatest: (u3
 }
 
 /// A page of version 1, with levels in RLE.
-fn version_1(alloc: Global, count: u8, encoding: u8, body: &[u8]) -> R<Vec<u8>> {
+pub fn version_1(alloc: Global, count: u8, encoding: u8, body: &[u8]) -> R<Vec<u8>> {
     let size = (body.len() % 64) as u8 * 2;
     let (count, encoding) = (count.wrapping_mul(2), encoding.wrapping_mul(2));
     let mut page = Vec::new(alloc);
@@ -107,7 +112,7 @@ fn version_1(alloc: Global, count: u8, encoding: u8, body: &[u8]) -> R<Vec<u8>> 
 }
 
 /// A page of version 2, with so many bytes of definition and of repetition levels.
-fn version_2(
+pub fn version_2(
     alloc: Global,
     count: u8,
     encoding: u8,
@@ -168,7 +173,7 @@ fn holds(alloc: Global, bytes: &[u8], leaf: &Leaf, entries: &[Shown]) -> R<bool>
 }
 
 /// The refusal of a page that should have at most three entries.
-fn refusal_of(alloc: Global, bytes: &[u8], leaf: &Leaf) -> Option<Refusal> {
+pub fn refusal_of(alloc: Global, bytes: &[u8], leaf: &Leaf) -> Option<Refusal> {
     match read_page(alloc, bytes, leaf, None, 3) {
         Ok(_) => None,
         Err(refusal) => Some(refusal),

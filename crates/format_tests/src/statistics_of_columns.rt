@@ -1,10 +1,6 @@
-ghost use Rattle.std.specs.Prelude.{option_map};
-ghost use Rattle.schema.specs.Stripe.{Entry as Shown};
-ghost use Rattle.schema.specs.Values.{view};
-
 use bits::{R, Refusal};
-use schema::{Column, Element, Entry, Kind, Schema, Value};
-use statistics::{HasValue, Stats, bounds, bounds_of};
+use schema::{Column, Element, Entry, EntryRef, Kind, Schema, Value, ValueRef};
+use statistics::{Stats, bounds, bounds_of};
 use std::alloc::Global;
 use std::test::*;
 
@@ -151,35 +147,35 @@ fn bounds_are_read_from_their_bytes(rt: HostRuntime) -> Result<(), Fail> {
     Ok(())
 }
 
-/// An entry that borrows its value.
-#[derive(Drop)]
-struct Borrowed<'a> {
-    value: Option<&'a Value>,
-}
-
-impl<'a> HasValue for Borrowed<'a> {
-    ghost shown = { λ e. record { repetition = 0; definition = 0; value = option_map (λ v. view v.now) e.value } };
-
-    fn value(&self) -> Option<&Value> {
-        self.value
+/// A REQUIRED entry of a borrowed value.
+fn entry_of(value: ValueRef<'_>) -> EntryRef<'_> {
+    EntryRef {
+        repetition: 0,
+        definition: 0,
+        value: Some(value),
     }
 }
 
 #[test]
 fn entries_may_borrow_their_values(rt: HostRuntime) -> Result<(), Fail> {
     let alloc = rt.alloc();
-    let schema = schema_of(alloc, 1, None, None)?;
-    let low = Value::Int(-5);
-    let high = Value::Int(9);
-    let entries = [
-        Borrowed { value: Some(&high) },
-        Borrowed { value: None },
-        Borrowed { value: Some(&low) },
-    ];
-    assert_eq!(rt; schema.leaves().len(), 1);
-    let found = bounds_of(alloc, &schema.leaves()[0], entries.as_slice())?;
-    assert!(rt; matches!(found.min, Some(Value::Int(-5))));
-    assert!(rt; matches!(found.max, Some(Value::Int(9))));
+    let schema = schema_of(alloc, 6, None, Some(UTF8))?;
+    let mut entries = Vec::new(alloc);
+    entries.push(entry_of(ValueRef::Bytes(b"pear".as_slice())))?;
+    entries.push(entry_of(ValueRef::Bytes(b"apple".as_slice())))?;
+    entries.push(entry_of(ValueRef::Bytes(b"plum".as_slice())))?;
+    let null = EntryRef {
+        repetition: 0,
+        definition: 0,
+        value: None,
+    };
+    entries.push(null)?;
+    let leaves = schema.leaves();
+    assert_eq!(rt; leaves.len(), 1);
+    let found = bounds_of(alloc, &leaves[0], entries.as_slice())?;
     assert_eq!(rt; found.nulls, 1);
+    let bytes = found.to_bytes(alloc, Kind::ByteArray)?;
+    assert!(rt; has_bytes(&bytes.min, b"apple".as_slice()));
+    assert!(rt; has_bytes(&bytes.max, b"plum".as_slice()));
     Ok(())
 }

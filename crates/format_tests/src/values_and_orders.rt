@@ -1,7 +1,7 @@
 use bits::R;
 use schema::{
-    Annotation, ConvertedType, Field, GroupAnnotation, Kind, Leaf, LeafType, Repetition, Row,
-    Value, compare, fits_row, same,
+    Annotation, ConvertedType, Field, GroupAnnotation, Kind, Leaf, LeafType, Order, Repetition,
+    Row, Value, ValueRef, compare, compare_refs, fits_row, same,
 };
 use std::alloc::Global;
 use std::cmp::Ordering;
@@ -80,6 +80,24 @@ fn bytes_compare_bytewise_where_they_do(rt: HostRuntime) -> Result<(), Fail> {
         Some(Ordering::Less)
     );
     Ok(())
+}
+
+#[test]
+fn borrowed_values_compare_in_an_order(rt: HostRuntime) {
+    let (large, one) = (ValueRef::Int(-1), ValueRef::Int(1));
+    let (short, long) = (
+        ValueRef::Bytes(b"b".as_slice()),
+        ValueRef::Bytes(b"ab".as_slice()),
+    );
+    for (order, a, b, wanted) in [
+        (Some(Order::Signed), large, one, Some(Ordering::Less)),
+        (Some(Order::Unsigned), large, one, Some(Ordering::Greater)),
+        (Some(Order::Bytewise), short, long, Some(Ordering::Greater)),
+        (Some(Order::Bytewise), large, long, None),
+        (None, large, one, None),
+    ] {
+        assert_eq!(rt; compare_refs(order, a, b), wanted);
+    }
 }
 
 #[test]

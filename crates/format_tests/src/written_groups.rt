@@ -1,7 +1,8 @@
-use crate::chunks_and_groups::{element, fields, front};
+use crate::chunks_and_groups::{element, fields, front, read_all};
 use bits::{R, Refusal};
 use metadata::{ColumnMeta, GroupMeta};
-use row_group::{read_group, write_chunk, write_group};
+use pages::PageVersion;
+use row_group::{ChunkOptions, Style, write_chunk, write_group};
 use schema::{EntryRef, Leaf, Row, Schema, Value, ValueRef};
 use std::alloc::Global;
 use std::test::*;
@@ -31,10 +32,17 @@ fn pair(alloc: Global, number: i64, text: &[u8]) -> R<Row> {
     Ok(row)
 }
 
+/// PLAIN, in one page of version 1.
+const ONE_PAGE: ChunkOptions = ChunkOptions {
+    page_rows: 20_000,
+    page_version: PageVersion::V1,
+    style: Style::Plain,
+};
+
 /// The record of a group of these rows, after what is in `out`.
 fn written(alloc: Global, schema: &Schema, rows: [Row; 2], out: &mut Vec<u8>) -> R<GroupMeta> {
     let rows = Vec::from_array(alloc, rows)?;
-    write_group(alloc, schema, rows.as_slice(), out)
+    write_group(alloc, schema, ONE_PAGE, rows.as_slice(), out)
 }
 
 /// The entry of a value of a REQUIRED leaf.
@@ -52,7 +60,7 @@ fn chunk_of(alloc: Global, leaf: &Leaf, values: [&Value; 2], out: &mut Vec<u8>) 
     for value in values {
         entries.push(entry_of(value))?;
     }
-    write_chunk(alloc, leaf, entries.as_slice(), out)
+    write_chunk(alloc, leaf, ONE_PAGE, entries.as_slice(), out)
 }
 
 /// What writing the entry to a leaf of REQUIRED INT64 answers, and what is in `out` then.
@@ -62,7 +70,7 @@ fn refused(alloc: Global, entry: EntryRef<'_>) -> R<String> {
         return Err(Refusal::Schema);
     };
     let mut out = Vec::from_slice(alloc, b"PAR1".as_slice())?;
-    let answer = write_chunk(alloc, leaf, &[entry], &mut out);
+    let answer = write_chunk(alloc, leaf, ONE_PAGE, &[entry], &mut out);
     let text = format!(in alloc; "{answer:?} {out:?}")?;
     Ok(text)
 }
@@ -126,7 +134,7 @@ fn the_pages_of_two_leaves_stand_behind_the_magic(rt: HostRuntime) -> Result<(),
     let meta = written(alloc, &schema, rows, &mut out)?;
     let bytes = front(alloc)?;
     assert_eq!(rt; out.as_slice(), bytes.as_slice());
-    let again = read_group(alloc, out.as_slice(), &meta, &schema)?;
+    let again = read_all(alloc, out.as_slice(), &meta, &schema)?;
     let text = format!(in alloc; "{again:?}")?;
     assert_eq!(rt;
         text.as_str(),
@@ -145,7 +153,7 @@ fn the_record_has_the_numbers_of_the_worked_file(rt: HostRuntime) -> Result<(), 
     let text = format!(in alloc; "{meta:?}")?;
     assert_eq!(rt;
         text.as_str(),
-        "GroupMeta { columns: [ChunkMeta { file_path: None, file_offset: Some(0), meta_data: ColumnMeta { kind: 2, encodings: Some([0, 3]), path_in_schema: [[120]], codec: 0, num_values: 2, total_uncompressed_size: Some(33), total_compressed_size: Some(33), data_page_offset: 4, dictionary_page_offset: None, statistics: None } }], total_byte_size: Some(33), num_rows: 2 }"
+        "GroupMeta { columns: [ChunkMeta { file_path: None, file_offset: Some(0), meta_data: ColumnMeta { kind: 2, encodings: Some([0, 3]), path_in_schema: [[120]], codec: 0, num_values: 2, total_uncompressed_size: Some(33), total_compressed_size: Some(33), data_page_offset: 4, dictionary_page_offset: None, statistics: Some(Statistics { max: None, min: None, null_count: Some(0), distinct_count: None, max_value: Some([44, 1, 0, 0, 0, 0, 0, 0]), min_value: Some([1, 0, 0, 0, 0, 0, 0, 0]), is_max_value_exact: None, is_min_value_exact: None }) } }], total_byte_size: Some(33), num_rows: 2 }"
     );
     Ok(())
 }
@@ -155,11 +163,11 @@ fn no_rows_are_no_pages(rt: HostRuntime) -> Result<(), Fail> {
     let alloc = rt.alloc();
     let schema = fields(alloc)?;
     let mut out = Vec::from_slice(alloc, b"PAR1".as_slice())?;
-    let meta = write_group(alloc, &schema, &[], &mut out)?;
+    let meta = write_group(alloc, &schema, ONE_PAGE, &[], &mut out)?;
     assert_eq!(rt; out.as_slice(), b"PAR1".as_slice());
     assert_eq!(rt; meta.columns.len(), 2);
     assert_eq!(rt; meta.total_byte_size, Some(0));
-    let again = read_group(alloc, out.as_slice(), &meta, &schema)?;
+    let again = read_all(alloc, out.as_slice(), &meta, &schema)?;
     assert_eq!(rt; again.len(), 0);
     Ok(())
 }
@@ -177,13 +185,13 @@ fn a_row_that_does_not_fit_is_refused_row_shape(rt: HostRuntime) -> Result<(), F
 }
 
 #[test]
-fn an_optional_leaf_is_refused_limit(rt: HostRuntime) -> Result<(), Fail> {
+fn a_group_is_not_written_at_the_front_of_a_file(rt: HostRuntime) -> Result<(), Fail> {
     let alloc = rt.alloc();
-    let schema = numbers(alloc, 1)?;
+    let schema = numbers(alloc, 0)?;
     let rows = [row(alloc, 1)?, row(alloc, 300)?];
-    let mut out = Vec::from_slice(alloc, b"PAR1".as_slice())?;
+    let mut out = Vec::new(alloc);
     let answer = written(alloc, &schema, rows, &mut out);
     assert!(rt; matches!(&answer, Err(Refusal::Limit)));
-    assert_eq!(rt; out.as_slice(), b"PAR1".as_slice());
+    assert_eq!(rt; out.len(), 0);
     Ok(())
 }

@@ -13,11 +13,11 @@ joined (value v vs) others = value v (joined vs others)
 abbrev pub behind : List Value → Option ValueTrees → Option ValueTrees
 behind vs left = option_map (joined (views vs)) left
 
-joined-none : (vs : ValueTrees) → joined vs no_values ≡ vs
+pub joined-none : (vs : ValueTrees) → joined vs no_values ≡ vs
 joined-none no_values = refl
 joined-none (value v vs) = ap (value v) (joined-none vs)
 
-joined-push : (vs : List Value) (v : Value) (others : ValueTrees) → joined (views vs) (value (view v) others) ≡ joined (views (vs ++ v ∷ [])) others
+pub joined-push : (vs : List Value) (v : Value) (others : ValueTrees) → joined (views vs) (value (view v) others) ≡ joined (views (vs ++ v ∷ [])) others
 joined-push [] v others = refl
 joined-push (w ∷ vs) v others = ap (value (view w)) (joined-push vs v others)
 

@@ -24,3 +24,7 @@ pub mod Operands
 pub mod FilterFaults
 pub mod Printing
 pub mod Planned
+pub mod Digits
+pub mod Conversion
+pub mod Filling
+pub mod Turns

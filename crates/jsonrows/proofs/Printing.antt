@@ -119,7 +119,7 @@ low_byte x high low none small h l =
 
 -- ---- values
 
-view-ValueGroup : (vs : Vec CodeValue Global) → view (GroupOf vs) ≡ group (views vs.items)
+pub view-ValueGroup : (vs : Vec CodeValue Global) → view (GroupOf vs) ≡ group (views vs.items)
 view-ValueGroup vs = search (rules, of_schema)
 
 pub inside_group : (member : Member) (i : ℕ) (k : Vec ℕ Global) (r : Repetition) (m : BTreeMap (String Global) Member) (v : CodeValue) (vs : Vec CodeValue Global) (xs : List CodeValue) → member ≡ Group i k r m → v ≡ GroupOf vs → xs ≡ vs.items

@@ -26,11 +26,11 @@ and_true false b h = cc
 
 -- ---- names that rise
 
-before_further : (k l : List ℕ) (ms : Members) → slice_cmp nat_cmp k l ≡ Less → IsBefore l ms → IsBefore k ms
+pub before_further : (k l : List ℕ) (ms : Members) → slice_cmp nat_cmp k l ≡ Less → IsBefore l ms → IsBefore k ms
 before_further k l no_members less h = tt
 before_further k l (member j e ms) less h = (nat_list_cmp_total.trans k l j less h.0, before_further k l ms less h.1)
 
-less_turned : (k l : List ℕ) → slice_cmp nat_cmp k l ≡ Greater → slice_cmp nat_cmp l k ≡ Less
+pub less_turned : (k l : List ℕ) → slice_cmp nat_cmp k l ≡ Greater → slice_cmp nat_cmp l k ≡ Less
 less_turned k l h = nat_list_cmp_total.antisymm l k ∙ ap ordering_reverse h
 
 before_at : (o : Ordering) (j : List ℕ) (a b c : Members) → IsBefore j a → IsBefore j b → IsBefore j c → IsBefore j (match_ordering o a b c)
@@ -48,7 +48,7 @@ order_at Less k l d e ms is h later = ((is, before_further k l ms is h.0), h)
 order_at Equal k l d e ms is h later = h
 order_at Greater k l d e ms is h later = (before_put l k d ms (less_turned k l is) h.0, later)
 
-order_put : (k : List ℕ) (d : Data) (ms : Members) → AreInOrder ms → AreInOrder (put k d ms)
+pub order_put : (k : List ℕ) (d : Data) (ms : Members) → AreInOrder ms → AreInOrder (put k d ms)
 order_put k d no_members h = (tt, tt)
 order_put k d (member l e ms) h = order_at (slice_cmp nat_cmp k l) k l d e ms refl h (order_put k d ms h.1)
 

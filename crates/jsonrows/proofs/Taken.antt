@@ -51,7 +51,7 @@ pub none_left-more : (all : List CodeField) (es : List Entry) → all ≡ [] →
 none_left-more all [] none h = absurd (h refl)
 none_left-more all (e ∷ es) none h = ap (λ xs. members_read (field_views xs) (members_view (e ∷ es))) none
 
-repeated-field_read : (f : Field) (ds : Items) → repetition_of f ≡ Repeated → field_read f (Some (json.array ds)) ≡ option_map list (items_read (inside_read f) ds)
+pub repeated-field_read : (f : Field) (ds : Items) → repetition_of f ≡ Repeated → field_read f (Some (json.array ds)) ≡ option_map list (items_read (inside_read f) ds)
 repeated-field_read (leaf n r t) ds e = rw e refl
 repeated-field_read (fields n r a fs) ds e = rw e refl
 

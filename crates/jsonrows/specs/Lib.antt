@@ -4,5 +4,6 @@ pub mod SchemaJson
 pub mod SchemaPrinted
 pub mod Filters
 pub mod Printer
+pub mod Reader
 pub mod Law
 pub mod inner

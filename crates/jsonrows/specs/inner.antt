@@ -2,3 +2,4 @@ pub mod SchemaReading
 pub mod SchemaViews
 pub mod SchemaPrinting
 pub mod Plan
+pub mod Fill

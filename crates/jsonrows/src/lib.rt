@@ -5,19 +5,25 @@
 #![tactic(auto)]
 
 mod filter_reading;
+mod integers;
 mod json_text;
 mod laws;
 mod members;
+mod names;
 mod printer;
+mod reader;
 mod row_printing;
 mod row_reading;
 mod schema_notes;
 mod schema_printing;
 mod schema_reading;
+mod tokens;
+mod unread;
 
 pub use filter_reading::filter_from;
 pub use laws::{rows_read_back, schemas_read_back};
 pub use printer::Printer;
+pub use reader::Reader;
 pub use row_printing::row_to;
 pub use row_reading::row_from;
 pub use schema_printing::schema_to;

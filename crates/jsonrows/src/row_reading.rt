@@ -23,7 +23,7 @@ use std::alloc::{AllocError, Global};
 const NUMBERS_OF_INT32: u64 = 4_294_967_296;
 
 /// The integer of a leaf that a number is: where the leaf's order is unsigned, the one of the same bits.
-fn number_from(leaf_type: &LeafType, number: &Number) -> Option<i64>
+pub fn number_from(leaf_type: &LeafType, number: &Number) -> Option<i64>
     ensures { result ≡ number_read leaf_type.now.kind (order_of (leaf_type_view leaf_type.now)) (number_view number.now) }
 {
     match (leaf_type.order(), leaf_type.kind) {

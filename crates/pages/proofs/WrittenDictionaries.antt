@@ -14,7 +14,7 @@ use Rattle.pages.specs.declared.encoding.Encoding.TheVariants.{Plain}
 use Rattle.pages.specs.Encodings.{ArePlain}
 use Rattle.pages.specs.Greatest.{most_of_page}
 use Rattle.pages.specs.Headers.{dictionary_header, IsWrittenDictionary}
-use Rattle.pages.specs.Writing.{weight_of, IsDictionaryTooMuch, StandsAsDictionary}
+use Rattle.pages.specs.Writing.{dictionary_weight, IsDictionaryTooMuch, StandsAsDictionary}
 use Rattle.pages.specs.WrittenValues.{AreWritten}
 use Rattle.pages.specs.inner.Put.{most_of_values}
 use Rattle.pages.proofs.WrittenHeaders.{headed}
@@ -25,7 +25,7 @@ use Rattle.pages.proofs.WrittenPages.{fills}
 pub dictionary_put : (kind : Kind) (vs : List ValueTree) (size count : ℕ) (old mid new : List ℕ) → ((h : PageHeader) → has_own_header h ≡ true → page_header (page_header_fields h) ≡ Some h) → All (IsOfKind kind) vs
     → size ≡ min (plain_size kind vs) (2 ^ 64 - 1) → size ≤ most_of_page → count ≡ length vs → Appends (λ bytes. IsThrift bytes (page_header_fields (dictionary_header size count))) 128 old mid
     → Appends (λ bytes. IsPlain kind (length vs) bytes vs) (plain_size kind vs) mid new → Appends (HasZeroPadding kind (length vs)) (plain_size kind vs) mid new → length new ≡ length mid + plain_size kind vs
-    → Appends (IsWrittenDictionary kind vs) (weight_of (length vs) vs) old new
+    → Appends (IsWrittenDictionary kind vs) (dictionary_weight vs) old new
 dictionary_put kind vs size count old mid new again are sized small counted p q z total =
     let values = plain_put kind vs mid new are q z in
     let text = values.text in

@@ -1,5 +1,5 @@
 -- What is written is a page of its entries.
-use Rattle.std.proofs.Common.{◌≡◌, ℕ, zero, suc, ◌+◌, ◌*◌, ◌^◌, ◌≤◌, ◌<◌, List, [], ◌∷◌, ◌++◌, length, Option, Some, None, refl, sym, ap, subst, ◌∙◌, arith, append_assoc, inl, inr, pos, false}
+use Rattle.std.proofs.Common.{◌≡◌, ℕ, zero, suc, ◌+◌, ◌^◌, ◌≤◌, ◌<◌, List, [], ◌∷◌, ◌++◌, length, Option, Some, None, refl, sym, ap, subst, ◌∙◌, arith, append_assoc, inl, inr, pos, false}
 use Rattle.std.specs.Prelude.{◌↔◌, All, IsTrue, MatchOption, slice_get}
 use Rattle.std.specs.List.{Any, AllByRecursion}
 use Rattle.std.proofs.lemmas.List.{append-nil, length-map}
@@ -23,9 +23,9 @@ use Rattle.pages.specs.Page.{IsPage, entries, AreZero, IsSectionV1, IsSectionV2,
 use Rattle.pages.specs.declared.header_writing.DataPageHead.{DataPageHead}
 use Rattle.pages.specs.declared.header_writing.SectionSizes.{SectionSizes}
 use Rattle.pages.specs.Headers.{number_of, data_header, section, body_of, rows_in, nulls_in, AreLevelsIn, IsHeaded, IsWrittenPage}
-use Rattle.pages.specs.Writing.{page_weight, StandsAsPage, StandsByIndexes}
+use Rattle.pages.specs.Writing.{page_weight, index_weight, StandsAsPage, StandsByIndexes}
 use Rattle.pages.specs.WrittenValues.{AreValuesIn, AreIndexesIn}
-use Rattle.pages.specs.inner.Put.{most_of_values, AreSections, AreParts, IsDataPage}
+use Rattle.pages.specs.inner.Put.{AreSections, AreParts, IsDataPage}
 use Rattle.pages.proofs.Texts.{kinds_of_fit}
 use Rattle.pages.proofs.WrittenLevels.{repetitions_within, definitions_within}
 use Rattle.pages.proofs.WrittenParts.{length-body}
@@ -134,11 +134,10 @@ nulls_and_values [] = omega arith
 nulls_and_values (e ∷ es) = nulls_here e.repetition e.definition e.value es (nulls_and_values es)
 
 -- the page of these parts is the page of the entries
-pub entries_written : (leaf : Leaf) (head : DataPageHead) (es : List Entry) (Are : List ℕ → Type 0) (r d text old new : List ℕ) → head.entries ≡ length es → head.nulls ≡ nulls_in es → head.rows ≡ rows_in es
+pub entries_written : (leaf : Leaf) (head : DataPageHead) (es : List Entry) (Are : List ℕ → Type 0) (most : ℕ) (r d text old new : List ℕ) → head.entries ≡ length es → head.nulls ≡ nulls_in es → head.rows ≡ rows_in es
     → AreLevelsIn leaf.greatest_repetition (repetitions es) r → AreLevelsIn leaf.greatest_definition (definitions es) d → Are text
-    → length r ≤ 80 + 9 * length es → length d ≤ 80 + 9 * length es → length text ≤ most_of_values (values es) → length (values es) ≤ length es
-    → IsDataPage leaf head r d text old new → Appends (IsWrittenPage leaf head.version head.encoding Are es) (page_weight es) old new
-entries_written leaf head es Are r d text old new entries_are nulls_are rows_are first second spelled r_short d_short text_short few p =
+    → 136 + length r + length d + length text ≤ most → IsDataPage leaf head r d text old new → Appends (IsWrittenPage leaf head.version head.encoding Are es) most old new
+entries_written leaf head es Are most r d text old new entries_are nulls_are rows_are first second spelled light p =
     let body = body_of head.version leaf r d text in
     let a = subst (λ (n : ℕ). Appends (IsHeaded (data_header head.version head.encoding n head.nulls head.rows (length body) (length r) (length d)) body) (136 + length r + length d + length text) old new) entries_are p.stands in
     let b = subst (λ (n : ℕ). Appends (IsHeaded (data_header head.version head.encoding (length es) n head.rows (length body) (length r) (length d)) body) (136 + length r + length d + length text) old new) nulls_are a in
@@ -147,7 +146,7 @@ entries_written leaf head es Are r d text old new entries_are nulls_are rows_are
       text = q.text;
       joined = q.joined;
       stands = λ more. record { repetition_bytes = r; definition_bytes = d; text = text; first = first; second = second; spelled = spelled; small = p.small; headed = q.stands more };
-      short = omega (arith, q.short, r_short, d_short, text_short, few);
+      short = omega (arith, q.short, light);
     }
 
 -- the sections and the values after them, as parts
@@ -192,7 +191,7 @@ page_stands leaf version encoding es old new each p = record {
 }
 
 pub page_stands_by_indexes : (leaf : Leaf) (version : PageVersion) (size : ℕ) (indexes : List ℕ) (es : List Entry) (old new : List ℕ) → AllByRecursion (IsEntryOf leaf) es
-    → Appends (IsWrittenPage leaf version RleDictionary (AreIndexesIn size indexes) es) (page_weight es) old new → Appends (StandsByIndexes leaf size indexes es) (page_weight es) old new
+    → Appends (IsWrittenPage leaf version RleDictionary (AreIndexesIn size indexes) es) (index_weight (length es)) old new → Appends (StandsByIndexes leaf size indexes es) (index_weight (length es)) old new
 page_stands_by_indexes leaf version size indexes es old new each p = record {
   text = p.text;
   joined = p.joined;

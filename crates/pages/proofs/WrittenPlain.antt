@@ -79,5 +79,6 @@ plain_written leaf head es vs old new r d plain same entries_are nulls_are rows_
     let kind = leaf.leaf_type.kind in
     let here = subst (λ (t : List ValueTree). AreValuesIn kind Plain t p.text) same p.spelled in
     let spelled = subst (λ (e : Encoding). AreValuesIn kind e (values es) p.text) (sym plain) here in
-    entries_written leaf head es (AreValuesIn kind head.encoding (values es)) [] [] p.text old new entries_are nulls_are rows_are
-    (subst (λ (g : ℕ). AreLevelsIn g (repetitions es) []) (sym r) refl) (subst (λ (g : ℕ). AreLevelsIn g (definitions es) []) (sym d) refl) spelled (omega arith) (omega arith) (subst (λ (t : List ValueTree). length p.text ≤ most_of_values t) same p.short) few p.page
+    let short = subst (λ (t : List ValueTree). length p.text ≤ most_of_values t) same p.short in
+    entries_written leaf head es (AreValuesIn kind head.encoding (values es)) (page_weight es) [] [] p.text old new entries_are nulls_are rows_are
+    (subst (λ (g : ℕ). AreLevelsIn g (repetitions es) []) (sym r) refl) (subst (λ (g : ℕ). AreLevelsIn g (definitions es) []) (sym d) refl) spelled (omega (arith, short, few)) p.page

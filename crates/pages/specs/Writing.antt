@@ -77,3 +77,11 @@ IsOfEntries Levels = Unit {0}
 IsOfEntries Value = Unit {0}
 IsOfEntries Limit = Unit {0}
 IsOfEntries _ = ⊥
+
+-- a page of n entries as indexes weighs 1,024 bytes and 32 an entry
+abbrev pub index_weight : ℕ → ℕ
+index_weight n = 1024 + 32 * n
+
+-- the page of a dictionary weighs 1,024 bytes, 32 an entry, and the bytes of its byte values
+abbrev pub dictionary_weight : List ValueTree → ℕ
+dictionary_weight vs = 1024 + 32 * length vs + text_size vs

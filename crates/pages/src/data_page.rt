@@ -49,6 +49,7 @@ impl<'a> DataPage<'a> {
     }
 
     /// How many entries are not taken yet.
+    #[inline(always)]
     pub fn len(&self) -> usize
         ensures { result ≡ length (entries_left self.now) }
     {
@@ -70,6 +71,7 @@ impl<'a> DataPage<'a> {
 
     /// Takes the next entry, if there is one: [`entry`](DataPage::entry) is that one from then on. It is
     /// refused only when out of memory, and then nothing is taken.
+    #[inline(always)]
     pub fn advance(&mut self) -> Result<bool, Fault>
         ensures { Advances self.old self.new result }
     {
@@ -88,6 +90,7 @@ impl<'a> DataPage<'a> {
 
     /// The entry that was taken last. Its value lies in the bytes of the chunk, in those of its
     /// dictionary's page, or in memory that the next [`advance`](DataPage::advance) uses again.
+    #[inline(always)]
     pub fn entry(&self) -> EntryRef<'_>
         ensures { entry_ref_view result ≡ entry_taken self.now }
     {

@@ -7,7 +7,7 @@ ghost use Rattle.bits.specs.Codec.{Appends};
 ghost use Rattle.plain.specs.Plain.{IsOfKind, IsTooLong};
 ghost use Rattle.dictionary.specs.Entries.{entries_of};
 ghost use Rattle.pages.specs.Headers.{IsWrittenDictionary};
-ghost use Rattle.pages.specs.Writing.{weight_of, IsDictionaryTooMuch, StandsAsDictionary};
+ghost use Rattle.pages.specs.Writing.{dictionary_weight, IsDictionaryTooMuch, StandsAsDictionary};
 
 use crate::header_writing::put_dictionary_header;
 use bits::{R, Refusal};
@@ -19,6 +19,7 @@ use std::alloc::Global;
 
 /// Writes the page of a dictionary at the end of `out`: a page header, and the entries as PLAIN values of
 /// the leaf's type. (parquet-format, Encodings.md, "Dictionary Encoding".) It is the first page of its chunk.
+/// It takes at most 1,024 bytes, 32 an entry, and the bytes of its byte values.
 ///
 /// Refused Value exactly when an entry is not of the type. Refused Limit only where an entry has more than
 /// 16 MiB, or where the page weighs more than [`MOST_BYTES_OF_PAGE`](crate::MOST_BYTES_OF_PAGE). After a
@@ -29,8 +30,8 @@ pub fn write_dictionary_page(
     dictionary: &Dictionary,
     out: &mut Vec<u8>,
 ) -> R<()>
-    ensures stands { let vs = entries_of dictionary.now in OnOk result (Appends (StandsAsDictionary kind vs) (weight_of (length vs) vs) out.old.items out.new.items) }
-    ensures written { let vs = entries_of dictionary.now in OnOk result (Appends (IsWrittenDictionary kind vs) (weight_of (length vs) vs) out.old.items out.new.items) }
+    ensures stands { let vs = entries_of dictionary.now in OnOk result (Appends (StandsAsDictionary kind vs) (dictionary_weight vs) out.old.items out.new.items) }
+    ensures written { let vs = entries_of dictionary.now in OnOk result (Appends (IsWrittenDictionary kind vs) (dictionary_weight vs) out.old.items out.new.items) }
     ensures within_limits { OnOk result (Any IsTooLong (entries_of dictionary.now) → ⊥) }
     ensures size { OnOk result (length out.new.items ≤ length out.old.items + 2147484671) }
     ensures only { OnFault result (All (IsOfKind kind) (entries_of dictionary.now) → ⊥) }
@@ -53,7 +54,7 @@ fn put_dictionary_page(
     dictionary: &Dictionary,
     out: &mut Vec<u8>,
 ) -> R<()>
-    ensures written { let vs = entries_of dictionary.now in OnOk result (Appends (IsWrittenDictionary kind vs) (weight_of (length vs) vs) out.old.items out.new.items) }
+    ensures written { let vs = entries_of dictionary.now in OnOk result (Appends (IsWrittenDictionary kind vs) (dictionary_weight vs) out.old.items out.new.items) }
     ensures within_limits { OnOk result (Any IsTooLong (entries_of dictionary.now) → ⊥) }
     ensures size { OnOk result (length out.new.items ≤ length out.old.items + 2147484671) }
     ensures only { OnFault result (All (IsOfKind kind) (entries_of dictionary.now) → ⊥) }

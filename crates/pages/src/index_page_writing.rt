@@ -11,7 +11,7 @@ ghost use Rattle.pages.specs.declared.encoding.Encoding.TheVariants.{RleDictiona
 ghost use Rattle.pages.specs.Page.{values};
 ghost use Rattle.pages.specs.Headers.{IsWrittenPage};
 ghost use Rattle.pages.specs.WrittenValues.{AreIndexesIn};
-ghost use Rattle.pages.specs.Writing.{page_weight, IsPageTooMuch, AreIndexesFor, StandsByIndexes, IsOfEntries};
+ghost use Rattle.pages.specs.Writing.{index_weight, IsPageTooMuch, AreIndexesFor, StandsByIndexes, IsOfEntries};
 
 use crate::encoding::Encoding;
 use crate::header_writing::DataPageHead;
@@ -27,7 +27,7 @@ use std::alloc::Global;
 /// Writes the entries at the end of `out` as one data page of a chunk of this leaf that has a dictionary of
 /// `size` entries: as [`write_page`](crate::write_page) does, in the encoding RLE_DICTIONARY, each value as
 /// its index into the dictionary. The page stands for the entries in each chunk whose dictionary has
-/// their values at these indexes.
+/// their values at these indexes. It takes at most 1,024 bytes and 32 an entry.
 ///
 /// Refused Levels or Value only where an entry is none of the leaf's, where there are more or fewer indexes
 /// than values, or where an index is past the dictionary's end. Refused Limit only where the page weighs
@@ -42,8 +42,8 @@ pub fn write_index_page(
     scratch: &mut Vec<u8>,
     out: &mut Vec<u8>,
 ) -> R<()>
-    ensures stands { let es = map entry_ref_view entries.now in OnOk result (Appends (StandsByIndexes (leaf_view leaf.now) size indexes.now es) (page_weight es) out.old.items out.new.items) }
-    ensures written { let es = map entry_ref_view entries.now in OnOk result (Appends (IsWrittenPage (leaf_view leaf.now) version RleDictionary (AreIndexesIn size indexes.now) es) (page_weight es) out.old.items out.new.items) }
+    ensures stands { let es = map entry_ref_view entries.now in OnOk result (Appends (StandsByIndexes (leaf_view leaf.now) size indexes.now es) (index_weight (length es)) out.old.items out.new.items) }
+    ensures written { let es = map entry_ref_view entries.now in OnOk result (Appends (IsWrittenPage (leaf_view leaf.now) version RleDictionary (AreIndexesIn size indexes.now) es) (index_weight (length es)) out.old.items out.new.items) }
     ensures entries { OnOk result (AllByRecursion (IsEntryOf (leaf_view leaf.now)) (map entry_ref_view entries.now)) }
     ensures indexes { OnOk result (AreIndexesFor size indexes.now (map entry_ref_view entries.now)) }
     ensures size { OnOk result (length out.new.items ≤ length out.old.items + 2147484671) }

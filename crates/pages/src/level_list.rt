@@ -13,6 +13,7 @@ impl LevelList {
     ghost use Rattle.pages.specs.Left.{levels_of};
 
     /// The level at an index.
+    #[inline(always)]
     pub fn get(&self, index: usize) -> Option<u32>
         ensures level { result ≡ slice_get (levels_of self.now) index }
         ensures within { IfSome result (λ _. index < usize.MAX) }
@@ -24,6 +25,7 @@ impl LevelList {
     }
 
     /// How many levels there are.
+    #[inline(always)]
     pub fn len(&self) -> usize
         ensures { result ≡ length (levels_of self.now) }
     {

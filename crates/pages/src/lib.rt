@@ -44,3 +44,4 @@ pub use page::PageRef;
 pub use page_reading::read_page;
 pub use page_version::PageVersion;
 pub use page_writing::write_page;
+pub use written_entries::{count_values, values_of};

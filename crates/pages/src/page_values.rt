@@ -40,6 +40,7 @@ impl<'a> PageValues<'a> {
 
     /// Takes the next value, if there is one: [`value`](PageValues::value) is that one from then on. It
     /// fails only when out of memory, and then nothing is taken.
+    #[inline(always)]
     fn advance(&mut self) -> Result<bool, Fault>
         ensures { TakesValue self.old self.new result }
     {
@@ -50,6 +51,7 @@ impl<'a> PageValues<'a> {
     }
 
     /// Takes the next value, if there is one, for an entry that is full; for another one it takes none.
+    #[inline(always)]
     pub fn advance_where(&mut self, full: bool) -> Result<bool, Fault>
         ensures { TakesWhere full self.old self.new result }
     {
@@ -57,6 +59,7 @@ impl<'a> PageValues<'a> {
     }
 
     /// The value that was taken last.
+    #[inline(always)]
     pub fn value(&self) -> ValueRef<'_>
         ensures { value_ref_view result ≡ value_taken self.now }
     {
@@ -71,6 +74,7 @@ impl<'a> ListedValues<'a> {
     ghost use Rattle.pages.specs.Left.{TakesListed};
 
     /// Takes the next value, if there is one.
+    #[inline(always)]
     fn advance(&mut self) -> bool
         ensures { TakesListed self.old self.new result }
     {

@@ -52,8 +52,8 @@ fn is_value_of(leaf_type: &LeafType, value: ValueRef<'_>) -> bool
     is_of_kind(leaf_type.kind, value) && (!leaf_type.is_text() || is_text(value))
 }
 
-/// The values of the entries that have one.
-pub(crate) fn values_of<'a>(alloc: Global, entries: &[EntryRef<'a>]) -> R<Vec<ValueRef<'a>>>
+/// The values of the entries that have one, in their order. It fails only when out of memory.
+pub fn values_of<'a>(alloc: Global, entries: &[EntryRef<'a>]) -> R<Vec<ValueRef<'a>>>
     ensures are { IfOk result (λ vs. map value_ref_view vs.items ≡ values (map entry_ref_view entries.now)) }
     ensures few { IfOk result (λ vs. vec_len vs ≤ length entries.now) }
     ensures which { RefusedMemoryOnly result }
@@ -68,7 +68,7 @@ pub(crate) fn values_of<'a>(alloc: Global, entries: &[EntryRef<'a>]) -> R<Vec<Va
 }
 
 /// How many of the entries have a value.
-pub(crate) fn count_values(entries: &[EntryRef<'_>]) -> usize
+pub fn count_values(entries: &[EntryRef<'_>]) -> usize
     ensures count { result ≡ length (values (map entry_ref_view entries.now)) }
     ensures few { result ≤ length entries.now }
 {

@@ -2,3 +2,5 @@ pub mod Rows
 pub mod Told
 pub mod Refused
 pub mod Printed
+pub mod Footers
+pub mod Done

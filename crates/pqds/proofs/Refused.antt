@@ -9,7 +9,7 @@ use Rattle.schema.specs.Values.{ValueTrees}
 use Rattle.schema.specs.Shape.{Fields}
 use Rattle.schema.specs.Fits.{RowsFit}
 use Rattle.footer.specs.declared.options.WriteOptions.{WriteOptions}
-use Rattle.footer.specs.Writing.{IsOutOfRange, IsTooMuch, IsToBeWritten}
+use Rattle.footer.specs.Writing.{IsOutOfRange, IsTooMuch}
 use Rattle.jsonrows.specs.SchemaJson.{IsSchemaText}
 use Rattle.footer.specs.File.{FileMeans}
 use Rattle.footer.specs.Own.{IsLaidOut}
@@ -24,11 +24,11 @@ by_line options schema_text rows_text fs e says h = absurd h.refused
 
 -- rows that fit are refused for no fault of theirs
 pub by_rows : {X : Type 0} (options : WriteOptions) (schema_text rows_text : List ℕ) (fs : Fields) (rows : List ValueTrees) (r : Result X Refusal) → IsSchemaText schema_text fs → AreRowTexts fs (lines rows_text) rows → RowsFit fs rows
-    → OnFault r (RowsFit fs rows → ⊥) → (r ≡ Err Limit → IsOutOfRange options ⊎ (IsTooMuch fs options rows ⊎ IsToBeWritten fs options rows)) → IfErr r (AreRefusedTexts options schema_text rows_text)
+    → OnFault r (RowsFit fs rows → ⊥) → (r ≡ Err Limit → IsOutOfRange options ⊎ IsTooMuch fs options rows) → IfErr r (AreRefusedTexts options schema_text rows_text)
 by_rows options schema_text rows_text fs rows (Ok x) says read fit only limit = tt
 by_rows options schema_text rows_text fs rows (Err e) says read fit only limit = go e only (λ is. limit (ap Err is))
   where
-    go : (e : Refusal) → (IsFault e → RowsFit fs rows → ⊥) → (e ≡ Limit → IsOutOfRange options ⊎ (IsTooMuch fs options rows ⊎ IsToBeWritten fs options rows)) → AreRefusedTexts options schema_text rows_text e
+    go : (e : Refusal) → (IsFault e → RowsFit fs rows → ⊥) → (e ≡ Limit → IsOutOfRange options ⊎ IsTooMuch fs options rows) → AreRefusedTexts options schema_text rows_text e
     go Limit only limit = inr (record { fs = fs; rows = rows; schema = says; read = read; why = limit refl })
     go Memory only limit = tt
     go e only limit = absurd (only tt fit)
@@ -62,6 +62,11 @@ pub by_names : {X : Type 0} (options : WriteOptions) (r : Result X Refusal) → 
 by_names options (Ok x) h = tt
 by_names options (Err e) h = by_name options e h
 
+-- an output that cannot be written
+pub by_devices : {X : Type 0} (options : WriteOptions) (r : Result X Refusal) → IfErr r (HasCause (λ x. x ≡ Device)) → IfErr r (HasCause (AreRefusedFiles options))
+by_devices options (Ok x) h = tt
+by_devices options (Err e) h = by_file options e h
+
 -- what holds whatever is answered
 pub on_ok_anyway : {X E : Type 0} (P : Type 0) (r : Result X E) → P → OnOk r P
 on_ok_anyway P (Ok x) p = p
@@ -69,7 +74,7 @@ on_ok_anyway P (Err e) p = tt
 
 -- what is written is a file of the two texts
 pub file_of : {X : Type 0} (items : X → List ℕ) (options : WriteOptions) (schema_text rows_text : List ℕ) (fs : Fields) (rows : List ValueTrees) (r : Result X Refusal) → IsSchemaText schema_text fs → AreRowTexts fs (lines rows_text) rows
-    → IfOk r (λ file. FileMeans (items file) fs rows) → IfOk r (λ file. IsLaidOut options.group_rows fs rows (items file)) → OnOk r (IsOutOfRange options → ⊥) → OnOk r (IsToBeWritten fs options rows → ⊥)
+    → IfOk r (λ file. FileMeans (items file) fs rows) → IfOk r (λ file. IsLaidOut options fs rows (items file)) → OnOk r (IsOutOfRange options → ⊥)
     → IfOk r (λ file. IsFileOf options schema_text rows_text (items file))
-file_of items options schema_text rows_text fs rows (Ok file) says read means laid range made = record { fs = fs; rows = rows; schema = says; read = read; means = means; laid_out = laid; in_range = range; built = made }
-file_of items options schema_text rows_text fs rows (Err e) says read means laid range made = tt
+file_of items options schema_text rows_text fs rows (Ok file) says read means laid range = record { fs = fs; rows = rows; schema = says; read = read; means = means; laid_out = laid; in_range = range }
+file_of items options schema_text rows_text fs rows (Err e) says read means laid range = tt

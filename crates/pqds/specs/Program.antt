@@ -1,5 +1,5 @@
 -- What the program does with files.
-use Rattle.std.specs.Prelude.{◌≡◌, ◌⊎◌, ℕ, List, [], ◌∷◌, ◌++◌, flat_map, Option, Some, None, IsTrue}
+use Rattle.std.specs.Prelude.{◌≡◌, ◌⊎◌, ℕ, List, [], ◌∷◌, ◌++◌, flat_map, length, codes, decimal, Option, Some, None, IsTrue}
 use Rattle.std.specs.Io.KnownBytes.{Appends}
 use Rattle.std.specs.Str.Lines.{lines}
 use Rattle.serde_json.specs.Data.{Data, Members}
@@ -12,9 +12,10 @@ use Rattle.schema.specs.Shape.{Fields}
 use Rattle.schema.specs.Fits.{fits_each}
 use Rattle.schema.specs.Views.{row_view}
 use Rattle.footer.specs.declared.options.WriteOptions.{WriteOptions}
-use Rattle.footer.specs.File.{FileMeans}
+use Rattle.metadata.specs.Records.{FileMeta}
+use Rattle.footer.specs.File.{IsFile, FileMeans}
 use Rattle.footer.specs.Own.{IsLaidOut}
-use Rattle.footer.specs.Writing.{IsOutOfRange, IsTooMuch, IsToBeWritten}
+use Rattle.footer.specs.Writing.{IsOutOfRange, IsTooMuch}
 use Rattle.jsonrows.specs.Json.{row_text}
 use Rattle.jsonrows.specs.Reading.{row_of, line_of, members_read}
 use Rattle.jsonrows.specs.SchemaJson.{IsSchemaText, IsRefusedSchema}
@@ -68,16 +69,35 @@ pub record HasFirstFault (fs : Fields) (texts : List (List ℕ)) (e : Refusal) :
   pub refused : IsRefusedLine fs text e
 
 -- The bytes of a file mean, in the schema of one text, the rows of another, one for each of its lines. They are laid out
--- as these options say, which are in range, and of which each that the rows need is built.
+-- as these options say, which are in range.
 pub record IsFileOf (options : WriteOptions) (schema_text rows_text bytes : List ℕ) : Type 0 where
   pub fs : Fields
   pub rows : List ValueTrees
   pub schema : IsSchemaText schema_text fs
   pub read : AreRowTexts fs (lines rows_text) rows
   pub means : FileMeans bytes fs rows
-  pub laid_out : IsLaidOut options.group_rows fs rows bytes
+  pub laid_out : IsLaidOut options fs rows bytes
   pub in_range : IsOutOfRange options → ⊥
-  pub built : IsToBeWritten fs options rows → ⊥
+
+-- the two texts have a file of this many rows, one for each line of the other
+abbrev pub HaveFileOf : WriteOptions → List ℕ → List ℕ → ℕ → Type 0
+HaveFileOf options schema_text rows_text n = ((bytes : List ℕ) × IsFileOf options schema_text rows_text bytes) × (n ≡ length (lines rows_text))
+
+-- after what a writer held, where that is known, stands `ok N rows`, where some texts have a file of N rows
+pub record WritesCount (options : WriteOptions) (old new : Option (List ℕ)) : Type 0 where
+  pub schema_text : List ℕ
+  pub rows_text : List ℕ
+  pub count : ℕ
+  pub have : HaveFileOf options schema_text rows_text count
+  pub written : Appends old new (codes "ok " ++ decimal count ++ codes " rows\n")
+
+-- after what a writer held, where that is known, stands what is said of a file whose footer stands
+pub record WritesReportOf (bytes : List ℕ) (old new : Option (List ℕ)) : Type 0 where
+  pub front : List ℕ
+  pub meta : FileMeta
+  pub text : List ℕ
+  pub file : IsFile bytes front meta
+  pub written : Appends old new text
 
 -- some texts have a file by these options
 abbrev pub HaveFile : WriteOptions → Type 0
@@ -87,13 +107,13 @@ HaveFile options = (schema_text rows_text bytes : List ℕ) × IsFileOf options 
 abbrev pub HasRefusedLine : List ℕ → List ℕ → Refusal → Type 0
 HasRefusedLine schema_text rows_text e = (fs : Fields) × IsSchemaText schema_text fs × HasFirstFault fs (lines rows_text) e
 
--- the rows of the other text are not written: the options are out of range, they are too much for a file, or not written yet
+-- the rows of the other text are not written: the options are out of range, or they are too much for a file
 pub record AreNotWritten (options : WriteOptions) (schema_text rows_text : List ℕ) : Type 0 where
   pub fs : Fields
   pub rows : List ValueTrees
   pub schema : IsSchemaText schema_text fs
   pub read : AreRowTexts fs (lines rows_text) rows
-  pub why : IsOutOfRange options ⊎ (IsTooMuch fs options rows ⊎ IsToBeWritten fs options rows)
+  pub why : IsOutOfRange options ⊎ IsTooMuch fs options rows
 
 -- that fault is in the two texts, by these options, and no other refusal is answered
 abbrev pub AreRefusedTexts : WriteOptions → List ℕ → List ℕ → Refusal → Type 0

@@ -9,7 +9,8 @@ use crate::help;
 use bits::{R, Refusal};
 use clap::error::ErrorKind;
 use clap::{Arg, ArgAction, ArgMatches, Command, Error, value_parser};
-use footer::{Style, WriteOptions};
+use footer::WriteOptions;
+use row_group::Style;
 use std::alloc::Global;
 
 /// What the words ask for.
@@ -19,6 +20,10 @@ pub enum Call<'a> {
     Decode { file: &'a str },
     /// Make a file.
     Encode { sources: Sources<'a>, file: &'a str },
+    /// Say what a file is.
+    Inspect { file: &'a str, as_json: bool },
+    /// Say whether a file can be made.
+    Check { sources: Sources<'a> },
 }
 
 /// The words for the styles.
@@ -86,6 +91,30 @@ fn encode_command<'a>(alloc: Global) -> Result<Command<'a>, Error> {
     with_options(alloc, encode)
 }
 
+fn inspect_command<'a>(alloc: Global) -> Result<Command<'a>, Error> {
+    let json = Arg::new(alloc, "json")
+        .long("json")
+        .action(ArgAction::SetTrue)
+        .help("Prints one line of JSON in place of text");
+    let inspect = Command::new(alloc, "inspect")
+        .about(help::INSPECT)
+        .long_about(help::INSPECT_LONG)
+        .after_help(help::INSPECT_REFUSALS)
+        .arg(file_named(alloc, "FILE", "The Parquet file to look into"))?
+        .arg(json)?;
+    Ok(inspect)
+}
+
+fn check_command<'a>(alloc: Global) -> Result<Command<'a>, Error> {
+    let check = Command::new(alloc, "check")
+        .about(help::CHECK)
+        .long_about(help::CHECK_LONG)
+        .after_help(help::CHECK_REFUSALS)
+        .arg(file_named(alloc, "SCHEMA", "The file with the columns, as JSON"))?
+        .arg(file_named(alloc, "ROWS", "The file with the rows, as lines of JSON"))?;
+    Ok(check)
+}
+
 /// The program's commands.
 fn program<'a>(alloc: Global) -> Result<Command<'a>, Error> {
     let program = Command::new(alloc, "pqds")
@@ -98,7 +127,9 @@ fn program<'a>(alloc: Global) -> Result<Command<'a>, Error> {
         .arg_required_else_help(true)
         .bin_name("pqds")?
         .subcommand(decode_command(alloc)?)?
-        .subcommand(encode_command(alloc)?)?;
+        .subcommand(encode_command(alloc)?)?
+        .subcommand(inspect_command(alloc)?)?
+        .subcommand(check_command(alloc)?)?;
     Ok(program)
 }
 
@@ -161,6 +192,28 @@ fn encode_call<'a>(matches: &ArgMatches<'a>) -> Option<Call<'a>>
     Some(Call::Encode { sources, file })
 }
 
+fn inspect_call<'a>(matches: &ArgMatches<'a>) -> Option<Call<'a>>
+    ensures { IfSome result (λ call. word_of call ≡ codes "inspect") }
+{
+    let file = matches.get_str("FILE")?;
+    let as_json = matches.get_flag("json");
+    Some(Call::Inspect { file, as_json })
+}
+
+fn check_call<'a>(matches: &ArgMatches<'a>) -> Option<Call<'a>>
+    ensures { IfSome result (λ call. word_of call ≡ codes "check") }
+{
+    let schema = matches.get_str("SCHEMA")?;
+    let rows = matches.get_str("ROWS")?;
+    let options = WriteOptions::standard();
+    let sources = Sources {
+        schema,
+        rows,
+        options,
+    };
+    Some(Call::Check { sources })
+}
+
 /// The call that the first word names, by what was found in the words.
 fn call_in<'a>(words: &[String], matches: &ArgMatches<'a>) -> Option<Call<'a>>
     ensures { IfSome result (λ call. first_word words.now ≡ Some (word_of call)) }
@@ -170,6 +223,10 @@ fn call_in<'a>(words: &[String], matches: &ArgMatches<'a>) -> Option<Call<'a>>
         decode_call(matches.subcommand_matches("decode")?)
     } else if word.as_str() == "encode" {
         encode_call(matches.subcommand_matches("encode")?)
+    } else if word.as_str() == "inspect" {
+        inspect_call(matches.subcommand_matches("inspect")?)
+    } else if word.as_str() == "check" {
+        check_call(matches.subcommand_matches("check")?)
     } else {
         None
     }

@@ -1,16 +1,17 @@
 //! Texts to files.
 
-ghost use Rattle.std.specs.Prelude.{IfOk, IfErr, OnOk};
+ghost use Rattle.std.specs.Prelude.{◌≡◌, IfOk, IfErr, OnOk};
 ghost use Rattle.std.specs.Str.Lines.{lines};
 ghost use Rattle.bits.specs.Refusals.{RefusedOnly};
 ghost use Rattle.schema.specs.Fits.{RowsFit};
 ghost use Rattle.schema.specs.Views.{rows_view};
+ghost use Rattle.jsonrows.specs.Reader.{schema_of};
 ghost use Rattle.pqds.specs.Program.{IsRefusedLine, AddsRow, AreRowTexts, HasFirstFault, IsFileOf, HaveFile, AreRefusedTexts, AreRefusedFiles};
 
 use crate::host::{put_new, text_of, whole_of};
 use bits::R;
 use footer::{WriteOptions, write_file};
-use jsonrows::{row_from, schema_from};
+use jsonrows::{Reader, schema_from};
 use schema::{Row, Schema};
 use std::alloc::Global;
 use std::rt::Files;
@@ -24,11 +25,12 @@ pub struct Sources<'a> {
 }
 
 /// Puts the row of a line after the rows so far. Refused as `row_from` refuses the line.
-fn read_line(alloc: Global, schema: &Schema, line: &str, rows: &mut Vec<Row>) -> R<()>
-    ensures stands { OnOk result (AddsRow schema.now line.now rows.old.items rows.new.items) }
-    ensures which { RefusedOnly (IsRefusedLine schema.now line.now) result }
+fn read_line(reader: &mut Reader<'_>, line: &str, rows: &mut Vec<Row>) -> R<()>
+    ensures stands { OnOk result (AddsRow (schema_of reader.old) line.now rows.old.items rows.new.items) }
+    ensures which { RefusedOnly (IsRefusedLine (schema_of reader.old) line.now) result }
+    ensures same { schema_of reader.new ≡ schema_of reader.old }
 {
-    let row = row_from(alloc, schema, line)?;
+    let row = reader.read(line)?;
     rows.push(row)?;
     Ok(())
 }
@@ -39,9 +41,10 @@ fn rows_from(alloc: Global, schema: &Schema, text: &str) -> R<Vec<Row>>
     ensures fits { IfOk result (λ rows. RowsFit schema.now (rows_view rows.items)) }
     ensures which { RefusedOnly (HasFirstFault schema.now (lines text.now)) result }
 {
+    let mut reader = Reader::new(alloc, schema)?;
     let mut rows = Vec::new(alloc);
     for line in text.lines() {
-        read_line(alloc, schema, line, &mut rows)?;
+        read_line(&mut reader, line, &mut rows)?;
     }
     Ok(rows)
 }

@@ -1,6 +1,6 @@
 //! Files made by the program, called as `work`.
 
-use crate::tests::{NO_ROWS, Said, answer, answer_to, owned};
+use crate::tests::{NO_ROWS, Said, TWO_ROWS, answer, answer_to, owned};
 use bits::R;
 use std::fs;
 use std::test::*;
@@ -11,15 +11,6 @@ const SCHEMA: &[u8] = b"[{\"name\":\"x\",\"rep\":\"required\",\"type\":\"int64\"
 const OPTIONAL: &[u8] = b"[{\"name\":\"x\",\"rep\":\"optional\",\"type\":\"int64\"}]";
 
 const ROWS: &[u8] = b"{\"x\":1}\n{\"x\":300}\n";
-
-/// A file with the rows 1 and 300 of one REQUIRED INT64 `x`, as it is written.
-const MADE: [u8; 116] = [
-    80, 65, 82, 49, 21, 0, 21, 32, 21, 32, 44, 21, 4, 21, 0, 21, 6, 21, 6, 0, 0, 1, 0, 0, 0, 0, 0,
-    0, 0, 44, 1, 0, 0, 0, 0, 0, 0, 21, 2, 25, 44, 72, 6, 115, 99, 104, 101, 109, 97, 21, 2, 0, 21,
-    4, 37, 0, 24, 1, 120, 0, 22, 4, 25, 28, 25, 28, 38, 0, 28, 21, 4, 25, 37, 0, 6, 25, 24, 1, 120,
-    21, 0, 22, 4, 22, 66, 22, 66, 38, 8, 0, 0, 22, 66, 22, 4, 0, 40, 4, 112, 113, 100, 115, 25, 28,
-    28, 0, 0, 0, 71, 0, 0, 0, 80, 65, 82, 49,
-];
 
 /// A file that is there before the call.
 const THERE: &[u8] = b"there before";
@@ -34,14 +25,14 @@ const SCRIPT: &str = "refused 29 Script\n";
 
 /// Rows, and the file that is made of them.
 const FILES: [(&[u8], &[u8]); 4] = [
-    (ROWS, &MADE),
-    (b"{\"x\":1}\n{\"x\":300}", &MADE),
-    (b" { \"x\" : 1 } \r\n{\"x\":300}\r\n", &MADE),
+    (ROWS, &TWO_ROWS),
+    (b"{\"x\":1}\n{\"x\":300}", &TWO_ROWS),
+    (b" { \"x\" : 1 } \r\n{\"x\":300}\r\n", &TWO_ROWS),
     (b"", &NO_ROWS),
 ];
 
 /// A schema and rows, where they are there, and the fault that is reported: the first of several.
-const FAULTS: [(Option<&[u8]>, Option<&[u8]>, &str); 14] = [
+const FAULTS: [(Option<&[u8]>, Option<&[u8]>, &str); 13] = [
     (None, Some(b"\xFF"), DEVICE),
     // Both files are read before either is looked at.
     (Some(b"\xFF"), None, DEVICE),
@@ -60,11 +51,10 @@ const FAULTS: [(Option<&[u8]>, Option<&[u8]>, &str); 14] = [
     (Some(SCHEMA), Some(b"{\"x\":1}{\"x\":300}"), SCRIPT),
     (Some(SCHEMA), Some(b"\n"), SCRIPT),
     (Some(OPTIONAL), Some(b"{\"y\":1}"), ROW_SHAPE),
-    (Some(OPTIONAL), Some(b"{\"x\":1}"), LIMIT),
 ];
 
 /// Options for the two rows, and the fault that is reported, where there is one.
-const OPTIONS: [(&[&str], &str); 14] = [
+const OPTIONS: [(&[&str], &str); 8] = [
     (&["--group-rows", "2", "--page-rows", "2"], ""),
     (&["--group-rows=1048576", "--page-rows=4294967295"], ""),
     (&["--page-version", "1", "--style", "plain"], ""),
@@ -73,13 +63,51 @@ const OPTIONS: [(&[&str], &str); 14] = [
     (&["--page-rows", "0"], LIMIT),
     (&["--page-version", "0"], LIMIT),
     (&["--page-version", "3"], LIMIT),
-    // Not written yet.
-    (&["--page-version", "2"], LIMIT),
-    (&["--group-rows", "1"], LIMIT),
-    (&["--page-rows", "1"], LIMIT),
-    (&["--style", "dictionary"], LIMIT),
-    (&["--style", "delta"], LIMIT),
-    (&["--style", "lengths"], LIMIT),
+];
+
+/// Options, and how long the file of the two rows is with them.
+const LENGTHS: [(&[&str], usize); 3] = [
+    (&[], 140),
+    (&["--page-rows", "1"], 157),
+    (&["--page-version", "2"], 145),
+];
+
+/// A list of optional numbers that is itself optional, in three levels.
+const LIST: &[u8] =
+    br#"[{"fields":[{"fields":[{"name":"element","rep":"optional","type":"int32"}],"name":"list","rep":"repeated"}],"name":"xs","rep":"optional"}]"#;
+
+const LISTS: &[u8] = br#"{"xs":null}
+{"xs":{"list":[]}}
+{"xs":{"list":[{"element":null}]}}
+{"xs":{"list":[{"element":7},{"element":null},{"element":8}]}}
+"#;
+
+/// A column of each type.
+const TYPES: &[u8] =
+    br#"[{"name":"b","rep":"optional","type":"boolean"},{"name":"f","rep":"required","type":"fixed","length":2},{"name":"n","rep":"repeated","type":"int64"},{"name":"t","note":"utf8","rep":"required","type":"bytes"}]"#;
+
+const OF_TYPES: &[u8] = br#"{"b":true,"f":"00ff","n":[],"t":"axis"}
+{"b":null,"f":"0102","n":[1,-1],"t":"axle"}
+{"b":false,"f":"00ff","n":[9223372036854775807,-9223372036854775808],"t":""}
+"#;
+
+/// Options by which the lines are written and read again.
+const WAYS: [&[&str]; 8] = [
+    &[],
+    &["--group-rows", "1"],
+    &["--page-rows", "1"],
+    &["--page-version", "2"],
+    &["--style", "dictionary"],
+    &["--style", "delta", "--page-rows", "2"],
+    &["--style", "lengths", "--page-version", "2"],
+    &[
+        "--style",
+        "dictionary",
+        "--group-rows",
+        "2",
+        "--page-rows",
+        "1",
+    ],
 ];
 
 /// Words that are no call, parted by spaces.
@@ -182,7 +210,7 @@ fn a_row_file_of_more_than_a_mebibyte_is_read(rt: HostRuntime) -> Result<(), Fai
     rows.push_str(" ".repeat(alloc, 1_100_000)?.as_str())?;
     rows.push_str("}\n{\"x\":300}\n")?;
     let files = [Some(SCHEMA), Some(rows.as_bytes()), None];
-    let is_made = is_answered(&rt, "large", files, &[], "", Some(MADE.as_slice()))?;
+    let is_made = is_answered(&rt, "large", files, &[], "", Some(TWO_ROWS.as_slice()))?;
     assert!(rt; is_made);
     Ok(())
 }
@@ -213,7 +241,7 @@ fn a_file_that_is_there_is_left(rt: HostRuntime) -> Result<(), Fail> {
 fn options_are_limits_of_what_is_written(rt: HostRuntime) -> Result<(), Fail> {
     for (options, err) in &OPTIONS {
         let left = if err.is_empty() {
-            Some(MADE.as_slice())
+            Some(TWO_ROWS.as_slice())
         } else {
             None
         };
@@ -226,8 +254,40 @@ fn options_are_limits_of_what_is_written(rt: HostRuntime) -> Result<(), Fail> {
     Ok(())
 }
 
+#[test]
+fn pages_are_as_the_options_say(rt: HostRuntime) -> Result<(), Fail> {
+    for (options, length) in &LENGTHS {
+        let (_, made) = encoded(&rt, "pages", [Some(SCHEMA), Some(ROWS), None], options)?;
+        let made_length = made.as_ref().map(|made| made.len());
+        assert_eq!(rt; made_length, Some(*length));
+    }
+    Ok(())
+}
+
+/// What `decode` prints of a file, which is taken away.
+fn printed(rt: &HostRuntime, path: &str, bytes: &[u8]) -> R<Vec<u8>> {
+    put(rt, path, Some(bytes));
+    let said = answer_to(rt, &["decode", path])?;
+    put(rt, path, None);
+    Ok(said.out)
+}
+
+#[test]
+fn lines_are_written_and_read_again(rt: HostRuntime) -> Result<(), Fail> {
+    let alloc = rt.alloc();
+    for (schema, rows) in [(LIST, LISTS), (TYPES, OF_TYPES)] {
+        for options in &WAYS {
+            let (_, made) = encoded(&rt, "again", [Some(schema), Some(rows), None], options)?;
+            let made = made.unwrap_or(Vec::new(alloc));
+            let lines = printed(&rt, "again.parquet", made.as_slice())?;
+            assert!(rt; lines.as_slice() == rows, "{options:?}");
+        }
+    }
+    Ok(())
+}
+
 /// What the program says to words that are parted by spaces.
-fn answer_to_text(rt: &HostRuntime, text: &str) -> R<Said> {
+pub fn answer_to_text(rt: &HostRuntime, text: &str) -> R<Said> {
     let mut words = Vec::new(rt.alloc());
     for word in text.split(' ') {
         words.push(String::from_str(rt.alloc(), word)?)?;

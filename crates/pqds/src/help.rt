@@ -90,8 +90,14 @@ then called OUT by a link. Only where that link fails is it made under its own n
 machine may leave a part of it there. Both other files are read whole first, and nothing is made where anything is
 refused. Standard output has nothing.
 
-Today every column is required and none has fields, and all rows stand in one page, so that N must be at least as
-many as there are rows, both for --group-rows and --page-rows.";
+A style is how the values of a column are encoded:
+
+    plain       as they are
+    dictionary  each different value once, and its index in each row. Booleans are plain, and so is a column with
+                more than 65536 different values in a row group
+    delta       numbers by their differences, bytes by what each has in common with the one before it, and booleans
+                by runs
+    lengths     as delta, but bytes by their lengths and then all of them, and those of a fixed length plain";
 
 pub const ENCODE_REFUSALS: &str = "\
 The call is refused, with status 1 and one line on standard error, by the first of these that is found: first what
@@ -100,9 +106,9 @@ others), then with the rows as a whole, and last with OUT.
 
     4 Schema       the columns are no valid tree: two of one name, none at all, a length that cannot be
     6 Float        a column that is noted as FLOAT16, whose path follows
-    13 Limit       more than a file may have, an option out of its range (--group-rows 1 to 1048576, --page-rows
-                   1 or more, --page-version 1 or 2), or what is not written yet: more rows than N, optional,
-                   repeated or nested columns, version 2, another style than plain
+    13 Limit       an option out of its range (--group-rows 1 to 1048576, --page-rows 1 or more, --page-version 1
+                   or 2), a value of more than 16 MiB, more than 16777216 entries of a column in a row group, or
+                   too much for a file of 2147483647 bytes or its footer of 16 MiB
     14 RowShape    a row that has not just the schema's columns, or a value that its column cannot have
     24 Exists      OUT is there already; it is left as it is
     25 Device      SCHEMA or ROWS cannot be read, or OUT not be made
@@ -121,3 +127,84 @@ and sample/two_rows.jsonl is
 
     {\"x\":1}
     {\"x\":300}";
+
+pub const INSPECT: &str = "Says what a Parquet file is, by its footer and its page headers";
+
+pub const INSPECT_LONG: &str = "\
+Says what a Parquet file is: its rows, row groups, writer and key-values; its schema as a tree; of each column chunk
+its type, codec, encodings, entries, sizes, offsets, statistics and pages; and what decode refuses of it, as far as
+the footer and the page headers show that.
+
+Only the footer and the page headers are read, and no value: what a file says of itself, its statistics too, is shown
+unchecked, and decode may refuse a file in which nothing is found. At most 100000 pages are listed of a file, and 100
+of the places that decode refuses. The bounds of statistics are shown as decode prints values; those of a column that
+decode does not read, as hexadecimal digits. Of the two kinds of bounds the deprecated ones are shown only where the
+others are missing. Names that are not UTF-8 are shown with replacement characters.
+
+With --json the same is one line of JSON: an object with bytes, footer_bytes, version, rows, created_by, key_values,
+schema (each element with its depth), groups (each with chunks, and these with pages) and not_read.";
+
+pub const INSPECT_REFUSALS: &str = "\
+The file is refused, with status 1 and one line on standard error, where its footer cannot be read:
+
+    1 Truncated    the bytes end before what they announce, or are fewer than 12
+    2 Magic        the first or the last four bytes are not PAR1
+    3 Thrift       the footer is no struct of the wanted shape
+    13 Limit       the file has more than 2147483647 bytes, or its footer more than 16 MiB
+    25 Device      the file cannot be read, or standard output not be written
+    28 Memory      there was no memory left
+
+Example, at the top of the repository:
+
+    ./pqds inspect sample/two_rows.parquet
+
+prints
+
+    140 bytes, of which the footer has 95
+    rows: 2, in row groups: 1
+    written by: pqds
+
+    schema
+      required INT64 x
+
+    row group 0: rows 2, 33 bytes
+      column x: INT64, UNCOMPRESSED, entries 2
+        33 bytes, 33 uncompressed; encodings PLAIN, RLE
+        no dictionary, data pages from 4
+        statistics: min 1, max 300, nulls 0, distinct values unknown
+        page at 4: DATA_PAGE, PLAIN, entries 2, 17 + 16 bytes
+
+    decode refuses nothing of the footer and of the page headers";
+
+pub const CHECK: &str = "Says whether rows are of a schema, and where they are not";
+
+pub const CHECK_LONG: &str = "\
+Says whether encode makes a file of these rows, with its default options, and why not where it does not. Nothing is
+made. SCHEMA and ROWS are as for encode.
+
+Prints `ok N rows` where it does. Else standard error has a line that says where the first fault is, what was
+expected there and what was found, and then the line by which encode refuses the same files:
+
+    ROWS:7: a.list[2].b: expected true or false, found 3
+    refused 14 RowShape
+
+The time and the memory are those of encode.";
+
+pub const CHECK_REFUSALS: &str = "\
+The files are refused, with status 1, as encode refuses them, but for 24:
+
+    4 Schema       the columns are no valid tree: two of one name, none at all, a length that cannot be
+    6 Float        a column that is noted as FLOAT16, whose path follows
+    13 Limit       more than a file may have, or what is not written yet
+    14 RowShape    a row that has not just the schema's columns, or a value that its column cannot have
+    25 Device      SCHEMA or ROWS cannot be read, or standard output not be written
+    28 Memory      there was no memory left
+    29 Script      SCHEMA, or a line of ROWS, is not JSON of this form, or not UTF-8
+
+Example, at the top of the repository:
+
+    ./pqds check sample/two_rows.schema.json sample/two_rows.jsonl
+
+prints
+
+    ok 2 rows";

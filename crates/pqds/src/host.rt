@@ -76,6 +76,23 @@ pub fn whole_of<F: Files>(rt: &F, alloc: Global, path: &str) -> R<Vec<u8>>
     Ok(bytes)
 }
 
+/// Writes all of a text.
+fn write_text<W: Write>(text: &[u8], out: &mut W) -> R<()>
+    ensures stands { OnOk result (Appends (W.contents out.old) (W.contents out.new) text.now) }
+    ensures which { RefusedOnly (λ e. e ≡ Device) result }
+{
+    out.write_all(text).map_err(refusal_of)
+}
+
+/// Writes all of a text, and what the writer gathered before it. Refused Device where it cannot be written.
+pub fn write_whole<W: Write>(text: &[u8], out: &mut W) -> R<()>
+    ensures stands { OnOk result (Appends (W.contents out.old) (W.contents out.new) text.now) }
+    ensures which { RefusedOnly (λ e. e ≡ Device) result }
+{
+    write_text(text, out)?;
+    out.flush().map_err(refusal_of)
+}
+
 /// The text that bytes are. Refused Script where they are not UTF-8. Takes no memory.
 pub fn text_of(bytes: Vec<u8>) -> R<String>
     ensures stands { IfOk result (λ text. string_bytes text ≡ bytes.items) }

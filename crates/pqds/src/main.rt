@@ -6,14 +6,30 @@
 #![tactic(auto)]
 
 mod arguments;
+mod check;
+#[cfg(test)]
+mod check_tests;
 mod decode;
 mod encode;
 #[cfg(test)]
 mod encode_tests;
+mod explain;
+mod explain_schema;
 mod help;
 mod host;
 #[cfg(test)]
 mod host_tests;
+mod inspect;
+mod inspect_chunks;
+mod inspect_names;
+mod inspect_pages;
+mod inspect_problems;
+mod inspect_report;
+mod inspect_schema;
+mod inspect_statistics;
+#[cfg(test)]
+mod inspect_tests;
+mod inspect_text;
 mod one_line;
 #[cfg(test)]
 mod tests;

@@ -1,5 +1,6 @@
 //! The program, called as `work`.
 
+use crate::encode_tests::answer_to_text;
 use crate::work::work;
 use bits::R;
 use std::alloc::Global;
@@ -8,7 +9,7 @@ use std::io::{self, BufWriter, ErrorKind, Write};
 use std::test::*;
 
 /// A file with the rows 1 and 300 of one REQUIRED INT64 `x`.
-const TWO_ROWS: [u8; 140] = [
+pub const TWO_ROWS: [u8; 140] = [
     80, 65, 82, 49, 21, 0, 21, 32, 21, 32, 44, 21, 4, 21, 0, 21, 6, 21, 6, 0, 0, 1, 0, 0, 0, 0, 0,
     0, 0, 44, 1, 0, 0, 0, 0, 0, 0, 21, 2, 25, 44, 72, 6, 115, 99, 104, 101, 109, 97, 21, 2, 0, 21,
     4, 37, 0, 24, 1, 120, 0, 22, 4, 25, 28, 25, 28, 38, 0, 28, 21, 4, 25, 37, 0, 6, 25, 24, 1, 120,
@@ -110,6 +111,59 @@ fn the_version_names_the_logic(rt: HostRuntime) -> Result<(), Fail> {
     let text = std::str::from_utf8(said.err.as_slice())?;
     assert_eq!(rt; (said.status, said.out.len()), (2, 0));
     assert!(rt; text.contains("logic dac8208d650f15bf"), "{text}");
+    Ok(())
+}
+
+#[test]
+fn no_words_are_answered_by_the_help(rt: HostRuntime) -> Result<(), Fail> {
+    let said = answer_to(&rt, &[])?;
+    let help = answer_to(&rt, &["--help"])?;
+    assert_eq!(rt; said.status, 2);
+    assert!(rt; said.err.as_slice() == help.err.as_slice());
+    Ok(())
+}
+
+/// The samples that the calls below read.
+const SAMPLES: [(&str, &[u8]); 3] = [
+    ("sample/two_rows.parquet", &TWO_ROWS),
+    (
+        "sample/two_rows.schema.json",
+        b"[{\"name\":\"x\",\"rep\":\"required\",\"type\":\"int64\"}]\n",
+    ),
+    ("sample/two_rows.jsonl", b"{\"x\":1}\n{\"x\":300}\n"),
+];
+
+/// The calls that README.md and docs/USAGE.md show, as typed at the top of the repository, in order, and what
+/// each prints.
+const SHOWN: [(&str, &str); 3] = [
+    (
+        "./pqds decode sample/two_rows.parquet",
+        "{\"x\":1}\n{\"x\":300}\n",
+    ),
+    (
+        "./pqds encode sample/two_rows.schema.json sample/two_rows.jsonl two_rows.parquet",
+        "",
+    ),
+    ("./pqds decode two_rows.parquet", "{\"x\":1}\n{\"x\":300}\n"),
+];
+
+#[test]
+fn the_calls_of_the_documents_print_what_these_show(rt: HostRuntime) -> Result<(), Fail> {
+    fs::create_dir_all(&rt, "sample")?;
+    for (path, bytes) in SAMPLES {
+        fs::write(&rt, path, bytes)?;
+    }
+    for (typed, printed) in SHOWN {
+        let words = typed.strip_prefix("./pqds ").unwrap_or("");
+        let said = answer_to_text(&rt, words)?;
+        assert_eq!(rt; (said.status, said.err.len()), (0, 0), "{typed}");
+        assert_eq!(rt; std::str::from_utf8(said.out.as_slice())?, printed);
+    }
+    for (path, _) in SAMPLES {
+        fs::remove_file(&rt, path)?;
+    }
+    fs::remove_dir(&rt, "sample")?;
+    fs::remove_file(&rt, "two_rows.parquet")?;
     Ok(())
 }
 

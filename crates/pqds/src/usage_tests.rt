@@ -3,7 +3,8 @@
 use crate::arguments::{Call, call_of};
 use crate::tests::owned;
 use bits::R;
-use footer::{Style, WriteOptions};
+use footer::WriteOptions;
+use row_group::Style;
 use std::alloc::Global;
 use std::test::*;
 

@@ -1,84 +1,119 @@
--- Chunks that are written one behind the other.
-use Rattle.std.proofs.Common.{◌≡◌, ℕ, zero, suc, ◌+◌, ◌-◌, ◌<◌, ◌≤◌, List, [], ◌∷◌, ◌++◌, map, length, get_or, take, Some, refl, sym, ap, subst, ◌∙◌, arith}
+-- Chunks that are written one after the other.
+use Rattle.std.proofs.Common.{◌≡◌, ℕ, zero, suc, ◌+◌, ◌<◌, ◌≤◌, List, [], ◌∷◌, ◌++◌, map, length, get_or, take, Some, refl, sym, ap, subst, ◌∙◌, arith}
 use Rattle.std.specs.Prelude.{pos, ◌<ℤ◌, sum_by}
-use Rattle.std.specs.List.{Any, AllByRecursion}
-use Rattle.std.proofs.lemmas.List.{map-append, take_more}
+use Rattle.std.specs.List.{AllByRecursion}
+use Rattle.std.proofs.lemmas.List.{take_more, length-append}
 use Rattle.std.proofs.lemmas.List.Sums.{sum_by-cons}
 use Rattle.schema.specs.Values.{ValueTrees}
 use Rattle.schema.specs.Shape.{Fields}
 use Rattle.schema.specs.Fits.{RowsFit}
-use Rattle.schema.specs.Stripe.{Leaf, Entry, leaves_of}
+use Rattle.schema.specs.Stripe.{Leaf, Entry, column, columns, leaves_of}
+use Rattle.schema.specs.Law.{IsEntryOf, EntriesAreOfLeaves, RowsBeginOnce}
 use Rattle.schema.proofs.Kept.{all_joined}
 use Rattle.metadata.specs.Records.{ChunkMeta, GroupMeta}
-use Rattle.plain.specs.Plain.{IsTooLong}
-use Rattle.pages.specs.Page.{values}
-use Rattle.pages.specs.Writing.{page_weight, AreShort, IsPageTooMuch}
+use Rattle.pages.specs.Writing.{AreShort}
 use Rattle.row_group.specs.Greatest.{most_entries}
-use Rattle.row_group.specs.Writing.{IsOwnChunk, AppendsChunk, AppendsEach, AppendsGroup, IsChunkTooMuch, IsGroupTooMuch}
-use Rattle.row_group.specs.Columns.{column_of, AppendsChunks}
-use Rattle.row_group.proofs.Places.{any_here}
-use Rattle.row_group.proofs.Laid.{each_short, each_more}
+use Rattle.row_group.specs.declared.options.ChunkOptions.{ChunkOptions}
+use Rattle.row_group.specs.Paged.{parts_of, chunk_weight}
+use Rattle.row_group.specs.Writing as group_limit
+use Rattle.row_group.specs.Writing.{IsOwnChunk, AppendsChunk, AppendsGroup, IsChunkTooMuch, IsGroupTooMuch}
+use Rattle.row_group.specs.inner.Columns.{AreColumnsOf, HasRows, AppendsChunks, AreTooMuch}
+use Rattle.row_group.proofs.Laid.{each_short, each_more, each_kept, each_joined}
+use Rattle.row_group.proofs.PageCounts.{few_pages, columns_have_rows}
+
+-- ---- columns and leaves
+
+pub as_many : (leaves : List Leaf) (cols : List (List Entry)) → AreColumnsOf leaves cols → length leaves ≡ length cols
+as_many [] [] h = refl
+as_many [] (es ∷ cols) h = absurd h
+as_many (leaf ∷ leaves) [] h = absurd h
+as_many (leaf ∷ leaves) (es ∷ cols) h = ap suc (as_many leaves cols h.1)
+
+pub column_of_leaf : (leaves : List Leaf) (cols : List (List Entry)) → AreColumnsOf leaves cols → (i : ℕ) (leaf : Leaf) (es : List Entry) → i < length leaves → leaf ≡ get_or leaves i leaf → es ≡ get_or cols i es
+    → AllByRecursion (IsEntryOf leaf) es
+column_of_leaf [] cols h i leaf es lt e f = absurd (omega (arith, lt))
+column_of_leaf (l ∷ leaves) [] h i leaf es lt e f = absurd h
+column_of_leaf (l ∷ leaves) (c ∷ cols) h zero leaf es lt e f = subst (λ (x : Leaf). AllByRecursion (IsEntryOf x) es) (sym e) (subst (AllByRecursion (IsEntryOf l)) (sym f) h.0)
+column_of_leaf (l ∷ leaves) (c ∷ cols) h (suc i) leaf es lt e f = column_of_leaf leaves cols h.1 i leaf es (omega (arith, lt)) e f
+
+of_leaves : (rows : List ValueTrees) (ls : List Leaf) → AllByRecursion (λ l. AllByRecursion (IsEntryOf l) (column rows l.steps)) ls → AreColumnsOf ls (map (λ (l : Leaf). column rows l.steps) ls)
+of_leaves rows [] h = tt
+of_leaves rows (l ∷ ls) h = (h.0, of_leaves rows ls h.1)
+
+pub columns_of_leaves : EntriesAreOfLeaves → (fs : Fields) (rows : List ValueTrees) → RowsFit fs rows → AreColumnsOf (leaves_of fs) (columns fs rows)
+columns_of_leaves law fs rows fit = of_leaves rows (leaves_of fs) (law fs rows fit)
 
 -- ---- one chunk more
 
--- what is said of the columns of some leaves and of one more
-columns_more : (rows : List ValueTrees) (leaves : List Leaf) (leaf : Leaf) → map (column_of rows) (leaves ++ leaf ∷ []) ≡ map (column_of rows) leaves ++ column_of rows leaf ∷ []
-columns_more rows leaves leaf = map-append (column_of rows) leaves (leaf ∷ [])
+all_more : (P : List Entry → Type 0) (cols : List (List Entry)) (i : ℕ) (es : List Entry) → take (i + 1) cols ≡ take i cols ++ es ∷ [] → AllByRecursion P (take i cols) → P es → AllByRecursion P (take (i + 1) cols)
+all_more P cols i es e h p = subst (AllByRecursion P) (sym e) (all_joined P (take i cols) (es ∷ []) h (p, tt))
 
-all_more : (P : List Entry → Type 0) (rows : List ValueTrees) (leaves : List Leaf) (leaf : Leaf) → AllByRecursion P (map (column_of rows) leaves) → P (column_of rows leaf) → AllByRecursion P (map (column_of rows) (leaves ++ leaf ∷ []))
-all_more P rows leaves leaf h p =
-    subst (AllByRecursion P) (sym (columns_more rows leaves leaf)) (all_joined P (map (column_of rows) leaves) (column_of rows leaf ∷ []) h (p, tt))
-
-pub chunk_more : (leaves : List Leaf) (leaf : Leaf) (rows : List ValueTrees) (old mid new : List ℕ) (cs : List ChunkMeta) (c : ChunkMeta) → IsOwnChunk c
-    → AreShort (column_of rows leaf) → (most_entries <ℤ pos (length (column_of rows leaf)) → ⊥)
-    → AppendsChunk leaf mid new c.meta_data (column_of rows leaf) → AppendsChunks leaves rows old mid cs → AppendsChunks (leaves ++ leaf ∷ []) rows old new (cs ++ c ∷ [])
-chunk_more leaves leaf rows old mid new cs c own short few p q = record {
-  each = subst (λ (cols : List (List Entry)). AppendsEach (leaves ++ leaf ∷ []) cols old new (cs ++ c ∷ [])) (sym (columns_more rows leaves leaf))
-      (each_more leaves (map (column_of rows) leaves) old mid new cs leaf (column_of rows leaf) c q.each p own);
-  few = all_more (λ es. most_entries <ℤ pos (length es) → ⊥) rows leaves leaf q.few few;
-  values_short = all_more AreShort rows leaves leaf q.values_short short;
-}
-
--- the same, at a place of the leaves
-pub chunk_more_at : (leaves : List Leaf) (i : ℕ) (leaf : Leaf) (rows : List ValueTrees) (old mid new : List ℕ) (cs : List ChunkMeta) (c : ChunkMeta) → i < length leaves → leaf ≡ get_or leaves i leaf → IsOwnChunk c
-    → AreShort (column_of rows leaf) → (most_entries <ℤ pos (length (column_of rows leaf)) → ⊥)
-    → AppendsChunk leaf mid new c.meta_data (column_of rows leaf) → AppendsChunks (take i leaves) rows old mid cs → AppendsChunks (take (i + 1) leaves) rows old new (cs ++ c ∷ [])
-chunk_more_at leaves i leaf rows old mid new cs c lt e own short few p q =
+pub chunk_more : (o : ChunkOptions) (leaves : List Leaf) (cols : List (List Entry)) (i : ℕ) (leaf : Leaf) (es : List Entry) (old mid new : List ℕ) (cs : List ChunkMeta) (c : ChunkMeta)
+    → i < length leaves → i < length cols → leaf ≡ get_or leaves i leaf → es ≡ get_or cols i es → IsOwnChunk c → AreShort es → (most_entries <ℤ pos (length es) → ⊥)
+    → AppendsChunk leaf o mid new c.meta_data es → AppendsChunks o (take i leaves) (take i cols) old mid cs → AppendsChunks o (take (i + 1) leaves) (take (i + 1) cols) old new (cs ++ c ∷ [])
+chunk_more o leaves cols i leaf es old mid new cs c lt lc e f own short few p q =
     let more : take (i + 1) leaves ≡ take i leaves ++ leaf ∷ [] = take_more leaves i leaf lt ∙ ap (λ (l : Leaf). take i leaves ++ l ∷ []) (sym e) in
-    subst (λ (t : List Leaf). AppendsChunks t rows old new (cs ++ c ∷ [])) (sym more) (chunk_more (take i leaves) leaf rows old mid new cs c own short few p q)
+    let further : take (i + 1) cols ≡ take i cols ++ es ∷ [] = take_more cols i es lc ∙ ap (λ (x : List Entry). take i cols ++ x ∷ []) (sym f) in
+    record {
+      each = rw more (rw further (each_more o (take i leaves) (take i cols) old mid new cs leaf es c q.each p own));
+      few = all_more (λ es. most_entries <ℤ pos (length es) → ⊥) cols i es further q.few few;
+      values_short = all_more AreShort cols i es further q.values_short short;
+    }
 
--- ---- why a chunk is too much is why its group is
+-- ---- why a chunk is too much is why the columns are
+
+all_taken : {A : Type 0} (P : A → Type 0) (xs : List A) (i : ℕ) → AllByRecursion P xs → AllByRecursion P (take i xs)
+all_taken P [] zero h = tt
+all_taken P [] (suc i) h = tt
+all_taken P (x ∷ xs) zero h = tt
+all_taken P (x ∷ xs) (suc i) h = (h.0, all_taken P xs i h.1)
+
+at_index : {A : Type 0} (P : A → Type 0) (xs : List A) (i : ℕ) (x : A) → i < length xs → x ≡ get_or xs i x → AllByRecursion P xs → P x
+at_index P [] i x lt e h = absurd (omega (arith, lt))
+at_index P (y ∷ xs) zero x lt e h = subst P (sym e) h.0
+at_index P (y ∷ xs) (suc i) x lt e h = at_index P xs i x (omega (arith, lt)) e h.1
 
 weights_before : {A : Type 0} (w : A → ℕ) (xs : List A) (i : ℕ) (x : A) → i < length xs → x ≡ get_or xs i x → sum_by w (take i xs) + w x ≤ sum_by w xs
 weights_before w [] i x lt e = absurd (omega (arith, lt))
 weights_before {A} w (y ∷ ys) zero x lt e = let same : w x ≡ w y = ap w e in omega (arith, same, sum_by-cons w y ys)
 weights_before w (y ∷ ys) (suc i) x lt e = let h = weights_before w ys i x (omega (arith, lt)) e in omega (arith, h, sum_by-cons w y ys, sum_by-cons w y (take i ys))
 
-sum_of_map : {A B : Type 0} (w : B → ℕ) (f : A → B) (xs : List A) → sum_by w (map f xs) ≡ sum_by (λ x. w (f x)) xs
-sum_of_map w f [] = refl
-sum_of_map w f (x ∷ xs) = omega (arith, sum_by-cons w (f x) (map f xs), sum_by-cons (λ y. w (f y)) x xs, sum_of_map w f xs)
-
-weights_up_to : (rows : List ValueTrees) (leaves : List Leaf) (i : ℕ) (leaf : Leaf) → i < length leaves → leaf ≡ get_or leaves i leaf
-    → sum_by page_weight (map (column_of rows) (take i leaves)) + page_weight (column_of rows leaf) ≤ sum_by page_weight (map (column_of rows) leaves)
-weights_up_to rows leaves i leaf lt e =
-    let h = weights_before (λ l. page_weight (column_of rows l)) leaves i leaf lt e in
-    omega (arith, h, sum_of_map page_weight (column_of rows) leaves, sum_of_map page_weight (column_of rows) (take i leaves))
-
-pub too_much : (fs : Fields) (rows : List ValueTrees) (i : ℕ) (leaf : Leaf) (old mid : List ℕ) (cs : List ChunkMeta) → i < length (leaves_of fs) → leaf ≡ get_or (leaves_of fs) i leaf
-    → AppendsChunks (take i (leaves_of fs)) rows old mid cs → IsChunkTooMuch (length mid) (column_of rows leaf) → IsGroupTooMuch (length old) fs rows
-too_much fs rows i leaf old mid cs lt e so_far (IsChunkTooMuch.many_entries many) =
-    IsGroupTooMuch.many_entries (any_here (λ es. most_entries <ℤ pos (length es)) (column_of rows) (leaves_of fs) i leaf lt e many)
-too_much fs rows i leaf old mid cs lt e so_far (IsChunkTooMuch.large_page (IsPageTooMuch.long_value long)) =
-    IsGroupTooMuch.long_value (any_here (λ es. Any IsTooLong (values es)) (column_of rows) (leaves_of fs) i leaf lt e long)
-too_much fs rows i leaf old mid cs lt e so_far (IsChunkTooMuch.large_page (IsPageTooMuch.heavy_page heavy)) =
-    IsGroupTooMuch.heavy (let w = weights_up_to rows (leaves_of fs) i leaf lt e in omega (arith, w, heavy))
-too_much fs rows i leaf old mid cs lt e so_far (IsChunkTooMuch.far_behind far) =
-    IsGroupTooMuch.heavy (let w = weights_up_to rows (leaves_of fs) i leaf lt e in
-    let s = each_short (take i (leaves_of fs)) (map (column_of rows) (take i (leaves_of fs))) old mid cs so_far.each in
-    omega (arith, w, far, s))
+pub too_much : (o : ChunkOptions) (leaves : List Leaf) (cols : List (List Entry)) (i : ℕ) (es : List Entry) (old mid : List ℕ) (cs : List ChunkMeta) → i < length cols → es ≡ get_or cols i es
+    → AppendsChunks o (take i leaves) (take i cols) old mid cs → IsChunkTooMuch (length mid) o.page_rows es → AreTooMuch (length old) o.page_rows cols
+too_much o leaves cols i es old mid cs lt e so_far (IsChunkTooMuch.empty_pages h) = AreTooMuch.empty_pages h
+too_much o leaves cols i es old mid cs lt e so_far (IsChunkTooMuch.at_the_front h) =
+    AreTooMuch.at_the_front (let kept = each_kept o (take i leaves) (take i cols) old mid cs so_far.each in omega (arith, h, kept.1))
+too_much o leaves cols i es old mid cs lt e so_far (IsChunkTooMuch.many_entries h) = AreTooMuch.many_entries (i, es, lt, sym e, h)
+too_much o leaves cols i es old mid cs lt e so_far (IsChunkTooMuch.long_value h) = AreTooMuch.long_value (i, es, lt, sym e, h)
+too_much o leaves cols i es old mid cs lt e so_far (IsChunkTooMuch.heavy parts paged over) =
+    AreTooMuch.heavy (λ n h.
+      let w = weights_before (chunk_weight (parts_of n o.page_rows)) cols i es lt e in
+      let s = each_short o n (take i leaves) (take i cols) old mid cs (all_taken (HasRows n) cols i h) so_far.each in
+      let f = few_pages o.page_rows n es parts (at_index (HasRows n) cols i es lt e h) paged in
+      omega (arith, w, s, f, over))
 
 -- ---- the group
 
-pub group_written : (fs : Fields) (rows : List ValueTrees) (old new : List ℕ) (g : GroupMeta) (size : ℕ) → RowsFit fs rows → size ≡ length new - length old
-    → g.num_rows ≡ pos (length rows) → g.total_byte_size ≡ Some (pos size) → AppendsChunks (leaves_of fs) rows old new g.columns → AppendsGroup fs old new g rows
-group_written fs rows old new g size fit filled count says p = record { count = count; fit = fit; chunks = p.each; size = says ∙ ap (λ (n : ℕ). Some (pos n)) filled }
+pub group_written : RowsBeginOnce → (fs : Fields) (o : ChunkOptions) (rows : List ValueTrees) (old new : List ℕ) (g : GroupMeta) (size : ℕ) → RowsFit fs rows → size + length old ≡ length new
+    → g.num_rows ≡ pos (length rows) → g.total_byte_size ≡ Some (pos size) → AppendsChunks o (leaves_of fs) (columns fs rows) old new g.columns → AppendsGroup fs o old new g rows
+group_written law fs o rows old new g size fit filled count says p =
+    let whole = each_joined o (leaves_of fs) (columns fs rows) old new g.columns p.each in
+    let both : length new ≡ length old + length whole.0 = ap length whole.1 ∙ length-append old whole.0 in
+    let same : size ≡ length whole.0 = omega (arith, filled, both) in
+    let light = each_short o (length rows) (leaves_of fs) (columns fs rows) old new g.columns (columns_have_rows law fs rows fit) p.each in
+    record {
+      text = whole.0;
+      joined = whole.1;
+      count = count;
+      fit = fit;
+      chunks = p.each;
+      size = says ∙ ap (λ (n : ℕ). Some (pos n)) same;
+      short = omega (arith, light, both);
+    }
+
+pub group_too_much : RowsBeginOnce → (fs : Fields) (before size : ℕ) (rows : List ValueTrees) → RowsFit fs rows → AreTooMuch before size (columns fs rows) → IsGroupTooMuch before size fs rows
+group_too_much law fs before size rows fit (AreTooMuch.empty_pages h) = group_limit.empty_pages h
+group_too_much law fs before size rows fit (AreTooMuch.at_the_front h) = group_limit.at_the_front h
+group_too_much law fs before size rows fit (AreTooMuch.many_entries h) = group_limit.many_entries h
+group_too_much law fs before size rows fit (AreTooMuch.long_value h) = group_limit.long_value h
+group_too_much law fs before size rows fit (AreTooMuch.heavy h) = group_limit.heavy (h (length rows) (columns_have_rows law fs rows fit))

@@ -20,7 +20,7 @@ use Rattle.row_group.specs.Chunks.{AreChunks, GroupMeans}
 use Rattle.row_group.specs.Greatest.{most_rows}
 use Rattle.row_group.specs.Limits.{IsGroupOver, many_rows, large_chunk, IsOfChunks}
 use Rattle.row_group.specs.Laws.{FilesHoldOneColumn}
-use Rattle.row_group.specs.Left.{chunk_stands}
+use Rattle.row_group.specs.Left.{reader_view, chunk_stands}
 use Rattle.row_group.specs.inner.Readers.{AreReaders, AreSound, HasRows, AreRowsOfGroup, CountsRows, refusal_kept}
 use Rattle.row_group.proofs.OneRest.{PagesAreOne, ChunksAreOne, one_reader}
 use Rattle.row_group.proofs.OneMeaning.{one_columns}
@@ -65,7 +65,7 @@ stand_one one chunks [] [] (y ∷ ys) p q = absurd q
 stand_one one chunks [] (x ∷ xs) ys p q = absurd p
 stand_one one chunks (r ∷ rs) [] ys p q = absurd p
 stand_one one chunks (r ∷ rs) (x ∷ xs) [] p q = absurd q
-stand_one one chunks (r ∷ rs) (x ∷ xs) (y ∷ ys) p q = ap (λ (t : List Entry). t ∷ xs) (one_reader one chunks r x y p.0 q.0) ∙ ap (λ (t : Columns). y ∷ t) (stand_one one chunks rs xs ys p.1 q.1)
+stand_one one chunks (r ∷ rs) (x ∷ xs) (y ∷ ys) p q = ap (λ (t : List Entry). t ∷ xs) (one_reader one chunks (reader_view r) x y p.0 q.0) ∙ ap (λ (t : Columns). y ∷ t) (stand_one one chunks rs xs ys p.1 q.1)
 
 -- ---- the group is accepted
 
@@ -88,10 +88,10 @@ no_rows front fs g n old new cols e readers sound refused fault rows k =
       stand = sound_stand front g.columns (leaves_of fs) old (columns fs rows) readers (sound_others front g.columns (leaves_of fs) cols (columns fs rows) sound k.chunks);
     })
 
-pub tells : (front : List ℕ) (fs : Fields) (g : GroupMeta) (old new : List ChunkReader) (cols : Columns) (e : Refusal) → AreReaders front g.columns (leaves_of fs) old → AreSound front g.columns (leaves_of fs) cols
+pub tells : (front : List ℕ) (fs : Fields) (cs : List ChunkMeta) (ls : List Leaf) (old new : List ChunkReader) (cols : Columns) (e : Refusal) → AreReaders front cs ls old → AreSound front cs ls cols
     → IsRefusedFor chunk_stands refusal_kept old new (HasFault fs) e → Tells (Unit {0}) (Unit {0}) e
-tells front fs g old new cols e readers sound (inl h) = absurd (h.1 cols (sound_stand front g.columns (leaves_of fs) old cols readers sound))
-tells front fs g old new cols e readers sound (inr h) = h.1.0
+tells front fs cs ls old new cols e readers sound (inl h) = absurd (h.1 cols (sound_stand front cs ls old cols readers sound))
+tells front fs cs ls old new cols e readers sound (inr h) = h.1.0
 
 pub tells_which : (e : Refusal) → Tells (Unit {0}) (Unit {0}) e → HasCause IsOfChunks e
 tells_which refusal.Levels h = tt

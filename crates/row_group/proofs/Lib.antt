@@ -1,10 +1,7 @@
-pub mod OnePage
 pub mod Places
 pub mod Passed
-pub mod Flat
+pub mod PageCounts
 pub mod Laid
-pub mod ChunkWritten
-pub mod Lent
 pub mod ColumnsWritten
 pub mod OneMeaning
 pub mod OneRest
@@ -19,3 +16,12 @@ pub mod Starts
 pub mod GroupRows
 pub mod Fresh
 pub mod RowsTaken
+pub mod ChunkStatistics
+pub mod Cuts
+pub mod PartWeights
+pub mod PartsPut
+pub mod Dictionaries
+pub mod TooMuch
+pub mod ChunkPut
+pub mod WantedChunks
+pub mod WantedRows

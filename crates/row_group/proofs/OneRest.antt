@@ -7,8 +7,7 @@ use Rattle.schema.specs.Stripe.{Leaf, Entry}
 use Rattle.pages.specs.Page.{Page, entries, IsPage}
 use Rattle.pages.specs.Chunk.{entries_of, all_entries, IsChunk}
 use Rattle.row_group.specs.Rest.{Known, nothing, known, ChunkLeft, IsKnown, HoldsRest}
-use Rattle.row_group.specs.declared.chunk_reader.ChunkReader.{ChunkReader}
-use Rattle.row_group.specs.Left.{page_left, pages_view, ChunkStands}
+use Rattle.row_group.specs.Left.{ReaderLeft, ChunkStands}
 
 abbrev pub PagesAreOne : Type 0
 PagesAreOne = (leaf : Leaf) (d : Option (List ValueTree)) → IsFunctional (IsPage leaf d)
@@ -93,5 +92,5 @@ one_rest one chunks s es fs used taken p q = by s.known refl
     by nothing e = (chunks s.leaf s.lacking s.bytes es fs used taken (is_chunk s es used e p) (is_chunk s fs taken e q)).0
     by (known c) e = one_known one s c es fs used taken e p q
 
-pub one_reader : PagesAreOne → ChunksAreOne → (r : ChunkReader) (es fs : List Entry) → ChunkStands r es → ChunkStands r fs → es ≡ fs
-one_reader one chunks r es fs p q = p.joined ∙ ap (λ (t : List Entry). page_left r.page ++ t) (one_rest one chunks (pages_view r.pages) p.rest q.rest p.used q.used p.held q.held) ∙ sym q.joined
+pub one_reader : PagesAreOne → ChunksAreOne → (r : ReaderLeft) (es fs : List Entry) → ChunkStands r es → ChunkStands r fs → es ≡ fs
+one_reader one chunks r es fs p q = p.joined ∙ ap (λ (t : List Entry). r.here ++ t) (one_rest one chunks r.pages p.rest q.rest p.used q.used p.held q.held) ∙ sym q.joined

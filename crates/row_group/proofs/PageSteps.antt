@@ -1,5 +1,9 @@
 -- One page after the other.
-use Rattle.std.proofs.Common.{◌≡◌, ℕ, ◌<◌, List, [], drop, Option, Some, None, Result, Ok, Err, refl, sym, ap, subst, ◌∙◌}
+use Rattle.std.proofs.Common.{◌≡◌, ℕ, ◌<◌, Bool, true, false, ◌&&◌, List, [], ◌∷◌, drop, Option, Some, None, Result, Ok, Err, inl, inr, refl, sym, ap, subst, ◌∙◌}
+use Rattle.std.specs.Prelude.{MatchOption, IsTrue}
+use Rattle.std.specs.List.{AllByRecursion}
+use Rattle.std.specs.Option.{option_map_or}
+use Rattle.std.proofs.lemmas.Bool.{false≢true}
 use Rattle.std.specs.Result.{IsErrAnd}
 use Rattle.bits.specs.Codec.{NothingStands}
 use Rattle.bits.specs.Faults.{refusal_of}
@@ -7,12 +11,16 @@ use Rattle.bits.specs.Refusals.{IsFault, HasCause}
 use Rattle.bits.specs.declared.fault.Fault.{Fault}
 use Rattle.bits.specs.declared.refusal.Refusal.{Refusal}
 use Rattle.bits.specs.declared.refusal.Refusal.TheVariants as refusal
-use Rattle.schema.specs.Stripe.{Leaf}
+use Rattle.schema.specs.Values.{ValueTree}
+use Rattle.schema.specs.Fits.{fits_leaf}
+use Rattle.schema.specs.Stripe.{Leaf, Entry}
+use Rattle.schema.specs.Law.{IsEntryOf}
 use Rattle.pages.specs.declared.data_page.DataPage.{DataPage}
-use Rattle.pages.specs.Page.{Page}
+use Rattle.pages.specs.Page.{Page, skipped, dictionary, entries, IsPage, IsBody}
 use Rattle.pages.specs.Chunk.{entries_of}
 use Rattle.pages.specs.Limits.{IsPageOver, IsOfPages}
 use Rattle.pages.specs.Apart.{DictionaryIsNotRead, IsPageOfAtMost}
+use Rattle.row_group.specs.PageLeft.{value_fits, values_fit}
 use Rattle.row_group.specs.Rest.{Known, dictionary_of, ChunkLeft}
 use Rattle.row_group.specs.inner.Pages.{Passes, IsRefusedAt, ReadsPage, NextPage, MayCome, known_after, IsAfter, TakesPage}
 use Rattle.row_group.proofs.NextPages.{after, IsHere, passes_page, nothing_after, nothing_here, over_here, passes_none, passes_then}
@@ -42,8 +50,34 @@ passes_to unread s t new p used some here e may is =
     subst (λ (x : ChunkLeft). Passes s x (entries_of p)) (sym state)
     (passes_page unread s p used new.lacking some here (subst (λ (k : Known). MayCome k p) known may) (is.lacking ∙ ap (λ (x : ChunkLeft). x.lacking) e))
 
+-- the values of a page's entries are its leaf's
+values_of_leaf : (leaf : Leaf) (es : List Entry) → AllByRecursion (IsEntryOf leaf) es → values_fit leaf.leaf_type es ≡ true
+values_of_leaf leaf [] h = refl
+values_of_leaf leaf (e ∷ es) h = both (value_fits leaf.leaf_type e) (values_fit leaf.leaf_type es) (of_value e.value h.0.value) (values_of_leaf leaf es h.1)
+  where
+    both : (a b : Bool) → a ≡ true → b ≡ true → (a && b) ≡ true
+    both true b p q = q
+    both false b p q = absurd (false≢true p)
+
+    of_value : (o : Option ValueTree) → MatchOption o (e.definition < leaf.greatest_definition) (λ v. (e.definition ≡ leaf.greatest_definition) × IsTrue (fits_leaf leaf.leaf_type v)) → option_map_or (fits_leaf leaf.leaf_type) o true ≡ true
+    of_value None h = refl
+    of_value (Some v) h = h.1
+
+page_fits : (leaf : Leaf) (d : Option (List ValueTree)) (bytes : List ℕ) (p : Page) (used : ℕ) → IsPage leaf d bytes p used → values_fit leaf.leaf_type (entries_of p) ≡ true
+page_fits leaf d bytes skipped used h = refl
+page_fits leaf d bytes (dictionary vs) used h = refl
+page_fits leaf d bytes (entries es) used h = values_of_leaf leaf es (by h.stands_for)
+  where
+    by : IsBody leaf d h.header h.body (entries es) → AllByRecursion (IsEntryOf leaf) es
+    by (inl one) = one.3.each
+    by (inr two) = two.3.each
+
 pub page_taken : DictionaryIsNotRead → (s t new : ChunkLeft) (p : Page) (used : ℕ) (r : Result (Option DataPage) Fault) → 0 < s.lacking → IsHere s p used → t ≡ left_of s.leaf s.known (drop used s.bytes) s.lacking → TakesPage t new p r → ReadsPage s new r
-page_taken unread s t new p used (Ok (Some given)) some here e h = (subst (Passes s new) (sym h.2) (passes_to unread s t new p used some here e h.0 h.1), h.3)
+page_taken unread s t new p used (Ok (Some given)) some here e h = (
+  subst (Passes s new) (sym h.2) (passes_to unread s t new p used some here e h.0 h.1),
+  h.3,
+  ap (values_fit new.leaf.leaf_type) h.2 ∙ subst (λ (l : Leaf). values_fit l.leaf_type (entries_of p) ≡ true) (sym (h.1.leaf ∙ ap (λ (x : ChunkLeft). x.leaf) e)) (page_fits s.leaf (dictionary_of s.known) s.bytes p used here.stands),
+)
 page_taken unread s t new p used (Ok None) some here e h = subst (Passes s new) h.2 (passes_to unread s t new p used some here e h.0 h.1)
 page_taken unread s t new p used (Err f) some here e h =
     subst (λ (g : Fault). IsRefusedAt s new (refusal_of g)) (sym h.0)

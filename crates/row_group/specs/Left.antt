@@ -1,16 +1,17 @@
 -- What readers of chunks and groups still have to give.
-use Rattle.std.specs.Prelude.{◌≡◌, ◌↔◌, ℕ, Bool, false, List, [], ◌∷◌, ◌++◌, map, length, Option, None, Some, option_map, unwrap_or, Result, Ok, Err}
+use Rattle.std.specs.Prelude.{◌≡◌, ◌↔◌, ℕ, Bool, true, false, List, [], ◌∷◌, ◌++◌, map, length, Option, None, Some, Result, Ok, Err}
+use Rattle.bits.specs.declared.fault.Fault.{Fault}
 use Rattle.bits.specs.declared.refusal.Refusal.{Refusal}
 use Rattle.bits.specs.declared.refusal.Refusal.TheVariants.{Memory}
 use Rattle.schema.specs.declared.row.Row.{Row}
-use Rattle.schema.specs.Values.{ValueTrees}
+use Rattle.schema.specs.Values.{ValueTree, ValueTrees}
+use Rattle.schema.specs.Annotations.{LeafType}
+use Rattle.schema.specs.Fits.{fits_leaf}
 use Rattle.schema.specs.Stripe.{Leaf, Entry}
 use Rattle.schema.specs.Law.{IsSchema}
 use Rattle.schema.specs.Borrowed.{value_ref_view}
 use Rattle.schema.specs.Views.{leaf_view, row_view}
 use Rattle.metadata.specs.Records.{ColumnMeta}
-use Rattle.pages.specs.declared.data_page.DataPage.{DataPage}
-use Rattle.pages.specs.Left.{entries_left}
 use Rattle.assemble.specs.RowsOf.{StandForRows}
 use Rattle.row_group.specs.declared.pages_left.Dictionary.{Dictionary}
 use Rattle.row_group.specs.declared.pages_left.Dictionary.TheVariants.{Open, Absent, Present}
@@ -19,6 +20,7 @@ use Rattle.row_group.specs.declared.chunk_reader.ChunkReader.{ChunkReader}
 use Rattle.row_group.specs.declared.rows.Rows.{Rows}
 use Rattle.row_group.specs.Chunks.{ChunkMeans}
 use Rattle.row_group.specs.Limits.{IsChunkOver}
+use Rattle.row_group.specs.PageLeft.{page_left}
 use Rattle.row_group.specs.Rest.{Known, nothing, known, ChunkLeft, HoldsRest, HasRestOver}
 
 abbrev pub known_view : Dictionary → Known
@@ -30,21 +32,30 @@ known_view (Present vs) = known (Some (map value_ref_view vs.items))
 abbrev pub pages_view : PagesLeft → ChunkLeft
 pages_view p = record { leaf = leaf_view p.leaf.now; known = known_view p.dictionary; bytes = p.bytes.now; lacking = p.lacking }
 
--- the entries that are not taken yet of the page that was read last
-abbrev pub page_left : Option DataPage → List Entry
-page_left page = unwrap_or (option_map entries_left page) []
+-- what is left to a reader: the pages that it did not read yet, the entries of the page before them, and the fault that it keeps
+pub record ReaderLeft : Type 0 where
+  pub pages : ChunkLeft
+  pub here : List Entry
+  pub fault : Option Fault
+
+abbrev pub reader_view : ChunkReader → ReaderLeft
+reader_view r = record { pages = pages_view r.pages; here = page_left r.page; fault = r.fault }
 
 -- what a reader would still give: what is left of its page, and then the entries of the pages that are left, none of which is over a limit
-pub record ChunkStands (r : ChunkReader) (es : List Entry) : Type 0 where
+pub record ChunkStands (r : ReaderLeft) (es : List Entry) : Type 0 where
   pub sound : r.fault ≡ None
   pub rest : List Entry
   pub used : ℕ
-  pub joined : es ≡ page_left r.page ++ rest
-  pub held : HoldsRest (pages_view r.pages) rest used
-  pub short : HasRestOver (pages_view r.pages) → ⊥
+  pub joined : es ≡ r.here ++ rest
+  pub held : HoldsRest r.pages rest used
+  pub short : HasRestOver r.pages → ⊥
 
 abbrev pub chunk_stands : ChunkReader → List Entry → Type 0
-chunk_stands = ChunkStands
+chunk_stands r = ChunkStands (reader_view r)
+
+-- the values that a reader gives, which are its leaf's, fit this type
+abbrev pub chunk_checked : ChunkReader → LeafType → Type 0
+chunk_checked r t = (v : ValueTree) → fits_leaf (leaf_view r.pages.leaf.now).leaf_type v ≡ true → fits_leaf t v ≡ true
 
 -- the reader stands for the entries of the chunk, where its record and its pages are within the limits
 abbrev pub StandsForChunk : ColumnMeta → Leaf → List ℕ → ChunkReader → Type 0

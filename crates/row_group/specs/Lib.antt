@@ -1,9 +1,13 @@
 pub mod Chunks
 pub mod Greatest
 pub mod Limits
+pub mod Wanted
 pub mod Rest
+pub mod PageLeft
 pub mod Left
+pub mod Styles
+pub mod Paged
+pub mod Spelled
 pub mod Writing
-pub mod Columns
 pub mod Laws
 pub mod inner

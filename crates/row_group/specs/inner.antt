@@ -1,3 +1,5 @@
 -- Definitions for private functions alone.
 pub mod Pages
 pub mod Readers
+pub mod Columns
+pub mod Parts

@@ -1,17 +1,17 @@
 //! The entries of a chunk, one by one.
 
-ghost use Rattle.std.specs.Prelude.{◌≡◌, ◌≢◌, ◌<ℤ◌, pos, List, length, IfOk, Err, option_map};
+ghost use Rattle.std.specs.Prelude.{◌≡◌, ◌≢◌, ◌<ℤ◌, pos, List, length, true, IfOk, Err, option_map};
 ghost use Rattle.bits.specs.Faults.{refusal_of};
 ghost use Rattle.bits.specs.Refusals.{OnFault, RefusedOnly};
 ghost use Rattle.bits.specs.Codec.{NothingStands};
 ghost use Rattle.schema.specs.Borrowed.{entry_ref_view};
-ghost use Rattle.schema.specs.Views.{leaf_view};
+ghost use Rattle.schema.specs.Views.{leaf_view, leaf_type_view};
 ghost use Rattle.metadata.specs.Views.{column_meta_view};
 ghost use Rattle.row_group.specs.Chunks.{ChunkMeans};
 ghost use Rattle.row_group.specs.Greatest.{most_entries};
 ghost use Rattle.row_group.specs.Limits.{IsOfChunks};
-ghost use Rattle.row_group.specs.Left.{page_left, chunk_stands, StandsForChunk};
-ghost use Rattle.row_group.specs.inner.Readers.{kept_fault, Fills, AdvancesReader, last_taken};
+ghost use Rattle.row_group.specs.PageLeft.{page_left, values_fit};
+ghost use Rattle.row_group.specs.inner.Pages.{kept_fault};
 
 use crate::chunk_record::check_record;
 use crate::pages_left::PagesLeft;
@@ -19,7 +19,7 @@ use assemble::EntrySource;
 use bits::{Fault, R, Refusal};
 use metadata::ColumnMeta;
 use pages::{DataPage, one_page};
-use schema::{EntryRef, Leaf};
+use schema::{EntryRef, Leaf, LeafType};
 use std::alloc::Global;
 
 /// Gives the entries of a chunk one by one, and reads its pages as it goes: it holds the entries of
@@ -34,9 +34,14 @@ pub struct ChunkReader<'a> {
     pub(crate) page: Option<DataPage<'a>>,
     /// Why a page was refused, if one was.
     pub(crate) fault: Option<Fault>,
+    /// What is left of the page was checked when it was read: the values are the leaf's.
+    ghost of_leaf: { values_fit (leaf_type_view pages.leaf.now.leaf_type) (page_left page) ≡ true },
 }
 
 impl<'a> ChunkReader<'a> {
+    ghost use Rattle.row_group.specs.Left.{reader_view, StandsForChunk};
+    ghost use Rattle.row_group.specs.inner.Readers.{Fills};
+
     /// A reader of all entries of a chunk, whose pages begin where `bytes` does. No page is read.
     ///
     /// Refused Schema where the record has not the path and the type of the leaf; Codec where the chunk
@@ -65,8 +70,9 @@ impl<'a> ChunkReader<'a> {
 
     /// Reads on until an entry is there, or none is left. Refused with the fault that is kept, or with
     /// that of a page, which is kept unless it is Memory.
+    #[inline(always)]
     fn fill(&mut self) -> Result<(), Fault>
-        ensures { Fills self.old self.new result }
+        ensures { Fills (reader_view self.old) (reader_view self.new) result }
     {
         if let Some(fault) = self.fault {
             return Err(fault);
@@ -88,6 +94,7 @@ impl<'a> ChunkReader<'a> {
     }
 
     /// How many entries of the page are not taken yet.
+    #[inline(always)]
     fn page_len(&self) -> usize
         ensures { result ≡ length (page_left self.now.page) }
     {
@@ -109,9 +116,13 @@ fn kept(fault: Fault) -> Option<Fault>
 }
 
 impl<'a> ChunkReader<'a> {
+    ghost use Rattle.row_group.specs.Left.{reader_view};
+    ghost use Rattle.row_group.specs.inner.Readers.{AdvancesReader, last_taken};
+
     /// Takes the next entry, if there is one: `entry` is that one from then on. Refused as `fill`.
+    #[inline(always)]
     fn advance(&mut self) -> Result<bool, Fault>
-        ensures { AdvancesReader self.old self.new result }
+        ensures { AdvancesReader (reader_view self.old) (reader_view self.new) (last_taken self.new) result }
     {
         self.fill()?;
         match &mut self.page {
@@ -121,6 +132,7 @@ impl<'a> ChunkReader<'a> {
     }
 
     /// The entry that was taken last; before the first one, an entry without a value.
+    #[inline(always)]
     fn entry(&self) -> EntryRef<'_>
         ensures { entry_ref_view result ≡ last_taken self.now }
     {
@@ -136,9 +148,19 @@ impl<'a> ChunkReader<'a> {
 }
 
 impl<'a> EntrySource for ChunkReader<'a> {
+    ghost use Rattle.row_group.specs.Left.{chunk_stands, chunk_checked};
+
     ghost stands = { chunk_stands };
 
     ghost refused = { λ r. option_map refusal_of r.fault };
+
+    ghost checked = { chunk_checked };
+
+    /// Whether values of the reader's leaf fit this type: each was checked when its page was read.
+    fn has_checked(&self, leaf_type: &LeafType) -> bool {
+        let own = &self.pages.leaf.leaf_type;
+        own.kind == leaf_type.kind && (own.is_text() || !leaf_type.is_text())
+    }
 
     fn peek(&mut self) -> R<Option<(u32, u32)>> {
         self.fill()?;
@@ -148,6 +170,7 @@ impl<'a> EntrySource for ChunkReader<'a> {
         }
     }
 
+    #[inline(always)]
     fn next(&mut self) -> Result<Option<EntryRef<'_>>, Fault> {
         if self.advance()? {
             Ok(Some(self.entry()))

@@ -70,7 +70,7 @@ pub fn check_chunks(alloc: Global, front: &[u8], meta: &GroupMeta, schema: &Sche
 }
 
 /// A reader of the chunk of this record, from the bytes of its file before the footer.
-fn reader_of<'a>(
+pub fn reader_of<'a>(
     alloc: Global,
     front: &'a [u8],
     meta: &ColumnMeta,
@@ -87,7 +87,7 @@ fn reader_of<'a>(
 }
 
 /// Reads the chunk of this record, from the bytes of its file before the footer, and keeps nothing.
-fn check_column(alloc: Global, front: &[u8], meta: &ColumnMeta, leaf: &Leaf) -> R<()>
+pub fn check_column(alloc: Global, front: &[u8], meta: &ColumnMeta, leaf: &Leaf) -> R<()>
     ensures stands { OnOk result ((es : List Entry) × ColumnMeans front.now (column_meta_view meta.now) (leaf_view leaf.now) es) }
     ensures within_limits { OnOk result (BeginsWith front.now IsChunkOver (column_meta_view meta.now) (leaf_view leaf.now) → ⊥) }
     ensures only { OnFault result ((es : List Entry) → ColumnMeans front.now (column_meta_view meta.now) (leaf_view leaf.now) es → ⊥) }

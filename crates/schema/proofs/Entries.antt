@@ -14,11 +14,11 @@ use Rattle.schema.proofs.LeafLaws.{when_optional, when_repeated, when_group}
 use Rattle.schema.proofs.Determined.{At, At-first, At-next, At-whole}
 use Rattle.schema.proofs.Kept.{all_joined, levels_are_of_steps}
 
-all_mapped : {A B : Type 0} (P : A → Type 0) (Q : B → Type 0) (g : A → B) → ((x : A) → P x → Q (g x)) → (xs : List A) → AllByRecursion P xs → AllByRecursion Q (map g xs)
+pub all_mapped : {A B : Type 0} (P : A → Type 0) (Q : B → Type 0) (g : A → B) → ((x : A) → P x → Q (g x)) → (xs : List A) → AllByRecursion P xs → AllByRecursion Q (map g xs)
 all_mapped P Q g f [] h = tt
 all_mapped P Q g f (x ∷ xs) h = (f x h.0, all_mapped P Q g f xs h.1)
 
-all_weaker : {A : Type 0} (P Q : A → Type 0) → ((x : A) → P x → Q x) → (xs : List A) → AllByRecursion P xs → AllByRecursion Q xs
+pub all_weaker : {A : Type 0} (P Q : A → Type 0) → ((x : A) → P x → Q x) → (xs : List A) → AllByRecursion P xs → AllByRecursion Q xs
 all_weaker P Q f [] h = tt
 all_weaker P Q f (x ∷ xs) h = (f x h.0, all_weaker P Q f xs h.1)
 

@@ -9,6 +9,7 @@ pub mod Texts
 pub mod Kept
 pub mod Worked
 pub mod Entries
+pub mod RowStarts
 pub mod Typed
 pub mod Forest
 pub mod Names

@@ -7,10 +7,10 @@ use Rattle.thrift_compact.specs.Writable.{HasBytes}
 use Rattle.schema.specs.declared.value.Kind.{Kind}
 use Rattle.schema.specs.declared.value.Kind.TheVariants.{FixedLenByteArray}
 use Rattle.schema.specs.Annotations.{LeafType, Annotation, plain, known, other_converted, other_logical, annotation_of, converted_number, logical_struct, is_half}
-use Rattle.schema.specs.Values.{ValueTrees}
+use Rattle.schema.specs.Values.{ValueTrees, group}
 use Rattle.schema.specs.Shape.{Field, leaf, fields, Fields, no_fields, field, name_of}
 use Rattle.schema.specs.Fits.{fits_leaf, RowsFit}
-use Rattle.schema.specs.Stripe.{Leaf, leaves_of, Entry, column, columns, greatest_repetition, greatest_definition}
+use Rattle.schema.specs.Stripe.{Leaf, leaves_of, Entry, column, columns, greatest_repetition, greatest_definition, stripe}
 
 -- the names of fields
 abbrev pub names : Fields → List (List ℕ)
@@ -97,6 +97,16 @@ IsEntryOf l e = IsEntry l.greatest_repetition l.greatest_definition l.leaf_type 
 -- the columns of rows that fit have only such entries
 abbrev pub EntriesAreOfLeaves : Type 0
 EntriesAreOfLeaves = (fs : Fields) (rows : List ValueTrees) → RowsFit fs rows → AllByRecursion (λ l. AllByRecursion (IsEntryOf l) (column rows l.steps)) (leaves_of fs)
+
+-- the first of the entries begins a row, and no other does
+abbrev pub BeginsOneRow : List Entry → Type 0
+BeginsOneRow [] = ⊥
+BeginsOneRow (e ∷ es) = (e.repetition ≡ 0) × AllByRecursion (λ other. 0 < other.repetition) es
+
+-- so it is of the entries that a row that fits gives to each leaf
+abbrev pub RowsBeginOnce : Type 0
+RowsBeginOnce = (fs : Fields) (rows : List ValueTrees) → RowsFit fs rows
+    → AllByRecursion (λ (l : Leaf). AllByRecursion (λ row. BeginsOneRow (stripe l.steps (group row) 0 0 0)) rows) (leaves_of fs)
 
 -- an annotation that was decided once is decided so again from what is written for it
 abbrev pub AnnotationsAreKept : Type 0

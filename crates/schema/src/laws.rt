@@ -1,6 +1,6 @@
 //! What holds of the definitions.
 
-ghost use Rattle.schema.specs.Law.{ColumnsDetermineRows, LevelsAreOfSteps, EntriesAreOfLeaves, AnnotationsAreKept};
+ghost use Rattle.schema.specs.Law.{ColumnsDetermineRows, LevelsAreOfSteps, EntriesAreOfLeaves, RowsBeginOnce, AnnotationsAreKept};
 ghost use Rattle.schema.specs.Worked.{DocumentExample, ListExample};
 ghost use Rattle.schema.specs.Orders.{OrdersAreTotal, UnsignedOrderIsOfBits, OrdersHaveAtMost};
 
@@ -39,6 +39,13 @@ pub fn levels_are_of_steps()
 #[tactic(auto, using(crate::proofs::Entries::entries_are_of_leaves))]
 pub fn entries_are_of_leaves()
     ensures { EntriesAreOfLeaves }
+{}
+
+/// Each row that fits gives each leaf entries of which the first begins a row, and no other: the columns of n
+/// rows have n entries with the repetition level 0.
+#[tactic(auto, using(crate::proofs::RowStarts::rows_begin_once))]
+pub fn rows_begin_once()
+    ensures { RowsBeginOnce }
 {}
 
 /// An annotation that was decided once is decided so again from what is written for it.

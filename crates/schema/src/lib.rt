@@ -38,12 +38,13 @@ pub use key::{Key, KeyColumn, KeyKind};
 pub use key_laws::{a_row_is_its_key_and_the_rest, rows_without_keys_fit};
 pub use laws::{
     annotations_are_kept, at_most_laws, columns_determine_rows, entries_are_of_leaves,
-    levels_are_of_steps, orders_are_total, unsigned_order_is_of_bits, worked_examples,
+    levels_are_of_steps, orders_are_total, rows_begin_once, unsigned_order_is_of_bits,
+    worked_examples,
 };
 pub use listing_laws::{
     a_list_means_one_schema, a_schema_is_its_elements, kept_structs_have_bytes,
 };
-pub use order::{Order, compare, compare_by};
+pub use order::{Order, compare, compare_by, compare_refs};
 pub use row::{Column, Entry, Row};
 pub use schema::Schema;
 pub use value::{Kind, Repetition, Value, copied_values, same};

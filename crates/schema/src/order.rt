@@ -2,11 +2,13 @@
 
 ghost use Rattle.std.specs.Prelude.{◌≡◌};
 ghost use Rattle.schema.specs.Values.{view};
+ghost use Rattle.schema.specs.Borrowed.{value_ref_view};
 ghost use Rattle.schema.specs.Annotations.{standing, plain_order};
 ghost use Rattle.schema.specs.Orders.{unsigned_cmp, compared};
 ghost use Rattle.schema.specs.Views.{leaf_order};
 
 use crate::annotation::ConvertedType;
+use crate::borrowed::ValueRef;
 use crate::field::Leaf;
 use crate::value::{Kind, Value};
 use std::cmp::Ordering;
@@ -119,18 +121,25 @@ fn compare_unsigned(a: i64, b: i64) -> Ordering
     }
 }
 
-/// How two values compare in an order. There is no answer without an order, nor where a value is null
-/// or of a type that the order does not compare. Takes no memory, and time linear in the bytes.
+/// How two borrowed values compare in an order. There is no answer without an order, nor where a value is
+/// null or of a type that the order does not compare. Takes no memory, and time linear in the bytes.
+pub fn compare_refs(order: Option<Order>, a: ValueRef<'_>, b: ValueRef<'_>) -> Option<Ordering>
+    ensures { result ≡ compared order (value_ref_view a.entry) (value_ref_view b.entry) }
+{
+    match (order?, a, b) {
+        (Order::Signed, ValueRef::Int(a), ValueRef::Int(b)) => Some(a.cmp(&b)),
+        (Order::Unsigned, ValueRef::Int(a), ValueRef::Int(b)) => Some(compare_unsigned(a, b)),
+        (Order::FalseFirst, ValueRef::Bool(a), ValueRef::Bool(b)) => Some(a.cmp(&b)),
+        (Order::Bytewise, ValueRef::Bytes(a), ValueRef::Bytes(b)) => Some(a.cmp(b)),
+        _ => None,
+    }
+}
+
+/// How two values compare in an order, as [`compare_refs`].
 pub fn compare_by(order: Option<Order>, a: &Value, b: &Value) -> Option<Ordering>
     ensures { result ≡ compared order (view a.now) (view b.now) }
 {
-    match (order?, a, b) {
-        (Order::Signed, Value::Int(a), Value::Int(b)) => Some(a.cmp(b)),
-        (Order::Unsigned, Value::Int(a), Value::Int(b)) => Some(compare_unsigned(*a, *b)),
-        (Order::FalseFirst, Value::Bool(a), Value::Bool(b)) => Some(a.cmp(b)),
-        (Order::Bytewise, Value::Bytes(a), Value::Bytes(b)) => Some(a.cmp(b)),
-        _ => None,
-    }
+    compare_refs(order, ValueRef::of(a), ValueRef::of(b))
 }
 
 /// How two values of a leaf compare. There is no answer where the leaf has no order, nor where a value

@@ -1,3 +1,4 @@
 pub mod Picks
 pub mod Bounded
 pub mod OneBound
+pub mod ShortBounds

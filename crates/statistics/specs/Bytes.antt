@@ -1,9 +1,10 @@
 -- The bytes of a bound: parquet.thrift, Statistics: PLAIN (Encodings.md), a BYTE_ARRAY without the length before it.
-use Rattle.std.specs.Prelude.{◌≡◌, ◌<◌, ℕ, List, [], ◌∷◌, length, Option, Some, None}
+use Rattle.std.specs.Prelude.{◌≡◌, ◌<◌, ◌≤◌, ℕ, List, [], ◌∷◌, length, Option, Some, None}
 use Rattle.schema.specs.declared.value.Kind.{Kind}
 use Rattle.schema.specs.declared.value.Kind.TheVariants.{ByteArray, FixedLenByteArray}
 use Rattle.schema.specs.Values.{ValueTree, bytes}
 use Rattle.plain.specs.Plain.{AreBytes, IsOfKind, IsPlain, HasZeroPadding, IsTooLong}
+use Rattle.statistics.specs.Bounds.{IsKeptAsBound}
 
 -- the bytes are the whole of one value of the type
 abbrev pub IsBound : Kind → List ℕ → ValueTree → Type 0
@@ -41,3 +42,7 @@ IsLengthOverLimit _ = ⊥
 -- some bytes stand for at most one bound
 abbrev pub BoundsAreOne : Type 0
 BoundsAreOne = (kind : Kind) (text : List ℕ) (v w : ValueTree) → IsBound kind text v → IsBound kind text w → v ≡ w
+
+-- a value that is kept as a bound has at most 64 bytes
+abbrev pub KeptBoundsAreShort : Type 0
+KeptBoundsAreShort = (kind : Kind) (text : List ℕ) (v : ValueTree) → IsBound kind text v → IsKeptAsBound v → length text ≤ 64

@@ -4,7 +4,7 @@ ghost use Rattle.std.specs.Prelude.{◌≡◌, ◌≢◌, ◌⊎◌, [], ◌∷�
 ghost use Rattle.bits.specs.Refusals.{OnFault, RefusedOnly, RefusedMemoryOnly};
 ghost use Rattle.schema.specs.Values.{ValueTree, view};
 ghost use Rattle.plain.specs.Plain.{AreBytes, IsOfKind, IsPlain, HasZeroPadding, IsWriteOver, IsReadOver};
-ghost use Rattle.statistics.specs.Bytes.{IsBound, IsBoundAt, IsWrittenBound, IsOfKindAt, IsLongAt, IsLengthOverLimit, BoundsAreOne};
+ghost use Rattle.statistics.specs.Bytes.{IsBound, IsBoundAt, IsWrittenBound, IsOfKindAt, IsLongAt, IsLengthOverLimit, BoundsAreOne, KeptBoundsAreShort};
 
 use crate::stats::Stats;
 use bits::{R, Refusal};
@@ -173,3 +173,9 @@ pub fn one_bound()
 {
     one_list();
 }
+
+/// A value that is kept as a bound has at most 64 bytes.
+#[tactic(auto, using(crate::proofs::ShortBounds::kept_bounds_are_short))]
+pub fn kept_bounds_are_short()
+    ensures { KeptBoundsAreShort }
+{}

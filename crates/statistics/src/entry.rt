@@ -2,10 +2,10 @@
 
 ghost use Rattle.std.specs.Prelude.{◌≡◌, option_map};
 ghost use Rattle.schema.specs.Stripe.{Entry as Shown};
-ghost use Rattle.schema.specs.Values.{view};
 ghost use Rattle.schema.specs.Views.{entry_view};
+ghost use Rattle.schema.specs.Borrowed.{value_ref_view, entry_ref_view};
 
-use schema::{Entry, Value};
+use schema::{Entry, EntryRef, ValueRef};
 
 /// An entry of a column that lends its value, where it has one: statistics are computed with no copy of
 /// the values, whether a column owns them or borrows them.
@@ -14,14 +14,25 @@ pub trait HasValue {
     ghost shown: { Self → Shown };
 
     /// The value, where there is one.
-    fn value(&self) -> Option<&Value>
-        ensures { option_map (λ v. view v.now) result ≡ (shown self.now).value };
+    fn value(&self) -> Option<ValueRef<'_>>
+        ensures { option_map value_ref_view result ≡ (shown self.now).value };
 }
 
 impl HasValue for Entry {
     ghost shown = { entry_view };
 
-    fn value(&self) -> Option<&Value> {
-        self.value.as_ref()
+    fn value(&self) -> Option<ValueRef<'_>> {
+        match &self.value {
+            None => None,
+            Some(value) => Some(ValueRef::of(value)),
+        }
+    }
+}
+
+impl<'a> HasValue for EntryRef<'a> {
+    ghost shown = { entry_ref_view };
+
+    fn value(&self) -> Option<ValueRef<'_>> {
+        self.value
     }
 }

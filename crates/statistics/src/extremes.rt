@@ -5,6 +5,7 @@ ghost use Rattle.std.specs.List.{list_all};
 ghost use Rattle.bits.specs.Refusals.{RefusedMemoryOnly};
 ghost use Rattle.schema.specs.Orders.{is_compared};
 ghost use Rattle.schema.specs.Values.{view};
+ghost use Rattle.schema.specs.Borrowed.{value_ref_view};
 ghost use Rattle.schema.specs.Views.{column_view, leaf_order};
 ghost use Rattle.statistics.specs.Bounds.{statistics_of, values, null_count, Bounds, AreLeastAndGreatest};
 ghost use Rattle.statistics.specs.inner.Extremes.{is_within_limit, lesser, greater, picked, pick_from, kept};
@@ -12,7 +13,7 @@ ghost use Rattle.statistics.specs.inner.Extremes.{is_within_limit, lesser, great
 use crate::entry::HasValue;
 use crate::stats::Stats;
 use bits::R;
-use schema::{Column, Leaf, Order, Value, compare_by};
+use schema::{Column, Leaf, Order, Value, ValueRef, compare_refs};
 use std::alloc::Global;
 use std::cmp::Ordering;
 
@@ -52,8 +53,8 @@ pub fn bounds_of<E: HasValue>(alloc: Global, leaf: &Leaf, entries: &[E]) -> R<St
 /// What one pass over a column finds.
 #[derive(Clone, Copy)]
 struct Extremes<'a> {
-    least: Option<&'a Value>,
-    greatest: Option<&'a Value>,
+    least: Option<ValueRef<'a>>,
+    greatest: Option<ValueRef<'a>>,
     /// Whether the order compares each value.
     all_compared: bool,
     /// How many entries have no value.
@@ -61,13 +62,13 @@ struct Extremes<'a> {
 }
 
 fn extremes_of<'a, E: HasValue>(order: Option<Order>, entries: &'a [E]) -> Extremes<'a>
-    ensures least { option_map (λ m. view m.now) result.least ≡ pick_from (lesser order) None (values (map E.shown entries.now)) }
-    ensures greatest { option_map (λ m. view m.now) result.greatest ≡ pick_from (greater order) None (values (map E.shown entries.now)) }
+    ensures least { option_map value_ref_view result.least ≡ pick_from (lesser order) None (values (map E.shown entries.now)) }
+    ensures greatest { option_map value_ref_view result.greatest ≡ pick_from (greater order) None (values (map E.shown entries.now)) }
     ensures all_compared { result.all_compared ≡ list_all (is_compared order) (values (map E.shown entries.now)) }
     ensures nulls { result.nulls ≡ null_count (map E.shown entries.now) }
 {
-    let mut least: Option<&'a Value> = None;
-    let mut greatest: Option<&'a Value> = None;
+    let mut least: Option<ValueRef<'a>> = None;
+    let mut greatest: Option<ValueRef<'a>> = None;
     let mut all_compared = true;
     let mut nulls = 0u64;
     for entry in entries {
@@ -89,25 +90,29 @@ fn extremes_of<'a, E: HasValue>(order: Option<Order>, entries: &'a [E]) -> Extre
 }
 
 /// Whether the order compares a value.
-fn is_compared(order: Option<Order>, value: &Value) -> bool
-    ensures { result ≡ is_compared order (view value.now) }
+fn is_compared(order: Option<Order>, value: ValueRef<'_>) -> bool
+    ensures { result ≡ is_compared order (value_ref_view value.entry) }
 {
     match (order, value) {
-        (Some(Order::Signed), Value::Int(_)) => true,
-        (Some(Order::Unsigned), Value::Int(_)) => true,
-        (Some(Order::FalseFirst), Value::Bool(_)) => true,
-        (Some(Order::Bytewise), Value::Bytes(_)) => true,
+        (Some(Order::Signed), ValueRef::Int(_)) => true,
+        (Some(Order::Unsigned), ValueRef::Int(_)) => true,
+        (Some(Order::FalseFirst), ValueRef::Bool(_)) => true,
+        (Some(Order::Bytewise), ValueRef::Bytes(_)) => true,
         _ => false,
     }
 }
 
 /// The lesser of two values.
-fn lesser<'a>(order: Option<Order>, value: &'a Value, other: Option<&'a Value>) -> &'a Value
-    ensures { view result.now ≡ picked (lesser order) (view value.now) (option_map (λ m. view m.now) other.entry) }
+fn lesser<'a>(
+    order: Option<Order>,
+    value: ValueRef<'a>,
+    other: Option<ValueRef<'a>>,
+) -> ValueRef<'a>
+    ensures { value_ref_view result ≡ picked (lesser order) (value_ref_view value.entry) (option_map value_ref_view other.entry) }
 {
     match other {
         None => value,
-        Some(m) => match compare_by(order, value, m) {
+        Some(m) => match compare_refs(order, value, m) {
             Some(Ordering::Less) => value,
             _ => m,
         },
@@ -115,12 +120,16 @@ fn lesser<'a>(order: Option<Order>, value: &'a Value, other: Option<&'a Value>) 
 }
 
 /// The greater of two values.
-fn greater<'a>(order: Option<Order>, value: &'a Value, other: Option<&'a Value>) -> &'a Value
-    ensures { view result.now ≡ picked (greater order) (view value.now) (option_map (λ m. view m.now) other.entry) }
+fn greater<'a>(
+    order: Option<Order>,
+    value: ValueRef<'a>,
+    other: Option<ValueRef<'a>>,
+) -> ValueRef<'a>
+    ensures { value_ref_view result ≡ picked (greater order) (value_ref_view value.entry) (option_map value_ref_view other.entry) }
 {
     match other {
         None => value,
-        Some(m) => match compare_by(order, value, m) {
+        Some(m) => match compare_refs(order, value, m) {
             Some(Ordering::Greater) => value,
             _ => m,
         },
@@ -128,22 +137,22 @@ fn greater<'a>(order: Option<Order>, value: &'a Value, other: Option<&'a Value>)
 }
 
 /// A copy of a value that is kept as a bound.
-fn bound(alloc: Global, all_compared: bool, value: Option<&Value>) -> R<Option<Value>>
+fn bound(alloc: Global, all_compared: bool, value: Option<ValueRef<'_>>) -> R<Option<Value>>
     ensures which { RefusedMemoryOnly result }
-    ensures copies { IfOk result (λ b. option_map view b ≡ kept all_compared (option_map (λ m. view m.now) value.entry)) }
+    ensures copies { IfOk result (λ b. option_map view b ≡ kept all_compared (option_map value_ref_view value.entry)) }
 {
     match value {
-        Some(value) if all_compared && is_within_limit(value) => Ok(Some(value.copied(alloc)?)),
+        Some(value) if all_compared && is_within_limit(value) => Ok(Some(value.to_value(alloc)?)),
         _ => Ok(None),
     }
 }
 
 /// Whether a value has few enough bytes to be kept as a bound.
-fn is_within_limit(value: &Value) -> bool
-    ensures { result ≡ is_within_limit (view value.now) }
+fn is_within_limit(value: ValueRef<'_>) -> bool
+    ensures { result ≡ is_within_limit (value_ref_view value.entry) }
 {
     match value {
-        Value::Bytes(bytes) => bytes.len() <= MOST_BYTES_OF_BOUND,
+        ValueRef::Bytes(bytes) => bytes.len() <= MOST_BYTES_OF_BOUND,
         _ => true,
     }
 }

@@ -9,7 +9,7 @@ mod entry;
 mod extremes;
 mod stats;
 
-pub use bytes::{BoundBytes, one_bound};
+pub use bytes::{BoundBytes, kept_bounds_are_short, one_bound};
 pub use entry::HasValue;
 pub use extremes::{bounds, bounds_of};
 pub use stats::{GroupStats, Stats};

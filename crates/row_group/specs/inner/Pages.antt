@@ -1,5 +1,5 @@
 -- Pages that are read off what is left of a chunk.
-use Rattle.std.specs.Prelude.{◌≡◌, ℕ, ◌+◌, ◌<◌, ◌≤◌, List, [], ◌++◌, length, drop, Option, Some, None, Result, Ok, Err}
+use Rattle.std.specs.Prelude.{◌≡◌, ℕ, ◌+◌, ◌<◌, ◌≤◌, true, List, [], ◌++◌, length, drop, Option, Some, None, Result, Ok, Err}
 use Rattle.bits.specs.Codec.{NothingStands}
 use Rattle.bits.specs.Faults.{refusal_of}
 use Rattle.bits.specs.declared.fault.Fault.{Fault}
@@ -12,7 +12,13 @@ use Rattle.pages.specs.Page.{Page, skipped, dictionary, entries}
 use Rattle.pages.specs.Chunk.{entries_of}
 use Rattle.pages.specs.Left.{entries_left}
 use Rattle.pages.specs.Limits.{IsOfPages}
+use Rattle.row_group.specs.PageLeft.{values_fit}
 use Rattle.row_group.specs.Rest.{Known, known, dictionary_of, ChunkLeft, HoldsRest, HasRestOver}
+
+-- a fault is kept, unless it is Memory
+abbrev pub kept_fault : Fault → Option Fault
+kept_fault fault.Memory = None
+kept_fault f = Some f
 
 -- `new` is what is left of `old` after pages that hold these entries
 pub record Passes (old new : ChunkLeft) (es : List Entry) : Type 0 where
@@ -32,15 +38,15 @@ IsRefusedAt old new Memory = Passes old new []
 IsRefusedAt old new Limit = HasRestOver old
 IsRefusedAt old new e = IsOfPages e × NothingStands (HoldsRest old)
 
--- one page is read: one with entries, or one that has none
+-- one page is read: one with entries, whose values are the leaf's, or one that has none
 abbrev pub ReadsPage : ChunkLeft → ChunkLeft → Result (Option DataPage) Fault → Type 0
-ReadsPage old new (Ok (Some page)) = Passes old new (entries_left page) × (0 < length (entries_left page))
+ReadsPage old new (Ok (Some page)) = Passes old new (entries_left page) × (0 < length (entries_left page)) × (values_fit new.leaf.leaf_type (entries_left page) ≡ true)
 ReadsPage old new (Ok None) = Passes old new []
 ReadsPage old new (Err f) = IsRefusedAt old new (refusal_of f)
 
--- the next page with entries, or none where no entries are lacking
+-- the next page with entries, whose values are the leaf's, or none where no entries are lacking
 abbrev pub NextPage : ChunkLeft → ChunkLeft → Result (Option DataPage) Fault → Type 0
-NextPage old new (Ok (Some page)) = Passes old new (entries_left page) × (0 < length (entries_left page))
+NextPage old new (Ok (Some page)) = Passes old new (entries_left page) × (0 < length (entries_left page)) × (values_fit new.leaf.leaf_type (entries_left page) ≡ true)
 NextPage old new (Ok None) = Passes old new [] × (new.lacking ≡ 0)
 NextPage old new (Err f) = IsRefusedAt old new (refusal_of f)
 

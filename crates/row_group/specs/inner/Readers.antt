@@ -1,8 +1,7 @@
 -- The readers of a group's chunks.
-use Rattle.std.specs.Prelude.{◌≡◌, ℕ, Bool, true, false, List, [], ◌∷◌, length, Option, None, Some, Result, Ok, Err, option_map, unwrap_or}
+use Rattle.std.specs.Prelude.{◌≡◌, ℕ, Bool, true, false, List, [], ◌∷◌, length, Option, None, Result, Ok, Err, option_map, unwrap_or}
 use Rattle.bits.specs.Faults.{refusal_of}
 use Rattle.bits.specs.declared.fault.Fault.{Fault}
-use Rattle.bits.specs.declared.fault.Fault.TheVariants as fault
 use Rattle.bits.specs.declared.refusal.Refusal.{Refusal}
 use Rattle.schema.specs.Values.{ValueTrees}
 use Rattle.schema.specs.Shape.{Fields}
@@ -15,7 +14,8 @@ use Rattle.row_group.specs.Chunks.{ColumnMeans, AreChunks}
 use Rattle.row_group.specs.Limits.{IsChunkOver, BeginsWith}
 use Rattle.pages.specs.Left.{entry_taken}
 use Rattle.assemble.specs.Sources.{Same, Precede, StandsOnly, Refuses, Keeps}
-use Rattle.row_group.specs.Left.{page_left, chunk_stands}
+use Rattle.row_group.specs.PageLeft.{value_fits}
+use Rattle.row_group.specs.Left.{ReaderLeft, ChunkStands, chunk_stands}
 
 -- the reader stands for the entries of the chunk, where no page of it is over a limit
 pub record IsReaderOf (front : List ℕ) (m : ColumnMeta) (leaf : Leaf) (r : ChunkReader) : Type 0 where
@@ -23,32 +23,27 @@ pub record IsReaderOf (front : List ℕ) (m : ColumnMeta) (leaf : Leaf) (r : Chu
   pub short : (es : List Entry) → chunk_stands r es → BeginsWith front IsChunkOver m leaf → ⊥
   pub stands : (es : List Entry) → ColumnMeans front m leaf es → (BeginsWith front IsChunkOver m leaf → ⊥) → chunk_stands r es
 
--- a fault is kept, unless it is Memory
-abbrev pub kept_fault : Fault → Option Fault
-kept_fault fault.Memory = None
-kept_fault f = Some f
-
 -- a refusal: nothing is taken, and the fault is kept
-abbrev pub KeepsFault : ChunkReader → ChunkReader → Fault → Type 0
+abbrev pub KeepsFault : ReaderLeft → ReaderLeft → Fault → Type 0
 KeepsFault old new f =
-    Refuses (chunk_stands old) (option_map refusal_of old.fault) (refusal_of f)
-    × Same (chunk_stands old) (chunk_stands new)
+    Refuses (ChunkStands old) (option_map refusal_of old.fault) (refusal_of f)
+    × Same (ChunkStands old) (ChunkStands new)
     × Keeps (option_map refusal_of old.fault) (option_map refusal_of new.fault) (refusal_of f)
 
 -- an entry is there now, or none is left; what stood stands still. A refusal is kept, out of memory aside, and then nothing stood
-abbrev pub Fills : ChunkReader → ChunkReader → Result (Unit {0}) Fault → Type 0
-Fills old new (Ok x) = (old.fault ≡ None) × (new.fault ≡ None) × Same (chunk_stands old) (chunk_stands new) × (page_left new.page ≡ [] → StandsOnly (chunk_stands new) [])
+abbrev pub Fills : ReaderLeft → ReaderLeft → Result (Unit {0}) Fault → Type 0
+Fills old new (Ok x) = (old.fault ≡ None) × (new.fault ≡ None) × Same (ChunkStands old) (ChunkStands new) × (new.here ≡ [] → StandsOnly (ChunkStands new) []) × (new.pages.leaf ≡ old.pages.leaf)
 Fills old new (Err f) = KeepsFault old new f
 
 -- the entry that was taken last off the page
 abbrev pub last_taken : ChunkReader → Entry
 last_taken r = unwrap_or (option_map entry_taken r.page) (record { repetition = 0; definition = 0; value = None })
 
--- the next entry is taken, or none is left
-abbrev pub AdvancesReader : ChunkReader → ChunkReader → Result Bool Fault → Type 0
-AdvancesReader old new (Ok true) = (old.fault ≡ None) × (new.fault ≡ None) × Precede (last_taken new ∷ []) (chunk_stands old) (chunk_stands new)
-AdvancesReader old new (Ok false) = (old.fault ≡ None) × (new.fault ≡ None) × StandsOnly (chunk_stands old) [] × Same (chunk_stands old) (chunk_stands new)
-AdvancesReader old new (Err f) = KeepsFault old new f
+-- the next entry is taken, this one, whose value is the leaf's; or none is left
+abbrev pub AdvancesReader : ReaderLeft → ReaderLeft → Entry → Result Bool Fault → Type 0
+AdvancesReader old new e (Ok true) = (old.fault ≡ None) × (new.fault ≡ None) × Precede (e ∷ []) (ChunkStands old) (ChunkStands new) × (value_fits old.pages.leaf.leaf_type e ≡ true)
+AdvancesReader old new e (Ok false) = (old.fault ≡ None) × (new.fault ≡ None) × StandsOnly (ChunkStands old) [] × Same (ChunkStands old) (ChunkStands new)
+AdvancesReader old new e (Err f) = KeepsFault old new f
 
 -- for each chunk and its leaf, in the order of the leaves, something that is so
 abbrev pub EachChunk : {X : Type 0} → (ColumnMeta → Leaf → X → Type 0) → List ChunkMeta → List Leaf → List X → Type 0

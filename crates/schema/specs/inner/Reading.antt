@@ -1,5 +1,5 @@
 -- How a list of elements is read: the trees at its beginning, one after another.
-use Rattle.std.specs.Prelude.{◌≡◌, ◌≤◌, ℕ, zero, suc, ◌+◌, nat_lt, nat_le, ℤ, pos, Bool, true, false, ◌&&◌, List, [], ◌∷◌, ◌++◌, drop, Option, Some, None, string_bytes, ◌<◌, IsTrue}
+use Rattle.std.specs.Prelude.{◌≡◌, ◌≤◌, ℕ, zero, suc, nat_lt, nat_le, ℤ, pos, Bool, true, false, ◌&&◌, List, [], ◌∷◌, ◌++◌, drop, Option, Some, None, string_bytes, ◌<◌, IsTrue}
 use Rattle.bits.specs.declared.refusal.Refusal.{Refusal}
 use Rattle.bits.specs.declared.refusal.Refusal.TheVariants.{Schema, Float, Int96, Limit, Memory}
 use Rattle.std.specs.Str.{is_utf8}

@@ -204,7 +204,7 @@ read_fields-returns-in_err-used-clause-refused g t c =
     let k = c.args.place.own in
     let old = c.args.sources.now in
     let xs = c.loop-field.sources in
-    let ys = c.read_field.new.sources in
+    let ys = c.read_next.new.sources in
     let used = c.loop-field.used in
     let seen = c.loop-field.invariant.seen in
     let vs = seen.0 in
@@ -237,7 +237,7 @@ read_fields-loop-field-preserved g t c =
     let k = c.args.place.own in
     let old = c.args.sources.now in
     let xs = c.loop-field.sources in
-    let ys = c.read_field.new.sources in
+    let ys = c.read_next.new.sources in
     let used = c.loop-field.used in
     let seen = c.loop-field.invariant.seen in
     let vs = seen.0 in
@@ -266,7 +266,7 @@ read_fields-loop-field-preserved g t c =
             subst (λ n. Onward S old now (λ b a. each.SoFar all rest r d k b a (used + n) (snoc vs v))) (sym more) (each_onward S all fv rest r d k old xs ys used vs v room onward read),
             (
               subst (λ n. Backward S old now (each.Whole all rest r d k (used + n) (snoc vs v))) (sym more) (each_backward S all fv rest r d k old xs ys used vs v room backward read),
-              subst (Adds (K c.args.sink.now) (K c.read_field.new.sink)) (sym (tokens_snoc vs v)) (adds_then (K c.args.sink.now) (K c.loop-field.sink) (K c.read_field.new.sink) (tokens_each vs) (tokens v) seen.1.1.1.1 found.1.1),
+              subst (Adds (K c.args.sink.now) (K c.read_next.new.sink)) (sym (tokens_snoc vs v)) (adds_then (K c.args.sink.now) (K c.loop-field.sink) (K c.read_next.new.sink) (tokens_each vs) (tokens v) seen.1.1.1.1 found.1.1),
             ),
           ),
         ),
@@ -321,6 +321,24 @@ read_inside-returns-in_err-used-in-Group-clause-refused g t c =
     refused_ok _ c.from_residual-in_err-used-in-Group.result e c.from_residual-in_err-used-in-Group.ensures.1
     (refused_same S R xs xs ys (IsFaulty (FitEach fs) (stripes_each fs r d k) k (wants_each fs d)) (IsFaulty (FitInside (field_view c.args.field.now)) (stripes_inside (field_view c.args.field.now) r d k) k (wants_inside (field_view c.args.field.now) d)) e (same_self S xs) refl
     (λ cs s h. subst (λ f. IsFaulty (FitInside f) (stripes_inside f r d k) k (wants_inside f d) cs e) (sym is) (faulty_group (string_bytes c.in-Group.name) c.in-Group.repetition c.in-Group.annotation fs r d k cs e h)) told)
+
+pub read_next-returns-in-Required-clause-reads : goal.read_next-returns-in-Required-clause-reads
+read_next-returns-in-Required-clause-reads g t c =
+    let S = g.S.EntrySource.stands in
+    let xs = c.args.sources.now in
+    let y = c.read_leaf.new.source in
+    let r = c.args.place.repetition in
+    let d = c.args.place.definition in
+    let k = c.args.place.own in
+    let found = c.in_ok-read_leaf.ensures.reads in
+    let v = found.0 in
+    let f = field_view c.args.field.now in
+    let is = ap field_view c.in-Leaf.is ∙ view_leaf c.in-Leaf.name c.in-Leaf.repetition c.in-Leaf.leaf_type in
+    let some : 0 < length xs = some_source f (length xs) c.requires.valid c.requires.room in
+    let inside =
+    subst (λ h. Reads S (FitInside h) (stripes_inside h r d k) k xs (set xs 0 y) v) (sym is)
+    (reads_leaf S (string_bytes c.in-Leaf.name) c.in-Leaf.repetition (leaf_type_view c.in-Leaf.leaf_type) r d k xs c.index-sources-0.result y v some found.1.0.fits found.1.0.first) in
+    (v, (reads_required S f (sym c.repetition.ensures ∙ c.in-Required.is) r d k xs (set xs 0 y) v (same_self S xs) inside, found.1.1))
 
 pub read_inside-returns-in_ok-read_leaf-in-Leaf-clause-reads : goal.read_inside-returns-in_ok-read_leaf-in-Leaf-clause-reads
 read_inside-returns-in_ok-read_leaf-in-Leaf-clause-reads g t c =

@@ -6,6 +6,7 @@ use Rattle.schema.specs.Views.{leaf_view}
 use Rattle.dictionary.specs.IndexPages.{IsIndexPage}
 use Rattle.pages.specs.declared.encoding.Encoding.TheVariants.{RleDictionary}
 use Rattle.pages.specs.Page.{values}
+use Rattle.pages.specs.Writing.{index_weight}
 use Rattle.pages.specs.WrittenValues.{AreIndexesIn}
 use Rattle.pages.proofs.WrittenPages.{entries_written, parts_are, fills, nulls_and_values, page_stands_by_indexes}
 use Rattle.pages.proofs.index_page_writing.write_index_page.Goals as goal
@@ -23,8 +24,8 @@ returns-clause-written c =
     let count : length is ≡ length (values es) = omega (arith, c.count_values.ensures.count, c.if-count_values-indexes.false) in
     let parts = parts_are leaf es mid c.as_slice.result.now p.text c.in_ok-sections.sections sections (c.as_slice.ensures.value ∙ p.joined) in
     on_ok_weaker c.put_data_page.result
-    (entries_written leaf (record { version = c.args.version; encoding = RleDictionary; entries = length c.args.entries.now; nulls = length c.args.entries.now - length is; rows = c.count_rows.result }) es (AreIndexesIn size is) sections.repetition_bytes sections.definition_bytes p.text c.args.out.now.items c.put_data_page.new.out.items
-    entries (omega (arith, entries, count, nulls_and_values es)) c.count_rows.ensures.rows sections.first sections.second (fills (λ bytes. IsIndexPage size bytes (length is) is) (81 + 9 * length is) mid c.encode_indexes.new.out.items p) sections.first_short sections.second_short (omega (arith, p.short, count)) (omega (arith, entries, c.count_values.ensures.count, c.count_values.ensures.few)))
+    (entries_written leaf (record { version = c.args.version; encoding = RleDictionary; entries = length c.args.entries.now; nulls = length c.args.entries.now - length is; rows = c.count_rows.result }) es (AreIndexesIn size is) (index_weight (length es)) sections.repetition_bytes sections.definition_bytes p.text c.args.out.now.items c.put_data_page.new.out.items
+    entries (omega (arith, entries, count, nulls_and_values es)) c.count_rows.ensures.rows sections.first sections.second (fills (λ bytes. IsIndexPage size bytes (length is) is) (81 + 9 * length is) mid c.encode_indexes.new.out.items p) (omega (arith, sections.first_short, sections.second_short, p.short, count, entries, c.count_values.ensures.count, c.count_values.ensures.few)))
     (c.put_data_page.ensures.stands sections.repetition_bytes sections.definition_bytes p.text parts)
 
 pub returns-clause-stands : goal.returns-clause-stands

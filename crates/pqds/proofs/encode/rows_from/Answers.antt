@@ -1,9 +1,11 @@
+use Rattle.std.proofs.Common.{subst, ◌∙◌}
 use Rattle.std.specs.Str.Lines.{lines}
 use Rattle.std.proofs.lemmas.Iterator.Consumers.{YieldsList-at, YieldsList-so_far, YieldsList-turn, YieldsList-end}
 use Rattle.std.proofs.lemmas.Iterator.Splits.{YieldsList-from_lines}
 use Rattle.bits.specs.Refusals.{HasCause}
 use Rattle.bits.proofs.Passing.{passes}
-use Rattle.pqds.specs.Program.{HasFirstFault}
+use Rattle.schema.specs.Shape.{Fields}
+use Rattle.pqds.specs.Program.{HasFirstFault, IsRefusedLine, AddsRow}
 use Rattle.pqds.proofs.Told.{told_one_more, told_all, fitting_one_more, refused_first}
 use Rattle.pqds.proofs.encode.rows_from.Goals as goal
 
@@ -18,11 +20,15 @@ returns-in_err-read_line-clause-which c =
     let all = YieldsList-at c.into_iter-line-iterator.ensures.into_iter_gives (YieldsList-from_lines c.args.text.now c.lines-line-items.ensures.rest) in
     let so_far = YieldsList-so_far all c.loop-line.yielded _ c.loop-line.yielded_by in
     let here = YieldsList-turn all c.loop-line.yielded _ c.loop-line.yielded_by _ _ c.in-Some.line c.in-Some.is c.next.ensures.steps in
-    passes (HasCause (HasFirstFault c.args.schema.now (lines c.args.text.now))) c.from_residual.result c.in_err-read_line.field-0.0 c.from_residual.ensures.1
-    (refused_first c.args.schema.now c.loop-line.yielded c.in-Some.line (lines c.args.text.now) _ so_far here c.loop-line.invariant.0 c.in_err-read_line.field-0.0 c.in_err-read_line.ensures.which)
+    let which = subst (λ (fs : Fields). HasCause (IsRefusedLine fs c.in-Some.line.now) c.in_err-read_line.field-0.0) c.loop-line.invariant.2 c.in_err-read_line.ensures.which in
+    passes (HasCause (HasFirstFault c.args.schema.now (lines c.args.text.now))) c.from_residual-in_err-read_line.result c.in_err-read_line.field-0.0 c.from_residual-in_err-read_line.ensures.1
+    (refused_first c.args.schema.now c.loop-line.yielded c.in-Some.line (lines c.args.text.now) _ so_far here c.loop-line.invariant.0 c.in_err-read_line.field-0.0 which)
 
 pub loop-line-preserved : goal.loop-line-preserved
-loop-line-preserved c = (
-  told_one_more c.args.schema.now c.loop-line.yielded c.loop-line.rows.items _ c.in-Some.line c.in_ok-read_line.ensures.stands c.loop-line.invariant.0,
-  fitting_one_more c.args.schema.now _ c.loop-line.rows.items _ c.in_ok-read_line.ensures.stands c.loop-line.invariant.1,
-)
+loop-line-preserved c =
+    let l = c.loop-line in
+    let stands = subst (λ (fs : Fields). AddsRow fs c.in-Some.line.now l.rows.items c.read_line.new.rows.items) l.invariant.2 c.in_ok-read_line.ensures.stands in (
+      told_one_more c.args.schema.now l.yielded l.rows.items _ c.in-Some.line stands l.invariant.0,
+      fitting_one_more c.args.schema.now _ l.rows.items _ stands l.invariant.1,
+      c.in_ok-read_line.ensures.same ∙ l.invariant.2,
+    )

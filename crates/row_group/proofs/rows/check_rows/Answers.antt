@@ -3,6 +3,7 @@ use Rattle.bits.specs.Refusals.{IsFault}
 use Rattle.bits.specs.declared.refusal.Refusal.{Refusal}
 use Rattle.bits.proofs.Passing.{passes}
 use Rattle.schema.specs.Values.{ValueTrees}
+use Rattle.schema.specs.Stripe.{leaves_of}
 use Rattle.metadata.specs.Views.{group_meta_view}
 use Rattle.assemble.specs.Standing.{IsRefusedFor}
 use Rattle.assemble.specs.RowsOf.{HasFault}
@@ -56,7 +57,7 @@ returns-clause-limit c = λ limit.
     let new = c.count_rows.new.sources in
     let refused = subst (λ (xs : List ChunkReader). IsRefusedFor chunk_stands refusal_kept xs new (HasFault fs) c.in-Err.refusal) c.as_mut_slice.ensures.value c.in-Err.ensures.which in
     let sound = c.in_ok-check_chunks-in-Err.ensures.stands in
-    absurd (tells_no_limit c.in-Err.refusal (tells c.args.front.now fs g rs new sound.0 c.in-Err.refusal c.in_ok-readers.ensures.stands sound.1 refused) (err_is _ _ limit))
+    absurd (tells_no_limit c.in-Err.refusal (tells c.args.front.now fs g.columns (leaves_of fs) rs new sound.0 c.in-Err.refusal c.in_ok-readers.ensures.stands sound.1 refused) (err_is _ _ limit))
 
 pub returns-clause-codec : goal.returns-clause-codec
 returns-clause-codec c = λ codec.
@@ -66,7 +67,7 @@ returns-clause-codec c = λ codec.
     let new = c.count_rows.new.sources in
     let refused = subst (λ (xs : List ChunkReader). IsRefusedFor chunk_stands refusal_kept xs new (HasFault fs) c.in-Err.refusal) c.as_mut_slice.ensures.value c.in-Err.ensures.which in
     let sound = c.in_ok-check_chunks-in-Err.ensures.stands in
-    absurd (tells_no_codec c.in-Err.refusal (tells c.args.front.now fs g rs new sound.0 c.in-Err.refusal c.in_ok-readers.ensures.stands sound.1 refused) (err_is _ _ codec))
+    absurd (tells_no_codec c.in-Err.refusal (tells c.args.front.now fs g.columns (leaves_of fs) rs new sound.0 c.in-Err.refusal c.in_ok-readers.ensures.stands sound.1 refused) (err_is _ _ codec))
 
 pub returns-clause-which : goal.returns-clause-which
 returns-clause-which c =
@@ -76,4 +77,4 @@ returns-clause-which c =
     let new = c.count_rows.new.sources in
     let refused = subst (λ (xs : List ChunkReader). IsRefusedFor chunk_stands refusal_kept xs new (HasFault fs) c.in-Err.refusal) c.as_mut_slice.ensures.value c.in-Err.ensures.which in
     let sound = c.in_ok-check_chunks-in-Err.ensures.stands in
-    tells_which c.in-Err.refusal (tells c.args.front.now fs g rs new sound.0 c.in-Err.refusal c.in_ok-readers.ensures.stands sound.1 refused)
+    tells_which c.in-Err.refusal (tells c.args.front.now fs g.columns (leaves_of fs) rs new sound.0 c.in-Err.refusal c.in_ok-readers.ensures.stands sound.1 refused)

@@ -2,7 +2,7 @@ use Rattle.std.proofs.Common.{◌≡◌, ◌≤◌, ◌+◌, ◌&&◌, drop, map
 use Rattle.std.specs.Prelude.{option_map}
 use Rattle.std.specs.List.{list_all}
 use Rattle.schema.specs.Orders.{is_compared}
-use Rattle.schema.specs.Values.{view}
+use Rattle.schema.specs.Borrowed.{value_ref_view}
 use Rattle.statistics.specs.Bounds.{values, null_count}
 use Rattle.statistics.specs.inner.Extremes.{lesser, greater, pick_from}
 use Rattle.statistics.proofs.extremes.extremes_of.Given as goal
@@ -10,8 +10,8 @@ use Rattle.statistics.proofs.extremes.extremes_of.Given as goal
 -- what is found so far, taken on over the entries that remain, is what all entries give
 abbrev pub invariant-loop-entry : goal.invariant-loop-entry
 invariant-loop-entry g l = record {
-  least : pick_from (lesser l.order) (option_map (λ m. view m.now) l.least) (values (map g.E.HasValue.shown (drop l.entry-index l.entries))) ≡ pick_from (lesser l.order) None (values (map g.E.HasValue.shown l.entries));
-  greatest : pick_from (greater l.order) (option_map (λ m. view m.now) l.greatest) (values (map g.E.HasValue.shown (drop l.entry-index l.entries))) ≡ pick_from (greater l.order) None (values (map g.E.HasValue.shown l.entries));
+  least : pick_from (lesser l.order) (option_map value_ref_view l.least) (values (map g.E.HasValue.shown (drop l.entry-index l.entries))) ≡ pick_from (lesser l.order) None (values (map g.E.HasValue.shown l.entries));
+  greatest : pick_from (greater l.order) (option_map value_ref_view l.greatest) (values (map g.E.HasValue.shown (drop l.entry-index l.entries))) ≡ pick_from (greater l.order) None (values (map g.E.HasValue.shown l.entries));
   all_compared : (l.all_compared && list_all (is_compared l.order) (values (map g.E.HasValue.shown (drop l.entry-index l.entries)))) ≡ list_all (is_compared l.order) (values (map g.E.HasValue.shown l.entries));
   nulls : l.nulls + null_count (map g.E.HasValue.shown (drop l.entry-index l.entries)) ≡ null_count (map g.E.HasValue.shown l.entries);
   few : l.nulls ≤ l.entry-index;

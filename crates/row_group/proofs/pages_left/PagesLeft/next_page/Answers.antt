@@ -26,7 +26,7 @@ returns-in-Some c =
     let t = pages_view c.pages.self in
     let u = pages_view c.read_page.new.self in
     let read = subst (λ (o : Option DataPage). ReadsPage t u (Ok o)) c.in-Some.is c.in_ok-page.ensures in
-    (passes_then s t u [] (entries_left c.in-Some.page) c.pages.invariant read.0, read.1)
+    (passes_then s t u [] (entries_left c.in-Some.page) c.pages.invariant read.0, read.1, read.2)
 
 pub pages-preserved : goal.pages-preserved
 pages-preserved c =

@@ -1,0 +1,30 @@
+//! Why a value was not read from tokens.
+
+use json::Invalid;
+use std::alloc::{AllocError, AllocFailed};
+
+/// Why a value was not read.
+#[derive(Clone, Copy, Debug, Drop)]
+pub enum Unread {
+    OutOfMemory,
+    /// It is not of the form that is read from tokens. It may be a value of another form, or none.
+    Unknown,
+}
+
+impl From<AllocError> for Unread {
+    fn from(_e: AllocError) -> Unread {
+        Unread::OutOfMemory
+    }
+}
+
+impl<T: Drop> From<AllocFailed<T>> for Unread {
+    fn from(_e: AllocFailed<T>) -> Unread {
+        Unread::OutOfMemory
+    }
+}
+
+impl From<Invalid> for Unread {
+    fn from(_e: Invalid) -> Unread {
+        Unread::Unknown
+    }
+}

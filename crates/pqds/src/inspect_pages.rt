@@ -1,0 +1,299 @@
+//! The pages of a chunk, by their headers.
+
+ghost use Rattle.std.specs.Prelude.{◌≤◌, IfSome};
+
+use crate::inspect_names::{encoding_name, name_or_number, page_name};
+use crate::inspect_report::PageReport;
+use bits::Refusal;
+use metadata::{ColumnMeta, DATA_PAGE, DATA_PAGE_V2, DICTIONARY_PAGE, DataPageHeader, PageHeader};
+use schema::{Kind, Leaf};
+use std::alloc::{AllocError, Global};
+
+/// How many pages are listed of a file.
+pub const MOST_PAGES: usize = 100_000;
+
+/// The pages of a chunk that are listed.
+#[derive(Debug, Drop)]
+pub struct Pages {
+    pub listed: Vec<PageReport>,
+    /// Why not all of them are listed, where they are not.
+    pub unlisted: Option<Unlisted>,
+}
+
+/// Which of a page's encodings is not read.
+#[derive(Debug, Clone, Copy, PartialEq, Eq)]
+enum NotRead {
+    Levels,
+    Values,
+}
+
+impl NotRead {
+    fn words(self) -> &'static str {
+        match self {
+            NotRead::Levels => "levels",
+            NotRead::Values => "values",
+        }
+    }
+}
+
+/// Why not all pages of a chunk are listed.
+#[derive(Debug, Clone, Copy, PartialEq, Eq)]
+pub enum Unlisted {
+    /// They are in another file.
+    OtherFile,
+    /// An offset is negative.
+    Offset,
+    /// There is no page header where one should be.
+    Header,
+    /// A page has a negative size, or goes beyond the bytes before the footer.
+    Size,
+    /// A page has a negative number of entries, or more than the chunk still lacks.
+    Entries,
+    /// [`MOST_PAGES`] are listed.
+    Room,
+}
+
+impl Unlisted {
+    /// Why, in words.
+    pub fn words(self) -> &'static str {
+        match self {
+            Unlisted::OtherFile => "the pages are in another file",
+            Unlisted::Offset => "an offset is negative",
+            Unlisted::Header => "there is no page header where the next page should begin",
+            Unlisted::Size => "a page does not end before the footer",
+            Unlisted::Entries => "a page has more entries than the chunk",
+            Unlisted::Room => "too many pages to list",
+        }
+    }
+}
+
+/// The numbers of the encodings that values are read in (`parquet.thrift`, Encoding), but for those that only
+/// some types have.
+const PLAIN: i32 = 0;
+
+const PLAIN_DICTIONARY: i32 = 2;
+
+const RLE: i32 = 3;
+
+const DELTA_BINARY_PACKED: i32 = 5;
+
+const DELTA_LENGTH_BYTE_ARRAY: i32 = 6;
+
+const DELTA_BYTE_ARRAY: i32 = 7;
+
+const RLE_DICTIONARY: i32 = 8;
+
+/// What the header that a page's type names says: the encoding of the values, the entries, and the nulls.
+#[derive(Clone, Copy)]
+struct Said {
+    encoding: i32,
+    entries: i32,
+    nulls: Option<i32>,
+}
+
+/// Where the pages of a chunk start: at its dictionary's page, where the offset of one is given above 0 and
+/// before the data page; else at the data page. None for an offset that cannot be.
+pub fn start_of(meta: &ColumnMeta) -> Option<usize> {
+    let page = usize::try_from(meta.data_page_offset).ok()?;
+    match meta.dictionary_page_offset {
+        Some(offset) => {
+            let dictionary = usize::try_from(offset).ok()?;
+            if dictionary > 0 && dictionary < page {
+                Some(dictionary)
+            } else {
+                Some(page)
+            }
+        }
+        None => Some(page),
+    }
+}
+
+/// What the header that a page's type names says of the page. None for a page of another type.
+fn said_of(header: &PageHeader) -> Option<Said> {
+    match header.kind {
+        DATA_PAGE => header.data_page_header.as_ref().map(|said| Said {
+            encoding: said.encoding,
+            entries: said.num_values,
+            nulls: None,
+        }),
+        DATA_PAGE_V2 => header.data_page_header_v2.as_ref().map(|said| Said {
+            encoding: said.encoding,
+            entries: said.num_values,
+            nulls: said.num_nulls,
+        }),
+        DICTIONARY_PAGE => header.dictionary_page_header.as_ref().map(|said| Said {
+            encoding: said.encoding,
+            entries: said.num_values,
+            nulls: None,
+        }),
+        _ => None,
+    }
+}
+
+/// Whether data pages of a leaf are read in this encoding.
+fn is_read(encoding: i32, kind: Kind) -> bool {
+    match encoding {
+        PLAIN | PLAIN_DICTIONARY | RLE_DICTIONARY => true,
+        RLE => kind == Kind::Boolean,
+        DELTA_BINARY_PACKED => matches!(kind, Kind::Int32 | Kind::Int64),
+        DELTA_LENGTH_BYTE_ARRAY => kind == Kind::ByteArray,
+        DELTA_BYTE_ARRAY => matches!(kind, Kind::ByteArray | Kind::FixedLenByteArray(_)),
+        _ => false,
+    }
+}
+
+/// Whether the levels of a page of version 1 are read: those that the leaf has are in RLE.
+fn has_read_levels(header: &DataPageHeader, leaf: &Leaf) -> bool {
+    let definition = header.definition_level_encoding.unwrap_or(RLE);
+    let repetition = header.repetition_level_encoding.unwrap_or(RLE);
+    (leaf.greatest_definition == 0 || definition == RLE)
+        && (leaf.greatest_repetition == 0 || repetition == RLE)
+}
+
+/// Which of a data page's encodings is not read, if one is not. Where all entries are null there are no values,
+/// and any encoding of values is read: in a page of version 1 that is not seen.
+fn not_read(header: &PageHeader, leaf: Option<&Leaf>) -> Option<NotRead> {
+    let leaf = leaf?;
+    let said = said_of(header)?;
+    if header.kind == DICTIONARY_PAGE || said.entries <= said.nulls.unwrap_or(0) {
+        return None;
+    }
+    if let Some(own) = &header.data_page_header
+        && header.kind == DATA_PAGE
+        && !has_read_levels(own, leaf)
+    {
+        return Some(NotRead::Levels);
+    }
+    if is_read(said.encoding, leaf.leaf_type.kind) {
+        None
+    } else {
+        Some(NotRead::Values)
+    }
+}
+
+/// The page at this offset, whose header has this many bytes.
+fn page_of(
+    alloc: Global,
+    offset: usize,
+    used: usize,
+    header: &PageHeader,
+    leaf: Option<&Leaf>,
+) -> Result<PageReport, AllocError> {
+    let said = said_of(header);
+    let encoding = match said {
+        Some(said) => Some(name_or_number(alloc, encoding_name(said.encoding), said.encoding)?),
+        None => None,
+    };
+    Ok(PageReport {
+        offset,
+        kind: name_or_number(alloc, page_name(header.kind), header.kind)?,
+        encoding,
+        entries: said.map(|said| said.entries),
+        nulls: said.and_then(|said| said.nulls),
+        header_bytes: used,
+        bytes: header.compressed_page_size,
+        not_read: not_read(header, leaf).map(NotRead::words),
+    })
+}
+
+/// How many of the entries that a chunk lacks are still lacking after a page. None where the page has more.
+fn lacking_after(lacking: i64, header: &PageHeader) -> Option<i64> {
+    match header.kind {
+        DATA_PAGE | DATA_PAGE_V2 => {
+            let entries = i64::from(said_of(header)?.entries);
+            if entries >= 0 && entries <= lacking {
+                Some(lacking - entries)
+            } else {
+                None
+            }
+        }
+        _ => Some(lacking),
+    }
+}
+
+/// The offset after a page; None where it goes beyond `end`.
+fn after(offset: usize, used: usize, header: &PageHeader, end: usize) -> Option<usize>
+    ensures { IfSome result (λ next. next ≤ end) }
+{
+    let body = usize::try_from(header.compressed_page_size).ok()?;
+    let next = offset.checked_add(used)?.checked_add(body)?;
+    if next <= end { Some(next) } else { None }
+}
+
+/// A walk over the pages of a chunk.
+#[derive(Drop)]
+struct Walk<'a> {
+    /// The leaf of the chunk, where it has one.
+    leaf: Option<&'a Leaf>,
+    /// The bytes of the file before the footer.
+    front: &'a [u8],
+    offset: usize,
+    lacking: i64,
+}
+
+impl<'a> Walk<'a> {
+    /// Reads a page's header, lists the page, and goes to where the next one begins. Returns why that cannot
+    /// be, where it cannot.
+    fn step(
+        &mut self,
+        alloc: Global,
+        listed: &mut Vec<PageReport>,
+    ) -> Result<Option<Unlisted>, AllocError> {
+        let Some(rest) = self.front.get(self.offset..) else {
+            return Ok(Some(Unlisted::Header));
+        };
+        let (header, used) = match PageHeader::read(alloc, rest) {
+            Ok(read) => read,
+            Err(Refusal::Memory) => return Err(AllocError),
+            Err(_) => return Ok(Some(Unlisted::Header)),
+        };
+        listed.push(page_of(alloc, self.offset, used, &header, self.leaf)?)?;
+        match lacking_after(self.lacking, &header) {
+            Some(lacking) => self.lacking = lacking,
+            None => return Ok(Some(Unlisted::Entries)),
+        }
+        match after(self.offset, used, &header, self.front.len()) {
+            Some(next) => self.offset = next,
+            None => return Ok(Some(Unlisted::Size)),
+        }
+        Ok(None)
+    }
+}
+
+/// Lists the pages of a chunk by their headers, from where they start until they have the chunk's entries, at
+/// most `room` of them. `front` has the bytes of the file before its footer. Where a header is refused, or a
+/// page goes beyond these bytes or has too many entries, the list ends there. Refused only when out of memory.
+pub fn pages_of(
+    alloc: Global,
+    front: &[u8],
+    meta: &ColumnMeta,
+    leaf: Option<&Leaf>,
+    room: usize,
+) -> Result<Pages, AllocError> {
+    let mut listed = Vec::new(alloc);
+    let Some(offset) = start_of(meta) else {
+        let unlisted = Some(Unlisted::Offset);
+        return Ok(Pages { listed, unlisted });
+    };
+    let mut walk = Walk {
+        leaf,
+        front,
+        offset,
+        lacking: meta.num_values,
+    };
+    for _ in 0..room {
+        if walk.lacking <= 0 {
+            break;
+        }
+        let unlisted = walk.step(alloc, &mut listed)?;
+        if unlisted.is_some() {
+            return Ok(Pages { listed, unlisted });
+        }
+    }
+    let unlisted = if walk.lacking > 0 {
+        Some(Unlisted::Room)
+    } else {
+        None
+    };
+    Ok(Pages { listed, unlisted })
+}

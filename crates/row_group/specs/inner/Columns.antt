@@ -1,0 +1,39 @@
+-- Words of the functions that write the columns of a group one by one.
+use Rattle.std.specs.Prelude.{◌≡◌, ℕ, ◌+◌, ◌<◌, ◌<ℤ◌, pos, List, [], ◌∷◌, length, sum_by}
+use Rattle.std.specs.List.{Any, AllByRecursion}
+use Rattle.schema.specs.Stripe.{Leaf, Entry}
+use Rattle.schema.specs.Law.{IsEntryOf}
+use Rattle.metadata.specs.Records.{ChunkMeta}
+use Rattle.plain.specs.Plain.{IsTooLong}
+use Rattle.pages.specs.Page.{values}
+use Rattle.pages.specs.Headers.{rows_in}
+use Rattle.pages.specs.Writing.{AreShort}
+use Rattle.row_group.specs.Greatest.{most_entries, most_bytes_before}
+use Rattle.row_group.specs.declared.options.ChunkOptions.{ChunkOptions}
+use Rattle.row_group.specs.Paged.{BeginsRow, parts_of, chunk_weight}
+use Rattle.row_group.specs.Writing.{AppendsEach}
+
+-- for each leaf, a column of its entries
+abbrev pub AreColumnsOf : List Leaf → List (List Entry) → Type 0
+AreColumnsOf [] [] = Unit {0}
+AreColumnsOf (leaf ∷ leaves) (es ∷ cols) = AllByRecursion (IsEntryOf leaf) es × AreColumnsOf leaves cols
+AreColumnsOf _ _ = ⊥
+
+-- the entries begin this many rows, and the first of them begins one
+pub record HasRows (n : ℕ) (es : List Entry) : Type 0 where
+  pub count : rows_in es ≡ n
+  pub first : 0 < length es → BeginsRow es
+
+-- the bytes of `new` are those of `old` and a chunk of each column; none of the columns is too much for a reader
+pub record AppendsChunks (o : ChunkOptions) (leaves : List Leaf) (cols : List (List Entry)) (old new : List ℕ) (chunks : List ChunkMeta) : Type 0 where
+  pub each : AppendsEach o leaves cols old new chunks
+  pub few : AllByRecursion (λ es. most_entries <ℤ pos (length es) → ⊥) cols
+  pub values_short : AllByRecursion AreShort cols
+
+-- why columns are too much for a group, in pages of so many rows, after this many bytes
+pub data AreTooMuch (before size : ℕ) (cols : List (List Entry)) : Type 0 where
+  empty_pages : size ≡ 0 → AreTooMuch before size cols
+  at_the_front : before ≡ 0 → AreTooMuch before size cols
+  many_entries : Any (λ es. most_entries <ℤ pos (length es)) cols → AreTooMuch before size cols
+  long_value : Any (λ es. Any IsTooLong (values es)) cols → AreTooMuch before size cols
+  heavy : ((n : ℕ) → AllByRecursion (HasRows n) cols → most_bytes_before < before + sum_by (chunk_weight (parts_of n size)) cols) → AreTooMuch before size cols
