@@ -87,10 +87,10 @@ too_much o leaves cols i es old mid cs lt e so_far (IsChunkTooMuch.many_entries 
 too_much o leaves cols i es old mid cs lt e so_far (IsChunkTooMuch.long_value h) = AreTooMuch.long_value (i, es, lt, sym e, h)
 too_much o leaves cols i es old mid cs lt e so_far (IsChunkTooMuch.heavy parts paged over) =
     AreTooMuch.heavy (λ n h.
-      let w = weights_before (chunk_weight (parts_of n o.page_rows)) cols i es lt e in
-      let s = each_short o n (take i leaves) (take i cols) old mid cs (all_taken (HasRows n) cols i h) so_far.each in
-      let f = few_pages o.page_rows n es parts (at_index (HasRows n) cols i es lt e h) paged in
-      omega (arith, w, s, f, over))
+    let w = weights_before (chunk_weight (parts_of n o.page_rows)) cols i es lt e in
+    let s = each_short o n (take i leaves) (take i cols) old mid cs (all_taken (HasRows n) cols i h) so_far.each in
+    let f = few_pages o.page_rows n es parts (at_index (HasRows n) cols i es lt e h) paged in
+    omega (arith, w, s, f, over))
 
 -- ---- the group
 

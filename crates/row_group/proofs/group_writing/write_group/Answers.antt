@@ -17,8 +17,10 @@ write_columns-requires c =
     let fs = c.args.schema.now in
     let rows = rows_view c.args.rows.now in
     let same : column_refs_view c.as_slice.result.now ≡ columns fs rows = ap column_refs_view c.as_slice.ensures.value ∙ c.in_ok-found.ensures.stands in
-    record { entries = subst (λ (ls : List Leaf). AreColumnsOf ls (column_refs_view c.as_slice.result.now)) (sym c.leaves.ensures.leaves_are)
-        (subst (AreColumnsOf (leaves_of fs)) (sym same) (columns_of_leaves c.entries_are_of_leaves.ensures fs rows c.in_ok-found.ensures.fit)) }
+    record {
+      entries = subst (λ (ls : List Leaf). AreColumnsOf ls (column_refs_view c.as_slice.result.now)) (sym c.leaves.ensures.leaves_are)
+          (subst (AreColumnsOf (leaves_of fs)) (sym same) (columns_of_leaves c.entries_are_of_leaves.ensures fs rows c.in_ok-found.ensures.fit));
+    }
 
 pub overflow_sub-result : goal.overflow_sub-result
 overflow_sub-result c =
@@ -41,8 +43,8 @@ returns-in-Ok-clause-stands c =
     let chunks = map chunk_meta_view c.in-Ok.columns.items in
     let kept = each_kept c.args.options (map leaf_view c.leaves.result.now) (column_refs_view c.as_slice.result.now) old.items new.items chunks c.in-Ok.ensures.stands.each in
     let written : AppendsChunks c.args.options (leaves_of fs) (columns fs (rows_view rows)) old.items new.items chunks =
-        subst (λ (ls : List Leaf). AppendsChunks c.args.options ls (columns fs (rows_view rows)) old.items new.items chunks) c.leaves.ensures.leaves_are
-        (subst (λ (cols : List (List Entry)). AppendsChunks c.args.options (map leaf_view c.leaves.result.now) cols old.items new.items chunks) same c.in-Ok.ensures.stands) in
+    subst (λ (ls : List Leaf). AppendsChunks c.args.options ls (columns fs (rows_view rows)) old.items new.items chunks) c.leaves.ensures.leaves_are
+    (subst (λ (cols : List (List Entry)). AppendsChunks c.args.options (map leaf_view c.leaves.result.now) cols old.items new.items chunks) same c.in-Ok.ensures.stands) in
     let filled : size + length old.items ≡ length new.items = omega (arith, kept.1, e, k, old.ok.0, new.ok.0) in
     let count : to_z w64 (length rows) ≡ pos (length (rows_view rows)) = to_z_pos w64 (length rows) (omega arith) ∙ ap pos (sym (length-map rows row_view)) in
     let says : to_z w64 size ≡ pos size = to_z_pos w64 size (omega (arith, new.small)) in
