@@ -1,8 +1,8 @@
 #!/bin/sh
 # Encodes rows of a number and a text in each style, decodes them again, and prints rows and bytes per second beside
 # `cat` of the same files in the same run, for 100,000 and for 1,000,000 rows: a cost that is linear has the same rows
-# per second in both. The rows are made by python3, in a temporary folder, which is removed. Each time is the best of
-# three, and that of a style is also given as a multiple of the time of `plain`.
+# per second in both. The rows are made by python3, in a temporary folder, which is removed. Each time is processor time, the
+# best of three; that of a style is also given as a multiple of the time of `plain`.
 #
 #     bench/encode.sh [ROWS]...        other numbers of rows (at most 1048576 each)
 #
@@ -15,7 +15,7 @@ trap 'rm -rf "$room"' EXIT
 [ $# -gt 0 ] || set -- 100000 1000000
 for rows in "$@"; do
     python3 - "$top/pqds" "$room" "$rows" <<'PYTHON' || exit 1
-import os, subprocess, sys, time
+import os, subprocess, sys
 
 program, room, rows = sys.argv[1], sys.argv[2], int(sys.argv[3])
 schema, lines, file, printed = (os.path.join(room, name) for name in ("schema.json", "rows.jsonl", "rows.parquet", "printed.jsonl"))
@@ -34,11 +34,10 @@ def measured(what, words, read, out=None, times=3, than=None):
     for _ in range(times):
         if os.path.exists(file) and file in words and file != read:
             os.remove(file)
-        begun = time.monotonic()
         with open(out or os.devnull, "wb") as sink:
             child = subprocess.Popen(words, stdout=sink)
             _, status, used = os.wait4(child.pid, 0)
-        seconds = min(seconds, max(time.monotonic() - begun, 0.001))
+        seconds = min(seconds, max(used.ru_utime + used.ru_stime, 0.001))
         if status:
             sys.exit(f"{what} ended with {status}")
     size = os.path.getsize(read)
@@ -56,8 +55,8 @@ for style in ("plain", "dictionary", "delta", "lengths"):
     took = measured(f"encode {style}", [program, "encode", schema, lines, file, "--style", style] + options, lines, than=plain or beside)
     plain = plain or took
     measured(f"decode {style}", [program, "decode", file], file, printed)
-    with open(lines, "rb") as one, open(printed, "rb") as again:
-        same = same and one.read() == again.read()
+    # This process stays small: the memory of a child is at least what its parent had.
+    same = same and not subprocess.run(["cmp", lines, printed]).returncode
 measured("cat of the file", ["cat", file], file)
 print("the lines are the same again" if same else "the lines DIFFER")
 for path in (lines, file, printed):
