@@ -9,38 +9,12 @@ use crate::lanes::{Kept, MOST_BITS_OF_A_LANE, unpack_blocks};
 use crate::refusal::{R, Refusal};
 use std::alloc::Global;
 
-/// The number of the `width` bits that begin with bit `offset` of byte `at`.
-fn number_at(bytes: &[u8], at: usize, offset: u32, width: u32) -> u64
-    requires wide { width ≤ 64 }
-    requires in_byte { offset < 8 }
-    requires within { 8 * at + offset + width ≤ 8 * length bytes.now }
-    ensures { let start = 8 * at + offset in result ≡ number (slice_range (bits bytes.now) start (start + width)) }
-{
-    let mut value: u64 = 0;
-    for k in 0..width {
-        let place = offset + k;
-        let bit = (bytes[at + (place / 8) as usize] >> (place % 8)) & 1;
-        value += u64::from(bit) << k;
-    }
-    value
-}
-
 /// The first `n` numbers of `width` bits each (at most 64), the lowest bit first.
 ///
 /// Refused Truncated exactly when the bytes have fewer than `n * width` bits. (parquet-format,
 /// Encodings.md, bit-packed runs.)
 pub fn unpack(alloc: Global, bytes: &[u8], width: u32, n: usize) -> R<Vec<u64>>
     requires { width ≤ 64 }
-    ensures stands { IfOk result (λ v. (vec_len v ≡ n) × IsPacked bytes.now width v.items) }
-    ensures only { OnFault result ((numbers : List ℕ) → length numbers ≡ n → IsPacked bytes.now width numbers → ⊥) }
-    ensures which { RefusedOnly (λ e. (e ≡ Refusal.Truncated) × (8 * length bytes.now < n * width)) result }
-{
-    unpacked(alloc, bytes, width, n)
-}
-
-/// The same of numbers of at most 32 bits, as `u32`: levels and indexes have no more.
-pub fn unpack_u32(alloc: Global, bytes: &[u8], width: u32, n: usize) -> R<Vec<u32>>
-    requires { width ≤ 32 }
     ensures stands { IfOk result (λ v. (vec_len v ≡ n) × IsPacked bytes.now width v.items) }
     ensures only { OnFault result ((numbers : List ℕ) → length numbers ≡ n → IsPacked bytes.now width numbers → ⊥) }
     ensures which { RefusedOnly (λ e. (e ≡ Refusal.Truncated) × (8 * length bytes.now < n * width)) result }
@@ -98,6 +72,52 @@ fn unpack_rest<T: Kept>(
     Ok(())
 }
 
+/// The number of the `width` bits that begin with bit `offset` of byte `at`.
+fn number_at(bytes: &[u8], at: usize, offset: u32, width: u32) -> u64
+    requires wide { width ≤ 64 }
+    requires in_byte { offset < 8 }
+    requires within { 8 * at + offset + width ≤ 8 * length bytes.now }
+    ensures { let start = 8 * at + offset in result ≡ number (slice_range (bits bytes.now) start (start + width)) }
+{
+    let mut value: u64 = 0;
+    for k in 0..width {
+        let place = offset + k;
+        let bit = (bytes[at + (place / 8) as usize] >> (place % 8)) & 1;
+        value += u64::from(bit) << k;
+    }
+    value
+}
+
+/// The same of numbers of at most 32 bits, as `u32`: levels and indexes have no more.
+pub fn unpack_u32(alloc: Global, bytes: &[u8], width: u32, n: usize) -> R<Vec<u32>>
+    requires { width ≤ 32 }
+    ensures stands { IfOk result (λ v. (vec_len v ≡ n) × IsPacked bytes.now width v.items) }
+    ensures only { OnFault result ((numbers : List ℕ) → length numbers ≡ n → IsPacked bytes.now width numbers → ⊥) }
+    ensures which { RefusedOnly (λ e. (e ≡ Refusal.Truncated) × (8 * length bytes.now < n * width)) result }
+{
+    unpacked(alloc, bytes, width, n)
+}
+
+/// Writes the numbers at the end of `out`, `width` bits each (at most 64), the lowest bit first,
+/// in as few bytes as hold them; the bits after the last number are 0. Each number is below
+/// `2^width`.
+///
+/// It fails only when out of memory; then `out` is unchanged.
+pub fn pack(numbers: &[u64], width: u32, out: &mut Vec<u8>) -> R<()>
+    requires wide { width ≤ 64 }
+    requires fit { All (λ x. x < 2 ^ width) numbers.now }
+    ensures stands { OnOk result (Appends (λ bytes. IsPadded bytes width numbers.now) (packed_size (length numbers.now) width) out.old.items out.new.items) }
+    ensures which { RefusedMemoryOnly result }
+    ensures unchanged { OnErr result (out.new.items ≡ out.old.items) }
+{
+    let kept = out.len();
+    let done = put_all(numbers, width, out);
+    if done.is_err() {
+        out.truncate(kept);
+    }
+    done
+}
+
 /// Writes the numbers at the end; where it is refused, some of them may stand there.
 fn put_all(numbers: &[u64], width: u32, out: &mut Vec<u8>) -> R<()>
     requires wide { width ≤ 64 }
@@ -123,24 +143,4 @@ fn put_all(numbers: &[u64], width: u32, out: &mut Vec<u8>) -> R<()>
         out.push(byte)?;
     }
     Ok(())
-}
-
-/// Writes the numbers at the end of `out`, `width` bits each (at most 64), the lowest bit first,
-/// in as few bytes as hold them; the bits after the last number are 0. Each number is below
-/// `2^width`.
-///
-/// It fails only when out of memory; then `out` is unchanged.
-pub fn pack(numbers: &[u64], width: u32, out: &mut Vec<u8>) -> R<()>
-    requires wide { width ≤ 64 }
-    requires fit { All (λ x. x < 2 ^ width) numbers.now }
-    ensures stands { OnOk result (Appends (λ bytes. IsPadded bytes width numbers.now) (packed_size (length numbers.now) width) out.old.items out.new.items) }
-    ensures which { RefusedMemoryOnly result }
-    ensures unchanged { OnErr result (out.new.items ≡ out.old.items) }
-{
-    let kept = out.len();
-    let done = put_all(numbers, width, out);
-    if done.is_err() {
-        out.truncate(kept);
-    }
-    done
 }

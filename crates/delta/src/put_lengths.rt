@@ -39,6 +39,19 @@ pub fn encode_lengths<V: Lends>(values: &[V], out: &mut Vec<u8>) -> R<()>
     Ok(())
 }
 
+/// The length of each value.
+fn lengths_of<V: Lends>(alloc: Global, values: &[V]) -> R<Vec<i32>>
+    requires { All (λ v. IsTooLong v → ⊥) (map V.lent values.now) }
+    ensures stands { IfOk result (λ lengths. lengths.items ≡ sizes (map text_of (map V.lent values.now))) }
+    ensures which { RefusedMemoryOnly result }
+{
+    let mut lengths = Vec::with_capacity(alloc, values.len())?;
+    for value in values {
+        lengths.push(bytes_of(value).len() as i32)?;
+    }
+    Ok(lengths)
+}
+
 /// Writes the lengths and the values; where it is refused, some of them may stand there.
 fn put_lengths<V: Lends>(lengths: &[i32], values: &[V], out: &mut Vec<u8>) -> R<()>
     requires kind { All (IsOfKind Kind.ByteArray) (map V.lent values.now) }
@@ -51,19 +64,6 @@ fn put_lengths<V: Lends>(lengths: &[i32], values: &[V], out: &mut Vec<u8>) -> R<
         out.extend_from_slice(bytes_of(value))?;
     }
     Ok(())
-}
-
-/// The length of each value.
-fn lengths_of<V: Lends>(alloc: Global, values: &[V]) -> R<Vec<i32>>
-    requires { All (λ v. IsTooLong v → ⊥) (map V.lent values.now) }
-    ensures stands { IfOk result (λ lengths. lengths.items ≡ sizes (map text_of (map V.lent values.now))) }
-    ensures which { RefusedMemoryOnly result }
-{
-    let mut lengths = Vec::with_capacity(alloc, values.len())?;
-    for value in values {
-        lengths.push(bytes_of(value).len() as i32)?;
-    }
-    Ok(lengths)
 }
 
 /// The bytes of a byte value.

@@ -18,23 +18,6 @@ pub fn are_within(indexes: &[u32], size: usize) -> bool
     indexes.iter().all(|index| (*index as usize) < size)
 }
 
-/// The first `n` indexes of `width` bits each, and how many bytes they take.
-fn of_width(alloc: Global, width: u32, bytes: &[u8], n: usize) -> R<(Vec<u32>, usize)>
-    requires { width ≤ 32 }
-    ensures stands { IfOk result (λ x. AreIndexesOf width bytes.now n x.0.items x.1) }
-    ensures count { IfOk result (λ x. vec_len x.0 ≡ n) }
-    ensures within { IfOk result (λ x. x.1 ≤ length bytes.now) }
-    ensures only { OnFault result (NothingStands (AreIndexesOf width bytes.now n)) }
-    ensures which { RefusedOnly (λ e. (e ≡ Refusal.Truncated) ⊎ (e ≡ Refusal.Thrift) ⊎ (e ≡ Refusal.Value)) result }
-{
-    if width > 0 {
-        return hybrid_rle::decode(alloc, width, bytes, n);
-    }
-    let mut indexes = Vec::new(alloc);
-    indexes.resize(n, 0)?;
-    Ok((indexes, 0))
-}
-
 /// The first `n` indexes of a page over a dictionary of `size` entries, and how many bytes they take:
 /// one byte of width, then the hybrid without a length. Of width 0 all indexes are 0, and nothing more
 /// is read. Bytes after them are left. `n` = 0 takes the byte of width alone.
@@ -64,4 +47,21 @@ pub fn decode_indexes(alloc: Global, size: usize, bytes: &[u8], n: usize) -> R<(
         return Err(Refusal::Value);
     }
     Ok((indexes, 1 + used))
+}
+
+/// The first `n` indexes of `width` bits each, and how many bytes they take.
+fn of_width(alloc: Global, width: u32, bytes: &[u8], n: usize) -> R<(Vec<u32>, usize)>
+    requires { width ≤ 32 }
+    ensures stands { IfOk result (λ x. AreIndexesOf width bytes.now n x.0.items x.1) }
+    ensures count { IfOk result (λ x. vec_len x.0 ≡ n) }
+    ensures within { IfOk result (λ x. x.1 ≤ length bytes.now) }
+    ensures only { OnFault result (NothingStands (AreIndexesOf width bytes.now n)) }
+    ensures which { RefusedOnly (λ e. (e ≡ Refusal.Truncated) ⊎ (e ≡ Refusal.Thrift) ⊎ (e ≡ Refusal.Value)) result }
+{
+    if width > 0 {
+        return hybrid_rle::decode(alloc, width, bytes, n);
+    }
+    let mut indexes = Vec::new(alloc);
+    indexes.resize(n, 0)?;
+    Ok((indexes, 0))
 }

@@ -9,43 +9,6 @@ ghost use Rattle.dictionary.specs.inner.Writing.{Extends};
 use crate::reading::are_within;
 use bits::{R, Refusal};
 
-/// How many bits the index has; 0 has none.
-fn bits_of(index: u32) -> u32
-    ensures within { result ≤ 32 }
-    ensures holds { index < 2 ^ result }
-    ensures least { (w : ℕ) → index < 2 ^ w → result ≤ w }
-{
-    32 - index.leading_zeros()
-}
-
-/// The least number of bits that holds each index; 0 where all are 0.
-fn least_width(indexes: &[u32]) -> u32
-    ensures within { result ≤ 32 }
-    ensures least { IsLeastWidth result indexes.now }
-{
-    let mut width = 0;
-    for index in indexes {
-        width = width.max(bits_of(*index));
-    }
-    width
-}
-
-/// Writes the width and the indexes at the end; where it is refused, some of them may stand there.
-fn put_indexes(size: usize, indexes: &[u32], out: &mut Vec<u8>) -> R<()>
-    requires { All (λ i. i < size) indexes.now }
-    ensures stands { OnOk result (Appends (λ bytes. IsIndexPage size bytes (length indexes.now) indexes.now) (81 + 9 * length indexes.now) out.old.items out.new.items) }
-    ensures width { OnOk result (HasWidth indexes.now out.old.items out.new.items) }
-    ensures which { RefusedMemoryOnly result }
-    ensures front { Extends out.old.items out.new.items }
-{
-    let width = least_width(indexes);
-    out.push(width as u8)?;
-    if width > 0 {
-        hybrid_rle::encode(width, indexes, out)?;
-    }
-    Ok(())
-}
-
 /// Writes the indexes into a dictionary of `size` entries at the end of `out`, as
 /// [`decode_indexes`](crate::decode_indexes) reads them, in at most 81 + 9n bytes for n indexes: the
 /// body of a data page after its levels. The width is the least that holds each index, so that nothing
@@ -70,4 +33,41 @@ pub fn encode_indexes(size: usize, indexes: &[u32], out: &mut Vec<u8>) -> R<()>
         out.truncate(kept);
     }
     done
+}
+
+/// Writes the width and the indexes at the end; where it is refused, some of them may stand there.
+fn put_indexes(size: usize, indexes: &[u32], out: &mut Vec<u8>) -> R<()>
+    requires { All (λ i. i < size) indexes.now }
+    ensures stands { OnOk result (Appends (λ bytes. IsIndexPage size bytes (length indexes.now) indexes.now) (81 + 9 * length indexes.now) out.old.items out.new.items) }
+    ensures width { OnOk result (HasWidth indexes.now out.old.items out.new.items) }
+    ensures which { RefusedMemoryOnly result }
+    ensures front { Extends out.old.items out.new.items }
+{
+    let width = least_width(indexes);
+    out.push(width as u8)?;
+    if width > 0 {
+        hybrid_rle::encode(width, indexes, out)?;
+    }
+    Ok(())
+}
+
+/// The least number of bits that holds each index; 0 where all are 0.
+fn least_width(indexes: &[u32]) -> u32
+    ensures within { result ≤ 32 }
+    ensures least { IsLeastWidth result indexes.now }
+{
+    let mut width = 0;
+    for index in indexes {
+        width = width.max(bits_of(*index));
+    }
+    width
+}
+
+/// How many bits the index has; 0 has none.
+fn bits_of(index: u32) -> u32
+    ensures within { result ≤ 32 }
+    ensures holds { index < 2 ^ result }
+    ensures least { (w : ℕ) → index < 2 ^ w → result ≤ w }
+{
+    32 - index.leading_zeros()
 }

@@ -9,13 +9,6 @@ use std::alloc::Global;
 use std::fs::{self, File, Files, OpenFile, OpenOptions};
 use std::io::{self, Read, Seek, SeekFrom, Write};
 
-/// What the system refuses in the midst of a call: the call may have taken effect, not, or in part.
-fn failed(_e: io::Error) -> Fault
-    ensures { result ≡ Fault.Failed }
-{
-    Fault::Failed
-}
-
 /// The length of the file at a place. Absent where no file is there, Failed where another kind of node is.
 pub fn length<R: Files>(files: &R, place: &str) -> Result<u64, Fault>
     ensures which { IfErr result (λ e. e ≢ Fault.Exists) }
@@ -24,17 +17,6 @@ pub fn length<R: Files>(files: &R, place: &str) -> Result<u64, Fault>
         Found::File(length) => Ok(length),
         Found::Other => Err(Fault::Failed),
         Found::Nothing | Found::Folder => Err(Fault::Absent),
-    }
-}
-
-/// That a folder is there: Absent where none is, Failed where another kind of node is.
-fn check_folder<R: Files>(files: &R, place: &str) -> Result<(), Fault>
-    ensures which { IfErr result (λ e. e ≢ Fault.Exists) }
-{
-    match found_at(files, place)? {
-        Found::Folder => Ok(()),
-        Found::Other => Err(Fault::Failed),
-        Found::Nothing | Found::File(_) => Err(Fault::Absent),
     }
 }
 
@@ -101,12 +83,30 @@ pub fn list<R: Files + Clone + Drop>(
     Ok(entries)
 }
 
+/// That a folder is there: Absent where none is, Failed where another kind of node is.
+fn check_folder<R: Files>(files: &R, place: &str) -> Result<(), Fault>
+    ensures which { IfErr result (λ e. e ≢ Fault.Exists) }
+{
+    match found_at(files, place)? {
+        Found::Folder => Ok(()),
+        Found::Other => Err(Fault::Failed),
+        Found::Nothing | Found::File(_) => Err(Fault::Absent),
+    }
+}
+
 pub fn append<R: Files>(files: &R, place: &str, bytes: &[u8]) -> Result<(), Fault>
     ensures which { IfErr result (λ e. e ≢ Fault.Exists) }
 {
     length(files, place)?;
     let mut file = OpenOptions::new().append(true).open(files, place)?;
     file.write_all(bytes).map_err(failed)
+}
+
+/// What the system refuses in the midst of a call: the call may have taken effect, not, or in part.
+fn failed(_e: io::Error) -> Fault
+    ensures { result ≡ Fault.Failed }
+{
+    Fault::Failed
 }
 
 pub fn sync<R: Files>(files: &R, place: &str) -> Result<(), Fault>

@@ -19,6 +19,13 @@ pub enum Found {
     Other,
 }
 
+/// Whether a path does not leave its folder.
+pub fn is_path(path: &str) -> bool
+    ensures { IsTrue result ↔ IsProper path.now }
+{
+    path.is_empty() || path.split('/').all(|part| is_plain(part))
+}
+
 /// Whether a part of a path names something in its folder, and neither the folder itself nor the one above it.
 fn is_plain(part: &str) -> bool
     ensures { IsTrue result ↔ IsPlain part.now }
@@ -27,13 +34,6 @@ fn is_plain(part: &str) -> bool
         "" | "." | ".." => false,
         _ => true,
     }
-}
-
-/// Whether a path does not leave its folder.
-pub fn is_path(path: &str) -> bool
-    ensures { IsTrue result ↔ IsProper path.now }
-{
-    path.is_empty() || path.split('/').all(|part| is_plain(part))
 }
 
 /// What stands at a place of the host.
@@ -49,23 +49,6 @@ pub fn found_at<R: Files>(files: &R, place: &str) -> Result<Found, Fault>
             fault => Err(fault),
         },
     }
-}
-
-/// That each folder on the way to a path is there, and that none is a link.
-fn check_way<R: Files>(files: &R, alloc: Global, root: &str, path: &str) -> Result<(), Fault>
-    ensures which { IfErr result (λ e. e ≢ Fault.Exists) }
-{
-    let mut place = String::from_str(alloc, root)?;
-    for part in path.split('/') {
-        match found_at(files, place.as_str())? {
-            Found::Folder => {}
-            Found::Other => return Err(Fault::Failed),
-            Found::File(_) | Found::Nothing => return Err(Fault::Absent),
-        }
-        place.push('/')?;
-        place.push_str(part)?;
-    }
-    Ok(())
 }
 
 /// Where a path stands on the host. Refused Failed for a path that would leave its folder, or that has a link or
@@ -84,4 +67,21 @@ pub fn reach<R: Files>(files: &R, alloc: Global, root: &str, path: &str) -> Resu
     }
     check_way(files, alloc, root, path)?;
     path_in(alloc, root, path)
+}
+
+/// That each folder on the way to a path is there, and that none is a link.
+fn check_way<R: Files>(files: &R, alloc: Global, root: &str, path: &str) -> Result<(), Fault>
+    ensures which { IfErr result (λ e. e ≢ Fault.Exists) }
+{
+    let mut place = String::from_str(alloc, root)?;
+    for part in path.split('/') {
+        match found_at(files, place.as_str())? {
+            Found::Folder => {}
+            Found::Other => return Err(Fault::Failed),
+            Found::File(_) | Found::Nothing => return Err(Fault::Absent),
+        }
+        place.push('/')?;
+        place.push_str(part)?;
+    }
+    Ok(())
 }

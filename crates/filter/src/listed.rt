@@ -55,6 +55,15 @@ pub fn texts_in(alloc: Global, list: &Value) -> R<HashSet<Vec<u8>>>
     Ok(texts)
 }
 
+fn text_of(value: &Value) -> Option<&[u8]>
+    ensures { MatchOption result ((text : List ℕ) → same (bytes text) (view value.now) ≡ false) (λ s. view value.now ≡ bytes s.now) }
+{
+    match value {
+        Value::Bytes(text) => Some(text.as_slice()),
+        Value::Null | Value::Bool(_) | Value::Int(_) | Value::Group(_) | Value::List(_) => None,
+    }
+}
+
 /// Inserts a copy of a byte string.
 fn insert_text(alloc: Global, texts: &mut HashSet<Vec<u8>>, text: &[u8]) -> R<()>
     ensures inserted { OnOk result ((q : Vec ℕ Alloc)
@@ -64,13 +73,4 @@ fn insert_text(alloc: Global, texts: &mut HashSet<Vec<u8>>, text: &[u8]) -> R<()
     let copy = Vec::from_slice(alloc, text)?;
     texts.insert(copy)?;
     Ok(())
-}
-
-fn text_of(value: &Value) -> Option<&[u8]>
-    ensures { MatchOption result ((text : List ℕ) → same (bytes text) (view value.now) ≡ false) (λ s. view value.now ≡ bytes s.now) }
-{
-    match value {
-        Value::Bytes(text) => Some(text.as_slice()),
-        Value::Null | Value::Bool(_) | Value::Int(_) | Value::Group(_) | Value::List(_) => None,
-    }
 }

@@ -9,19 +9,6 @@ use crate::node::Node;
 use disk::{Binding, folder_of};
 use std::alloc::{AllocError, Global};
 
-// What is there of a path, where each of these names has picked its binding: nothing below a folder that is not there.
-fn left_at(picked: &Names, path: &str) -> Binding
-    ensures { result ≡ left_in picked.now.list.items path.now }
-{
-    if path.is_empty() {
-        return Binding::Folder;
-    }
-    match left_at(picked, folder_of(path)) {
-        Binding::Folder => picked.binding(path),
-        _ => Binding::Nothing,
-    }
-}
-
 /// The names, each with what is there of it.
 pub fn left_names(alloc: Global, picked: &Names) -> Result<Vec<Name>, AllocError>
     ensures { IfOk result (λ left. EachOf (IsLeft (left_in picked.now.list.items)) picked.now.list.items left.items) }
@@ -35,6 +22,19 @@ pub fn left_names(alloc: Global, picked: &Names) -> Result<Vec<Name>, AllocError
         })?;
     }
     Ok(left)
+}
+
+// What is there of a path, where each of these names has picked its binding: nothing below a folder that is not there.
+fn left_at(picked: &Names, path: &str) -> Binding
+    ensures { result ≡ left_in picked.now.list.items path.now }
+{
+    if path.is_empty() {
+        return Binding::Folder;
+    }
+    match left_at(picked, folder_of(path)) {
+        Binding::Folder => picked.binding(path),
+        _ => Binding::Nothing,
+    }
 }
 
 /// The same nodes once more.

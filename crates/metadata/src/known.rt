@@ -125,17 +125,18 @@ impl FromNode for AnyStruct {
     }
 }
 
-/// The values of a list, each of which is of this type. Room is asked for as they are found to be: a list of
-/// many small values of another type asks for none.
-fn each_as<T: FromNode>(alloc: Global, values: &[Value]) -> R<Vec<T>>
-    ensures stands { IsRecordOf (λ v. map T.shown v.items) (each_of T.read (views values.now)) result }
+/// The last of the fields with this id, each of which is of this type.
+pub fn known_as<T: FromNode>(alloc: Global, fields: &[Field], id: i16) -> R<Option<T>>
+    ensures stands { IsRecordOf (option_map T.shown) (known T.read id (field_views fields.now)) result }
 {
-    let mut items = Vec::new(alloc);
-    for value in values {
-        let item = T::from_node(alloc, value)?;
-        items.push(item)?;
+    let mut found: Option<T> = None;
+    for field in fields {
+        if field.id == id {
+            let value = T::from_node(alloc, &field.value)?;
+            found = Some(value);
+        }
     }
-    Ok(items)
+    Ok(found)
 }
 
 impl<T: FromNode> FromNode for Vec<T> {
@@ -153,20 +154,6 @@ impl<T: FromNode> FromNode for Vec<T> {
     }
 }
 
-/// The last of the fields with this id, each of which is of this type.
-pub fn known_as<T: FromNode>(alloc: Global, fields: &[Field], id: i16) -> R<Option<T>>
-    ensures stands { IsRecordOf (option_map T.shown) (known T.read id (field_views fields.now)) result }
-{
-    let mut found: Option<T> = None;
-    for field in fields {
-        if field.id == id {
-            let value = T::from_node(alloc, &field.value)?;
-            found = Some(value);
-        }
-    }
-    Ok(found)
-}
-
 /// The last of the fields with this id, of which there is one, each of this type.
 pub fn needed_as<T: FromNode>(alloc: Global, fields: &[Field], id: i16) -> R<T>
     ensures stands { IsRecordOf T.shown (needed T.read id (field_views fields.now)) result }
@@ -175,4 +162,17 @@ pub fn needed_as<T: FromNode>(alloc: Global, fields: &[Field], id: i16) -> R<T>
         Some(value) => Ok(value),
         None => Err(Refusal::Thrift),
     }
+}
+
+/// The values of a list, each of which is of this type. Room is asked for as they are found to be: a list of
+/// many small values of another type asks for none.
+fn each_as<T: FromNode>(alloc: Global, values: &[Value]) -> R<Vec<T>>
+    ensures stands { IsRecordOf (λ v. map T.shown v.items) (each_of T.read (views values.now)) result }
+{
+    let mut items = Vec::new(alloc);
+    for value in values {
+        let item = T::from_node(alloc, value)?;
+        items.push(item)?;
+    }
+    Ok(items)
 }

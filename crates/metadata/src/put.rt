@@ -113,17 +113,14 @@ impl ToNode for Tree {
     }
 }
 
-/// The values of a list.
-fn nodes<T: ToNode>(alloc: Global, items: &[T]) -> R<Vec<Value>>
-    ensures stands { IfOk result (λ values. map view values.items ≡ map T.write (map T.shown items.now)) }
+/// Puts a field after the others.
+pub fn put<T: ToNode>(alloc: Global, fields: &mut Vec<Field>, id: i16, value: &T) -> R<()>
+    ensures stands { OnOk result (map field_view fields.new.items ≡ map field_view fields.old.items ++ present id (Some (T.write (T.shown value.now)))) }
     ensures which { RefusedMemoryOnly result }
 {
-    let mut values = Vec::with_capacity(alloc, items.len())?;
-    for item in items {
-        let value = item.to_node(alloc)?;
-        values.push(value)?;
-    }
-    Ok(values)
+    let value = value.to_node(alloc)?;
+    fields.push(Field { id, value })?;
+    Ok(())
 }
 
 impl<T: ToElement> ToNode for Vec<T> {
@@ -137,16 +134,6 @@ impl<T: ToElement> ToNode for Vec<T> {
         let values = nodes(alloc, self.as_slice())?;
         Ok(Value::List(T::element_type(), values))
     }
-}
-
-/// Puts a field after the others.
-pub fn put<T: ToNode>(alloc: Global, fields: &mut Vec<Field>, id: i16, value: &T) -> R<()>
-    ensures stands { OnOk result (map field_view fields.new.items ≡ map field_view fields.old.items ++ present id (Some (T.write (T.shown value.now)))) }
-    ensures which { RefusedMemoryOnly result }
-{
-    let value = value.to_node(alloc)?;
-    fields.push(Field { id, value })?;
-    Ok(())
 }
 
 /// Puts a field after the others where its value is there.
@@ -163,4 +150,17 @@ pub fn put_given<T: ToNode>(
         Some(value) => put(alloc, fields, id, value),
         None => Ok(()),
     }
+}
+
+/// The values of a list.
+fn nodes<T: ToNode>(alloc: Global, items: &[T]) -> R<Vec<Value>>
+    ensures stands { IfOk result (λ values. map view values.items ≡ map T.write (map T.shown items.now)) }
+    ensures which { RefusedMemoryOnly result }
+{
+    let mut values = Vec::with_capacity(alloc, items.len())?;
+    for item in items {
+        let value = item.to_node(alloc)?;
+        values.push(value)?;
+    }
+    Ok(values)
 }

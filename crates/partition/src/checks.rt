@@ -18,6 +18,84 @@ const MOST_COLUMNS: usize = 8;
 /// The most bytes of a folder's name, escapes included.
 const MOST_FOLDER_BYTES: usize = 255;
 
+/// Whether these columns can partition: at most eight, each with a name, no name twice and no place twice.
+pub(crate) fn are_key_columns(columns: &[KeyColumn]) -> bool
+    ensures { result ≡ are_key_columns (key_columns_view columns.now) }
+{
+    columns.len() <= MOST_COLUMNS && are_apart(columns)
+}
+
+/// Whether each column has a name, and none has the name or the place of another.
+fn are_apart(columns: &[KeyColumn]) -> bool
+    ensures { result ≡ are_apart (key_columns_view columns.now) }
+{
+    let mut rest = columns;
+    while let Some((column, others)) = rest.split_first() {
+        if column.name.is_empty() || clashes(column, others) {
+            return false;
+        }
+        rest = others;
+    }
+    true
+}
+
+/// Whether a column shares its name or its place with one of the others.
+fn clashes(column: &KeyColumn, others: &[KeyColumn]) -> bool
+    ensures { result ≡ list_any (clashes (key_column_view column.now)) (key_columns_view others.now) }
+{
+    for other in others {
+        if column.name.as_bytes() == other.name.as_bytes() || column.at == other.at {
+            return true;
+        }
+    }
+    false
+}
+
+/// Whether a key can partition: there are at most eight columns, each with a name, no name or place comes twice, each
+/// value is its column's and no empty text, and no folder `name=value` is longer than 255 bytes when escaped.
+///
+/// Takes no memory; the time is linear in the key and the columns' names.
+pub fn can_partition(columns: &[KeyColumn], key: &Key) -> bool
+    ensures { IsTrue result ↔ CanPartition (key_columns_view columns.now) (key_view key.now) }
+{
+    are_key_columns(columns) && have_folders(columns, key.values.as_slice())
+}
+
+/// Whether there is one value for each column, each with a folder.
+fn have_folders(columns: &[KeyColumn], values: &[Value]) -> bool
+    ensures { result ≡ have_folders (key_columns_view columns.now) (map view values.now) }
+{
+    if columns.len() != values.len() {
+        return false;
+    }
+    for (i, column) in columns.iter().enumerate() {
+        if !has_folder(column, &values[i]) {
+            return false;
+        }
+    }
+    true
+}
+
+/// Whether a value is of its column, with a folder that is short enough.
+fn has_folder(column: &KeyColumn, value: &Value) -> bool
+    ensures { result ≡ has_folder (key_column_view column.now) (view value.now) }
+{
+    if !is_key_value(column.kind, value) {
+        return false;
+    }
+    match room_after(MOST_FOLDER_BYTES - 1, column.name.as_bytes()) {
+        Some(room) => room_after_value(room, value).is_some(),
+        None => false,
+    }
+}
+
+/// Whether a value is of a key column's type, and no empty text.
+fn is_key_value(kind: KeyKind, value: &Value) -> bool
+    ensures { result ≡ is_key_value kind (view value.now) }
+{
+    leaf_type(kind).fits(value) && is_filled(value)
+}
+
 /// The leaf type of a key column.
 fn leaf_type(kind: KeyKind) -> LeafType
     ensures { leaf_type_view result ≡ key_type kind }
@@ -46,27 +124,6 @@ fn is_filled(value: &Value) -> bool
     }
 }
 
-/// Whether a value is of a key column's type, and no empty text.
-fn is_key_value(kind: KeyKind, value: &Value) -> bool
-    ensures { result ≡ is_key_value kind (view value.now) }
-{
-    leaf_type(kind).fits(value) && is_filled(value)
-}
-
-/// Whether a byte of a name or a text stands for itself.
-fn is_plain(byte: u8) -> bool
-    ensures { result ≡ is_plain byte }
-{
-    byte.is_ascii_alphanumeric() || matches!(byte, b'_' | b'.' | b'-')
-}
-
-/// How many bytes stand for a byte of a name or a text.
-fn escaped_size(byte: u8) -> usize
-    ensures { result ≡ escaped_size byte }
-{
-    if is_plain(byte) { 1 } else { 3 }
-}
-
 /// The room that the escaped form of a text leaves of some bytes.
 fn room_after(room: usize, text: &[u8]) -> Option<usize>
     ensures { IsRoomAfter room text.now result }
@@ -78,27 +135,18 @@ fn room_after(room: usize, text: &[u8]) -> Option<usize>
     Some(left)
 }
 
-/// How many digits a number has in decimal.
-fn digits(number: u64) -> usize
-    ensures { result ≡ length (decimal number) }
+/// How many bytes stand for a byte of a name or a text.
+fn escaped_size(byte: u8) -> usize
+    ensures { result ≡ escaped_size byte }
 {
-    let mut rest = number;
-    let mut count = 1;
-    while rest >= 10 {
-        rest /= 10;
-        count += 1;
-    }
-    count
+    if is_plain(byte) { 1 } else { 3 }
 }
 
-/// How many bytes a number has in decimal, with its sign.
-#[tactic(auto, using(crate::proofs::Escapes::escaped_signed))]
-fn signed_digits(number: i64) -> usize
-    ensures counted { result ≡ length (signed_decimal number) }
-    ensures plain { escaped (signed_decimal number) ≡ signed_decimal number }
+/// Whether a byte of a name or a text stands for itself.
+fn is_plain(byte: u8) -> bool
+    ensures { result ≡ is_plain byte }
 {
-    let digits = digits(number.unsigned_abs());
-    if number < 0 { digits + 1 } else { digits }
+    byte.is_ascii_alphanumeric() || matches!(byte, b'_' | b'.' | b'-')
 }
 
 /// The room that the escaped form of a value leaves of some bytes.
@@ -114,39 +162,37 @@ fn room_after_value(room: usize, value: &Value) -> Option<usize>
     }
 }
 
-/// Whether a value is of its column, with a folder that is short enough.
-fn has_folder(column: &KeyColumn, value: &Value) -> bool
-    ensures { result ≡ has_folder (key_column_view column.now) (view value.now) }
+/// How many bytes a number has in decimal, with its sign.
+#[tactic(auto, using(crate::proofs::Escapes::escaped_signed))]
+fn signed_digits(number: i64) -> usize
+    ensures counted { result ≡ length (signed_decimal number) }
+    ensures plain { escaped (signed_decimal number) ≡ signed_decimal number }
 {
-    if !is_key_value(column.kind, value) {
-        return false;
-    }
-    match room_after(MOST_FOLDER_BYTES - 1, column.name.as_bytes()) {
-        Some(room) => room_after_value(room, value).is_some(),
-        None => false,
-    }
+    let digits = digits(number.unsigned_abs());
+    if number < 0 { digits + 1 } else { digits }
 }
 
-/// Whether there is one value for each column, each with a folder.
-fn have_folders(columns: &[KeyColumn], values: &[Value]) -> bool
-    ensures { result ≡ have_folders (key_columns_view columns.now) (map view values.now) }
+/// How many digits a number has in decimal.
+fn digits(number: u64) -> usize
+    ensures { result ≡ length (decimal number) }
 {
-    if columns.len() != values.len() {
-        return false;
+    let mut rest = number;
+    let mut count = 1;
+    while rest >= 10 {
+        rest /= 10;
+        count += 1;
     }
-    for (i, column) in columns.iter().enumerate() {
-        if !has_folder(column, &values[i]) {
-            return false;
-        }
-    }
-    true
+    count
 }
 
-/// Whether a row has a value for this column, with a folder.
-fn row_has_folder(column: &KeyColumn, row: &Row) -> bool
-    ensures { result ≡ has_folder (key_column_view column.now) (member_at column.now.at (row_view row.now)) }
+/// Whether the key of a row can partition, as [`can_partition`] has it: the key is the row's values at the columns'
+/// places.
+///
+/// Takes no memory; the time is linear in the row's key and the columns' names.
+pub fn row_can_partition(columns: &[KeyColumn], row: &Row) -> bool
+    ensures { IsTrue result ↔ CanPartition (key_columns_view columns.now) (key_of_row (key_columns_view columns.now) (row_view row.now)) }
 {
-    column.at < row.values.len() && has_folder(column, &row.values[column.at])
+    are_key_columns(columns) && row_has_folders(columns, row)
 }
 
 /// Whether a row has a value for each column, each with a folder.
@@ -161,55 +207,9 @@ fn row_has_folders(columns: &[KeyColumn], row: &Row) -> bool
     true
 }
 
-/// Whether a column shares its name or its place with one of the others.
-fn clashes(column: &KeyColumn, others: &[KeyColumn]) -> bool
-    ensures { result ≡ list_any (clashes (key_column_view column.now)) (key_columns_view others.now) }
+/// Whether a row has a value for this column, with a folder.
+fn row_has_folder(column: &KeyColumn, row: &Row) -> bool
+    ensures { result ≡ has_folder (key_column_view column.now) (member_at column.now.at (row_view row.now)) }
 {
-    for other in others {
-        if column.name.as_bytes() == other.name.as_bytes() || column.at == other.at {
-            return true;
-        }
-    }
-    false
-}
-
-/// Whether each column has a name, and none has the name or the place of another.
-fn are_apart(columns: &[KeyColumn]) -> bool
-    ensures { result ≡ are_apart (key_columns_view columns.now) }
-{
-    let mut rest = columns;
-    while let Some((column, others)) = rest.split_first() {
-        if column.name.is_empty() || clashes(column, others) {
-            return false;
-        }
-        rest = others;
-    }
-    true
-}
-
-/// Whether these columns can partition: at most eight, each with a name, no name twice and no place twice.
-pub(crate) fn are_key_columns(columns: &[KeyColumn]) -> bool
-    ensures { result ≡ are_key_columns (key_columns_view columns.now) }
-{
-    columns.len() <= MOST_COLUMNS && are_apart(columns)
-}
-
-/// Whether a key can partition: there are at most eight columns, each with a name, no name or place comes twice, each
-/// value is its column's and no empty text, and no folder `name=value` is longer than 255 bytes when escaped.
-///
-/// Takes no memory; the time is linear in the key and the columns' names.
-pub fn can_partition(columns: &[KeyColumn], key: &Key) -> bool
-    ensures { IsTrue result ↔ CanPartition (key_columns_view columns.now) (key_view key.now) }
-{
-    are_key_columns(columns) && have_folders(columns, key.values.as_slice())
-}
-
-/// Whether the key of a row can partition, as [`can_partition`] has it: the key is the row's values at the columns'
-/// places.
-///
-/// Takes no memory; the time is linear in the row's key and the columns' names.
-pub fn row_can_partition(columns: &[KeyColumn], row: &Row) -> bool
-    ensures { IsTrue result ↔ CanPartition (key_columns_view columns.now) (key_of_row (key_columns_view columns.now) (row_view row.now)) }
-{
-    are_key_columns(columns) && row_has_folders(columns, row)
+    column.at < row.values.len() && has_folder(column, &row.values[column.at])
 }

@@ -14,56 +14,6 @@ use schema::{
 };
 use std::alloc::Global;
 
-/// The key type that a leaf's type is, if it is one.
-fn kind_of(leaf_type: &LeafType) -> Option<KeyKind>
-    ensures { MatchOption result ((k : KeyKindView) → leaf_type_view leaf_type.now ≡ key_type k → ⊥) (λ k. leaf_type_view leaf_type.now ≡ key_type k) }
-{
-    if leaf_type.scale.is_some() || leaf_type.precision.is_some() {
-        return None;
-    }
-    match (leaf_type.kind, &leaf_type.annotation) {
-        (Kind::Boolean, Annotation::Plain) => Some(KeyKind::Boolean),
-        (Kind::Int32, Annotation::Plain) => Some(KeyKind::Int32),
-        (Kind::Int64, Annotation::Plain) => Some(KeyKind::Int64),
-        (Kind::ByteArray, Annotation::Known(ConvertedType::Utf8)) => Some(KeyKind::Utf8),
-        _ => None,
-    }
-}
-
-/// The type of a field as a key column of this name, if it can be one.
-fn key_kind(field: &Field, wanted: &[u8]) -> Option<KeyKind>
-    ensures { let is_key = IsKeyField wanted.now (field_view field.now) in MatchOption result ((k : KeyKindView) → is_key k → ⊥) is_key }
-{
-    match field {
-        Field::Leaf {
-            name,
-            repetition,
-            leaf_type,
-        } => {
-            if *repetition == Repetition::Required && name.as_bytes() == wanted {
-                kind_of(leaf_type)
-            } else {
-                None
-            }
-        }
-        Field::Group { .. } => None,
-    }
-}
-
-/// The first field that can be a key column of this name.
-fn key_column(alloc: Global, fields: &[Field], name: &str) -> R<Option<KeyColumn>>
-    ensures stands { let fs = field_views fields.now in IfOk result (λ found. MatchOption found (HasNoKeyField name.now fs) (IsKeyColumnOf name.now fs)) }
-    ensures which { RefusedMemoryOnly result }
-{
-    for (at, field) in fields.iter().enumerate() {
-        if let Some(kind) = key_kind(field, name.as_bytes()) {
-            let name = String::from_str(alloc, name)?;
-            return Ok(Some(KeyColumn { at, name, kind }));
-        }
-    }
-    Ok(None)
-}
-
 /// The key columns of these names, in this order, which is that of the folders.
 ///
 /// Refused Key exactly when a table with this schema cannot be partitioned by these columns, out of memory aside: where a
@@ -93,5 +43,55 @@ pub fn key_columns(alloc: Global, schema: &Schema, names: &[String]) -> R<Vec<Ke
         Ok(columns)
     } else {
         Err(Refusal::Key)
+    }
+}
+
+/// The first field that can be a key column of this name.
+fn key_column(alloc: Global, fields: &[Field], name: &str) -> R<Option<KeyColumn>>
+    ensures stands { let fs = field_views fields.now in IfOk result (λ found. MatchOption found (HasNoKeyField name.now fs) (IsKeyColumnOf name.now fs)) }
+    ensures which { RefusedMemoryOnly result }
+{
+    for (at, field) in fields.iter().enumerate() {
+        if let Some(kind) = key_kind(field, name.as_bytes()) {
+            let name = String::from_str(alloc, name)?;
+            return Ok(Some(KeyColumn { at, name, kind }));
+        }
+    }
+    Ok(None)
+}
+
+/// The type of a field as a key column of this name, if it can be one.
+fn key_kind(field: &Field, wanted: &[u8]) -> Option<KeyKind>
+    ensures { let is_key = IsKeyField wanted.now (field_view field.now) in MatchOption result ((k : KeyKindView) → is_key k → ⊥) is_key }
+{
+    match field {
+        Field::Leaf {
+            name,
+            repetition,
+            leaf_type,
+        } => {
+            if *repetition == Repetition::Required && name.as_bytes() == wanted {
+                kind_of(leaf_type)
+            } else {
+                None
+            }
+        }
+        Field::Group { .. } => None,
+    }
+}
+
+/// The key type that a leaf's type is, if it is one.
+fn kind_of(leaf_type: &LeafType) -> Option<KeyKind>
+    ensures { MatchOption result ((k : KeyKindView) → leaf_type_view leaf_type.now ≡ key_type k → ⊥) (λ k. leaf_type_view leaf_type.now ≡ key_type k) }
+{
+    if leaf_type.scale.is_some() || leaf_type.precision.is_some() {
+        return None;
+    }
+    match (leaf_type.kind, &leaf_type.annotation) {
+        (Kind::Boolean, Annotation::Plain) => Some(KeyKind::Boolean),
+        (Kind::Int32, Annotation::Plain) => Some(KeyKind::Int32),
+        (Kind::Int64, Annotation::Plain) => Some(KeyKind::Int64),
+        (Kind::ByteArray, Annotation::Known(ConvertedType::Utf8)) => Some(KeyKind::Utf8),
+        _ => None,
     }
 }

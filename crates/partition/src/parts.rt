@@ -45,6 +45,26 @@ pub fn part_path(alloc: Global, columns: &[KeyColumn], key: &Key, number: u64) -
     Ok(path)
 }
 
+/// The number in the name of a part file: a `u64` in plain decimal, without a sign or leading zeros. None for every
+/// other name. Refused only when out of memory.
+pub fn part_number(alloc: Global, name: &str) -> R<Option<u64>>
+    ensures stands { IfOk result (λ found. MatchOption found ((n : ℕ) → n < 2 ^ 64 → part_name_of n ≡ name.now → ⊥) (λ n. part_name_of n ≡ name.now)) }
+    ensures which { RefusedMemoryOnly result }
+{
+    let Some(middle) = middle(name.as_bytes()) else {
+        return Ok(None);
+    };
+    let Some(number) = read_unsigned(middle) else {
+        return Ok(None);
+    };
+    let written = part_name(alloc, number)?;
+    if written.as_bytes() == name.as_bytes() {
+        Ok(Some(number))
+    } else {
+        Ok(None)
+    }
+}
+
 /// The text between the first five and the last eight bytes.
 fn middle(name: &[u8]) -> Option<&[u8]>
     ensures { IsMiddle name.now result }
@@ -64,25 +84,5 @@ fn read_unsigned(text: &[u8]) -> Option<u64>
     match std::str::from_utf8(text) {
         Ok(text) => text.parse::<u64>().ok(),
         Err(_) => None,
-    }
-}
-
-/// The number in the name of a part file: a `u64` in plain decimal, without a sign or leading zeros. None for every
-/// other name. Refused only when out of memory.
-pub fn part_number(alloc: Global, name: &str) -> R<Option<u64>>
-    ensures stands { IfOk result (λ found. MatchOption found ((n : ℕ) → n < 2 ^ 64 → part_name_of n ≡ name.now → ⊥) (λ n. part_name_of n ≡ name.now)) }
-    ensures which { RefusedMemoryOnly result }
-{
-    let Some(middle) = middle(name.as_bytes()) else {
-        return Ok(None);
-    };
-    let Some(number) = read_unsigned(middle) else {
-        return Ok(None);
-    };
-    let written = part_name(alloc, number)?;
-    if written.as_bytes() == name.as_bytes() {
-        Ok(Some(number))
-    } else {
-        Ok(None)
     }
 }

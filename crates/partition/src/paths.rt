@@ -16,14 +16,46 @@ use percent_encoding::percent_decode;
 use schema::{Key, KeyColumn, KeyKind, Value};
 use std::alloc::Global;
 
-/// `true` or `false`.
-fn boolean_text(b: bool) -> &'static str
-    ensures { result.now ≡ value_text (boolean b) }
+/// The path of a key's folders, seen from the dataset's folder: `name=value` for each key column, nested in their
+/// order; the empty text where there are no key columns.
+///
+/// Refused Key exactly when [`can_partition`] says no, out of memory aside. The time is linear in the path.
+pub fn path_of(alloc: Global, columns: &[KeyColumn], key: &Key) -> R<String>
+    ensures stands { IfOk result (λ text. string_bytes text ≡ path (key_columns_view columns.now) (key_view key.now)) }
+    ensures can { OnOk result (CanPartition (key_columns_view columns.now) (key_view key.now)) }
+    ensures only { OnFault result (CanPartition (key_columns_view columns.now) (key_view key.now) → ⊥) }
+    ensures which { RefusedOnly (λ e. e ≡ Refusal.Key) result }
 {
-    match b {
-        true => "true",
-        false => "false",
+    if !can_partition(columns, key) {
+        return Err(Refusal::Key);
     }
+    joined_folders(alloc, columns, key.values.as_slice())
+}
+
+/// The folders of these values, one in another.
+fn joined_folders(alloc: Global, columns: &[KeyColumn], values: &[Value]) -> R<String>
+    requires { length columns.now ≡ length values.now }
+    ensures ok { IfOk result (λ text. string_bytes text ≡ join_with_byte 47 (folders (key_columns_view columns.now) (map view values.now))) }
+    ensures which { RefusedMemoryOnly result }
+{
+    let mut path = String::new(alloc);
+    let mut separator = "";
+    for (i, column) in columns.iter().enumerate() {
+        path.push_str(separator)?;
+        push_folder(alloc, &mut path, column, &values[i])?;
+        separator = "/";
+    }
+    Ok(path)
+}
+
+/// Writes the folder of a value at the end.
+fn push_folder(alloc: Global, path: &mut String, column: &KeyColumn, value: &Value) -> R<()>
+    ensures ok { OnOk result (string_bytes path.new ≡ string_bytes path.old ++ folder (key_column_view column.now) (view value.now)) }
+    ensures which { RefusedMemoryOnly result }
+{
+    push_escaped(path, column.name.as_bytes())?;
+    path.push_str("=")?;
+    push_value(alloc, path, value)
 }
 
 /// Writes the escaped form of a value at the end.
@@ -43,137 +75,14 @@ fn push_value(alloc: Global, path: &mut String, value: &Value) -> R<()>
     }
 }
 
-/// Writes the folder of a value at the end.
-fn push_folder(alloc: Global, path: &mut String, column: &KeyColumn, value: &Value) -> R<()>
-    ensures ok { OnOk result (string_bytes path.new ≡ string_bytes path.old ++ folder (key_column_view column.now) (view value.now)) }
-    ensures which { RefusedMemoryOnly result }
+/// `true` or `false`.
+fn boolean_text(b: bool) -> &'static str
+    ensures { result.now ≡ value_text (boolean b) }
 {
-    push_escaped(path, column.name.as_bytes())?;
-    path.push_str("=")?;
-    push_value(alloc, path, value)
-}
-
-/// The folders of these values, one in another.
-fn joined_folders(alloc: Global, columns: &[KeyColumn], values: &[Value]) -> R<String>
-    requires { length columns.now ≡ length values.now }
-    ensures ok { IfOk result (λ text. string_bytes text ≡ join_with_byte 47 (folders (key_columns_view columns.now) (map view values.now))) }
-    ensures which { RefusedMemoryOnly result }
-{
-    let mut path = String::new(alloc);
-    let mut separator = "";
-    for (i, column) in columns.iter().enumerate() {
-        path.push_str(separator)?;
-        push_folder(alloc, &mut path, column, &values[i])?;
-        separator = "/";
+    match b {
+        true => "true",
+        false => "false",
     }
-    Ok(path)
-}
-
-/// The path of a key's folders, seen from the dataset's folder: `name=value` for each key column, nested in their
-/// order; the empty text where there are no key columns.
-///
-/// Refused Key exactly when [`can_partition`] says no, out of memory aside. The time is linear in the path.
-pub fn path_of(alloc: Global, columns: &[KeyColumn], key: &Key) -> R<String>
-    ensures stands { IfOk result (λ text. string_bytes text ≡ path (key_columns_view columns.now) (key_view key.now)) }
-    ensures can { OnOk result (CanPartition (key_columns_view columns.now) (key_view key.now)) }
-    ensures only { OnFault result (CanPartition (key_columns_view columns.now) (key_view key.now) → ⊥) }
-    ensures which { RefusedOnly (λ e. e ≡ Refusal.Key) result }
-{
-    if !can_partition(columns, key) {
-        return Err(Refusal::Key);
-    }
-    joined_folders(alloc, columns, key.values.as_slice())
-}
-
-/// The text before the first such byte, and the rest from there on.
-fn cut_before(text: &[u8], byte: u8) -> (&[u8], &[u8])
-    ensures { IsCutBefore byte text.now result.0.now result.1.now }
-{
-    for (i, next) in text.iter().enumerate() {
-        if *next == byte {
-            return text.split_at(i);
-        }
-    }
-    (text, &text[text.len()..])
-}
-
-/// A number of plain decimal digits, with or without a sign; more is read than is written.
-fn read_number(text: &[u8]) -> Option<i64>
-    ensures { ReadsSigned text.now result }
-{
-    match std::str::from_utf8(text) {
-        Ok(text) => text.parse::<i64>().ok(),
-        Err(_) => None,
-    }
-}
-
-/// The value that is written `true` or `false`.
-fn read_boolean(text: &[u8]) -> Option<bool>
-    ensures { ReadsBoolean text.now result }
-{
-    if text == boolean_text(true).as_bytes() {
-        Some(true)
-    } else if text == boolean_text(false).as_bytes() {
-        Some(false)
-    } else {
-        None
-    }
-}
-
-/// The value of this type that a text stands for; other texts may be read too.
-fn value_of(kind: KeyKind, text: Vec<u8>) -> Option<Value>
-    ensures { ReadsText kind text.items result }
-{
-    match kind {
-        KeyKind::Boolean => match read_boolean(text.as_slice()) {
-            Some(b) => Some(Value::Bool(b)),
-            None => None,
-        },
-        KeyKind::Int32 | KeyKind::Int64 => match read_number(text.as_slice()) {
-            Some(number) => Some(Value::Int(number)),
-            None => None,
-        },
-        KeyKind::Utf8 => Some(Value::Bytes(text)),
-    }
-}
-
-/// The text after its first byte.
-fn after_first(text: &[u8]) -> &[u8]
-    ensures { result.now ≡ drop 1 text.now }
-{
-    match text {
-        [_, rest @ ..] => rest,
-        [] => text,
-    }
-}
-
-/// The value of a folder, where the text is one; other texts may be read too.
-fn read_value(alloc: Global, kind: KeyKind, folder: &[u8]) -> R<Option<Value>>
-    ensures stands { IfOk result (ReadsBack kind folder.now) }
-    ensures which { RefusedMemoryOnly result }
-{
-    let (_, after) = cut_before(folder, b'=');
-    let mut text = Vec::new(alloc);
-    percent_decode(after_first(after)).append_to(&mut text)?;
-    Ok(value_of(kind, text))
-}
-
-/// The values of folders, where the text is a path of them; other texts may be read too.
-fn read_folders(alloc: Global, columns: &[KeyColumn], text: &[u8]) -> R<Option<Key>>
-    ensures stands { IfOk result (ReadsPath (key_columns_view columns.now) text.now) }
-    ensures which { RefusedMemoryOnly result }
-{
-    let mut values = Vec::with_capacity(alloc, columns.len())?;
-    let mut rest = text;
-    for column in columns {
-        let (folder, after) = cut_before(rest, b'/');
-        match read_value(alloc, column.kind, folder)? {
-            Some(value) => values.push(value)?,
-            None => return Ok(None),
-        }
-        rest = after_first(after);
-    }
-    Ok(Some(Key { values }))
 }
 
 /// The key that a path names: the one whose path it is.
@@ -195,5 +104,96 @@ pub fn key_of(alloc: Global, columns: &[KeyColumn], text: &str) -> R<Key>
         Ok(key)
     } else {
         Err(Refusal::Key)
+    }
+}
+
+/// The values of folders, where the text is a path of them; other texts may be read too.
+fn read_folders(alloc: Global, columns: &[KeyColumn], text: &[u8]) -> R<Option<Key>>
+    ensures stands { IfOk result (ReadsPath (key_columns_view columns.now) text.now) }
+    ensures which { RefusedMemoryOnly result }
+{
+    let mut values = Vec::with_capacity(alloc, columns.len())?;
+    let mut rest = text;
+    for column in columns {
+        let (folder, after) = cut_before(rest, b'/');
+        match read_value(alloc, column.kind, folder)? {
+            Some(value) => values.push(value)?,
+            None => return Ok(None),
+        }
+        rest = after_first(after);
+    }
+    Ok(Some(Key { values }))
+}
+
+/// The text before the first such byte, and the rest from there on.
+fn cut_before(text: &[u8], byte: u8) -> (&[u8], &[u8])
+    ensures { IsCutBefore byte text.now result.0.now result.1.now }
+{
+    for (i, next) in text.iter().enumerate() {
+        if *next == byte {
+            return text.split_at(i);
+        }
+    }
+    (text, &text[text.len()..])
+}
+
+/// The value of a folder, where the text is one; other texts may be read too.
+fn read_value(alloc: Global, kind: KeyKind, folder: &[u8]) -> R<Option<Value>>
+    ensures stands { IfOk result (ReadsBack kind folder.now) }
+    ensures which { RefusedMemoryOnly result }
+{
+    let (_, after) = cut_before(folder, b'=');
+    let mut text = Vec::new(alloc);
+    percent_decode(after_first(after)).append_to(&mut text)?;
+    Ok(value_of(kind, text))
+}
+
+/// The text after its first byte.
+fn after_first(text: &[u8]) -> &[u8]
+    ensures { result.now ≡ drop 1 text.now }
+{
+    match text {
+        [_, rest @ ..] => rest,
+        [] => text,
+    }
+}
+
+/// The value of this type that a text stands for; other texts may be read too.
+fn value_of(kind: KeyKind, text: Vec<u8>) -> Option<Value>
+    ensures { ReadsText kind text.items result }
+{
+    match kind {
+        KeyKind::Boolean => match read_boolean(text.as_slice()) {
+            Some(b) => Some(Value::Bool(b)),
+            None => None,
+        },
+        KeyKind::Int32 | KeyKind::Int64 => match read_number(text.as_slice()) {
+            Some(number) => Some(Value::Int(number)),
+            None => None,
+        },
+        KeyKind::Utf8 => Some(Value::Bytes(text)),
+    }
+}
+
+/// The value that is written `true` or `false`.
+fn read_boolean(text: &[u8]) -> Option<bool>
+    ensures { ReadsBoolean text.now result }
+{
+    if text == boolean_text(true).as_bytes() {
+        Some(true)
+    } else if text == boolean_text(false).as_bytes() {
+        Some(false)
+    } else {
+        None
+    }
+}
+
+/// A number of plain decimal digits, with or without a sign; more is read than is written.
+fn read_number(text: &[u8]) -> Option<i64>
+    ensures { ReadsSigned text.now result }
+{
+    match std::str::from_utf8(text) {
+        Ok(text) => text.parse::<i64>().ok(),
+        Err(_) => None,
     }
 }

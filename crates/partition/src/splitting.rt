@@ -32,22 +32,31 @@ enum Part {
     Text(Vec<u8>),
 }
 
-/// A value of a key as the set of keys has it; None where no key has such a value.
-fn part_of(alloc: Global, value: &Value) -> R<Option<Part>>
-    ensures stands { IfOk result (λ found. MatchOption found (IsNoKeyValue (view value.now)) (λ part. part_view part ≡ view value.now)) }
-    ensures which { RefusedMemoryOnly result }
+/// The rows of each key, keys ascending, each key's rows in the order given, and without their values in the key columns.
+/// The rows are moved: none of their other values is copied.
+///
+/// Refused Key exactly when a row has no key that can partition, out of memory aside. The rows belong to the call: after
+/// a refusal they are gone. A caller that has to keep them asks [`row_can_partition`](crate::row_can_partition) of each
+/// first.
+///
+/// One pass over the rows, with a look-up in a hash table for each, and one sort of the keys.
+pub fn split_by_key(alloc: Global, columns: &[KeyColumn], rows: Vec<Row>) -> R<Vec<KeyRows>>
+    ensures stands { IfOk result (λ split. IsSplit (key_columns_view columns.now) (rows_view rows.items) (map key_rows_view split.items)) }
+    ensures only { OnFault result (HaveKeys (key_columns_view columns.now) (rows_view rows.items) → ⊥) }
+    ensures which { RefusedOnly (λ e. e ≡ Refusal.Key) result }
 {
-    match value {
-        Value::Bool(b) => Ok(Some(Part::Boolean(*b))),
-        Value::Int(number) => Ok(Some(Part::Number(*number))),
-        Value::Bytes(text) => {
-            let text = Vec::from_slice(alloc, text.as_slice())?;
-            Ok(Some(Part::Text(text)))
-        }
-        Value::Null => Ok(None),
-        Value::Group(_) => Ok(None),
-        Value::List(_) => Ok(None),
+    let mut keys = IndexSet::new(alloc);
+    let mut split: Vec<KeyRows> = Vec::new(alloc);
+    for row in rows {
+        let Some(parts) = parts_of(alloc, columns, &row)? else {
+            return Err(Refusal::Key);
+        };
+        let at = place_of(alloc, columns, &mut keys, &mut split, parts)?;
+        let rest = without_keys(columns, row);
+        push_row(&mut split, at, rest)?;
     }
+    split.sort_by(|a, b| compare_keys(&a.key, &b.key))?;
+    Ok(split)
 }
 
 /// The key of a row; None where a value is missing or no key has it.
@@ -68,60 +77,22 @@ fn parts_of(alloc: Global, columns: &[KeyColumn], row: &Row) -> R<Option<Vec<Par
     Ok(Some(parts))
 }
 
-/// The value that a part of a key is.
-fn value_of(alloc: Global, part: &Part) -> R<Value>
-    ensures stands { IfOk result (λ value. view value ≡ part_view part.now) }
+/// A value of a key as the set of keys has it; None where no key has such a value.
+fn part_of(alloc: Global, value: &Value) -> R<Option<Part>>
+    ensures stands { IfOk result (λ found. MatchOption found (IsNoKeyValue (view value.now)) (λ part. part_view part ≡ view value.now)) }
     ensures which { RefusedMemoryOnly result }
 {
-    match part {
-        Part::Boolean(b) => Ok(Value::Bool(*b)),
-        Part::Number(number) => Ok(Value::Int(*number)),
-        Part::Text(text) => {
+    match value {
+        Value::Bool(b) => Ok(Some(Part::Boolean(*b))),
+        Value::Int(number) => Ok(Some(Part::Number(*number))),
+        Value::Bytes(text) => {
             let text = Vec::from_slice(alloc, text.as_slice())?;
-            Ok(Value::Bytes(text))
+            Ok(Some(Part::Text(text)))
         }
+        Value::Null => Ok(None),
+        Value::Group(_) => Ok(None),
+        Value::List(_) => Ok(None),
     }
-}
-
-/// The key that these parts are.
-fn key_of_parts(alloc: Global, parts: &[Part]) -> R<Key>
-    ensures stands { IfOk result (λ key. key_view key ≡ parts_view parts.now) }
-    ensures which { RefusedMemoryOnly result }
-{
-    let mut values = Vec::with_capacity(alloc, parts.len())?;
-    for part in parts {
-        values.push(value_of(alloc, part)?)?;
-    }
-    Ok(Key { values })
-}
-
-/// Whether a key column is at this place.
-fn is_key_place(columns: &[KeyColumn], at: usize) -> bool
-    ensures { result ≡ is_among (places_of (key_columns_view columns.now)) at }
-{
-    for column in columns {
-        if column.at == at {
-            return true;
-        }
-    }
-    false
-}
-
-/// The row without its key columns; its other values are moved, and stay in the row's own vector.
-fn without_keys(columns: &[KeyColumn], row: Row) -> Row
-    ensures { row_view result ≡ row_without_keys (key_columns_view columns.now) (row_view row) }
-{
-    let Row { mut values } = row;
-    let mut kept = 0;
-    for at in 0..values.len() {
-        if is_key_place(columns, at) {
-            continue;
-        }
-        values.swap(at, kept);
-        kept += 1;
-    }
-    values.truncate(kept);
-    Row { values }
 }
 
 /// The place of a key among those that have rows; a new key is added, without rows.
@@ -154,6 +125,62 @@ fn place_of(
     Ok(at)
 }
 
+/// The key that these parts are.
+fn key_of_parts(alloc: Global, parts: &[Part]) -> R<Key>
+    ensures stands { IfOk result (λ key. key_view key ≡ parts_view parts.now) }
+    ensures which { RefusedMemoryOnly result }
+{
+    let mut values = Vec::with_capacity(alloc, parts.len())?;
+    for part in parts {
+        values.push(value_of(alloc, part)?)?;
+    }
+    Ok(Key { values })
+}
+
+/// The value that a part of a key is.
+fn value_of(alloc: Global, part: &Part) -> R<Value>
+    ensures stands { IfOk result (λ value. view value ≡ part_view part.now) }
+    ensures which { RefusedMemoryOnly result }
+{
+    match part {
+        Part::Boolean(b) => Ok(Value::Bool(*b)),
+        Part::Number(number) => Ok(Value::Int(*number)),
+        Part::Text(text) => {
+            let text = Vec::from_slice(alloc, text.as_slice())?;
+            Ok(Value::Bytes(text))
+        }
+    }
+}
+
+/// The row without its key columns; its other values are moved, and stay in the row's own vector.
+fn without_keys(columns: &[KeyColumn], row: Row) -> Row
+    ensures { row_view result ≡ row_without_keys (key_columns_view columns.now) (row_view row) }
+{
+    let Row { mut values } = row;
+    let mut kept = 0;
+    for at in 0..values.len() {
+        if is_key_place(columns, at) {
+            continue;
+        }
+        values.swap(at, kept);
+        kept += 1;
+    }
+    values.truncate(kept);
+    Row { values }
+}
+
+/// Whether a key column is at this place.
+fn is_key_place(columns: &[KeyColumn], at: usize) -> bool
+    ensures { result ≡ is_among (places_of (key_columns_view columns.now)) at }
+{
+    for column in columns {
+        if column.at == at {
+            return true;
+        }
+    }
+    false
+}
+
 /// Puts a row after those of the key at this place.
 fn push_row(split: &mut Vec<KeyRows>, at: usize, row: Row) -> R<()>
     requires { at < length split.old.items }
@@ -162,31 +189,4 @@ fn push_row(split: &mut Vec<KeyRows>, at: usize, row: Row) -> R<()>
 {
     split[at].rows.push(row)?;
     Ok(())
-}
-
-/// The rows of each key, keys ascending, each key's rows in the order given, and without their values in the key columns.
-/// The rows are moved: none of their other values is copied.
-///
-/// Refused Key exactly when a row has no key that can partition, out of memory aside. The rows belong to the call: after
-/// a refusal they are gone. A caller that has to keep them asks [`row_can_partition`](crate::row_can_partition) of each
-/// first.
-///
-/// One pass over the rows, with a look-up in a hash table for each, and one sort of the keys.
-pub fn split_by_key(alloc: Global, columns: &[KeyColumn], rows: Vec<Row>) -> R<Vec<KeyRows>>
-    ensures stands { IfOk result (λ split. IsSplit (key_columns_view columns.now) (rows_view rows.items) (map key_rows_view split.items)) }
-    ensures only { OnFault result (HaveKeys (key_columns_view columns.now) (rows_view rows.items) → ⊥) }
-    ensures which { RefusedOnly (λ e. e ≡ Refusal.Key) result }
-{
-    let mut keys = IndexSet::new(alloc);
-    let mut split: Vec<KeyRows> = Vec::new(alloc);
-    for row in rows {
-        let Some(parts) = parts_of(alloc, columns, &row)? else {
-            return Err(Refusal::Key);
-        };
-        let at = place_of(alloc, columns, &mut keys, &mut split, parts)?;
-        let rest = without_keys(columns, row);
-        push_row(&mut split, at, rest)?;
-    }
-    split.sort_by(|a, b| compare_keys(&a.key, &b.key))?;
-    Ok(split)
 }

@@ -47,82 +47,6 @@ pub fn repetition_of(number: Option<i32>) -> Option<Repetition>
     }
 }
 
-/// The type by its number, and by the length of fixed values, which is at least 1.
-fn type_of(number: i32, type_length: Option<i32>) -> Option<Typed>
-    ensures type_is { result ≡ typed number type_length }
-    ensures length { HasTypedLength result }
-{
-    match number {
-        types::BOOLEAN => Some(Typed::Stored(Kind::Boolean)),
-        types::INT32 => Some(Typed::Stored(Kind::Int32)),
-        types::INT64 => Some(Typed::Stored(Kind::Int64)),
-        types::INT96 => Some(Typed::Int96),
-        types::FLOAT | types::DOUBLE => Some(Typed::Floating),
-        types::BYTE_ARRAY => Some(Typed::Stored(Kind::ByteArray)),
-        types::FIXED_LEN_BYTE_ARRAY => {
-            let length = type_length?;
-            if length < 1 {
-                return None;
-            }
-            Some(Typed::Stored(Kind::FixedLenByteArray(length as u32)))
-        }
-        _ => None,
-    }
-}
-
-/// Whether FLOAT16 is among the members of a union LogicalType.
-fn has_float16(members: &[Member]) -> bool
-    ensures { result ≡ is_half (member_views members.now) }
-{
-    for member in members {
-        if member.id == FLOAT16 {
-            return true;
-        }
-    }
-    false
-}
-
-/// Whether the leaf of this element is FLOAT16.
-fn is_float16(element: &Element) -> bool
-    ensures { result ≡ is_float16 element.now.converted_type (element_view element.now).logical_type }
-{
-    match (&element.converted_type, &element.logical_type) {
-        (None, Some(tree)) => has_float16(tree.fields.as_slice()),
-        _ => false,
-    }
-}
-
-/// The struct of the logicalType, where no converted type counts before it.
-fn kept_struct(alloc: Global, element: &Element) -> R<Option<Tree>>
-    ensures stands { IfOk result (λ kept. kept_struct element.now.converted_type (option_map tree_view element.now.logical_type) ≡ option_map tree_view kept) }
-    ensures which { RefusedMemoryOnly result }
-{
-    match (&element.converted_type, &element.logical_type) {
-        (None, Some(tree)) => Ok(Some(tree.copied(alloc)?)),
-        _ => Ok(None),
-    }
-}
-
-/// What the values of a leaf are, of this physical type.
-fn stored_type(alloc: Global, element: &Element, kind: Kind) -> R<LeafType>
-    ensures stands { IfOk result (λ t. (leaf_type_view t ≡ leaf_type kind (element_view element.now)) × KeepsWritten (leaf_type_view t).annotation) }
-    ensures which { IfErr result (IsStructFault (annotation_of kind element.now.converted_type (option_map tree_view element.now.logical_type))) }
-{
-    let kept = kept_struct(alloc, element)?;
-    let annotation = Annotation::of_element(kind, element.converted_type, kept);
-    if let Annotation::OtherLogical(tree) = &annotation {
-        if !has_bytes(tree, DEEPEST_STRUCT) {
-            return Err(Refusal::Schema);
-        }
-    }
-    Ok(LeafType {
-        kind,
-        annotation,
-        scale: element.scale,
-        precision: element.precision,
-    })
-}
-
 /// The name of a field.
 pub fn name_of(alloc: Global, element: &Element) -> R<String>
     ensures stands { IfOk result (λ name. (string_bytes name ≡ element.now.name.items) × IsTrue (is_utf8 element.now.name.items)) }
@@ -161,5 +85,81 @@ pub fn leaf(
                 leaf_type,
             })
         }
+    }
+}
+
+/// The type by its number, and by the length of fixed values, which is at least 1.
+fn type_of(number: i32, type_length: Option<i32>) -> Option<Typed>
+    ensures type_is { result ≡ typed number type_length }
+    ensures length { HasTypedLength result }
+{
+    match number {
+        types::BOOLEAN => Some(Typed::Stored(Kind::Boolean)),
+        types::INT32 => Some(Typed::Stored(Kind::Int32)),
+        types::INT64 => Some(Typed::Stored(Kind::Int64)),
+        types::INT96 => Some(Typed::Int96),
+        types::FLOAT | types::DOUBLE => Some(Typed::Floating),
+        types::BYTE_ARRAY => Some(Typed::Stored(Kind::ByteArray)),
+        types::FIXED_LEN_BYTE_ARRAY => {
+            let length = type_length?;
+            if length < 1 {
+                return None;
+            }
+            Some(Typed::Stored(Kind::FixedLenByteArray(length as u32)))
+        }
+        _ => None,
+    }
+}
+
+/// Whether the leaf of this element is FLOAT16.
+fn is_float16(element: &Element) -> bool
+    ensures { result ≡ is_float16 element.now.converted_type (element_view element.now).logical_type }
+{
+    match (&element.converted_type, &element.logical_type) {
+        (None, Some(tree)) => has_float16(tree.fields.as_slice()),
+        _ => false,
+    }
+}
+
+/// Whether FLOAT16 is among the members of a union LogicalType.
+fn has_float16(members: &[Member]) -> bool
+    ensures { result ≡ is_half (member_views members.now) }
+{
+    for member in members {
+        if member.id == FLOAT16 {
+            return true;
+        }
+    }
+    false
+}
+
+/// What the values of a leaf are, of this physical type.
+fn stored_type(alloc: Global, element: &Element, kind: Kind) -> R<LeafType>
+    ensures stands { IfOk result (λ t. (leaf_type_view t ≡ leaf_type kind (element_view element.now)) × KeepsWritten (leaf_type_view t).annotation) }
+    ensures which { IfErr result (IsStructFault (annotation_of kind element.now.converted_type (option_map tree_view element.now.logical_type))) }
+{
+    let kept = kept_struct(alloc, element)?;
+    let annotation = Annotation::of_element(kind, element.converted_type, kept);
+    if let Annotation::OtherLogical(tree) = &annotation {
+        if !has_bytes(tree, DEEPEST_STRUCT) {
+            return Err(Refusal::Schema);
+        }
+    }
+    Ok(LeafType {
+        kind,
+        annotation,
+        scale: element.scale,
+        precision: element.precision,
+    })
+}
+
+/// The struct of the logicalType, where no converted type counts before it.
+fn kept_struct(alloc: Global, element: &Element) -> R<Option<Tree>>
+    ensures stands { IfOk result (λ kept. kept_struct element.now.converted_type (option_map tree_view element.now.logical_type) ≡ option_map tree_view kept) }
+    ensures which { RefusedMemoryOnly result }
+{
+    match (&element.converted_type, &element.logical_type) {
+        (None, Some(tree)) => Ok(Some(tree.copied(alloc)?)),
+        _ => Ok(None),
     }
 }

@@ -41,6 +41,64 @@ pub fn marks_at(alloc: Global, places: &[usize], count: usize) -> R<Vec<bool>>
     Ok(marks)
 }
 
+/// What is kept of some fields. The first leaf below them has this place. Returns the place after the
+/// last one too.
+#[cycle(cutting)]
+pub fn cut_each(
+    alloc: Global,
+    wanted: &[bool],
+    at: usize,
+    fields: &[Field],
+) -> R<(Vec<Field>, usize)>
+    requires few { at + count_leaves_each (field_views fields.now) ≤ length wanted.now }
+    ensures fields_are { IfOk result (λ x. field_views x.0.items ≡ cut_each (is_marked wanted.now) at (field_views fields.now)) }
+    ensures behind { IfOk result (λ x. x.1 ≡ at + count_leaves_each (field_views fields.now)) }
+    ensures which { RefusedMemoryOnly result }
+{
+    let mut out = Vec::new(alloc);
+    let mut next = at;
+    for field in fields {
+        let (field, behind) = cut(alloc, wanted, next, field)?;
+        push_kept(&mut out, field)?;
+        next = behind;
+    }
+    Ok((out, next))
+}
+
+/// What is kept of a field: a leaf just if it is wanted, a group just if something in it is kept. The
+/// first leaf below it has this place. Returns the place after the last one too.
+#[cycle(cutting)]
+fn cut(alloc: Global, wanted: &[bool], at: usize, field: &Field) -> R<(Option<Field>, usize)>
+    requires few { at + count_leaves (field_view field.now) ≤ length wanted.now }
+    ensures cut_is { IfOk result (λ x. option_map field_view x.0 ≡ cut (is_marked wanted.now) at (field_view field.now)) }
+    ensures behind { IfOk result (λ x. x.1 ≡ at + count_leaves (field_view field.now)) }
+    ensures which { RefusedMemoryOnly result }
+{
+    match field {
+        Field::Leaf {
+            name,
+            repetition,
+            leaf_type,
+        } => {
+            if !wanted[at] {
+                return Ok((None, at + 1));
+            }
+            let field = copied_leaf(alloc, name.as_str(), *repetition, leaf_type)?;
+            Ok((Some(field), at + 1))
+        }
+        Field::Group {
+            name,
+            repetition,
+            annotation,
+            fields,
+        } => {
+            let (fields, behind) = cut_each(alloc, wanted, at, fields.as_slice())?;
+            let field = group_of(alloc, name.as_str(), *repetition, *annotation, fields)?;
+            Ok((field, behind))
+        }
+    }
+}
+
 /// A copy of a leaf.
 fn copied_leaf(alloc: Global, name: &str, repetition: Repetition, leaf_type: &LeafType) -> R<Field>
     ensures same { IfOk result (λ f. field_view f ≡ leaf name.now repetition (leaf_type_view leaf_type.now)) }
@@ -87,62 +145,4 @@ fn push_kept(out: &mut Vec<Field>, field: Option<Field>) -> R<()>
         Some(field) => Ok(out.push(field)?),
         None => Ok(()),
     }
-}
-
-/// What is kept of a field: a leaf just if it is wanted, a group just if something in it is kept. The
-/// first leaf below it has this place. Returns the place after the last one too.
-#[cycle(cutting)]
-fn cut(alloc: Global, wanted: &[bool], at: usize, field: &Field) -> R<(Option<Field>, usize)>
-    requires few { at + count_leaves (field_view field.now) ≤ length wanted.now }
-    ensures cut_is { IfOk result (λ x. option_map field_view x.0 ≡ cut (is_marked wanted.now) at (field_view field.now)) }
-    ensures behind { IfOk result (λ x. x.1 ≡ at + count_leaves (field_view field.now)) }
-    ensures which { RefusedMemoryOnly result }
-{
-    match field {
-        Field::Leaf {
-            name,
-            repetition,
-            leaf_type,
-        } => {
-            if !wanted[at] {
-                return Ok((None, at + 1));
-            }
-            let field = copied_leaf(alloc, name.as_str(), *repetition, leaf_type)?;
-            Ok((Some(field), at + 1))
-        }
-        Field::Group {
-            name,
-            repetition,
-            annotation,
-            fields,
-        } => {
-            let (fields, behind) = cut_each(alloc, wanted, at, fields.as_slice())?;
-            let field = group_of(alloc, name.as_str(), *repetition, *annotation, fields)?;
-            Ok((field, behind))
-        }
-    }
-}
-
-/// What is kept of some fields. The first leaf below them has this place. Returns the place after the
-/// last one too.
-#[cycle(cutting)]
-pub fn cut_each(
-    alloc: Global,
-    wanted: &[bool],
-    at: usize,
-    fields: &[Field],
-) -> R<(Vec<Field>, usize)>
-    requires few { at + count_leaves_each (field_views fields.now) ≤ length wanted.now }
-    ensures fields_are { IfOk result (λ x. field_views x.0.items ≡ cut_each (is_marked wanted.now) at (field_views fields.now)) }
-    ensures behind { IfOk result (λ x. x.1 ≡ at + count_leaves_each (field_views fields.now)) }
-    ensures which { RefusedMemoryOnly result }
-{
-    let mut out = Vec::new(alloc);
-    let mut next = at;
-    for field in fields {
-        let (field, behind) = cut(alloc, wanted, next, field)?;
-        push_kept(&mut out, field)?;
-        next = behind;
-    }
-    Ok((out, next))
 }

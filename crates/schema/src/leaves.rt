@@ -15,48 +15,17 @@ use bits::R;
 use std::alloc::Global;
 use std::rc::RcStr;
 
-/// What a field adds to the greatest definition level of the leaves below it.
-fn definitions(repetition: Repetition) -> u32
-    ensures level_is { result ≡ definitions repetition }
-    ensures small { result ≤ 1 }
+pub fn copied_type(alloc: Global, leaf_type: &LeafType) -> R<LeafType>
+    ensures same { IfOk result (λ copy. leaf_type_view copy ≡ leaf_type_view leaf_type.now) }
+    ensures which { RefusedMemoryOnly result }
 {
-    match repetition {
-        Repetition::Required => 0,
-        Repetition::Optional | Repetition::Repeated => 1,
-    }
-}
-
-/// What a field adds to the greatest repetition level of the leaves below it.
-fn repetitions(repetition: Repetition) -> u32
-    ensures level_is { result ≡ repetitions repetition }
-    ensures small { result ≤ 1 }
-{
-    match repetition {
-        Repetition::Required | Repetition::Optional => 0,
-        Repetition::Repeated => 1,
-    }
-}
-
-fn greatest_definition(steps: &[Step]) -> u32
-    requires { length steps.now < 2 ^ 32 }
-    ensures { result ≡ greatest_definition (map step_view steps.now) }
-{
-    let mut level = 0;
-    for step in steps {
-        level += definitions(step.repetition);
-    }
-    level
-}
-
-fn greatest_repetition(steps: &[Step]) -> u32
-    requires { length steps.now < 2 ^ 32 }
-    ensures { result ≡ greatest_repetition (map step_view steps.now) }
-{
-    let mut level = 0;
-    for step in steps {
-        level += repetitions(step.repetition);
-    }
-    level
+    let annotation = copied_annotation(alloc, &leaf_type.annotation)?;
+    Ok(LeafType {
+        kind: leaf_type.kind,
+        annotation,
+        scale: leaf_type.scale,
+        precision: leaf_type.precision,
+    })
 }
 
 fn copied_annotation(alloc: Global, annotation: &Annotation) -> R<Annotation>
@@ -74,17 +43,41 @@ fn copied_annotation(alloc: Global, annotation: &Annotation) -> R<Annotation>
     }
 }
 
-pub fn copied_type(alloc: Global, leaf_type: &LeafType) -> R<LeafType>
-    ensures same { IfOk result (λ copy. leaf_type_view copy ≡ leaf_type_view leaf_type.now) }
+/// The leaves below the fields of a root.
+pub fn leaves_of(alloc: Global, fields: &[Field]) -> R<Vec<Leaf>>
+    requires { tallest (field_views fields.now) ≤ 32 }
+    ensures leaves_are { IfOk result (λ leaves. map leaf_view leaves.items ≡ leaves_of (field_views fields.now)) }
     ensures which { RefusedMemoryOnly result }
 {
-    let annotation = copied_annotation(alloc, &leaf_type.annotation)?;
-    Ok(LeafType {
-        kind: leaf_type.kind,
-        annotation,
-        scale: leaf_type.scale,
-        precision: leaf_type.precision,
-    })
+    let mut leaves = Vec::new(alloc);
+    push_each(alloc, &mut leaves, &[], &[], fields)?;
+    Ok(leaves)
+}
+
+/// Adds the leaves below the fields of the group that this path leads to.
+#[cycle(leaves)]
+fn push_each(
+    alloc: Global,
+    out: &mut Vec<Leaf>,
+    path: &[RcStr],
+    steps: &[Step],
+    fields: &[Field],
+) -> R<()>
+    requires deep { length steps.now + tallest (field_views fields.now) ≤ 32 }
+    requires paired { length path.now ≡ length steps.now }
+    ensures adds { OnOk result (map leaf_view out.new.items ≡ map leaf_view out.old.items ++ leaves_along path.now steps.now (leaves_from 0 (field_views fields.now))) }
+    ensures which { RefusedMemoryOnly result }
+{
+    for (place, field) in fields.iter().enumerate() {
+        let down = path_down(alloc, path, field.name())?;
+        let step = Step {
+            place,
+            repetition: field.repetition(),
+        };
+        let steps = steps_down(alloc, steps, step)?;
+        push_leaves(alloc, out, down, steps, field)?;
+    }
+    Ok(())
 }
 
 /// The names, which are shared and not copied, and one more.
@@ -110,24 +103,6 @@ fn steps_down(alloc: Global, steps: &[Step], step: Step) -> R<Vec<Step>>
     let mut down = Vec::from_slice(alloc, steps)?;
     down.push(step)?;
     Ok(down)
-}
-
-/// The leaf at the end of a path.
-fn leaf_of(alloc: Global, path: Vec<RcStr>, steps: Vec<Step>, leaf_type: &LeafType) -> R<Leaf>
-    requires { length steps.items < 2 ^ 32 }
-    ensures leaf_is { IfOk result (λ l. leaf_view l ≡ leaf_at (map rc_str_bytes path.items) (map step_view steps.items) (leaf_type_view leaf_type.now)) }
-    ensures which { RefusedMemoryOnly result }
-{
-    let leaf_type = copied_type(alloc, leaf_type)?;
-    let repetition = greatest_repetition(steps.as_slice());
-    let definition = greatest_definition(steps.as_slice());
-    Ok(Leaf {
-        path,
-        steps,
-        leaf_type,
-        greatest_repetition: repetition,
-        greatest_definition: definition,
-    })
 }
 
 /// Adds the leaves at and below the field that this path leads to.
@@ -162,39 +137,64 @@ fn push_leaves(
     }
 }
 
-/// Adds the leaves below the fields of the group that this path leads to.
-#[cycle(leaves)]
-fn push_each(
-    alloc: Global,
-    out: &mut Vec<Leaf>,
-    path: &[RcStr],
-    steps: &[Step],
-    fields: &[Field],
-) -> R<()>
-    requires deep { length steps.now + tallest (field_views fields.now) ≤ 32 }
-    requires paired { length path.now ≡ length steps.now }
-    ensures adds { OnOk result (map leaf_view out.new.items ≡ map leaf_view out.old.items ++ leaves_along path.now steps.now (leaves_from 0 (field_views fields.now))) }
+/// The leaf at the end of a path.
+fn leaf_of(alloc: Global, path: Vec<RcStr>, steps: Vec<Step>, leaf_type: &LeafType) -> R<Leaf>
+    requires { length steps.items < 2 ^ 32 }
+    ensures leaf_is { IfOk result (λ l. leaf_view l ≡ leaf_at (map rc_str_bytes path.items) (map step_view steps.items) (leaf_type_view leaf_type.now)) }
     ensures which { RefusedMemoryOnly result }
 {
-    for (place, field) in fields.iter().enumerate() {
-        let down = path_down(alloc, path, field.name())?;
-        let step = Step {
-            place,
-            repetition: field.repetition(),
-        };
-        let steps = steps_down(alloc, steps, step)?;
-        push_leaves(alloc, out, down, steps, field)?;
-    }
-    Ok(())
+    let leaf_type = copied_type(alloc, leaf_type)?;
+    let repetition = greatest_repetition(steps.as_slice());
+    let definition = greatest_definition(steps.as_slice());
+    Ok(Leaf {
+        path,
+        steps,
+        leaf_type,
+        greatest_repetition: repetition,
+        greatest_definition: definition,
+    })
 }
 
-/// The leaves below the fields of a root.
-pub fn leaves_of(alloc: Global, fields: &[Field]) -> R<Vec<Leaf>>
-    requires { tallest (field_views fields.now) ≤ 32 }
-    ensures leaves_are { IfOk result (λ leaves. map leaf_view leaves.items ≡ leaves_of (field_views fields.now)) }
-    ensures which { RefusedMemoryOnly result }
+fn greatest_repetition(steps: &[Step]) -> u32
+    requires { length steps.now < 2 ^ 32 }
+    ensures { result ≡ greatest_repetition (map step_view steps.now) }
 {
-    let mut leaves = Vec::new(alloc);
-    push_each(alloc, &mut leaves, &[], &[], fields)?;
-    Ok(leaves)
+    let mut level = 0;
+    for step in steps {
+        level += repetitions(step.repetition);
+    }
+    level
+}
+
+/// What a field adds to the greatest repetition level of the leaves below it.
+fn repetitions(repetition: Repetition) -> u32
+    ensures level_is { result ≡ repetitions repetition }
+    ensures small { result ≤ 1 }
+{
+    match repetition {
+        Repetition::Required | Repetition::Optional => 0,
+        Repetition::Repeated => 1,
+    }
+}
+
+fn greatest_definition(steps: &[Step]) -> u32
+    requires { length steps.now < 2 ^ 32 }
+    ensures { result ≡ greatest_definition (map step_view steps.now) }
+{
+    let mut level = 0;
+    for step in steps {
+        level += definitions(step.repetition);
+    }
+    level
+}
+
+/// What a field adds to the greatest definition level of the leaves below it.
+fn definitions(repetition: Repetition) -> u32
+    ensures level_is { result ≡ definitions repetition }
+    ensures small { result ≤ 1 }
+{
+    match repetition {
+        Repetition::Required => 0,
+        Repetition::Optional | Repetition::Repeated => 1,
+    }
 }

@@ -110,17 +110,6 @@ pub fn plain_order(kind: Kind) -> Order
     }
 }
 
-/// Compares as the unsigned numbers of the same bits.
-fn compare_unsigned(a: i64, b: i64) -> Ordering
-    ensures { result ≡ unsigned_cmp a b }
-{
-    match (a < 0, b < 0) {
-        (false, true) => Ordering::Less,
-        (true, false) => Ordering::Greater,
-        _ => a.cmp(&b),
-    }
-}
-
 /// How two borrowed values compare in an order. There is no answer without an order, nor where a value is
 /// null or of a type that the order does not compare. Takes no memory, and time linear in the bytes.
 pub fn compare_refs(order: Option<Order>, a: ValueRef<'_>, b: ValueRef<'_>) -> Option<Ordering>
@@ -132,6 +121,17 @@ pub fn compare_refs(order: Option<Order>, a: ValueRef<'_>, b: ValueRef<'_>) -> O
         (Order::FalseFirst, ValueRef::Bool(a), ValueRef::Bool(b)) => Some(a.cmp(&b)),
         (Order::Bytewise, ValueRef::Bytes(a), ValueRef::Bytes(b)) => Some(a.cmp(b)),
         _ => None,
+    }
+}
+
+/// Compares as the unsigned numbers of the same bits.
+fn compare_unsigned(a: i64, b: i64) -> Ordering
+    ensures { result ≡ unsigned_cmp a b }
+{
+    match (a < 0, b < 0) {
+        (false, true) => Ordering::Less,
+        (true, false) => Ordering::Greater,
+        _ => a.cmp(&b),
     }
 }
 

@@ -36,36 +36,6 @@ pub fn children(element: &Element) -> usize
     }
 }
 
-/// Whether an element may say that it has this many children: a leaf none, a group some.
-fn may_have(element: &Element) -> bool
-    ensures { result ≡ may_have element.now.kind element.now.num_children }
-{
-    match (element.kind, element.num_children) {
-        (Some(_), None) => true,
-        (Some(_), Some(count)) => count == 0,
-        (None, Some(count)) => count > 0,
-        (None, None) => false,
-    }
-}
-
-/// How many trees a list is, one after the other, where each element has the children that it says.
-fn count_trees(elements: &[Element]) -> Option<usize>
-    ensures counted { let seen = elements_view elements.now in MatchOption result (well_formed seen ≡ false) (λ n. (well_formed seen ≡ true) × (n ≡ count_branches (forest seen))) }
-{
-    let mut trees = 0;
-    let mut at = elements.len();
-    while at > 0 {
-        at -= 1;
-        let element = &elements[at];
-        let below = children(element);
-        if !may_have(element) || trees < below {
-            return None;
-        }
-        trees = trees - below + 1;
-    }
-    Some(trees)
-}
-
 /// How many elements have a type.
 pub fn count_typed(elements: &[Element]) -> usize
     ensures { result ≡ count_typed (elements_view elements.now) }
@@ -77,18 +47,6 @@ pub fn count_typed(elements: &[Element]) -> usize
         }
     }
     count
-}
-
-impl Field {
-    /// Its name.
-    pub fn name(&self) -> &str
-        ensures { result.now ≡ name_of (field_view self.now) }
-    {
-        match self {
-            Field::Leaf { name, .. } => name.as_str(),
-            Field::Group { name, .. } => name.as_str(),
-        }
-    }
 }
 
 /// Whether no two of the fields have one name. Each name is looked up, in order, among those after it: for n
@@ -106,6 +64,73 @@ pub fn names_differ(alloc: Global, fields: &[Field]) -> R<bool>
         }
     }
     Ok(true)
+}
+
+/// `count` fields that stand one after the other, the first at this place of the list, and the place
+/// after them.
+#[cycle(reading)]
+pub fn read_fields(
+    alloc: Global,
+    elements: &[Element],
+    at: usize,
+    count: usize,
+    deep: u32,
+) -> R<(Vec<Field>, usize)>
+    requires enough { count ≤ count_branches (trees_from at elements.now) }
+    requires well_formed { well_formed (elements_view (drop at elements.now)) ≡ true }
+    ensures stands { IfOk result (λ x. AreRead deep (take_branches count (trees_from at elements.now)) (field_views x.0.items)) }
+    ensures remaining { IfOk result (λ x. trees_from x.1 elements.now ≡ drop_branches count (trees_from at elements.now)) }
+    ensures well_formed { IfOk result (λ x. well_formed (elements_view (drop x.1 elements.now)) ≡ true) }
+    ensures which { IfErr result (IsFaultAmong deep (take_branches count (trees_from at elements.now))) }
+{
+    let mut fields = Vec::new(alloc);
+    let mut at = at;
+    for _ in 0..count {
+        let (field, next) = read_field(alloc, elements, at, deep)?;
+        fields.push(field)?;
+        at = next;
+    }
+    Ok((fields, at))
+}
+
+impl Field {
+    /// Its name.
+    pub fn name(&self) -> &str
+        ensures { result.now ≡ name_of (field_view self.now) }
+    {
+        match self {
+            Field::Leaf { name, .. } => name.as_str(),
+            Field::Group { name, .. } => name.as_str(),
+        }
+    }
+}
+
+/// The field at a place of the list, with at most `deep` fields on a path, and the place after it.
+#[cycle(reading)]
+fn read_field(alloc: Global, elements: &[Element], at: usize, deep: u32) -> R<(Field, usize)>
+    requires within { at < length elements.now }
+    requires well_formed { well_formed (elements_view (drop at elements.now)) ≡ true }
+    ensures stands { IfOk result (λ x. OnFirst (trees_from at elements.now) (λ b bs. IsRead deep b (field_view x.0) × (trees_from x.1 elements.now ≡ bs))) }
+    ensures well_formed { IfOk result (λ x. well_formed (elements_view (drop x.1 elements.now)) ≡ true) }
+    ensures which { IfErr result (λ e. OnFirst (trees_from at elements.now) (λ b bs. IsFaultOf deep b e)) }
+{
+    let element = &elements[at];
+    if deep == 0 {
+        return Err(Refusal::Limit);
+    }
+    let name = name_of(alloc, element)?;
+    let Some(repetition) = repetition_of(element.repetition_type) else {
+        return Err(Refusal::Schema);
+    };
+    if let Some(number) = element.kind {
+        return Ok((leaf(alloc, element, name, repetition, number)?, at + 1));
+    }
+    let (fields, next) = match read_fields(alloc, elements, at + 1, children(element), deep - 1) {
+        Ok(x) => x,
+        Err(e) => return Err(inside(alloc, name.as_str(), e)),
+    };
+    let field = group(alloc, element, name, repetition, fields)?;
+    Ok((field, next))
 }
 
 /// The refusal of something inside a group of this name.
@@ -147,71 +172,6 @@ fn group(
     })
 }
 
-/// The field at a place of the list, with at most `deep` fields on a path, and the place after it.
-#[cycle(reading)]
-fn read_field(alloc: Global, elements: &[Element], at: usize, deep: u32) -> R<(Field, usize)>
-    requires within { at < length elements.now }
-    requires well_formed { well_formed (elements_view (drop at elements.now)) ≡ true }
-    ensures stands { IfOk result (λ x. OnFirst (trees_from at elements.now) (λ b bs. IsRead deep b (field_view x.0) × (trees_from x.1 elements.now ≡ bs))) }
-    ensures well_formed { IfOk result (λ x. well_formed (elements_view (drop x.1 elements.now)) ≡ true) }
-    ensures which { IfErr result (λ e. OnFirst (trees_from at elements.now) (λ b bs. IsFaultOf deep b e)) }
-{
-    let element = &elements[at];
-    if deep == 0 {
-        return Err(Refusal::Limit);
-    }
-    let name = name_of(alloc, element)?;
-    let Some(repetition) = repetition_of(element.repetition_type) else {
-        return Err(Refusal::Schema);
-    };
-    if let Some(number) = element.kind {
-        return Ok((leaf(alloc, element, name, repetition, number)?, at + 1));
-    }
-    let (fields, next) = match read_fields(alloc, elements, at + 1, children(element), deep - 1) {
-        Ok(x) => x,
-        Err(e) => return Err(inside(alloc, name.as_str(), e)),
-    };
-    let field = group(alloc, element, name, repetition, fields)?;
-    Ok((field, next))
-}
-
-/// `count` fields that stand one after the other, the first at this place of the list, and the place
-/// after them.
-#[cycle(reading)]
-pub fn read_fields(
-    alloc: Global,
-    elements: &[Element],
-    at: usize,
-    count: usize,
-    deep: u32,
-) -> R<(Vec<Field>, usize)>
-    requires enough { count ≤ count_branches (trees_from at elements.now) }
-    requires well_formed { well_formed (elements_view (drop at elements.now)) ≡ true }
-    ensures stands { IfOk result (λ x. AreRead deep (take_branches count (trees_from at elements.now)) (field_views x.0.items)) }
-    ensures remaining { IfOk result (λ x. trees_from x.1 elements.now ≡ drop_branches count (trees_from at elements.now)) }
-    ensures well_formed { IfOk result (λ x. well_formed (elements_view (drop x.1 elements.now)) ≡ true) }
-    ensures which { IfErr result (IsFaultAmong deep (take_branches count (trees_from at elements.now))) }
-{
-    let mut fields = Vec::new(alloc);
-    let mut at = at;
-    for _ in 0..count {
-        let (field, next) = read_field(alloc, elements, at, deep)?;
-        fields.push(field)?;
-        at = next;
-    }
-    Ok((fields, at))
-}
-
-/// Whether the list is one tree, depth first, whose root is a group. Takes no memory.
-fn is_tree(elements: &[Element]) -> bool
-    ensures { IsTrue result ↔ HasTree (elements_view elements.now) }
-{
-    let Some((root, _)) = elements.split_first() else {
-        return false;
-    };
-    root.kind.is_none() && count_trees(elements) == Some(1)
-}
-
 /// The fields of the root of a list of elements.
 pub fn fields_of(alloc: Global, elements: &[Element]) -> R<Vec<Field>>
     ensures stands { IfOk result (λ fields. IsSchemaOf (elements_view elements.now) (field_views fields.items)) }
@@ -231,4 +191,44 @@ pub fn fields_of(alloc: Global, elements: &[Element]) -> R<Vec<Field>>
         return Err(Refusal::Schema);
     }
     Ok(fields)
+}
+
+/// Whether the list is one tree, depth first, whose root is a group. Takes no memory.
+fn is_tree(elements: &[Element]) -> bool
+    ensures { IsTrue result ↔ HasTree (elements_view elements.now) }
+{
+    let Some((root, _)) = elements.split_first() else {
+        return false;
+    };
+    root.kind.is_none() && count_trees(elements) == Some(1)
+}
+
+/// How many trees a list is, one after the other, where each element has the children that it says.
+fn count_trees(elements: &[Element]) -> Option<usize>
+    ensures counted { let seen = elements_view elements.now in MatchOption result (well_formed seen ≡ false) (λ n. (well_formed seen ≡ true) × (n ≡ count_branches (forest seen))) }
+{
+    let mut trees = 0;
+    let mut at = elements.len();
+    while at > 0 {
+        at -= 1;
+        let element = &elements[at];
+        let below = children(element);
+        if !may_have(element) || trees < below {
+            return None;
+        }
+        trees = trees - below + 1;
+    }
+    Some(trees)
+}
+
+/// Whether an element may say that it has this many children: a leaf none, a group some.
+fn may_have(element: &Element) -> bool
+    ensures { result ≡ may_have element.now.kind element.now.num_children }
+{
+    match (element.kind, element.num_children) {
+        (Some(_), None) => true,
+        (Some(_), Some(count)) => count == 0,
+        (None, Some(count)) => count > 0,
+        (None, None) => false,
+    }
 }

@@ -58,6 +58,16 @@ pub enum Value {
     List(Vec<Value>),
 }
 
+/// Copies of the values, in their order. Refused only for memory; time and room are linear in what the
+/// values hold.
+pub fn copied_values(alloc: Global, values: &[Value]) -> R<Vec<Value>>
+    ensures copies { IfOk result (λ copies. map view copies.items ≡ map view values.now) }
+    ensures which { RefusedMemoryOnly result }
+{
+    let copies = copies(alloc, values)?;
+    Ok(copies)
+}
+
 #[cycle(copy)]
 fn copies(alloc: Global, values: &[Value]) -> Result<Vec<Value>, AllocError>
     ensures { IfOk result (λ copies. map view copies.items ≡ map view values.now) }
@@ -92,16 +102,6 @@ fn copy(alloc: Global, value: &Value) -> Result<Value, AllocError>
     }
 }
 
-/// Copies of the values, in their order. Refused only for memory; time and room are linear in what the
-/// values hold.
-pub fn copied_values(alloc: Global, values: &[Value]) -> R<Vec<Value>>
-    ensures copies { IfOk result (λ copies. map view copies.items ≡ map view values.now) }
-    ensures which { RefusedMemoryOnly result }
-{
-    let copies = copies(alloc, values)?;
-    Ok(copies)
-}
-
 impl Value {
     /// A copy, with all that is in it. Refused only for memory; time and room are linear in what the
     /// value holds.
@@ -112,22 +112,6 @@ impl Value {
         let copy = copy(alloc, self)?;
         Ok(copy)
     }
-}
-
-/// Whether the values are pairwise the same.
-#[cycle(same)]
-fn same_all(a: &[Value], b: &[Value]) -> bool
-    ensures { IsTrue result ↔ (views a.now ≡ views b.now) }
-{
-    if a.len() != b.len() {
-        return false;
-    }
-    for (i, value) in a.iter().enumerate() {
-        if !same(value, &b[i]) {
-            return false;
-        }
-    }
-    true
 }
 
 /// Whether two values are the same, with all that is in them. Takes no memory, and time linear in the
@@ -145,4 +129,20 @@ pub fn same(a: &Value, b: &Value) -> bool
         (Value::List(a), Value::List(b)) => same_all(a.as_slice(), b.as_slice()),
         _ => false,
     }
+}
+
+/// Whether the values are pairwise the same.
+#[cycle(same)]
+fn same_all(a: &[Value], b: &[Value]) -> bool
+    ensures { IsTrue result ↔ (views a.now ≡ views b.now) }
+{
+    if a.len() != b.len() {
+        return false;
+    }
+    for (i, value) in a.iter().enumerate() {
+        if !same(value, &b[i]) {
+            return false;
+        }
+    }
+    true
 }

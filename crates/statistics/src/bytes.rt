@@ -19,6 +19,19 @@ pub struct BoundBytes {
     pub max: Option<Vec<u8>>,
 }
 
+/// Some bytes stand for at most one bound.
+pub fn one_bound()
+    ensures { BoundsAreOne }
+{
+    one_list();
+}
+
+/// A value that is kept as a bound has at most 64 bytes.
+#[tactic(auto, using(crate::proofs::ShortBounds::kept_bounds_are_short))]
+pub fn kept_bounds_are_short()
+    ensures { KeptBoundsAreShort }
+{}
+
 /// A copy of a text.
 fn copied_text(alloc: Global, text: &[u8]) -> R<Vec<u8>>
     ensures same { IfOk result (λ copy. copy.items ≡ text.now) }
@@ -100,32 +113,6 @@ fn only_value(values: Vec<Value>) -> R<Value>
     }
 }
 
-/// The value that is the whole of the bytes.
-fn value_from_bytes(alloc: Global, kind: Kind, text: &[u8]) -> R<Value>
-    ensures stands { IfOk result (λ v. IsBound kind text.now (view v)) }
-    ensures only { OnFault result ((v : ValueTree) → IsBound kind text.now v → ⊥) }
-    ensures limit { result ≡ Err Refusal.Limit → IsLengthOverLimit kind }
-    ensures which { RefusedOnly (λ e. (e ≡ Refusal.Truncated) ⊎ ((e ≡ Refusal.Value) ⊎ (e ≡ Refusal.Limit))) result }
-{
-    match kind {
-        Kind::ByteArray => Ok(Value::Bytes(copied_text(alloc, text)?)),
-        _ => plain_from_bytes(alloc, kind, text),
-    }
-}
-
-/// The bound that some bytes are, where they are there.
-fn bound_from_bytes(alloc: Global, kind: Kind, text: Option<&[u8]>) -> R<Option<Value>>
-    ensures stands { IfOk result (λ bound. IsBoundAt kind (option_map (λ x. x.now) text.entry) (option_map view bound)) }
-    ensures only { OnFault result ((bound : Option ValueTree) → IsBoundAt kind (option_map (λ x. x.now) text.entry) bound → ⊥) }
-    ensures limit { result ≡ Err Refusal.Limit → IsLengthOverLimit kind }
-    ensures which { RefusedOnly (λ e. (e ≡ Refusal.Truncated) ⊎ ((e ≡ Refusal.Value) ⊎ (e ≡ Refusal.Limit))) result }
-{
-    match text {
-        None => Ok(None),
-        Some(text) => Ok(Some(value_from_bytes(alloc, kind, text)?)),
-    }
-}
-
 impl Stats {
     /// The bounds as bytes: PLAIN values of the type, a BYTE_ARRAY without its length.
     ///
@@ -167,15 +154,28 @@ impl Stats {
     }
 }
 
-/// Some bytes stand for at most one bound.
-pub fn one_bound()
-    ensures { BoundsAreOne }
+/// The value that is the whole of the bytes.
+fn value_from_bytes(alloc: Global, kind: Kind, text: &[u8]) -> R<Value>
+    ensures stands { IfOk result (λ v. IsBound kind text.now (view v)) }
+    ensures only { OnFault result ((v : ValueTree) → IsBound kind text.now v → ⊥) }
+    ensures limit { result ≡ Err Refusal.Limit → IsLengthOverLimit kind }
+    ensures which { RefusedOnly (λ e. (e ≡ Refusal.Truncated) ⊎ ((e ≡ Refusal.Value) ⊎ (e ≡ Refusal.Limit))) result }
 {
-    one_list();
+    match kind {
+        Kind::ByteArray => Ok(Value::Bytes(copied_text(alloc, text)?)),
+        _ => plain_from_bytes(alloc, kind, text),
+    }
 }
 
-/// A value that is kept as a bound has at most 64 bytes.
-#[tactic(auto, using(crate::proofs::ShortBounds::kept_bounds_are_short))]
-pub fn kept_bounds_are_short()
-    ensures { KeptBoundsAreShort }
-{}
+/// The bound that some bytes are, where they are there.
+fn bound_from_bytes(alloc: Global, kind: Kind, text: Option<&[u8]>) -> R<Option<Value>>
+    ensures stands { IfOk result (λ bound. IsBoundAt kind (option_map (λ x. x.now) text.entry) (option_map view bound)) }
+    ensures only { OnFault result ((bound : Option ValueTree) → IsBoundAt kind (option_map (λ x. x.now) text.entry) bound → ⊥) }
+    ensures limit { result ≡ Err Refusal.Limit → IsLengthOverLimit kind }
+    ensures which { RefusedOnly (λ e. (e ≡ Refusal.Truncated) ⊎ ((e ≡ Refusal.Value) ⊎ (e ≡ Refusal.Limit))) result }
+{
+    match text {
+        None => Ok(None),
+        Some(text) => Ok(Some(value_from_bytes(alloc, kind, text)?)),
+    }
+}

@@ -8,6 +8,23 @@ use crate::tree::{Field, Node, Tree};
 use bits::R;
 use std::alloc::Global;
 
+/// A copy of the fields. It fails only when out of memory.
+#[cycle(copied)]
+pub fn copied_fields(alloc: Global, fields: &[Field]) -> R<Vec<Field>>
+    ensures same { IfOk result (λ copies. map field_view copies.items ≡ map field_view fields.now) }
+    ensures which { RefusedMemoryOnly result }
+{
+    let mut copies = Vec::with_capacity(alloc, fields.len())?;
+    for field in fields {
+        let value = copied_node(alloc, &field.value)?;
+        copies.push(Field {
+            id: field.id,
+            value,
+        })?;
+    }
+    Ok(copies)
+}
+
 #[cycle(copied)]
 fn copied_node(alloc: Global, node: &Node) -> R<Node>
     ensures same { IfOk result (λ copy. view copy ≡ view node.now) }
@@ -67,23 +84,6 @@ fn copied_pairs(alloc: Global, pairs: &[(Node, Node)]) -> R<Vec<(Node, Node)>>
         let key = copied_node(alloc, key)?;
         let value = copied_node(alloc, value)?;
         copies.push((key, value))?;
-    }
-    Ok(copies)
-}
-
-/// A copy of the fields. It fails only when out of memory.
-#[cycle(copied)]
-pub fn copied_fields(alloc: Global, fields: &[Field]) -> R<Vec<Field>>
-    ensures same { IfOk result (λ copies. map field_view copies.items ≡ map field_view fields.now) }
-    ensures which { RefusedMemoryOnly result }
-{
-    let mut copies = Vec::with_capacity(alloc, fields.len())?;
-    for field in fields {
-        let value = copied_node(alloc, &field.value)?;
-        copies.push(Field {
-            id: field.id,
-            value,
-        })?;
     }
     Ok(copies)
 }

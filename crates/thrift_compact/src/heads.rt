@@ -101,18 +101,6 @@ pub(crate) fn put_map_head(keys: u8, values: u8, size: usize, out: &mut Vec<u8>)
     Ok(out.push(16 * keys + values)?)
 }
 
-/// How far an id is above the previous one, where a short header has it.
-fn short_step(previous: i16, id: i16) -> Option<u8>
-    ensures { MatchOption result (is_step (id -ℤ previous) ≡ false) (λ step. (is_step (id -ℤ previous) ≡ true) × IsStep previous id step) }
-{
-    let step = i32::from(id) - i32::from(previous);
-    if step >= 1 && step <= 15 {
-        Some(step as u8)
-    } else {
-        None
-    }
-}
-
 /// The header of a field after the previous one.
 pub(crate) fn put_field_head(previous: i16, id: i16, code: u8, out: &mut Vec<u8>) -> R<()>
     requires low { 1 ≤ code }
@@ -126,4 +114,16 @@ pub(crate) fn put_field_head(previous: i16, id: i16, code: u8, out: &mut Vec<u8>
     }
     out.push(code)?;
     put_signed(i64::from(id), out)
+}
+
+/// How far an id is above the previous one, where a short header has it.
+fn short_step(previous: i16, id: i16) -> Option<u8>
+    ensures { MatchOption result (is_step (id -ℤ previous) ≡ false) (λ step. (is_step (id -ℤ previous) ≡ true) × IsStep previous id step) }
+{
+    let step = i32::from(id) - i32::from(previous);
+    if step >= 1 && step <= 15 {
+        Some(step as u8)
+    } else {
+        None
+    }
 }

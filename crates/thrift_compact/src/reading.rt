@@ -14,6 +14,52 @@ use crate::tree::{DEEPEST, ElementType, Field, Node, Tree};
 use bits::{R, Refusal, read_uleb};
 use std::alloc::Global;
 
+/// The struct at the start of `bytes`, and how many bytes it takes.
+///
+/// The fields come in the order in which they stand. Lists, sets, maps and structs may nest up to
+/// 32 levels in it. What follows it is not looked at. Time and memory are linear in the bytes
+/// that it takes.
+///
+/// Refused Truncated where the bytes end within it or a size is above the number of remaining bytes,
+/// and Thrift where a type is none, a number does not fit its type, a field's id does not fit 16
+/// bits, or it nests deeper: no struct is there then, whatever follows the bytes. So a struct that
+/// is cut is refused Truncated. (Thrift's compact protocol, "Struct Encoding".)
+pub fn read_struct(alloc: Global, bytes: &[u8]) -> R<(Tree, usize)>
+    ensures stands { IfOk result (λ x. IsThrift bytes.now (tree_view x.0) x.1) }
+    ensures within { IfOk result (λ x. x.1 ≤ length bytes.now) }
+    ensures only { OnFault result (NothingStands (IsThrift bytes.now)) }
+    ensures which { RefusedOnly IsOfBytes result }
+    ensures whatever_follows { (result ≡ Err Refusal.Thrift) → NothingStandsEver IsThrift bytes.now }
+{
+    let (fields, used) = fields_at(alloc, DEEPEST, bytes)?;
+    Ok((Tree { fields }, used))
+}
+
+/// Fields up to the byte that ends them.
+#[cycle(read)]
+fn fields_at(alloc: Global, left: u32, bytes: &[u8]) -> R<(Vec<Field>, usize)>
+    ensures stands { IfOk result (λ x. FieldsOf left bytes.now (field_views x.0.items) x.1) }
+    ensures within { IfOk result (λ x. x.1 ≤ length bytes.now) }
+    ensures which { RefusedOnly (IsRefusedFor (FieldsOf left) bytes.now) result }
+{
+    let mut fields = Vec::new(alloc);
+    let mut previous: i16 = 0;
+    let mut at = 0;
+    while at < bytes.len() {
+        if bytes[at] == 0 {
+            return Ok((fields, at + 1));
+        }
+        let (_, rest) = bytes.split_at(at);
+        let ((id, kind), head) = field_head_at(previous, rest)?;
+        let (_, rest) = bytes.split_at(at + head);
+        let (value, used) = value_at(alloc, kind, left, rest)?;
+        fields.push(Field { id, value })?;
+        previous = id;
+        at += head + used;
+    }
+    Err(Refusal::Truncated)
+}
+
 /// A value of this type, in which `left` more levels may nest.
 #[cycle(read)]
 fn value_at(alloc: Global, kind: ElementType, left: u32, bytes: &[u8]) -> R<(Node, usize)>
@@ -180,50 +226,4 @@ fn pairs_at(
         at += head + used;
     }
     Ok((pairs, at))
-}
-
-/// Fields up to the byte that ends them.
-#[cycle(read)]
-fn fields_at(alloc: Global, left: u32, bytes: &[u8]) -> R<(Vec<Field>, usize)>
-    ensures stands { IfOk result (λ x. FieldsOf left bytes.now (field_views x.0.items) x.1) }
-    ensures within { IfOk result (λ x. x.1 ≤ length bytes.now) }
-    ensures which { RefusedOnly (IsRefusedFor (FieldsOf left) bytes.now) result }
-{
-    let mut fields = Vec::new(alloc);
-    let mut previous: i16 = 0;
-    let mut at = 0;
-    while at < bytes.len() {
-        if bytes[at] == 0 {
-            return Ok((fields, at + 1));
-        }
-        let (_, rest) = bytes.split_at(at);
-        let ((id, kind), head) = field_head_at(previous, rest)?;
-        let (_, rest) = bytes.split_at(at + head);
-        let (value, used) = value_at(alloc, kind, left, rest)?;
-        fields.push(Field { id, value })?;
-        previous = id;
-        at += head + used;
-    }
-    Err(Refusal::Truncated)
-}
-
-/// The struct at the start of `bytes`, and how many bytes it takes.
-///
-/// The fields come in the order in which they stand. Lists, sets, maps and structs may nest up to
-/// 32 levels in it. What follows it is not looked at. Time and memory are linear in the bytes
-/// that it takes.
-///
-/// Refused Truncated where the bytes end within it or a size is above the number of remaining bytes,
-/// and Thrift where a type is none, a number does not fit its type, a field's id does not fit 16
-/// bits, or it nests deeper: no struct is there then, whatever follows the bytes. So a struct that
-/// is cut is refused Truncated. (Thrift's compact protocol, "Struct Encoding".)
-pub fn read_struct(alloc: Global, bytes: &[u8]) -> R<(Tree, usize)>
-    ensures stands { IfOk result (λ x. IsThrift bytes.now (tree_view x.0) x.1) }
-    ensures within { IfOk result (λ x. x.1 ≤ length bytes.now) }
-    ensures only { OnFault result (NothingStands (IsThrift bytes.now)) }
-    ensures which { RefusedOnly IsOfBytes result }
-    ensures whatever_follows { (result ≡ Err Refusal.Thrift) → NothingStandsEver IsThrift bytes.now }
-{
-    let (fields, used) = fields_at(alloc, DEEPEST, bytes)?;
-    Ok((Tree { fields }, used))
 }

@@ -13,11 +13,26 @@ use crate::writing::is_element;
 /// The types that a list, a set or a map can announce are below this one.
 const TYPES: u8 = 16;
 
-/// Whether a list or a set of this type may hold the value.
-fn may_hold(code: u8, node: &Node) -> bool
-    ensures { result ≡ is_of_type code (view node.now) }
+/// Whether some bytes have the struct, and lists, sets, maps and structs nest in it at most `deep`
+/// levels. With 32 for `deep` it is true exactly when [`write_struct`](crate::write_struct) is not
+/// refused Thrift. Takes no memory, and time linear in the tree. (Thrift's compact protocol, "Struct Encoding".)
+pub fn has_bytes(tree: &Tree, deep: u32) -> bool
+    ensures { let seen = tree_view tree.now in IsTrue result ↔ (fields_nest seen ≤ deep) × HasBytes seen }
 {
-    is_element(code, node)
+    can_write_fields(deep.min(DEEPEST), tree.fields.as_slice())
+}
+
+/// Whether a struct can be written that has these fields, and its values nest at most `deep` levels.
+#[cycle(can_write)]
+fn can_write_fields(deep: u32, fields: &[Field]) -> bool
+    ensures { result ≡ can_write_fields deep (field_views fields.now) }
+{
+    for field in fields {
+        if !is_field(field) || !can_write(deep, &field.value) {
+            return false;
+        }
+    }
+    true
 }
 
 /// Whether a struct may have the field: its value has a type.
@@ -27,21 +42,6 @@ fn is_field(field: &Field) -> bool
     // For the proof: an id is within its type.
     let _id = field.id;
     type_code(&field.value) < TYPES
-}
-
-/// Whether there can be a list or a set of this type with these elements.
-fn is_list(code: u8, nodes: &[Node]) -> bool
-    ensures { result ≡ is_list code (count (views nodes.now)) }
-{
-    code < TYPES
-}
-
-/// Whether there can be a map of these types with these pairs.
-#[tactic(auto, using(crate::proofs::Writes::count_pair_views, crate::proofs::Passed::pairs_told), unfolding(crate::specs::inner::Writable::is_map))]
-fn is_map(key: u8, value: u8, pairs: &[(Node, Node)]) -> bool
-    ensures { result ≡ is_map key value (count_pairs (pair_views pairs.now)) }
-{
-    key < TYPES && value < TYPES && !pairs.is_empty()
 }
 
 /// Whether a value can be written, and nests at most `deep` levels. It looks no deeper.
@@ -98,6 +98,13 @@ fn can_write(deep: u32, node: &Node) -> bool
     }
 }
 
+/// Whether there can be a list or a set of this type with these elements.
+fn is_list(code: u8, nodes: &[Node]) -> bool
+    ensures { result ≡ is_list code (count (views nodes.now)) }
+{
+    code < TYPES
+}
+
 /// Whether a list or a set of this type can have these elements.
 #[cycle(can_write)]
 fn can_write_each(deep: u32, code: u8, nodes: &[Node]) -> bool
@@ -109,6 +116,21 @@ fn can_write_each(deep: u32, code: u8, nodes: &[Node]) -> bool
         }
     }
     true
+}
+
+/// Whether a list or a set of this type may hold the value.
+fn may_hold(code: u8, node: &Node) -> bool
+    ensures { result ≡ is_of_type code (view node.now) }
+{
+    is_element(code, node)
+}
+
+/// Whether there can be a map of these types with these pairs.
+#[tactic(auto, using(crate::proofs::Writes::count_pair_views, crate::proofs::Passed::pairs_told), unfolding(crate::specs::inner::Writable::is_map))]
+fn is_map(key: u8, value: u8, pairs: &[(Node, Node)]) -> bool
+    ensures { result ≡ is_map key value (count_pairs (pair_views pairs.now)) }
+{
+    key < TYPES && value < TYPES && !pairs.is_empty()
 }
 
 /// Whether a map of these types can have these pairs.
@@ -124,26 +146,4 @@ fn can_write_pairs(deep: u32, keys: u8, values: u8, pairs: &[(Node, Node)]) -> b
         }
     }
     true
-}
-
-/// Whether a struct can be written that has these fields, and its values nest at most `deep` levels.
-#[cycle(can_write)]
-fn can_write_fields(deep: u32, fields: &[Field]) -> bool
-    ensures { result ≡ can_write_fields deep (field_views fields.now) }
-{
-    for field in fields {
-        if !is_field(field) || !can_write(deep, &field.value) {
-            return false;
-        }
-    }
-    true
-}
-
-/// Whether some bytes have the struct, and lists, sets, maps and structs nest in it at most `deep`
-/// levels. With 32 for `deep` it is true exactly when [`write_struct`](crate::write_struct) is not
-/// refused Thrift. Takes no memory, and time linear in the tree. (Thrift's compact protocol, "Struct Encoding".)
-pub fn has_bytes(tree: &Tree, deep: u32) -> bool
-    ensures { let seen = tree_view tree.now in IsTrue result ↔ (fields_nest seen ≤ deep) × HasBytes seen }
-{
-    can_write_fields(deep.min(DEEPEST), tree.fields.as_slice())
 }

@@ -25,6 +25,60 @@ pub(crate) fn is_element(code: u8, value: &Node) -> bool
     }
 }
 
+/// Writes the struct at the end of `out`: its fields in their order, with short headers where the
+/// id is 1 to 15 above the previous field's, and each number and size in its shortest form. No bytes
+/// that stand for the struct are fewer. Time is linear in the bytes that are written.
+///
+/// Refused Thrift where no bytes have this tree: a [`Node::Flag`] that is no element, a
+/// [`Node::Bool`] that is one, an element that does not have the announced type, a code above 15, a
+/// [`Node::Map`] without pairs, or more than 32 nested levels. Then, and when out of memory, `out` is
+/// unchanged. (Thrift's compact protocol, "Struct Encoding".)
+pub fn write_struct(tree: &Tree, out: &mut Vec<u8>) -> R<()>
+    ensures stands { OnOk result (AppendsStruct (tree_view tree.now) out.old.items out.new.items) }
+    ensures exact { OnOk result (length out.new.items ≡ length out.old.items + size_struct (tree_view tree.now)) }
+    ensures only { OnFault result ((bytes : List ℕ) (used : ℕ) → IsThrift bytes (tree_view tree.now) used → ⊥) }
+    ensures which { RefusedOnly (IsShapeless (fields_have_shape 32 (tree_view tree.now))) result }
+    ensures unchanged { OnErr result (out.new.items ≡ out.old.items) }
+{
+    let kept = out.len();
+    let done = put_fields(&tree.fields, DEEPEST, out);
+    if done.is_err() {
+        out.truncate(kept);
+    }
+    done
+}
+
+/// Fields and the byte that ends them.
+#[cycle(write)]
+fn put_fields(fields: &[Field], left: u32, out: &mut Vec<u8>) -> R<()>
+    ensures stands { OnOk result (Appends (SpellsFields left (field_views fields.now)) (size_struct (field_views fields.now)) out.old.items out.new.items) }
+    ensures which { RefusedOnly (IsWithoutBytes (SpellsFields left (field_views fields.now))) result }
+    ensures kept { Keeps out.old.items out.new.items }
+    ensures shape { RefusedOnly (IsShapeless (fields_have_shape left (field_views fields.now))) result }
+{
+    let mut previous: i16 = 0;
+    for field in fields {
+        put_field(previous, field, left, out)?;
+        previous = field.id;
+    }
+    Ok(out.push(0)?)
+}
+
+#[cycle(write)]
+fn put_field(previous: i16, field: &Field, left: u32, out: &mut Vec<u8>) -> R<()>
+    ensures stands { let seen = field_view field.now in OnOk result (AppendsField previous left seen.0 seen.1 out.old.items out.new.items) }
+    ensures which { let seen = field_view field.now in RefusedOnly (IsWithoutBytes (SpellsField previous left seen.0 seen.1)) result }
+    ensures kept { Keeps out.old.items out.new.items }
+    ensures shape { RefusedOnly (IsShapeless (is_member (view field.now.value) && has_shape left (view field.now.value))) result }
+{
+    let code = type_code(&field.value);
+    if code == 16 {
+        return Err(Refusal::Thrift);
+    }
+    put_field_head(previous, field.id, code, out)?;
+    put_value(&field.value, left, out)
+}
+
 /// A value without its type, in which `left` more levels may nest.
 #[cycle(write)]
 fn put_value(value: &Node, left: u32, out: &mut Vec<u8>) -> R<()>
@@ -48,33 +102,6 @@ fn put_value(value: &Node, left: u32, out: &mut Vec<u8>) -> R<()>
         Node::Map(keys, values, pairs) => put_map(keys.code(), values.code(), pairs, left, out),
         Node::Struct(fields) => put_struct(fields, left, out),
     }
-}
-
-/// A map without pairs.
-fn put_empty_map(left: u32, out: &mut Vec<u8>) -> R<()>
-    ensures stands { OnOk result (AppendsValue left empty_map out.old.items out.new.items) }
-    ensures which { RefusedOnly (IsWithoutBytes (SpellsValue left empty_map)) result }
-    ensures kept { Keeps out.old.items out.new.items }
-    ensures shape { RefusedOnly (IsShapeless (has_shape left empty_map)) result }
-{
-    if left == 0 {
-        return Err(Refusal::Thrift);
-    }
-    Ok(out.push(0)?)
-}
-
-/// A struct in another value.
-#[cycle(write)]
-fn put_struct(fields: &[Field], left: u32, out: &mut Vec<u8>) -> R<()>
-    ensures stands { OnOk result (AppendsValue left (struct (field_views fields.now)) out.old.items out.new.items) }
-    ensures which { RefusedOnly (IsWithoutBytes (SpellsValue left (struct (field_views fields.now)))) result }
-    ensures kept { Keeps out.old.items out.new.items }
-    ensures shape { RefusedOnly (IsShapeless (has_shape left (struct (field_views fields.now)))) result }
-{
-    if left == 0 {
-        return Err(Refusal::Thrift);
-    }
-    put_fields(fields, left - 1, out)
 }
 
 /// A list or a set.
@@ -118,6 +145,19 @@ fn put_element(code: u8, value: &Node, left: u32, out: &mut Vec<u8>) -> R<()>
     put_value(value, left, out)
 }
 
+/// A map without pairs.
+fn put_empty_map(left: u32, out: &mut Vec<u8>) -> R<()>
+    ensures stands { OnOk result (AppendsValue left empty_map out.old.items out.new.items) }
+    ensures which { RefusedOnly (IsWithoutBytes (SpellsValue left empty_map)) result }
+    ensures kept { Keeps out.old.items out.new.items }
+    ensures shape { RefusedOnly (IsShapeless (has_shape left empty_map)) result }
+{
+    if left == 0 {
+        return Err(Refusal::Thrift);
+    }
+    Ok(out.push(0)?)
+}
+
 /// A map with pairs.
 #[cycle(write)]
 fn put_map(keys: u8, values: u8, pairs: &[(Node, Node)], left: u32, out: &mut Vec<u8>) -> R<()>
@@ -157,56 +197,16 @@ fn put_pair(keys: u8, values: u8, pair: &(Node, Node), left: u32, out: &mut Vec<
     put_element(values, &pair.1, left, out)
 }
 
-/// Fields and the byte that ends them.
+/// A struct in another value.
 #[cycle(write)]
-fn put_fields(fields: &[Field], left: u32, out: &mut Vec<u8>) -> R<()>
-    ensures stands { OnOk result (Appends (SpellsFields left (field_views fields.now)) (size_struct (field_views fields.now)) out.old.items out.new.items) }
-    ensures which { RefusedOnly (IsWithoutBytes (SpellsFields left (field_views fields.now))) result }
+fn put_struct(fields: &[Field], left: u32, out: &mut Vec<u8>) -> R<()>
+    ensures stands { OnOk result (AppendsValue left (struct (field_views fields.now)) out.old.items out.new.items) }
+    ensures which { RefusedOnly (IsWithoutBytes (SpellsValue left (struct (field_views fields.now)))) result }
     ensures kept { Keeps out.old.items out.new.items }
-    ensures shape { RefusedOnly (IsShapeless (fields_have_shape left (field_views fields.now))) result }
+    ensures shape { RefusedOnly (IsShapeless (has_shape left (struct (field_views fields.now)))) result }
 {
-    let mut previous: i16 = 0;
-    for field in fields {
-        put_field(previous, field, left, out)?;
-        previous = field.id;
-    }
-    Ok(out.push(0)?)
-}
-
-#[cycle(write)]
-fn put_field(previous: i16, field: &Field, left: u32, out: &mut Vec<u8>) -> R<()>
-    ensures stands { let seen = field_view field.now in OnOk result (AppendsField previous left seen.0 seen.1 out.old.items out.new.items) }
-    ensures which { let seen = field_view field.now in RefusedOnly (IsWithoutBytes (SpellsField previous left seen.0 seen.1)) result }
-    ensures kept { Keeps out.old.items out.new.items }
-    ensures shape { RefusedOnly (IsShapeless (is_member (view field.now.value) && has_shape left (view field.now.value))) result }
-{
-    let code = type_code(&field.value);
-    if code == 16 {
+    if left == 0 {
         return Err(Refusal::Thrift);
     }
-    put_field_head(previous, field.id, code, out)?;
-    put_value(&field.value, left, out)
-}
-
-/// Writes the struct at the end of `out`: its fields in their order, with short headers where the
-/// id is 1 to 15 above the previous field's, and each number and size in its shortest form. No bytes
-/// that stand for the struct are fewer. Time is linear in the bytes that are written.
-///
-/// Refused Thrift where no bytes have this tree: a [`Node::Flag`] that is no element, a
-/// [`Node::Bool`] that is one, an element that does not have the announced type, a code above 15, a
-/// [`Node::Map`] without pairs, or more than 32 nested levels. Then, and when out of memory, `out` is
-/// unchanged. (Thrift's compact protocol, "Struct Encoding".)
-pub fn write_struct(tree: &Tree, out: &mut Vec<u8>) -> R<()>
-    ensures stands { OnOk result (AppendsStruct (tree_view tree.now) out.old.items out.new.items) }
-    ensures exact { OnOk result (length out.new.items ≡ length out.old.items + size_struct (tree_view tree.now)) }
-    ensures only { OnFault result ((bytes : List ℕ) (used : ℕ) → IsThrift bytes (tree_view tree.now) used → ⊥) }
-    ensures which { RefusedOnly (IsShapeless (fields_have_shape 32 (tree_view tree.now))) result }
-    ensures unchanged { OnErr result (out.new.items ≡ out.old.items) }
-{
-    let kept = out.len();
-    let done = put_fields(&tree.fields, DEEPEST, out);
-    if done.is_err() {
-        out.truncate(kept);
-    }
-    done
+    put_fields(fields, left - 1, out)
 }

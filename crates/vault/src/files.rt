@@ -40,17 +40,6 @@ pub(crate) fn make_folders<D: Disk>(disk: &mut D, path: &str) -> Result<(), Faul
     disk.make_folder(folder)
 }
 
-/// Syncs a file, once: of one that could not be synced a second sync promises nothing.
-fn sync_once<D: Disk>(disk: &mut D, path: &str) -> Result<(), Fault>
-    ensures effect { (D.state disk.old).honest → Synced path.now (D.state disk.old) (D.state disk.new) result }
-    ensures which { IfErr result (λ e. e ≢ Fault.Exists) }
-    ensures counts { CountsFailure result (D.state disk.old).failures (D.state disk.new).failures }
-    ensures reads { (D.state disk.new).reads ≡ (D.state disk.old).reads }
-    ensures honest { (D.state disk.old).honest ↔ (D.state disk.new).honest }
-{
-    disk.sync(path)
-}
-
 /// Writes a file of its own node where no name is, and syncs it once.
 pub(crate) fn write_new<D: Disk>(disk: &mut D, path: &str, bytes: &[u8]) -> Result<(), Fault>
     requires { path.now ≢ root_path }
@@ -62,6 +51,17 @@ pub(crate) fn write_new<D: Disk>(disk: &mut D, path: &str, bytes: &[u8]) -> Resu
     disk.create(path)?;
     disk.append(path, bytes)?;
     sync_once(disk, path)
+}
+
+/// Syncs a file, once: of one that could not be synced a second sync promises nothing.
+fn sync_once<D: Disk>(disk: &mut D, path: &str) -> Result<(), Fault>
+    ensures effect { (D.state disk.old).honest → Synced path.now (D.state disk.old) (D.state disk.new) result }
+    ensures which { IfErr result (λ e. e ≢ Fault.Exists) }
+    ensures counts { CountsFailure result (D.state disk.old).failures (D.state disk.new).failures }
+    ensures reads { (D.state disk.new).reads ≡ (D.state disk.old).reads }
+    ensures honest { (D.state disk.old).honest ↔ (D.state disk.new).honest }
+{
+    disk.sync(path)
 }
 
 /// Syncs the folder of a path and the folders above, up to the dataset's own.
