@@ -53,9 +53,9 @@ mutual
 pub one_step : (old new : Frames) (t : Token) → new ≡ step old t → Adds (λ ts. old ≡ run no_frames ts) (λ ts. new ≡ run no_frames ts) (t ∷ [])
 one_step old new t is before h = is ∙ ap (λ f. step f t) h ∙ sym (run_append no_frames before (t ∷ []))
 
--- a builder that held nothing holds the values
-pub all_shown : (old new : Frames) (vs : ValueTrees) → old ≡ no_frames → Adds (λ ts. old ≡ run no_frames ts) (λ ts. new ≡ run no_frames ts) (tokens_each vs) → new.here ≡ vs
-all_shown old new vs none adds = ap (λ f. f.here) (adds [] none ∙ run_values vs no_values [])
+-- a builder that was shown values holds them
+pub all_shown : (f : Frames) (vs : ValueTrees) → f ≡ run no_frames (tokens_each vs) → f.here ≡ vs
+all_shown f vs shown = ap (λ (g : Frames). g.here) (shown ∙ run_values vs no_values [])
 
 -- a vector in which the innermost are last
 pub innermost : (vs : List (Vec Value)) (v : Vec Value) → reverse (map vec_views (vs ++ v ∷ [])) ≡ vec_views v ∷ reverse (map vec_views vs)

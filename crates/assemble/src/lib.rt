@@ -14,6 +14,7 @@ mod sink;
 mod source;
 
 pub use cursor::Cursor;
+pub use row_builder::RowBuilder;
 pub use rows::{assemble, assemble_from, count_rows, next_row, next_row_to};
 pub use sink::{Discard, RowSink};
 pub use source::EntrySource;

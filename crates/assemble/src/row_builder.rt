@@ -1,15 +1,17 @@
 //! Rows of owned values, made of what a sink is shown.
 
-ghost use Rattle.std.specs.Prelude.{◌≡◌, IfOk, OnOk, option_map};
-ghost use Rattle.schema.specs.Values.{views};
-ghost use Rattle.assemble.specs.inner.Building.{builder_shows, frames_of, no_frames, begun, IsEnded};
+ghost use Rattle.std.specs.Prelude.{◌≡◌, [], IfOk, OnOk, option_map};
+ghost use Rattle.schema.specs.Values.{ValueTrees, views};
+ghost use Rattle.schema.specs.Views.{row_view};
+ghost use Rattle.assemble.specs.Sinks.{tokens_each};
+ghost use Rattle.assemble.specs.inner.Building.{builder_shows, frames_of, begun, IsEnded};
 
 use crate::sink::RowSink;
 use schema::{Row, Value, ValueRef};
 use std::alloc::{AllocError, Global};
 use std::mem;
 
-/// Keeps the values that it is shown. The bytes of each value are copied once.
+/// A sink that makes a row of what it is shown. The bytes of each value are copied once.
 #[derive(Debug, Drop)]
 pub struct RowBuilder {
     alloc: Global,
@@ -19,9 +21,9 @@ pub struct RowBuilder {
 }
 
 impl RowBuilder {
-    /// Nothing is shown yet. There is room for this many fields.
+    /// A sink that was shown nothing yet, with room for this many fields. It fails only when out of memory.
     pub fn new(alloc: Global, fields: usize) -> Result<RowBuilder, AllocError>
-        ensures empty { IfOk result (λ builder. frames_of builder ≡ no_frames) }
+        ensures empty { IfOk result (λ builder. builder_shows builder []) }
     {
         Ok(RowBuilder {
             alloc,
@@ -30,9 +32,9 @@ impl RowBuilder {
         })
     }
 
-    /// The row of the values that were shown.
+    /// The row whose values were shown, each group and list of them to its end.
     pub fn into_row(self) -> Row
-        ensures values { result.values ≡ self.values }
+        ensures row { (values : ValueTrees) → builder_shows self (tokens_each values) → row_view result ≡ values }
     {
         Row {
             values: self.values,

@@ -1,18 +1,24 @@
 -- Rows that are taken one by one.
 use Rattle.std.proofs.Common.{◌≡◌, List, [], ◌∷◌, ◌++◌, sym, ap, ◌∙◌, Result, Ok, Err, append_assoc}
-use Rattle.std.specs.Prelude.{Option, Some, None}
+use Rattle.std.specs.Prelude.{Bool, true, false, Option, Some, None}
 use Rattle.std.specs.Result.{IsErrAnd}
 use Rattle.bits.specs.declared.refusal.Refusal.{Refusal}
 use Rattle.bits.specs.declared.refusal.Refusal.TheVariants.{Memory}
 use Rattle.schema.specs.declared.row.Row.{Row}
 use Rattle.schema.specs.Values.{ValueTrees}
-use Rattle.row_group.specs.Left.{TakesRow}
+use Rattle.assemble.specs.Sinks.{Token}
+use Rattle.row_group.specs.Left.{TakesRow, TakesRowTo}
 
 -- a refusal that is passed on
 pub passes_row : (S T : List ValueTrees → Type 0) (r : Result (Option Row) Refusal) (e : Refusal) → IsErrAnd r (λ f. f ≡ e) → ((rows : List ValueTrees) → S rows → e ≡ Memory) → TakesRow S T r
 passes_row S T (Ok (Some row)) e is p = absurd is
 passes_row S T (Ok None) e is p = absurd is
 passes_row S T (Err f) e is p = λ rows s. is ∙ p rows s
+
+pub passes_shown : (S T : List ValueTrees → Type 0) (from to : List Token → Type 0) (r : Result Bool Refusal) (e : Refusal) → IsErrAnd r (λ f. f ≡ e) → ((rows : List ValueTrees) → S rows → e ≡ Memory) → TakesRowTo S T from to r
+passes_shown S T from to (Ok true) e is p = absurd is
+passes_shown S T from to (Ok false) e is p = absurd is
+passes_shown S T from to (Err f) e is p = λ rows s. is ∙ p rows s
 
 -- one more row was taken
 pub one_taken : (all before rest next : List ValueTrees) (row : ValueTrees) → all ≡ before ++ rest → rest ≡ row ∷ next → all ≡ (before ++ row ∷ []) ++ next

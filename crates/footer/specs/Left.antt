@@ -2,14 +2,13 @@
 use Rattle.std.specs.Prelude.{◌≡◌, ℕ, List, [], ◌∷◌, ◌++◌, map, Bool, true, false, Option, Some, None, Result, Ok, Err}
 use Rattle.bits.specs.declared.refusal.Refusal.{Refusal}
 use Rattle.bits.specs.declared.refusal.Refusal.TheVariants.{Memory}
-use Rattle.schema.specs.declared.row.Row.{Row}
 use Rattle.schema.specs.Values.{ValueTrees}
 use Rattle.schema.specs.Shape.{Fields}
-use Rattle.schema.specs.Views.{row_view}
+use Rattle.assemble.specs.Sinks.{Token}
 use Rattle.metadata.specs.Records.{GroupMeta}
 use Rattle.metadata.specs.Views.{group_meta_view}
 use Rattle.row_group.specs.Limits.{IsReadable}
-pub use Rattle.row_group.specs.Left.{TakesRow}
+pub use Rattle.row_group.specs.Left.{TakesRow, TakesRowTo, ShowsFirst}
 use Rattle.row_group.specs.Left.{rows_stand as rows_of_group_stand}
 use Rattle.row_group.specs.declared.rows.Rows.{Rows as GroupRows}
 use Rattle.footer.specs.File.{LiesHere}
@@ -32,23 +31,23 @@ abbrev pub rows_of_begun : Option GroupRows → List ValueTrees → Type 0
 rows_of_begun None rows = rows ≡ []
 rows_of_begun (Some group) rows = rows_of_group_stand group rows
 
+-- what is left of the groups that are not begun
+abbrev pub others_hold : Rows → List ValueTrees → Type 0
+others_hold left rows = GroupsHold left.front.now left.schema.now (map group_meta_view left.groups.now) rows
+
 -- what is left: of the group that was begun, and then of all other groups
 pub record rows_stand (left : Rows) (rows : List ValueTrees) : Type 0 where
   pub first : List ValueTrees
   pub rest : List ValueTrees
   pub joined : rows ≡ first ++ rest
   pub of_group : rows_of_begun left.group first
-  pub of_others : GroupsHold left.front.now left.schema.now (map group_meta_view left.groups.now) rest
+  pub of_others : others_hold left rest
 
--- what is left of the groups that are not begun
-abbrev pub others_hold : Rows → List ValueTrees → Type 0
-others_hold left rows = GroupsHold left.front.now left.schema.now (map group_meta_view left.groups.now) rows
-
--- the next row of the group that was begun is taken, or it has none left
-abbrev pub TakesOfGroup : Rows → Rows → Result (Option Row) Refusal → Type 0
-TakesOfGroup old new (Ok (Some row)) = (rows : List ValueTrees) → rows_stand old rows → (rest : List ValueTrees) × (rows ≡ row_view row ∷ rest) × rows_stand new rest
-TakesOfGroup old new (Ok None) = (rows : List ValueTrees) → rows_stand old rows → others_hold new rows
-TakesOfGroup old new (Err e) = (rows : List ValueTrees) → rows_stand old rows → e ≡ Memory
+-- the next row of the group that was begun is shown, or it has none left
+abbrev pub TakesOfGroup : Rows → Rows → (List Token → Type 0) → (List Token → Type 0) → Result Bool Refusal → Type 0
+TakesOfGroup old new from to (Ok true) = (rows : List ValueTrees) → rows_stand old rows → ShowsFirst (rows_stand new) from to rows
+TakesOfGroup old new from to (Ok false) = (rows : List ValueTrees) → rows_stand old rows → others_hold new rows
+TakesOfGroup old new from to (Err e) = (rows : List ValueTrees) → rows_stand old rows → e ≡ Memory
 
 -- the next group is begun, or there is none
 abbrev pub BeginsGroup : Rows → Rows → Result Bool Refusal → Type 0

@@ -1,11 +1,12 @@
 //! The rows of a file, one by one.
 
-ghost use Rattle.std.specs.Prelude.{◌≡◌, ◌<◌, List, length, IfOk, IsTrue};
+ghost use Rattle.std.specs.Prelude.{◌≡◌, ◌<◌, List, false, length, IfOk, IsTrue, Ok};
 ghost use Rattle.bits.specs.Refusals.{RefusedMemoryOnly};
 ghost use Rattle.schema.specs.Values.{ValueTrees};
 ghost use Rattle.schema.specs.Views.{rows_view};
-ghost use Rattle.row_group.specs.Left.{TakesRow};
+ghost use Rattle.row_group.specs.Left.{TakesRow, TakesRowTo};
 
+use assemble::{RowBuilder, RowSink};
 use bits::{R, Refusal};
 use metadata::GroupMeta;
 use schema::{Row, Schema};
@@ -27,32 +28,52 @@ pub struct Rows<'a> {
 impl<'a> Rows<'a> {
     ghost use Rattle.footer.specs.Left.{rows_stand, TakesOfGroup, BeginsGroup};
 
-    /// The next row; none after the last, however often it is asked for.
+    /// Shows a sink the values of the next row. Returns false after the last row, however often it is
+    /// asked, and then shows nothing.
+    ///
+    /// The values are borrowed, and nothing is copied. It fails only when out of memory, the sink's own
+    /// too. Where that was within a row, of which the sink was shown a part, it fails from then on: the
+    /// file has to be read again for the rest.
+    pub fn next_to<K: RowSink>(&mut self, sink: &mut K) -> R<bool>
+        ensures takes { TakesRowTo (rows_stand self.old) (rows_stand self.new) (K.shows sink.old) (K.shows sink.new) result }
+        ensures unshown { result ≡ Ok false → sink.new ≡ sink.old }
+    {
+        if self.next_of_group(sink)? {
+            return Ok(true);
+        }
+        while self.begin_group()? {
+            if self.next_of_group(sink)? {
+                return Ok(true);
+            }
+        }
+        Ok(false)
+    }
+
+    /// The next row; none after the last, however often it is asked for. The bytes of its values are
+    /// copied once.
     ///
     /// It fails only when out of memory. Where that was within a row, it fails from then on: the file has
     /// to be read again for the rest.
     pub fn next(&mut self) -> R<Option<Row>>
         ensures takes { TakesRow (rows_stand self.old) (rows_stand self.new) result }
     {
-        if let Some(row) = self.next_of_group()? {
-            return Ok(Some(row));
+        let mut builder = RowBuilder::new(self.alloc, self.schema.fields().len())?;
+        if self.next_to(&mut builder)? {
+            Ok(Some(builder.into_row()))
+        } else {
+            Ok(None)
         }
-        while self.begin_group()? {
-            if let Some(row) = self.next_of_group()? {
-                return Ok(Some(row));
-            }
-        }
-        Ok(None)
     }
 
-    /// The next row of the group that was begun, or none where none of it is left.
-    fn next_of_group(&mut self) -> R<Option<Row>>
-        ensures takes { TakesOfGroup self.old self.new result }
+    /// Shows a sink the next row of the group that was begun; false where none of it is left.
+    fn next_of_group<K: RowSink>(&mut self, sink: &mut K) -> R<bool>
+        ensures takes { TakesOfGroup self.old self.new (K.shows sink.old) (K.shows sink.new) result }
+        ensures unshown { result ≡ Ok false → sink.new ≡ sink.old }
         ensures kept { self.new.groups.now ≡ self.old.groups.now }
     {
         match &mut self.group {
-            Some(group) => group.next(),
-            None => Ok(None),
+            Some(group) => group.next_to(sink),
+            None => Ok(false),
         }
     }
 

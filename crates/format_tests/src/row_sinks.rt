@@ -1,10 +1,11 @@
-//! What sinks are shown of rows, and sources that promise that their values fit.
+//! What sinks are shown of rows, of columns and of files, and sources that promise that their values fit.
 
 ghost use Rattle.std.specs.Prelude.{◌≡◌, None};
 ghost use Rattle.schema.specs.declared.value.Kind.TheVariants.{Int64};
 
-use assemble::{Cursor, Discard, EntrySource, RowSink, count_rows, next_row_to};
+use assemble::{Cursor, Discard, EntrySource, RowSink, assemble, count_rows, next_row_to};
 use bits::{Fault, R, Refusal};
+use footer::{FileReader, WriteOptions, write_file};
 use schema::{Column, Element, Entry, EntryRef, Kind, LeafType, Schema, Value, ValueRef};
 use std::alloc::{AllocError, Global};
 use std::test::*;
@@ -138,6 +139,30 @@ fn a_sink_is_shown_rows_in_order(rt: HostRuntime) -> Result<(), Fail> {
     };
     assert!(rt; !next_row_to(&schema, sources.as_mut_slice(), &mut text)?);
     assert!(rt; text.bytes.is_empty());
+    Ok(())
+}
+
+#[test]
+fn a_sink_is_shown_the_rows_of_a_file(rt: HostRuntime) -> Result<(), Fail> {
+    let alloc = rt.alloc();
+    let schema = lists(alloc)?;
+    let rows = assemble(alloc, &schema, columns(alloc)?.as_slice())?;
+    let options = WriteOptions {
+        group_rows: 2,
+        ..WriteOptions::standard()
+    };
+    let bytes = write_file(alloc, &schema, &options, rows.as_slice())?;
+    let file = FileReader::new(alloc, bytes.as_slice())?;
+    let mut rows = file.rows(alloc);
+    for expected in TEXTS {
+        let mut text = Text {
+            bytes: Vec::new(alloc),
+        };
+        assert!(rt; rows.next_to(&mut text)?);
+        assert_eq!(rt; text.bytes.as_slice(), expected);
+    }
+    assert!(rt; !rows.next_to(&mut Discard)?);
+    assert!(rt; rows.next()?.is_none());
     Ok(())
 }
 

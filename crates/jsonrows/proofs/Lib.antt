@@ -28,3 +28,7 @@ pub mod Digits
 pub mod Conversion
 pub mod Filling
 pub mod Turns
+pub mod RowSteps
+pub mod RowOrder
+pub mod RowRuns
+pub mod RowPlans

@@ -52,7 +52,7 @@ mutual
 
 -- ---- leaves
 
-same_number : (k : Kind) (o : Option Order) (z : ℤ) → number_shown (numbers_of k o) z ≡ number_json k o z
+pub same_number : (k : Kind) (o : Option Order) (z : ℤ) → number_shown (numbers_of k o) z ≡ number_json k o z
 same_number Boolean None z = refl
 same_number Boolean (Some Signed) z = refl
 same_number Boolean (Some Unsigned) z = refl

@@ -4,6 +4,7 @@ pub mod SchemaJson
 pub mod SchemaPrinted
 pub mod Filters
 pub mod Printer
+pub mod Rows
 pub mod Reader
 pub mod Law
 pub mod inner

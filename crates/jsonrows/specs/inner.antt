@@ -3,3 +3,5 @@ pub mod SchemaViews
 pub mod SchemaPrinting
 pub mod Plan
 pub mod Fill
+pub mod Slots
+pub mod Levels

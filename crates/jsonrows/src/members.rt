@@ -157,7 +157,7 @@ fn put_escaped(bytes: &[u8], out: &mut Vec<u8>) -> Result<(), AllocError>
 }
 
 /// Appends a string in quotes.
-fn put_string(bytes: &[u8], out: &mut Vec<u8>) -> Result<(), AllocError>
+pub fn put_string(bytes: &[u8], out: &mut Vec<u8>) -> Result<(), AllocError>
     ensures { OnOk result (out.new.items ≡ out.old.items ++ quoted bytes.now) }
 {
     out.push(b'"')?;
@@ -186,7 +186,7 @@ fn put_pair(byte: u8, out: &mut Vec<u8>) -> Result<(), AllocError>
 }
 
 /// Appends the hexadecimal digits of bytes, in quotes.
-fn put_digits(bytes: &[u8], out: &mut Vec<u8>) -> Result<(), AllocError>
+pub fn put_digits(bytes: &[u8], out: &mut Vec<u8>) -> Result<(), AllocError>
     ensures { OnOk result (out.new.items ≡ out.old.items ++ quoted (encode_lower bytes.now)) }
 {
     out.push(b'"')?;
@@ -223,7 +223,7 @@ fn put_bytes(is_text: bool, bytes: &[u8], out: &mut Vec<u8>) -> Result<(), Alloc
 }
 
 /// Appends a number of a leaf.
-fn put_number(numbers: Numbers, number: i64, out: &mut Vec<u8>) -> Result<(), AllocError>
+pub fn put_number(numbers: Numbers, number: i64, out: &mut Vec<u8>) -> Result<(), AllocError>
     ensures { OnOk result (out.new.items ≡ out.old.items ++ number_text (number_shown numbers number)) }
 {
     let mut buffer = itoa::Buffer::new();
@@ -236,14 +236,14 @@ fn put_number(numbers: Numbers, number: i64, out: &mut Vec<u8>) -> Result<(), Al
 }
 
 /// Appends a boolean.
-fn put_boolean(boolean: bool, out: &mut Vec<u8>) -> Result<(), AllocError>
+pub fn put_boolean(boolean: bool, out: &mut Vec<u8>) -> Result<(), AllocError>
     ensures { OnOk result (out.new.items ≡ out.old.items ++ compact_text (json.boolean boolean)) }
 {
     out.extend_from_slice(if boolean { b"true" } else { b"false" })
 }
 
 /// Appends null.
-fn put_null(out: &mut Vec<u8>) -> Result<(), AllocError>
+pub fn put_null(out: &mut Vec<u8>) -> Result<(), AllocError>
     ensures { OnOk result (out.new.items ≡ out.old.items ++ compact_text json.null) }
 {
     out.extend_from_slice(b"null")
@@ -363,7 +363,7 @@ pub fn put_object(
 }
 
 /// How the numbers of a leaf are printed: unsigned where its order is.
-fn numbers_of(leaf_type: &LeafType) -> Numbers
+pub fn numbers_of(leaf_type: &LeafType) -> Numbers
     ensures { result ≡ numbers_of leaf_type.now.kind (order_of (leaf_type_view leaf_type.now)) }
 {
     match (leaf_type.order(), leaf_type.kind) {

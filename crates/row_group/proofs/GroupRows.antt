@@ -1,19 +1,17 @@
 -- The rows of a group, by the readers of its chunks.
-use Rattle.std.proofs.Common.{◌≡◌, ℕ, ◌<◌, List, [], ◌∷◌, length, Some, None, Ok, refl, sym, ap, subst, ◌∙◌, arith, inl, inr}
+use Rattle.std.proofs.Common.{◌≡◌, ℕ, ◌<◌, List, [], ◌∷◌, length, refl, sym, ap, subst, ◌∙◌, arith, inl, inr}
 use Rattle.std.specs.Prelude.{pos, ◌<ℤ◌}
 use Rattle.bits.specs.declared.refusal.Refusal.{Refusal}
 use Rattle.bits.specs.declared.refusal.Refusal.TheVariants as refusal
 use Rattle.bits.specs.Refusals.{IsFault, HasCause}
-use Rattle.schema.specs.declared.row.Row.{Row}
 use Rattle.schema.specs.Values.{ValueTrees}
 use Rattle.schema.specs.Shape.{Fields}
 use Rattle.schema.specs.Stripe.{Leaf, Entry, leaves_of, columns}
-use Rattle.schema.specs.Views.{row_view}
 use Rattle.schema.specs.Law.{IsSchema, ColumnsDetermineRows}
 use Rattle.metadata.specs.Records.{ChunkMeta, GroupMeta}
 use Rattle.assemble.specs.Columns.{Columns, Tells}
 use Rattle.assemble.specs.Standing.{AllStand, IsRefusedFor}
-use Rattle.assemble.specs.RowsOf.{StandForRows, HasFault, NextRow}
+use Rattle.assemble.specs.RowsOf.{StandForRows, HasFault, IsNextRow}
 use Rattle.assemble.proofs.WholeColumns.{only_faults}
 use Rattle.row_group.specs.declared.chunk_reader.ChunkReader.{ChunkReader}
 use Rattle.row_group.specs.Chunks.{AreChunks, GroupMeans}
@@ -135,17 +133,17 @@ not_over front fs g n few h (large_chunk over) = no_column_over front fs g (colu
 
 -- ---- a row is taken
 
-pub row_taken : (fs : Fields) → IsSchema fs → (old new : List ChunkReader) (row : Row) (rows : List ValueTrees) → 0 < length rows → NextRow chunk_stands refusal_kept fs old new (Ok (Some row)) → StandForRows chunk_stands old fs rows
-    → (rest : List ValueTrees) × (rows ≡ row_view row ∷ rest) × StandForRows chunk_stands new fs rest
+pub row_taken : (fs : Fields) → IsSchema fs → (old new : List ChunkReader) (row : ValueTrees) (rows : List ValueTrees) → 0 < length rows → IsNextRow chunk_stands fs old new row → StandForRows chunk_stands old fs rows
+    → (rest : List ValueTrees) × (rows ≡ row ∷ rest) × StandForRows chunk_stands new fs rest
 row_taken fs schema old new row [] some next s = absurd (omega (arith, some))
 row_taken fs schema old new row (r ∷ rs) some next s =
-    let w = next.1.1.0 (columns fs (r ∷ rs)) s.stand in
+    let w = next.1.0 (columns fs (r ∷ rs)) s.stand in
     let a = w.1.1.alone (r ∷ rs) s.fit refl in
-    let e = same_first fs schema (row_view row) r rs a.0 w.0 next.1.0 s.fit a.1.0 w.1.1.front a.1.1 in
+    let e = same_first fs schema row r rs a.0 w.0 next.0 s.fit a.1.0 w.1.1.front a.1.1 in
     (rs, ap (λ (v : ValueTrees). v ∷ rs) (sym e.0), record { fit = s.fit.1; stand = subst (AllStand chunk_stands new) e.1 w.1.0 })
 
-pub no_row_left : PagesAreOne → ChunksAreOne → ColumnsDetermineRows → (fs : Fields) → IsSchema fs → (old new : List ChunkReader) (rows : List ValueTrees) → NextRow chunk_stands refusal_kept fs old new (Ok None) → StandForRows chunk_stands old fs rows → rows ≡ []
-no_row_left one chunks determine fs schema old new rows next s = determine fs rows [] schema s.fit tt (stand_one one chunks old (columns fs rows) (columns fs []) s.stand next.1.0)
+pub no_row_left : PagesAreOne → ChunksAreOne → ColumnsDetermineRows → (fs : Fields) → IsSchema fs → (old : List ChunkReader) (rows : List ValueTrees) → AllStand chunk_stands old (columns fs []) → StandForRows chunk_stands old fs rows → rows ≡ []
+no_row_left one chunks determine fs schema old rows none s = determine fs rows [] schema s.fit tt (stand_one one chunks old (columns fs rows) (columns fs []) s.stand none)
 
 pub only_memory : (fs : Fields) (old new : List ChunkReader) (e : Refusal) → IsRefusedFor chunk_stands refusal_kept old new (HasFault fs) e → (rows : List ValueTrees) → StandForRows chunk_stands old fs rows → e ≡ refusal.Memory
 only_memory fs old new e refused rows s = by e (told refused) (λ fault. only_faults chunk_stands refusal_kept old new fs e refused fault rows s)

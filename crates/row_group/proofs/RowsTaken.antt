@@ -1,14 +1,16 @@
 -- Rows that are taken one by one.
-use Rattle.std.proofs.Common.{◌≡◌, ◌-◌, List, [], ◌∷◌, length, Option, Some, None, Ok, refl, sym, ap, subst, ◌∙◌, arith}
+use Rattle.std.proofs.Common.{◌≡◌, ◌-◌, List, [], ◌∷◌, length, Bool, true, false, Some, Result, Ok, refl, sym, ap, subst, ◌∙◌, arith}
+use Rattle.bits.specs.declared.refusal.Refusal.{Refusal}
 use Rattle.schema.specs.declared.row.Row.{Row}
 use Rattle.schema.specs.Values.{ValueTrees}
 use Rattle.schema.specs.Shape.{Fields}
 use Rattle.schema.specs.Law.{IsSchema, ColumnsDetermineRows}
 use Rattle.schema.specs.Views.{row_view}
-use Rattle.assemble.specs.RowsOf.{StandForRows, NextRow}
+use Rattle.assemble.specs.Sinks.{Token, tokens_each}
+use Rattle.assemble.specs.RowsOf.{StandForRows, NextRowTo}
 use Rattle.row_group.specs.declared.chunk_reader.ChunkReader.{ChunkReader}
 use Rattle.row_group.specs.declared.rows.Rows.{Rows}
-use Rattle.row_group.specs.Left.{chunk_stands, RowsStand, rows_stand, TakesRow}
+use Rattle.row_group.specs.Left.{chunk_stands, RowsStand, rows_stand, TakesRow, TakesRowTo}
 use Rattle.row_group.specs.inner.Readers.{refusal_kept}
 use Rattle.row_group.proofs.OneRest.{PagesAreOne, ChunksAreOne}
 use Rattle.row_group.proofs.GroupRows.{row_taken, no_row_left}
@@ -20,36 +22,54 @@ pub record IsNext (old new : Rows) (later : List ChunkReader) : Type 0 where
   pub left : new.left ≡ old.left - 1
   pub whole : new.is_broken ≡ old.is_broken
 
-pub takes : PagesAreOne → ChunksAreOne → ColumnsDetermineRows → (old new : Rows) (mid later : List ChunkReader) (o : Option Row) → (old.left ≡ 0 → ⊥) → mid ≡ old.readers.items → IsNext old new later
-    → NextRow chunk_stands refusal_kept old.schema.now mid later (Ok o) → TakesRow (rows_stand old) (rows_stand new) (Ok o)
-takes one chunks determine old new mid later (Some row) some same is next = λ rows s.
+pub takes_to : PagesAreOne → ChunksAreOne → ColumnsDetermineRows → {K : Type 0} (shows : K → List Token → Type 0) (from to : K) (old new : Rows) (mid later : List ChunkReader) (b : Bool) → (old.left ≡ 0 → ⊥) → mid ≡ old.readers.items → IsNext old new later
+    → NextRowTo chunk_stands refusal_kept shows old.schema.now mid later from to (Ok b) → TakesRowTo (rows_stand old) (rows_stand new) (shows from) (shows to) (Ok b)
+takes_to one chunks determine shows from to old new mid later true some same is next = λ rows s.
     let stood = subst (λ (rs : List ChunkReader). StandForRows chunk_stands rs old.schema.now rows) (sym same) s.columns in
     let size = s.count in
-    let t = row_taken old.schema.now s.schema mid later row rows (omega (arith, size, some)) next stood in
-    let more : length rows ≡ length (row_view row ∷ t.0) = ap (λ (r : List ValueTrees). length r) t.1 in
-    let left = is.left in (
-      t.0,
-      t.1,
-      record {
+    let row = next.1.0 in
+    let t = row_taken old.schema.now s.schema mid later row rows (omega (arith, size, some)) next.1.1.0 stood in
+    let more : length rows ≡ length (row ∷ t.0) = ap (λ (r : List ValueTrees). length r) t.1 in
+    let left = is.left in
+    record {
+      first = row;
+      rest = t.0;
+      split = t.1;
+      stands = record {
         whole = is.whole ∙ s.whole;
         schema = subst IsSchema (sym is.schema) s.schema;
         count = omega (arith, size, more, left);
         columns = subst (λ (fs : Fields). StandForRows chunk_stands new.readers.items fs t.0) (sym is.schema) (subst (λ (rs : List ChunkReader). StandForRows chunk_stands rs old.schema.now t.0) (sym is.readers) t.2);
-      },
-    )
-takes one chunks determine old new mid later None some same is next = λ rows s.
+      };
+      shown = next.1.1.1;
+    }
+takes_to one chunks determine shows from to old new mid later false some same is next = λ rows s.
     let stood = subst (λ (rs : List ChunkReader). StandForRows chunk_stands rs old.schema.now rows) (sym same) s.columns in
-    let none = no_row_left one chunks determine old.schema.now s.schema mid later rows next stood in
+    let none = no_row_left one chunks determine old.schema.now s.schema mid rows next.1.0 stood in
     let size = s.count in
     let empty = ap (λ (r : List ValueTrees). length r) none in
     absurd (some (omega (arith, size, empty)))
 
+-- where no row is shown, nothing is
+pub unshown : {K : Type 0} (shows : K → List Token → Type 0) (fs : Fields) (mid later : List ChunkReader) (from to : K) (b : Bool)
+    → NextRowTo chunk_stands refusal_kept shows fs mid later from to (Ok b) → ◌≡◌ {A = Result Bool Refusal} (Ok b) (Ok false) → to ≡ from
+unshown shows fs mid later from to true next is = cc
+unshown shows fs mid later from to false next is = next.1.1.1
+
 -- where no row is left
-pub takes_none : (r : Rows) → r.left ≡ 0 → TakesRow (rows_stand r) (rows_stand r) (Ok None)
-takes_none r zero = λ rows s.
+pub takes_none : (from to : List Token → Type 0) (r : Rows) → r.left ≡ 0 → TakesRowTo (rows_stand r) (rows_stand r) from to (Ok false)
+takes_none from to r zero = λ rows s.
     let none = empty rows (s.count ∙ zero) in
     (none, subst (RowsStand r) none s)
   where
     empty : (rows : List ValueTrees) → length rows ≡ 0 → rows ≡ []
     empty [] e = refl
     empty (x ∷ rows) e = absurd (omega (arith, e))
+
+-- a row that was made of what a sink was shown is the first one
+pub takes_made : (S T : List ValueTrees → Type 0) (from to : List Token → Type 0) (row : Row) → from [] → ((values : ValueTrees) → to (tokens_each values) → row_view row ≡ values)
+    → TakesRowTo S T from to (Ok true) → TakesRow S T (Ok (Some row))
+takes_made S T from to row empty made takes = λ rows s.
+    let t = takes rows s in
+    let same = made t.first (t.shown [] empty) in
+    (t.rest, t.split ∙ ap (λ (v : ValueTrees). v ∷ t.rest) (sym same), t.stands)

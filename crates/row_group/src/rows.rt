@@ -1,13 +1,13 @@
 //! The rows of a group, one by one.
 
-ghost use Rattle.std.specs.Prelude.{◌≡◌, List, true, map, IfOk, OnOk, IfErr, Err};
+ghost use Rattle.std.specs.Prelude.{◌≡◌, List, true, false, map, IfOk, OnOk, IfErr, Ok, Err};
 ghost use Rattle.bits.specs.Refusals.{OnFault, RefusedOnly, RefusedMemoryOnly};
 ghost use Rattle.schema.specs.Values.{ValueTrees};
 ghost use Rattle.schema.specs.Views.{rows_view};
 ghost use Rattle.metadata.specs.Views.{group_meta_view};
 ghost use Rattle.row_group.specs.Chunks.{GroupMeans};
 ghost use Rattle.row_group.specs.Limits.{IsChunkOver, IsGroupOver, HasColumn, BeginsWith, HasCodec, IsOfChunks, IsReadable};
-ghost use Rattle.row_group.specs.Left.{rows_stand, is_broken, TakesRow};
+ghost use Rattle.row_group.specs.Left.{rows_stand, is_broken, TakesRow, TakesRowTo};
 ghost use Rattle.row_group.specs.inner.Readers.{HasRows, AreRowsOfGroup};
 
 use crate::chunk_reader::ChunkReader;
@@ -15,7 +15,7 @@ use crate::counts::count_of;
 use crate::group_chunks::{check_chunks, readers_of};
 use crate::laws::one_meaning;
 use crate::limits::MOST_ROWS_OF_GROUP;
-use assemble::{count_rows, next_row};
+use assemble::{RowBuilder, RowSink, count_rows, next_row_to};
 use bits::{R, Refusal};
 use metadata::GroupMeta;
 use pages::one_page;
@@ -96,13 +96,15 @@ impl<'a> Rows<'a> {
         })
     }
 
-    /// The next row; none after the last, however often it is asked for. The bytes of its values are
-    /// copied once.
+    /// Shows a sink the values of the next row. Returns false after the last row, however often it is
+    /// asked, and then shows nothing.
     ///
-    /// It fails only when out of memory. The readers may then stand within a row, so that each later
+    /// The values are borrowed, and nothing is copied. It fails only when out of memory, the sink's own
+    /// too. The readers may then stand within a row of which the sink was shown a part, so that each later
     /// call fails in the same way.
-    pub fn next(&mut self) -> R<Option<Row>>
-        ensures takes { TakesRow (rows_stand self.old) (rows_stand self.new) result }
+    pub fn next_to<K: RowSink>(&mut self, sink: &mut K) -> R<bool>
+        ensures takes { TakesRowTo (rows_stand self.old) (rows_stand self.new) (K.shows sink.old) (K.shows sink.new) result }
+        ensures unshown { result ≡ Ok false → sink.new ≡ sink.old }
         ensures breaks { result ≡ Err Refusal.Memory → is_broken self.new ≡ true }
         ensures broken { is_broken self.old ≡ true → result ≡ Err Refusal.Memory }
     {
@@ -110,19 +112,39 @@ impl<'a> Rows<'a> {
             return Err(Refusal::Memory);
         }
         if self.left == 0 {
-            return Ok(None);
+            return Ok(false);
         }
         one_page();
         columns_determine_rows();
-        match next_row(self.alloc, self.schema, self.readers.as_mut_slice()) {
-            Ok(row) => {
+        match next_row_to(self.schema, self.readers.as_mut_slice(), sink) {
+            Ok(is_shown) => {
                 self.left -= 1;
-                Ok(row)
+                Ok(is_shown)
             }
             Err(refusal) => {
                 self.is_broken = true;
                 Err(refusal)
             }
+        }
+    }
+
+    /// The next row; none after the last, however often it is asked for. The bytes of its values are
+    /// copied once.
+    ///
+    /// It fails only when out of memory, and then each later call fails in the same way.
+    pub fn next(&mut self) -> R<Option<Row>>
+        ensures takes { TakesRow (rows_stand self.old) (rows_stand self.new) result }
+        ensures breaks { result ≡ Err Refusal.Memory → is_broken self.new ≡ true }
+        ensures broken { is_broken self.old ≡ true → result ≡ Err Refusal.Memory }
+    {
+        let Ok(mut builder) = RowBuilder::new(self.alloc, self.schema.fields().len()) else {
+            self.is_broken = true;
+            return Err(Refusal::Memory);
+        };
+        if self.next_to(&mut builder)? {
+            Ok(Some(builder.into_row()))
+        } else {
+            Ok(None)
         }
     }
 

@@ -1,9 +1,8 @@
-use Rattle.std.proofs.Common.{◌≡◌, ◌∙◌, Bool, Ok, ap, sym, subst}
-use Rattle.schema.specs.Values.{ValueTrees, views}
+use Rattle.std.proofs.Common.{◌≡◌, [], Bool, Ok, sym, subst}
+use Rattle.schema.specs.Values.{ValueTrees}
 use Rattle.schema.specs.Views.{row_view}
 use Rattle.assemble.specs.RowsOf.{NextRowTo, IsNextRow}
-use Rattle.assemble.specs.inner.Building.{builder_shows, frames_of}
-use Rattle.assemble.proofs.Showing.{all_shown}
+use Rattle.assemble.specs.inner.Building.{builder_shows}
 use Rattle.assemble.proofs.rows.next_row.Goals as goal
 
 pub returns-then-branch : goal.returns-then-branch
@@ -16,5 +15,5 @@ returns-then-branch g c =
     let to = c.next_row_to.new.sink in
     let found = subst (λ (b : Bool). NextRowTo S g.S.EntrySource.refused builder_shows fs old new from to (Ok b)) c.if-branch.true c.in_ok-next_row_to.ensures.row in
     let row : ValueTrees = found.1.0 in
-    let built : row ≡ row_view c.into_row.result = sym (ap (λ vs. views vs.items) c.into_row.ensures.values ∙ all_shown (frames_of from) (frames_of to) row c.in_ok-builder.ensures.empty found.1.1.1) in
+    let built : row ≡ row_view c.into_row.result = sym (c.into_row.ensures.row row (found.1.1.1 [] c.in_ok-builder.ensures.empty)) in
     record { row = (found.0, subst (IsNextRow S fs old new) built found.1.1.0) }

@@ -1,17 +1,14 @@
-use Rattle.std.proofs.Common.{◌-◌, ◌∙◌, List, refl, sym, subst}
-use Rattle.std.specs.Vec.{with_items}
-use Rattle.std.proofs.lemmas.List.{with_items_is}
-use Rattle.assemble.specs.RowsOf.{StandForRows}
-use Rattle.row_group.specs.declared.chunk_reader.ChunkReader.{ChunkReader}
-use Rattle.row_group.specs.Left.{chunk_stands}
-use Rattle.row_group.proofs.GroupRows.{only_memory}
-use Rattle.row_group.proofs.RowsTaken.{takes}
+use Rattle.std.proofs.Common.{Bool, Ok, subst}
+use Rattle.assemble.specs.inner.Building.{builder_shows}
+use Rattle.row_group.specs.Left.{rows_stand, TakesRowTo}
+use Rattle.row_group.proofs.RowsTaken.{takes_made}
 use Rattle.row_group.proofs.rows.Rows.next.Goals as goal
 
-pub returns-in-Ok-clause-takes : goal.returns-in-Ok-clause-takes
-returns-in-Ok-clause-takes c =
-    takes c.one_page.ensures.page c.one_page.ensures.chunk c.columns_determine_rows.ensures c.args.self.now (record { alloc = c.args.self.now.alloc; schema = c.args.self.now.schema; readers = with_items c.args.self.now.readers c.next_row.new.sources; left = c.args.self.now.left - 1; is_broken = c.args.self.now.is_broken }) c.as_mut_slice.result.now c.next_row.new.sources c.in-Ok.row c.if-self-eq0.false c.as_mut_slice.ensures.value
-    (record { schema = refl; readers = with_items_is c.args.self.now.readers c.next_row.new.sources (c.next_row.auto.sources ∙ c.as_mut_slice.ensures.len); left = refl; whole = refl }) c.in-Ok.ensures.row
-
-pub returns-in-Err-clause-takes : goal.returns-in-Err-clause-takes
-returns-in-Err-clause-takes c = λ rows s. only_memory c.args.self.now.schema.now c.as_mut_slice.result.now c.next_row.new.sources c.in-Err.refusal c.in-Err.ensures.row rows (subst (λ (rs : List ChunkReader). StandForRows chunk_stands rs c.args.self.now.schema.now rows) (sym c.as_mut_slice.ensures.value) s.columns)
+pub returns-then-branch-clause-takes : goal.returns-then-branch-clause-takes
+returns-then-branch-clause-takes c =
+    let S = rows_stand c.args.self.now in
+    let T = rows_stand c.next_to.new.self in
+    let from = builder_shows c.in-Ok.builder in
+    let to = builder_shows c.next_to.new.sink in
+    takes_made S T from to c.into_row.result c.in-Ok.ensures.empty c.into_row.ensures.row
+    (subst (λ (b : Bool). TakesRowTo S T from to (Ok b)) c.if-branch.true c.in_ok-next_to.ensures.takes)
