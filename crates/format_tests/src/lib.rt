@@ -61,8 +61,6 @@ mod records;
 #[cfg(test)]
 mod row_sinks;
 #[cfg(test)]
-mod row_texts;
-#[cfg(test)]
 mod schemas;
 #[cfg(test)]
 mod shredding;

@@ -32,3 +32,4 @@ pub mod RowSteps
 pub mod RowOrder
 pub mod RowRuns
 pub mod RowPlans
+pub mod Openings

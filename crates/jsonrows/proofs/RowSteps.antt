@@ -5,7 +5,7 @@ use Rattle.std.proofs.lemmas.List.{reverse-append, map-append}
 use Rattle.assemble.specs.Sinks.{Token, Adds}
 use Rattle.jsonrows.specs.declared.row_plan.RowPlan.{RowPlan}
 use Rattle.jsonrows.specs.declared.row_text.Level.{Level as CodeLevel}
-use Rattle.jsonrows.specs.Rows.{plan_schema, IsReady}
+use Rattle.jsonrows.specs.Rows.{plan_schema, shows_from}
 use Rattle.jsonrows.specs.inner.Levels.{State, Level, held, more, entered, step, run, root, braced_at, level_view}
 
 pub run_append : (s : State) (ts us : List Token) → run s (ts ++ us) ≡ run (run s ts) us
@@ -13,10 +13,10 @@ run_append s [] us = refl
 run_append s (t ∷ ts) us = run_append (step s t) ts us
 
 -- one token more
-pub one_step : (p q : RowPlan) (old new : State) (t : Token) → q ≡ p → new ≡ step old t
-    → Adds (λ ts. IsReady p × (old ≡ run (root (plan_schema p)) ts)) (λ ts. IsReady q × (new ≡ run (root (plan_schema q)) ts)) (t ∷ [])
-one_step p q old new t same is before h =
-    (subst IsReady (sym same) h.0, is ∙ ap (λ s. step s t) h.1 ∙ sym (run_append (root (plan_schema p)) before (t ∷ [])) ∙ ap (λ r. run (root (plan_schema r)) (before ++ t ∷ [])) (sym same))
+pub one_step : (p q : RowPlan) (old new : State) (t : Token) → q ≡ p → new ≡ step old t → Adds (shows_from p old) (shows_from q new) (t ∷ [])
+one_step p q old new t same is [] h = absurd h
+one_step p q old new t same is (x ∷ before) h =
+    subst (λ r. shows_from r new (x ∷ (before ++ t ∷ []))) (sym same) (h.0, (h.1.0, is ∙ ap (λ s. step s t) h.1.1 ∙ sym (run_append (root (plan_schema p)) before (t ∷ []))))
 
 -- some text more
 pub printed_more : (b s : State) (text t u : List ℕ) → b ≡ s → text ≡ b.text ++ t → t ≡ u → held text b.starts b.here b.outer ≡ more s u

@@ -5,3 +5,4 @@ pub mod Plan
 pub mod Fill
 pub mod Slots
 pub mod Levels
+pub mod Opening

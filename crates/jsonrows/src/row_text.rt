@@ -3,10 +3,10 @@
 ghost use Rattle.std.specs.Prelude.{◌≡◌, ◌++◌, ◌∷◌, [], List, drop, IfOk, OnOk, OnErr, IsTrue, option_map, flat_map, take, ◌-◌};
 ghost use Rattle.schema.specs.Borrowed.{value_ref_view};
 ghost use Rattle.schema.specs.Fits.{fits_each};
+ghost use Rattle.schema.specs.Shape.{Fields};
 ghost use Rattle.schema.specs.Values.{ValueTrees};
-ghost use Rattle.assemble.specs.Sinks.{Token, tokens_each};
 ghost use Rattle.jsonrows.specs.Json.{row_text};
-ghost use Rattle.jsonrows.specs.Rows.{plan_schema, IsReady, schema_of, text_shows};
+ghost use Rattle.jsonrows.specs.Rows.{plan_schema, IsReady, text_shows, BeginsRow, ShowsRow};
 ghost use Rattle.jsonrows.specs.inner.Slots.{slot_view, slots_view};
 ghost use Rattle.jsonrows.specs.inner.Levels.{top_of, state_of, begun, next_slot, left, closed, level_view, inside, between, piece, braced_at, bytes_text, value_text, text_at, seen};
 
@@ -189,8 +189,7 @@ fn inside(slot: Option<&Slot>, from: usize, first: usize) -> Level<'_>
 impl<'a> RowText<'a> {
     /// Nothing is shown yet.
     pub fn new(alloc: Global, plan: &'a RowPlan<'a>) -> RowText<'a>
-        ensures prints { schema_of result ≡ plan_schema plan.now }
-        ensures empty { IsReady plan.now → text_shows result [] }
+        ensures begins { IsReady plan.now → BeginsRow result (plan_schema plan.now) }
     {
         RowText {
             plan,
@@ -293,9 +292,8 @@ impl<'a> RowText<'a> {
     /// Appends the text of the row that was shown, as `row_to` returns it. It is then ready for the next row.
     /// It fails only when out of memory, and leaves `out` unchanged.
     pub fn put_row(&mut self, out: &mut Vec<u8>) -> Result<(), AllocError>
-        ensures stands { (values : ValueTrees) → text_shows self.old (tokens_each values) → IsTrue (fits_each (schema_of self.old) values) → OnOk result (out.new.items ≡ out.old.items ++ row_text (schema_of self.old) values) }
-        ensures again { (shown : List Token) → text_shows self.old shown → OnOk result (text_shows self.new []) }
-        ensures same { schema_of self.new ≡ schema_of self.old }
+        ensures stands { (fs : Fields) (values : ValueTrees) → ShowsRow self.old fs values → IsTrue (fits_each fs values) → OnOk result (out.new.items ≡ out.old.items ++ row_text fs values) }
+        ensures again { (fs : Fields) (values : ValueTrees) → ShowsRow self.old fs values → OnOk result (BeginsRow self.new fs) }
         ensures unchanged { OnErr result (out.new.items ≡ out.old.items) }
     {
         self.close()?;

@@ -1,21 +1,31 @@
 use Rattle.std.proofs.Common.{◌≡◌, ◌++◌, List, ℕ, [], map, reverse, sym, ap, ap₂, subst, ◌∙◌}
-use Rattle.assemble.specs.Sinks.{Token, tokens_each}
+use Rattle.schema.specs.Fits.{fits_each}
+use Rattle.std.specs.Prelude.{IsTrue}
 use Rattle.jsonrows.specs.declared.row_text.Level.{Level as CodeLevel}
-use Rattle.jsonrows.specs.Rows.{IsReady, schema_of, text_shows}
+use Rattle.jsonrows.specs.Json.{row_text}
+use Rattle.jsonrows.specs.Rows.{plan_schema, IsReady}
+use Rattle.jsonrows.specs.inner.Opening.{opening}
 use Rattle.jsonrows.specs.inner.Levels.{Level, held, object, level_view, state_of}
 use Rattle.jsonrows.proofs.RowRuns.{row_printed}
+use Rattle.jsonrows.proofs.Openings.{one_schema}
 use Rattle.jsonrows.proofs.row_text.RowText.put_row.Goals as goal
 
 pub returns-clause-stands : goal.returns-clause-stands
-returns-clause-stands c = λ values shown h.
-    c.in_ok-extend_from_slice.ensures.items
-    ∙ ap (λ (s : List ℕ). c.args.out.now.items ++ s) (c.as_slice.ensures.value ∙ ap (λ s. s.text) c.in_ok-close.ensures.closed ∙ row_printed (schema_of c.args.self.now) values h (state_of c.args.self.now) shown.1)
+returns-clause-stands c = λ fs values shown h.
+    let own = plan_schema c.args.self.now.plan.now in
+    let same : fs ≡ own = one_schema fs own shown.0 in
+    let text = row_printed own values (subst (λ gs. IsTrue (fits_each gs values)) same h) (state_of c.args.self.now) shown.1.1 ∙ ap (λ gs. row_text gs values) (sym same) in
+    c.in_ok-extend_from_slice.ensures.items ∙ ap (λ (s : List ℕ). c.args.out.now.items ++ s) (c.as_slice.ensures.value ∙ ap (λ s. s.text) c.in_ok-close.ensures.closed ∙ text)
 
 pub returns-clause-again : goal.returns-clause-again
-returns-clause-again c = λ shown h.
-    let ready = subst IsReady (sym c.close.ensures.same) h.0 in
+returns-clause-again c = λ fs values shown.
+    let same = ap (λ p. opening (plan_schema p)) (sym c.close.ensures.same) in
+    let ready = subst IsReady (sym c.close.ensures.same) shown.1.0 in
     let top = c.top-self.ensures ∙ ap₂ (λ ss o. object ss o 0 0) ready.0 ready.1 in (
-      ready,
-      ap₂ (λ (a b : List ℕ). held a b (level_view c.top-self.result) (reverse (map level_view c.clear-3.new.self.items))) c.clear.ensures.items c.clear-2.ensures.items
-          ∙ ap₂ (λ (l : Level) (ls : List CodeLevel). held [] [] l (reverse (map level_view ls))) top c.clear-3.ensures.items,
+      shown.0 ∙ same,
+      (
+        ready,
+        ap₂ (λ (a b : List ℕ). held a b (level_view c.top-self.result) (reverse (map level_view c.clear-3.new.self.items))) c.clear.ensures.items c.clear-2.ensures.items
+            ∙ ap₂ (λ (l : Level) (ls : List CodeLevel). held [] [] l (reverse (map level_view ls))) top c.clear-3.ensures.items,
+      ),
     )

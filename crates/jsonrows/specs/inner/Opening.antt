@@ -1,0 +1,22 @@
+-- A schema as one token, by which two schemas are told apart.
+use Rattle.std.specs.Prelude.{ℤ, List, [], ◌∷◌}
+use Rattle.schema.specs.Values.{ValueTree, integer, bytes, group, ValueTrees, no_values, value}
+use Rattle.schema.specs.Shape.{Fields}
+use Rattle.schema.specs.inner.Code.{Rose, rose, Roses, no_roses, roses, fields_roses}
+use Rattle.assemble.specs.Sinks.{Token, single}
+
+abbrev pub integers : List ℤ → ValueTrees
+integers [] = no_values
+integers (z ∷ zs) = value (integer z) (integers zs)
+
+abbrev mutual
+  pub rose_value : Rose → ValueTree
+  rose_value (rose a b rs) = group (value (bytes a) (value (group (integers b)) (value (group (roses_values rs)) no_values)))
+
+  pub roses_values : Roses → ValueTrees
+  roses_values no_roses = no_values
+  roses_values (roses r rs) = value (rose_value r) (roses_values rs)
+
+-- the token that says the schema
+abbrev pub opening : Fields → Token
+opening fs = single (group (roses_values (fields_roses fs)))
