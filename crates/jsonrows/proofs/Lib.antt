@@ -28,3 +28,4 @@ pub mod Digits
 pub mod Conversion
 pub mod Filling
 pub mod Turns
+pub mod TextLeaves
