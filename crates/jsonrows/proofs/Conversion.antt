@@ -7,7 +7,7 @@ use Rattle.json.specs.Json.{Parse, parse_map, after_end_array, read_key, items, 
 use Rattle.json.proofs.Grammar.{value_is, value-begin_array, value-begin_object, items_end, items_more, members_end, members_more, skip_value-shorter}
 use Rattle.serde_json.specs.Data.{Data, array, object, Items, no_items, item, Members, no_members, put}
 use Rattle.serde_json.specs.Data as seen
-use Rattle.serde_json.specs.Read.{number_of, of_json, of_items, of_members, converted, read}
+use Rattle.serde_json.specs.Read.{of_json, of_items, of_members, converted, read}
 use Rattle.jsonrows.specs.inner.Fill.{scalar_of}
 
 abbrev pick : {A : Type 0} → A → Option A → A

@@ -1,6 +1,6 @@
 -- The values of an object's fields, while its members are read.
-use Rattle.std.proofs.Common.{◌≡◌, ◌≢◌, ℕ, zero, suc, ◌<◌, ◌≤◌, List, [], ◌∷◌, ◌++◌, length, get_or, Bool, true, false, true≢false, ◌&&◌, Option, Some, None, Ordering, Less, Equal, Greater, nat_cmp, refl, sym, ap, ap₂, subst, ◌∙◌, arith}
-use Rattle.std.specs.Prelude.{slice_set, IsTrue}
+use Rattle.std.proofs.Common.{◌≡◌, ◌≢◌, ℕ, zero, suc, ◌<◌, List, [], ◌∷◌, ◌++◌, length, get_or, Bool, true, false, true≢false, ◌&&◌, Option, Some, None, Ordering, Less, Equal, Greater, nat_cmp, refl, sym, ap, ap₂, subst, ◌∙◌, arith}
+use Rattle.std.specs.Prelude.{slice_set}
 use Rattle.std.specs.List.{AllByRecursion}
 use Rattle.std.specs.Cmp.Lexicographic.{slice_cmp}
 use Rattle.std.specs.Ordering.{match_ordering}
@@ -14,7 +14,7 @@ use Rattle.schema.specs.declared.value.Repetition.TheVariants.{Required, Optiona
 use Rattle.schema.specs.declared.value.Value.{Value as CodeValue}
 use Rattle.schema.specs.declared.field.Field.{Field as CodeField}
 use Rattle.schema.specs.Law.{names, AllDiffer, IsValid, AreValid}
-use Rattle.schema.specs.Values.{ValueTree, null, boolean, integer, bytes, group, list, ValueTrees, no_values, value, view, views}
+use Rattle.schema.specs.Values.{ValueTree, ValueTrees, no_values, value, view, views}
 use Rattle.schema.specs.Shape.{Field, leaf, fields, Fields, no_fields, field, name_of, repetition_of}
 use Rattle.schema.specs.Views.{field_view, field_views}
 use Rattle.jsonrows.specs.Reading.{value_before, read_as, without, field_read, members_read}

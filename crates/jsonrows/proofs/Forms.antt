@@ -8,8 +8,8 @@ use Rattle.serde_json.specs.declared.value.Value.{Value as Json, Object, Array}
 use Rattle.serde_json.proofs.Views.{view-Object, view-Array}
 use Rattle.schema.specs.declared.value.Repetition.TheVariants.{Repeated}
 use Rattle.schema.specs.declared.value.Value.{Value, the_lemmas as of_schema}
-use Rattle.schema.specs.declared.value.Value.TheVariants.{List as ListOf}
-use Rattle.schema.specs.Values.{list, ValueTrees, views, view as value_view}
+use Rattle.schema.specs.declared.value.Value.TheVariants.{Bytes, List as ListOf}
+use Rattle.schema.specs.Values.{bytes, list, ValueTrees, views, view as value_view}
 use Rattle.schema.specs.Shape.{Field, leaf, fields, Fields, repetition_of}
 use Rattle.jsonrows.specs.Json.{inside_json, items_json, field_json, members_json, row_json}
 
@@ -27,6 +27,9 @@ items_seen f made vs n h e = ap items_of (e ∙ ap (map (λ v. inside_json f (va
 
 pub view-List : (vs : Vec Value Global) → value_view (ListOf vs) ≡ list (views vs.items)
 view-List vs = search (rules, of_schema)
+
+pub view-Bytes : (s : Vec ℕ Global) → value_view (Bytes s) ≡ bytes s.items
+view-Bytes s = search (rules, of_schema)
 
 -- a REPEATED value is the array of its items
 pub repeated_seen : (f : Field) (made : Vec Json Global) (vs : Vec Value Global) → repetition_of f ≡ Repeated → items_view made.items ≡ items_json (inside_json f) (views vs.items) → view (Array made) ≡ field_json f (value_view (ListOf vs))

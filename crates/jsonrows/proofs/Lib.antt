@@ -33,3 +33,4 @@ pub mod RowOrder
 pub mod RowRuns
 pub mod RowPlans
 pub mod Openings
+pub mod TextLeaves

@@ -72,25 +72,21 @@ fn is_called(fields: &[Field], index: usize, name: &str) -> bool
     }
 }
 
-/// The index where a field of this name is looked for: where the members stand in the byte order of their names
-/// or in the order of the fields, it is known by the turn, and else it is looked up.
-fn guess(fields: &[Field], names: &Names, turn: usize, name: &str) -> Option<usize> {
-    if let Some(index) = names.order.get(turn) {
-        if is_called(fields, *index, name) {
-            return Some(*index);
-        }
-    }
-    if is_called(fields, turn, name) {
-        return Some(turn);
-    }
-    names.indices.get(name).copied()
-}
-
-/// The index of the field of this name, where there is one; `turn` is how many members stand before it.
+/// The index of the field of this name, where there is one; `turn` is how many members stand before it. Where the
+/// members stand in the byte order of their names or in the order of the fields, it is known by the turn, and else
+/// it is looked up.
 pub fn index_of(fields: &[Field], names: &Names, turn: usize, name: &str) -> Result<usize, Unread>
     ensures { IfOk result (λ index. IsCalled (field_views fields.now) index name.now) }
 {
-    let index = guess(fields, names, turn, name).ok_or(Unread::Unknown)?;
+    if let Some(index) = names.order.get(turn) {
+        if is_called(fields, *index, name) {
+            return Ok(*index);
+        }
+    }
+    if is_called(fields, turn, name) {
+        return Ok(turn);
+    }
+    let index = names.indices.get(name).copied().ok_or(Unread::Unknown)?;
     if is_called(fields, index, name) {
         Ok(index)
     } else {

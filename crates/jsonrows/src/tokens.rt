@@ -1,14 +1,16 @@
 //! Values of fields from the tokens of a JSON text, with no JSON value between.
 
-ghost use Rattle.std.specs.Prelude.{◌≡◌, ◌<◌, ◌∷◌, length, Some, IfOk, option_and_then, slice_index_or, slice_set};
+ghost use Rattle.std.specs.Prelude.{◌≡◌, ◌<◌, ◌∷◌, length, Some, true, IfOk, OnOk, IsTrue, option_and_then, slice_index_or, slice_set};
 ghost use Rattle.json.specs.Reads.{token_of};
+ghost use Rattle.serde_json.specs.Data.{string};
 ghost use Rattle.serde_json.specs.Read.{number_of};
-ghost use Rattle.schema.specs.Annotations.{order_of};
+ghost use Rattle.schema.specs.Annotations.{is_text, order_of};
+ghost use Rattle.schema.specs.Fits.{fits_leaf};
 ghost use Rattle.schema.specs.Law.{AllDiffer, names as names_in, IsValid, AreValid};
 ghost use Rattle.schema.specs.Shape.{repetition_of};
 ghost use Rattle.schema.specs.Values.{view as value_view, views};
-ghost use Rattle.schema.specs.Views.{leaf_type_view, field_view, field_views};
-ghost use Rattle.jsonrows.specs.Reading.{number_read, bytes_read, leaf_read, scalar_read, items_read, inside_read, field_read, members_read};
+ghost use Rattle.schema.specs.Views.{annotation_view, leaf_type_view, field_view, field_views};
+ghost use Rattle.jsonrows.specs.Reading.{number_read, bytes_of_digits, leaf_read, items_read, inside_read, field_read, members_read};
 ghost use Rattle.jsonrows.specs.inner.Fill.{scalar_of, BeginsWith, HoldsItems, HoldsMembers, absent_as, absent_each, is_filled_as, are_filled};
 
 use crate::integers::integer_from;
@@ -29,13 +31,31 @@ pub fn next_token<'r>(tokens: &mut Reader<'r>) -> Result<Token<'r>, Unread>
     }
 }
 
-/// The bytes of a leaf that a text is: itself where they are text, and else those of its digits.
-fn bytes_at(alloc: Global, leaf_type: &LeafType, text: &str) -> Result<Vec<u8>, Unread>
-    ensures { IfOk result (λ bytes. Some bytes.items ≡ bytes_read (leaf_type_view leaf_type.now) text.now) }
+/// The value, where it fits the leaf.
+fn fitting(leaf_type: &LeafType, value: Value) -> Result<Value, Unread>
+    ensures same { IfOk result (λ fit. value_view fit ≡ value_view value) }
+    ensures fits { OnOk result (IsTrue (fits_leaf (leaf_type_view leaf_type.now) (value_view value))) }
 {
-    if leaf_type.is_text() {
-        return Ok(String::from_str(alloc, text)?.into_bytes());
+    if leaf_type.fits(&value) {
+        Ok(value)
+    } else {
+        Err(Unread::Unknown)
     }
+}
+
+/// The value of a leaf of texts that a text is: itself. It is UTF-8, and so it fits.
+fn text_at(alloc: Global, leaf_type: &LeafType, text: &str) -> Result<Value, Unread>
+    requires { is_text leaf_type.now.kind (annotation_view leaf_type.now.annotation) ≡ true }
+    ensures { IfOk result (λ value. leaf_read (leaf_type_view leaf_type.now) (string text.now) ≡ Some (value_view value)) }
+{
+    let text = String::from_str(alloc, text)?;
+    Ok(Value::Bytes(text.into_bytes()))
+}
+
+/// The bytes whose digits a text is.
+fn digits_at(alloc: Global, text: &str) -> Result<Vec<u8>, Unread>
+    ensures { IfOk result (λ bytes. bytes_of_digits text.now ≡ Some bytes.items) }
+{
     match bytes_of_digits(alloc, text)? {
         Some(bytes) => Ok(bytes),
         None => Err(Unread::Unknown),
@@ -50,27 +70,16 @@ fn integer_at(leaf_type: &LeafType, text: &str) -> Result<i64, Unread>
     number_from(leaf_type, &number).ok_or(Unread::Unknown)
 }
 
-/// The value that a token is by its kind.
-fn scalar_at(alloc: Global, leaf_type: &LeafType, token: Token<'_>) -> Result<Value, Unread>
-    ensures { IfOk result (λ value. option_and_then (scalar_read (leaf_type_view leaf_type.now)) (scalar_of (token_of token.entry)) ≡ Some (value_view value)) }
-{
-    match token {
-        Token::Bool(boolean) => Ok(Value::Bool(boolean)),
-        Token::Number(text) => Ok(Value::Int(integer_at(leaf_type, text)?)),
-        Token::String(text) => Ok(Value::Bytes(bytes_at(alloc, leaf_type, text)?)),
-        _ => Err(Unread::Unknown),
-    }
-}
-
 /// A value of a leaf, its repetition aside.
 fn leaf_at(alloc: Global, leaf_type: &LeafType, token: Token<'_>) -> Result<Value, Unread>
     ensures { IfOk result (λ value. option_and_then (leaf_read (leaf_type_view leaf_type.now)) (scalar_of (token_of token.entry)) ≡ Some (value_view value)) }
 {
-    let value = scalar_at(alloc, leaf_type, token)?;
-    if leaf_type.fits(&value) {
-        Ok(value)
-    } else {
-        Err(Unread::Unknown)
+    match token {
+        Token::Bool(boolean) => fitting(leaf_type, Value::Bool(boolean)),
+        Token::Number(text) => fitting(leaf_type, Value::Int(integer_at(leaf_type, text)?)),
+        Token::String(text) if leaf_type.is_text() => text_at(alloc, leaf_type, text),
+        Token::String(text) => fitting(leaf_type, Value::Bytes(digits_at(alloc, text)?)),
+        _ => Err(Unread::Unknown),
     }
 }
 
