@@ -19,6 +19,7 @@ use crate::limits::MOST_ENTRIES_OF_CHUNK;
 use crate::options::ChunkOptions;
 use bits::{R, Refusal};
 use metadata::ColumnMeta;
+use pages::{one_page, short_pages_are_within_limits};
 use schema::{EntryRef, Leaf};
 use std::alloc::Global;
 use std::rc::RcStr;
@@ -78,6 +79,8 @@ fn put_chunk(
     ensures which { RefusedOnly IsOfEntries result }
     ensures front { OnErr result (take (length out.old.items) out.new.items ≡ out.old.items) }
 {
+    one_page();
+    short_pages_are_within_limits();
     let statistics = statistics_of(alloc, leaf, entries)?;
     let path_in_schema = bytes_of_names(alloc, leaf.path.as_slice())?;
     let start = out.len();
