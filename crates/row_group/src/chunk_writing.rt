@@ -42,7 +42,8 @@ pub fn write_chunk(
     entries: &[EntryRef<'_>],
     out: &mut Vec<u8>,
 ) -> R<ColumnMeta>
-    ensures stands { IfOk result (λ m. AppendsChunk (leaf_view leaf.now) options out.old.items out.new.items (column_meta_view m) (map entry_ref_view entries.now)) }
+    ensures stands { IfOk result (λ m.
+        AppendsChunk (leaf_view leaf.now) options out.old.items out.new.items (column_meta_view m) (map entry_ref_view entries.now)) }
     ensures within_limits { OnOk result (AreShort (map entry_ref_view entries.now)) }
     ensures entries_within_limits { OnOk result (most_entries <ℤ pos (length (map entry_ref_view entries.now)) → ⊥) }
     ensures only { OnFault result (AllByRecursion (IsEntryOf (leaf_view leaf.now)) (map entry_ref_view entries.now) → ⊥) }
@@ -72,7 +73,8 @@ fn put_chunk(
     requires rows { 0 < options.page_rows }
     requires begun { 0 < length out.old.items }
     requires few { length entries.now ≤ 16777216 }
-    ensures stands { IfOk result (λ m. AppendsChunk (leaf_view leaf.now) options out.old.items out.new.items (column_meta_view m) (map entry_ref_view entries.now)) }
+    ensures stands { IfOk result (λ m.
+        AppendsChunk (leaf_view leaf.now) options out.old.items out.new.items (column_meta_view m) (map entry_ref_view entries.now)) }
     ensures within_limits { OnOk result (AreShort (map entry_ref_view entries.now)) }
     ensures only { OnFault result (AllByRecursion (IsEntryOf (leaf_view leaf.now)) (map entry_ref_view entries.now) → ⊥) }
     ensures limit { result ≡ Err Refusal.Limit → IsChunkTooMuch (length out.old.items) options.page_rows (map entry_ref_view entries.now) }
