@@ -47,7 +47,8 @@ fn write_groups(
 ) -> R<Vec<GroupMeta>>
     requires in_range { IsOutOfRange options.now → ⊥ }
     requires begun { out.old.items ≡ magic }
-    ensures stands { IfOk result (λ gs. AppendsGroups schema.now (chunk_options options.now) magic out.new.items (map group_meta_view gs.items) (groups_of options.now.group_rows (rows_view rows.now))) }
+    ensures stands { let groups = groups_of options.now.group_rows (rows_view rows.now) in
+        IfOk result (λ gs. AppendsGroups schema.now (chunk_options options.now) magic out.new.items (map group_meta_view gs.items) groups) }
     ensures readable { OnOk result (AllByRecursion (AreTaken schema.now) (groups_of options.now.group_rows (rows_view rows.now))) }
     ensures only { OnFault result (RowsFit schema.now (rows_view rows.now) → ⊥) }
     ensures limit { result ≡ Err Refusal.Limit → IsTooMuch schema.now options.now (rows_view rows.now) }
