@@ -10,4 +10,5 @@ pub mod Parted
 pub mod InGroups
 pub mod Weighed
 pub mod Whole
+pub mod WrittenWithin
 pub mod OneMeaning

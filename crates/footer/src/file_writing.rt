@@ -8,6 +8,7 @@ ghost use Rattle.schema.specs.Fits.{RowsFit};
 ghost use Rattle.schema.specs.Views.{rows_view};
 ghost use Rattle.metadata.specs.Views.{group_meta_view};
 ghost use Rattle.row_group.specs.Writing.{AreTaken, IsOfRows};
+ghost use Rattle.footer.specs.Faults.{IsOverLimit};
 ghost use Rattle.footer.specs.File.{magic, FileMeans};
 ghost use Rattle.footer.specs.Own.{AppendsGroups, IsLaidOut};
 ghost use Rattle.footer.specs.Writing.{chunk_options, groups_of, IsOutOfRange, IsTooMuch, IsTaken};
@@ -17,9 +18,9 @@ use crate::footer_writing::ended;
 use crate::limits::MAGIC;
 use crate::options::WriteOptions;
 use bits::{R, Refusal};
-use metadata::GroupMeta;
-use row_group::{an_appended_group_has_its_rows, write_group};
-use schema::{Row, Schema};
+use metadata::{GroupMeta, one_footer};
+use row_group::{an_appended_group_has_its_rows, an_appended_group_is_within_limits, write_group};
+use schema::{Row, Schema, a_list_means_one_schema};
 use std::alloc::Global;
 
 /// The most rows that a written group may have.
@@ -46,7 +47,8 @@ fn write_groups(
 ) -> R<Vec<GroupMeta>>
     requires in_range { IsOutOfRange options.now → ⊥ }
     requires begun { out.old.items ≡ magic }
-    ensures stands { IfOk result (λ gs. AppendsGroups schema.now (chunk_options options.now) magic out.new.items (map group_meta_view gs.items) (groups_of options.now.group_rows (rows_view rows.now))) }
+    ensures stands { let groups = groups_of options.now.group_rows (rows_view rows.now) in
+        IfOk result (λ gs. AppendsGroups schema.now (chunk_options options.now) magic out.new.items (map group_meta_view gs.items) groups) }
     ensures readable { OnOk result (AllByRecursion (AreTaken schema.now) (groups_of options.now.group_rows (rows_view rows.now))) }
     ensures only { OnFault result (RowsFit schema.now (rows_view rows.now) → ⊥) }
     ensures limit { result ≡ Err Refusal.Limit → IsTooMuch schema.now options.now (rows_view rows.now) }
@@ -90,12 +92,16 @@ pub fn write_file(
     ensures means { IfOk result (λ file. FileMeans file.items schema.now (rows_view rows.now)) }
     ensures laid_out { IfOk result (λ file. IsLaidOut options.now schema.now (rows_view rows.now) file.items) }
     ensures readable { IfOk result (λ file. IsTaken options.now.group_rows schema.now (rows_view rows.now) file.items) }
+    ensures within_limits { IfOk result (λ file. IsOverLimit file.items → ⊥) }
     ensures options { OnOk result (IsOutOfRange options.now → ⊥) }
     ensures only { OnFault result (RowsFit schema.now (rows_view rows.now) → ⊥) }
     ensures limit { result ≡ Err Refusal.Limit → IsOutOfRange options.now ⊎ IsTooMuch schema.now options.now (rows_view rows.now) }
     ensures which { RefusedOnly IsOfRows result }
 {
     an_appended_group_has_its_rows();
+    an_appended_group_is_within_limits();
+    one_footer();
+    a_list_means_one_schema();
     if is_out_of_range(options) {
         return Err(Refusal::Limit);
     }

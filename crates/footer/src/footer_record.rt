@@ -6,7 +6,7 @@ ghost use Rattle.thrift_compact.specs.View.{tree_view};
 ghost use Rattle.schema.specs.Elements.{element_view, elements_view};
 ghost use Rattle.schema.specs.Law.{IsWithinLimits};
 ghost use Rattle.schema.specs.Listed.{elements_of};
-ghost use Rattle.schema.specs.Listing.{IsSchemaOf};
+ghost use Rattle.schema.specs.Listing.{IsSchemaOf, IsTooLarge};
 ghost use Rattle.metadata.specs.Kept.{EachKeepsWritten};
 ghost use Rattle.metadata.specs.Records.{type_order};
 ghost use Rattle.metadata.specs.Views.{group_meta_view, column_order_view, file_meta_view};
@@ -93,6 +93,7 @@ pub fn record_of(
     ensures writable { IfOk result (λ meta. EachKeepsWritten (file_meta_view meta)) }
     ensures listed { OnOk result (IsSchemaOf (elements_of schema.now) schema.now) }
     ensures within { OnOk result (IsWithinLimits schema.now) }
+    ensures within_limits { OnOk result (IsTooLarge (elements_of schema.now) → ⊥) }
     ensures which { RefusedOnly (λ _. ⊥) result }
 {
     a_schema_is_its_elements();

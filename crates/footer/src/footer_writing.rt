@@ -23,8 +23,10 @@ use std::alloc::Global;
 /// Writes the record at the end of `out`. Refused only Memory.
 fn write_record(alloc: Global, meta: &FileMeta, out: &mut Vec<u8>) -> R<()>
     requires { EachKeepsWritten (file_meta_view meta.now) }
-    ensures stands { let fields = file_meta_fields (file_meta_view meta.now) in OnOk result (Appends (λ bytes used. IsThrift bytes fields used) (size_struct fields) out.old.items out.new.items) }
-    ensures weight { let seen = file_meta_view meta.now in (keys : List (List ℕ)) → IsOfTheWriter keys seen → OnOk result (length out.new.items ≤ length out.old.items + footer_weight keys seen) }
+    ensures stands { let fields = file_meta_fields (file_meta_view meta.now) in
+        OnOk result (Appends (λ bytes used. IsThrift bytes fields used) (size_struct fields) out.old.items out.new.items) }
+    ensures weight { let seen = file_meta_view meta.now in
+        (keys : List (List ℕ)) → IsOfTheWriter keys seen → OnOk result (length out.new.items ≤ length out.old.items + footer_weight keys seen) }
     ensures which { RefusedOnly (λ _. ⊥) result }
 {
     meta.write(alloc, out)
@@ -48,7 +50,8 @@ pub fn ended(alloc: Global, front: Vec<u8>, meta: &FileMeta) -> R<Vec<u8>>
     ensures stands { IfOk result (λ file. EndsWith front.items (file_meta_view meta.now) file.items) }
     ensures size { IfOk result (λ file. length file.items ≤ most_of_file) }
     ensures footer_size { IfOk result (λ file. (before footer : List ℕ) → IsFramed file.items before footer → length footer ≤ most_of_footer) }
-    ensures limit { result ≡ Err Refusal.Limit → IsOfTheWriter [] (file_meta_view meta.now) → (most_of_footer < footer_weight [] (file_meta_view meta.now)) ⊎ (most_of_file < length front.items + 8 + footer_weight [] (file_meta_view meta.now)) }
+    ensures limit { let seen = file_meta_view meta.now in result ≡ Err Refusal.Limit → IsOfTheWriter [] seen
+        → (most_of_footer < footer_weight [] seen) ⊎ (most_of_file < length front.items + 8 + footer_weight [] seen) }
     ensures which { RefusedOnly (λ e. e ≡ Refusal.Limit) result }
 {
     footer_again();

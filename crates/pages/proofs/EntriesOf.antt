@@ -75,7 +75,7 @@ pub record HasValues (leaf : Leaf) (es : List Entry) : Type 0 where
   pub count : length (values es) ≡ length (filter (λ d. d == leaf.greatest_definition) (definitions es))
   pub fit : AllFit leaf.leaf_type (values es)
 
-has_values : (leaf : Leaf) (es : List Entry) → AllByRecursion (IsEntryOf leaf) es → HasValues leaf es
+pub has_values : (leaf : Leaf) (es : List Entry) → AllByRecursion (IsEntryOf leaf) es → HasValues leaf es
 has_values leaf [] each = record { count = refl; fit = tt }
 has_values leaf (e ∷ es) (here, each) = by e.definition e.value here.value (has_values leaf es each)
   where

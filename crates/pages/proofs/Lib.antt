@@ -19,5 +19,6 @@ pub mod ListedValues
 pub mod OneBody
 pub mod OneChunk
 pub mod EntriesOf
+pub mod ShortValues
 pub mod Bodies
 pub mod Worked

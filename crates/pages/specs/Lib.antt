@@ -2,6 +2,7 @@ pub mod Encodings
 pub mod Page
 pub mod Chunk
 pub mod Limits
+pub mod ShortPages
 pub mod Left
 pub mod Views
 pub mod Flat

@@ -10,6 +10,7 @@ ghost use Rattle.pages.specs.Chunk.{IsChunk};
 ghost use Rattle.pages.specs.Writing.{StandsAsPage};
 ghost use Rattle.pages.specs.Worked.{number_leaf, text_leaf, five_null_six, three_lists, page_of_version_1, page_of_version_2, page_of_texts, page_of_lists};
 ghost use Rattle.pages.specs.Apart.{DictionaryIsNotRead, EntriesStandAlone, NoPageOfNoBytes};
+ghost use Rattle.pages.specs.ShortPages.{ShortPagesAreWithinLimits};
 
 use delta::{one_byte_list, one_prefixed_list};
 use dictionary::one_list_of_values;
@@ -38,6 +39,16 @@ pub fn one_page()
     delta::one_list();
     one_byte_list();
     one_prefixed_list();
+}
+
+/// A page without a value of more than 16 MiB, its dictionary's page aside, is over no limit: also one that
+/// nobody has read.
+pub fn short_pages_are_within_limits()
+    ensures { ShortPagesAreWithinLimits }
+{
+    one_page_header();
+    hybrid_rle::one_list();
+    delta::one_list();
 }
 
 /// Pages made by hand from the standard: 5, null and 6 of an OPTIONAL leaf as a page of version 1 and as

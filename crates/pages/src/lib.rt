@@ -38,7 +38,7 @@ pub use data_page::DataPage;
 pub use dictionary_page_writing::write_dictionary_page;
 pub use encoding::Encoding;
 pub use index_page_writing::write_index_page;
-pub use laws::{one_page, pages_of_a_dictionary, worked_examples};
+pub use laws::{one_page, pages_of_a_dictionary, short_pages_are_within_limits, worked_examples};
 pub use limits::MOST_BYTES_OF_PAGE;
 pub use page::PageRef;
 pub use page_reading::read_page;

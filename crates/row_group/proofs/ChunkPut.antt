@@ -1,31 +1,36 @@
 -- The pages of a chunk that are written: which entries they hold, and how its record says so.
 use Rattle.std.proofs.Common.{◌≡◌, ℕ, zero, suc, ◌+◌, ◌-◌, ◌<◌, List, [], ◌∷◌, ◌++◌, length, take, drop, map, Option, None, Some, true, refl, sym, ap, subst, ◌∙◌, arith, append_assoc}
-use Rattle.std.specs.Prelude.{ℤ, pos, flat_map, filter, sum_by, nat_lt}
-use Rattle.std.specs.List.{AllByRecursion}
+use Rattle.std.specs.Prelude.{ℤ, pos, ◌<ℤ◌, flat_map, filter, sum_by, nat_lt}
+use Rattle.std.specs.List.{Any, AllByRecursion}
 use Rattle.std.proofs.lemmas.Bool.Decides.{nat_tests}
 use Rattle.std.proofs.lemmas.List.{length-append, length-map, drop_at}
 use Rattle.bits.specs.Codec.{Appends, InTurn}
 use Rattle.schema.specs.Values.{ValueTree}
 use Rattle.schema.specs.Stripe.{Leaf, Entry}
 use Rattle.metadata.specs.Records.{ColumnMeta}
+use Rattle.plain.specs.Plain.{IsTooLong}
 use Rattle.dictionary.specs.Entries.{IsIndexed}
 use Rattle.pages.specs.Page.{Page, dictionary, entries, values, IsPage}
-use Rattle.pages.specs.Chunk.{IsChunk, is_read, all_entries}
+use Rattle.pages.specs.Chunk.{is_read, all_entries}
 use Rattle.pages.specs.Headers.{IsWrittenDictionary}
-use Rattle.pages.specs.Writing.{page_weight, index_weight, dictionary_weight, StandsAsDictionary}
-use Rattle.pages.proofs.Framed.{no_page_of_no_bytes}
-use Rattle.pages.proofs.WrittenPages.{nulls_and_values}
+use Rattle.pages.specs.Writing.{page_weight, index_weight, dictionary_weight, AreShort, StandsAsDictionary}
+use Rattle.pages.specs.ShortPages.{HasShortValues, ShortPagesAreWithinLimits}
+use Rattle.pages.proofs.Framed.{dictionary_is_not_read, no_page_of_no_bytes}
+use Rattle.pages.proofs.WrittenPages.{all_short, nulls_and_values}
 use Rattle.row_group.specs.declared.chunk_pages.ChunkPages.{ChunkPages}
 use Rattle.row_group.specs.declared.options.ChunkOptions.{ChunkOptions}
 use Rattle.row_group.specs.Chunks.{first_page, IsChunkOf}
+use Rattle.row_group.specs.Greatest.{most_entries}
 use Rattle.row_group.specs.Styles.{encoding_of, HasDictionary, numbers_with_levels}
 use Rattle.row_group.specs.Paged.{ArePages, ArePagesOf}
 use Rattle.row_group.specs.Spelled.{IsValuePage, IsIndexPage, AreStatisticsOf}
 use Rattle.row_group.specs.Spelled as spelled
 use Rattle.row_group.specs.Writing.{AppendsChunk}
-use Rattle.row_group.specs.inner.Parts.{SaysOfPages, AppendsPages}
-use Rattle.row_group.proofs.PartWeights.{values_weigh, indexes_weigh, with_dictionary}
-use Rattle.row_group.proofs.PartsPut.{both_forms}
+use Rattle.row_group.specs.inner.Parts.{SaysOfPages, IsShortChunk, AppendsPages}
+use Rattle.row_group.proofs.OneRest.{PagesAreOne}
+use Rattle.row_group.proofs.PartWeights.{values_append, values_weigh, indexes_weigh, with_dictionary}
+use Rattle.row_group.proofs.PartsPut.{both_forms, all_front, all_back}
+use Rattle.row_group.proofs.ShortChunks.{short_chunk}
 
 -- ---- pages in turn
 
@@ -63,34 +68,48 @@ pages_held leaf d es parts size cut k lt =
     let whole : all_entries (map entries parts) ≡ es = all_of parts ∙ cut.joined in
     omega (arith, fewer parts (some_each size parts cut.each) k (omega (arith, lt, length-map parts entries)), ap length whole)
 
+-- entries without a value that is too long have such pages
+parts_short : (parts : List (List Entry)) → AreShort (flat_map (λ part. part) parts) → AllByRecursion HasShortValues (map entries parts)
+parts_short [] short = tt
+parts_short (part ∷ parts) short =
+    let rest = flat_map (λ part. part) parts in
+    let both = subst (λ (vs : List ValueTree). AllByRecursion (λ v. IsTooLong v → ⊥) vs) (values_append part rest) short in
+    (all_front (λ v. IsTooLong v → ⊥) (values part) (values rest) both, parts_short parts (all_back (λ v. IsTooLong v → ⊥) (values part) (values rest) both))
+
+short_of : (size : ℕ) (es : List Entry) (parts : List (List Entry)) → ArePagesOf size es parts → AreShort es → AllByRecursion HasShortValues (map entries parts)
+short_of size es parts cut short = parts_short parts (subst (λ (fs : List Entry). AreShort fs) (sym cut.joined) short)
+
 -- ---- without a dictionary
 
-values_held : (leaf : Leaf) (size : ℕ) (es : List Entry) (parts : List (List Entry)) (bytes : List ℕ) (used : ℕ) → ArePagesOf size es parts
-    → InTurn (λ t part u. IsPage leaf None t (entries part) u) bytes parts used → IsChunk leaf bytes (length es) es used
-values_held leaf size es parts bytes used cut p = record {
-  pages = map entries parts;
-  dictionary_values = None;
-  parts = parts;
-  spelled = turn_pages leaf None parts bytes used p;
-  in_order = all_read parts;
-  joined = sym (all_of parts ∙ cut.joined);
-  count = refl;
-  until = pages_held leaf None es parts size cut;
+values_held : (leaf : Leaf) (size : ℕ) (es : List Entry) (parts : List (List Entry)) (bytes : List ℕ) (used : ℕ) → ArePagesOf size es parts → AreShort es
+    → InTurn (λ t part u. IsPage leaf None t (entries part) u) bytes parts used → IsShortChunk leaf bytes es used
+values_held leaf size es parts bytes used cut short p = record {
+  chunk = record {
+    pages = map entries parts;
+    dictionary_values = None;
+    parts = parts;
+    spelled = turn_pages leaf None parts bytes used p;
+    in_order = all_read parts;
+    joined = sym (all_of parts ∙ cut.joined);
+    count = refl;
+    until = pages_held leaf None es parts size cut;
+  };
+  short = short_of size es parts cut short;
 }
 
 -- the pages of values are those of a chunk
 pub value_pages : (leaf : Leaf) (o : ChunkOptions) (es : List Entry) (pages : ChunkPages) (old new : List ℕ) (parts : List (List Entry)) (Each : List ℕ → List Entry → ℕ → Type 0)
     → ((t : List ℕ) (part : List Entry) (u : ℕ) → Each t part u → IsValuePage leaf o.page_version (encoding_of o.style leaf.leaf_type.kind) t part u)
     → ((t : List ℕ) (part : List Entry) (u : ℕ) → Each t part u → IsPage leaf None t (entries part) u)
-    → (HasDictionary o.style leaf.leaf_type.kind es → ⊥) → ArePagesOf o.page_rows es parts → Appends (λ bytes. InTurn Each bytes parts) (sum_by page_weight parts) old new
+    → (HasDictionary o.style leaf.leaf_type.kind es → ⊥) → AreShort es → ArePagesOf o.page_rows es parts → Appends (λ bytes. InTurn Each bytes parts) (sum_by page_weight parts) old new
     → pages.encodings.items ≡ numbers_with_levels (encoding_of o.style leaf.leaf_type.kind) → pages.dictionary_page_offset ≡ None → pages.data_page_offset ≡ pos (length old)
     → AppendsPages leaf o old new pages es
-value_pages leaf o es pages old new parts Each written read none cut p encodings dictionary_offset data_offset = record {
+value_pages leaf o es pages old new parts Each written read none small cut p encodings dictionary_offset data_offset = record {
   text = p.text;
   parts = parts;
   joined = p.joined;
   paged = cut;
-  held = λ more. values_held leaf o.page_rows es parts (p.text ++ more) (length p.text) cut (turn_as Each (λ t part u. IsPage leaf None t (entries part) u) read parts (p.text ++ more) (length p.text) (p.stands more));
+  held = λ more. values_held leaf o.page_rows es parts (p.text ++ more) (length p.text) cut small (turn_as Each (λ t part u. IsPage leaf None t (entries part) u) read parts (p.text ++ more) (length p.text) (p.stands more));
   starts = λ m s. record { page = length old; data_page = s.data_offset ∙ data_offset; begins = rw (s.dictionary_offset ∙ dictionary_offset) refl };
   spelled = λ m s more. spelled.of_values none (record {
     pages = turn_as Each (IsValuePage leaf o.page_version (encoding_of o.style leaf.leaf_type.kind)) written parts (p.text ++ more) (length p.text) (p.stands more);
@@ -104,16 +123,19 @@ value_pages leaf o es pages old new parts Each written read none cut p encodings
 -- ---- with one
 
 indexes_held : (leaf : Leaf) (vs : List ValueTree) (o : ChunkOptions) (es : List Entry) (parts : List (List Entry)) (bytes : List ℕ) (first rest : ℕ) → 0 < length es → ArePagesOf o.page_rows es parts
-    → IsPage leaf (Some vs) bytes (dictionary vs) first → InTurn (λ t part u. IsPage leaf (Some vs) t (entries part) u) (drop first bytes) parts rest → IsChunk leaf bytes (length es) es (first + rest)
-indexes_held leaf vs o es parts bytes first rest some cut page p = record {
-  pages = dictionary vs ∷ map entries parts;
-  dictionary_values = Some vs;
-  parts = parts;
-  spelled = (first, rest, page, turn_pages leaf (Some vs) parts (drop first bytes) rest p, refl);
-  in_order = ap (λ (t : List Page). dictionary vs ∷ t) (all_read parts);
-  joined = sym (all_of parts ∙ cut.joined);
-  count = refl;
-  until = before;
+    → (Any IsTooLong vs → ⊥) → AreShort es → IsPage leaf (Some vs) bytes (dictionary vs) first → InTurn (λ t part u. IsPage leaf (Some vs) t (entries part) u) (drop first bytes) parts rest → IsShortChunk leaf bytes es (first + rest)
+indexes_held leaf vs o es parts bytes first rest some cut none short page p = record {
+  chunk = record {
+    pages = dictionary vs ∷ map entries parts;
+    dictionary_values = Some vs;
+    parts = parts;
+    spelled = (first, rest, page, turn_pages leaf (Some vs) parts (drop first bytes) rest p, refl);
+    in_order = ap (λ (t : List Page). dictionary vs ∷ t) (all_read parts);
+    joined = sym (all_of parts ∙ cut.joined);
+    count = refl;
+    until = before;
+  };
+  short = (all_short vs none, short_of o.page_rows es parts cut short);
 }
   where
     before : (k : ℕ) → k < length (dictionary vs ∷ map entries parts) → length (all_entries (take k (dictionary vs ∷ map entries parts))) < length es
@@ -137,12 +159,12 @@ some_entries es some = omega (arith, some, nulls_and_values es)
 pub index_pages : (leaf : Leaf) (o : ChunkOptions) (es : List Entry) (vs : List ValueTree) (is : List ℕ) (pages : ChunkPages) (old mid new : List ℕ) (parts : List (List Entry)) (Each : List ℕ → List Entry → ℕ → Type 0)
     → ((t : List ℕ) (part : List Entry) (u : ℕ) → Each t part u → IsIndexPage leaf o.page_version vs t part u)
     → ((t : List ℕ) (part : List Entry) (u : ℕ) → Each t part u → IsPage leaf (Some vs) t (entries part) u)
-    → 0 < length old → HasDictionary o.style leaf.leaf_type.kind es → IsIndexed (values es) vs is → ArePagesOf o.page_rows es parts
+    → 0 < length old → HasDictionary o.style leaf.leaf_type.kind es → IsIndexed (values es) vs is → (Any IsTooLong vs → ⊥) → AreShort es → ArePagesOf o.page_rows es parts
     → Appends (IsWrittenDictionary leaf.leaf_type.kind vs) (dictionary_weight vs) old mid → Appends (StandsAsDictionary leaf.leaf_type.kind vs) (dictionary_weight vs) old mid
     → Appends (λ bytes. InTurn Each bytes parts) (sum_by (λ part. index_weight (length part)) parts) mid new
     → pages.encodings.items ≡ pos 0 ∷ pos 3 ∷ pos 8 ∷ [] → pages.dictionary_page_offset ≡ Some (pos (length old)) → pages.data_page_offset ≡ pos (length mid)
     → AppendsPages leaf o old new pages es
-index_pages leaf o es vs is pages old mid new parts Each written read begun has indexed cut w s q encodings dictionary_offset data_offset =
+index_pages leaf o es vs is pages old mid new parts Each written read begun has indexed none small cut w s q encodings dictionary_offset data_offset =
     let kind = leaf.leaf_type.kind in
     let d = both_forms (IsWrittenDictionary kind vs) (StandsAsDictionary kind vs) (dictionary_weight vs) (dictionary_weight vs) old mid w s in
     let text = d.text ++ q.text in
@@ -158,8 +180,8 @@ index_pages leaf o es vs is pages old mid new parts Each written read begun has 
       parts = parts;
       joined = q.joined ∙ ap (λ (t : List ℕ). t ++ q.text) d.joined ∙ append_assoc old d.text q.text;
       paged = cut;
-      held = λ more. subst (λ (k : ℕ). IsChunk leaf (text ++ more) (length es) es k) (sym long)
-          (indexes_held leaf vs o es parts (text ++ more) (length d.text) (length q.text) (some_entries es has.some) cut ((first more).1 leaf (Some vs) refl)
+      held = λ more. subst (λ (k : ℕ). IsShortChunk leaf (text ++ more) es k) (sym long)
+          (indexes_held leaf vs o es parts (text ++ more) (length d.text) (length q.text) (some_entries es has.some) cut none small ((first more).1 leaf (Some vs) refl)
           (turn_as Each (λ t part u. IsPage leaf (Some vs) t (entries part) u) read parts (drop (length d.text) (text ++ more)) (length q.text) (rest more)));
       starts = λ m says. record {
         page = length old + length d.text;
@@ -185,9 +207,10 @@ index_pages leaf o es vs is pages old mid new parts Each written read begun has 
 -- ---- the record
 
 -- the record of a chunk, and its pages, are the chunk
-pub chunk_put : (m : ColumnMeta) (leaf : Leaf) (o : ChunkOptions) (old new : List ℕ) (es : List Entry) (pages : ChunkPages) (size : ℕ) → AppendsPages leaf o old new pages es → IsChunkOf m leaf → m.num_values ≡ pos (length es) → SaysOfPages m pages
+pub chunk_put : PagesAreOne → ShortPagesAreWithinLimits → (m : ColumnMeta) (leaf : Leaf) (o : ChunkOptions) (old new : List ℕ) (es : List Entry) (pages : ChunkPages) (size : ℕ) → AppendsPages leaf o old new pages es → IsChunkOf m leaf
+    → m.num_values ≡ pos (length es) → (most_entries <ℤ pos (length es) → ⊥) → SaysOfPages m pages
     → size ≡ length new - length old → m.total_compressed_size ≡ Some (pos size) → m.total_uncompressed_size ≡ Some (pos size) → AreStatisticsOf leaf es m.statistics → AppendsChunk leaf o old new m es
-chunk_put m leaf o old new es pages size p is count says filled packed plain statistics =
+chunk_put one short m leaf o old new es pages size p is count few says filled packed plain statistics =
     let same : size ≡ length p.text = omega (arith, filled, ap length p.joined, length-append old p.text) in
     record {
       text = p.text;
@@ -195,7 +218,10 @@ chunk_put m leaf o old new es pages size p is count says filled packed plain sta
       joined = p.joined;
       paged = p.paged;
       starts = p.starts m says;
-      fills = λ more. record { is = is; count = count; held = p.held more };
+      fills = λ more. record { is = is; count = count; held = (p.held more).chunk };
+      within_limits = λ more.
+          short_chunk one dictionary_is_not_read short m leaf (p.text ++ more) es (length p.text) (p.held more) (omega (arith, length-append p.text more))
+          (record { is = is; count = count; few = λ many. few (subst (λ (z : ℤ). most_entries <ℤ z) count many) });
       pages = p.spelled m says;
       size = packed ∙ ap (λ (n : ℕ). Some (pos n)) same;
       plain_size = plain ∙ ap (λ (n : ℕ). Some (pos n)) same;

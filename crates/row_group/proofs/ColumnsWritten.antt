@@ -12,7 +12,7 @@ use Rattle.schema.specs.Law.{IsEntryOf, EntriesAreOfLeaves, RowsBeginOnce}
 use Rattle.schema.proofs.Kept.{all_joined}
 use Rattle.metadata.specs.Records.{ChunkMeta, GroupMeta}
 use Rattle.pages.specs.Writing.{AreShort}
-use Rattle.row_group.specs.Greatest.{most_entries}
+use Rattle.row_group.specs.Greatest.{most_entries, most_rows}
 use Rattle.row_group.specs.declared.options.ChunkOptions.{ChunkOptions}
 use Rattle.row_group.specs.Paged.{parts_of, chunk_weight}
 use Rattle.row_group.specs.Writing as group_limit
@@ -95,8 +95,8 @@ too_much o leaves cols i es old mid cs lt e so_far (IsChunkTooMuch.heavy parts p
 -- ---- the group
 
 pub group_written : RowsBeginOnce → (fs : Fields) (o : ChunkOptions) (rows : List ValueTrees) (old new : List ℕ) (g : GroupMeta) (size : ℕ) → RowsFit fs rows → size + length old ≡ length new
-    → g.num_rows ≡ pos (length rows) → g.total_byte_size ≡ Some (pos size) → AppendsChunks o (leaves_of fs) (columns fs rows) old new g.columns → AppendsGroup fs o old new g rows
-group_written law fs o rows old new g size fit filled count says p =
+    → g.num_rows ≡ pos (length rows) → (most_rows <ℤ pos (length rows) → ⊥) → g.total_byte_size ≡ Some (pos size) → AppendsChunks o (leaves_of fs) (columns fs rows) old new g.columns → AppendsGroup fs o old new g rows
+group_written law fs o rows old new g size fit filled count few says p =
     let whole = each_joined o (leaves_of fs) (columns fs rows) old new g.columns p.each in
     let both : length new ≡ length old + length whole.0 = ap length whole.1 ∙ length-append old whole.0 in
     let same : size ≡ length whole.0 = omega (arith, filled, both) in
@@ -105,6 +105,7 @@ group_written law fs o rows old new g size fit filled count says p =
       text = whole.0;
       joined = whole.1;
       count = count;
+      few = few;
       fit = fit;
       chunks = p.each;
       size = says ∙ ap (λ (n : ℕ). Some (pos n)) same;

@@ -2,6 +2,7 @@ pub mod Places
 pub mod Passed
 pub mod PageCounts
 pub mod Laid
+pub mod ShortChunks
 pub mod ColumnsWritten
 pub mod OneMeaning
 pub mod OneRest

@@ -23,7 +23,7 @@ tails x y xs ys e = cc
 
 -- ---- the first of the pages stands where the dictionary is what is known of it
 
-first_page : DictionaryIsNotRead → (leaf : Leaf) (k : Known) (d : Option (List ValueTree)) (first : List Page) (bytes : List ℕ) (q : Page) (qs : List Page) (parts : List (List Entry)) (u : ℕ)
+pub first_page : DictionaryIsNotRead → (leaf : Leaf) (k : Known) (d : Option (List ValueTree)) (first : List Page) (bytes : List ℕ) (q : Page) (qs : List Page) (parts : List (List Entry)) (u : ℕ)
     → IsKnown k d first → filter is_read (q ∷ qs) ≡ first ++ map entries parts → IsPage leaf d bytes q u → IsPage leaf (dictionary_of k) bytes q u
 first_page unread leaf (known c) d first bytes q qs parts u is e h = subst (λ (o : Option (List ValueTree)). IsPage leaf o bytes q u) is.0 h
 first_page unread leaf nothing d first bytes skipped qs parts u is e h = unread leaf d None bytes skipped u tt h
@@ -35,7 +35,7 @@ first_page unread leaf nothing (Some ws) first bytes (entries es) qs parts u is 
     apart e = cc
 
 -- which page may be the first
-may_come : (k : Known) (d : Option (List ValueTree)) (first : List Page) (q : Page) (qs : List Page) (parts : List (List Entry)) → IsKnown k d first → filter is_read (q ∷ qs) ≡ first ++ map entries parts → MayCome k q
+pub may_come : (k : Known) (d : Option (List ValueTree)) (first : List Page) (q : Page) (qs : List Page) (parts : List (List Entry)) → IsKnown k d first → filter is_read (q ∷ qs) ≡ first ++ map entries parts → MayCome k q
 may_come nothing d first q qs parts is e = tt
 may_come (known c) d first skipped qs parts is e = tt
 may_come (known c) d first (entries es) qs parts is e = tt

@@ -24,7 +24,7 @@ one_first None page a b p q = p ∙ sym q
 one_first (Some (pos d)) page a b p q = p ∙ sym q
 one_first (Some (negsuc d)) page a b p q = absurd p
 
-one_start : (m : ColumnMeta) (a b : ℕ) → StartsAt m a → StartsAt m b → a ≡ b
+pub one_start : (m : ColumnMeta) (a b : ℕ) → StartsAt m a → StartsAt m b → a ≡ b
 one_start m a b p q =
     let x = p.data_page in
     let y = q.data_page in

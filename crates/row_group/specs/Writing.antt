@@ -13,12 +13,13 @@ use Rattle.pages.specs.Page.{values}
 use Rattle.pages.specs.Writing.{AreShort}
 use Rattle.row_group.specs.Greatest.{most_entries, most_rows, most_bytes_before}
 use Rattle.row_group.specs.Chunks.{ChunkMeans, StartsAt}
+use Rattle.row_group.specs.Limits.{IsChunkOver}
 use Rattle.row_group.specs.declared.options.ChunkOptions.{ChunkOptions}
 use Rattle.row_group.specs.Paged.{ArePagesOf, chunk_weight, group_weight}
 use Rattle.row_group.specs.Spelled.{HasPages, AreStatisticsOf}
 
 -- The bytes of `new` are those of `old` and a chunk of these entries, which starts right after `old` and whose pages fill
--- exactly what was written, whatever follows it; so says its record. Each page has its rows, as the options say, and is written as
+-- exactly what was written, whatever follows it; so says its record. It goes beyond no limit of a reader. Each page has its rows, as the options say, and is written as
 -- their style says; the record has the statistics of the entries.
 pub record AppendsChunk (leaf : Leaf) (o : ChunkOptions) (old new : List ℕ) (m : ColumnMeta) (es : List Entry) : Type 0 where
   pub text : List ℕ
@@ -27,6 +28,7 @@ pub record AppendsChunk (leaf : Leaf) (o : ChunkOptions) (old new : List ℕ) (m
   pub paged : ArePagesOf o.page_rows es parts
   pub starts : StartsAt m (length old)
   pub fills : (more : List ℕ) → ChunkMeans m leaf (text ++ more) es (length text)
+  pub within_limits : (more : List ℕ) → IsChunkOver m leaf (text ++ more) → ⊥
   pub pages : (more : List ℕ) → HasPages leaf o es parts m (length old) (text ++ more) (length text)
   pub size : m.total_compressed_size ≡ Some (pos (length text))
   pub plain_size : m.total_uncompressed_size ≡ Some (pos (length text))
@@ -54,11 +56,12 @@ AppendsEach o (leaf ∷ leaves) (es ∷ columns) old new (c ∷ cs) =
 AppendsEach o _ _ old new _ = ⊥
 
 -- The bytes of `new` are those of `old` and the chunks of a group of these rows, in the order of the leaves; the record
--- counts the rows and the bytes. (So the group has the rows, whatever follows: `GroupMeans`.)
+-- counts the rows and the bytes. (So the group has the rows, whatever follows, and is over no limit: `GroupMeans`, `IsGroupOver`.)
 pub record AppendsGroup (fs : Fields) (o : ChunkOptions) (old new : List ℕ) (g : GroupMeta) (rows : List ValueTrees) : Type 0 where
   pub text : List ℕ
   pub joined : new ≡ old ++ text
   pub count : g.num_rows ≡ pos (length rows)
+  pub few : most_rows <ℤ pos (length rows) → ⊥
   pub fit : RowsFit fs rows
   pub chunks : AppendsEach o (leaves_of fs) (columns fs rows) old new g.columns
   pub size : g.total_byte_size ≡ Some (pos (length text))

@@ -13,7 +13,7 @@ ghost use Rattle.row_group.specs.Styles.{HasDictionary};
 ghost use Rattle.row_group.specs.Writing.{IsChunkTooMuch};
 ghost use Rattle.row_group.specs.inner.Parts.{AppendsPages};
 
-use crate::chunk_styles::{dictionary_of, encoding_of, numbers_with_levels};
+use crate::chunk_styles::{dictionary_of, encoding_of, numbers_of, numbers_with_levels};
 use crate::options::ChunkOptions;
 use crate::pages_in_turn::{PageValues, put_pages};
 use bits::{R, Refusal};
@@ -111,9 +111,8 @@ fn put_index_pages(
     ensures front { OnErr result (take (length out.old.items) out.new.items ≡ out.old.items) }
 {
     what_is_of_a_kind_fits_it();
-    let (plain, levels, indexes) = (Encoding::Plain, Encoding::Rle, Encoding::RleDictionary);
-    let numbers = [plain.number(), levels.number(), indexes.number()];
-    let encodings = Vec::from_slice(alloc, &numbers)?;
+    let indexes = [Encoding::Plain, Encoding::Rle, Encoding::RleDictionary];
+    let encodings = numbers_of(alloc, &indexes)?;
     let start = out.len();
     write_dictionary_page(alloc, leaf.leaf_type.kind, dictionary, out)?;
     let data = out.len();

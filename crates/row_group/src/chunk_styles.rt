@@ -1,12 +1,13 @@
 //! Which encodings a chunk is written in.
 
-ghost use Rattle.std.specs.Prelude.{◌≡◌, ◌≢◌, ◌↔◌, ◌<◌, map, length, IsTrue, IfOk, IfSome, IfNone};
+ghost use Rattle.std.specs.Prelude.{◌≡◌, ◌≢◌, ◌↔◌, ◌<◌, map, length, pos, IsTrue, IfOk, IfSome, IfNone};
 ghost use Rattle.std.specs.List.{AllByRecursion};
 ghost use Rattle.bits.specs.Refusals.{OnFault, RefusedOnly, RefusedMemoryOnly};
 ghost use Rattle.schema.specs.Borrowed.{entry_ref_view};
 ghost use Rattle.schema.specs.Law.{IsEntryOf};
 ghost use Rattle.schema.specs.Views.{leaf_view};
 ghost use Rattle.dictionary.specs.Entries.{IsIndexed, entries_of, indexes_of};
+ghost use Rattle.pages.specs.Headers.{number_of};
 ghost use Rattle.pages.specs.Page.{values as values_in};
 ghost use Rattle.row_group.specs.Styles.{encoding_of, HasDictionary, numbers_with_levels};
 
@@ -37,13 +38,22 @@ pub(crate) fn numbers_with_levels(alloc: Global, encoding: Encoding) -> R<Vec<i3
     ensures numbers { IfOk result (λ numbers. numbers.items ≡ numbers_with_levels encoding) }
     ensures which { RefusedMemoryOnly result }
 {
-    let levels = Encoding::Rle.number();
-    let values = encoding.number();
-    let numbers = match encoding {
-        Encoding::Plain => Vec::from_slice(alloc, &[values, levels])?,
-        Encoding::Rle => Vec::from_slice(alloc, &[levels])?,
-        _ => Vec::from_slice(alloc, &[levels, values])?,
-    };
+    match encoding {
+        Encoding::Plain => numbers_of(alloc, &[Encoding::Plain, Encoding::Rle]),
+        Encoding::Rle => numbers_of(alloc, &[Encoding::Rle]),
+        _ => numbers_of(alloc, &[Encoding::Rle, encoding]),
+    }
+}
+
+/// The numbers of the encodings, in their order.
+pub(crate) fn numbers_of(alloc: Global, encodings: &[Encoding]) -> R<Vec<i32>>
+    ensures numbers { IfOk result (λ numbers. numbers.items ≡ map (λ e. pos (number_of e)) encodings.now) }
+    ensures which { RefusedMemoryOnly result }
+{
+    let mut numbers = Vec::with_capacity(alloc, encodings.len())?;
+    for encoding in encodings {
+        numbers.push(encoding.number())?;
+    }
     Ok(numbers)
 }
 
@@ -68,7 +78,8 @@ pub(crate) fn dictionary_of(
     entries: &[EntryRef<'_>],
 ) -> R<Option<Dictionary>>
     ensures some { IfOk result (λ found. IfSome found (λ _. HasDictionary style leaf.now.leaf_type.kind (map entry_ref_view entries.now))) }
-    ensures indexed { let vs = values_in (map entry_ref_view entries.now) in IfOk result (λ found. IfSome found (λ d. IsIndexed vs (entries_of d) (indexes_of d))) }
+    ensures indexed { let vs = values_in (map entry_ref_view entries.now) in
+        IfOk result (λ found. IfSome found (λ d. IsIndexed vs (entries_of d) (indexes_of d))) }
     ensures none { IfOk result (λ found. IfNone found (HasDictionary style leaf.now.leaf_type.kind (map entry_ref_view entries.now) → ⊥)) }
     ensures only { OnFault result (AllByRecursion (IsEntryOf (leaf_view leaf.now)) (map entry_ref_view entries.now) → ⊥) }
     ensures which { RefusedOnly (λ e. e ≡ Refusal.Value) result }

@@ -19,6 +19,7 @@ use crate::limits::MOST_ENTRIES_OF_CHUNK;
 use crate::options::ChunkOptions;
 use bits::{R, Refusal};
 use metadata::ColumnMeta;
+use pages::{one_page, short_pages_are_within_limits};
 use schema::{EntryRef, Leaf};
 use std::alloc::Global;
 use std::rc::RcStr;
@@ -41,7 +42,8 @@ pub fn write_chunk(
     entries: &[EntryRef<'_>],
     out: &mut Vec<u8>,
 ) -> R<ColumnMeta>
-    ensures stands { IfOk result (λ m. AppendsChunk (leaf_view leaf.now) options out.old.items out.new.items (column_meta_view m) (map entry_ref_view entries.now)) }
+    ensures stands { IfOk result (λ m.
+        AppendsChunk (leaf_view leaf.now) options out.old.items out.new.items (column_meta_view m) (map entry_ref_view entries.now)) }
     ensures within_limits { OnOk result (AreShort (map entry_ref_view entries.now)) }
     ensures entries_within_limits { OnOk result (most_entries <ℤ pos (length (map entry_ref_view entries.now)) → ⊥) }
     ensures only { OnFault result (AllByRecursion (IsEntryOf (leaf_view leaf.now)) (map entry_ref_view entries.now) → ⊥) }
@@ -71,13 +73,16 @@ fn put_chunk(
     requires rows { 0 < options.page_rows }
     requires begun { 0 < length out.old.items }
     requires few { length entries.now ≤ 16777216 }
-    ensures stands { IfOk result (λ m. AppendsChunk (leaf_view leaf.now) options out.old.items out.new.items (column_meta_view m) (map entry_ref_view entries.now)) }
+    ensures stands { IfOk result (λ m.
+        AppendsChunk (leaf_view leaf.now) options out.old.items out.new.items (column_meta_view m) (map entry_ref_view entries.now)) }
     ensures within_limits { OnOk result (AreShort (map entry_ref_view entries.now)) }
     ensures only { OnFault result (AllByRecursion (IsEntryOf (leaf_view leaf.now)) (map entry_ref_view entries.now) → ⊥) }
     ensures limit { result ≡ Err Refusal.Limit → IsChunkTooMuch (length out.old.items) options.page_rows (map entry_ref_view entries.now) }
     ensures which { RefusedOnly IsOfEntries result }
     ensures front { OnErr result (take (length out.old.items) out.new.items ≡ out.old.items) }
 {
+    one_page();
+    short_pages_are_within_limits();
     let statistics = statistics_of(alloc, leaf, entries)?;
     let path_in_schema = bytes_of_names(alloc, leaf.path.as_slice())?;
     let start = out.len();

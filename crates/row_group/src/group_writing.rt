@@ -77,7 +77,8 @@ fn write_columns(
     out: &mut Vec<u8>,
 ) -> R<Vec<ChunkMeta>>
     requires entries { AreColumnsOf (map leaf_view leaves.now) (column_refs_view columns.now) }
-    ensures stands { IfOk result (λ cs. AppendsChunks options (map leaf_view leaves.now) (column_refs_view columns.now) out.old.items out.new.items (map chunk_meta_view cs.items)) }
+    ensures stands { IfOk result (λ cs.
+        AppendsChunks options (map leaf_view leaves.now) (column_refs_view columns.now) out.old.items out.new.items (map chunk_meta_view cs.items)) }
     ensures limit { result ≡ Err Refusal.Limit → AreTooMuch (length out.old.items) options.page_rows (column_refs_view columns.now) }
     ensures which { RefusedOnly (λ e. e ≡ Refusal.Limit) result }
     ensures front { OnErr result (take (length out.old.items) out.new.items ≡ out.old.items) }
@@ -99,7 +100,8 @@ fn write_column(
     out: &mut Vec<u8>,
 ) -> R<ChunkMeta>
     requires entries { AllByRecursion (IsEntryOf (leaf_view leaf.now)) (column_ref_view column.now) }
-    ensures stands { IfOk result (λ c. AppendsChunk (leaf_view leaf.now) options out.old.items out.new.items (chunk_meta_view c).meta_data (column_ref_view column.now)) }
+    ensures stands { IfOk result (λ c.
+        AppendsChunk (leaf_view leaf.now) options out.old.items out.new.items (chunk_meta_view c).meta_data (column_ref_view column.now)) }
     ensures own { IfOk result (λ c. IsOwnChunk (chunk_meta_view c)) }
     ensures within_limits { OnOk result (AreShort (column_ref_view column.now)) }
     ensures entries_within_limits { OnOk result (most_entries <ℤ pos (length (column_ref_view column.now)) → ⊥) }

@@ -5,6 +5,7 @@ ghost use Rattle.schema.specs.Values.{ValueTrees};
 ghost use Rattle.schema.specs.Shape.{Fields};
 ghost use Rattle.metadata.specs.Records.{GroupMeta};
 ghost use Rattle.row_group.specs.Chunks.{GroupMeans};
+ghost use Rattle.row_group.specs.Limits.{IsGroupOver};
 ghost use Rattle.row_group.specs.Laws.{ChunksHoldOneColumn, FilesHoldOneColumn, GroupsHaveOneList, CutGroupsHaveCutRows};
 ghost use Rattle.row_group.specs.declared.options.ChunkOptions.{ChunkOptions};
 ghost use Rattle.row_group.specs.Writing.{AppendsGroup};
@@ -26,7 +27,14 @@ pub fn one_meaning()
 
 /// A group that was written at the end of a file's bytes has its rows there, whatever follows it.
 pub fn an_appended_group_has_its_rows()
-    ensures { (fs : Fields) (o : ChunkOptions) (old new : List ℕ) (g : GroupMeta) (rows : List ValueTrees) → AppendsGroup fs o old new g rows → (more : List ℕ) → GroupMeans (new ++ more) fs g rows }
+    ensures { (fs : Fields) (o : ChunkOptions) (old new : List ℕ) (g : GroupMeta) (rows : List ValueTrees)
+        → AppendsGroup fs o old new g rows → (more : List ℕ) → GroupMeans (new ++ more) fs g rows }
+{}
+
+/// A group that was written at the end of a file's bytes is over no limit there, whatever follows it.
+pub fn an_appended_group_is_within_limits()
+    ensures { (fs : Fields) (o : ChunkOptions) (old new : List ℕ) (g : GroupMeta) (rows : List ValueTrees)
+        → AppendsGroup fs o old new g rows → (more : List ℕ) → IsGroupOver (new ++ more) fs g → ⊥ }
 {}
 
 /// A group that has rows has, at some of its leaves, these rows cut to them.

@@ -32,7 +32,10 @@ pub use chunk_reading::{check_chunk, read_chunk};
 pub use chunk_writing::write_chunk;
 pub use group_reading::read_group;
 pub use group_writing::write_group;
-pub use laws::{an_appended_group_has_its_rows, cut_groups_have_cut_rows, one_meaning};
+pub use laws::{
+    an_appended_group_has_its_rows, an_appended_group_is_within_limits, cut_groups_have_cut_rows,
+    one_meaning,
+};
 pub use limits::{MOST_BYTES_BEFORE_CHUNK, MOST_ENTRIES_OF_CHUNK, MOST_ROWS_OF_GROUP};
 pub use options::{ChunkOptions, Style};
 pub use rows::{Rows, check_group};

@@ -61,8 +61,10 @@ fn put_page(
 ) -> R<usize>
     requires kind { AreForKind leaf.now.leaf_type.kind values }
     requires indexes { (more : List ValueTree) × HaveIndexes values at (values_in (map entry_ref_view entries.now) ++ more) }
-    ensures stands { let es = map entry_ref_view entries.now in OnOk result (Appends (λ bytes. IsPart (leaf_view leaf.now) version values.entry bytes es) (part_weight values.entry es) out.old.items out.new.items) }
-    ensures next { let vs = values_in (map entry_ref_view entries.now) in IfOk result (λ next. (more : List ValueTree) → HaveIndexes values.entry at (vs ++ more) → HaveIndexes values.entry next more) }
+    ensures stands { let es = map entry_ref_view entries.now in
+        OnOk result (Appends (λ bytes. IsPart (leaf_view leaf.now) version values.entry bytes es) (part_weight values.entry es) out.old.items out.new.items) }
+    ensures next { let vs = values_in (map entry_ref_view entries.now) in
+        IfOk result (λ next. (more : List ValueTree) → HaveIndexes values.entry at (vs ++ more) → HaveIndexes values.entry next more) }
     ensures within_limits { OnOk result (AreShortIn values.entry (map entry_ref_view entries.now)) }
     ensures only { OnFault result (AllByRecursion (IsEntryOf (leaf_view leaf.now)) (map entry_ref_view entries.now) → ⊥) }
     ensures limit { result ≡ Err Refusal.Limit → IsPageTooMuch (map entry_ref_view entries.now) }
@@ -98,7 +100,8 @@ pub(crate) fn put_pages(
     requires rows { 0 < options.page_rows }
     requires kind { AreForKind leaf.now.leaf_type.kind values }
     requires indexes { HaveIndexes values 0 (values_in (map entry_ref_view entries.now)) }
-    ensures stands { let es = map entry_ref_view entries.now in OnOk result (AppendsParts (leaf_view leaf.now) options values.entry es out.old.items out.new.items) }
+    ensures stands { let es = map entry_ref_view entries.now in
+        OnOk result (AppendsParts (leaf_view leaf.now) options values.entry es out.old.items out.new.items) }
     ensures within_limits { OnOk result (AreShortIn values.entry (map entry_ref_view entries.now)) }
     ensures only { OnFault result (AllByRecursion (IsEntryOf (leaf_view leaf.now)) (map entry_ref_view entries.now) → ⊥) }
     ensures limit { result ≡ Err Refusal.Limit → ArePartsTooMuch (length out.old.items) options.page_rows values.entry (map entry_ref_view entries.now) }
@@ -107,7 +110,7 @@ pub(crate) fn put_pages(
 {
     let mut scratch = Vec::new(alloc);
     let (mut at, mut value) = (0, 0);
-    'pages: while at < entries.len() {
+    while at < entries.len() {
         if out.len() > MOST_BYTES_BEFORE_CHUNK {
             return Err(Refusal::Limit);
         }

@@ -1,6 +1,6 @@
 -- How the pages of a chunk are written one after another.
 use Rattle.std.specs.Prelude.{◌≡◌, ℕ, ◌+◌, ◌<◌, ◌≤◌, List, ◌++◌, length, take, drop, sum_by, Option, None, Some}
-use Rattle.std.specs.List.{Any}
+use Rattle.std.specs.List.{Any, AllByRecursion}
 use Rattle.bits.specs.Codec.{Appends, InTurn}
 use Rattle.schema.specs.declared.value.Kind.{Kind}
 use Rattle.schema.specs.Values.{ValueTree}
@@ -12,6 +12,7 @@ use Rattle.pages.specs.declared.page_version.PageVersion.{PageVersion}
 use Rattle.pages.specs.Greatest.{most_of_page}
 use Rattle.pages.specs.Page.{IsPage, entries, values}
 use Rattle.pages.specs.Chunk.{IsChunk}
+use Rattle.pages.specs.ShortPages.{HasShortValues}
 use Rattle.pages.specs.Headers.{rows_in}
 use Rattle.pages.specs.Writing.{page_weight, index_weight, AreShort, IsEncodingFor}
 use Rattle.row_group.specs.declared.pages_in_turn.PageValues.{PageValues}
@@ -83,6 +84,11 @@ pub record SaysOfPages (m : ColumnMeta) (pages : ChunkPages) : Type 0 where
   pub dictionary_offset : m.dictionary_page_offset ≡ pages.dictionary_page_offset
   pub data_offset : m.data_page_offset ≡ pages.data_page_offset
 
+-- the chunk that begins here has these entries, and no value in its pages is longer than a value may be
+pub record IsShortChunk (leaf : Leaf) (bytes : List ℕ) (es : List Entry) (used : ℕ) : Type 0 where
+  pub chunk : IsChunk leaf bytes (length es) es used
+  pub short : AllByRecursion HasShortValues chunk.pages
+
 -- The bytes of `new` are those of `old` and the pages of a chunk of these entries; each record that says this of them says where the
 -- chunk starts, and how its pages are written.
 pub record AppendsPages (leaf : Leaf) (o : ChunkOptions) (old new : List ℕ) (pages : ChunkPages) (es : List Entry) : Type 0 where
@@ -90,7 +96,7 @@ pub record AppendsPages (leaf : Leaf) (o : ChunkOptions) (old new : List ℕ) (p
   pub parts : List (List Entry)
   pub joined : new ≡ old ++ text
   pub paged : ArePagesOf o.page_rows es parts
-  pub held : (more : List ℕ) → IsChunk leaf (text ++ more) (length es) es (length text)
+  pub held : (more : List ℕ) → IsShortChunk leaf (text ++ more) es (length text)
   pub starts : (m : ColumnMeta) → SaysOfPages m pages → StartsAt m (length old)
   pub spelled : (m : ColumnMeta) → SaysOfPages m pages → (more : List ℕ) → HasPages leaf o es parts m (length old) (text ++ more) (length text)
   pub short : length text ≤ chunk_weight (length parts) es

@@ -1,4 +1,4 @@
-use Rattle.std.proofs.Common.{◌≡◌, ◌∙◌, List, [], ◌∷◌, length, map, Some, refl, ap, arith, to_z, of_z, w32, w64}
+use Rattle.std.proofs.Common.{◌≡◌, ◌∙◌, [], ◌∷◌, length, map, Some, refl, ap, arith, to_z, w64}
 use Rattle.std.specs.Prelude.{ℤ, pos}
 use Rattle.std.specs.List.{AllByRecursion}
 use Rattle.std.proofs.lemmas.Int.{to_z_pos}
@@ -16,11 +16,6 @@ use Rattle.row_group.proofs.PartsPut.{front_kept}
 use Rattle.row_group.proofs.TooMuch.{indexes_much, dictionary_much, entries_short, entries_of_kind, front_again}
 use Rattle.row_group.proofs.ChunkPut.{index_pages}
 use Rattle.row_group.proofs.chunk_pages.put_index_pages.Goals as goal
-
-listed : (a b d : ℤ) (xs : List ℤ) → xs ≡ to_z w32 (of_z w32 a) ∷ to_z w32 (of_z w32 b) ∷ to_z w32 (of_z w32 d) ∷ [] → a ≡ pos 0 → b ≡ pos 3 → d ≡ pos 8 → xs ≡ pos 0 ∷ pos 3 ∷ pos 8 ∷ []
-listed a b d xs e p q r =
-    e ∙ ap (λ (z : ℤ). to_z w32 (of_z w32 z) ∷ to_z w32 (of_z w32 b) ∷ to_z w32 (of_z w32 d) ∷ []) p ∙ ap (λ (z : ℤ). pos 0 ∷ to_z w32 (of_z w32 z) ∷ to_z w32 (of_z w32 d) ∷ []) q
-    ∙ ap (λ (z : ℤ). pos 0 ∷ pos 3 ∷ to_z w32 (of_z w32 z) ∷ []) r
 
 pub put_pages-requires-clause-indexes : goal.put_pages-requires-clause-indexes
 put_pages-requires-clause-indexes c = (omega arith, c.requires.indexed.stand)
@@ -67,9 +62,11 @@ returns-clause-stands c =
     let old = c.args.out.now.items in
     let mid = c.write_dictionary_page.new.out in
     let a = c.in_ok-put_pages.ensures.stands in
+    let short = c.in_ok-write_dictionary_page.ensures.within_limits in
     let start : to_z w64 c.len-start.result ≡ pos (length old) = to_z_pos w64 c.len-start.result (omega (arith, c.len-start.ensures, c.args.out.now.ok.0, c.args.out.now.small)) ∙ ap pos (omega (arith, c.len-start.ensures, c.args.out.now.ok.0)) in
     let behind : to_z w64 c.len-data.result ≡ pos (length mid.items) = to_z_pos w64 c.len-data.result (omega (arith, c.len-data.ensures, mid.ok.0, mid.small)) ∙ ap pos (omega (arith, c.len-data.ensures, mid.ok.0)) in
-    let numbers : c.in_ok-encodings.encodings.items ≡ pos 0 ∷ pos 3 ∷ pos 8 ∷ [] = listed c.number.result c.number-2.result c.number-3.result c.in_ok-encodings.encodings.items c.in_ok-encodings.ensures.items c.number.ensures c.number-2.ensures c.number-3.ensures in
+    let numbers : c.in_ok-encodings.encodings.items ≡ pos 0 ∷ pos 3 ∷ pos 8 ∷ [] = c.in_ok-encodings.ensures.numbers in
     index_pages leaf o (map entry_ref_view c.args.entries.now) (entries_of d) (indexes_of d) _ old mid.items c.put_pages.new.out.items a.parts (IsPart leaf o.page_version (Indexed c.args.dictionary))
-    (λ t part u p. p.written) (λ t part u p. p.read) c.requires.begun c.requires.has c.requires.indexed a.paged
+    (λ t part u p. p.written) (λ t part u p. p.read) c.requires.begun c.requires.has c.requires.indexed short
+    (entries_short (map entry_ref_view c.args.entries.now) (entries_of d) (indexes_of d) c.requires.indexed short) a.paged
     c.in_ok-write_dictionary_page.ensures.written c.in_ok-write_dictionary_page.ensures.stands a.written numbers (ap (λ (z : ℤ). Some z) start) behind

@@ -1,7 +1,7 @@
 use Rattle.std.proofs.Common.{◌≡◌, ◌-◌, ◌∙◌, length, map, Some, refl, sym, ap, arith, rules, FitsSigned, to_z, of_z, w32, w64}
 use Rattle.std.specs.Rc.{rc_str_bytes}
 use Rattle.std.specs.Prelude.{ℤ, pos}
-use Rattle.std.proofs.lemmas.Int.{to_z_pos, to_z-of_z}
+use Rattle.std.proofs.lemmas.Int.{ints, to_z_pos, to_z-of_z}
 use Rattle.std.proofs.lemmas.List.{length-map, length-append}
 use Rattle.schema.specs.declared.value.Kind.{Kind}
 use Rattle.schema.specs.declared.value.Kind.TheVariants.{Boolean, Int32, Int64, ByteArray, FixedLenByteArray}
@@ -46,5 +46,5 @@ returns-clause-stands c =
     let filled : size ≡ length new.items - length old.items = omega (arith, old.ok.0, new.ok.0) in
     let told : AreStatisticsOf leaf es (Some (statistics_view c.in_ok-statistics.statistics)) = c.in_ok-statistics.ensures.stands in
     let fits : FitsSigned w64 c.in_ok-pages.pages.data_page_offset = search rules in
-    chunk_put _ leaf c.args.options old.items new.items es c.in_ok-pages.pages size c.in_ok-pages.ensures.stands
-    (record { path = path; kind = kind; codec = refl }) count (record { numbers = refl; dictionary_offset = refl; data_offset = to_z-of_z w64 c.in_ok-pages.pages.data_page_offset fits }) filled (ap (λ (z : ℤ). Some z) sized) (ap (λ (z : ℤ). Some z) sized) told
+    chunk_put c.one_page.ensures.page c.short_pages_are_within_limits.ensures _ leaf c.args.options old.items new.items es c.in_ok-pages.pages size c.in_ok-pages.ensures.stands
+    (record { path = path; kind = kind; codec = refl }) count (λ many. omega (arith, ints, many, few, length-map c.args.entries.now entry_ref_view)) (record { numbers = refl; dictionary_offset = refl; data_offset = to_z-of_z w64 c.in_ok-pages.pages.data_page_offset fits }) filled (ap (λ (z : ℤ). Some z) sized) (ap (λ (z : ℤ). Some z) sized) told

@@ -1,6 +1,6 @@
 use Rattle.std.proofs.Common.{◌≡◌, ◌+◌, ◌-◌, ◌∙◌, List, length, map, Some, sym, ap, subst, arith, to_z, w64, Err}
 use Rattle.std.specs.Prelude.{ℤ, pos}
-use Rattle.std.proofs.lemmas.Int.{to_z_pos}
+use Rattle.std.proofs.lemmas.Int.{ints, to_z_pos}
 use Rattle.std.proofs.lemmas.List.{length-map}
 use Rattle.bits.specs.declared.refusal.Refusal.TheVariants.{Limit}
 use Rattle.schema.specs.Stripe.{Leaf, Entry, leaves_of, columns}
@@ -48,7 +48,7 @@ returns-in-Ok-clause-stands c =
     let filled : size + length old.items ≡ length new.items = omega (arith, kept.1, e, k, old.ok.0, new.ok.0) in
     let count : to_z w64 (length rows) ≡ pos (length (rows_view rows)) = to_z_pos w64 (length rows) (omega arith) ∙ ap pos (sym (length-map rows row_view)) in
     let says : to_z w64 size ≡ pos size = to_z_pos w64 size (omega (arith, new.small)) in
-    group_written c.rows_begin_once.ensures fs c.args.options (rows_view rows) old.items new.items _ size c.in_ok-found.ensures.fit filled count (ap (λ (z : ℤ). Some z) says) written
+    group_written c.rows_begin_once.ensures fs c.args.options (rows_view rows) old.items new.items _ size c.in_ok-found.ensures.fit filled count (λ many. omega (arith, ints, many, few, length-map rows row_view)) (ap (λ (z : ℤ). Some z) says) written
 
 pub returns-clause-limit : goal.returns-clause-limit
 returns-clause-limit c = λ limit.
