@@ -1,73 +1,46 @@
 #!/bin/sh
 # Measures how many rows a second are printed as JSON text and read from it, flat ones of 2 and 20 columns and nested
-# ones: by a printer and a reader made once, by `row_to` and `row_from`, and as JSON values by the kit's `serde_json`.
+# ones: by a `RowText` and a `Reader` made once, by `row_to` and `row_from`, as JSON values by the kit's `serde_json`,
+# and by the hand-written C program bench/json_lines.c. Then the rows a second in percent of those of serde_json and of C.
 #
-#     bench/json.sh [PRINT.c READ.c]
+#     bench/json.sh
 #
-# With two C programs, PRINT.c (a file of flat columns to lines: `print FILE`) and READ.c (lines to such a file:
-# `read n:i,s:s LINES FILE`), also how many flat rows a second those print and read, as whole programs, by the least
-# user and system time of seven runs.
-#
-# The program bench/json.rt.in is built by rt in a temporary folder, which is removed, over what the crates
-# have in out/: only a proved program is built, so that it takes long where the crates are not proved yet.
+# Both programs run three times in turn, and the least time of each counts. The program bench/json.rt.in is built by rt in
+# a temporary folder, which is removed, over what the crates have in out/: only a proved program is built, so that it takes
+# long where the crates are not proved yet.
 set -eu
 top=$(cd "$(dirname "$0")/.." && pwd)
 work=$(mktemp -d)
 trap 'rm -rf "$work"' EXIT
-mkdir -p "$work/crates/json_speed/src" "$work/crates/json_speed/proofs/print"
+mkdir -p "$work/crates/json_speed/src"
 cp "$top/bench/json.rt.in" "$work/crates/json_speed/src/main.rt"
-cat > "$work/crates/json_speed/proofs/print/Invariants.antt" <<'ANTT'
-use Rattle.jsonrows.specs.Printer.{IsReady}
-use Rattle.json_speed.proofs.print.Given as goal
-
-abbrev pub invariant-loop-row : goal.invariant-loop-row
-invariant-loop-row l = IsReady l.printer
-ANTT
-for name in bits thrift_compact schema plain statistics filter jsonrows; do
+for name in bits thrift_compact schema plain statistics filter assemble jsonrows; do
     cp -a "$top/crates/$name" "$work/crates/$name"
     grep "^$name:" "$top/crates.txt"
 done > "$work/crates.txt"
-echo 'json_speed: bits schema jsonrows serde_json anyhow' >> "$work/crates.txt"
-(cd "$work/crates/json_speed" && rt run > "$work/log" 2>&1) || { cat "$work/log" >&2; exit 1; }
-awk -F': ' '/ ns .* bytes$/ { split($2, took, " "); printf "%s: %.2f million rows a second, %.0f MB a second\n", $1, 1e5 / took[1] * 1e3, took[3] / took[1] * 1e3 }' "$work/log"
-[ $# -eq 2 ] || exit 0
-cc -O3 -o "$work/print" "$1"
-cc -O3 -o "$work/read" "$2"
-python3 - "$work" "$top/pqds" <<'PYTHON'
-import os, subprocess, sys
-
-work, pqds = sys.argv[1], sys.argv[2]
-schema, lines, file, made = (os.path.join(work, name) for name in ("schema.json", "lines", "file", "made"))
-
-
-def member(column, number):
-    return '"c%02d":%d' % (column, number) if column % 2 == 0 else '"c%02d":"value %d"' % (column, number)
-
-
-def least(what, words, rows, size):
-    best = 1e9
-    for _ in range(7):
-        if os.path.exists(made):
-            os.remove(made)
-        program = subprocess.Popen(words, stdout=subprocess.DEVNULL, env={"NOSYNC": "1"})
-        _, status, used = os.wait4(program.pid, 0)
-        if status:
-            sys.exit(f"{what}: status {status}")
-        best = min(best, used.ru_utime + used.ru_stime)
-    print(f"{what}: {rows / best / 1e6:.2f} million rows a second, {size / best / 1e6:.0f} MB a second")
-
-
-for columns, rows in ((2, 1_000_000), (20, 100_000)):
-    with open(lines, "w") as out:
-        for row in range(rows):
-            number = row % 1000 * 7919
-            out.write("{" + ",".join(member(column, number) for column in range(columns)) + "}\n")
-    fields = ('{"name":"c%02d","rep":"required","type":%s}' % (column, '"int64"' if column % 2 == 0 else '"bytes","note":"utf8"') for column in range(columns))
-    with open(schema, "w") as out:
-        out.write("[" + ",".join(fields) + "]\n")
-    subprocess.run([pqds, "encode", schema, lines, file], check=True)
-    size = os.path.getsize(lines)
-    least(f"{columns} columns, C prints", [work + "/print", file], rows, size)
-    least(f"{columns} columns, C reads", [work + "/read", ",".join("c%02d:%s" % (column, "is"[column % 2]) for column in range(columns)), lines, made], rows, size)
-    os.remove(file)
-PYTHON
+echo 'json_speed: bits schema assemble jsonrows serde_json anyhow' >> "$work/crates.txt"
+gcc -O2 -o "$work/json_lines" "$top/bench/json_lines.c"
+for run in 1 2 3; do
+    (cd "$work/crates/json_speed" && rt run > "$work/log" 2>&1) || { cat "$work/log" >&2; exit 1; }
+    grep ' ns .* bytes$' "$work/log"
+    "$work/json_lines"
+done > "$work/times"
+awk -F': ' '
+{
+    split($2, took, " ")
+    if (!($1 in least)) names[++count] = $1
+    if (!($1 in least) || took[1] < least[$1]) least[$1] = took[1]
+    bytes[$1] = took[3]
+}
+END {
+    for (i = 1; i <= count; i++) {
+        name = names[i]
+        printf "%s: %.2f million rows a second, %.0f MB a second", name, 1e5 / least[name] * 1e3, bytes[name] / least[name] * 1e3
+        split(name, parts, ", ")
+        split(parts[2], words, " ")
+        what = words[2]
+        if (words[1] != "C") printf ", %.0f%% of C", least[parts[1] ", C " what] / least[name] * 100
+        if (words[1] != "C" && words[1] != "serde_json") printf ", %.0f%% of serde_json", least[parts[1] ", serde_json " what] / least[name] * 100
+        print ""
+    }
+}' "$work/times"

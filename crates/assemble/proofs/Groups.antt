@@ -1,28 +1,29 @@
 -- A group by its members, and a leaf by its column.
-use Rattle.std.proofs.Common.{ℕ, suc, ◌≡◌, ◌+◌, ◌<◌, true, List, [], ◌∷◌, ◌++◌, map, length, get_or, refl, ap, subst, ◌∙◌, arith, Some, Option}
+use Rattle.std.proofs.Common.{ℕ, suc, ◌≡◌, ◌+◌, ◌<◌, ◌⊎◌, true, List, [], ◌∷◌, ◌++◌, map, length, get_or, refl, ap, sym, subst, ◌∙◌, arith, Some, None, Option, inl, inr}
 use Rattle.std.proofs.lemmas.List.{map-append}
 use Rattle.std.proofs.lemmas.Simd.{map-map}
 use Rattle.std.proofs.lemmas.Bool.{and_parts, false≢true}
 use Rattle.bits.specs.declared.refusal.Refusal.{Refusal}
 use Rattle.schema.specs.declared.value.Repetition.{Repetition}
+use Rattle.schema.specs.declared.value.Repetition.TheVariants.{Optional}
 use Rattle.schema.specs.declared.annotation.GroupAnnotation.{GroupAnnotation}
 use Rattle.schema.specs.Annotations.{LeafType}
 use Rattle.schema.specs.Values.{ValueTree, group, ValueTrees, no_values, value as item}
 use Rattle.schema.specs.Shape.{Field, leaf, fields, Fields, no_fields, field, repetition_of}
-use Rattle.schema.specs.Fits.{fits, fits_each, fits_leaf}
-use Rattle.schema.specs.Stripe.{Entry, entry, Leaf, below, leaves, leaves_from, stripe, stripe_as, greatest_definition}
-use Rattle.schema.proofs.LeafLaws.{when_group}
+use Rattle.schema.specs.Fits.{fits, fits_each, fits_inside, fits_leaf}
+use Rattle.schema.specs.Stripe.{Entry, entry, Leaf, below, leaves, leaves_from, stripe, stripe_as, definitions, greatest_definition}
+use Rattle.schema.proofs.LeafLaws.{when_group, when_optional}
 use Rattle.schema.proofs.Determined.{At, At-first, At-next, At-whole}
 use Rattle.assemble.specs.Columns.{Columns, AreAlike, Want, AllSuit, Fronts, Suits}
-use Rattle.assemble.specs.inner.Fronts.{stripes_inside, stripes_each, wants_inside, wants_each, wants, FitInside, FitEach}
+use Rattle.assemble.specs.inner.Fronts.{stripes, stripes_inside, stripes_each, wants_inside, wants_each, wants, Fit, FitInside, FitEach}
 use Rattle.assemble.specs.inner.ReadValues.{HasLevels, IsRead, IsFaulty}
 use Rattle.assemble.specs.Sources.{Begins}
-use Rattle.assemble.specs.inner.Steps.{IsLeafFaulty}
+use Rattle.assemble.specs.inner.Steps.{IsLeafFaulty, IsOptionalFaulty}
 use Rattle.assemble.proofs.Fronts.{alike_parts, fronts_alike}
 use Rattle.assemble.proofs.Told.{tells_more}
 use Rattle.assemble.proofs.Skipping.{begins_alike}
 use Rattle.std.specs.List.{AllByRecursion}
-use Rattle.assemble.proofs.Readings.{levels_as, read_up, faulty_up}
+use Rattle.assemble.proofs.Readings.{levels_as, read_up, faulty_up, fits_by, stripes_as, present_stripes, wants_as}
 
 pub group_stripes : (fs : Fields) (i : ℕ) (V : ValueTree) (vs : ValueTrees) → fits_each fs vs ≡ true → At i V vs → (r d k : ℕ) → map (λ (l : Leaf). stripe l.steps V r d k) (leaves_from i fs) ≡ stripes_each fs r d k vs
 group_stripes no_fields i V vs h at r d k = refl
@@ -90,3 +91,31 @@ module _ (n : List ℕ) (x : Repetition) (t : LeafType) (r d k : ℕ) where
       begin none v [] rests h g = h
       begin none v (x ∷ whole) [] h g = h
       begin none v (x ∷ whole) (q ∷ rests) h g = none (begins_alike x o q r d (Some v) (alike_parts x o whole old g).0 h.0)
+
+-- the first column begins as its stripe does
+begins_first : (r d : ℕ) (v : Option ValueTree) (o : List Entry) (old whole rests : Columns) → Fronts (entry r d v ∷ []) whole rests → AreAlike whole (o ∷ old) → Begins o r d
+begins_first r d v o old [] rests h g = absurd h
+begins_first r d v o old (w ∷ whole) [] h g = absurd h
+begins_first r d v o old (w ∷ whole) (q ∷ rests) h g = begins_alike w o q r d v (alike_parts w o whole old g).0 h.0
+
+module _ (n : List ℕ) (x : Repetition) (t : LeafType) (is : x ≡ Optional) (r d k : ℕ) where
+  abbrev O : Field
+  O = leaf n x t
+
+  -- a null or a value begins the first column
+  begins_either : (o : List Entry) (old rests : Columns) → HasLevels (Fit O) (stripes O r d k) k (o ∷ old) rests → Begins o r d ⊎ Begins o r (d + 1)
+  begins_either o old rests w =
+      let fitted = sym (fits_by O Optional is w.value) ∙ w.fits in
+      elim (when_optional w.value) [
+        | inl same ↦ inl (begins_first r d None o old w.whole rests (subst (λ s. Fronts s w.whole rests) (stripes_as O Optional is r d k w.value ∙ ap (λ v. stripe_as Optional (stripe []) v r d k ∷ []) same) w.front) w.alike)
+        | inr p ↦ inr (begins_first r (d + 1) (Some w.value) o old w.whole rests (subst (λ s. Fronts s w.whole rests) (present_stripes O is r d k w.value (sym (p.1 (fits_inside O)) ∙ fitted)) w.front) w.alike)
+      ]
+
+  pub faulty_optional_at : (old : Columns) → 0 < length old → (e : Refusal) → IsOptionalFaulty r d t (get_or old 0 []) e → IsFaulty (Fit O) (stripes O r d k) k (wants O d) old e
+  faulty_optional_at [] lt e h = absurd (omega (arith, lt))
+  faulty_optional_at (o ∷ old) lt e h = tells_more _ _ _ _
+      (λ none rests w. none (begins_either o old rests w))
+      (λ none s. none (
+      let all = subst (λ ws. AllSuit ws (o ∷ old)) (wants_as O d 1 (ap definitions is)) s in
+      let same : d + 1 + 0 ≡ d + 1 = omega arith in
+      subst (λ m. AllByRecursion (Suits (record { full = m; leaf_type = t })) o) same all.0)) e h

@@ -1,5 +1,5 @@
 -- Values of one kind that are taken off sources are values of another.
-use Rattle.std.proofs.Common.{ℕ, suc, ◌≡◌, ◌+◌, ◌-◌, ◌<◌, ◌≤◌, List, [], ◌∷◌, ◌++◌, length, take, drop, get_or, ap, sym, subst, ◌∙◌, arith, true, false, Some, Option}
+use Rattle.std.proofs.Common.{ℕ, suc, ◌≡◌, ◌+◌, ◌-◌, ◌<◌, ◌≤◌, List, [], ◌∷◌, ◌++◌, length, take, drop, get_or, ap, sym, subst, ◌∙◌, arith, refl, true, false, Some, None, Option, inl, inr}
 use Rattle.std.proofs.Math.ListN.{set}
 use Rattle.std.proofs.lemmas.List.{length-take-le, length-append, take-append-drop}
 use borrow.Rule.Slice.PartMut.{put_mid, mid_of}
@@ -20,8 +20,8 @@ use Rattle.assemble.specs.Standing.{AllStand, AllSame, Onward, Backward}
 use Rattle.assemble.specs.inner.Building.{snoc}
 use Rattle.assemble.specs.inner.Fronts.{stripes, stripes_inside, stripes_items, stripes_each, nones, Fit, FitInside, FitItems, FitEach}
 use Rattle.assemble.specs.inner.ReadValues.{IsRead, Reads}
-use Rattle.assemble.specs.inner.Steps.{missing_value, IsMissing, HasItem, first_of}
-use Rattle.assemble.proofs.Standing.{At, stand_on, stand_back, set_on, set_back, part_stands, put_stands, put_part, put_back, put_long}
+use Rattle.assemble.specs.inner.Steps.{missing_value, ReadsOptional, IsMissing, HasItem, first_of}
+use Rattle.assemble.proofs.Standing.{At, same_self, stand_on, stand_back, set_on, set_back, part_stands, put_stands, put_part, put_back, put_long}
 use Rattle.assemble.proofs.Readings.{read_required, read_present, present_fits, present_stripes, read_list, all_fit, fits_by, stripes_as, read_missing, missing_fits, missing_stripes}
 use Rattle.assemble.proofs.Groups.{group_stripes, read_group, read_leaf_at}
 use Rattle.assemble.proofs.Items as items
@@ -78,6 +78,28 @@ module _ {A : Type 0} (S : A → List Entry → Type 0) where
     onward = λ cs stand. let w = set_on S (entry r d (Some v)) xs 0 s y lt first cs stand in (w.0, (w.1.0, read_leaf_at n x t r d k cs w.0 v fit (at_first (entry r d (Some v)) cs w.0 w.1.1)));
     backward = λ ds stand. let w = set_back S (entry r d (Some v)) xs 0 s y lt first ds stand in (w.0, (w.1.0, at_first (entry r d (Some v)) w.0 ds w.1.1));
   }
+
+  null_missing : (r d : ℕ) (cs ds : Columns) → At 0 (entry r d None) cs ds → IsMissing d (first_of cs) true
+  null_missing r d [] ds a = absurd a
+  null_missing r d (c ∷ cs) [] a = absurd a
+  null_missing r d (c ∷ cs) (e ∷ ds) a = subst (λ o. IsMissing d o true) (sym a.0) (omega arith)
+
+  value_there : (r d : ℕ) (v : ValueTree) (cs ds : Columns) → At 0 (entry r (d + 1) (Some v)) cs ds → IsMissing d (first_of cs) false
+  value_there r d v [] ds a = absurd a
+  value_there r d v (c ∷ cs) [] a = absurd a
+  value_there r d v (c ∷ cs) (e ∷ ds) a = subst (λ o. IsMissing d o false) (sym a.0) (omega arith)
+
+  -- the value of an OPTIONAL leaf, or a null
+  pub reads_optional : (n : List ℕ) (x : Repetition) (t : LeafType) → x ≡ Optional → IsValid (leaf n x t) → (r d k : ℕ) (xs : List A) (s y : A) (v : ValueTree) → 0 < length xs → ReadsOptional t r d (S (get_or xs 0 s)) (S y) v
+      → Reads S (Fit (leaf n x t)) (stripes (leaf n x t) r d k) k xs (set xs 0 y) v
+  reads_optional n x t is valid r d k xs s y v lt (inl h) =
+      reads_present (leaf n x t) is valid r d k xs xs (set xs 0 y) v (same_self S xs) (λ cs stand. let w = set_on S (entry r (d + 1) (Some v)) xs 0 s y lt h.first cs stand in value_there r d v cs w.0 w.1.1)
+      (reads_leaf n x t r (d + 1) k xs s y v lt h.fits h.first)
+  reads_optional n x t is valid r d k xs s y v lt (inr h) =
+      subst (Reads S (Fit (leaf n x t)) (stripes (leaf n x t) r d k) k xs (set xs 0 y)) (sym h.0)
+      (reads_missing (leaf n x t) Optional is (λ e. cc) valid r d k 1 xs xs (set xs 0 y) refl (same_self S xs) (λ cs stand. let w = set_on S (entry r d None) xs 0 s y lt h.1 cs stand in null_missing r d cs w.0 w.1.1)
+      (λ cs stand. let w = set_on S (entry r d None) xs 0 s y lt h.1 cs stand in (w.0, (w.1.0, at_first (entry r d None) cs w.0 w.1.1)))
+      (λ ds stand. let w = set_back S (entry r d None) xs 0 s y lt h.1 ds stand in (w.0, (w.1.0, at_first (entry r d None) w.0 ds w.1.1))))
 
   -- the values of the first fields, and one more
   module _ (fs : Fields) (f : Field) (gs : Fields) (r d k : ℕ) (old xs ys : List A) (used : ℕ) (vs : ValueTrees) (v : ValueTree) (room : used ≤ length xs) where

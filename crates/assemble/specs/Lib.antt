@@ -4,4 +4,5 @@ pub mod Sinks
 pub mod Columns
 pub mod Standing
 pub mod RowsOf
+pub mod Flat
 pub mod inner

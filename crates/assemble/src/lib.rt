@@ -2,11 +2,12 @@
 //!
 //! `specs/Sources.antt` says what a source of entries promises, `specs/Standing.antt` what columns sources
 //! stand for, `specs/Columns.antt` what the entries of a leaf should be, and `specs/RowsOf.antt` which rows
-//! columns have.
+//! columns have; `specs/Flat.antt` says so for schemas without nested, OPTIONAL or REPEATED fields.
 #![tactic(auto)]
 
 mod cursor;
 mod fits;
+mod flat;
 mod reading;
 mod row_builder;
 mod rows;
@@ -14,6 +15,7 @@ mod sink;
 mod source;
 
 pub use cursor::Cursor;
+pub use flat::{flat_columns_have_rows, is_flat};
 pub use row_builder::RowBuilder;
 pub use rows::{assemble, assemble_from, count_rows, next_row, next_row_to};
 pub use sink::{Discard, RowSink};

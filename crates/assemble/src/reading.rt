@@ -1,19 +1,20 @@
 //! Values off the fronts of columns: each leaf's column begins with the stripe of the value, and a sink is
 //! shown the value.
 
-ghost use Rattle.std.specs.Prelude.{◌≡◌, ◌==◌, ◌&&◌, ◌+◌, ◌<◌, ◌≤◌, ◌^◌, length, map, true, None, IfOk, OnOk, IfErr};
+ghost use Rattle.std.specs.Prelude.{◌≡◌, ◌==◌, ◌&&◌, ◌+◌, ◌<◌, ◌≤◌, ◌^◌, [], ◌∷◌, length, map, true, None, IfOk, OnOk, IfErr};
 ghost use Rattle.bits.specs.Faults.{refusal_of};
+ghost use Rattle.schema.specs.Borrowed.{value_ref_view};
 ghost use Rattle.schema.specs.Views.{leaf_type_view, field_view, field_views};
 ghost use Rattle.schema.specs.Law.{IsValid, AreValid};
 ghost use Rattle.schema.specs.Stripe.{entry};
 ghost use Rattle.schema.specs.Reading.{tall, tallest, count_leaves, count_leaves_each};
 ghost use Rattle.assemble.specs.Sources.{Precede};
-ghost use Rattle.assemble.specs.Sinks.{Adds, Visits, tokens, tokens_each};
+ghost use Rattle.assemble.specs.Sinks.{Adds, Visits, single, tokens, tokens_each};
 ghost use Rattle.assemble.specs.Columns.{Columns, Fronts};
 ghost use Rattle.assemble.specs.Standing.{AllStand, AllSame, Onward, Backward, IsRefusedFor};
 ghost use Rattle.assemble.specs.inner.Fronts.{nones};
 ghost use Rattle.assemble.specs.inner.ReadValues.{ReadsField, ReadsInside, ReadsItems, ReadsEach, IsFieldFaulty, IsInsideFaulty, AreItemsFaulty, AreEachFaulty};
-ghost use Rattle.assemble.specs.inner.Steps.{IsMemory, ReadsLeaf, missing_value, IsSourceRefusedFor, IsLeafFaulty, IsAbsentFaulty, IsSkipFaulty, IsMissing, NoneLeft, HasItem, first_of};
+ghost use Rattle.assemble.specs.inner.Steps.{IsMemory, ReadsLeaf, ReadsOptional, missing_value, IsSourceRefusedFor, IsLeafFaulty, IsOptionalFaulty, IsAbsentFaulty, IsSkipFaulty, IsMissing, NoneLeft, HasItem, first_of};
 
 use crate::fits::fits;
 use crate::sink::RowSink;
@@ -55,13 +56,54 @@ fn read_leaf<S: EntrySource, K: RowSink>(
     let checked = source.has_checked(leaf_type);
     match source.next()? {
         Some(entry) if place.is_of(&entry) => match entry.value {
-            Some(value) if checked || fits(leaf_type, value) => match sink.value(value) {
-                Ok(()) => Ok(()),
-                Err(_) => Err(Fault::Memory),
-            },
+            Some(value) if checked || fits(leaf_type, value) => show(value, sink),
             _ => Err(Fault::Value),
         },
         _ => Err(Fault::Levels),
+    }
+}
+
+/// Takes the next entry, which is that of a null or of a value that fits, and shows which.
+#[inline(always)]
+fn read_optional<S: EntrySource, K: RowSink>(
+    leaf_type: &LeafType,
+    place: Place,
+    source: &mut S,
+    sink: &mut K,
+) -> Result<(), Fault>
+    requires { place.definition + 1 < 2 ^ 32 }
+    ensures reads { OnOk result (Visits (K.shows sink.old) (K.shows sink.new) tokens (ReadsOptional (leaf_type_view leaf_type.now) place.repetition place.definition (S.stands source.old) (S.stands source.new))) }
+    ensures refused { IfErr result (λ f. IsSourceRefusedFor S.stands S.refused source.old source.new (IsOptionalFaulty place.repetition place.definition (leaf_type_view leaf_type.now)) (refusal_of f)) }
+    ensures kept { OnOk result (S.refused source.new ≡ S.refused source.old) }
+{
+    let there = Place {
+        repetition: place.repetition,
+        definition: place.definition + 1,
+        own: place.own,
+    };
+    let is_checked = source.has_checked(leaf_type);
+    match source.next()? {
+        Some(entry) if there.is_of(&entry) => match entry.value {
+            Some(value) if is_checked || fits(leaf_type, value) => show(value, sink),
+            _ => Err(Fault::Value),
+        },
+        Some(entry) if place.is_of(&entry) => match entry.value {
+            None => show(ValueRef::Null, sink),
+            Some(_) => Err(Fault::Value),
+        },
+        _ => Err(Fault::Levels),
+    }
+}
+
+/// Shows a null, or a value of a leaf. It fails only when out of memory.
+#[inline(always)]
+fn show<K: RowSink>(value: ValueRef<'_>, sink: &mut K) -> Result<(), Fault>
+    ensures shown { OnOk result (Adds (K.shows sink.old) (K.shows sink.new) (single (value_ref_view value.entry) ∷ [])) }
+    ensures memory { IfErr result (λ f. f ≡ Fault.Memory) }
+{
+    match sink.value(value) {
+        Ok(()) => Ok(()),
+        Err(_) => Err(Fault::Memory),
     }
 }
 
@@ -201,7 +243,8 @@ pub fn read_fields<S: EntrySource, K: RowSink>(
     Ok(used)
 }
 
-/// Shows the value of a field as [`read_field`] does, that of a REQUIRED leaf at once.
+/// Shows the value of a field as [`read_field`] does, that of a REQUIRED or OPTIONAL leaf at once: its
+/// entry is taken without a look before.
 #[cycle(read)]
 #[inline(always)]
 fn read_next<S: EntrySource, K: RowSink>(
@@ -220,9 +263,16 @@ fn read_next<S: EntrySource, K: RowSink>(
     ensures used { IfOk result (λ used. used ≡ count_leaves (field_view field.now)) }
 {
     if let Field::Leaf { leaf_type, .. } = field {
-        if let Repetition::Required = field.repetition() {
-            read_leaf(leaf_type, place, &mut sources[0], sink)?;
-            return Ok(1);
+        match field.repetition() {
+            Repetition::Required => {
+                read_leaf(leaf_type, place, &mut sources[0], sink)?;
+                return Ok(1);
+            }
+            Repetition::Optional => {
+                read_optional(leaf_type, place, &mut sources[0], sink)?;
+                return Ok(1);
+            }
+            Repetition::Repeated => (),
         }
     }
     read_field(field, place, sources, sink)

@@ -22,6 +22,7 @@ use Rattle.footer.specs.declared.options.WriteOptions.{WriteOptions}
 use Rattle.footer.specs.File.{magic, AreGroups}
 use Rattle.footer.specs.Writing.{chunk_options, groups_from, groups_of, HasLargeColumn, IsOutOfRange, empty_groups, large_groups, empty_pages, IsTooMuch, many_entries, long_value, heavy_file}
 use Rattle.footer.specs.Own.{AppendsGroups}
+use Rattle.footer.specs.Writer.{IsBegun}
 use Rattle.footer.proofs.Parted.{any_later, long_within, fit_within}
 
 -- ---- how many groups there are
@@ -92,16 +93,6 @@ in_range o within = record { some = some (cases_lt 0 o.group_rows); few = few (c
     pages (inr h) = absurd (within (empty_pages (omega (arith, h))))
 
 -- ---- some of the groups are written, and the rows in `rest` are still to be
-
-pub record IsBegun (fs : Fields) (o : WriteOptions) (rows rest : List ValueTrees) (out : List ℕ) (metas : List GroupMeta) : Type 0 where
-  pub before : List ValueTrees
-  pub split : rows ≡ before ++ rest
-  pub there : 0 < length out
-  pub stands : (new : List ℕ) (gs : List GroupMeta) → AppendsGroups fs (chunk_options o) out new gs (groups_of o.group_rows rest)
-      → AppendsGroups fs (chunk_options o) magic new (metas ++ gs) (groups_of o.group_rows rows)
-  pub taken : AllByRecursion (AreTaken fs) (groups_of o.group_rows rest) → AllByRecursion (AreTaken fs) (groups_of o.group_rows rows)
-  pub weighs : length out + sum_by (group_weight fs o.page_rows) (groups_of o.group_rows rest) ≤ 4 + sum_by (group_weight fs o.page_rows) (groups_of o.group_rows rows)
-  pub large : HasLargeColumn fs (groups_of o.group_rows rest) → HasLargeColumn fs (groups_of o.group_rows rows)
 
 -- one more group is written
 pub goes_on : (fs : Fields) (o : WriteOptions) (rows rest : List ValueTrees) (out new : List ℕ) (metas : List GroupMeta) (g : GroupMeta) → 1 ≤ o.group_rows → 0 < length rest

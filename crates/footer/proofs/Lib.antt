@@ -10,5 +10,6 @@ pub mod Parted
 pub mod InGroups
 pub mod Weighed
 pub mod Whole
+pub mod Written
 pub mod WrittenWithin
 pub mod OneMeaning

@@ -3,5 +3,7 @@ pub mod Greatest
 pub mod Faults
 pub mod Writing
 pub mod Own
+pub mod Writer
 pub mod Left
 pub mod Laws
+pub mod inner

@@ -27,7 +27,7 @@ use std::alloc::Global;
 const MOST_GROUP_ROWS: u32 = 1_048_576;
 
 /// Whether the options are refused, whatever the rows.
-fn is_out_of_range(options: &WriteOptions) -> bool
+pub(crate) fn is_out_of_range(options: &WriteOptions) -> bool
     ensures within { result ≡ false → IsOutOfRange options.now → ⊥ }
     ensures out { result ≡ true → IsOutOfRange options.now }
 {

@@ -2,11 +2,12 @@
 //!
 //! `specs/File.antt` says which rows of which schema the bytes of a file mean (`FileMeans`),
 //! `specs/Faults.antt` which refusal comes when,
-//! `specs/Writing.antt` how a file is written, and `specs/Own.antt` what the store's own writer puts
-//! into one. `specs/Laws.antt` says that a file means one list of rows.
+//! `specs/Writing.antt` how a file is written, `specs/Own.antt` what the store's own writer puts
+//! into one, and `specs/Writer.antt` which rows a writer was given. `specs/Laws.antt` says that a file means one list of rows.
 #![tactic(auto)]
 
 mod file_reader;
+mod file_writer;
 mod file_writing;
 mod footer_reading;
 mod footer_record;
@@ -18,6 +19,7 @@ mod options;
 mod rows;
 
 pub use file_reader::{FileReader, read_file};
+pub use file_writer::FileWriter;
 pub use file_writing::write_file;
 pub use footer_reading::read_footer;
 pub use laws::one_list_of_rows;

@@ -1,6 +1,8 @@
 use bits::{R, Refusal};
 use metadata::{ChunkMeta, ColumnMeta, GroupMeta};
-use row_group::{MOST_ENTRIES_OF_CHUNK, MOST_ROWS_OF_GROUP, Rows, read_chunk, read_group};
+use row_group::{
+    MOST_ENTRIES_OF_CHUNK, MOST_ROWS_OF_GROUP, Rows, check_group, read_chunk, read_group,
+};
 use schema::{Column, Element, Row, Schema};
 use std::alloc::Global;
 use std::test::*;
@@ -15,6 +17,12 @@ const INTEGERS: [u8; 25] = [
 const TEXTS: [u8; 28] = [
     0x15, 0, 0x15, 0x16, 0x15, 0x16, 0x2C, 0x15, 4, 0x15, 0, 0x15, 6, 0x15, 6, 0, 0, 1, 0, 0, 0,
     b'a', 2, 0, 0, 0, b'b', b'c',
+];
+
+/// A page of the BYTE_ARRAY value `a` alone.
+const ONE_TEXT: [u8; 22] = [
+    0x15, 0, 0x15, 0x0A, 0x15, 0x0A, 0x2C, 0x15, 2, 0x15, 0, 0x15, 6, 0x15, 6, 0, 0, 1, 0, 0, 0,
+    b'a',
 ];
 
 /// The bytes of a file before its footer: `PAR1`, and both pages.
@@ -75,8 +83,18 @@ fn integers(alloc: Global) -> R<ColumnMeta> {
 
 /// The record of a group of two chunks, the second that of the texts.
 fn group_of(alloc: Global, num_rows: i64, first: ColumnMeta) -> R<GroupMeta> {
+    group_of_two(alloc, num_rows, first, record(alloc, "t", 6, 29)?)
+}
+
+/// The record of a group of these chunks.
+fn group_of_two(
+    alloc: Global,
+    num_rows: i64,
+    first: ColumnMeta,
+    second: ColumnMeta,
+) -> R<GroupMeta> {
     let mut columns = Vec::new(alloc);
-    for meta_data in [first, record(alloc, "t", 6, 29)?] {
+    for meta_data in [first, second] {
         columns.push(ChunkMeta {
             file_path: None,
             file_offset: None,
@@ -170,6 +188,56 @@ fn more_rows_than_entries_are_refused_levels(rt: HostRuntime) -> Result<(), Fail
     let alloc = rt.alloc();
     let answer = read_both(alloc, 3, integers(alloc)?);
     assert!(rt; matches!(&answer, Err(Refusal::Levels)));
+    Ok(())
+}
+
+/// The number of rows of a group, the numbers of entries of its integers and its texts, where the page of the
+/// texts begins (that of two at 29, that of one at 57), and the text of the refusal; none where it is read.
+type Counted = (i64, i64, i64, i64, &'static str);
+
+const COUNTED: [Counted; 9] = [
+    (2, 2, 2, 29, ""),
+    (1, 2, 2, 29, "10 Levels"),
+    (3, 2, 2, 29, "10 Levels"),
+    (2, 2, 1, 57, "10 Levels"),
+    (1, 2, 1, 57, "10 Levels"),
+    (2, 2, 1, 29, "9 Page"),
+    (2, 2, 2, 57, "9 Page"),
+    (2, 1, 2, 29, "9 Page"),
+    (2, 3, 2, 29, "9 Page"),
+];
+
+/// The text of a refusal, if there is one.
+fn text_of(alloc: Global, refusal: Option<Refusal>) -> R<String> {
+    match refusal {
+        Some(refusal) => Ok(format!(in alloc; "{refusal}")?),
+        None => Ok(String::new(alloc)),
+    }
+}
+
+#[test]
+fn flat_columns_have_as_many_entries_as_there_are_rows(rt: HostRuntime) -> Result<(), Fail> {
+    let alloc = rt.alloc();
+    let schema = fields(alloc)?;
+    let mut bytes = front(alloc)?;
+    bytes.extend_from_slice(&ONE_TEXT)?;
+    for (num_rows, numbers, texts, offset, wanted) in COUNTED {
+        let mut first = integers(alloc)?;
+        first.num_values = numbers;
+        let mut second = record(alloc, "t", 6, offset)?;
+        second.num_values = texts;
+        let group = group_of_two(alloc, num_rows, first, second)?;
+        let checked = check_group(alloc, bytes.as_slice(), &group, &schema).err();
+        let accepted = Rows::of_group(alloc, bytes.as_slice(), &group, &schema).err();
+        let read = read_all(alloc, bytes.as_slice(), &group, &schema).err();
+        for refusal in [checked, accepted, read] {
+            let text = text_of(alloc, refusal)?;
+            assert!(rt;
+                text.as_str() == wanted,
+                "{num_rows} {numbers} {texts} {offset} {text}"
+            );
+        }
+    }
     Ok(())
 }
 

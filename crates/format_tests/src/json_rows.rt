@@ -1,7 +1,9 @@
 //! Rows from text, and as text.
 
+use assemble::RowSink;
 use bits::R;
-use jsonrows::{Printer, Reader, row_from, row_to, schema_from};
+use jsonrows::{Reader, RowPlan, RowText, row_from, row_to, schema_from};
+use schema::{Value, ValueRef};
 use std::alloc::Global;
 use std::test::*;
 
@@ -145,7 +147,7 @@ const NAMES: &str =
     r#"[{"name":"b","rep":"required","type":"int64"},{"name":"é","rep":"required","type":"int64"},{"name":"a\"","rep":"required","type":"int64"},{"name":"B","rep":"required","type":"int64"},{"name":"a","rep":"required","type":"int64"}]"#;
 
 /// A schema, a line, and what comes of it.
-const ROWS: [[&str; 3]; 23] = [
+const ROWS: [[&str; 3]; 27] = [
     [FLAT, r#"{"a":1}"#, r#"{"a":1,"b":null,"c":[]}"#],
     [
         FLAT,
@@ -158,6 +160,19 @@ const ROWS: [[&str; 3]; 23] = [
         r#"{"a":2,"b":null,"c":[]}"#,
     ],
     [FLAT, r#"{"\u0061":1}"#, r#"{"a":1,"b":null,"c":[]}"#],
+    // A list that is null, an empty one, and one of a null or a number: both ways.
+    [NESTED, r#"{"xs":null}"#, r#"{"xs":null}"#],
+    [NESTED, r#"{"xs":{"list":[]}}"#, r#"{"xs":{"list":[]}}"#],
+    [
+        NESTED,
+        r#"{"xs":{"list":[{"element":null}]}}"#,
+        r#"{"xs":{"list":[{"element":null}]}}"#,
+    ],
+    [
+        NESTED,
+        r#"{"xs":{"list":[{"element":7}]}}"#,
+        r#"{"xs":{"list":[{"element":7}]}}"#,
+    ],
     [NESTED, "{}", r#"{"xs":null}"#],
     [NESTED, r#"{"xs":{}}"#, r#"{"xs":{"list":[]}}"#],
     [
@@ -204,14 +219,37 @@ fn shown_again(alloc: Global, schema: &str, other: &str, line: &str) -> R<String
     row_to(alloc, &schema_from(alloc, other)?, &row)
 }
 
-/// What a printer prints of it, twice.
-fn printed(alloc: Global, schema: &str, other: &str, line: &str) -> R<Vec<u8>> {
-    let row = row_from(alloc, &schema_from(alloc, schema)?, line)?;
-    let other = schema_from(alloc, other)?;
-    let mut printer = Printer::new(alloc, &other)?;
+/// Shows values, one after another.
+fn show(values: &[Value], sink: &mut RowText<'_>) -> R<()> {
+    for value in values {
+        match value {
+            Value::Group(fields) => {
+                sink.begin_group()?;
+                show(fields.as_slice(), sink)?;
+                sink.end_group()?;
+            }
+            Value::List(items) => {
+                sink.begin_list()?;
+                show(items.as_slice(), sink)?;
+                sink.end_list()?;
+            }
+            _ => sink.value(ValueRef::of(value))?,
+        }
+    }
+    Ok(())
+}
+
+/// What is printed of it when it is shown twice.
+fn printed(alloc: Global, schema: &str, line: &str) -> R<Vec<u8>> {
+    let schema = schema_from(alloc, schema)?;
+    let row = row_from(alloc, &schema, line)?;
+    let plan = RowPlan::new(alloc, &schema)?;
+    let mut sink = RowText::new(alloc, &plan);
     let mut out = Vec::new(alloc);
-    printer.print(&row, &mut out)?;
-    printer.print(&row, &mut out)?;
+    for _ in 0..2 {
+        show(row.values.as_slice(), &mut sink)?;
+        sink.put_row(&mut out)?;
+    }
     Ok(out)
 }
 
@@ -282,14 +320,14 @@ fn a_reader_reads_what_row_from_reads(rt: HostRuntime) -> Result<(), Fail> {
 }
 
 #[test]
-fn a_printer_prints_what_row_to_returns(rt: HostRuntime) -> Result<(), Fail> {
+fn rows_are_printed_one_after_another(rt: HostRuntime) -> Result<(), Fail> {
     let alloc = rt.alloc();
     for [schema, line, _] in &ROWS {
         let text = match shown(alloc, schema, schema, line) {
             Ok(text) => text.repeat(alloc, 2)?,
             Err(_) => String::new(alloc),
         };
-        let printed = match printed(alloc, schema, schema, line) {
+        let printed = match printed(alloc, schema, line) {
             Ok(printed) => printed,
             Err(_) => Vec::new(alloc),
         };

@@ -1,5 +1,3 @@
-pub mod Floats
-pub mod Texts
 pub mod Forms
 pub mod Joined
 pub mod Taken
@@ -22,8 +20,8 @@ pub mod RowsBack
 pub mod Made
 pub mod Operands
 pub mod FilterFaults
-pub mod Printing
-pub mod Planned
+pub mod Escapes
+pub mod SameNumbers
 pub mod Digits
 pub mod Conversion
 pub mod Filling
@@ -31,6 +29,7 @@ pub mod Turns
 pub mod RowSteps
 pub mod RowOrder
 pub mod RowRuns
+pub mod Showing
 pub mod RowPlans
 pub mod Openings
 pub mod TextLeaves

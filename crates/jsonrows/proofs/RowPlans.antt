@@ -1,5 +1,5 @@
 -- How it is made of a schema how rows are printed.
-use Rattle.std.proofs.Common.{◌≡◌, ℕ, suc, Bool, true, false, List, [], ◌∷◌, ◌++◌, map, length, Option, Some, None, String, Global, Ordering, Less, Equal, Greater, string_bytes, refl, sym, ap, ap₂, ◌∙◌}
+use Rattle.std.proofs.Common.{◌≡◌, ℕ, suc, Bool, List, [], ◌∷◌, map, length, Some, None, String, Global, Ordering, Less, Equal, Greater, string_bytes, refl, sym, ap, ap₂, ◌∙◌}
 use Rattle.std.specs.Prelude.{if◌then◌else◌}
 use Rattle.std.specs.String.{string_cmp}
 use Rattle.std.specs.BTreeMap.{insert_entry}
@@ -7,7 +7,7 @@ use Rattle.std.specs.Ordering.{match_ordering}
 use Rattle.schema.specs.declared.field.Field.{Field as CodeField}
 use Rattle.schema.specs.Shape.{count}
 use Rattle.schema.specs.Views.{field_view, field_views}
-use Rattle.jsonrows.specs.inner.Slots.{Slot, slot, slots_from, slot_of, slots_made, entries_view, put_index, indices_of, is_in_order, order_of}
+use Rattle.jsonrows.specs.inner.Slots.{slot, slots_from, slot_of, slots_made, entries_view, put_index, indices_of, is_in_order, order_of}
 
 pub slots_seen : (fs : List CodeField) → slots_from (map (λ f. slot_of (field_view f)) fs) ≡ slots_made (field_views fs)
 slots_seen [] = refl

@@ -1,5 +1,5 @@
 -- What is held after the values of a row that fits.
-use Rattle.std.proofs.Common.{◌≡◌, ℕ, ◌+◌, Bool, true, false, true≢false, ◌&&◌, List, [], ◌∷◌, ◌++◌, length, take, drop, Option, Some, None, refl, ap, ap₂, sym, ◌∙◌, append_assoc, append-nil}
+use Rattle.std.proofs.Common.{◌≡◌, ℕ, ◌+◌, Bool, true, false, true≢false, ◌&&◌, List, [], ◌∷◌, ◌++◌, length, Option, Some, refl, ap, ap₂, sym, ◌∙◌, append_assoc, append-nil}
 use Rattle.std.specs.Prelude.{IsTrue, if◌then◌else◌}
 use Rattle.std.specs.Str.{is_utf8}
 use Rattle.std.proofs.Math.Seq.{take-append_seam, drop-append_seam}
@@ -15,14 +15,14 @@ use Rattle.schema.specs.declared.value.Kind.{Kind}
 use Rattle.schema.specs.declared.value.Kind.TheVariants.{Boolean, Int32, Int64, ByteArray, FixedLenByteArray}
 use Rattle.schema.specs.Annotations.{LeafType, is_text, order_of as leaf_order}
 use Rattle.schema.specs.Values.{ValueTree, null, boolean, integer, bytes, group, list, ValueTrees, no_values, value, each}
-use Rattle.schema.specs.Shape.{Field, leaf, fields, Fields, no_fields, field, name_of}
+use Rattle.schema.specs.Shape.{Field, leaf, fields, Fields, no_fields, field}
 use Rattle.schema.specs.Fits.{fits_kind, fits_leaf, fits_as, is_group, fits, fits_each}
-use Rattle.assemble.specs.Sinks.{single, group_begins, group_ends, list_begins, list_ends, tokens, tokens_each}
+use Rattle.assemble.specs.Sinks.{single, group_ends, list_ends, tokens, tokens_each}
 use Rattle.jsonrows.specs.Json.{leaf_json, items_json, json_as, object_json, field_json, members_json, row_text}
-use Rattle.jsonrows.specs.inner.Plan.{numbers_of}
-use Rattle.jsonrows.specs.inner.Slots.{Slot, leaf_slot, group_slot, Slots, no_slots, slot_of, slots_made, key_of, key_in, order_of}
-use Rattle.jsonrows.specs.inner.Levels.{State, Level, object, items, held, next_slot, begun, more, entered, left, inside, sorted, braced_at, closed, step, run, root, text_at, value_text}
-use Rattle.jsonrows.proofs.Planned.{same_number}
+use Rattle.jsonrows.specs.inner.Scalars.{numbers_of}
+use Rattle.jsonrows.specs.inner.Slots.{Slot, leaf_slot, group_slot, no_slots, slot_of, slots_made, key_of, key_in, order_of}
+use Rattle.jsonrows.specs.inner.Levels.{State, Level, object, items, held, next_slot, begun, more, entered, left, inside, sorted, braced_at, closed, run, root, text_at}
+use Rattle.jsonrows.proofs.SameNumbers.{same_number}
 use Rattle.jsonrows.proofs.RowSteps.{run_append}
 use Rattle.jsonrows.proofs.RowOrder.{and_true, joined, starts_of, pieces, object_text}
 

@@ -29,7 +29,7 @@ use Rattle.jsonrows.proofs.Filling.{values_put, values_absent, values_filled}
 use Rattle.jsonrows.proofs.RowJson.{order_put}
 use Rattle.jsonrows.proofs.Joined.{joined, joined-none, joined-push}
 use Rattle.jsonrows.proofs.JsonTexts.{AreInOrder}
-use Rattle.jsonrows.proofs.Printing.{view-ValueGroup}
+use Rattle.jsonrows.proofs.Forms.{view-ValueGroup}
 use Rattle.jsonrows.proofs.Taken.{repeated-field_read}
 
 -- ---- values

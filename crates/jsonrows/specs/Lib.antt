@@ -3,7 +3,6 @@ pub mod Reading
 pub mod SchemaJson
 pub mod SchemaPrinted
 pub mod Filters
-pub mod Printer
 pub mod Rows
 pub mod Reader
 pub mod Law

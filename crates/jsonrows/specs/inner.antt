@@ -1,7 +1,7 @@
 pub mod SchemaReading
 pub mod SchemaViews
 pub mod SchemaPrinting
-pub mod Plan
+pub mod Scalars
 pub mod Fill
 pub mod Slots
 pub mod Levels

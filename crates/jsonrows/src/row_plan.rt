@@ -7,7 +7,8 @@ ghost use Rattle.schema.specs.Views.{field_view, field_views};
 ghost use Rattle.jsonrows.specs.inner.Slots.{Slots, slot_view, slots_view, slots_made, slot_of, key_of, indices_of, put_index, ordered, entries_view, is_counting, is_in_order, order_of, vec_items, order_view, key_in};
 ghost use Rattle.jsonrows.specs.Rows.{plan_schema, IsReady};
 
-use crate::members::{Numbers, numbers_of, put_string};
+use crate::scalars::{Numbers, numbers_of};
+use crate::strings::put_string;
 use bits::R;
 use schema::{Field, Schema};
 use std::alloc::{AllocError, Global};

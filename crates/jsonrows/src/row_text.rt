@@ -10,8 +10,9 @@ ghost use Rattle.jsonrows.specs.Rows.{plan_schema, IsReady, text_shows, BeginsRo
 ghost use Rattle.jsonrows.specs.inner.Slots.{slot_view, slots_view};
 ghost use Rattle.jsonrows.specs.inner.Levels.{top_of, state_of, begun, next_slot, left, closed, level_view, inside, between, piece, braced_at, bytes_text, value_text, text_at, seen};
 
-use crate::members::{Numbers, put_boolean, put_digits, put_null, put_number, put_string};
 use crate::row_plan::{RowPlan, Slot};
+use crate::scalars::{Numbers, put_boolean, put_null, put_number};
+use crate::strings::{put_digits, put_string};
 use assemble::RowSink;
 use schema::ValueRef;
 use std::alloc::{AllocError, Global};

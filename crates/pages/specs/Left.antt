@@ -5,11 +5,12 @@ use Rattle.bits.specs.declared.fault.Fault.TheVariants.{Memory}
 use Rattle.schema.specs.Values.{ValueTree, bytes}
 use Rattle.schema.specs.Stripe.{Entry}
 use Rattle.schema.specs.Borrowed.{value_ref_view}
+use Rattle.plain.specs.ValuesLeft.{values_left as plain_values_left, last_taken as last_plain_taken}
 use Rattle.delta.specs.ValuesLeft.{values_left as byte_values_left, last_taken}
 use Rattle.pages.specs.declared.level_list.LevelList.{LevelList}
 use Rattle.pages.specs.declared.level_list.LevelList.TheVariants.{Zeros, Listed as ListedLevels}
 use Rattle.pages.specs.declared.page_values.PageValues.{PageValues}
-use Rattle.pages.specs.declared.page_values.PageValues.TheVariants.{Listed, Shared}
+use Rattle.pages.specs.declared.page_values.PageValues.TheVariants.{Listed, Plain, Shared}
 use Rattle.pages.specs.declared.page_values.ListedValues.{ListedValues}
 use Rattle.pages.specs.declared.data_page.DataPage.{DataPage}
 
@@ -25,11 +26,13 @@ listed_left l = map value_ref_view (drop l.index l.values.items)
 -- the values that are not taken yet
 abbrev pub values_left : PageValues → List ValueTree
 values_left (Listed values) = listed_left values
+values_left (Plain values) = plain_values_left values
 values_left (Shared values) = map bytes (byte_values_left values)
 
 -- the value that was taken last
 abbrev pub value_taken : PageValues → ValueTree
 value_taken (Listed values) = value_ref_view values.taken
+value_taken (Plain values) = last_plain_taken values
 value_taken (Shared values) = bytes (last_taken values)
 
 -- one value of a list is taken, or none at the end

@@ -27,6 +27,7 @@ mod page_version;
 mod page_writing;
 mod parts_writing;
 mod plain_page_writing;
+mod plain_values;
 mod section_writing;
 mod shared_values;
 mod value_checks;

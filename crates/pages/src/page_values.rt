@@ -4,13 +4,16 @@ ghost use Rattle.std.specs.Prelude.{◌≡◌};
 
 use bits::Fault;
 use delta::Prefixed;
+use plain::Values;
 use schema::ValueRef;
 
-/// The values of a data page that are not taken yet: a list of them, or those that share prefixes, of
-/// which only the one that was taken last is held.
+/// The values of a data page that are not taken yet: a list of them, those in PLAIN, which are read
+/// where they lie, or those that share prefixes. Of the last two only the value that was taken last is
+/// held.
 #[derive(Debug, Drop)]
 pub enum PageValues<'a> {
     Listed(ListedValues<'a>),
+    Plain(Values<'a>),
     Shared(Prefixed<'a>),
 }
 
@@ -46,6 +49,7 @@ impl<'a> PageValues<'a> {
     {
         match self {
             PageValues::Listed(values) => Ok(values.advance()),
+            PageValues::Plain(values) => Ok(values.advance()),
             PageValues::Shared(values) => values.advance(),
         }
     }
@@ -65,6 +69,7 @@ impl<'a> PageValues<'a> {
     {
         match self {
             PageValues::Listed(values) => values.taken,
+            PageValues::Plain(values) => values.value(),
             PageValues::Shared(values) => ValueRef::Bytes(values.value()),
         }
     }

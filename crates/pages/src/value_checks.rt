@@ -7,27 +7,11 @@ ghost use Rattle.bits.specs.Refusals.{OnFault, RefusedOnly};
 ghost use Rattle.schema.specs.Borrowed.{value_ref_view};
 ghost use Rattle.schema.specs.Fits.{fits_kind, fits_leaf, is_valid_text, are_bytes};
 ghost use Rattle.schema.specs.Views.{leaf_type_view};
-ghost use Rattle.plain.specs.Plain.{IsOfKind};
 ghost use Rattle.pages.specs.inner.Reading.{AllFit};
 
 use bits::{R, Refusal};
-use plain::what_is_of_a_kind_fits_it;
 use schema::{Kind, LeafType, ValueRef};
 use simdutf8::basic::from_utf8;
-
-/// Refused Utf8 where values of the leaf's physical type should be text and one of them is not.
-pub fn check_texts(leaf_type: &LeafType, values: &[ValueRef<'_>]) -> R<()>
-    requires { All (IsOfKind leaf_type.now.kind) (map value_ref_view values.now) }
-    ensures fit { OnOk result (AllFit (leaf_type_view leaf_type.now) (map value_ref_view values.now)) }
-    ensures only { OnFault result (AllFit (leaf_type_view leaf_type.now) (map value_ref_view values.now) → ⊥) }
-    ensures which { RefusedOnly (λ e. (e ≡ Refusal.Value) ⊎ (e ≡ Refusal.Utf8)) result }
-{
-    what_is_of_a_kind_fits_it();
-    if leaf_type.is_text() {
-        return check_values(leaf_type, values);
-    }
-    Ok(())
-}
 
 /// Refused where a value is not the leaf's, as [`check_value`] refuses it.
 pub fn check_values(leaf_type: &LeafType, values: &[ValueRef<'_>]) -> R<()>

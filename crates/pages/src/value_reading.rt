@@ -15,11 +15,12 @@ use crate::encoding::Encoding;
 use crate::indexed_values::read_indexed;
 use crate::level_reading::split_prefixed;
 use crate::page_values::PageValues;
+use crate::plain_values::read_plain;
 use crate::shared_values::read_shared;
-use crate::value_checks::{check_texts, check_values};
+use crate::value_checks::check_values;
 use bits::{R, Refusal};
 use delta::{decode_i32, decode_i64, decode_lengths, one_byte_list};
-use plain::{decode_to, what_is_of_a_kind_fits_it};
+use plain::what_is_of_a_kind_fits_it;
 use schema::{Kind, LeafType, ValueRef};
 use std::alloc::Global;
 
@@ -44,6 +45,7 @@ pub fn read_values<'a>(
     }
     match encoding {
         None => Err(Refusal::Encoding),
+        Some(Encoding::Plain) => read_plain(leaf_type, bytes, count),
         Some(Encoding::DeltaByteArray) => read_shared(alloc, leaf_type, bytes, count),
         Some(encoding) => {
             let values = read_listed(alloc, encoding, leaf_type, dictionary, bytes, count)?;
@@ -61,7 +63,8 @@ fn read_listed<'a>(
     bytes: &'a [u8],
     count: usize,
 ) -> R<Vec<ValueRef<'a>>>
-    requires { encoding ≡ Encoding.DeltaByteArray → ⊥ }
+    requires not_plain { encoding ≡ Encoding.Plain → ⊥ }
+    requires not_shared { encoding ≡ Encoding.DeltaByteArray → ⊥ }
     ensures stands { let d = dictionary_view dictionary.entry in IfOk result (λ vs. AreLeafValues d (leaf_type_view leaf_type.now) (Some encoding) bytes.now count (map value_ref_view vs.items)) }
     ensures within_limits { OnOk result (IsValueOver leaf_type.now.kind (Some encoding) bytes.now count → ⊥) }
     ensures only { let d = dictionary_view dictionary.entry in OnFault result ((ws : List ValueTree) → AreLeafValues d (leaf_type_view leaf_type.now) (Some encoding) bytes.now count ws → ⊥) }
@@ -69,36 +72,17 @@ fn read_listed<'a>(
     ensures which { RefusedOnly IsOfPages result }
 {
     match encoding {
-        Encoding::Plain => read_plain(alloc, leaf_type, bytes, count),
         Encoding::Rle => read_booleans(alloc, leaf_type, bytes, count),
         Encoding::PlainDictionary | Encoding::RleDictionary => {
             read_indexed(alloc, leaf_type, dictionary, bytes, count)
         }
         Encoding::DeltaBinaryPacked => read_numbers(alloc, leaf_type, bytes, count),
         Encoding::DeltaLengthByteArray => read_by_lengths(alloc, leaf_type, bytes, count),
-        Encoding::BitPacked | Encoding::ByteStreamSplit | Encoding::DeltaByteArray => {
-            Err(Refusal::Encoding)
-        }
+        Encoding::Plain
+        | Encoding::BitPacked
+        | Encoding::ByteStreamSplit
+        | Encoding::DeltaByteArray => Err(Refusal::Encoding),
     }
-}
-
-/// Values in PLAIN.
-fn read_plain<'a>(
-    alloc: Global,
-    leaf_type: &LeafType,
-    bytes: &'a [u8],
-    count: usize,
-) -> R<Vec<ValueRef<'a>>>
-    ensures stands { IfOk result (λ vs. StandInAnyChunk (leaf_type_view leaf_type.now) Encoding.Plain bytes.now count (map value_ref_view vs.items)) }
-    ensures within_limits { OnOk result (IsValueOver leaf_type.now.kind (Some Encoding.Plain) bytes.now count → ⊥) }
-    ensures only { OnFault result (StandInNoChunk (leaf_type_view leaf_type.now) Encoding.Plain bytes.now count) }
-    ensures limit { result ≡ Err Refusal.Limit → IsValueOver leaf_type.now.kind (Some Encoding.Plain) bytes.now count }
-    ensures which { RefusedOnly IsOfPages result }
-{
-    plain::one_list();
-    let (values, _) = decode_to::<ValueRef<'a>>(alloc, leaf_type.kind, bytes, count)?;
-    check_texts(leaf_type, &values)?;
-    Ok(values)
 }
 
 /// Booleans in RLE: the hybrid of width 1, after its length in four bytes.

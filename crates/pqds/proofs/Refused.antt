@@ -1,19 +1,17 @@
 -- What two texts are refused for: a line of the one, or all rows together.
-use Rattle.std.proofs.Common.{◌≡◌, ◌⊎◌, inl, inr, ℕ, List, Result, Ok, Err, refl, ap}
-use Rattle.std.specs.Prelude.{IfErr, IfOk, OnOk}
+use Rattle.std.proofs.Common.{◌≡◌, ◌⊎◌, inl, inr, ℕ, List, Result, Ok, Err, refl, subst}
+use Rattle.std.specs.Prelude.{IfErr, OnOk}
 use Rattle.std.specs.Str.Lines.{lines}
 use Rattle.bits.specs.declared.refusal.Refusal.{Refusal}
 use Rattle.bits.specs.declared.refusal.Refusal.TheVariants.{RowShape, Script, Limit, Memory, Exists, Device}
-use Rattle.bits.specs.Refusals.{OnFault, HasCause, IsFault}
+use Rattle.bits.specs.Refusals.{HasCause}
 use Rattle.schema.specs.Values.{ValueTrees}
 use Rattle.schema.specs.Shape.{Fields}
-use Rattle.schema.specs.Fits.{RowsFit}
 use Rattle.footer.specs.declared.options.WriteOptions.{WriteOptions}
-use Rattle.footer.specs.Writing.{IsOutOfRange, IsTooMuch}
+use Rattle.footer.specs.Writing.{IsOutOfRange}
 use Rattle.jsonrows.specs.SchemaJson.{IsSchemaText}
-use Rattle.footer.specs.File.{FileMeans}
-use Rattle.footer.specs.Own.{IsLaidOut}
-use Rattle.pqds.specs.Program.{AreRowTexts, HasFirstFault, AreRefusedTexts, AreRefusedFiles, IsFileOf}
+use Rattle.pqds.specs.Program.{AreRowTexts, HasFirstFault, AreRefusedTexts, AreRefusedFiles, AreNotWritten}
+use Rattle.pqds.specs.inner.Lines.{AreStopped}
 
 -- the first line that is refused
 pub by_line : (options : WriteOptions) (schema_text rows_text : List ℕ) (fs : Fields) (e : Refusal) → IsSchemaText schema_text fs → HasCause (HasFirstFault fs (lines rows_text)) e → AreRefusedTexts options schema_text rows_text e
@@ -22,21 +20,21 @@ by_line options schema_text rows_text fs Script says h = inr (fs, says, h)
 by_line options schema_text rows_text fs Memory says h = tt
 by_line options schema_text rows_text fs e says h = absurd h.refused
 
--- rows that fit are refused for no fault of theirs
-pub by_rows : {X : Type 0} (options : WriteOptions) (schema_text rows_text : List ℕ) (fs : Fields) (rows : List ValueTrees) (r : Result X Refusal) → IsSchemaText schema_text fs → AreRowTexts fs (lines rows_text) rows → RowsFit fs rows
-    → OnFault r (RowsFit fs rows → ⊥) → (r ≡ Err Limit → IsOutOfRange options ⊎ IsTooMuch fs options rows) → IfErr r (AreRefusedTexts options schema_text rows_text)
-by_rows options schema_text rows_text fs rows (Ok x) says read fit only limit = tt
-by_rows options schema_text rows_text fs rows (Err e) says read fit only limit = go e only (λ is. limit (ap Err is))
-  where
-    go : (e : Refusal) → (IsFault e → RowsFit fs rows → ⊥) → (e ≡ Limit → IsOutOfRange options ⊎ IsTooMuch fs options rows) → AreRefusedTexts options schema_text rows_text e
-    go Limit only limit = inr (record { fs = fs; rows = rows; schema = says; read = read; why = limit refl })
-    go Memory only limit = tt
-    go e only limit = absurd (only tt fit)
+-- rows that are too much, where all lines are rows
+pub too_much : {X : Type 0} (options : WriteOptions) (schema_text rows_text : List ℕ) (fs : Fields) (r : Result X Refusal) → r ≡ Err Limit → IsSchemaText schema_text fs
+    → (rows : List ValueTrees) × AreRowTexts fs (lines rows_text) rows → IfErr r (AreStopped fs options (lines rows_text)) → AreNotWritten options schema_text rows_text
+too_much options schema_text rows_text fs r is says read h =
+    let why = subst (λ (s : Result _ Refusal). IfErr s (AreStopped fs options (lines rows_text))) is h in
+    record { fs = fs; rows = read.0; schema = says; read = read.1; why = why read.0 read.1 }
 
 -- want of memory, or the cause
 cause_or_memory : (Cause : Refusal → Type 0) (e : Refusal) → HasCause Cause e → (e ≡ Memory) ⊎ Cause e
 cause_or_memory Cause Memory h = inl refl
 cause_or_memory Cause e h = inr h
+
+-- options that are out of range
+pub stopped_at_once : (fs : Fields) (options : WriteOptions) (texts : List (List ℕ)) (e : Refusal) → HasCause (λ x. x ≡ Limit) e → (e ≡ Limit → IsOutOfRange options) → AreStopped fs options texts e
+stopped_at_once fs options texts e h out = elim (cause_or_memory (λ x. x ≡ Limit) e h) [ inl m ↦ rw m tt | inr l ↦ rw l (λ rows read. inl (out l)) ]
 
 -- a file that cannot be read
 pub by_file : (options : WriteOptions) (e : Refusal) → HasCause (λ x. x ≡ Device) e → HasCause (AreRefusedFiles options) e
@@ -71,10 +69,3 @@ by_devices options (Err e) h = by_file options e h
 pub on_ok_anyway : {X E : Type 0} (P : Type 0) (r : Result X E) → P → OnOk r P
 on_ok_anyway P (Ok x) p = p
 on_ok_anyway P (Err e) p = tt
-
--- what is written is a file of the two texts
-pub file_of : {X : Type 0} (items : X → List ℕ) (options : WriteOptions) (schema_text rows_text : List ℕ) (fs : Fields) (rows : List ValueTrees) (r : Result X Refusal) → IsSchemaText schema_text fs → AreRowTexts fs (lines rows_text) rows
-    → IfOk r (λ file. FileMeans (items file) fs rows) → IfOk r (λ file. IsLaidOut options fs rows (items file)) → OnOk r (IsOutOfRange options → ⊥)
-    → IfOk r (λ file. IsFileOf options schema_text rows_text (items file))
-file_of items options schema_text rows_text fs rows (Ok file) says read means laid range = record { fs = fs; rows = rows; schema = says; read = read; means = means; laid_out = laid; in_range = range }
-file_of items options schema_text rows_text fs rows (Err e) says read means laid range = tt

@@ -1,15 +1,13 @@
--- The rows of a file fit, so that each has a text.
-use Rattle.std.proofs.Common.{◌≡◌, ◌≢◌, ◌⊎◌, inl, inr, ◌<◌, ℕ, zero, suc, Bool, false, true≢false, List, [], ◌∷◌, ◌++◌, length, get_or, flat_map, Result, Ok, Err, refl, sym, subst, ◌∙◌, arith}
-use Rattle.std.specs.Prelude.{IsTrue, IfErr}
+-- The rows of a file fit, and what a refusal after that says.
+use Rattle.std.proofs.Common.{◌≡◌, ◌≢◌, ◌⊎◌, inl, inr, ℕ, List, [], ◌∷◌, ◌++◌, flat_map, Result, Ok, Err, refl, subst}
+use Rattle.std.specs.Prelude.{IfErr}
 use Rattle.std.proofs.lemmas.List.Concat.{flat_map-cons}
 use Rattle.bits.specs.declared.refusal.Refusal.{Refusal}
-use Rattle.bits.specs.declared.refusal.Refusal.TheVariants.{Memory, Device, RowShape}
+use Rattle.bits.specs.declared.refusal.Refusal.TheVariants.{Memory, Device}
 use Rattle.bits.specs.Refusals.{HasCause, RefusedOnly, IsFault}
-use Rattle.schema.specs.declared.row.Row.{Row}
 use Rattle.schema.specs.Values.{ValueTrees}
 use Rattle.schema.specs.Shape.{Fields}
-use Rattle.schema.specs.Fits.{fits_each, RowsFit}
-use Rattle.schema.specs.Views.{row_view, rows_view}
+use Rattle.schema.specs.Fits.{RowsFit}
 use Rattle.metadata.specs.Records.{GroupMeta}
 use Rattle.footer.specs.File.{FileMeans, AreGroups}
 use Rattle.footer.specs.Faults.{HasFault}
@@ -27,16 +25,6 @@ groups_fit front fs (g ∷ gs) (rows ∷ others) h = rw flat_map-cons (both_fit 
 -- what a file means fits its schema
 pub rows_fit : (bytes : List ℕ) (fs : Fields) (rows : List ValueTrees) → FileMeans bytes fs rows → RowsFit fs rows
 rows_fit bytes fs rows means = rw means.held.joined (groups_fit _ fs _ means.held.groups means.held.each)
-
-pub row_fits : (fs : Fields) (rows : List Row) (i : ℕ) (d : Row) → i < length rows → RowsFit fs (rows_view rows) → IsTrue (fits_each fs (row_view (get_or rows i d)))
-row_fits fs [] i d h fit = absurd (omega arith)
-row_fits fs (row ∷ rows) zero d h fit = fit.0
-row_fits fs (row ∷ rows) (suc i) d h fit = row_fits fs rows i d (omega arith) fit.1
-
--- a row that fits has a text, unless memory is wanting
-pub is_memory : (e : Refusal) (b : Bool) → IsTrue b → (e ≡ Memory) ⊎ ((e ≡ RowShape) × (b ≡ false)) → HasCause (λ x. x ≡ Device) e
-is_memory e b fits (inl m) = rw m tt
-is_memory e b fits (inr h) = absurd (true≢false (sym fits ∙ h.1))
 
 device_or_memory : (e : Refusal) → HasCause (λ x. x ≡ Device) e → (e ≡ Device) ⊎ (e ≡ Memory)
 device_or_memory Memory h = inr refl

@@ -1,16 +1,13 @@
 -- What the program does with files.
-use Rattle.std.specs.Prelude.{◌≡◌, ◌⊎◌, ℕ, List, [], ◌∷◌, ◌++◌, flat_map, length, codes, decimal, Option, Some, None, IsTrue}
+use Rattle.std.specs.Prelude.{◌≡◌, ◌⊎◌, ℕ, List, [], ◌∷◌, ◌++◌, flat_map, length, codes, decimal, Option, Some, None}
 use Rattle.std.specs.Io.KnownBytes.{Appends}
 use Rattle.std.specs.Str.Lines.{lines}
 use Rattle.serde_json.specs.Data.{Data, Members}
 use Rattle.serde_json.specs.Read.{read}
 use Rattle.bits.specs.declared.refusal.Refusal.{Refusal}
 use Rattle.bits.specs.declared.refusal.Refusal.TheVariants.{Limit, RowShape, Exists, Device, Script}
-use Rattle.schema.specs.declared.row.Row.{Row}
 use Rattle.schema.specs.Values.{ValueTrees}
 use Rattle.schema.specs.Shape.{Fields}
-use Rattle.schema.specs.Fits.{fits_each}
-use Rattle.schema.specs.Views.{row_view}
 use Rattle.footer.specs.declared.options.WriteOptions.{WriteOptions}
 use Rattle.metadata.specs.Records.{FileMeta}
 use Rattle.footer.specs.File.{IsFile, FileMeans}
@@ -28,6 +25,14 @@ greatest_file = 2147483647
 abbrev pub lines_of : Fields → List ValueTrees → List ℕ
 lines_of fs rows = flat_map (λ row. row_text fs row ++ 10 ∷ []) rows
 
+-- after what a writer held, where that is known, stand the lines of these rows
+abbrev pub AppendsLines : Fields → List ValueTrees → Option (List ℕ) → Option (List ℕ) → Type 0
+AppendsLines fs rows old new = Appends old new (lines_of fs rows)
+
+-- the bytes of a file mean some rows
+abbrev pub MeansRows : List ℕ → Type 0
+MeansRows bytes = (fs : Fields) × (rows : List ValueTrees) × FileMeans bytes fs rows
+
 -- behind what a writer held, where that is known, stand the lines of the rows that the bytes of a file mean
 pub record WritesRowsOf (bytes : List ℕ) (old new : Option (List ℕ)) : Type 0 where
   pub fs : Fields
@@ -44,13 +49,6 @@ abbrev pub IsRefusedLine : Fields → List ℕ → Refusal → Type 0
 IsRefusedLine fs text Script = line_of text ≡ None
 IsRefusedLine fs text RowShape = (ms : Members) × (line_of text ≡ Some ms) × (members_read fs ms ≡ None)
 IsRefusedLine fs text _ = ⊥
-
--- behind the rows so far stands that of one more text
-pub record AddsRow (fs : Fields) (text : List ℕ) (old new : List Row) : Type 0 where
-  pub row : Row
-  pub is : IsRowText fs text (row_view row)
-  pub fits : IsTrue (fits_each fs (row_view row))
-  pub added : new ≡ old ++ row ∷ []
 
 -- each text is that of a row, in their order
 abbrev pub AreRowTexts : Fields → List (List ℕ) → List ValueTrees → Type 0
@@ -75,6 +73,14 @@ pub record IsFileOf (options : WriteOptions) (schema_text rows_text bytes : List
   pub rows : List ValueTrees
   pub schema : IsSchemaText schema_text fs
   pub read : AreRowTexts fs (lines rows_text) rows
+  pub means : FileMeans bytes fs rows
+  pub laid_out : IsLaidOut options fs rows bytes
+  pub in_range : IsOutOfRange options → ⊥
+
+-- The bytes of a file mean the rows of these lines, in this schema, one for each line, laid out as these options say.
+pub record IsFileOfLines (options : WriteOptions) (fs : Fields) (texts : List (List ℕ)) (bytes : List ℕ) : Type 0 where
+  pub rows : List ValueTrees
+  pub read : AreRowTexts fs texts rows
   pub means : FileMeans bytes fs rows
   pub laid_out : IsLaidOut options fs rows bytes
   pub in_range : IsOutOfRange options → ⊥

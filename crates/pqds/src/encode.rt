@@ -1,16 +1,18 @@
 //! Texts to files.
 
-ghost use Rattle.std.specs.Prelude.{◌≡◌, IfOk, IfErr, OnOk};
+ghost use Rattle.std.specs.Prelude.{◌≡◌, List, IfOk, IfErr, OnOk, IsTrue};
 ghost use Rattle.std.specs.Str.Lines.{lines};
 ghost use Rattle.bits.specs.Refusals.{RefusedOnly};
-ghost use Rattle.schema.specs.Fits.{RowsFit};
-ghost use Rattle.schema.specs.Views.{rows_view};
-ghost use Rattle.jsonrows.specs.Reader.{schema_of};
-ghost use Rattle.pqds.specs.Program.{IsRefusedLine, AddsRow, AreRowTexts, HasFirstFault, IsFileOf, HaveFile, AreRefusedTexts, AreRefusedFiles};
+ghost use Rattle.schema.specs.Fits.{fits_each};
+ghost use Rattle.schema.specs.Values.{ValueTrees};
+ghost use Rattle.schema.specs.Views.{row_view};
+ghost use Rattle.jsonrows.specs.Reader.{schema_of as fields_of};
+ghost use Rattle.pqds.specs.Program.{IsRowText, IsRefusedLine, AreRowTexts, HasFirstFault, IsFileOfLines, IsFileOf, HaveFile, AreRefusedTexts, AreRefusedFiles};
+ghost use Rattle.pqds.specs.inner.Lines.{AreStopped};
 
 use crate::host::{put_new, text_of, whole_of};
-use bits::R;
-use footer::{WriteOptions, write_file};
+use bits::{R, Refusal};
+use footer::{FileWriter, WriteOptions};
 use jsonrows::{Reader, schema_from};
 use schema::{Row, Schema};
 use std::alloc::Global;
@@ -24,36 +26,49 @@ pub struct Sources<'a> {
     pub options: WriteOptions,
 }
 
-/// Puts the row of a line after the rows so far. Refused as `row_from` refuses the line.
-fn read_line(reader: &mut Reader<'_>, line: &str, rows: &mut Vec<Row>) -> R<()>
-    ensures stands { OnOk result (AddsRow (schema_of reader.old) line.now rows.old.items rows.new.items) }
-    ensures which { RefusedOnly (IsRefusedLine (schema_of reader.old) line.now) result }
-    ensures same { schema_of reader.new ≡ schema_of reader.old }
+/// The row of a line. Refused as `row_from` refuses the line.
+fn read_row(reader: &mut Reader<'_>, line: &str) -> R<Row>
+    ensures stands { IfOk result (λ row. IsRowText (fields_of reader.old) line.now (row_view row)) }
+    ensures fits { IfOk result (λ row. IsTrue (fits_each (fields_of reader.old) (row_view row))) }
+    ensures which { RefusedOnly (IsRefusedLine (fields_of reader.old) line.now) result }
+    ensures same { fields_of reader.new ≡ fields_of reader.old }
 {
-    let row = reader.read(line)?;
-    rows.push(row)?;
-    Ok(())
+    reader.read(line)
 }
 
-/// The rows of a text, one of each line. Refused as the first line is that is no row.
-fn rows_from(alloc: Global, schema: &Schema, text: &str) -> R<Vec<Row>>
-    ensures stands { IfOk result (λ rows. AreRowTexts schema.now (lines text.now) (rows_view rows.items)) }
-    ensures fits { IfOk result (λ rows. RowsFit schema.now (rows_view rows.items)) }
+/// The bytes of a file of the rows of a text, one of each line. Refused as the first line is that is no row, or
+/// Limit where the rows are too much for a file, and then later lines may not be read.
+fn written(alloc: Global, schema: &Schema, options: &WriteOptions, text: &str) -> R<Vec<u8>>
+    ensures stands { IfOk result (λ file. IsFileOfLines options.now schema.now (lines text.now) file.items) }
+    ensures which { IfErr result (AreStopped schema.now options.now (lines text.now)) }
+{
+    let mut reader = Reader::new(alloc, schema)?;
+    let mut writer = FileWriter::new(alloc, schema, options)?;
+    for line in text.lines() {
+        let row = read_row(&mut reader, line)?;
+        writer.push(row)?;
+    }
+    writer.finish()
+}
+
+/// Reads the rows of a text, one of each line, and keeps none. Refused as the first line is that is no row.
+fn check_lines(alloc: Global, schema: &Schema, text: &str) -> R<()>
+    ensures stands { OnOk result ((rows : List ValueTrees) × AreRowTexts schema.now (lines text.now) rows) }
     ensures which { RefusedOnly (HasFirstFault schema.now (lines text.now)) result }
 {
     let mut reader = Reader::new(alloc, schema)?;
-    let mut rows = Vec::new(alloc);
     for line in text.lines() {
-        read_line(&mut reader, line, &mut rows)?;
+        read_row(&mut reader, line)?;
     }
-    Ok(rows)
+    Ok(())
 }
 
 /// The bytes of a file that means, in the schema of one text, the rows of the other, one for each line (an
 /// empty line is no row; a last line needs no line feed), laid out as the options say.
 ///
 /// Refused as `schema_from` refuses the schema, or else as `row_from` does the first line that is no row, or
-/// else as `write_file` does. The time is linear in the texts.
+/// else as `write_file` does. The time is linear in the texts. Beside them stand in memory the file, and the rows of
+/// one group.
 pub fn encoded(
     alloc: Global,
     schema_text: &str,
@@ -64,8 +79,15 @@ pub fn encoded(
     ensures which { IfErr result (AreRefusedTexts options.now schema_text.now rows_text.now) }
 {
     let schema = schema_from(alloc, schema_text)?;
-    let rows = rows_from(alloc, &schema, rows_text)?;
-    write_file(alloc, &schema, options, rows.as_slice())
+    match written(alloc, &schema, options, rows_text) {
+        Ok(file) => Ok(file),
+        Err(Refusal::Limit) => {
+            // A line that is no row is refused before rows that are too much for a file.
+            check_lines(alloc, &schema, rows_text)?;
+            Err(Refusal::Limit)
+        }
+        Err(refusal) => Err(refusal),
+    }
 }
 
 /// Makes the file at `path` of the texts. The bytes of both files are read before either is looked at, and

@@ -195,7 +195,7 @@ The files are refused, with status 1, as encode refuses them, but for 24:
 
     4 Schema       the columns are no valid tree: two of one name, none at all, a length that cannot be
     6 Float        a column that is noted as FLOAT16, whose path follows
-    13 Limit       more than a file may have, or what is not written yet
+    13 Limit       a value of more than 16 MiB, or more rows or columns than a file may have
     14 RowShape    a row that has not just the schema's columns, or a value that its column cannot have
     25 Device      SCHEMA or ROWS cannot be read, or standard output not be written
     28 Memory      there was no memory left

@@ -17,6 +17,9 @@ use std::rt::Files;
 /// One byte more than a file may have.
 const MORE_THAN_A_FILE: u64 = 2_147_483_648;
 
+/// How many bytes are gathered before they are written.
+pub const GATHERED: usize = 65_536;
+
 /// How many names are tried for a file that is not whole yet.
 const MOST_NAMES: u32 = 1_000;
 
@@ -66,18 +69,19 @@ pub fn bytes_of<F: Files>(rt: &F, alloc: Global, path: &str) -> R<Vec<u8>>
     Ok(bytes)
 }
 
-/// The bytes of a file of the host, all of them. Refused Device where it cannot be read.
+/// The bytes of a file of the host, all of them. Refused Device where it cannot be read. Room for as many
+/// bytes as it is said to have, up to those of the greatest file, is asked for at once.
 pub fn whole_of<F: Files>(rt: &F, alloc: Global, path: &str) -> R<Vec<u8>>
     ensures which { RefusedOnly (λ e. e ≡ Device) result }
 {
     let mut file = File::open(rt, path).map_err(refusal_of)?;
-    let mut bytes = Vec::new(alloc);
+    let mut bytes = Vec::with_capacity(alloc, room_for(&file))?;
     file.read_to_end(&mut bytes).map_err(refusal_of)?;
     Ok(bytes)
 }
 
-/// Writes all of a text.
-fn write_text<W: Write>(text: &[u8], out: &mut W) -> R<()>
+/// Writes all of a text. Refused Device where it cannot be written.
+pub fn write_text<W: Write>(text: &[u8], out: &mut W) -> R<()>
     ensures stands { OnOk result (Appends (W.contents out.old) (W.contents out.new) text.now) }
     ensures which { RefusedOnly (λ e. e ≡ Device) result }
 {

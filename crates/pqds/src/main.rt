@@ -42,15 +42,12 @@ use std::env;
 use std::io::BufWriter;
 use std::process::ExitCode;
 
-/// How many bytes are gathered before they are written to standard output.
-const GATHERED: usize = 65_536;
-
 /// The status of the program, which is then done. A word that is not UTF-8 cannot be handed over.
 fn run(rt: &HostRuntime) -> R<u8> {
     let alloc = rt.alloc();
     let words = env::args(rt).map_err(host::refusal_of)?;
     let words: Vec<String> = words.skip(1).collect(alloc)?;
-    let gathered = BufWriter::with_capacity(alloc, GATHERED, rt.stdout());
+    let gathered = BufWriter::with_capacity(alloc, host::GATHERED, rt.stdout());
     let mut out = gathered.map_err(host::refusal_of)?;
     let status = work::work(rt, alloc, words.as_slice(), &mut out, &mut rt.stderr());
     // What could not be written is not tried once more.

@@ -15,6 +15,7 @@ pub mod InOrder
 pub mod ChunkReaders
 pub mod Starts
 pub mod GroupRows
+pub mod FlatGroups
 pub mod Fresh
 pub mod RowsTaken
 pub mod ChunkStatistics

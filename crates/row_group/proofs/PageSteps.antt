@@ -63,14 +63,18 @@ values_of_leaf leaf (e ∷ es) h = both (value_fits leaf.leaf_type e) (values_fi
     of_value None h = refl
     of_value (Some v) h = h.1
 
-page_fits : (leaf : Leaf) (d : Option (List ValueTree)) (bytes : List ℕ) (p : Page) (used : ℕ) → IsPage leaf d bytes p used → values_fit leaf.leaf_type (entries_of p) ≡ true
-page_fits leaf d bytes skipped used h = refl
-page_fits leaf d bytes (dictionary vs) used h = refl
-page_fits leaf d bytes (entries es) used h = values_of_leaf leaf es (by h.stands_for)
+-- the entries of a page are its leaf's
+pub page_of_leaf : (leaf : Leaf) (d : Option (List ValueTree)) (bytes : List ℕ) (p : Page) (used : ℕ) → IsPage leaf d bytes p used → AllByRecursion (IsEntryOf leaf) (entries_of p)
+page_of_leaf leaf d bytes skipped used h = tt
+page_of_leaf leaf d bytes (dictionary vs) used h = tt
+page_of_leaf leaf d bytes (entries es) used h = by h.stands_for
   where
     by : IsBody leaf d h.header h.body (entries es) → AllByRecursion (IsEntryOf leaf) es
     by (inl one) = one.3.each
     by (inr two) = two.3.each
+
+page_fits : (leaf : Leaf) (d : Option (List ValueTree)) (bytes : List ℕ) (p : Page) (used : ℕ) → IsPage leaf d bytes p used → values_fit leaf.leaf_type (entries_of p) ≡ true
+page_fits leaf d bytes p used h = values_of_leaf leaf (entries_of p) (page_of_leaf leaf d bytes p used h)
 
 pub page_taken : DictionaryIsNotRead → (s t new : ChunkLeft) (p : Page) (used : ℕ) (r : Result (Option DataPage) Fault) → 0 < s.lacking → IsHere s p used → t ≡ left_of s.leaf s.known (drop used s.bytes) s.lacking → TakesPage t new p r → ReadsPage s new r
 page_taken unread s t new p used (Ok (Some given)) some here e h = (

@@ -1,5 +1,5 @@
 -- The rows of a group cut to some of its leaves, by the readers of these leaves' chunks.
-use Rattle.std.proofs.Common.{◌≡◌, ℕ, zero, List, length, sym, ap, subst, ◌∙◌, arith, inl, inr}
+use Rattle.std.proofs.Common.{◌≡◌, ℕ, List, length, sym, ap, subst, ◌∙◌, arith, inl, inr}
 use Rattle.std.specs.Prelude.{pos, ◌<ℤ◌}
 use Rattle.std.proofs.lemmas.List.{length-map}
 use Rattle.bits.specs.declared.refusal.Refusal.{Refusal}
@@ -7,9 +7,9 @@ use Rattle.bits.specs.declared.refusal.Refusal.TheVariants as refusal
 use Rattle.bits.specs.Refusals.{IsFault, HasCause}
 use Rattle.schema.specs.Values.{ValueTrees}
 use Rattle.schema.specs.Shape.{Fields}
-use Rattle.schema.specs.Stripe.{Leaf, Entry, leaves_of, columns}
+use Rattle.schema.specs.Stripe.{leaves_of, columns}
 use Rattle.schema.specs.Law.{IsSchema, ColumnsDetermineRows}
-use Rattle.schema.specs.Cutting.{is_among, at_places, cut_to, cut_values, cut_rows, ArePlaces, IsCutFault, CutRowsFit, CutRowsHaveColumns}
+use Rattle.schema.specs.Cutting.{is_among, at_places, cut_to, cut_values, ArePlaces, IsCutFault, CutRowsFit, CutRowsHaveColumns}
 use Rattle.metadata.specs.Records.{GroupMeta}
 use Rattle.assemble.specs.RowsOf.{StandForRows, HasFault}
 use Rattle.assemble.specs.Standing.{IsRefusedFor}
@@ -17,9 +17,9 @@ use Rattle.assemble.specs.Columns.{Columns}
 use Rattle.assemble.proofs.WholeColumns.{only_faults}
 use Rattle.row_group.specs.declared.chunk_reader.ChunkReader.{ChunkReader}
 use Rattle.row_group.specs.Greatest.{most_rows}
-use Rattle.row_group.specs.Chunks.{AreChunks, GroupMeans}
-use Rattle.row_group.specs.Limits.{IsChunkOver, BeginsWith, IsOfChunks}
-use Rattle.row_group.specs.Wanted.{AreWantedChunks, CutGroupMeans, HasWanted, IsCutGroupOver}
+use Rattle.row_group.specs.Chunks.{AreChunks}
+use Rattle.row_group.specs.Limits.{IsOfChunks}
+use Rattle.row_group.specs.Wanted.{CutGroupMeans, IsCutGroupOver}
 use Rattle.row_group.specs.Laws.{FilesHoldOneColumn, CutGroupsHaveCutRows}
 use Rattle.row_group.specs.Left.{chunk_stands}
 use Rattle.row_group.specs.inner.Readers.{AreReaders, IsSound, AreSound, refusal_kept}

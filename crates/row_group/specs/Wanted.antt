@@ -4,10 +4,10 @@ use Rattle.schema.specs.Values.{ValueTrees}
 use Rattle.schema.specs.Shape.{Fields}
 use Rattle.schema.specs.Fits.{RowsFit}
 use Rattle.schema.specs.Stripe.{Leaf, Entry, leaves_of, columns}
-use Rattle.schema.specs.Cutting.{is_among, at_places, cut_to, ArePlaces}
+use Rattle.schema.specs.Cutting.{is_among, at_places, cut_to, cut_rows, ArePlaces}
 use Rattle.metadata.specs.Records.{ColumnMeta, GroupMeta}
 use Rattle.row_group.specs.Greatest.{most_rows}
-use Rattle.row_group.specs.Chunks.{AreChunks}
+use Rattle.row_group.specs.Chunks.{AreChunks, GroupMeans}
 use Rattle.row_group.specs.Limits.{IsChunkOver, HasColumn, BeginsWith}
 
 -- there are as many chunks as leaves, and those of the leaves at these places hold these columns
@@ -22,6 +22,14 @@ pub record CutGroupMeans (front : List ℕ) (places : List ℕ) (fs : Fields) (g
   pub count : g.num_rows ≡ pos (length rows)
   pub fit : RowsFit (cut_to places fs) rows
   pub chunks : AreWantedChunks front places fs g (columns (cut_to places fs) rows)
+
+-- no other rows are so
+abbrev pub HasNoOtherRows : List ℕ → List ℕ → Fields → GroupMeta → List ValueTrees → Type 0
+HasNoOtherRows front places fs g rows = (others : List ValueTrees) → CutGroupMeans front places fs g others → others ≡ rows
+
+-- where the whole group has rows, they are these rows, cut
+abbrev pub AreRowsCut : List ℕ → List ℕ → Fields → GroupMeta → List ValueTrees → Type 0
+AreRowsCut front places fs g rows = (all : List ValueTrees) → GroupMeans front fs g all → rows ≡ cut_rows places fs all
 
 -- chunk k of the group, with leaf k of the schema, which is at one of these places
 pub record HasWanted (places : List ℕ) (fs : Fields) (g : GroupMeta) (Is : ColumnMeta → Leaf → Type 0) : Type 0 where

@@ -3,3 +3,5 @@ pub mod Pages
 pub mod Readers
 pub mod Columns
 pub mod Parts
+pub mod Counts
+pub mod WantedChunks

@@ -4,11 +4,9 @@ ghost use Rattle.std.specs.Prelude.{◌≡◌, ◌≢◌, pos, List, IfOk, OnOk,
 ghost use Rattle.bits.specs.Refusals.{OnFault, RefusedOnly};
 ghost use Rattle.schema.specs.Values.{ValueTrees};
 ghost use Rattle.schema.specs.Views.{rows_view};
-ghost use Rattle.schema.specs.Cutting.{cut_rows};
 ghost use Rattle.metadata.specs.Views.{group_meta_view};
-ghost use Rattle.row_group.specs.Chunks.{GroupMeans};
 ghost use Rattle.row_group.specs.Limits.{IsOfChunks};
-ghost use Rattle.row_group.specs.Wanted.{CutGroupMeans, HasWanted, IsCutGroupOver};
+ghost use Rattle.row_group.specs.Wanted.{CutGroupMeans, HasNoOtherRows, AreRowsCut, HasWanted, IsCutGroupOver};
 
 use crate::counts::count_of;
 use crate::laws::{cut_groups_have_cut_rows, one_meaning};
@@ -39,8 +37,8 @@ pub fn read_group(
     wanted: &[usize],
 ) -> R<Vec<Row>>
     ensures stands { IfOk result (λ rows. CutGroupMeans front.now wanted.now schema.now (group_meta_view meta.now) (rows_view rows.items)) }
-    ensures alone { IfOk result (λ rows. (others : List ValueTrees) → CutGroupMeans front.now wanted.now schema.now (group_meta_view meta.now) others → others ≡ rows_view rows.items) }
-    ensures cut { IfOk result (λ rows. (all : List ValueTrees) → GroupMeans front.now schema.now (group_meta_view meta.now) all → rows_view rows.items ≡ cut_rows wanted.now schema.now all) }
+    ensures alone { IfOk result (λ rows. HasNoOtherRows front.now wanted.now schema.now (group_meta_view meta.now) (rows_view rows.items)) }
+    ensures cut { IfOk result (λ rows. AreRowsCut front.now wanted.now schema.now (group_meta_view meta.now) (rows_view rows.items)) }
     ensures within_limits { OnOk result (IsCutGroupOver front.now wanted.now schema.now (group_meta_view meta.now) → ⊥) }
     ensures only { OnFault result ((rows : List ValueTrees) → CutGroupMeans front.now wanted.now schema.now (group_meta_view meta.now) rows → ⊥) }
     ensures limit { result ≡ Err Refusal.Limit → IsCutGroupOver front.now wanted.now schema.now (group_meta_view meta.now) }

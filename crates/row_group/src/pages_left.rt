@@ -9,7 +9,7 @@ ghost use Rattle.pages.specs.Limits.{IsOfPages};
 ghost use Rattle.pages.specs.Views.{dictionary_view, page_view};
 ghost use Rattle.row_group.specs.Rest.{dictionary_of, all_pages};
 ghost use Rattle.row_group.specs.Left.{known_view, pages_view};
-ghost use Rattle.row_group.specs.inner.Pages.{NextPage, ReadsPage, TakesPage};
+ghost use Rattle.row_group.specs.inner.Pages.{GivesEntries, NextPage, ReadsPage, TakesPage};
 
 use bits::{Fault, Refusal};
 use pages::{DataPage, PageRef, pages_of_a_dictionary, read_page};
@@ -67,6 +67,13 @@ fn fault_of(refusal: &Refusal) -> Fault
         Refusal::Limit => Fault::Limit,
         _ => Fault::Memory,
     }
+}
+
+/// The page, or none where it has no entries.
+fn with_entries(page: DataPage<'_>) -> Option<DataPage<'_>>
+    ensures { GivesEntries page.entry result }
+{
+    if page.len() == 0 { None } else { Some(page) }
 }
 
 impl<'a> PagesLeft<'a> {
@@ -138,12 +145,8 @@ impl<'a> PagesLeft<'a> {
                 if let Dictionary::Open = self.dictionary {
                     self.dictionary = Dictionary::Absent;
                 }
-                let count = page.len();
-                self.lacking -= count;
-                if count == 0 {
-                    return Ok(None);
-                }
-                Ok(Some(page))
+                self.lacking -= page.len();
+                Ok(with_entries(page))
             }
         }
     }

@@ -1,6 +1,6 @@
 //! The rows of a group, one by one.
 
-ghost use Rattle.std.specs.Prelude.{◌≡◌, List, true, false, map, IfOk, OnOk, IfErr, Ok, Err};
+ghost use Rattle.std.specs.Prelude.{◌≡◌, ◌↔◌, IsTrue, List, true, false, map, IfOk, OnOk, IfErr, Ok, Err};
 ghost use Rattle.bits.specs.Refusals.{OnFault, RefusedOnly, RefusedMemoryOnly};
 ghost use Rattle.schema.specs.Values.{ValueTrees};
 ghost use Rattle.schema.specs.Views.{rows_view};
@@ -9,13 +9,14 @@ ghost use Rattle.row_group.specs.Chunks.{GroupMeans};
 ghost use Rattle.row_group.specs.Limits.{IsChunkOver, IsGroupOver, HasColumn, BeginsWith, HasCodec, IsOfChunks, IsReadable};
 ghost use Rattle.row_group.specs.Left.{rows_stand, is_broken, TakesRow, TakesRowTo};
 ghost use Rattle.row_group.specs.inner.Readers.{HasRows, AreRowsOfGroup};
+ghost use Rattle.row_group.specs.inner.Counts.{HaveCounts};
 
 use crate::chunk_reader::ChunkReader;
 use crate::counts::count_of;
 use crate::group_chunks::{check_chunks, readers_of};
 use crate::laws::one_meaning;
 use crate::limits::MOST_ROWS_OF_GROUP;
-use assemble::{RowBuilder, RowSink, count_rows, next_row_to};
+use assemble::{RowBuilder, RowSink, count_rows, flat_columns_have_rows, is_flat, next_row_to};
 use bits::{R, Refusal};
 use metadata::GroupMeta;
 use pages::one_page;
@@ -180,9 +181,45 @@ pub fn check_group(alloc: Global, front: &[u8], meta: &GroupMeta, schema: &Schem
     Ok(())
 }
 
-/// Counts the rows of a group, and makes none: there are this many, from chunks that are read to their
-/// ends. Refused Levels for another number; otherwise as [`Rows::of_group`].
+/// Reads the chunks of a group to their ends, and keeps nothing of them: they hold the columns of this
+/// many rows. Refused Levels for another number of rows; otherwise as [`Rows::of_group`].
+///
+/// In a flat schema each row has one entry in each column, so that the rows are counted without a look at
+/// each of them.
 fn check_rows(alloc: Global, front: &[u8], meta: &GroupMeta, schema: &Schema, count: usize) -> R<()>
+    ensures stands { OnOk result (HasRows front.now schema.now (group_meta_view meta.now) count) }
+    ensures only { OnFault result ((rows : List ValueTrees) → AreRowsOfGroup front.now schema.now (group_meta_view meta.now) count rows → ⊥) }
+    ensures limit { result ≡ Err Refusal.Limit → HasColumn schema.now (group_meta_view meta.now) (BeginsWith front.now IsChunkOver) }
+    ensures codec { result ≡ Err Refusal.Codec → HasCodec (group_meta_view meta.now) }
+    ensures which { RefusedOnly IsOfChunks result }
+{
+    flat_columns_have_rows();
+    if is_flat(schema) && have_counts(meta, count) {
+        return check_chunks(alloc, front, meta, schema);
+    }
+    check_row_by_row(alloc, front, meta, schema, count)
+}
+
+/// Whether each chunk of a group has this many entries, by its record.
+fn have_counts(meta: &GroupMeta, count: usize) -> bool
+    ensures { IsTrue result ↔ HaveCounts count (group_meta_view meta.now).columns }
+{
+    for chunk in &meta.columns {
+        if i128::from(chunk.meta_data.num_values) != count as i128 {
+            return false;
+        }
+    }
+    true
+}
+
+/// As [`check_rows`], for each schema: counts the rows of a group one by one, and makes none.
+fn check_row_by_row(
+    alloc: Global,
+    front: &[u8],
+    meta: &GroupMeta,
+    schema: &Schema,
+    count: usize,
+) -> R<()>
     ensures stands { OnOk result (HasRows front.now schema.now (group_meta_view meta.now) count) }
     ensures only { OnFault result ((rows : List ValueTrees) → AreRowsOfGroup front.now schema.now (group_meta_view meta.now) count rows → ⊥) }
     ensures limit { result ≡ Err Refusal.Limit → HasColumn schema.now (group_meta_view meta.now) (BeginsWith front.now IsChunkOver) }

@@ -3,11 +3,10 @@
 ghost use Rattle.std.specs.Prelude.{◌≡◌, ◌≢◌, pos, List, length, IfOk, OnOk, Err};
 ghost use Rattle.bits.specs.Refusals.{OnFault, RefusedOnly};
 ghost use Rattle.schema.specs.Stripe.{Entry, leaves_of};
-ghost use Rattle.schema.specs.Cutting.{at_places};
 ghost use Rattle.metadata.specs.Views.{group_meta_view};
 ghost use Rattle.row_group.specs.Limits.{IsChunkOver, BeginsWith, IsOfChunks};
-ghost use Rattle.row_group.specs.Wanted.{AreWantedChunks, HasWanted};
-ghost use Rattle.row_group.specs.inner.Readers.{AreReaders, AreSound};
+ghost use Rattle.row_group.specs.Wanted.{HasWanted};
+ghost use Rattle.row_group.specs.inner.WantedChunks.{AreReadersAt, AreSoundAt, HoldNothingAt};
 
 use crate::chunk_reader::ChunkReader;
 use crate::group_chunks::{check_column, reader_of};
@@ -29,8 +28,8 @@ pub fn wanted_readers<'a>(
     wanted: &[usize],
 ) -> R<Vec<ChunkReader<'a>>>
     ensures as_many { OnOk result (length (group_meta_view meta.now).columns ≡ length (leaves_of schema.now)) }
-    ensures stands { IfOk result (λ rs. AreReaders front.now (at_places wanted.now (group_meta_view meta.now).columns) (at_places wanted.now (leaves_of schema.now)) rs.items) }
-    ensures only { OnFault result ((columns : List (List Entry)) → AreWantedChunks front.now wanted.now schema.now (group_meta_view meta.now) columns → ⊥) }
+    ensures stands { IfOk result (λ rs. AreReadersAt front.now wanted.now schema.now (group_meta_view meta.now) rs.items) }
+    ensures only { OnFault result (HoldNothingAt front.now wanted.now schema.now (group_meta_view meta.now)) }
     ensures limit { result ≡ Err Refusal.Limit → HasWanted wanted.now schema.now (group_meta_view meta.now) (BeginsWith front.now IsChunkOver) }
     ensures codec { result ≡ Err Refusal.Codec → HasWanted wanted.now schema.now (group_meta_view meta.now) (λ m leaf. m.codec ≢ pos 0) }
     ensures which { RefusedOnly IsOfChunks result }
@@ -60,8 +59,8 @@ pub fn check_wanted(
     schema: &Schema,
     wanted: &[usize],
 ) -> R<()>
-    ensures stands { OnOk result ((columns : List (List Entry)) × AreSound front.now (at_places wanted.now (group_meta_view meta.now).columns) (at_places wanted.now (leaves_of schema.now)) columns) }
-    ensures only { OnFault result ((columns : List (List Entry)) → AreWantedChunks front.now wanted.now schema.now (group_meta_view meta.now) columns → ⊥) }
+    ensures stands { OnOk result ((columns : List (List Entry)) × AreSoundAt front.now wanted.now schema.now (group_meta_view meta.now) columns) }
+    ensures only { OnFault result (HoldNothingAt front.now wanted.now schema.now (group_meta_view meta.now)) }
     ensures limit { result ≡ Err Refusal.Limit → HasWanted wanted.now schema.now (group_meta_view meta.now) (BeginsWith front.now IsChunkOver) }
     ensures codec { result ≡ Err Refusal.Codec → HasWanted wanted.now schema.now (group_meta_view meta.now) (λ m leaf. m.codec ≢ pos 0) }
     ensures which { RefusedOnly IsOfChunks result }

@@ -1,5 +1,5 @@
 -- One entry off a column.
-use Rattle.std.specs.Prelude.{◌≡◌, ℕ, zero, suc, ◌<◌, ◌≤◌, ◌⊎◌, Bool, true, false, List, [], ◌∷◌, length, Option, Some}
+use Rattle.std.specs.Prelude.{◌≡◌, ℕ, zero, suc, ◌+◌, ◌<◌, ◌≤◌, ◌⊎◌, Bool, true, false, List, [], ◌∷◌, length, Option, Some, None}
 use Rattle.std.specs.List.{AllByRecursion}
 use Rattle.bits.specs.declared.refusal.Refusal.{Refusal}
 use Rattle.schema.specs.Annotations.{LeafType}
@@ -21,6 +21,10 @@ pub record ReadsLeaf (t : LeafType) (r d : ℕ) (S T : Stands) (v : ValueTree) :
   pub fits : fits_leaf t v ≡ true
   pub first : Precede (entry r d (Some v)) S T
 
+-- it is there, one level deeper, or it is null and the next entry, which is taken, has these levels and no value
+abbrev pub ReadsOptional : LeafType → ℕ → ℕ → Stands → Stands → ValueTree → Type 0
+ReadsOptional t r d S T v = ReadsLeaf t r (d + 1) S T v ⊎ ((v ≡ null) × Precede (entry r d None) S T)
+
 -- the value of a field that is missing
 abbrev pub missing_value : Repetition → ValueTree
 missing_value Repeated = list no_values
@@ -35,6 +39,10 @@ IsSourceRefusedFor S refused old new P e =
 -- Value: it has no value that fits
 abbrev pub IsLeafFaulty : ℕ → ℕ → LeafType → List Entry → Refusal → Type 0
 IsLeafFaulty r d t es = Tells (Begins es r d → ⊥) (AllByRecursion (Suits (record { full = d; leaf_type = t })) es → ⊥)
+
+-- Levels: it has other levels than those of a null and of a value; Value: it has no value that fits, or one that should not be there
+abbrev pub IsOptionalFaulty : ℕ → ℕ → LeafType → List Entry → Refusal → Type 0
+IsOptionalFaulty r d t es = Tells ((Begins es r d ⊎ Begins es r (d + 1)) → ⊥) (AllByRecursion (Suits (record { full = d + 1; leaf_type = t })) es → ⊥)
 
 -- Value: it has a value
 abbrev pub IsAbsentFaulty : ℕ → ℕ → List Entry → Refusal → Type 0

@@ -1,5 +1,5 @@
 -- What a sink holds of the values that it was shown, as text.
-use Rattle.std.specs.Prelude.{◌≡◌, ℕ, zero, suc, ◌+◌, ◌-◌, Bool, true, false, List, [], ◌∷◌, ◌++◌, map, reverse, length, take, drop, flat_map, Option, Some, None, option_map, if◌then◌else◌}
+use Rattle.std.specs.Prelude.{ℕ, ◌-◌, Bool, true, false, List, [], ◌∷◌, ◌++◌, map, reverse, length, take, drop, flat_map, Option, Some, None, option_map, if◌then◌else◌}
 use Rattle.std.specs.Borrow.{Bor}
 use Rattle.json.specs.Print.{quoted}
 use Rattle.serde_json.specs.Data as json
@@ -8,13 +8,13 @@ use Rattle.hex.specs.Hex.{encode_lower}
 use Rattle.schema.specs.Values.{ValueTree, boolean, integer, bytes}
 use Rattle.schema.specs.Shape.{Fields}
 use Rattle.assemble.specs.Sinks.{Token, single, group_begins, group_ends, list_begins, list_ends}
-use Rattle.jsonrows.specs.declared.members.Numbers.{Numbers}
+use Rattle.jsonrows.specs.declared.scalars.Numbers.{Numbers}
 use Rattle.jsonrows.specs.declared.row_plan.Slot.{Slot as CodeSlot}
 use Rattle.jsonrows.specs.declared.row_plan.RowPlan.{RowPlan}
 use Rattle.jsonrows.specs.declared.row_text.Level.{Level as CodeLevel}
 use Rattle.jsonrows.specs.declared.row_text.Level.TheVariants.{Object, List as ListOf}
 use Rattle.jsonrows.specs.declared.row_text.RowText.{RowText}
-use Rattle.jsonrows.specs.inner.Plan.{number_shown}
+use Rattle.jsonrows.specs.inner.Scalars.{number_shown}
 use Rattle.jsonrows.specs.inner.Slots.{Slot, leaf_slot, group_slot, Slots, no_slots, slot, slot_view, slots_view, key_in, slots_made, order_of, vec_items, order_view}
 
 -- ---- the text of a value of a leaf

@@ -8,10 +8,10 @@ use Rattle.std.specs.Borrow.{Bor}
 use Rattle.json.specs.Print.{quoted}
 use Rattle.schema.specs.Annotations.{is_text, order_of as leaf_order}
 use Rattle.schema.specs.Shape.{Field, leaf, fields, Fields, no_fields, field, name_of, count}
-use Rattle.jsonrows.specs.declared.members.Numbers.{Numbers}
+use Rattle.jsonrows.specs.declared.scalars.Numbers.{Numbers}
 use Rattle.jsonrows.specs.declared.row_plan.Slot.{Slot as CodeSlot, fold-Slot}
 use Rattle.jsonrows.specs.declared.row_plan.Slot.TheOpen.{Slot-F}
-use Rattle.jsonrows.specs.inner.Plan.{numbers_of}
+use Rattle.jsonrows.specs.inner.Scalars.{numbers_of}
 
 -- a field: its name as it is printed, between a comma and a colon, and what its values are; the order of a group is none where its fields stand in the order of their names
 mutual

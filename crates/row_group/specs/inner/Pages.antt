@@ -78,6 +78,11 @@ pub record IsAfter (old new : ChunkLeft) (page : Page) : Type 0 where
   pub bytes : new.bytes ≡ old.bytes
   pub lacking : new.lacking + length (entries_of page) ≡ old.lacking
 
+-- its entries are given where there are some
+abbrev pub GivesEntries : DataPage → Option DataPage → Type 0
+GivesEntries page (Some given) = (entries_left given ≡ entries_left page) × (0 < length (entries_left given))
+GivesEntries page None = entries_left page ≡ []
+
 -- the page may come, and its entries are given where there are some; or it may not
 abbrev pub TakesPage : ChunkLeft → ChunkLeft → Page → Result (Option DataPage) Fault → Type 0
 TakesPage old new page (Ok (Some given)) = MayCome old.known page × IsAfter old new page × (entries_left given ≡ entries_of page) × (0 < length (entries_left given))

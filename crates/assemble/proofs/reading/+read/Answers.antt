@@ -1,11 +1,13 @@
-use Rattle.std.proofs.Common.{rules, suc, add-one, drop, ◌-◌, ◌≡◌, ℕ, ◌+◌, ◌<◌, ◌≤◌, ◌^◌, [], length, true, false, string_bytes, ap, sym, subst, ◌∙◌, arith, drop_of_length-le, refl}
+use Rattle.std.proofs.Common.{rules, suc, add-one, drop, ◌-◌, ◌≡◌, ℕ, ◌+◌, ◌<◌, ◌≤◌, ◌^◌, [], length, get_or, true, false, string_bytes, ap, sym, subst, ◌∙◌, arith, drop_of_length-le, refl}
 use Rattle.std.proofs.lemmas.List.{append-nil}
 use Rattle.std.proofs.Math.ListN.{set}
 use Rattle.std.proofs.lemmas.Result.{IfOk-weaker, IfErr-weaker, on_ok_weaker}
 use borrow.Rule.Slice.PartMut.{put_mid, mid_of}
+use Rattle.bits.specs.Faults.{refusal_of}
+use Rattle.schema.specs.declared.value.Repetition.TheVariants.{Optional}
 use Rattle.schema.specs.Values.{no_values, value as item}
 use Rattle.schema.specs.Views.{field_view, field_views, leaf_type_view}
-use Rattle.schema.specs.Shape.{Field, fields}
+use Rattle.schema.specs.Shape.{Field, fields, repetition_of}
 use Rattle.schema.specs.Law.{IsValid, AreValid}
 use Rattle.schema.specs.Reading.{tallest, count_leaves, count_leaves_each}
 use Rattle.schema.proofs.Forest.{field_place}
@@ -15,16 +17,16 @@ use Rattle.assemble.specs.Standing.{AllStand, Onward, Backward, IsRefusedFor}
 use Rattle.assemble.specs.inner.Building.{snoc}
 use Rattle.assemble.specs.inner.Fronts.{stripes, stripes_inside, stripes_items, stripes_each, wants, wants_inside, wants_each, Fit, FitInside, FitItems, FitEach}
 use Rattle.assemble.specs.inner.ReadValues.{Reads, IsFaulty}
-use Rattle.assemble.specs.inner.Steps.{missing_value, IsSkipFaulty, IsMissing, HasItem, NoneLeft, first_of}
+use Rattle.assemble.specs.inner.Steps.{missing_value, IsOptionalFaulty, IsSkipFaulty, IsMissing, HasItem, NoneLeft, first_of}
 use Rattle.assemble.proofs.Starting.{has_leaf}
 use Rattle.schema.proofs.CutSteps.{count_is}
 use Rattle.assemble.proofs.Readings.{faulty_required, faulty_present, faulty_list, faulty_missing, faulty_nothing, optional_is}
-use Rattle.assemble.proofs.Standing.{same_self, stand_on, part_stands, among_put, refused_up, refused_same, refused_ok, none_ok}
-use Rattle.assemble.proofs.Groups.{faulty_group}
+use Rattle.assemble.proofs.Standing.{same_self, stand_on, stand_get, stand_length, part_stands, among_put, refused_up, refused_same, refused_at, refused_ok, none_ok}
+use Rattle.assemble.proofs.Groups.{faulty_group, faulty_optional_at}
 use Rattle.assemble.proofs.Items as items
 use Rattle.assemble.proofs.Items.{one_more}
 use Rattle.assemble.proofs.Each as each
-use Rattle.assemble.proofs.Taking.{reads_required, reads_present, reads_list, reads_group, reads_missing, reads_leaf, each_onward, each_backward, first_onward, first_backward, next_onward, next_backward, reads_items}
+use Rattle.assemble.proofs.Taking.{reads_required, reads_present, reads_list, reads_group, reads_missing, reads_leaf, reads_optional, each_onward, each_backward, first_onward, first_backward, next_onward, next_backward, reads_items}
 use Rattle.schema.proofs.Slices.{map_kept}
 use Rattle.schema.proofs.OneLevel.{view_leaf, view_fields}
 use Rattle.assemble.proofs.Showing.{adds_then, adds_none, tokens_snoc, visits_up, visits_group, visits_list}
@@ -330,7 +332,7 @@ read_next-returns-in-Required-clause-reads g t c =
     let r = c.args.place.repetition in
     let d = c.args.place.definition in
     let k = c.args.place.own in
-    let found = c.in_ok-read_leaf.ensures.reads in
+    let found = c.in_ok-read_leaf-in-Required.ensures.reads in
     let v = found.0 in
     let f = field_view c.args.field.now in
     let is = ap field_view c.in-Leaf.is ∙ view_leaf c.in-Leaf.name c.in-Leaf.repetition c.in-Leaf.leaf_type in
@@ -339,6 +341,50 @@ read_next-returns-in-Required-clause-reads g t c =
     subst (λ h. Reads S (FitInside h) (stripes_inside h r d k) k xs (set xs 0 y) v) (sym is)
     (reads_leaf S (string_bytes c.in-Leaf.name) c.in-Leaf.repetition (leaf_type_view c.in-Leaf.leaf_type) r d k xs c.index-sources-0.result y v some found.1.0.fits found.1.0.first) in
     (v, (reads_required S f (sym c.repetition.ensures ∙ c.in-Required.is) r d k xs (set xs 0 y) v (same_self S xs) inside, found.1.1))
+
+pub read_next-returns-in-Optional-clause-reads : goal.read_next-returns-in-Optional-clause-reads
+read_next-returns-in-Optional-clause-reads g t c =
+    let S = g.S.EntrySource.stands in
+    let xs = c.args.sources.now in
+    let y = c.read_optional.new.source in
+    let r = c.args.place.repetition in
+    let d = c.args.place.definition in
+    let k = c.args.place.own in
+    let found = c.in_ok-read_optional-in-Optional.ensures.reads in
+    let v = found.0 in
+    let f = field_view c.args.field.now in
+    let is = ap field_view c.in-Leaf.is ∙ view_leaf c.in-Leaf.name c.in-Leaf.repetition c.in-Leaf.leaf_type in
+    let x : c.in-Leaf.repetition ≡ Optional = sym (ap repetition_of is) ∙ sym c.repetition.ensures ∙ c.in-Optional.is in
+    let some : 0 < length xs = some_source f (length xs) c.requires.valid c.requires.room in (
+      v,
+      (
+        subst (λ h. Reads S (Fit h) (stripes h r d k) k xs (set xs 0 y) v) (sym is)
+            (reads_optional S (string_bytes c.in-Leaf.name) c.in-Leaf.repetition (leaf_type_view c.in-Leaf.leaf_type) x (subst IsValid is c.requires.valid) r d k xs c.index-sources-0-in-Optional.result y v some found.1.0),
+        found.1.1,
+      ),
+    )
+
+pub read_next-returns-in_err-read_optional-in-Optional-clause-refused : goal.read_next-returns-in_err-read_optional-in-Optional-clause-refused
+read_next-returns-in_err-read_optional-in-Optional-clause-refused g t c =
+    let S = g.S.EntrySource.stands in
+    let R = g.S.EntrySource.refused in
+    let xs = c.args.sources.now in
+    let y = c.read_optional.new.source in
+    let r = c.args.place.repetition in
+    let d = c.args.place.definition in
+    let k = c.args.place.own in
+    let e = refusal_of c.in_err-read_optional-in-Optional.field-0.0 in
+    let lt = leaf_type_view c.in-Leaf.leaf_type in
+    let f = field_view c.args.field.now in
+    let is = ap field_view c.in-Leaf.is ∙ view_leaf c.in-Leaf.name c.in-Leaf.repetition c.in-Leaf.leaf_type in
+    let x : c.in-Leaf.repetition ≡ Optional = sym (ap repetition_of is) ∙ sym c.repetition.ensures ∙ c.in-Optional.is in
+    let some : 0 < length xs = some_source f (length xs) c.requires.valid c.requires.room in
+    refused_ok _ c.from_residual-in_err-read_optional-in-Optional.result e c.from_residual-in_err-read_optional-in-Optional.ensures.1
+    (refused_at S R xs xs 0 c.index-sources-0-in-Optional.result y (IsOptionalFaulty r d lt) (IsFaulty (Fit f) (stripes f r d k) k (wants f d)) e some refl
+    (λ cs s.
+    let size = stand_length S xs cs s in
+    (get_or cs 0 [], (stand_get S xs cs 0 c.index-sources-0-in-Optional.result some s, λ h. subst (λ f. IsFaulty (Fit f) (stripes f r d k) k (wants f d) cs e) (sym is) (faulty_optional_at (string_bytes c.in-Leaf.name) c.in-Leaf.repetition lt x r d k cs (omega (arith, size, some)) e h))))
+    c.in_err-read_optional-in-Optional.ensures.refused)
 
 pub read_inside-returns-in_ok-read_leaf-in-Leaf-clause-reads : goal.read_inside-returns-in_ok-read_leaf-in-Leaf-clause-reads
 read_inside-returns-in_ok-read_leaf-in-Leaf-clause-reads g t c =

@@ -12,7 +12,8 @@ use Rattle.metadata.specs.Views.{group_meta_view}
 use Rattle.row_group.specs.declared.options.ChunkOptions.{ChunkOptions}
 use Rattle.row_group.specs.Writing.{AppendsGroup, AreTaken, IsGroupTooMuch}
 use Rattle.footer.specs.Writing.{chunk_options, IsTooMuch}
-use Rattle.footer.proofs.InGroups.{IsBegun, in_range, goes_on, too_much, fit, all_written}
+use Rattle.footer.specs.Writer.{IsBegun}
+use Rattle.footer.proofs.InGroups.{in_range, goes_on, too_much, fit, all_written}
 use Rattle.footer.proofs.Whole.{passes_limit}
 use Rattle.footer.proofs.file_writing.write_groups.Goals as goal
 

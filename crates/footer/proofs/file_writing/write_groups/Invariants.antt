@@ -1,7 +1,7 @@
 use Rattle.std.proofs.Common.{map, length}
 use Rattle.schema.specs.Views.{rows_view}
 use Rattle.metadata.specs.Views.{group_meta_view}
-use Rattle.footer.proofs.InGroups.{IsBegun}
+use Rattle.footer.specs.Writer.{IsBegun}
 use Rattle.footer.proofs.file_writing.write_groups.Given as goal
 
 -- some of the groups are written, and the rows that are left are still to be

@@ -1,4 +1,4 @@
-use Rattle.std.proofs.Common.{◌≡◌, true, false, length, refl, ap, sym, ◌∙◌, rules}
+use Rattle.std.proofs.Common.{◌≡◌, true, false, length, refl, ap, sym, ◌∙◌}
 use Rattle.jsonrows.specs.inner.Slots.{is_in_order}
 use Rattle.jsonrows.proofs.RowPlans.{order_tested}
 use Rattle.jsonrows.proofs.row_plan.order_of.Goals as goal

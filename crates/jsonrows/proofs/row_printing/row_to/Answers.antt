@@ -1,16 +1,17 @@
-use Rattle.std.proofs.Common.{◌≡◌, ◌∙◌, ap}
-use Rattle.serde_json.specs.View.{members_view}
-use Rattle.serde_json.specs.Written.{has_float, compact_text}
+use Rattle.std.proofs.Common.{◌++◌, List, ℕ, [], ◌∷◌, sym, ap, subst, ◌∙◌}
+use Rattle.schema.specs.declared.value.Value.{Value}
+use Rattle.schema.specs.Values.{views}
 use Rattle.schema.specs.Views.{row_view}
-use Rattle.jsonrows.specs.Json.{members_json}
-use Rattle.jsonrows.proofs.Floats.{row-has_no_float}
-use Rattle.jsonrows.proofs.Forms.{row_seen}
+use Rattle.jsonrows.specs.Json.{row_text}
+use Rattle.jsonrows.specs.Rows.{BeginsRow, ShowsRow}
+use Rattle.jsonrows.specs.inner.Opening.{opening}
 use Rattle.jsonrows.proofs.row_printing.row_to.Goals as goal
 
 pub returns-clause-stands : goal.returns-clause-stands
 returns-clause-stands c =
     let fs = c.args.schema.now in
     let row = row_view c.args.row.now in
-    let members : members_view c.in_ok-members.members.entries ≡ members_json fs row = rw (c.fields.ensures, c.as_slice.ensures.value) at c.in_ok-members.ensures in
-    let seen = row_seen c.in_ok-members.members fs row members in
-    c.in_ok-text.ensures.text (ap has_float seen ∙ row-has_no_float fs row) ∙ ap compact_text seen
+    let begins = subst (BeginsRow c.new-sink.result) c.in_ok-plan.ensures.prints (c.new-sink.ensures.begins c.in_ok-plan.ensures.ready) in
+    let shown = subst (λ (vs : List Value). ShowsRow c.show_each.new.sink fs (views vs)) c.as_slice.ensures.value (c.in_ok-show_each.ensures.shown (opening fs ∷ []) begins) in
+    let line = c.in_ok-put_row.ensures.stands fs row shown (sym c.fits.ensures ∙ c.if-not-fits.false) in
+    c.in_ok-text_from.ensures ∙ line ∙ ap (λ (s : List ℕ). s ++ row_text fs row) c.new-line.ensures.items

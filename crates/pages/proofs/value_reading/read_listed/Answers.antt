@@ -1,18 +1,10 @@
 use Rattle.std.proofs.Common.{map}
 use Rattle.schema.specs.Borrowed.{value_ref_view}
 use Rattle.schema.specs.Views.{leaf_type_view}
-use Rattle.pages.specs.declared.encoding.Encoding.TheVariants.{Plain, Rle, DeltaBinaryPacked, DeltaLengthByteArray}
+use Rattle.pages.specs.declared.encoding.Encoding.TheVariants.{Rle, DeltaBinaryPacked, DeltaLengthByteArray}
 use Rattle.pages.specs.Views.{dictionary_view}
 use Rattle.pages.proofs.ListedValues.{in_any_chunk, in_no_chunk}
 use Rattle.pages.proofs.value_reading.read_listed.Goals as goal
-
-pub returns-in-Plain-clause-stands : goal.returns-in-Plain-clause-stands
-returns-in-Plain-clause-stands c =
-    in_any_chunk c.read_plain.result (λ vs. map value_ref_view vs.items) (dictionary_view c.args.dictionary) (leaf_type_view c.args.leaf_type.now) c.args.encoding Plain c.args.bytes.now c.args.count c.in-Plain.is c.read_plain.ensures.stands
-
-pub returns-in-Plain-clause-only : goal.returns-in-Plain-clause-only
-returns-in-Plain-clause-only c =
-    in_no_chunk c.read_plain.result (dictionary_view c.args.dictionary) (leaf_type_view c.args.leaf_type.now) c.args.encoding Plain c.args.bytes.now c.args.count c.in-Plain.is c.read_plain.ensures.only
 
 pub returns-in-Rle-clause-stands : goal.returns-in-Rle-clause-stands
 returns-in-Rle-clause-stands c =

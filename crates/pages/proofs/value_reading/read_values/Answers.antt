@@ -1,6 +1,6 @@
 use Rattle.std.proofs.Common.{arith}
 use Rattle.schema.specs.Views.{leaf_type_view}
-use Rattle.pages.specs.declared.encoding.Encoding.TheVariants.{DeltaByteArray}
+use Rattle.pages.specs.declared.encoding.Encoding.TheVariants.{Plain, DeltaByteArray}
 use Rattle.pages.specs.Left.{values_left}
 use Rattle.pages.specs.Views.{dictionary_view}
 use Rattle.pages.proofs.SharedValues.{nothing_over}
@@ -10,6 +10,18 @@ use Rattle.pages.proofs.value_reading.read_values.Goals as goal
 
 pub returns-then-count-eq0-clause-within_limits : goal.returns-then-count-eq0-clause-within_limits
 returns-then-count-eq0-clause-within_limits c = nothing_over c.args.leaf_type.now.kind c.args.encoding c.args.bytes.now c.args.count c.if-count-eq0.true
+
+pub returns-in-Some-Plain-clause-stands : goal.returns-in-Some-Plain-clause-stands
+returns-in-Some-Plain-clause-stands c =
+    let here = rw c.in-Some-Plain.is at c.in-Some-Plain.field-0-is in
+    let is = some_encoding c.args.encoding c.in-Some-Plain.field-0 Plain c.in-Some-Plain.is here in
+    shared_spelled c.read_plain.result (λ vs. values_left vs) (dictionary_view c.args.dictionary) (leaf_type_view c.args.leaf_type.now) c.args.encoding Plain c.args.bytes.now c.args.count is c.read_plain.ensures.stands
+
+pub returns-in-Some-Plain-clause-only : goal.returns-in-Some-Plain-clause-only
+returns-in-Some-Plain-clause-only c =
+    let here = rw c.in-Some-Plain.is at c.in-Some-Plain.field-0-is in
+    let is = some_encoding c.args.encoding c.in-Some-Plain.field-0 Plain c.in-Some-Plain.is here in
+    none_spelled c.read_plain.result (dictionary_view c.args.dictionary) (leaf_type_view c.args.leaf_type.now) c.args.encoding Plain c.args.bytes.now c.args.count is (omega (arith, c.if-count-eq0.false)) c.read_plain.ensures.only
 
 pub returns-in-Some-DeltaByteArray-clause-stands : goal.returns-in-Some-DeltaByteArray-clause-stands
 returns-in-Some-DeltaByteArray-clause-stands c =

@@ -14,8 +14,9 @@ returns-clause-stands g c =
     let held = c.in_ok-file.ensures.stands in
     let fs = c.schema.result.now in
     let means : FileMeans c.args.bytes.now fs held.0 = subst (λ (f : Fields). FileMeans c.args.bytes.now f held.0) (sym c.schema.ensures) held.1 in
+    let fit = rows_fit c.args.bytes.now fs held.0 means in
     on_ok_weaker c.write_rows.result
-    (λ written. record { fs = fs; rows = held.0; means = means; written = written }) (c.write_rows.ensures.stands held.0 (c.rows-rows.ensures held.0 held.2))
+    (λ written. record { fs = fs; rows = held.0; means = means; written = written }) (c.write_rows.ensures.stands held.0 (c.rows-rows.ensures held.0 held.2) fit)
 
 pub returns-clause-which : goal.returns-clause-which
 returns-clause-which g c =

@@ -1,5 +1,5 @@
 use Rattle.std.proofs.Common.{◌≡◌, ◌∙◌, List, Result, Err, length, refl, sym, ap, subst, inl, inr, arith}
-use Rattle.std.specs.Prelude.{pos, ◌<ℤ◌}
+use Rattle.std.specs.Prelude.{pos}
 use Rattle.std.proofs.lemmas.Int.{ints}
 use Rattle.std.proofs.lemmas.List.{length-map}
 use Rattle.bits.specs.declared.refusal.Refusal.{Refusal}

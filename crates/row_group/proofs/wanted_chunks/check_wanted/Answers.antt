@@ -1,4 +1,4 @@
-use Rattle.std.proofs.Common.{◌≡◌, ◌+◌, ◌<◌, List, [], ◌∷◌, ◌++◌, length, map, true, false, sym, ap, subst, ◌∙◌, arith}
+use Rattle.std.proofs.Common.{◌≡◌, List, [], ◌∷◌, ◌++◌, length, map, true, sym, ap, subst, ◌∙◌, arith}
 use Rattle.std.specs.List.{slice_get}
 use Rattle.std.proofs.lemmas.List.{length-map}
 use Rattle.bits.specs.Refusals.{IsFault}
@@ -12,8 +12,8 @@ use Rattle.row_group.specs.Wanted.{AreWantedChunks}
 use Rattle.row_group.specs.inner.Readers.{IsSound, EachChunk}
 use Rattle.row_group.proofs.Places.{gets_here}
 use Rattle.row_group.proofs.Passed.{passed}
-use Rattle.row_group.proofs.InOrder.{UpTo, none_done}
-use Rattle.row_group.proofs.WantedChunks.{left_at, wanted_one, not_wanted, wanted_all, wanted_at, each_chunk}
+use Rattle.row_group.proofs.InOrder.{none_done}
+use Rattle.row_group.proofs.WantedChunks.{wanted_one, not_wanted, wanted_all, wanted_at, each_chunk}
 use Rattle.row_group.proofs.wanted_chunks.check_wanted.Goals as goal
 
 pub returns-then-len-leaves-clause-only : goal.returns-then-len-leaves-clause-only

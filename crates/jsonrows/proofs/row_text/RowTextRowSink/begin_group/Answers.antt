@@ -1,6 +1,6 @@
-use Rattle.std.proofs.Common.{◌≡◌, ap, ap₂, refl, sym, ◌∙◌, length, rules}
+use Rattle.std.proofs.Common.{◌≡◌, ap, ap₂, refl, ◌∙◌, length, rules}
 use Rattle.assemble.specs.Sinks.{group_begins}
-use Rattle.jsonrows.specs.inner.Levels.{State, Level, state_of, begun, next_slot, inside, seen}
+use Rattle.jsonrows.specs.inner.Levels.{state_of, begun, next_slot, inside}
 use Rattle.jsonrows.proofs.RowSteps.{one_step, put_around}
 use Rattle.jsonrows.proofs.row_text.RowTextRowSink.begin_group.Goals as goal
 

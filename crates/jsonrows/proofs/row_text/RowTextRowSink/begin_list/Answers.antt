@@ -1,6 +1,6 @@
-use Rattle.std.proofs.Common.{◌≡◌, ap, refl, sym, ◌∙◌, ◌∷◌, [], ◌++◌, false}
+use Rattle.std.proofs.Common.{◌≡◌, ap, refl, ◌∷◌, [], false}
 use Rattle.assemble.specs.Sinks.{list_begins}
-use Rattle.jsonrows.specs.inner.Levels.{State, Level, held, more, entered, items, state_of, begun, next_slot, seen}
+use Rattle.jsonrows.specs.inner.Levels.{entered, items, state_of, begun, next_slot}
 use Rattle.jsonrows.proofs.RowSteps.{one_step, put_around, printed_more}
 use Rattle.jsonrows.proofs.row_text.RowTextRowSink.begin_list.Goals as goal
 

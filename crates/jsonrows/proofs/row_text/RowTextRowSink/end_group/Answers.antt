@@ -1,4 +1,4 @@
-use Rattle.std.proofs.Common.{◌≡◌, ap, ◌∙◌}
+use Rattle.std.proofs.Common.{ap, ◌∙◌}
 use Rattle.assemble.specs.Sinks.{group_ends}
 use Rattle.jsonrows.specs.inner.Levels.{state_of, left}
 use Rattle.jsonrows.proofs.RowSteps.{one_step}

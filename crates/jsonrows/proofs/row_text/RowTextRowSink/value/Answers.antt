@@ -1,8 +1,8 @@
-use Rattle.std.proofs.Common.{◌≡◌, ap, refl, ◌∙◌}
+use Rattle.std.proofs.Common.{ap}
 use Rattle.std.proofs.lemmas.Result.{on_ok_weaker}
 use Rattle.schema.specs.Borrowed.{value_ref_view}
 use Rattle.assemble.specs.Sinks.{single}
-use Rattle.jsonrows.specs.inner.Levels.{held, state_of, begun, next_slot, text_at}
+use Rattle.jsonrows.specs.inner.Levels.{held, state_of, begun, text_at}
 use Rattle.jsonrows.proofs.RowSteps.{one_step, printed_more}
 use Rattle.jsonrows.proofs.row_text.RowTextRowSink.value.Goals as goal
 

@@ -1,0 +1,56 @@
+-- The rows that a writer was given, and what it does with them.
+use Rattle.std.specs.Prelude.{◌≡◌, ℕ, ◌+◌, ◌≤◌, ◌<◌, List, ◌++◌, length, map, sum_by}
+use Rattle.std.specs.List.{AllByRecursion}
+use Rattle.schema.specs.declared.row.Row.{Row}
+use Rattle.schema.specs.Values.{ValueTrees}
+use Rattle.schema.specs.Shape.{Fields}
+use Rattle.schema.specs.Views.{rows_view}
+use Rattle.metadata.specs.Records.{GroupMeta}
+use Rattle.metadata.specs.Views.{group_meta_view}
+use Rattle.row_group.specs.Paged.{group_weight}
+use Rattle.row_group.specs.Writing.{AreTaken}
+use Rattle.footer.specs.declared.options.WriteOptions.{WriteOptions}
+use Rattle.footer.specs.declared.file_writer.FileWriter.{FileWriter}
+use Rattle.footer.specs.File.{magic}
+use Rattle.footer.specs.Writing.{chunk_options, groups_of, HasLargeColumn, IsOutOfRange}
+use Rattle.footer.specs.Own.{AppendsGroups}
+
+-- Of these rows the groups `metas` are written, and the rows in `rest` are still to be: with the groups of `rest` after them
+-- they are the groups of the rows.
+pub record IsBegun (fs : Fields) (o : WriteOptions) (rows rest : List ValueTrees) (out : List ℕ) (metas : List GroupMeta) : Type 0 where
+  pub before : List ValueTrees
+  pub split : rows ≡ before ++ rest
+  pub there : 0 < length out
+  pub stands : (new : List ℕ) (gs : List GroupMeta) → AppendsGroups fs (chunk_options o) out new gs (groups_of o.group_rows rest)
+      → AppendsGroups fs (chunk_options o) magic new (metas ++ gs) (groups_of o.group_rows rows)
+  pub taken : AllByRecursion (AreTaken fs) (groups_of o.group_rows rest) → AllByRecursion (AreTaken fs) (groups_of o.group_rows rows)
+  pub weighs : length out + sum_by (group_weight fs o.page_rows) (groups_of o.group_rows rest) ≤ 4 + sum_by (group_weight fs o.page_rows) (groups_of o.group_rows rows)
+  pub large : HasLargeColumn fs (groups_of o.group_rows rest) → HasLargeColumn fs (groups_of o.group_rows rows)
+
+-- the schema of the rows, and how they are written
+abbrev pub schema_of : FileWriter → Fields
+schema_of writer = writer.schema.now
+
+abbrev pub options_of : FileWriter → WriteOptions
+options_of writer = writer.options
+
+-- the rows that wait for their group
+abbrev pub waiting_of : FileWriter → List ValueTrees
+waiting_of writer = rows_view writer.waiting.items
+
+-- of these rows all but the rest are written
+abbrev pub HasWritten : FileWriter → List ValueTrees → List ValueTrees → Type 0
+HasWritten writer rows rest = IsBegun (schema_of writer) (options_of writer) rows rest writer.bytes.items (map group_meta_view writer.groups.items)
+
+-- Rows were given: full groups of them are written, whatever rows come later, and the others wait.
+pub record AreGiven (fs : Fields) (o : WriteOptions) (out : List ℕ) (metas : List GroupMeta) (waiting : List Row) (written : ℕ) (rows : List ValueTrees) : Type 0 where
+  pub full : List ValueTrees
+  pub joined : rows ≡ full ++ rows_view waiting
+  pub begun : (later : List ValueTrees) → IsBegun fs o (full ++ later) later out metas
+  pub few : length waiting ≤ o.group_rows
+  pub counted : written ≡ length full
+  pub in_range : IsOutOfRange o → ⊥
+
+-- the writer was given these rows
+abbrev pub has_rows : FileWriter → List ValueTrees → Type 0
+has_rows writer rows = AreGiven (schema_of writer) (options_of writer) writer.bytes.items (map group_meta_view writer.groups.items) writer.waiting.items writer.written rows

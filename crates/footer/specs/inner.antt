@@ -1,0 +1,2 @@
+-- Definitions for private functions alone.
+pub mod Waiting

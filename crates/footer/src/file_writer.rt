@@ -1,0 +1,172 @@
+//! A file that is written row by row.
+
+ghost use Rattle.std.specs.Prelude.{◌≡◌, ◌⊎◌, ◌+◌, ◌≤◌, ◌<◌, ◌++◌, ◌∷◌, [], List, length, IfOk, OnOk, OnErr, Err};
+ghost use Rattle.bits.specs.Refusals.{OnFault, RefusedOnly};
+ghost use Rattle.schema.specs.Fits.{RowsFit};
+ghost use Rattle.schema.specs.Values.{ValueTrees};
+ghost use Rattle.schema.specs.Views.{row_view, rows_view};
+ghost use Rattle.row_group.specs.Writing.{IsOfRows};
+ghost use Rattle.footer.specs.Faults.{IsOverLimit};
+ghost use Rattle.footer.specs.File.{FileMeans};
+ghost use Rattle.footer.specs.Own.{IsLaidOut};
+ghost use Rattle.footer.specs.Writing.{IsOutOfRange, IsTooMuch, IsTaken};
+
+use crate::file_writing::is_out_of_range;
+use crate::footer_record::record_of;
+use crate::footer_writing::ended;
+use crate::limits::MAGIC;
+use crate::options::WriteOptions;
+use bits::{R, Refusal};
+use metadata::{GroupMeta, one_footer};
+use row_group::{an_appended_group_has_its_rows, an_appended_group_is_within_limits, write_group};
+use schema::{Row, Schema, a_list_means_one_schema};
+use std::alloc::Global;
+
+/// The most rows that a writer takes: more than any file has.
+const MOST_ROWS: usize = 1 << 62;
+
+/// A file that is being written. Its rows are given one by one, and each group is written when it is full: kept
+/// are the bytes so far, and the rows of one group.
+#[derive(Drop)]
+pub struct FileWriter<'a> {
+    alloc: Global,
+    schema: &'a Schema,
+    options: WriteOptions,
+    /// The bytes so far.
+    bytes: Vec<u8>,
+    /// The records of the groups that are written.
+    groups: Vec<GroupMeta>,
+    /// How many rows these groups have.
+    written: usize,
+    /// The rows of the next group.
+    waiting: Vec<Row>,
+}
+
+impl<'a> FileWriter<'a> {
+    ghost use Rattle.footer.specs.Writer.{schema_of, options_of, waiting_of, HasWritten, has_rows};
+    ghost use Rattle.footer.specs.inner.Waiting.{IsNextGroup, HoldsSame};
+
+    /// A writer of a file of this schema, without rows. Refused Limit for options out of range: a number of rows
+    /// in a group outside 1 to 1,048,576, pages of no rows, a version other than 1 and 2.
+    pub fn new(alloc: Global, schema: &'a Schema, options: &WriteOptions) -> R<FileWriter<'a>>
+        ensures begins { IfOk result (λ writer. has_rows writer []) }
+        ensures of { IfOk result (λ writer. (schema_of writer ≡ schema.now) × (options_of writer ≡ options.now)) }
+        ensures limit { result ≡ Err Refusal.Limit → IsOutOfRange options.now }
+        ensures which { RefusedOnly (λ e. e ≡ Refusal.Limit) result }
+    {
+        if is_out_of_range(options) {
+            return Err(Refusal::Limit);
+        }
+        Ok(FileWriter {
+            alloc,
+            schema,
+            options: *options,
+            bytes: Vec::from_slice(alloc, MAGIC)?,
+            groups: Vec::new(alloc),
+            written: 0,
+            waiting: Vec::new(alloc),
+        })
+    }
+
+    /// Gives the writer one more row. Where a group is full, it is written first.
+    ///
+    /// Refused RowShape only where a row that was given before does not fit the schema, and Limit only where the
+    /// rows that were given before are too much for a file, whatever comes after them, as
+    /// [`write_file`](crate::write_file) says it. After a refusal the writer has the rows that it had.
+    pub fn push(&mut self, row: Row) -> R<()>
+        ensures stands { OnOk result ((rows : List ValueTrees) → has_rows self.old rows → has_rows self.new (rows ++ row_view row ∷ [])) }
+        ensures only { OnFault result ((rows : List ValueTrees) → has_rows self.old rows → RowsFit (schema_of self.old) rows → ⊥) }
+        ensures limit { result ≡ Err Refusal.Limit → (rows later : List ValueTrees) → has_rows self.old rows
+            → IsTooMuch (schema_of self.old) (options_of self.old) (rows ++ later) }
+        ensures which { RefusedOnly IsOfRows result }
+        ensures unchanged { OnErr result ((rows : List ValueTrees) → has_rows self.old rows → has_rows self.new rows) }
+        ensures same_schema { schema_of self.new ≡ schema_of self.old }
+        ensures same_options { options_of self.new ≡ options_of self.old }
+    {
+        self.make_room()?;
+        self.waiting.push(row)?;
+        Ok(())
+    }
+
+    /// The bytes of the file of all rows that were given, as [`write_file`](crate::write_file) returns them for
+    /// these rows. Refused RowShape only where one of them does not fit the schema, and Limit only where they are
+    /// too much for a file.
+    pub fn finish(mut self) -> R<Vec<u8>>
+        ensures means { IfOk result (λ file. (rows : List ValueTrees) → has_rows self.entry rows → FileMeans file.items (schema_of self.entry) rows) }
+        ensures laid_out { IfOk result (λ file. (rows : List ValueTrees) → has_rows self.entry rows
+            → IsLaidOut (options_of self.entry) (schema_of self.entry) rows file.items) }
+        ensures readable { IfOk result (λ file. (rows : List ValueTrees) → has_rows self.entry rows
+            → IsTaken (options_of self.entry).group_rows (schema_of self.entry) rows file.items) }
+        ensures within_limits { IfOk result (λ file. (rows : List ValueTrees) → has_rows self.entry rows → IsOverLimit file.items → ⊥) }
+        ensures only { OnFault result ((rows : List ValueTrees) → has_rows self.entry rows → RowsFit (schema_of self.entry) rows → ⊥) }
+        ensures limit { result ≡ Err Refusal.Limit → (rows : List ValueTrees) → has_rows self.entry rows
+            → IsTooMuch (schema_of self.entry) (options_of self.entry) rows }
+        ensures which { RefusedOnly IsOfRows result }
+    {
+        an_appended_group_has_its_rows();
+        an_appended_group_is_within_limits();
+        one_footer();
+        a_list_means_one_schema();
+        self.write_waiting()?;
+        let record = record_of(self.alloc, self.schema, self.written, self.groups)?;
+        ended(self.alloc, self.bytes, &record)
+    }
+
+    /// Writes the rows that wait where they are a full group. After a refusal they still wait.
+    fn make_room(&mut self) -> R<()>
+        ensures stands { OnOk result ((rows : List ValueTrees) → has_rows self.old rows → has_rows self.new rows) }
+        ensures room { OnOk result ((rows : List ValueTrees) → has_rows self.old rows → length self.new.waiting.items < (options_of self.old).group_rows) }
+        ensures only { OnFault result ((rows : List ValueTrees) → has_rows self.old rows → RowsFit (schema_of self.old) rows → ⊥) }
+        ensures limit { result ≡ Err Refusal.Limit → (rows later : List ValueTrees) → has_rows self.old rows
+            → IsTooMuch (schema_of self.old) (options_of self.old) (rows ++ later) }
+        ensures which { RefusedOnly IsOfRows result }
+        ensures unchanged { OnErr result ((rows : List ValueTrees) → has_rows self.old rows → has_rows self.new rows) }
+        ensures same_schema { schema_of self.new ≡ schema_of self.old }
+        ensures same_options { options_of self.new ≡ options_of self.old }
+    {
+        if self.waiting.len() == self.options.group_rows as usize {
+            self.write_waiting()
+        } else {
+            Ok(())
+        }
+    }
+
+    /// Writes the rows that wait as a group, if there are any. After a refusal they still wait.
+    fn write_waiting(&mut self) -> R<()>
+        ensures stands { OnOk result ((rows later : List ValueTrees) → IsNextGroup self.old rows later → HasWritten self.new rows later) }
+        ensures emptied { OnOk result (self.new.waiting.items ≡ []) }
+        ensures counted { OnOk result (self.new.written ≡ self.old.written + length self.old.waiting.items) }
+        ensures countable { OnOk result (self.new.written ≤ MOST_ROWS) }
+        ensures only { OnFault result (RowsFit (schema_of self.old) (waiting_of self.old) → ⊥) }
+        ensures limit { result ≡ Err Refusal.Limit → (rows later : List ValueTrees) → IsNextGroup self.old rows later
+            → IsTooMuch (schema_of self.old) (options_of self.old) rows }
+        ensures which { RefusedOnly IsOfRows result }
+        ensures unchanged { OnErr result (HoldsSame self.old self.new) }
+        ensures same_schema { schema_of self.new ≡ schema_of self.old }
+        ensures same_options { options_of self.new ≡ options_of self.old }
+    {
+        let written = self.written.saturating_add(self.waiting.len());
+        if written > MOST_ROWS {
+            // Never reached: no file has as many rows.
+            return Err(Refusal::Memory);
+        }
+        if self.waiting.is_empty() {
+            return Ok(());
+        }
+        let group = self.waiting.as_slice();
+        let options = self.options.of_chunks();
+        let kept = self.bytes.len();
+        let meta = write_group(self.alloc, self.schema, options, group, &mut self.bytes)?;
+        match self.groups.push(meta) {
+            Ok(()) => {
+                self.written = written;
+                self.waiting.clear();
+                Ok(())
+            }
+            Err(_) => {
+                self.bytes.truncate(kept);
+                Err(Refusal::Memory)
+            }
+        }
+    }
+}

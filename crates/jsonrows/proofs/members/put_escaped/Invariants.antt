@@ -1,6 +1,0 @@
-use Rattle.std.proofs.Common.{◌≡◌, ◌++◌, drop}
-use Rattle.json.specs.Print.{escape}
-use Rattle.jsonrows.proofs.members.put_escaped.Given as goal
-
-abbrev pub invariant-loop-byte : goal.invariant-loop-byte
-invariant-loop-byte l = l.out.items ++ escape (drop l.byte-index l.bytes) ≡ l.fn.out.items ++ escape l.bytes

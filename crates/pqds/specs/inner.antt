@@ -1,0 +1,3 @@
+-- Definitions for private functions alone.
+pub mod Gathered
+pub mod Lines
