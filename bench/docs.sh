@@ -20,7 +20,7 @@ import glob, os, re, shutil, subprocess, sys
 top, copy, words = sys.argv[1], sys.argv[2], sys.argv[3:]
 only_program = "--program" in words
 named = [it for it in words if it != "--program"]
-LONG = {"rt ci", ".ci/run", "bench/gate.sh", "bench/docs.sh"}
+LONG = {"rt ci", ".ci/run", "bench/gate.sh", "bench/edits.sh", "bench/docs.sh"}
 CALL = re.compile(r"`((?:\./pqds|rt|bench/\w+\.sh|\.ci/run|\(cd crates/\w+ && rt)(?: [^`]*|\w[^`]*)?)`(?: prints `([^`]*)`)?")
 HELP = re.compile(r"## `pqds ?(\w*)`$")
 failed = 0

@@ -131,21 +131,21 @@ fn a_full_disk_and_a_failed_sync_are_counted_once_each(rt: HostRuntime) -> Resul
     };
     let mut disk = HostDisk::new(alloc, files, folder.as_str())?;
     disk.create("part")?;
-    assert_eq!(rt; disk.append("part", b"hello,"), Ok(()));
-    assert_eq!(rt; disk.append("part", b" world"), Ok(()));
+    assert!(rt; disk.append("part", b"hello,").is_ok());
+    assert!(rt; disk.append("part", b" world").is_ok());
     assert_eq!(rt; disk.failures(), 0);
     // The bytes for which there was room are in the file.
-    assert_eq!(rt; disk.append("part", b" and more"), Err(Fault::Failed));
+    assert!(rt; matches!(disk.append("part", b" and more"), Err(Fault::Failed)));
     assert_eq!(rt; disk.failures(), 1);
-    assert_eq!(rt; disk.length("part"), Ok(18));
+    assert!(rt; matches!(disk.length("part"), Ok(18)));
     assert_eq!(rt;
         disk.read_range(alloc, "part", 6, 6)?.as_slice(),
         b" world".as_slice()
     );
-    assert_eq!(rt; disk.read_range(alloc, "part", 0, 18), Err(Fault::Failed));
+    assert!(rt; matches!(disk.read_range(alloc, "part", 0, 18), Err(Fault::Failed)));
     assert_eq!(rt; disk.failures(), 2);
-    assert_eq!(rt; disk.sync("part"), Err(Fault::Failed));
-    assert_eq!(rt; disk.sync_folder(""), Err(Fault::Failed));
+    assert!(rt; matches!(disk.sync("part"), Err(Fault::Failed)));
+    assert!(rt; matches!(disk.sync_folder(""), Err(Fault::Failed)));
     assert_eq!(rt; disk.failures(), 4);
     assert_eq!(rt; disk.reads(), 2);
     fs::remove_dir_all(&rt, folder.as_str())?;

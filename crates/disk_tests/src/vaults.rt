@@ -32,11 +32,13 @@ fn a_commit_removes_what_goes(rt: HostRuntime) -> Result<(), Fail> {
     let mut vault = empty(rt.alloc());
     vault.put("k=a/part.0.parquet", b"old")?;
     commit_one(&mut vault, rt.alloc())?;
-    assert_eq!(rt;
-        size(&mut vault, rt.alloc(), "k=a/part.0.parquet"),
-        Err(Refusal::Truncated)
+    assert!(rt;
+        matches!(
+            size(&mut vault, rt.alloc(), "k=a/part.0.parquet"),
+            Err(Refusal::Truncated)
+        )
     );
-    assert_eq!(rt; size(&mut vault, rt.alloc(), "k=a/part.1.parquet"), Ok(3));
+    assert!(rt; matches!(size(&mut vault, rt.alloc(), "k=a/part.1.parquet"), Ok(3)));
     Ok(())
 }
 
@@ -87,8 +89,8 @@ fn where_a_folder_stands_a_file_is_not_put_and_no_failure_is_counted(
 ) -> Result<(), Fail> {
     let mut vault = empty(rt.alloc());
     vault.disk.make_folder("k=a")?;
-    assert_eq!(rt; vault.put("k=a", b"bytes"), Err(Refusal::Device));
-    assert_eq!(rt; vault.forget("k=a"), Err(Refusal::Device));
+    assert!(rt; matches!(vault.put("k=a", b"bytes"), Err(Refusal::Device)));
+    assert!(rt; matches!(vault.forget("k=a"), Err(Refusal::Device)));
     assert_eq!(rt; vault.disk().failures(), 0);
     Ok(())
 }

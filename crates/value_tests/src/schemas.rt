@@ -141,7 +141,7 @@ fn a_struct_that_is_not_known_is_kept(rt: HostRuntime) -> Result<(), Fail> {
     let alloc = rt.alloc();
     let elements = annotated(alloc, Node::Struct(Vec::new(alloc)))?;
     let schema = Schema::new(alloc, elements.as_slice())?;
-    assert_eq!(rt; kept_member(schema.elements().get(1)), Some(99));
+    assert!(rt; matches!(kept_member(schema.elements().get(1)), Some(99)));
     Ok(())
 }
 

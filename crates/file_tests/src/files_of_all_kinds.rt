@@ -274,34 +274,42 @@ fn chunk(alloc: Global, pages: &Pages, start: usize) -> R<ChunkMeta> {
     })
 }
 
-/// The record of a group of three rows.
-fn group(alloc: Global, chunks: &[Pages]) -> R<GroupMeta> {
+/// The record of a group of three rows that starts here, and where it ends.
+fn group(alloc: Global, chunks: &[Pages], start: usize) -> R<(GroupMeta, usize)> {
     let mut columns = Vec::new(alloc);
-    let mut start: usize = 4;
+    let mut end = start;
     for pages in chunks {
-        columns.push(chunk(alloc, pages, start)?)?;
-        start = start.saturating_add(pages.pages.len());
+        columns.push(chunk(alloc, pages, end)?)?;
+        end = end.saturating_add(pages.pages.len());
     }
-    Ok(GroupMeta {
+    let record = GroupMeta {
         columns,
         total_byte_size: None,
         num_rows: 3,
-    })
+    };
+    Ok((record, end))
 }
 
-/// A file of the chunks, and of as many groups of them, which share their bytes.
-fn file(alloc: Global, fields: &[Named], chunks: &[Pages], groups: usize) -> R<Vec<u8>> {
+/// A file of these groups, repeated in the footer so many times, where they share their bytes.
+fn file(alloc: Global, fields: &[Named], groups: &[&[Pages]], times: usize) -> R<Vec<u8>> {
     let mut bytes = Vec::from_slice(alloc, b"PAR1")?;
-    for pages in chunks {
-        bytes.extend_from_slice(pages.pages)?;
+    for chunks in groups {
+        for pages in *chunks {
+            bytes.extend_from_slice(pages.pages)?;
+        }
     }
     let mut schema = Vec::new(alloc);
     for field in fields {
         schema.push(element(alloc, field)?)?;
     }
     let mut row_groups = Vec::new(alloc);
-    for _ in 0..groups {
-        row_groups.push(group(alloc, chunks)?)?;
+    for _ in 0..times {
+        let mut start = 4;
+        for chunks in groups {
+            let (record, end) = group(alloc, chunks, start)?;
+            row_groups.push(record)?;
+            start = end;
+        }
     }
     let record = FileMeta {
         version: Some(1),
@@ -346,7 +354,7 @@ fn wanted(alloc: Global, times: usize) -> R<String> {
 #[test]
 fn files_with_nested_columns_and_all_encodings_are_read(rt: HostRuntime) -> Result<(), Fail> {
     let alloc = rt.alloc();
-    let bytes = file(alloc, FIELDS, CHUNKS, 1)?;
+    let bytes = file(alloc, FIELDS, &[CHUNKS], 1)?;
     let (schema, rows) = read_file(alloc, bytes.as_slice())?;
     assert!(rt; lines(alloc, &schema, rows.as_slice())?.as_str() == wanted(alloc, 1)?.as_str());
     Ok(())
@@ -355,20 +363,83 @@ fn files_with_nested_columns_and_all_encodings_are_read(rt: HostRuntime) -> Resu
 #[test]
 fn groups_are_read_in_order_and_may_share_bytes(rt: HostRuntime) -> Result<(), Fail> {
     let alloc = rt.alloc();
-    let bytes = file(alloc, FIELDS, CHUNKS, 40)?;
+    let bytes = file(alloc, FIELDS, &[CHUNKS], 40)?;
     let (schema, rows) = read_file(alloc, bytes.as_slice())?;
     assert!(rt; rows.len() == 120);
     assert!(rt; lines(alloc, &schema, rows.as_slice())?.as_str() == wanted(alloc, 40)?.as_str());
-    let none = file(alloc, FIELDS, CHUNKS, 0)?;
+    let none = file(alloc, FIELDS, &[CHUNKS], 0)?;
     let (_, rows) = read_file(alloc, none.as_slice())?;
     assert!(rt; rows.is_empty());
+    Ok(())
+}
+
+/// A required text.
+const ONE_TEXT: &[Named] = &[
+    Named {
+        name: "schema",
+        kind: None,
+        repetition: 0,
+        children: Some(1),
+        converted: None,
+    },
+    Named {
+        name: "p",
+        kind: Some(6),
+        repetition: 0,
+        children: None,
+        converted: Some(0),
+    },
+];
+
+/// A dictionary of a and b and the indexes 1 0 1, both as PLAIN_DICTIONARY.
+const B_A_B: &[u8] = &[
+    0x15, 0x04, 0x15, 0x14, 0x15, 0x14, 0x4C, 0x15, 0x04, 0x15, 0x04, 0x00, 0x00, 0x01, 0x00, 0x00,
+    0x00, 0x61, 0x01, 0x00, 0x00, 0x00, 0x62, 0x15, 0x00, 0x15, 0x06, 0x15, 0x06, 0x2C, 0x15, 0x06,
+    0x15, 0x04, 0x15, 0x06, 0x15, 0x06, 0x00, 0x00, 0x01, 0x03, 0x05,
+];
+
+/// The same of c and d.
+const D_C_D: &[u8] = &[
+    0x15, 0x04, 0x15, 0x14, 0x15, 0x14, 0x4C, 0x15, 0x04, 0x15, 0x04, 0x00, 0x00, 0x01, 0x00, 0x00,
+    0x00, 0x63, 0x01, 0x00, 0x00, 0x00, 0x64, 0x15, 0x00, 0x15, 0x06, 0x15, 0x06, 0x2C, 0x15, 0x06,
+    0x15, 0x04, 0x15, 0x06, 0x15, 0x06, 0x00, 0x00, 0x01, 0x03, 0x05,
+];
+
+/// Two groups of a chunk each: three texts with their dictionary.
+const DICTIONARIES: &[&[Pages]] = &[
+    &[Pages {
+        path: &["p"],
+        kind: 6,
+        entries: 3,
+        dictionary: 23,
+        pages: B_A_B,
+    }],
+    &[Pages {
+        path: &["p"],
+        kind: 6,
+        entries: 3,
+        dictionary: 23,
+        pages: D_C_D,
+    }],
+];
+
+#[test]
+fn each_group_has_a_dictionary_of_its_own(rt: HostRuntime) -> Result<(), Fail> {
+    let alloc = rt.alloc();
+    let bytes = file(alloc, ONE_TEXT, DICTIONARIES, 1)?;
+    let (schema, rows) = read_file(alloc, bytes.as_slice())?;
+    let text = lines(alloc, &schema, rows.as_slice())?;
+    assert_eq!(rt;
+        text.as_str(),
+        "{\"p\":\"b\"}\n{\"p\":\"a\"}\n{\"p\":\"b\"}\n{\"p\":\"d\"}\n{\"p\":\"c\"}\n{\"p\":\"d\"}\n"
+    );
     Ok(())
 }
 
 #[test]
 fn rows_come_one_by_one_and_twice(rt: HostRuntime) -> Result<(), Fail> {
     let alloc = rt.alloc();
-    let bytes = file(alloc, FIELDS, CHUNKS, 2)?;
+    let bytes = file(alloc, FIELDS, &[CHUNKS], 2)?;
     let file = FileReader::new(alloc, bytes.as_slice())?;
     for _ in 0..2 {
         let mut rows = file.rows(alloc);
@@ -386,7 +457,7 @@ fn rows_come_one_by_one_and_twice(rt: HostRuntime) -> Result<(), Fail> {
 
 /// The number of the refusal of a file whose byte at this place of a chunk is another one.
 fn refused(alloc: Global, chunk: usize, at: usize, byte: u8) -> R<String> {
-    let mut bytes = file(alloc, FIELDS, CHUNKS, 1)?;
+    let mut bytes = file(alloc, FIELDS, &[CHUNKS], 1)?;
     let mut start: usize = 4;
     for pages in CHUNKS.iter().take(chunk) {
         start = start.saturating_add(pages.pages.len());

@@ -160,7 +160,7 @@ fn borrowed_values_lie_in_the_bytes(rt: HostRuntime) -> Result<(), Fail> {
         }
         let mut out = Vec::new(rt.alloc());
         encode(kind, borrowed.as_slice(), &mut out)?;
-        assert_eq!(rt; Some(out.as_slice()), TEXTS.get(..used));
+        assert!(rt; TEXTS.get(..used) == Some(out.as_slice()));
     }
     Ok(())
 }

@@ -195,6 +195,20 @@ fn bytes_and_texts_are_read_however_they_are_said(rt: HostRuntime) -> Result<(),
 }
 
 #[test]
+fn a_bloom_filter_after_the_data_is_skipped(rt: HostRuntime) -> Result<(), Fail> {
+    let alloc = rt.alloc();
+    // Where the filter begins (33) and its length (7), behind the chunk's statistics.
+    let mut bytes = Vec::from_slice(alloc, &FOREIGN[..106])?;
+    bytes.extend_from_slice(&[0x26, 0x42, 0x15, 0x0E])?;
+    bytes.extend_from_slice(&FOREIGN[106..154])?;
+    bytes.extend_from_slice(&[0x76, 0x00, 0x00, 0x00])?;
+    bytes.extend_from_slice(b"PAR1")?;
+    assert!(rt; answer(alloc, bytes.as_slice())?.as_str() == "a;;");
+    assert!(rt; is_utf8(alloc, bytes.as_slice())?);
+    Ok(())
+}
+
+#[test]
 fn what_is_not_looked_at_changes_nothing(rt: HostRuntime) -> Result<(), Fail> {
     let alloc = rt.alloc();
     // The level encodings of columns without levels; the file's own number of rows.

@@ -72,12 +72,14 @@ fn bytes_compare_bytewise_where_they_do(rt: HostRuntime) -> Result<(), Fail> {
     ] {
         let leaf = leaf_of(rt.alloc(), kind, converted_type);
         assert_eq!(rt; compare(&leaf, &short, &long), wanted);
-        assert_eq!(rt; compare(&leaf, &Value::Null, &long), None);
+        assert!(rt; compare(&leaf, &Value::Null, &long).is_none());
     }
     let flag = leaf_of(rt.alloc(), Kind::Boolean, None);
-    assert_eq!(rt;
-        compare(&flag, &Value::Bool(false), &Value::Bool(true)),
-        Some(Ordering::Less)
+    assert!(rt;
+        matches!(
+            compare(&flag, &Value::Bool(false), &Value::Bool(true)),
+            Some(Ordering::Less)
+        )
     );
     Ok(())
 }
@@ -109,9 +111,11 @@ fn annotations_are_decided_by_the_table(rt: HostRuntime) -> Result<(), Fail> {
     };
     let interval = Kind::FixedLenByteArray(12);
     let other = Kind::FixedLenByteArray(11);
-    assert_eq!(rt;
-        known(&Annotation::of_element(interval, Some(21), None)),
-        Some(ConvertedType::Interval)
+    assert!(rt;
+        matches!(
+            known(&Annotation::of_element(interval, Some(21), None)),
+            Some(ConvertedType::Interval)
+        )
     );
     assert!(rt;
         matches!(
@@ -121,23 +125,25 @@ fn annotations_are_decided_by_the_table(rt: HostRuntime) -> Result<(), Fail> {
     );
     // STRING alone is UTF8 over BYTE_ARRAY, and nothing over another type.
     let text = Annotation::of_element(Kind::ByteArray, None, Some(struct_of(alloc, 1)?));
-    assert_eq!(rt; known(&text), Some(ConvertedType::Utf8));
+    assert!(rt; matches!(known(&text), Some(ConvertedType::Utf8)));
     let kept = Annotation::of_element(Kind::Int32, None, Some(struct_of(alloc, 1)?));
     assert!(rt; matches!(kept, Annotation::OtherLogical(_)));
     // A converted type counts before a logicalType; one without a name is kept by its number.
     let first = Annotation::of_element(Kind::ByteArray, Some(19), Some(struct_of(alloc, 1)?));
-    assert_eq!(rt; known(&first), Some(ConvertedType::Json));
+    assert!(rt; matches!(known(&first), Some(ConvertedType::Json)));
     assert!(rt;
         matches!(
             Annotation::of_element(Kind::ByteArray, Some(-1), None),
             Annotation::OtherConverted(-1)
         )
     );
-    assert_eq!(rt;
-        GroupAnnotation::of_element(Some(3)),
-        Some(GroupAnnotation::List)
+    assert!(rt;
+        matches!(
+            GroupAnnotation::of_element(Some(3)),
+            Some(GroupAnnotation::List)
+        )
     );
-    assert_eq!(rt; GroupAnnotation::of_element(Some(0)), None);
+    assert!(rt; GroupAnnotation::of_element(Some(0)).is_none());
     Ok(())
 }
 

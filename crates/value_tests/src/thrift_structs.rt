@@ -120,8 +120,8 @@ fn every_type_survives_and_each_front_is_refused(rt: HostRuntime) -> Result<(), 
     let (_, again) = written_then_read(rt.alloc(), &tree, &[0, 9], &mut out)?;
     assert_eq!(rt; again, bytes.len());
     let end = again.saturating_add(1);
-    assert_eq!(rt; out.get(1..end), Some(bytes.as_slice()));
-    assert_eq!(rt; out.get(end..), Some([0, 9].as_slice()));
+    assert!(rt; out.get(1..end) == Some(bytes.as_slice()));
+    assert!(rt; out.get(end..) == Some([0, 9].as_slice()));
     for end in 0..bytes.len() {
         assert!(rt;
             matches!(

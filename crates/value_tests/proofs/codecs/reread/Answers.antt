@@ -1,6 +1,6 @@
 use Rattle.std.proofs.Common.{◌≡◌, ℕ, List, [], ◌++◌, length, map, ap, subst, ◌∙◌}
 use Rattle.std.proofs.lemmas.List.{append-nil, length-map}
-use Rattle.format_tests.proofs.codecs.reread.Goals as goal
+use Rattle.value_tests.proofs.codecs.reread.Goals as goal
 
 pub returns : goal.returns
 returns g c =
