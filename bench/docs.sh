@@ -85,16 +85,19 @@ def steps_of(document):
 
 
 def indented(text):
-    """The groups of indented lines of a help text, each with the line before it."""
-    groups, before = [], ""
+    """The groups of indented lines of a help text with the empty lines in them, each with the line before it."""
+    groups, before, blank = [], "", 0
     for line in text:
         if line.startswith("    "):
             if before is not None:
                 groups.append((before, []))
-                before = None
-            groups[-1][1].append(line[4:])
+                before, blank = None, 0
+            groups[-1][1].extend([""] * blank + [line[4:]])
+            blank = 0
         elif line:
             before = line
+        else:
+            blank += 1
     return groups
 
 

@@ -1,6 +1,6 @@
 use crate::nested_round_trips::are_same;
-use bits::R;
-use footer::{WriteOptions, read_file, read_footer, write_file};
+use bits::{R, Refusal};
+use footer::{FileWriter, WriteOptions, read_file, read_footer, write_file};
 use row_group::Style;
 use schema::{Element, Row, Schema, Value};
 use std::alloc::Global;
@@ -193,6 +193,47 @@ fn no_rows_are_the_worked_bytes(rt: HostRuntime) -> Result<(), Fail> {
     let alloc = rt.alloc();
     let file = write_file(alloc, &of_x(alloc)?, &WriteOptions::standard(), &[])?;
     assert!(rt; file.as_slice() == NO_ROWS.as_slice());
+    Ok(())
+}
+
+/// The file of these rows, given to a writer one by one.
+fn pushed(alloc: Global, schema: &Schema, options: &WriteOptions, rows: Vec<Row>) -> R<Vec<u8>> {
+    let mut writer = FileWriter::new(alloc, schema, options)?;
+    for row in rows {
+        writer.push(row)?;
+    }
+    writer.finish()
+}
+
+#[test]
+fn rows_given_one_by_one_are_the_worked_bytes(rt: HostRuntime) -> Result<(), Fail> {
+    let alloc = rt.alloc();
+    let schema = of_x(alloc)?;
+    let standard = WriteOptions::standard();
+    let file = pushed(alloc, &schema, &standard, two_rows(alloc)?)?;
+    assert!(rt; file.as_slice() == TWO_ROWS.as_slice());
+    let file = pushed(alloc, &schema, &standard, Vec::new(alloc))?;
+    assert!(rt; file.as_slice() == NO_ROWS.as_slice());
+    Ok(())
+}
+
+#[test]
+fn a_writer_refuses_a_row_that_does_not_fit_once_its_group_is_full(
+    rt: HostRuntime,
+) -> Result<(), Fail> {
+    let alloc = rt.alloc();
+    let schema = of_x(alloc)?;
+    let options = WriteOptions {
+        group_rows: 1,
+        ..WriteOptions::standard()
+    };
+    let mut writer = FileWriter::new(alloc, &schema, &options)?;
+    writer.push(row(alloc, Value::Bool(true))?)?;
+    for _ in 0..2 {
+        let refused = writer.push(row(alloc, Value::Int(1))?);
+        assert!(rt; matches!(refused, Err(Refusal::RowShape)));
+    }
+    assert!(rt; matches!(writer.finish(), Err(Refusal::RowShape)));
     Ok(())
 }
 

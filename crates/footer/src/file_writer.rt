@@ -72,7 +72,8 @@ impl<'a> FileWriter<'a> {
     ///
     /// Refused RowShape only where a row that was given before does not fit the schema, and Limit only where the
     /// rows that were given before are too much for a file, whatever comes after them, as
-    /// [`write_file`](crate::write_file) says it. After a refusal the writer has the rows that it had.
+    /// [`write_file`](crate::write_file) says it. After a refusal the writer has the rows that it had, and this row
+    /// is dropped. A call writes at most one group.
     pub fn push(&mut self, row: Row) -> R<()>
         ensures stands { OnOk result ((rows : List ValueTrees) → has_rows self.old rows → has_rows self.new (rows ++ row_view row ∷ [])) }
         ensures only { OnFault result ((rows : List ValueTrees) → has_rows self.old rows → RowsFit (schema_of self.old) rows → ⊥) }
@@ -88,9 +89,9 @@ impl<'a> FileWriter<'a> {
         Ok(())
     }
 
-    /// The bytes of the file of all rows that were given, as [`write_file`](crate::write_file) returns them for
-    /// these rows. Refused RowShape only where one of them does not fit the schema, and Limit only where they are
-    /// too much for a file.
+    /// The bytes of a file that means all rows that were given, laid out as by [`write_file`](crate::write_file).
+    /// Refused RowShape only where one of them does not fit the schema, and Limit only where they are too much for
+    /// a file.
     pub fn finish(mut self) -> R<Vec<u8>>
         ensures means { IfOk result (λ file. (rows : List ValueTrees) → has_rows self.entry rows → FileMeans file.items (schema_of self.entry) rows) }
         ensures laid_out { IfOk result (λ file. (rows : List ValueTrees) → has_rows self.entry rows

@@ -1,7 +1,8 @@
 //! Rows and schemas as JSON text (RFC 8259), and back.
 //!
 //! `specs/Json.antt` says which text a row has, `specs/Reading.antt` which row a text is,
-//! `specs/SchemaJson.antt` which schema a text is, `specs/SchemaPrinted.antt` how one is printed.
+//! `specs/SchemaJson.antt` which schema a text is, `specs/SchemaPrinted.antt` how one is printed, `specs/Rows.antt`
+//! what a printer of rows was shown, `specs/Reader.antt` what a reader keeps, `specs/Filters.antt` which filter a text is.
 #![tactic(auto)]
 
 mod filter_reading;

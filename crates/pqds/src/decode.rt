@@ -67,9 +67,8 @@ fn write_rows<W: Write>(alloc: Global, schema: &Schema, rows: &mut Rows<'_>, out
 
 /// Writes the rows that the bytes of a file mean, each as a line of JSON. Refused as [`FileReader::new`] is,
 /// and then nothing is written; Device where a line cannot be written. Once the file was accepted, lines
-/// are made of the rows one by one, gathered, and written some 64 KiB at a time. For one of them Memory may be
-/// returned, where lines before it may be written. The file is decoded twice: once to accept it, and once for
-/// its rows. Time is linear in what is decoded and in the lines; memory is that of one page of each column of a
+/// are made of the rows one by one, gathered, and written some 64 KiB at a time. If memory runs out at a row, lines
+/// before it may be written already. The file is decoded twice: once to accept it, and once for its rows. Time is linear in what is decoded and in the lines; memory is that of one page of each column of a
 /// group, of a line, and of what is gathered.
 pub fn decode<W: Write>(alloc: Global, bytes: &[u8], out: &mut W) -> R<()>
     ensures stands { OnOk result (WritesRowsOf bytes.now (W.contents out.old) (W.contents out.new)) }

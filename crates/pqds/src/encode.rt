@@ -36,8 +36,8 @@ fn read_row(reader: &mut Reader<'_>, line: &str) -> R<Row>
     reader.read(line)
 }
 
-/// The bytes of a file of the rows of a text, one of each line. Refused as the first line is that is no row, or
-/// Limit where the rows are too much for a file, and then later lines may not be read.
+/// The bytes of a file of the rows of a text, one of each line. Refused as `row_from` refuses the first line that
+/// is no row, or Limit where the rows before it are too much for a file. Later lines are then not read.
 fn written(alloc: Global, schema: &Schema, options: &WriteOptions, text: &str) -> R<Vec<u8>>
     ensures stands { IfOk result (λ file. IsFileOfLines options.now schema.now (lines text.now) file.items) }
     ensures which { IfErr result (AreStopped schema.now options.now (lines text.now)) }
@@ -67,8 +67,8 @@ fn check_lines(alloc: Global, schema: &Schema, text: &str) -> R<()>
 /// empty line is no row; a last line needs no line feed), laid out as the options say.
 ///
 /// Refused as `schema_from` refuses the schema, or else as `row_from` does the first line that is no row, or
-/// else as `write_file` does. The time is linear in the texts. Beside them stand in memory the file, and the rows of
-/// one group.
+/// else as `write_file` refuses the rows. Time is linear in the texts. Memory is that of the texts, of the file, and
+/// of the rows of one group.
 pub fn encoded(
     alloc: Global,
     schema_text: &str,
