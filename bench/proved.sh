@@ -1,7 +1,7 @@
 #!/bin/sh
 # proved.sh NAME PATTERN CRATE..: proves, builds and runs bench/NAME.rt.in, and prints the lines of its output that match
-# PATTERN. The program stands on these crates, which are listed with all that they stand on. It is made in a temporary
-# folder, which is removed, over what the crates have in out/.
+# PATTERN. The program stands on these crates, which are listed with all that they stand on; those without a folder here
+# are the kit's. It is made in a temporary folder, which is removed, over what the crates have in out/.
 top=$(CDPATH='' cd -- "$(dirname -- "$0")/.." && pwd) || exit 1
 name=$1
 pattern=$2
@@ -11,6 +11,7 @@ trap 'rm -rf "$room"' EXIT
 mkdir -p "$room/crates/${name}_bench/src"
 cp "$top/bench/$name.rt.in" "$room/crates/${name}_bench/src/main.rt"
 for crate; do
+    [ -d "$top/crates/$crate" ] || continue
     cp -a "$top/crates/$crate" "$room/crates/"
     grep "^$crate:" "$top/crates.txt"
 done >"$room/crates.txt"
