@@ -181,7 +181,7 @@ fn indexes_are_written_in_the_least_width(rt: HostRuntime) -> Result<(), Fail> {
     assert_eq!(rt; out.as_slice(), [7, 1, 3, 2].as_slice());
     let mut zeros = Vec::new(rt.alloc());
     encode_indexes(1, &[0, 0, 0], &mut zeros)?;
-    assert_eq!(rt; zeros.as_slice(), [0].as_slice());
+    assert_eq!(rt; zeros.as_slice(), [1, 3, 0].as_slice());
     for (greatest, width) in WIDTHS {
         let mut page = Vec::new(rt.alloc());
         encode_indexes(usize::MAX, &[0, greatest, 1], &mut page)?;
