@@ -6,7 +6,7 @@ use Rattle.hybrid_rle.specs.Hybrid.{IsHybrid}
 use Rattle.hybrid_rle.proofs.Hybrids.{one_hybrid}
 use Rattle.schema.specs.Values.{ValueTree}
 use Rattle.dictionary.specs.Entries.{AreEntriesAt}
-use Rattle.dictionary.specs.IndexPages.{AreIndexesOf, IsIndexPage, AreIndexed}
+use Rattle.dictionary.specs.IndexPages.{AreIndexesOf, IsIndexPage, IsWrittenIndexPage, AreIndexed}
 use Rattle.dictionary.proofs.Lookups.{first_is, rest_is, one_value_each}
 
 pub indexes_one : (w n : ℕ) → IsFunctional (λ bytes. AreIndexesOf w bytes n)
@@ -50,34 +50,14 @@ pub no_values : (es : List ValueTree) (n : ℕ) (bytes : List ℕ) → NothingSt
 no_values es n bytes none vs used p = none p.indexes used p.stand
 
 -- a width and the indexes after it
-pub page_written : (size width most whole : ℕ) (is old mid new : List ℕ) → whole ≡ 1 + most → width ≤ 32 → All (λ i. i < size) is → mid ≡ old ++ width ∷ []
-    → Appends (λ bytes used. AreIndexesOf width bytes (length is) is used) most mid new → Appends (λ bytes used. IsIndexPage size bytes (length is) is used) whole old new
-page_written size width most whole is old mid new sum narrow within is_mid p = record {
+pub page_written : (size width most whole : ℕ) (is old mid new : List ℕ) → whole ≡ 1 + most → width ≤ 32 → 1 ≤ width → All (λ i. i < size) is → mid ≡ old ++ width ∷ []
+    → Appends (λ bytes used. AreIndexesOf width bytes (length is) is used) most mid new → Appends (λ bytes used. IsWrittenIndexPage size bytes (length is) is used) whole old new
+page_written size width most whole is old mid new sum narrow some within is_mid p = record {
   text = width ∷ p.text;
   joined = p.joined ∙ ap (λ (l : List ℕ). l ++ p.text) is_mid ∙ append_assoc old (width ∷ []) p.text;
-  stands = λ more. record { width = width; rest = p.text ++ more; taken = length p.text; begins = refl; narrow = narrow; are = p.stands more; within = within; ends = omega arith };
+  stands = λ more. (record { width = width; rest = p.text ++ more; taken = length p.text; begins = refl; narrow = narrow; are = p.stands more; within = within; ends = omega arith }, some);
   short = omega (arith, sum, p.short);
 }
-
--- of width 0 nothing is written
-pub zeros_written : (width most : ℕ) (is old : List ℕ) → width ≡ 0 → All (λ i. i < 2 ^ width) is → Appends (λ bytes used. AreIndexesOf width bytes (length is) is used) most old old
-zeros_written width most is old none below = record {
-  text = [];
-  joined = sym (append_nil old);
-  stands = λ more. subst (λ (w : ℕ). AreIndexesOf w more (length is) is 0) (sym none) (all_zeros is (subst (λ (w : ℕ). All (λ i. i < 2 ^ w) is) none below), refl);
-  short = omega arith;
-}
-  where
-    append_nil : (xs : List ℕ) → xs ++ [] ≡ xs
-    append_nil [] = refl
-    append_nil (x ∷ xs) = ap (λ l. x ∷ l) (append_nil xs)
-
-    all_zeros : (xs : List ℕ) → All (λ i. i < 2 ^ 0) xs → xs ≡ replicate (length xs) 0
-    all_zeros [] h = refl
-    all_zeros (x ∷ xs) h =
-        let zero_is : x ≡ 0 = omega (arith, h 0 0 (omega arith)) in
-        let rest = all_zeros xs (λ k d lt. h (suc k) d (omega arith)) in
-        λ j. zero_is j ∷ rest j
 
 -- indexes of more bits than none are the hybrid's
 pub hybrid_written : (width n most : ℕ) (is old new : List ℕ) → 0 < width → Appends (λ bytes used. IsHybrid width bytes n is used) most old new → Appends (λ bytes used. AreIndexesOf width bytes n is used) most old new

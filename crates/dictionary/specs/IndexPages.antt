@@ -1,5 +1,5 @@
 -- Pages of indexes into a dictionary: parquet-format, Encodings.md, "Dictionary Encoding".
-use Rattle.std.specs.Prelude.{◌≡◌, ℕ, zero, suc, ◌+◌, ◌^◌, ◌<◌, ◌≤◌, List, ◌∷◌, ◌++◌, length, replicate, All}
+use Rattle.std.specs.Prelude.{◌≡◌, ℕ, zero, suc, ◌+◌, ◌^◌, ◌<◌, ◌≤◌, List, [], ◌∷◌, ◌++◌, length, replicate, All}
 use Rattle.hybrid_rle.specs.Hybrid.{IsHybrid}
 use Rattle.schema.specs.Values.{ValueTree}
 use Rattle.dictionary.specs.Entries.{AreEntriesAt}
@@ -19,6 +19,15 @@ pub record IsIndexPage (size : ℕ) (bytes : List ℕ) (n : ℕ) (indexes : List
   pub are : AreIndexesOf width rest n indexes taken
   pub within : All (λ i. i < size) indexes
   pub ends : used ≡ 1 + taken
+
+-- the bytes begin with a width of 1 or more, so that runs follow it, as other readers want them
+abbrev pub HasRuns : List ℕ → Type 0
+HasRuns [] = ⊥
+HasRuns (width ∷ rest) = 1 ≤ width
+
+-- indexes as they are written
+abbrev pub IsWrittenIndexPage : ℕ → List ℕ → ℕ → List ℕ → ℕ → Type 0
+IsWrittenIndexPage size bytes n indexes used = IsIndexPage size bytes n indexes used × HasRuns bytes
 
 -- n values of a dictionary: the entries at some indexes
 pub record AreIndexed (entries : List ValueTree) (bytes : List ℕ) (n : ℕ) (values : List ValueTree) (used : ℕ) : Type 0 where

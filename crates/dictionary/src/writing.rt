@@ -3,7 +3,7 @@
 ghost use Rattle.std.specs.Prelude.{◌≡◌, ℕ, ◌+◌, ◌*◌, ◌^◌, ◌<◌, ◌≤◌, List, All, length, OnOk, OnErr};
 ghost use Rattle.bits.specs.Refusals.{OnFault, RefusedOnly, RefusedMemoryOnly};
 ghost use Rattle.bits.specs.Codec.{Appends};
-ghost use Rattle.dictionary.specs.IndexPages.{IsIndexPage, IsLeastWidth, HasWidth};
+ghost use Rattle.dictionary.specs.IndexPages.{IsIndexPage, IsWrittenIndexPage, IsLeastWidth, HasWidth};
 ghost use Rattle.dictionary.specs.inner.Writing.{Extends};
 
 use crate::reading::are_within;
@@ -19,6 +19,8 @@ use bits::{R, Refusal};
 /// `out` is unchanged. Takes three passes over the indexes, besides the hybrid's.
 pub fn encode_indexes(size: usize, indexes: &[u32], out: &mut Vec<u8>) -> R<()>
     ensures stands { OnOk result (Appends (λ bytes. IsIndexPage size bytes (length indexes.now) indexes.now)
+        (81 + 9 * length indexes.now) out.old.items out.new.items) }
+    ensures written { OnOk result (Appends (λ bytes. IsWrittenIndexPage size bytes (length indexes.now) indexes.now)
         (81 + 9 * length indexes.now) out.old.items out.new.items) }
     ensures width { OnOk result (HasWidth indexes.now out.old.items out.new.items) }
     ensures only { OnFault result ((bytes : List ℕ) (used : ℕ) → IsIndexPage size bytes (length indexes.now) indexes.now used → ⊥) }
@@ -41,6 +43,8 @@ pub fn encode_indexes(size: usize, indexes: &[u32], out: &mut Vec<u8>) -> R<()>
 fn put_indexes(size: usize, indexes: &[u32], out: &mut Vec<u8>) -> R<()>
     requires { All (λ i. i < size) indexes.now }
     ensures stands { OnOk result (Appends (λ bytes. IsIndexPage size bytes (length indexes.now) indexes.now)
+        (81 + 9 * length indexes.now) out.old.items out.new.items) }
+    ensures written { OnOk result (Appends (λ bytes. IsWrittenIndexPage size bytes (length indexes.now) indexes.now)
         (81 + 9 * length indexes.now) out.old.items out.new.items) }
     ensures width { OnOk result (HasWidth indexes.now out.old.items out.new.items) }
     ensures which { RefusedMemoryOnly result }

@@ -197,6 +197,6 @@ page_stands_by_indexes leaf version size indexes es old new each p = record {
   joined = p.joined;
   stands = λ more d sized are.
       let here = p.stands more in
-      written_page leaf version RleDictionary (AreIndexesIn size indexes) es (p.text ++ more) (length p.text) (Some d) each here (indexes_stand d leaf.leaf_type.kind size indexes here.text (values es) sized are here.spelled);
+      written_page leaf version RleDictionary (AreIndexesIn size indexes) es (p.text ++ more) (length p.text) (Some d) each here (indexes_stand d leaf.leaf_type.kind size indexes here.text (values es) sized are here.spelled.0);
   short = p.short;
 }

@@ -4,7 +4,7 @@ use Rattle.std.specs.Int.{Width, w32, w64, from_bool}
 use Rattle.hybrid_rle.specs.Hybrid.{IsHybrid}
 use Rattle.delta.specs.Delta.{IsDelta}
 use Rattle.delta.specs.ByteDeltas.{IsByteLengths, IsPrefixed as IsSharedPrefixes, StandForBytes}
-use Rattle.dictionary.specs.IndexPages.{IsIndexPage}
+use Rattle.dictionary.specs.IndexPages.{IsWrittenIndexPage}
 use Rattle.schema.specs.declared.value.Kind.{Kind}
 use Rattle.schema.specs.declared.value.Kind.TheVariants.{Boolean, Int32, Int64, ByteArray, FixedLenByteArray}
 use Rattle.schema.specs.Values.{ValueTree, boolean, integer}
@@ -44,4 +44,4 @@ AreValuesIn kind encoding values text = AreWritten kind encoding values text (le
 
 -- indexes into a dictionary with so many entries, which fill these bytes
 abbrev pub AreIndexesIn : ℕ → List ℕ → List ℕ → Type 0
-AreIndexesIn size indexes text = IsIndexPage size text (length indexes) indexes (length text)
+AreIndexesIn size indexes text = IsWrittenIndexPage size text (length indexes) indexes (length text)

@@ -3,7 +3,7 @@ use Rattle.std.proofs.lemmas.List.{length-map}
 use Rattle.std.proofs.lemmas.Result.{on_ok_weaker}
 use Rattle.schema.specs.Borrowed.{entry_ref_view}
 use Rattle.schema.specs.Views.{leaf_view}
-use Rattle.dictionary.specs.IndexPages.{IsIndexPage}
+use Rattle.dictionary.specs.IndexPages.{IsWrittenIndexPage}
 use Rattle.pages.specs.declared.encoding.Encoding.TheVariants.{RleDictionary}
 use Rattle.pages.specs.Page.{values}
 use Rattle.pages.specs.Writing.{index_weight}
@@ -19,13 +19,13 @@ returns-clause-written c =
     let size = c.args.size in
     let mid = c.put_sections.new.scratch.items in
     let sections = c.in_ok-sections.ensures.stands in
-    let p = c.in_ok-encode_indexes.ensures.stands in
+    let p = c.in_ok-encode_indexes.ensures.written in
     let entries : length c.args.entries.now ≡ length es = sym (length-map c.args.entries.now entry_ref_view) in
     let count : length is ≡ length (values es) = omega (arith, c.count_values.ensures.count, c.if-count_values-indexes.false) in
     let parts = parts_are leaf es mid c.as_slice.result.now p.text c.in_ok-sections.sections sections (c.as_slice.ensures.value ∙ p.joined) in
     on_ok_weaker c.put_data_page.result
     (entries_written leaf (record { version = c.args.version; encoding = RleDictionary; entries = length c.args.entries.now; nulls = length c.args.entries.now - length is; rows = c.count_rows.result }) es (AreIndexesIn size is) (index_weight (length es)) sections.repetition_bytes sections.definition_bytes p.text c.args.out.now.items c.put_data_page.new.out.items
-    entries (omega (arith, entries, count, nulls_and_values es)) c.count_rows.ensures.rows sections.first sections.second (fills (λ bytes. IsIndexPage size bytes (length is) is) (81 + 9 * length is) mid c.encode_indexes.new.out.items p) (omega (arith, sections.first_short, sections.second_short, p.short, count, entries, c.count_values.ensures.count, c.count_values.ensures.few)))
+    entries (omega (arith, entries, count, nulls_and_values es)) c.count_rows.ensures.rows sections.first sections.second (fills (λ bytes. IsWrittenIndexPage size bytes (length is) is) (81 + 9 * length is) mid c.encode_indexes.new.out.items p) (omega (arith, sections.first_short, sections.second_short, p.short, count, entries, c.count_values.ensures.count, c.count_values.ensures.few)))
     (c.put_data_page.ensures.stands sections.repetition_bytes sections.definition_bytes p.text parts)
 
 pub returns-clause-stands : goal.returns-clause-stands
