@@ -1,30 +1,18 @@
 -- What is appended of strings, and of the digits of bytes.
-use Rattle.std.proofs.Common.{◌≡◌, ℕ, zero, suc, ◌/◌, ◌%◌, ◌<◌, nat_lt, Bool, true, false, true≢false, not, ◌&&◌, List, [], ◌∷◌, ◌++◌, refl, sym, ap, ap₂, subst, ◌∙◌, arith, append_assoc, append-nil}
+use Rattle.std.proofs.Common.{◌≡◌, ℕ, zero, suc, ◌/◌, ◌%◌, ◌<◌, nat_lt, true, List, [], ◌∷◌, ◌++◌, refl, sym, ap, ap₂, ◌∙◌, arith, append_assoc}
 use Rattle.std.specs.Prelude.{slice_index}
 use Rattle.std.specs.Char.{digit_char}
-use Rattle.std.proofs.lemmas.Bool.Decides.{Decides-ltb, nat_tests}
+use Rattle.std.proofs.lemmas.Bool.Decides.{Decides-ltb}
 use Rattle.hex.specs.Hex.{lower_digits, encode_with, encode_lower}
 use Rattle.json.specs.Print.{escape_letter, escape_byte, escape, quoted}
-use Rattle.json.proofs.Printed.Strings.{escape_byte_plain}
-use Rattle.jsonrows.specs.inner.Scalars.{is_plain, are_plain}
 
 -- ---- strings
 
-and_true : (a b : Bool) → (a && b) ≡ true → (a ≡ true) × (b ≡ true)
-and_true true b h = (refl, h)
-and_true false b h = absurd (true≢false (sym h))
-
-not_same : (b : Bool) → not b ≡ true → b ≡ false
-not_same true h = absurd (true≢false (sym h))
-not_same false h = refl
-
-plain_byte : (x : ℕ) → is_plain x ≡ true → escape_byte x ≡ x ∷ []
-plain_byte x h =
-    escape_byte_plain x (λ e. absurd (true≢false (sym (subst (λ y. is_plain y ≡ true) e h)))) (λ e. absurd (true≢false (sym (subst (λ y. is_plain y ≡ true) e h)))) (grind (arith, nat_tests, h))
-
-pub plain_text : (s : List ℕ) → are_plain s ≡ true → escape s ≡ s
-plain_text [] h = refl
-plain_text (x ∷ s) h = let p = and_true (is_plain x) (are_plain s) h in ap₂ (λ (a b : List ℕ). a ++ b) (plain_byte x p.0) (plain_text s p.1)
+-- quotes are put around a text that has nothing to be escaped
+pub quotes_put : (old first mid last s : List ℕ) → escape s ≡ s → first ≡ old ++ 34 ∷ [] → mid ≡ first ++ s → last ≡ mid ++ 34 ∷ [] → last ≡ old ++ quoted s
+quotes_put old first mid last s plain begun put ended =
+    ended ∙ ap (λ (x : List ℕ). x ++ 34 ∷ []) (put ∙ ap (λ (x : List ℕ). x ++ s) begun) ∙ append_assoc (old ++ 34 ∷ []) s (34 ∷ []) ∙ append_assoc old (34 ∷ []) (s ++ 34 ∷ [])
+    ∙ ap (λ (x : List ℕ). old ++ 34 ∷ (x ++ 34 ∷ [])) (sym plain)
 
 -- ---- digits
 
@@ -54,7 +42,7 @@ digit_plain : (n : ℕ) → n < 16 → escape_byte (slice_index lower_digits n) 
 unfolding escape_byte
 digit_plain = below_16 (λ n. escape_byte (slice_index lower_digits n) ≡ slice_index lower_digits n ∷ []) refl refl refl refl refl refl refl refl refl refl refl refl refl refl refl refl
 
-digits_plain : (s : List ℕ) → ((i : ℕ) → slice_index s i < 256) → escape (encode_lower s) ≡ encode_lower s
+pub digits_plain : (s : List ℕ) → ((i : ℕ) → slice_index s i < 256) → escape (encode_lower s) ≡ encode_lower s
 unfolding encode_with
 digits_plain [] h = refl
 digits_plain (b ∷ s) h =
@@ -62,18 +50,6 @@ digits_plain (b ∷ s) h =
     let high = digit_plain (b / 16) (omega (arith, small)) in
     let low = digit_plain (b % 16) (omega arith) in
     ap₂ (λ (x y : List ℕ). x ++ (y ++ escape (encode_lower s))) high low ∙ ap (λ (r : List ℕ). slice_index lower_digits (b / 16) ∷ slice_index lower_digits (b % 16) ∷ r) (digits_plain s (λ i. h (suc i)))
-
-pub digits_more : (out new all rest w : List ℕ) (b : ℕ) → new ≡ out ++ encode_lower (b ∷ []) → all ≡ b ∷ rest → out ++ encode_lower all ≡ w → new ++ encode_lower rest ≡ w
-unfolding encode_with
-digits_more out new all rest w b grown split so =
-    ap (λ (s : List ℕ). s ++ encode_lower rest) grown ∙ append_assoc out (encode_lower (b ∷ [])) (encode_lower rest) ∙ ap (λ (s : List ℕ). out ++ encode_lower s) (sym split) ∙ so
-
-pub digits_quoted : (old first out last left s : List ℕ) → first ≡ old ++ 34 ∷ [] → left ≡ [] → out ++ encode_lower left ≡ first ++ encode_lower s → last ≡ out ++ 34 ∷ [] → ((i : ℕ) → slice_index s i < 256) → last ≡ old ++ quoted (encode_lower s)
-unfolding encode_with
-digits_quoted old first out last left s begun none so ended bytes =
-    let all : out ≡ first ++ encode_lower s = sym (append-nil out) ∙ ap (λ (l : List ℕ). out ++ encode_lower l) (sym none) ∙ so in
-    ended ∙ ap (λ (x : List ℕ). x ++ 34 ∷ []) (all ∙ ap (λ (x : List ℕ). x ++ encode_lower s) begun) ∙ append_assoc (old ++ 34 ∷ []) (encode_lower s) (34 ∷ []) ∙ append_assoc old (34 ∷ []) (encode_lower s ++ 34 ∷ [])
-    ∙ ap (λ (x : List ℕ). old ++ 34 ∷ (x ++ 34 ∷ [])) (sym (digits_plain s bytes))
 
 -- a control character without a short escape
 pub low_byte : (x high low : ℕ) → escape_letter x ≡ 0 → x < 32 → high ≡ slice_index lower_digits (x / 16) → low ≡ slice_index lower_digits (x % 16) → 92 ∷ 117 ∷ 48 ∷ 48 ∷ high ∷ low ∷ [] ≡ escape_byte x

@@ -7,6 +7,7 @@ ghost use Rattle.schema.specs.Views.{field_view, field_views};
 ghost use Rattle.jsonrows.specs.inner.Slots.{Slots, slot_view, slots_view, slots_made, slot_of, key_of, indices_of, put_index, ordered, entries_view, is_counting, is_in_order, order_of, vec_items, order_view, key_in};
 ghost use Rattle.jsonrows.specs.Rows.{plan_schema, IsReady};
 
+use crate::line::Line;
 use crate::scalars::{Numbers, numbers_of};
 use crate::strings::put_string;
 use bits::R;
@@ -89,11 +90,11 @@ impl<'a> RowPlan<'a> {
 fn key_of(alloc: Global, name: &str) -> Result<Vec<u8>, AllocError>
     ensures { IfOk result (λ key. key.items ≡ key_of name.now) }
 {
-    let mut key = Vec::new(alloc);
+    let mut key = Line::new(alloc);
     key.push(b',')?;
     put_string(name.as_bytes(), &mut key)?;
     key.push(b':')?;
-    Ok(key)
+    Vec::from_slice(alloc, key.as_slice())
 }
 
 /// What stands at a field.

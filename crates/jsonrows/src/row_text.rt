@@ -10,6 +10,7 @@ ghost use Rattle.jsonrows.specs.Rows.{plan_schema, IsReady, text_shows, BeginsRo
 ghost use Rattle.jsonrows.specs.inner.Slots.{slot_view, slots_view};
 ghost use Rattle.jsonrows.specs.inner.Levels.{top_of, state_of, begun, next_slot, left, closed, level_view, inside, between, piece, braced_at, bytes_text, value_text, text_at, seen};
 
+use crate::line::Line;
 use crate::row_plan::{RowPlan, Slot};
 use crate::scalars::{Numbers, put_boolean, put_null, put_number};
 use crate::strings::{put_digits, put_string};
@@ -42,14 +43,14 @@ pub enum Level<'a> {
 pub struct RowText<'a> {
     plan: &'a RowPlan<'a>,
     /// The text so far.
-    text: Vec<u8>,
+    text: Line,
     /// Where each member of the objects that have begun begins, before its comma.
     starts: Vec<usize>,
     here: Level<'a>,
     /// The levels around it, the outermost first.
     outer: Vec<Level<'a>>,
     /// Room for the members of an object in another order.
-    spare: Vec<u8>,
+    spare: Line,
 }
 
 /// Bytes from one index of a text up to another.
@@ -79,7 +80,7 @@ fn put_pieces(
     text: &[u8],
     starts: &[usize],
     order: &[usize],
-    out: &mut Vec<u8>,
+    out: &mut Line,
 ) -> Result<(), AllocError>
     ensures { OnOk result (out.new.items ≡ out.old.items ++ flat_map (piece text.now starts.now) order.now) }
 {
@@ -96,8 +97,8 @@ fn sort(
     from: usize,
     first: usize,
     starts: &[usize],
-    text: &mut Vec<u8>,
-    spare: &mut Vec<u8>,
+    text: &mut Line,
+    spare: &mut Line,
 ) -> Result<(), AllocError>
     ensures { OnOk result (text.new.items ≡ take from text.old.items ++ flat_map (piece text.old.items (drop first starts.now)) order.now) }
 {
@@ -109,11 +110,11 @@ fn sort(
 }
 
 /// Puts a brace where a text begins, in place of the comma before its first member.
-fn put_brace(from: usize, text: &mut Vec<u8>) -> Result<(), AllocError>
+fn put_brace(from: usize, text: &mut Line) -> Result<(), AllocError>
     ensures { OnOk result (text.new.items ≡ braced_at from text.old.items) }
 {
     if from < text.len() {
-        text[from] = b'{';
+        text.set(from, b'{');
         return Ok(());
     }
     text.push(b'{')?;
@@ -121,7 +122,7 @@ fn put_brace(from: usize, text: &mut Vec<u8>) -> Result<(), AllocError>
 }
 
 /// Appends bytes of a leaf: text as a string, and all else by its digits.
-fn put_bytes(is_text: bool, bytes: &[u8], out: &mut Vec<u8>) -> Result<(), AllocError>
+fn put_bytes(is_text: bool, bytes: &[u8], out: &mut Line) -> Result<(), AllocError>
     ensures { OnOk result (out.new.items ≡ out.old.items ++ bytes_text is_text bytes.now) }
 {
     if is_text {
@@ -136,7 +137,7 @@ fn put_value(
     numbers: Numbers,
     is_text: bool,
     value: ValueRef<'_>,
-    out: &mut Vec<u8>,
+    out: &mut Line,
 ) -> Result<(), AllocError>
     ensures { OnOk result (out.new.items ≡ out.old.items ++ value_text numbers is_text (value_ref_view value.entry)) }
 {
@@ -149,7 +150,7 @@ fn put_value(
 }
 
 /// Appends a value that is no group and no list: null where it is not of a leaf.
-fn put_single(slot: Option<&Slot>, value: ValueRef<'_>, out: &mut Vec<u8>) -> Result<(), AllocError>
+fn put_single(slot: Option<&Slot>, value: ValueRef<'_>, out: &mut Line) -> Result<(), AllocError>
     ensures { OnOk result (out.new.items ≡ out.old.items ++ text_at (option_map seen slot.entry) (value_ref_view value.entry)) }
 {
     match slot {
@@ -194,11 +195,11 @@ impl<'a> RowText<'a> {
     {
         RowText {
             plan,
-            text: Vec::new(alloc),
+            text: Line::new(alloc),
             starts: Vec::new(alloc),
             here: RowText::top(plan),
             outer: Vec::new(alloc),
-            spare: Vec::new(alloc),
+            spare: Line::new(alloc),
         }
     }
 

@@ -8,6 +8,7 @@ ghost use Rattle.schema.specs.Annotations.{order_of};
 ghost use Rattle.schema.specs.Views.{leaf_type_view};
 ghost use Rattle.jsonrows.specs.inner.Scalars.{number_shown, numbers_of};
 
+use crate::line::Line;
 use schema::{Kind, LeafType, Order};
 use std::alloc::AllocError;
 
@@ -34,7 +35,7 @@ pub fn numbers_of(leaf_type: &LeafType) -> Numbers
 }
 
 /// Appends a number of a leaf.
-pub fn put_number(numbers: Numbers, number: i64, out: &mut Vec<u8>) -> Result<(), AllocError>
+pub fn put_number(numbers: Numbers, number: i64, out: &mut Line) -> Result<(), AllocError>
     ensures { OnOk result (out.new.items ≡ out.old.items ++ number_text (number_shown numbers number)) }
 {
     let mut buffer = itoa::Buffer::new();
@@ -47,14 +48,14 @@ pub fn put_number(numbers: Numbers, number: i64, out: &mut Vec<u8>) -> Result<()
 }
 
 /// Appends a boolean.
-pub fn put_boolean(boolean: bool, out: &mut Vec<u8>) -> Result<(), AllocError>
+pub fn put_boolean(boolean: bool, out: &mut Line) -> Result<(), AllocError>
     ensures { OnOk result (out.new.items ≡ out.old.items ++ compact_text (json.boolean boolean)) }
 {
     out.extend_from_slice(if boolean { b"true" } else { b"false" })
 }
 
 /// Appends null.
-pub fn put_null(out: &mut Vec<u8>) -> Result<(), AllocError>
+pub fn put_null(out: &mut Line) -> Result<(), AllocError>
     ensures { OnOk result (out.new.items ≡ out.old.items ++ compact_text json.null) }
 {
     out.extend_from_slice(b"null")

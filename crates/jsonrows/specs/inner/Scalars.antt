@@ -1,7 +1,6 @@
 -- How numbers and strings are printed.
-use Rattle.std.specs.Prelude.{ℕ, ℤ, ◌%◌, ◌^◌, Bool, ◌&&◌, nat_le, nat_lt, ◌==◌, not, List, Option, Some}
+use Rattle.std.specs.Prelude.{ℤ, ◌%◌, ◌^◌, Option, Some}
 use Rattle.std.specs.Int.{w64, cast_unsigned}
-use Rattle.std.specs.List.{list_all}
 use Rattle.serde_json.specs.Data.{Num, unsigned}
 use Rattle.serde_json.specs.Find.{of_integer}
 use Rattle.schema.specs.declared.value.Kind.{Kind}
@@ -21,10 +20,3 @@ abbrev pub number_shown : Numbers → ℤ → Num
 number_shown Signed z = of_integer z
 number_shown Unsigned32 z = unsigned (cast_unsigned w64 z % 2 ^ 32)
 number_shown Unsigned64 z = unsigned (cast_unsigned w64 z)
-
--- a byte that stands in a string as it is, and is ASCII
-abbrev pub is_plain : ℕ → Bool
-is_plain b = nat_le 32 b && nat_lt b 128 && not (b == 34) && not (b == 92)
-
-abbrev pub are_plain : List ℕ → Bool
-are_plain s = list_all is_plain s

@@ -1,6 +1,0 @@
-use Rattle.std.proofs.Common.{◌≡◌, drop}
-use Rattle.jsonrows.specs.inner.Scalars.{are_plain}
-use Rattle.jsonrows.proofs.strings.are_plain.Given as goal
-
-abbrev pub invariant-loop-byte : goal.invariant-loop-byte
-invariant-loop-byte l = are_plain (drop l.byte-index l.bytes) ≡ are_plain l.bytes

@@ -1,0 +1,10 @@
+use Rattle.std.proofs.Common.{◌≡◌, rules}
+use Rattle.json.specs.Print.{escape}
+use Rattle.jsonrows.proofs.Escapes.{quotes_put}
+use Rattle.jsonrows.proofs.strings.put_string.Goals as goal
+
+pub returns : goal.returns
+returns c =
+    let s = c.args.bytes.now in
+    let plain : escape s ≡ s = search rules in
+    quotes_put c.args.out.now.items c.place_byte.new.self.items c.place.new.self.items c.place_byte-2.new.self.items s plain (search rules) c.place.ensures.items c.place_byte-2.ensures.items

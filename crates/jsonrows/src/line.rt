@@ -1,0 +1,162 @@
+//! A text in a buffer that is kept: room for a value is made once, and its bytes are then stored with no further test.
+
+ghost use Rattle.std.specs.Prelude.{◌≡◌, ◌+◌, ◌*◌, ◌<◌, ◌≤◌, [], ◌∷◌, ◌++◌, length, take, OnOk, slice_set};
+ghost use Rattle.hex.specs.Hex.{encode_lower};
+
+use crate::place::{place_byte, place_digits, place_text};
+use std::alloc::{AllocError, Global};
+use std::marker::Model;
+
+/// How much room is made at least.
+const LEAST: usize = 64;
+
+/// The first `len` bytes of a buffer are the text; what lies after them is room.
+#[derive(Drop)]
+pub struct Line {
+    bytes: Vec<u8>,
+    len: usize,
+}
+
+impl Model for Line {
+    ghost use Rattle.std.specs.Prelude.{◌-◌, ◌≤◌, length, take};
+    ghost use Rattle.jsonrows.specs.inner.Room.{Room, room_code};
+
+    ghost Value = { Room };
+
+    ghost coded = { room_code };
+
+    ghost view = { λ s. record { items = take s.len s.bytes.items; ready = length s.bytes.items - s.len } };
+
+    ghost invariant = { λ s. s.len ≤ length s.bytes.items };
+}
+
+impl Line {
+    /// No text.
+    pub fn new(alloc: Global) -> Line
+        ensures { result.items ≡ [] }
+    {
+        Line {
+            bytes: Vec::new(alloc),
+            len: 0,
+        }
+    }
+
+    /// How many bytes the text has.
+    #[inline(always)]
+    pub fn len(&self) -> usize
+        ensures { result ≡ length self.now.items }
+    {
+        self.len
+    }
+
+    /// The text.
+    #[inline(always)]
+    pub fn as_slice(&self) -> &[u8]
+        ensures value { result.now ≡ self.now.items }
+    {
+        &self.bytes.as_slice()[..self.len]
+    }
+
+    /// Makes room for so many more bytes.
+    #[inline(always)]
+    pub fn reserve(&mut self, more: usize) -> Result<(), AllocError>
+        ensures items { self.new.items ≡ self.old.items }
+        ensures ready { OnOk result (more ≤ self.new.ready) }
+    {
+        if more <= self.bytes.len() - self.len {
+            return Ok(());
+        }
+        self.grow(more)
+    }
+
+    /// Makes more room, and at least as much as there is, so that bytes are moved a constant number of times each.
+    #[cold]
+    #[inline(never)]
+    fn grow(&mut self, more: usize) -> Result<(), AllocError>
+        ensures items { self.new.items ≡ self.old.items }
+        ensures ready { OnOk result (more ≤ self.new.ready) }
+    {
+        let len = self.bytes.len();
+        let Some(all) = len.checked_add(more.max(len).max(LEAST)) else {
+            return Err(AllocError);
+        };
+        self.bytes.resize(all, 0)
+    }
+
+    /// Appends bytes that there is room for.
+    #[inline(always)]
+    pub fn place(&mut self, bytes: &[u8])
+        requires { length bytes.now ≤ self.old.ready }
+        ensures items { self.new.items ≡ self.old.items ++ bytes.now }
+        ensures ready { self.old.ready ≡ self.new.ready + length bytes.now }
+    {
+        self.len = place_text(self.bytes.as_mut_slice(), self.len, bytes);
+    }
+
+    /// Appends a byte that there is room for.
+    #[inline(always)]
+    pub fn place_byte(&mut self, byte: u8)
+        requires { 1 ≤ self.old.ready }
+        ensures items { self.new.items ≡ self.old.items ++ byte ∷ [] }
+        ensures ready { self.old.ready ≡ self.new.ready + 1 }
+    {
+        self.len = place_byte(self.bytes.as_mut_slice(), self.len, byte);
+    }
+
+    /// Appends the hexadecimal digits of bytes, which there is room for.
+    #[inline(always)]
+    pub fn place_digits(&mut self, bytes: &[u8])
+        requires { 2 * length bytes.now ≤ self.old.ready }
+        ensures items { self.new.items ≡ self.old.items ++ encode_lower bytes.now }
+        ensures ready { self.old.ready ≡ self.new.ready + 2 * length bytes.now }
+    {
+        self.len = place_digits(self.bytes.as_mut_slice(), self.len, bytes);
+    }
+
+    /// Appends bytes.
+    #[inline(always)]
+    pub fn extend_from_slice(&mut self, bytes: &[u8]) -> Result<(), AllocError>
+        ensures items { OnOk result (self.new.items ≡ self.old.items ++ bytes.now) }
+    {
+        self.reserve(bytes.len())?;
+        self.place(bytes);
+        Ok(())
+    }
+
+    /// Appends a byte.
+    #[inline(always)]
+    pub fn push(&mut self, byte: u8) -> Result<(), AllocError>
+        ensures items { OnOk result (self.new.items ≡ self.old.items ++ byte ∷ []) }
+    {
+        self.reserve(1)?;
+        self.place_byte(byte);
+        Ok(())
+    }
+
+    /// Cuts the text off.
+    #[inline(always)]
+    pub fn truncate(&mut self, len: usize)
+        ensures { self.new.items ≡ take len self.old.items }
+    {
+        if len < self.len {
+            self.len = len;
+        }
+    }
+
+    /// Forgets the text.
+    #[inline(always)]
+    pub fn clear(&mut self)
+        ensures items { self.new.items ≡ [] }
+    {
+        self.len = 0;
+    }
+
+    /// Replaces a byte.
+    #[inline(always)]
+    pub fn set(&mut self, at: usize, byte: u8)
+        requires { at < length self.old.items }
+        ensures { self.new.items ≡ slice_set self.old.items at byte }
+    {
+        self.bytes[at] = byte;
+    }
+}
