@@ -17,7 +17,8 @@ use bits::{R, Refusal};
 /// Refused Value exactly when an index is past the dictionary's end, and never Limit. On a refusal
 /// `out` is unchanged. Takes three passes over the indexes, besides the hybrid's.
 pub fn encode_indexes(size: usize, indexes: &[u32], out: &mut Vec<u8>) -> R<()>
-    ensures stands { OnOk result (Appends (λ bytes. IsIndexPage size bytes (length indexes.now) indexes.now) (81 + 9 * length indexes.now) out.old.items out.new.items) }
+    ensures stands { OnOk result (Appends (λ bytes. IsIndexPage size bytes (length indexes.now) indexes.now)
+        (81 + 9 * length indexes.now) out.old.items out.new.items) }
     ensures width { OnOk result (HasWidth indexes.now out.old.items out.new.items) }
     ensures only { OnFault result ((bytes : List ℕ) (used : ℕ) → IsIndexPage size bytes (length indexes.now) indexes.now used → ⊥) }
     ensures unfit { OnFault result (All (λ i. i < size) indexes.now → ⊥) }
@@ -38,7 +39,8 @@ pub fn encode_indexes(size: usize, indexes: &[u32], out: &mut Vec<u8>) -> R<()>
 /// Writes the width and the indexes at the end; where it is refused, some of them may stand there.
 fn put_indexes(size: usize, indexes: &[u32], out: &mut Vec<u8>) -> R<()>
     requires { All (λ i. i < size) indexes.now }
-    ensures stands { OnOk result (Appends (λ bytes. IsIndexPage size bytes (length indexes.now) indexes.now) (81 + 9 * length indexes.now) out.old.items out.new.items) }
+    ensures stands { OnOk result (Appends (λ bytes. IsIndexPage size bytes (length indexes.now) indexes.now)
+        (81 + 9 * length indexes.now) out.old.items out.new.items) }
     ensures width { OnOk result (HasWidth indexes.now out.old.items out.new.items) }
     ensures which { RefusedMemoryOnly result }
     ensures front { Extends out.old.items out.new.items }
