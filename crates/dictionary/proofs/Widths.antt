@@ -34,12 +34,13 @@ width_more is i width bits new is_max p q =
     let wider : 2 ^ width ≤ 2 ^ new = pow_le width new (omega (arith, is_max)) in
     let holds : 2 ^ bits ≤ 2 ^ new = pow_le bits new (omega (arith, is_max)) in (
       All-push (λ k. k < 2 ^ new) is i (λ k d lt. let small = q.0 k d lt in omega (arith, small, wider)) (omega (arith, p.holds, holds)),
-      λ w all. let parts = All-pop (λ k. k < 2 ^ w) (is ++ i ∷ []) is (Some i) refl all in
-          let first = q.1 w parts.0 in
+      omega (arith, is_max, q.1),
+      λ w some all. let parts = All-pop (λ k. k < 2 ^ w) (is ++ i ∷ []) is (Some i) refl all in
+          let first = q.2 w some parts.0 in
           let last = p.least w parts.1 in
           omega (arith, is_max, first, last),
     )
 
--- no indexes have no bits
-pub none_wide : IsLeastWidth 0 []
-none_wide = (All-nil (λ k. k < 2 ^ 0), λ w all. omega arith)
+-- no indexes need one bit
+pub none_wide : IsLeastWidth 1 []
+none_wide = (All-nil (λ k. k < 2 ^ 1), omega arith, λ w some all. some)

@@ -26,11 +26,11 @@ pub record AreIndexed (entries : List ValueTree) (bytes : List ℕ) (n : ℕ) (v
   pub stand : IsIndexPage (length entries) bytes n indexes used
   pub are : AreEntriesAt entries indexes values
 
--- each index has at most `width` bits, and one has no fewer
+-- each index has at most `width` bits, and no lesser width but 0 holds them all
 abbrev pub IsLeastWidth : ℕ → List ℕ → Type 0
-IsLeastWidth width indexes = All (λ i. i < 2 ^ width) indexes × ((w : ℕ) → All (λ i. i < 2 ^ w) indexes → width ≤ w)
+IsLeastWidth width indexes = All (λ i. i < 2 ^ width) indexes × (1 ≤ width) × ((w : ℕ) → 1 ≤ w → All (λ i. i < 2 ^ w) indexes → width ≤ w)
 
--- what is written begins with the least width of the indexes
+-- what is written begins with the least width of the indexes, 1 at least
 pub record HasWidth (indexes old new : List ℕ) : Type 0 where
   pub width : ℕ
   pub rest : List ℕ

@@ -11,8 +11,9 @@ use bits::{R, Refusal};
 
 /// Writes the indexes into a dictionary of `size` entries at the end of `out`, as
 /// [`decode_indexes`](crate::decode_indexes) reads them, in at most 81 + 9n bytes for n indexes: the
-/// body of a data page after its levels. The width is the least that holds each index, so that nothing
-/// follows it where all indexes are 0. (parquet-format, Encodings.md, "Dictionary Encoding".)
+/// body of a data page after its levels. The width is the least that holds each index, and 1 where all
+/// indexes are 0: other readers want runs after a width of 0 too, or refuse it. (parquet-format,
+/// Encodings.md, "Dictionary Encoding".)
 ///
 /// Refused Value exactly when an index is past the dictionary's end, and never Limit. On a refusal
 /// `out` is unchanged. Takes three passes over the indexes, besides the hybrid's.
@@ -47,18 +48,16 @@ fn put_indexes(size: usize, indexes: &[u32], out: &mut Vec<u8>) -> R<()>
 {
     let width = least_width(indexes);
     out.push(width as u8)?;
-    if width > 0 {
-        hybrid_rle::encode(width, indexes, out)?;
-    }
+    hybrid_rle::encode(width, indexes, out)?;
     Ok(())
 }
 
-/// The least number of bits that holds each index; 0 where all are 0.
+/// The least number of bits, 1 at least, that holds each index.
 fn least_width(indexes: &[u32]) -> u32
     ensures within { result ≤ 32 }
     ensures least { IsLeastWidth result indexes.now }
 {
-    let mut width = 0;
+    let mut width = 1;
     for index in indexes {
         width = width.max(bits_of(*index));
     }
