@@ -11,6 +11,8 @@ mod files;
 #[cfg(test)]
 mod files_of_all_kinds;
 #[cfg(test)]
+mod files_of_other_tools;
+#[cfg(test)]
 mod nested_round_trips;
 #[cfg(test)]
 mod row_sinks;
