@@ -1,4 +1,0 @@
-pub mod Names
-pub mod Program
-pub mod Words
-pub mod inner

@@ -1,3 +1,0 @@
--- Definitions for private functions alone.
-pub mod Gathered
-pub mod Lines

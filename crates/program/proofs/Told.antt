@@ -1,0 +1,161 @@
+-- Lines that are read as rows, one after another.
+use Rattle.std.proofs.Common.{◌≡◌, ◌⊎◌, inr, Result, Ok, Err, Vec, Global, subst, ◌<◌, ℕ, zero, suc, List, [], ◌∷◌, ◌++◌, length, map, take, drop, get_or, refl, sym, ap, ◌∙◌, arith}
+use Rattle.std.specs.Prelude.{IsTrue, IfOk, IfErr}
+use Rattle.std.specs.Borrow.{Bor}
+use Rattle.std.proofs.lemmas.List.{map_push, take-append-drop}
+use Rattle.bits.specs.declared.refusal.Refusal.{Refusal}
+use Rattle.bits.specs.declared.refusal.Refusal.TheVariants.{RowShape, Script, Limit, Memory}
+use Rattle.bits.specs.Refusals.{HasCause, IsFault, OnFault}
+use Rattle.schema.specs.Values.{ValueTrees}
+use Rattle.schema.specs.Shape.{Fields}
+use Rattle.schema.specs.Fits.{fits_each, RowsFit}
+use Rattle.footer.specs.declared.options.WriteOptions.{WriteOptions}
+use Rattle.footer.specs.declared.file_writer.FileWriter.{FileWriter}
+use Rattle.footer.specs.Writer.{schema_of, options_of, has_rows}
+use Rattle.footer.specs.File.{FileMeans}
+use Rattle.footer.specs.Own.{IsLaidOut}
+use Rattle.footer.specs.Writing.{IsOutOfRange, IsTooMuch}
+use Rattle.program.specs.inner.Lines.{IsFileOfLines, IsLinesRefusal}
+use Rattle.program.specs.Program.{IsRowText, AreRowTexts, IsRefusedLine, HasFirstFault}
+
+one_more : (fs : Fields) (texts : List (List ℕ)) (rows : List ValueTrees) (text : List ℕ) (row : ValueTrees) → AreRowTexts fs texts rows → IsRowText fs text row → AreRowTexts fs (texts ++ text ∷ []) (rows ++ row ∷ [])
+one_more fs [] [] text row so_far last = (last, tt)
+one_more fs [] (r ∷ rows) text row so_far last = absurd so_far
+one_more fs (t ∷ texts) [] text row so_far last = absurd so_far
+one_more fs (t ∷ texts) (r ∷ rows) text row so_far last = (so_far.0, one_more fs texts rows text row so_far.1 last)
+
+-- the rows so far, and that of one more line
+pub told_one_more : (fs : Fields) (texts : List (Bor (List ℕ))) (rows : List ValueTrees) (text : Bor (List ℕ)) (row : ValueTrees) → IsRowText fs text.now row
+    → AreRowTexts fs (map (λ t. t.now) texts) rows → AreRowTexts fs (map (λ t. t.now) (texts ++ text ∷ [])) (rows ++ row ∷ [])
+told_one_more fs texts rows text row is so_far =
+    rw (map_push (λ (t : Bor (List ℕ)). t.now) texts text) (one_more fs (map (λ t. t.now) texts) rows text.now row so_far is)
+
+-- where no line is left
+pub told_all : (fs : Fields) (texts : List (Bor (List ℕ))) (all : List (List ℕ)) (rows : List ValueTrees) → map (λ t. t.now) texts ≡ all → AreRowTexts fs (map (λ t. t.now) texts) rows → AreRowTexts fs all rows
+told_all fs texts all rows e told = rw (← e) told
+
+-- each of them fits
+pub fit_one_more : (fs : Fields) (rows : List ValueTrees) (row : ValueTrees) → RowsFit fs rows → IsTrue (fits_each fs row) → RowsFit fs (rows ++ row ∷ [])
+fit_one_more fs [] row so_far last = (last, tt)
+fit_one_more fs (r ∷ rows) row so_far last = (so_far.0, fit_one_more fs rows row so_far.1 last)
+
+-- a text is at most one row
+same_row : (fs : Fields) (text : List ℕ) (a b : ValueTrees) → IsRowText fs text a → IsRowText fs text b → a ≡ b
+same_row fs text a b (d, reads, is) (e, others, also) = cc
+
+-- texts are the rows of at most one list
+pub same_rows : (fs : Fields) (texts : List (List ℕ)) (rows others : List ValueTrees) → AreRowTexts fs texts rows → AreRowTexts fs texts others → others ≡ rows
+same_rows fs [] [] [] p q = refl
+same_rows fs [] [] (s ∷ others) p q = absurd q
+same_rows fs [] (r ∷ rows) others p q = absurd p
+same_rows fs (t ∷ texts) [] others p q = absurd p
+same_rows fs (t ∷ texts) (r ∷ rows) [] p q = absurd q
+same_rows fs (t ∷ texts) (r ∷ rows) (s ∷ others) p q = ap (λ x. x ∷ others) (same_row fs t s r q.0 p.0) ∙ ap (λ xs. r ∷ xs) (same_rows fs texts rows others p.1 q.1)
+
+-- the rows of texts begin with those of the first texts
+begin_so : (fs : Fields) (texts more : List (List ℕ)) (rows all : List ValueTrees) → AreRowTexts fs texts rows → AreRowTexts fs (texts ++ more) all → (later : List ValueTrees) × (all ≡ rows ++ later)
+begin_so fs [] more [] all p q = (all, refl)
+begin_so fs [] more (r ∷ rows) all p q = absurd p
+begin_so fs (t ∷ texts) more [] all p q = absurd p
+begin_so fs (t ∷ texts) more (r ∷ rows) [] p q = absurd q
+begin_so fs (t ∷ texts) more (r ∷ rows) (s ∷ all) p q =
+    let rest = begin_so fs texts more rows all p.1 q.1 in
+    (rest.0, ap (λ x. x ∷ all) (same_row fs t s r q.0 p.0) ∙ ap (λ xs. r ∷ xs) rest.1)
+
+pub begin_with : (fs : Fields) (texts : List (Bor (List ℕ))) (lines : List (List ℕ)) (rows all : List ValueTrees) → map (λ t. t.now) texts ≡ take (length texts) lines
+    → AreRowTexts fs (map (λ t. t.now) texts) rows → AreRowTexts fs lines all → (later : List ValueTrees) × (all ≡ rows ++ later)
+begin_with fs texts lines rows all so_far told also =
+    begin_so fs (take (length texts) lines) (drop (length texts) lines) rows all (rw (← so_far) told) (rw (take-append-drop (length texts) lines) also)
+
+-- a writer was given the rows of the texts so far
+pub record HasRead (fs : Fields) (o : WriteOptions) (texts : List (List ℕ)) (reads : Fields) (writer : FileWriter) : Type 0 where
+  pub rows : List ValueTrees
+  pub told : AreRowTexts fs texts rows
+  pub has : has_rows writer rows
+  pub fit : RowsFit fs rows
+  pub fields : reads ≡ fs
+  pub schema : schema_of writer ≡ fs
+  pub options : options_of writer ≡ o
+
+split_there : (all : List (List ℕ)) (n : ℕ) (x : List ℕ) → n < length all → x ≡ get_or all n x → all ≡ take n all ++ x ∷ drop (suc n) all
+split_there [] n x h e = absurd (omega arith)
+split_there (y ∷ ys) zero x h e = ap (λ z. z ∷ ys) (sym e)
+split_there (y ∷ ys) (suc n) x h e = ap (λ zs. y ∷ zs) (split_there ys n x (omega arith) e)
+
+with_cause : (P Q : Refusal → Type 0) → ((e : Refusal) → P e → Q e) → (e : Refusal) → HasCause P e → HasCause Q e
+with_cause P Q f Memory h = tt
+with_cause P Q f e h = f e h
+
+-- the line that is refused is the first one: those before it are rows
+pub refused_first : (fs : Fields) (texts : List (Bor (List ℕ))) (text : Bor (List ℕ)) (all : List (List ℕ)) (rows : List ValueTrees)
+    → map (λ t. t.now) texts ≡ take (length texts) all → (length texts < length all) × (text.now ≡ get_or all (length texts) text.now)
+    → AreRowTexts fs (map (λ t. t.now) texts) rows → (e : Refusal) → HasCause (IsRefusedLine fs text.now) e → HasCause (HasFirstFault fs all) e
+refused_first fs texts text all rows so_far here told =
+    with_cause (IsRefusedLine fs text.now) (HasFirstFault fs all) (λ e refused.
+    record {
+      before = map (λ t. t.now) texts;
+      text = text.now;
+      after = drop (suc (length texts)) all;
+      rows = rows;
+      joined = rw so_far (split_there all (length texts) text.now here.0 here.1);
+      read = told;
+      refused = refused;
+    })
+
+-- ---- what lines are refused for
+
+-- a line that is no row
+pub stopped_by_line : (fs : Fields) (o : WriteOptions) (texts : List (List ℕ)) (e : Refusal) → HasCause (HasFirstFault fs texts) e → IsLinesRefusal fs o texts e
+stopped_by_line fs o texts RowShape h = h
+stopped_by_line fs o texts Script h = h
+stopped_by_line fs o texts Memory h = tt
+stopped_by_line fs o texts e h = absurd h.refused
+
+-- a fault of the rows, which fit, or too many of them
+pub stopped_by_rows : (fs : Fields) (o : WriteOptions) (texts : List (List ℕ)) (e : Refusal) (rows : List ValueTrees) → RowsFit fs rows → (IsFault e → RowsFit fs rows → ⊥)
+    → (e ≡ Limit → (all : List ValueTrees) → AreRowTexts fs texts all → IsOutOfRange o ⊎ IsTooMuch fs o all) → IsLinesRefusal fs o texts e
+stopped_by_rows fs o texts Limit rows fit only limit = limit refl
+stopped_by_rows fs o texts Memory rows fit only limit = tt
+stopped_by_rows fs o texts e rows fit only limit = absurd (only tt fit)
+
+-- the rows of the lines so far are too much, whatever comes after them
+pub too_much_so_far : (fs : Fields) (o : WriteOptions) (yielded : List (Bor (List ℕ))) (texts : List (List ℕ)) (writer : FileWriter) (reads : Fields) → map (λ t. t.now) yielded ≡ take (length yielded) texts
+    → HasRead fs o (map (λ t. t.now) yielded) reads writer → ((rows later : List ValueTrees) → has_rows writer rows → IsTooMuch (schema_of writer) (options_of writer) (rows ++ later))
+    → (all : List ValueTrees) → AreRowTexts fs texts all → IsOutOfRange o ⊎ IsTooMuch fs o all
+too_much_so_far fs o yielded texts writer reads so_far read much all also =
+    let begins = begin_with fs yielded texts read.rows all so_far read.told also in
+    let grown = read.rows ++ begins.0 in
+    inr (subst (IsTooMuch fs o) (sym begins.1)
+    (subst (λ (k : WriteOptions). IsTooMuch fs k grown) read.options
+    (subst (λ (t : Fields). IsTooMuch t (options_of writer) grown) read.schema (much read.rows begins.0 read.has))))
+
+-- all rows are too much
+pub too_much_at_end : (fs : Fields) (o : WriteOptions) (texts : List (List ℕ)) (writer : FileWriter) (rows : List ValueTrees) → AreRowTexts fs texts rows → has_rows writer rows → schema_of writer ≡ fs → options_of writer ≡ o
+    → ((rows : List ValueTrees) → has_rows writer rows → IsTooMuch (schema_of writer) (options_of writer) rows) → (all : List ValueTrees) → AreRowTexts fs texts all → IsOutOfRange o ⊎ IsTooMuch fs o all
+too_much_at_end fs o texts writer rows told has schema options much all also = inr (rw (same_rows fs texts rows all told also, ← schema, ← options) (much rows has))
+
+-- the file has the rows of the lines
+pub file_of_lines : (fs : Fields) (o : WriteOptions) (texts : List (List ℕ)) (writer : FileWriter) (r : Result (Vec ℕ Global) Refusal) (rows : List ValueTrees) → AreRowTexts fs texts rows → has_rows writer rows
+    → schema_of writer ≡ fs → options_of writer ≡ o
+    → IfOk r (λ file. (rows : List ValueTrees) → has_rows writer rows → FileMeans file.items (schema_of writer) rows)
+    → IfOk r (λ file. (rows : List ValueTrees) → has_rows writer rows → IsLaidOut (options_of writer) (schema_of writer) rows file.items)
+    → IfOk r (λ file. IsFileOfLines o fs texts file.items)
+file_of_lines fs o texts writer (Err e) rows told has schema options means laid = tt
+file_of_lines fs o texts writer (Ok file) rows told has schema options means laid = record {
+  rows = rows;
+  read = told;
+  means = rw (← schema) (means rows has);
+  laid_out = rw (← schema, ← options) (laid rows has);
+  in_range = subst (λ (k : WriteOptions). IsOutOfRange k → ⊥) options has.in_range;
+}
+
+-- what is refused at the end
+pub stopped_at_end : (fs : Fields) (o : WriteOptions) (texts : List (List ℕ)) (writer : FileWriter) (r : Result (Vec ℕ Global) Refusal) (rows : List ValueTrees) → AreRowTexts fs texts rows → has_rows writer rows
+    → schema_of writer ≡ fs → options_of writer ≡ o → RowsFit fs rows
+    → OnFault r ((rows : List ValueTrees) → has_rows writer rows → RowsFit (schema_of writer) rows → ⊥)
+    → (r ≡ Err Limit → (rows : List ValueTrees) → has_rows writer rows → IsTooMuch (schema_of writer) (options_of writer) rows)
+    → IfErr r (IsLinesRefusal fs o texts)
+stopped_at_end fs o texts writer (Ok file) rows told has schema options fit only limit = tt
+stopped_at_end fs o texts writer (Err e) rows told has schema options fit only limit =
+    stopped_by_rows fs o texts e rows fit (λ fault fits. only fault rows has (rw (schema) fits))
+    (λ is all also. too_much_at_end fs o texts writer rows told has schema options (limit (ap Err is)) all also)

@@ -1,0 +1,52 @@
+-- Calls of the program, by the words that they begin with.
+use Rattle.std.specs.Prelude.{◌≡◌, ℕ, Bool, List, [], ◌∷◌, Option, Some, None, String, string_bytes, codes, bytes_eq, if◌then◌else◌}
+use Rattle.std.specs.List.{list_any}
+use Rattle.row_group.specs.declared.options.Style.{Style}
+use Rattle.row_group.specs.declared.options.Style.TheVariants.{Plain, Dictionary, Delta, Lengths}
+use Rattle.footer.specs.declared.options.WriteOptions.{WriteOptions}
+use Rattle.program.specs.declared.arguments.Call.{Call}
+use Rattle.program.specs.declared.arguments.Call.TheVariants.{Decode, Encode, Inspect, Check}
+use Rattle.program.specs.Program.{WritesRowsOf, HaveFile, WritesCount, WritesReportOf}
+
+-- the first of the words
+abbrev pub first_word : {A : Type 0} → List (String A) → Option (List ℕ)
+first_word [] = None
+first_word (word ∷ words) = Some (string_bytes word)
+
+-- whether one of the words is this text
+abbrev pub has_word : {A : Type 0} → List ℕ → List (String A) → Bool
+has_word text words = list_any (λ word. bytes_eq (string_bytes word) text) words
+
+-- the word that a call begins with
+abbrev pub word_of : Call → List ℕ
+word_of (Decode file) = codes "decode"
+word_of (Encode sources file) = codes "encode"
+word_of (Inspect file as_json) = codes "inspect"
+word_of (Check sources) = codes "check"
+
+-- standard output got the lines of the rows of a file
+abbrev pub Decodes : Option (List ℕ) → Option (List ℕ) → Type 0
+Decodes old new = (bytes : List ℕ) × WritesRowsOf bytes old new
+
+-- standard output got what is said of a file
+abbrev pub Inspects : Option (List ℕ) → Option (List ℕ) → Type 0
+Inspects old new = (bytes : List ℕ) × WritesReportOf bytes old new
+
+-- what a call that is done does to standard output: `encode` writes nothing to it, and by its options some texts have a file
+abbrev pub Does : Call → Option (List ℕ) → Option (List ℕ) → Type 0
+Does (Decode file) old new = Decodes old new
+Does (Encode sources file) old new = (new ≡ old) × HaveFile sources.options
+Does (Inspect file as_json) old new = Inspects old new
+Does (Check sources) old new = WritesCount sources.options old new
+
+-- the same, by the first word
+pub data IsDone {A : Type 0} (words : List (String A)) (old new : Option (List ℕ)) : Type 0 where
+  decoded : first_word words ≡ Some (codes "decode") → Decodes old new → IsDone words old new
+  encoded : first_word words ≡ Some (codes "encode") → new ≡ old → IsDone words old new
+  inspected : first_word words ≡ Some (codes "inspect") → Inspects old new → IsDone words old new
+  checked : (options : WriteOptions) → first_word words ≡ Some (codes "check") → WritesCount options old new → IsDone words old new
+
+-- the style that an argument names; PLAIN where there is none
+abbrev pub style_named : Option (List ℕ) → Style
+style_named None = Plain
+style_named (Some s) = if bytes_eq s (codes "dictionary") then Dictionary else if bytes_eq s (codes "delta") then Delta else if bytes_eq s (codes "lengths") then Lengths else Plain

@@ -1,0 +1,4 @@
+-- Definitions for private functions only.
+pub mod Gathered
+pub mod Lines
+pub mod Names

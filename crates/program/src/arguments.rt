@@ -1,0 +1,262 @@
+//! The words that the program knows.
+
+ghost use Rattle.std.specs.Prelude.{◌≡◌, Some, IfSome, IfOk, codes, option_map};
+ghost use Rattle.clap.specs.Matches.{first_value, found_of};
+ghost use Rattle.program.specs.Words.{first_word, word_of, style_named};
+
+use crate::encode::Sources;
+use crate::help;
+use bits::{R, Refusal};
+use clap::error::ErrorKind;
+use clap::{Arg, ArgAction, ArgMatches, Command, Error, value_parser};
+use footer::WriteOptions;
+use row_group::Style;
+use std::alloc::Global;
+
+/// What the words ask for.
+#[derive(Drop)]
+pub enum Call<'a> {
+    /// Print the rows of a file.
+    Decode { file: &'a str },
+    /// Make a file.
+    Encode { sources: Sources<'a>, file: &'a str },
+    /// Say what a file is.
+    Inspect { file: &'a str, as_json: bool },
+    /// Say whether a file can be made.
+    Check { sources: Sources<'a> },
+}
+
+/// The words for the styles.
+static STYLES: [&str; 4] = ["plain", "dictionary", "delta", "lengths"];
+
+/// A file that must be named.
+fn file_named<'a>(alloc: Global, name: &'a str, help: &'a str) -> Arg<'a> {
+    Arg::new(alloc, name)
+        .required(true)
+        .action(ArgAction::Set)
+        .help(help)
+}
+
+/// The flag by which no progress is shown.
+fn quiet_flag<'a>(alloc: Global) -> Arg<'a> {
+    Arg::new(alloc, "quiet")
+        .long("quiet")
+        .action(ArgAction::SetTrue)
+        .help("Shows no progress where standard error is a terminal")
+}
+
+fn decode_command<'a>(alloc: Global) -> Result<Command<'a>, Error> {
+    let decode = Command::new(alloc, "decode")
+        .about(help::DECODE)
+        .long_about(help::DECODE_LONG)
+        .after_help(help::DECODE_REFUSALS)
+        .arg(file_named(alloc, "FILE", "The Parquet file to read"))?
+        .arg(quiet_flag(alloc))?;
+    Ok(decode)
+}
+
+/// The options of a command that writes files.
+fn with_options<'a>(alloc: Global, command: Command<'a>) -> Result<Command<'a>, Error> {
+    let group_rows = Arg::new(alloc, "group-rows")
+        .long("group-rows")
+        .value_name("N")
+        .value_parser(value_parser!(u32))
+        .default_value("131072")
+        .help("How many rows a row group has at most: 1 to 1048576");
+    let page_rows = Arg::new(alloc, "page-rows")
+        .long("page-rows")
+        .value_name("N")
+        .value_parser(value_parser!(u32))
+        .default_value("20000")
+        .help("How many rows a page has at most: 1 or more");
+    let page_version = Arg::new(alloc, "page-version")
+        .long("page-version")
+        .value_name("N")
+        .value_parser(value_parser!(u8))
+        .default_value("1")
+        .help("The version of the pages: 1 or 2");
+    let style = Arg::new(alloc, "style")
+        .long("style")
+        .value_name("STYLE")
+        .value_parser(STYLES.as_slice())
+        .default_value("plain")
+        .help("The encodings of the values");
+    let command = command
+        .arg(group_rows)?
+        .arg(page_rows)?
+        .arg(page_version)?
+        .arg(style)?;
+    Ok(command)
+}
+
+fn encode_command<'a>(alloc: Global) -> Result<Command<'a>, Error> {
+    let encode = Command::new(alloc, "encode")
+        .about(help::ENCODE)
+        .long_about(help::ENCODE_LONG)
+        .after_help(help::ENCODE_REFUSALS)
+        .arg(file_named(alloc, "SCHEMA", "The file with the columns, as JSON"))?
+        .arg(file_named(alloc, "ROWS", "The file with the rows, as lines of JSON"))?
+        .arg(file_named(alloc, "OUT", "The Parquet file to make"))?;
+    let encode = with_options(alloc, encode)?.arg(quiet_flag(alloc))?;
+    Ok(encode)
+}
+
+fn inspect_command<'a>(alloc: Global) -> Result<Command<'a>, Error> {
+    let json = Arg::new(alloc, "json")
+        .long("json")
+        .action(ArgAction::SetTrue)
+        .help("Prints one line of JSON in place of text");
+    let inspect = Command::new(alloc, "inspect")
+        .about(help::INSPECT)
+        .long_about(help::INSPECT_LONG)
+        .after_help(help::INSPECT_REFUSALS)
+        .arg(file_named(alloc, "FILE", "The Parquet file to look into"))?
+        .arg(json)?;
+    Ok(inspect)
+}
+
+fn check_command<'a>(alloc: Global) -> Result<Command<'a>, Error> {
+    let check = Command::new(alloc, "check")
+        .about(help::CHECK)
+        .long_about(help::CHECK_LONG)
+        .after_help(help::CHECK_REFUSALS)
+        .arg(file_named(alloc, "SCHEMA", "The file with the columns, as JSON"))?
+        .arg(file_named(alloc, "ROWS", "The file with the rows, as lines of JSON"))?;
+    Ok(check)
+}
+
+/// The program's commands.
+fn program<'a>(alloc: Global) -> Result<Command<'a>, Error> {
+    let program = Command::new(alloc, "pqds")
+        .about(help::ABOUT)
+        .version(help::VERSION)
+        .after_help(help::AFTER)
+        .no_binary_name(true)
+        .disable_help_subcommand(true)
+        .subcommand_required(true)
+        .arg_required_else_help(true)
+        .bin_name("pqds")?
+        .subcommand(decode_command(alloc)?)?
+        .subcommand(encode_command(alloc)?)?
+        .subcommand(inspect_command(alloc)?)?
+        .subcommand(check_command(alloc)?)?;
+    Ok(program)
+}
+
+/// The text of an error of the words, or Memory.
+fn error_text(alloc: Global, error: &Error) -> R<String> {
+    if error.kind() == ErrorKind::OutOfMemory {
+        return Err(Refusal::Memory);
+    }
+    let text = format!(in alloc; "{error}")?;
+    Ok(text)
+}
+
+/// The style that a word of [`STYLES`] says; `plain` where none is said.
+fn style_of(word: Option<&str>) -> Style
+    ensures { result ≡ style_named (option_map (λ text. text.now) word.entry) }
+{
+    match word {
+        Some("dictionary") => Style::Dictionary,
+        Some("delta") => Style::Delta,
+        Some("lengths") => Style::Lengths,
+        _ => Style::Plain,
+    }
+}
+
+/// How files are written, by the words.
+fn options_in(matches: &ArgMatches<'_>) -> WriteOptions
+    ensures { result.style ≡ style_named (first_value (found_of matches.now) (codes "style")) }
+{
+    let standard = WriteOptions::standard();
+    let group_rows = matches.get_one::<u32>("group-rows");
+    let page_rows = matches.get_one::<u32>("page-rows");
+    let page_version = matches.get_one::<u8>("page-version");
+    WriteOptions {
+        group_rows: group_rows.unwrap_or(standard.group_rows),
+        page_rows: page_rows.unwrap_or(standard.page_rows),
+        page_version: page_version.unwrap_or(standard.page_version),
+        style: style_of(matches.get_str("style")),
+    }
+}
+
+fn decode_call<'a>(matches: &ArgMatches<'a>) -> Option<Call<'a>>
+    ensures { IfSome result (λ call. word_of call ≡ codes "decode") }
+{
+    let file = matches.get_str("FILE")?;
+    Some(Call::Decode { file })
+}
+
+fn encode_call<'a>(matches: &ArgMatches<'a>) -> Option<Call<'a>>
+    ensures { IfSome result (λ call. word_of call ≡ codes "encode") }
+{
+    let schema = matches.get_str("SCHEMA")?;
+    let rows = matches.get_str("ROWS")?;
+    let file = matches.get_str("OUT")?;
+    let options = options_in(matches);
+    let sources = Sources {
+        schema,
+        rows,
+        options,
+    };
+    Some(Call::Encode { sources, file })
+}
+
+fn inspect_call<'a>(matches: &ArgMatches<'a>) -> Option<Call<'a>>
+    ensures { IfSome result (λ call. word_of call ≡ codes "inspect") }
+{
+    let file = matches.get_str("FILE")?;
+    let as_json = matches.get_flag("json");
+    Some(Call::Inspect { file, as_json })
+}
+
+fn check_call<'a>(matches: &ArgMatches<'a>) -> Option<Call<'a>>
+    ensures { IfSome result (λ call. word_of call ≡ codes "check") }
+{
+    let schema = matches.get_str("SCHEMA")?;
+    let rows = matches.get_str("ROWS")?;
+    let options = WriteOptions::standard();
+    let sources = Sources {
+        schema,
+        rows,
+        options,
+    };
+    Some(Call::Check { sources })
+}
+
+/// The call that the first word names, by what was found in the words.
+fn call_in<'a>(words: &[String], matches: &ArgMatches<'a>) -> Option<Call<'a>>
+    ensures { IfSome result (λ call. first_word words.now ≡ Some (word_of call)) }
+{
+    let word = words.first()?;
+    if word.as_str() == "decode" {
+        decode_call(matches.subcommand_matches("decode")?)
+    } else if word.as_str() == "encode" {
+        encode_call(matches.subcommand_matches("encode")?)
+    } else if word.as_str() == "inspect" {
+        inspect_call(matches.subcommand_matches("inspect")?)
+    } else if word.as_str() == "check" {
+        check_call(matches.subcommand_matches("check")?)
+    } else {
+        None
+    }
+}
+
+/// What the words ask for, or the text on the program's use, where they ask for nothing that it knows.
+pub fn call_of<'a>(alloc: Global, words: &'a [String]) -> R<Result<Call<'a>, String>>
+    ensures first { IfOk result (λ said. IfOk said (λ call. first_word words.now ≡ Some (word_of call))) }
+{
+    let program = match program(alloc) {
+        Ok(program) => program,
+        Err(_) => return Err(Refusal::Memory),
+    };
+    let matches = match program.try_get_matches_from(words) {
+        Ok(matches) => matches,
+        Err(error) => return Ok(Err(error_text(alloc, &error)?)),
+    };
+    match call_in(words, &matches) {
+        Some(call) => Ok(Ok(call)),
+        // The files are required, so that this does not come.
+        None => Ok(Err(String::new(alloc))),
+    }
+}

@@ -1,0 +1,123 @@
+//! All of the program, over two writers.
+
+ghost use Rattle.std.specs.Prelude.{◌≡◌, ◌≤◌, Some, false, true, OnOk, codes};
+ghost use Rattle.program.specs.Words.{first_word, word_of, has_word, Does, IsDone};
+
+use crate::arguments::{Call, call_of};
+use crate::check::check;
+use crate::decode::decode;
+use crate::encode::encode;
+use crate::host::bytes_of;
+use crate::inspect::inspect;
+use crate::one_line::OneLine;
+use crate::progress::Terminals;
+use bits::{R, Refusal};
+use std::alloc::Global;
+use std::fmt::Write as _;
+use std::io::Write;
+use std::rt::Files;
+
+/// The program did what it was called for.
+const DONE: u8 = 0;
+/// The call was refused.
+const REFUSED: u8 = 1;
+/// The words are no call, or ask for help.
+const USAGE: u8 = 2;
+
+/// Says why a call was refused, in one line, whatever the names of columns have in them, and returns the
+/// status of that. Where that line cannot be written nothing is left to be said.
+pub fn refuse<E: Write>(err: &mut E, refusal: &Refusal) -> u8
+    ensures { result ≡ 1 }
+{
+    let mut line = OneLine(err);
+    if write!(line, "refused {refusal}").is_ok() {
+        let _ = err.write_all(b"\n");
+    }
+    REFUSED
+}
+
+/// Whether the arguments ask that no progress is shown.
+fn are_quiet(words: &[String]) -> bool
+    ensures { result ≡ has_word (codes "--quiet") words.now }
+{
+    words.iter().any(|word| word.as_str() == "--quiet")
+}
+
+/// The terminals on which these arguments let progress be shown: standard error only where they are not quiet.
+fn terminals_for(words: &[String], terminals: Terminals) -> Terminals
+    ensures unseen { terminals.err ≡ false → result.err ≡ false }
+    ensures silenced { has_word (codes "--quiet") words.now ≡ true → result.err ≡ false }
+{
+    let quiet = are_quiet(words);
+    Terminals {
+        out: terminals.out,
+        err: if quiet { false } else { terminals.err },
+    }
+}
+
+/// Makes the call. Progress is shown where `err` is a terminal; of lines that go to a terminal too, none.
+fn make<F: Files, W: Write, E: Write>(
+    rt: &F,
+    alloc: Global,
+    call: &Call<'_>,
+    out: &mut W,
+    err: &mut E,
+    terminals: Terminals,
+) -> R<()>
+    ensures done { OnOk result (Does call.now (W.contents out.old) (W.contents out.new)) }
+    ensures silent { word_of call.now ≡ codes "encode" → W.contents out.new ≡ W.contents out.old }
+    ensures quiet { terminals.err ≡ false → OnOk result (E.contents err.new ≡ E.contents err.old) }
+{
+    match call {
+        Call::Decode { file } => {
+            let bytes = bytes_of(rt, alloc, file)?;
+            let shows = terminals.shows_beside_output();
+            decode(alloc, bytes.as_slice(), out, err, shows)
+        }
+        Call::Encode { sources, file } => encode(rt, alloc, sources, file, err, terminals.err),
+        Call::Inspect { file, as_json } => {
+            let bytes = bytes_of(rt, alloc, file)?;
+            inspect(alloc, bytes.as_slice(), *as_json, out)
+        }
+        Call::Check { sources } => check(rt, alloc, sources, out, err),
+    }
+}
+
+/// What the program does for these arguments, which begin after its name; returns its status.
+///
+/// Status 0: done, and `out` has what was asked for; of `encode` it has nothing, and the new file is there.
+/// Status 1: refused, with one line on `err`, such as `refused 6 Float a.b`, before which `check` says why; `out`
+/// has nothing new where the file itself was refused, and no file was made. Status 2: the arguments are no call of
+/// the program, or ask for help, and `err` has the text on its use.
+///
+/// `terminals` says which of both are terminals. Where `err` is one, and `--quiet` is not among the arguments, `decode`
+/// and `encode` show on it how many rows they have dealt with, and take that away again at the end.
+pub fn work<F: Files, W: Write, E: Write>(
+    rt: &F,
+    alloc: Global,
+    words: &[String],
+    out: &mut W,
+    err: &mut E,
+    terminals: Terminals,
+) -> u8
+    ensures status { result ≤ 2 }
+    ensures done { result ≡ 0 → IsDone words.now (W.contents out.old) (W.contents out.new) }
+    ensures silent { first_word words.now ≡ Some (codes "encode") → W.contents out.new ≡ W.contents out.old }
+    ensures quiet { terminals.err ≡ false → result ≡ 0 → E.contents err.new ≡ E.contents err.old }
+    ensures silenced { has_word (codes "--quiet") words.now ≡ true → result ≡ 0 → E.contents err.new ≡ E.contents err.old }
+    ensures usage { result ≡ 2 → W.contents out.new ≡ W.contents out.old }
+{
+    let call = match call_of(alloc, words) {
+        Ok(Ok(call)) => call,
+        Ok(Err(text)) => {
+            let _ = err.write_all(text.as_bytes());
+            return USAGE;
+        }
+        Err(refusal) => return refuse(err, &refusal),
+    };
+    let terminals = terminals_for(words, terminals);
+    match make(rt, alloc, &call, out, err, terminals) {
+        Ok(()) => DONE,
+        Err(refusal) => refuse(err, &refusal),
+    }
+}

@@ -1,0 +1,141 @@
+//! Texts to files.
+
+ghost use Rattle.std.specs.Prelude.{◌≡◌, List, false, IfOk, IfErr, OnOk, IsTrue};
+ghost use Rattle.std.specs.Str.Lines.{lines};
+ghost use Rattle.bits.specs.Refusals.{RefusedOnly};
+ghost use Rattle.schema.specs.Fits.{fits_each};
+ghost use Rattle.schema.specs.Values.{ValueTrees};
+ghost use Rattle.schema.specs.Views.{row_view};
+ghost use Rattle.jsonrows.specs.Reader.{schema_of as fields_of};
+ghost use Rattle.program.specs.Program.{IsRowText, IsRefusedLine, AreRowTexts, HasFirstFault, IsFileOf, HaveFile, AreRefusedTexts, AreRefusedFiles};
+ghost use Rattle.program.specs.inner.Lines.{IsFileOfLines, IsLinesRefusal};
+
+use crate::host::{put_new, text_of, whole_of};
+use crate::progress::Progress;
+use bits::{R, Refusal};
+use footer::{FileWriter, WriteOptions};
+use jsonrows::{Reader, schema_from};
+use schema::{Row, Schema};
+use std::alloc::Global;
+use std::io::Write;
+use std::rt::Files;
+
+/// What a file is made from: the paths of both texts, and how it is written.
+#[derive(Clone, Copy)]
+pub struct Sources<'a> {
+    pub schema: &'a str,
+    pub rows: &'a str,
+    pub options: WriteOptions,
+}
+
+/// The row of a line. Refused as `row_from` refuses the line.
+fn read_row(reader: &mut Reader<'_>, line: &str) -> R<Row>
+    ensures stands { IfOk result (λ row. IsRowText (fields_of reader.old) line.now (row_view row)) }
+    ensures fits { IfOk result (λ row. IsTrue (fits_each (fields_of reader.old) (row_view row))) }
+    ensures which { RefusedOnly (IsRefusedLine (fields_of reader.old) line.now) result }
+    ensures same { fields_of reader.new ≡ fields_of reader.old }
+{
+    reader.read(line)
+}
+
+/// The bytes of a file of the rows of a text, one of each line. Refused as `row_from` refuses the first line that
+/// is no row, or Limit where the rows before it are too much for a file. Later lines are then not read. Each row
+/// is counted.
+fn written<E: Write>(
+    alloc: Global,
+    schema: &Schema,
+    options: &WriteOptions,
+    text: &str,
+    err: &mut E,
+    progress: &mut Progress,
+) -> R<Vec<u8>>
+    ensures stands { IfOk result (λ file. IsFileOfLines options.now schema.now (lines text.now) file.items) }
+    ensures which { IfErr result (IsLinesRefusal schema.now options.now (lines text.now)) }
+    ensures quiet { progress.old.is_shown ≡ false → E.contents err.new ≡ E.contents err.old }
+    ensures same { progress.new.is_shown ≡ progress.old.is_shown }
+{
+    let mut reader = Reader::new(alloc, schema)?;
+    let mut writer = FileWriter::new(alloc, schema, options)?;
+    for line in text.lines() {
+        let row = read_row(&mut reader, line)?;
+        writer.push(row)?;
+        progress.count_row(err);
+    }
+    writer.finish()
+}
+
+/// Reads the rows of a text, one of each line, and keeps none. Refused as the first line is that is no row.
+fn check_lines(alloc: Global, schema: &Schema, text: &str) -> R<()>
+    ensures stands { OnOk result ((rows : List ValueTrees) × AreRowTexts schema.now (lines text.now) rows) }
+    ensures which { RefusedOnly (HasFirstFault schema.now (lines text.now)) result }
+{
+    let mut reader = Reader::new(alloc, schema)?;
+    for line in text.lines() {
+        read_row(&mut reader, line)?;
+    }
+    Ok(())
+}
+
+/// The bytes of a file that means, in the schema of one text, the rows of the other, one for each line (an
+/// empty line is no row; a last line needs no line feed), laid out as the options say.
+///
+/// Refused as `schema_from` refuses the schema, or else as `row_from` does the first line that is no row, or
+/// else as `write_file` refuses the rows. Time is linear in the texts. Memory is that of the texts, of the file, and
+/// of the rows of one group. Where `shows` says so, `err` shows how many rows were read so far.
+pub fn encoded<E: Write>(
+    alloc: Global,
+    schema_text: &str,
+    rows_text: &str,
+    options: &WriteOptions,
+    err: &mut E,
+    shows: bool,
+) -> R<Vec<u8>>
+    ensures stands { IfOk result (λ file. IsFileOf options.now schema_text.now rows_text.now file.items) }
+    ensures which { IfErr result (AreRefusedTexts options.now schema_text.now rows_text.now) }
+    ensures quiet { shows ≡ false → E.contents err.new ≡ E.contents err.old }
+{
+    let schema = schema_from(alloc, schema_text)?;
+    let mut progress = Progress::new(alloc, "read", None, shows);
+    let made = written(alloc, &schema, options, rows_text, err, &mut progress);
+    progress.clear(err);
+    match made {
+        Ok(file) => Ok(file),
+        Err(Refusal::Limit) => {
+            // A line that is no row is refused before rows that are too much for a file.
+            check_lines(alloc, &schema, rows_text)?;
+            Err(Refusal::Limit)
+        }
+        Err(refusal) => Err(refusal),
+    }
+}
+
+/// Makes the file at `path` of the texts. The bytes of both files are read before either is looked at, and
+/// the new file is begun when all of its bytes are there. Refused Device where a file cannot be read, Script
+/// where it is not UTF-8, as `encoded` refuses the texts, or as `put_new` refuses the path; then no file is
+/// made. Where `shows` says so, `err` shows how many rows were read so far.
+pub fn encode<F: Files, E: Write>(
+    rt: &F,
+    alloc: Global,
+    sources: &Sources<'_>,
+    path: &str,
+    err: &mut E,
+    shows: bool,
+) -> R<()>
+    ensures options { OnOk result (HaveFile sources.now.options) }
+    ensures which { RefusedOnly (AreRefusedFiles sources.now.options) result }
+    ensures quiet { shows ≡ false → E.contents err.new ≡ E.contents err.old }
+{
+    let schema_bytes = whole_of(rt, alloc, sources.schema)?;
+    let rows_bytes = whole_of(rt, alloc, sources.rows)?;
+    let schema_text = text_of(schema_bytes)?;
+    let rows_text = text_of(rows_bytes)?;
+    let file = encoded(
+        alloc,
+        schema_text.as_str(),
+        rows_text.as_str(),
+        &sources.options,
+        err,
+        shows,
+    )?;
+    put_new(rt, alloc, path, file.as_slice())
+}

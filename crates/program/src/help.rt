@@ -1,0 +1,219 @@
+//! The texts on the program's use.
+
+pub const ABOUT: &str =
+    "Reads Parquet files and prints their rows as JSON, and makes such files of JSON";
+
+/// The version, and the logic of the checker that it is proved with.
+pub const VERSION: &str = "0.1.0, proved with rattle-kit-13b logic dac8208d650f15bf";
+
+pub const AFTER: &str = "\
+Returns status 0 when all was done, and 1 when the call was refused: then the last line on standard error is
+`refused`, a number, a name, and for 6 and 7 the column. Status 2 is a wrong call, or a call for this help or the
+version, which are printed on standard error too.
+
+Example, at the top of the repository:
+
+    ./pqds encode sample/two_rows.schema.json sample/two_rows.jsonl two_rows.parquet
+    ./pqds decode two_rows.parquet
+
+makes a file of two rows, and prints them:
+
+    {\"x\":1}
+    {\"x\":300}";
+
+pub const DECODE: &str = "Prints each row of a Parquet file as a line of JSON";
+
+pub const DECODE_LONG: &str = "\
+Prints each row of a Parquet file as a line of JSON: an object by the names of the columns, in the byte order of
+the names. Numbers are printed as they are (unsigned ones unsigned), booleans as true and false, text as text, and
+other bytes as hexadecimal digits in lower case.
+
+The file is read whole, and no line is printed before all of it was accepted. Standard output has the lines and
+nothing else. Where its reader closes it early, as head does, the call ends with `refused 25 Device` and status 1.
+
+Where standard error is a terminal and standard output is not, standard error shows after each 100000 rows how many
+were printed; at the end that is removed. With --quiet it is not shown.
+
+There are no FLOAT, DOUBLE, FLOAT16 or INT96 columns: their values have no order that all tools share. An annotation
+over a type that it is not meant for is kept without meaning, and ranges are not checked: an int_8 column takes any
+INT32.";
+
+pub const DECODE_REFUSALS: &str = "\
+The file is refused, with status 1 and one line on standard error, by one of these:
+
+    1 Truncated    the bytes end before what they announce, or are fewer than 12
+    2 Magic        the first or the last four bytes are not PAR1
+    3 Thrift       a footer or a page header is no struct of the wanted shape
+    4 Schema       the columns are no valid tree, or a column chunk disagrees with them
+    5 Codec        a column chunk is compressed
+    6 Float        a FLOAT, DOUBLE or FLOAT16 column, whose path follows
+    7 Int96        an INT96 column, whose path follows
+    8 Encoding     an encoding that is not known, or not for this type or place
+    9 Page         a page or chunk whose sizes, offsets or counts cannot be
+    10 Levels      no rows have the columns' levels, or not as many as the row group says
+    11 Value       bytes that are no value in their encoding
+    12 Utf8        text that is not UTF-8
+    13 Limit       the file goes beyond a limit: 2147483647 bytes, a footer of 16 MiB, 1024 columns, 32 fields on
+                   the path of one, 16777216 rows of a group or entries of a column in it, a value of 16 MiB
+    25 Device      the file cannot be read, or standard output not be written
+    28 Memory      there was no memory left
+
+Example, at the top of the repository:
+
+    ./pqds decode sample/two_rows.parquet
+
+prints
+
+    {\"x\":1}
+    {\"x\":300}";
+
+pub const ENCODE: &str = "Makes a Parquet file of rows that are lines of JSON";
+
+pub const ENCODE_LONG: &str = "\
+Makes a Parquet file of rows that are lines of JSON, in the columns of a schema.
+
+SCHEMA is a file with a JSON array of the columns, each an object:
+
+    name       the column's name
+    rep        required, optional or repeated
+    type       boolean, int32, int64, bytes, or fixed with its length in bytes as length
+    note       where it is there: what the values are. Of bytes utf8 (text), enum, json, bson; of numbers int_8,
+               int_16, int_32, int_64, uint_8, uint_16, uint_32, uint_64, date, time_millis, time_micros,
+               timestamp_millis, timestamp_micros; interval; decimal, with members precision and scale; of a
+               group list, map or map_key_value. Or other, with the number of another ConvertedType as
+               converted, or the hexadecimal digits of the struct of a LogicalType as logical
+    fields     in place of type: the columns of a group
+
+ROWS is a file with a line of JSON for each row, as decode prints them: an object with a value for each column by
+its name, text where the column is text, and other bytes as hexadecimal digits in lower case. The last line needs
+no line feed; an empty line is no row, and is refused.
+
+OUT is a new file, and no file is ever replaced. It appears whole, or not at all: it is made under another name and
+then called OUT by a link. Only where that link fails is it written under its own name, and if the machine crashes
+meanwhile, a part of it may be left there. Both other files are read whole first, and nothing is made where anything
+is refused. Standard output has nothing. Where standard error is a terminal, it shows after each 100000 rows how many
+were read; at the end that is removed. With --quiet it is not shown.
+
+A style is how the values of a column are encoded:
+
+    plain       as they are
+    dictionary  each different value once, and its index in each row. Booleans are plain, and so is a column with
+                more than 65536 different values in a row group
+    delta       numbers by their differences, bytes by what each has in common with the one before it, and booleans
+                by runs
+    lengths     as delta, but bytes by their lengths and then all of them, and those of a fixed length plain";
+
+pub const ENCODE_REFUSALS: &str = "\
+The call is refused, with status 1 and one line on standard error, by the first of these that is found: first what
+is wrong with the files (SCHEMA before ROWS), then with their JSON (SCHEMA before ROWS, the first line before the
+others), then with the rows as a whole, and last with OUT.
+
+    4 Schema       the columns are no valid tree: two of one name, none at all, a length that cannot be
+    6 Float        a column that is noted as FLOAT16, whose path follows
+    13 Limit       an option out of its range (--group-rows 1 to 1048576, --page-rows 1 or more, --page-version 1
+                   or 2), more than 1024 columns, more than 32 fields on the path of one, a value of more than
+                   16 MiB, more than 16777216 entries of a column in a row group, or too much for a file of
+                   2147483647 bytes or its footer of 16 MiB
+    14 RowShape    a row without a required column, with a member that is no column, or with a value that is not of
+                   its column
+    24 Exists      OUT is there already; it is left as it is
+    25 Device      SCHEMA or ROWS cannot be read, or OUT not be made
+    28 Memory      there was no memory left
+    29 Script      SCHEMA, or a line of ROWS, is not JSON of this form, or not UTF-8
+
+Example, at the top of the repository:
+
+    ./pqds encode sample/two_rows.schema.json sample/two_rows.jsonl two_rows.parquet
+
+where sample/two_rows.schema.json is
+
+    [{\"name\":\"x\",\"rep\":\"required\",\"type\":\"int64\"}]
+
+and sample/two_rows.jsonl is
+
+    {\"x\":1}
+    {\"x\":300}";
+
+pub const INSPECT: &str = "Says what a Parquet file is, by its footer and its page headers";
+
+pub const INSPECT_LONG: &str = "\
+Says what a Parquet file is: its rows, row groups, writer and key-values; its schema as a tree; of each column chunk
+its type, codec, encodings, entries, sizes, offsets, statistics and pages; and what decode refuses of it, as far as
+the footer and the page headers show that.
+
+Only the footer and the page headers are read, and no value: what a file says of itself, its statistics too, is shown
+unchecked, and decode may refuse a file in which nothing is found. At most 100000 pages are listed of a file, and 100
+of the places that decode refuses. The bounds of statistics are shown as decode prints values; those of a column that
+decode does not read, as hexadecimal digits. Of the two kinds of bounds the deprecated ones are shown only where the
+others are missing. Names that are not UTF-8 are shown with replacement characters.
+
+With --json the same is one line of JSON: an object with bytes, footer_bytes, version, rows, created_by, key_values,
+schema (each element with its depth), groups (each with chunks, and these with pages) and not_read.";
+
+pub const INSPECT_REFUSALS: &str = "\
+The file is refused, with status 1 and one line on standard error, where its footer cannot be read:
+
+    1 Truncated    the bytes end before what they announce, or are fewer than 12
+    2 Magic        the first or the last four bytes are not PAR1
+    3 Thrift       the footer is no struct of the wanted shape
+    13 Limit       the file has more than 2147483647 bytes, or its footer more than 16 MiB
+    25 Device      the file cannot be read, or standard output not be written
+    28 Memory      there was no memory left
+
+Example, at the top of the repository:
+
+    ./pqds inspect sample/two_rows.parquet
+
+prints
+
+    140 bytes, of which the footer has 95
+    rows: 2, in row groups: 1
+    written by: pqds
+
+    schema
+      required INT64 x
+
+    row group 0: rows 2, 33 bytes
+      column x: INT64, UNCOMPRESSED, entries 2
+        33 bytes, 33 uncompressed; encodings PLAIN, RLE
+        no dictionary, data pages from 4
+        statistics: min 1, max 300, nulls 0, distinct values unknown
+        page at 4: DATA_PAGE, PLAIN, entries 2, 17 + 16 bytes
+
+    decode refuses nothing of the footer and of the page headers";
+
+pub const CHECK: &str = "Says whether rows are of a schema, and where they are not";
+
+pub const CHECK_LONG: &str = "\
+Says whether encode makes a file of these rows, with its default options, and why not where it does not. Nothing is
+made. SCHEMA and ROWS are as for encode.
+
+Prints `ok N rows` where it does. Else standard error has a line that says where the first fault is, what was
+expected there and what was found, and then the line by which encode refuses the same files:
+
+    ROWS:7: a.list[2].b: expected true or false, found 3
+    refused 14 RowShape
+
+The time and the memory are those of encode.";
+
+pub const CHECK_REFUSALS: &str = "\
+The files are refused, with status 1, as encode refuses them, but for 24:
+
+    4 Schema       the columns are no valid tree: two of one name, none at all, a length that cannot be
+    6 Float        a column that is noted as FLOAT16, whose path follows
+    13 Limit       more than 1024 columns, more than 32 fields on the path of one, a value of more than 16 MiB, more
+                   than 16777216 entries of a column in a row group, or too much for a file of 2147483647 bytes or
+                   its footer of 16 MiB
+    14 RowShape    a row without a required column, with a member that is no column, or with a value that is not of
+                   its column
+    25 Device      SCHEMA or ROWS cannot be read, or standard output not be written
+    28 Memory      there was no memory left
+    29 Script      SCHEMA, or a line of ROWS, is not JSON of this form, or not UTF-8
+
+Example, at the top of the repository:
+
+    ./pqds check sample/two_rows.schema.json sample/two_rows.jsonl
+
+prints
+
+    ok 2 rows";

@@ -1,0 +1,32 @@
+//! The parts of the program `pqds`, as a library, so that its tests do not prove it a second time.
+//!
+//! [`work`] is all of the program, over two writers; `pqds` hands it the arguments. `specs/Program.antt` and
+//! `specs/Words.antt` say what a call does. The JSON forms of rows and schemas are those of the crate `jsonrows`.
+#![tactic(auto)]
+
+mod arguments;
+mod calls;
+mod check;
+mod decode;
+mod encode;
+mod explain;
+mod explain_schema;
+mod help;
+mod host;
+mod inspect;
+mod inspect_chunks;
+mod inspect_names;
+mod inspect_pages;
+mod inspect_problems;
+mod inspect_report;
+mod inspect_schema;
+mod inspect_statistics;
+mod inspect_text;
+mod one_line;
+mod progress;
+
+pub use arguments::{Call, call_of};
+pub use calls::{refuse, work};
+pub use encode::Sources;
+pub use host::{OUTPUT_BUFFER_BYTES, put_new, refusal_of, text_of};
+pub use progress::Terminals;
