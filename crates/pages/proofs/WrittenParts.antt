@@ -83,3 +83,10 @@ data_page leaf head parts sizes size old mid new again sized small few p joined 
       small = omega (arith, long, small);
       few = few;
     }
+
+-- a page is little longer than the greatest body
+pub page_size : (leaf : Leaf) (head : DataPageHead) (r d text old new : List ℕ) → IsDataPage leaf head r d text old new → length new ≤ length old + 2147484671
+page_size leaf head r d text old new p =
+    let joined : length new ≡ length old + length p.stands.text = ap length p.stands.joined ∙ length-append old p.stands.text in
+    let body = length-body head.version leaf r d text in
+    omega (arith, joined, p.stands.short, p.small, body)
