@@ -6,3 +6,4 @@ pub mod Fill
 pub mod Slots
 pub mod Levels
 pub mod Opening
+pub mod Lines
