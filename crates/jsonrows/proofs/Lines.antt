@@ -17,6 +17,7 @@ content_taken text x at count end is long short plain =
     let r = drop at text in
     let n = end - at in
     let cut : x ≡ take n r = is in
-    let back : end ≡ at + n = omega (arith, long) in
-    (taken text x at n end back (sym (take-append-drop n r) ∙ ap (λ y. y ++ drop n r) (sym cut)),
-     escape_on_plain true x (λ k p q. ap (λ y. is_plain (get_or y k 0)) cut ∙ ap is_plain (get_or-take n r k 0 (omega (arith, q, long))) ∙ plain k p (omega (arith, q, long, short))))
+    let back : end ≡ at + n = omega (arith, long) in (
+      taken text x at n end back (sym (take-append-drop n r) ∙ ap (λ y. y ++ drop n r) (sym cut)),
+      escape_on_plain true x (λ k p q. ap (λ y. is_plain (get_or y k 0)) cut ∙ ap is_plain (get_or-take n r k 0 (omega (arith, q, long))) ∙ plain k p (omega (arith, q, long, short))),
+    )

@@ -13,7 +13,7 @@ use Rattle.schema.specs.Values.{ValueTree, boolean, integer, bytes}
 use Rattle.schema.specs.Fits.{fits_kind, is_valid_text, fits_leaf}
 use Rattle.jsonrows.specs.Json.{number_json, leaf_json}
 use Rattle.jsonrows.specs.Reading.{bytes_of_digits, bytes_read, leaf_read}
-use Rattle.jsonrows.specs.declared.line.Line.{Line}
+use Rattle.jsonrows.specs.declared.cursor.Cursor.{Cursor}
 use Rattle.jsonrows.specs.inner.Lines.{Takes, IsShown}
 use Rattle.jsonrows.proofs.RowOrder.{and_true}
 

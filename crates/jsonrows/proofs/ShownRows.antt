@@ -20,7 +20,7 @@ use Rattle.schema.specs.Views.{leaf_type_view, field_view, field_views}
 use Rattle.schema.specs.Fits.{fits_kind, fits_leaf, fits_as, is_group, fits, fits_each, fits_inside}
 use Rattle.schema.proofs.Seen.{view-Leaf, view-Group}
 use Rattle.jsonrows.specs.Json.{leaf_json, items_json, json_as, object_json, inside_json, field_json, members_json, row_text}
-use Rattle.jsonrows.specs.declared.line.Line.{Line}
+use Rattle.jsonrows.specs.declared.cursor.Cursor.{Cursor}
 use Rattle.jsonrows.specs.declared.row_plan.Slot.{Slot as CodeSlot, the_lemmas as of_slots}
 use Rattle.jsonrows.specs.declared.row_plan.Slot.TheVariants.{Group as SlotGroup}
 use Rattle.jsonrows.specs.inner.Lines.{rest_of, Takes, IsShown, with_comma, members_shown}
@@ -57,11 +57,11 @@ group_slots f n r a fs s k ss o is at same =
 
 -- ---- one value
 
-pub leaf_shown : {E : Type 0} (f : CodeField) (n : String Global) (r : Repetition) (t : CodeLeafType) (old new : Line) (answer : Result CodeValue E) → f ≡ Leaf n r t
+pub leaf_shown : {E : Type 0} (f : CodeField) (n : String Global) (r : Repetition) (t : CodeLeafType) (old new : Cursor) (answer : Result CodeValue E) → f ≡ Leaf n r t
     → IfOk answer (λ v. IsShown (fits_leaf (leaf_type_view t)) (leaf_json (leaf_type_view t)) old (view v) new) → IfOk answer (λ v. IsShown (fits_inside (field_view f)) (inside_json (field_view f)) old (view v) new)
 leaf_shown f n r t old new answer is = IfOk-weaker answer _ _ (λ v h. subst (λ x. IsShown (fits_inside x) (inside_json x) old (view v) new) (sym (ap field_view is ∙ view-Leaf n r t)) h)
 
-pub group_shown : (f : CodeField) (n : String Global) (r : Repetition) (a : Option GroupAnnotation) (fs : Vec CodeField Global) (xs : List CodeField) (vs : Vec CodeValue Global) (old new : Line) → f ≡ Group n r a fs → xs ≡ fs.items
+pub group_shown : (f : CodeField) (n : String Global) (r : Repetition) (a : Option GroupAnnotation) (fs : Vec CodeField Global) (xs : List CodeField) (vs : Vec CodeValue Global) (old new : Cursor) → f ≡ Group n r a fs → xs ≡ fs.items
     → fits_each (field_views xs) (views vs.items) ≡ true → Takes old new (row_text (field_views xs) (views vs.items)) → IsShown (fits_inside (field_view f)) (inside_json (field_view f)) old (view (GroupOf vs)) new
 group_shown f n r a fs xs vs old new is same fit shown =
     let there = sym (ap field_view is ∙ view-Group n r a fs) in
@@ -76,11 +76,11 @@ no_null Int64 h = true≢false (sym h)
 no_null ByteArray h = true≢false (sym h)
 no_null (FixedLenByteArray n) h = true≢false (sym h)
 
-pub required_shown : (f : Field) (v : ValueTree) (old new : Line) → repetition_of f ≡ Required → IsShown (fits_inside f) (inside_json f) old v new → IsShown (fits f) (field_json f) old v new
+pub required_shown : (f : Field) (v : ValueTree) (old new : Cursor) → repetition_of f ≡ Required → IsShown (fits_inside f) (inside_json f) old v new → IsShown (fits f) (field_json f) old v new
 required_shown (leaf n r t) v old new is h = subst (λ x. IsShown (fits_as x (fits_leaf t)) (json_as x (leaf_json t)) old v new) (sym is) h
 required_shown (fields n r a fs) v old new is h = subst (λ x. IsShown (fits_as x (is_group (fits_each fs))) (json_as x (object_json (members_json fs))) old v new) (sym is) h
 
-one_shown : (passes : ValueTree → Bool) (shown : ValueTree → Data) (v : ValueTree) (old new : Line) → (passes null ≡ true → ⊥) → IsShown passes shown old v new → IsShown (fits_as Optional passes) (json_as Optional shown) old v new
+one_shown : (passes : ValueTree → Bool) (shown : ValueTree → Data) (v : ValueTree) (old new : Cursor) → (passes null ≡ true → ⊥) → IsShown passes shown old v new → IsShown (fits_as Optional passes) (json_as Optional shown) old v new
 one_shown passes shown null old new none h = absurd (none h.0)
 one_shown passes shown (boolean b) old new none h = h
 one_shown passes shown (integer z) old new none h = h
@@ -88,17 +88,17 @@ one_shown passes shown (bytes s) old new none h = h
 one_shown passes shown (group vs) old new none h = h
 one_shown passes shown (list vs) old new none h = h
 
-pub optional_shown : (f : Field) (v : ValueTree) (old new : Line) → repetition_of f ≡ Optional → IsShown (fits_inside f) (inside_json f) old v new → IsShown (fits f) (field_json f) old v new
+pub optional_shown : (f : Field) (v : ValueTree) (old new : Cursor) → repetition_of f ≡ Optional → IsShown (fits_inside f) (inside_json f) old v new → IsShown (fits f) (field_json f) old v new
 optional_shown (leaf n r t) v old new is h =
     subst (λ x. IsShown (fits_as x (fits_leaf t)) (json_as x (leaf_json t)) old v new) (sym is) (one_shown (fits_leaf t) (leaf_json t) v old new (λ e. no_null t.kind (and_true (fits_kind t.kind null) _ e).0) h)
 optional_shown (fields n r a fs) v old new is h =
     subst (λ x. IsShown (fits_as x (is_group (fits_each fs))) (json_as x (object_json (members_json fs))) old v new) (sym is) (one_shown (is_group (fits_each fs)) (object_json (members_json fs)) v old new (λ e. true≢false (sym e)) h)
 
-pub null_shown : (f : Field) (old new : Line) → repetition_of f ≡ Optional → Takes old new (compact_text json.null) → IsShown (fits f) (field_json f) old null new
+pub null_shown : (f : Field) (old new : Cursor) → repetition_of f ≡ Optional → Takes old new (compact_text json.null) → IsShown (fits f) (field_json f) old null new
 null_shown (leaf n r t) old new is h = subst (λ x. IsShown (fits_as x (fits_leaf t)) (json_as x (leaf_json t)) old null new) (sym is) (refl, h)
 null_shown (fields n r a fs) old new is h = subst (λ x. IsShown (fits_as x (is_group (fits_each fs))) (json_as x (object_json (members_json fs))) old null new) (sym is) (refl, h)
 
-pub list_shown : (f : Field) (vs : ValueTrees) (old mid new : Line) → repetition_of f ≡ Repeated → Takes old mid (91 ∷ []) → each (fits_inside f) vs ≡ true → Takes mid new (items_text false (items_json (inside_json f) vs))
+pub list_shown : (f : Field) (vs : ValueTrees) (old mid new : Cursor) → repetition_of f ≡ Repeated → Takes old mid (91 ∷ []) → each (fits_inside f) vs ≡ true → Takes mid new (items_text false (items_json (inside_json f) vs))
     → IsShown (fits f) (field_json f) old (list vs) new
 list_shown (leaf n r t) vs old mid new is opened fit h =
     subst (λ x. IsShown (fits_as x (fits_leaf t)) (json_as x (leaf_json t)) old (list vs) new) (sym is) (fit, opened ∙ ap (λ s. 91 ∷ s) h)
@@ -131,18 +131,21 @@ items_turn passes shown first rest mid new later values grown v so comma fit is 
       λ vs h.
           let one = so.2 (value (view v) vs) (both (passes (view v)) (each passes vs) fit h) in
           let joins = joined-push values v vs in
-          let more = items_text true (items_json shown vs) in
-          (ap (each passes) (sym joins) ∙ one.0,
-           ap (λ x. items_text false (items_json shown x)) (sym joins) ∙ one.1 ∙ ap (λ s. so.0 ++ s) (sym (append_assoc c t more)) ∙ sym (append_assoc so.0 p more))) in
+          let more = items_text true (items_json shown vs) in (
+            ap (each passes) (sym joins) ∙ one.0,
+            ap (λ x. items_text false (items_json shown x)) (sym joins) ∙ one.1 ∙ ap (λ s. so.0 ++ s) (sym (append_assoc c t more)) ∙ sym (append_assoc so.0 p more),
+          ),
+    ) in
     subst (ItemsGo passes shown first new true) (sym made) goes
 
 pub items_end : (passes : ValueTree → Bool) (shown : ValueTree → Data) (first rest new : List ℕ) (later : Bool) (values : List CodeValue) → ItemsGo passes shown first rest later values → rest ≡ 93 ∷ new
     → (each passes (views values) ≡ true) × (first ≡ items_text false (items_json shown (views values)) ++ new)
 items_end passes shown first rest new later values so closed =
     let all = so.2 no_values refl in
-    let whole = joined-none (views values) in
-    (ap (each passes) (sym whole) ∙ all.0,
-     so.1 ∙ ap (λ s. so.0 ++ s) closed ∙ sym (append_assoc so.0 (93 ∷ []) new) ∙ ap (λ s. s ++ new) (sym all.1 ∙ ap (λ x. items_text false (items_json shown x)) whole))
+    let whole = joined-none (views values) in (
+      ap (each passes) (sym whole) ∙ all.0,
+      so.1 ∙ ap (λ s. so.0 ++ s) closed ∙ sym (append_assoc so.0 (93 ∷ []) new) ∙ ap (λ s. s ++ new) (sym all.1 ∙ ap (λ x. items_text false (items_json shown x)) whole),
+    )
 
 -- ---- members in the order of the fields
 
@@ -172,9 +175,11 @@ members_turn fs first left later f i rest mid new key values grown v so split na
           let here : fits_each (field_views left) (value (view v) vs) ≡ true = ap (λ xs. fits_each (field_views xs) (value (view v) vs)) split ∙ both (fits (field_view f) (view v)) (fits_each (field_views later) vs) fit h in
           let one = so.2 (value (view v) vs) here in
           let joins = joined-push values v vs in
-          let more = members_shown (field_views later) vs in
-          (ap (fits_each fs) (sym joins) ∙ one.0,
-           ap (members_shown fs) (sym joins) ∙ one.1 ∙ ap (λ xs. so.0 ++ members_shown (field_views xs) (value (view v) vs)) split ∙ sym (append_assoc so.0 p more))) in
+          let more = members_shown (field_views later) vs in (
+            ap (fits_each fs) (sym joins) ∙ one.0,
+            ap (members_shown fs) (sym joins) ∙ one.1 ∙ ap (λ xs. so.0 ++ members_shown (field_views xs) (value (view v) vs)) split ∙ sym (append_assoc so.0 p more),
+          ),
+    ) in
     subst (MembersGo fs first later (i + 1) new) (sym made) goes
 
 pub members_end : (fs : Fields) (first : List ℕ) (left : List CodeField) (i : ℕ) (rest : List ℕ) (values : List CodeValue) → MembersGo fs first left i rest values → left ≡ [] → 0 < i
@@ -182,9 +187,10 @@ pub members_end : (fs : Fields) (first : List ℕ) (left : List CodeField) (i : 
 members_end fs first left i rest values so none some =
     let all = so.2 no_values (ap (λ xs. fits_each (field_views xs) no_values) none) in
     let whole = joined-none (views values) in
-    let shown : members_shown fs (views values) ≡ so.0 ++ [] = ap (members_shown fs) (sym whole) ∙ all.1 ∙ ap (λ xs. so.0 ++ members_shown (field_views xs) no_values) none in
-    (ap (fits_each fs) (sym whole) ∙ all.0,
-     so.1 ∙ ap (λ s. so.0 ++ s) (no_brace i rest some) ∙ sym (append_assoc so.0 [] rest) ∙ ap (λ s. s ++ rest) (sym shown))
+    let shown : members_shown fs (views values) ≡ so.0 ++ [] = ap (members_shown fs) (sym whole) ∙ all.1 ∙ ap (λ xs. so.0 ++ members_shown (field_views xs) no_values) none in (
+      ap (fits_each fs) (sym whole) ∙ all.0,
+      so.1 ∙ ap (λ s. so.0 ++ s) (no_brace i rest some) ∙ sym (append_assoc so.0 [] rest) ∙ ap (λ s. s ++ rest) (sym shown),
+    )
 
 -- ---- objects
 

@@ -5,11 +5,11 @@
 //! what a printer of rows was shown, `specs/Reader.antt` what a reader keeps, `specs/Filters.antt` which filter a text is.
 #![tactic(auto)]
 
+mod cursor;
 mod filter_reading;
 mod integers;
 mod json_text;
 mod laws;
-mod line;
 mod names;
 mod printed_leaves;
 mod printed_rows;

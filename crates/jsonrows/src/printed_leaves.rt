@@ -10,7 +10,7 @@ ghost use Rattle.schema.specs.Views.{leaf_type_view};
 ghost use Rattle.jsonrows.specs.Json.{number_json, leaf_json};
 ghost use Rattle.jsonrows.specs.inner.Lines.{Takes, IsShown};
 
-use crate::line::Line;
+use crate::cursor::Cursor;
 use crate::tokens::{fitting, leaf_at};
 use crate::unread::Unread;
 use json::Token;
@@ -21,7 +21,7 @@ use std::alloc::Global;
 const NUMBERS_OF_INT32: u64 = 4_294_967_296;
 
 /// The integer of 32 bits whose unsigned number stands there.
-fn unsigned_32(line: &mut Line<'_>) -> Option<i64>
+fn unsigned_32(line: &mut Cursor<'_>) -> Option<i64>
     ensures { IfSome result (λ z. Takes line.old line.new (decimal (cast_unsigned w64 z % 2 ^ 32))) }
 {
     let bits = line.natural()?;
@@ -33,7 +33,7 @@ fn unsigned_32(line: &mut Line<'_>) -> Option<i64>
 }
 
 /// The integer of 64 bits whose unsigned number stands there.
-fn unsigned_64(line: &mut Line<'_>) -> Option<i64>
+fn unsigned_64(line: &mut Cursor<'_>) -> Option<i64>
     ensures { IfSome result (λ z. Takes line.old line.new (decimal (cast_unsigned w64 z))) }
 {
     let bits = line.natural()?;
@@ -41,7 +41,7 @@ fn unsigned_64(line: &mut Line<'_>) -> Option<i64>
 }
 
 /// The integer of a leaf that stands there.
-fn number_printed(leaf_type: &LeafType, line: &mut Line<'_>) -> Option<i64>
+fn number_printed(leaf_type: &LeafType, line: &mut Cursor<'_>) -> Option<i64>
     ensures { IfSome result (λ z. Takes line.old line.new (number_text (number_json leaf_type.now.kind (order_of (leaf_type_view leaf_type.now)) z))) }
 {
     match (leaf_type.order(), leaf_type.kind) {
@@ -52,7 +52,7 @@ fn number_printed(leaf_type: &LeafType, line: &mut Line<'_>) -> Option<i64>
 }
 
 /// An integer of a leaf.
-fn integer_printed(leaf_type: &LeafType, line: &mut Line<'_>) -> Result<Value, Unread>
+fn integer_printed(leaf_type: &LeafType, line: &mut Cursor<'_>) -> Result<Value, Unread>
     ensures { IfOk result (λ v. IsShown (fits_leaf (leaf_type_view leaf_type.now)) (leaf_json (leaf_type_view leaf_type.now)) line.old (value_view v) line.new) }
 {
     let number = number_printed(leaf_type, line).ok_or(Unread::Unknown)?;
@@ -60,7 +60,7 @@ fn integer_printed(leaf_type: &LeafType, line: &mut Line<'_>) -> Result<Value, U
 }
 
 /// A boolean of a leaf.
-fn boolean_printed(leaf_type: &LeafType, line: &mut Line<'_>) -> Result<Value, Unread>
+fn boolean_printed(leaf_type: &LeafType, line: &mut Cursor<'_>) -> Result<Value, Unread>
     ensures { IfOk result (λ v. IsShown (fits_leaf (leaf_type_view leaf_type.now)) (leaf_json (leaf_type_view leaf_type.now)) line.old (value_view v) line.new) }
 {
     if line.skip(b"true") {
@@ -73,7 +73,11 @@ fn boolean_printed(leaf_type: &LeafType, line: &mut Line<'_>) -> Result<Value, U
 }
 
 /// Bytes of a leaf.
-fn bytes_printed(alloc: Global, leaf_type: &LeafType, line: &mut Line<'_>) -> Result<Value, Unread>
+fn bytes_printed(
+    alloc: Global,
+    leaf_type: &LeafType,
+    line: &mut Cursor<'_>,
+) -> Result<Value, Unread>
     ensures { IfOk result (λ v. IsShown (fits_leaf (leaf_type_view leaf_type.now)) (leaf_json (leaf_type_view leaf_type.now)) line.old (value_view v) line.new) }
 {
     let Some(text) = line.string() else {
@@ -86,7 +90,7 @@ fn bytes_printed(alloc: Global, leaf_type: &LeafType, line: &mut Line<'_>) -> Re
 pub fn leaf_printed(
     alloc: Global,
     leaf_type: &LeafType,
-    line: &mut Line<'_>,
+    line: &mut Cursor<'_>,
 ) -> Result<Value, Unread>
     ensures { IfOk result (λ v. IsShown (fits_leaf (leaf_type_view leaf_type.now)) (leaf_json (leaf_type_view leaf_type.now)) line.old (value_view v) line.new) }
 {

@@ -9,7 +9,7 @@ ghost use Rattle.jsonrows.specs.Json.{items_json, inside_json, field_json, row_t
 ghost use Rattle.jsonrows.specs.inner.Lines.{rest_of, Takes, IsShown, with_comma, members_shown};
 ghost use Rattle.jsonrows.specs.inner.Slots.{slot_of, slots_made, slot_view, slots_view, key_in, order_of, order_view, vec_items};
 
-use crate::line::Line;
+use crate::cursor::Cursor;
 use crate::printed_leaves::leaf_printed;
 use crate::row_plan::Slot;
 use crate::unread::Unread;
@@ -38,7 +38,7 @@ fn borrowed(order: &Option<Vec<usize>>) -> Option<&[usize]>
 }
 
 /// Passes over the name of a member, and over the comma before it where it is not the first.
-fn skip_key(slot: &Slot, is_first: bool, line: &mut Line<'_>) -> bool
+fn skip_key(slot: &Slot, is_first: bool, line: &mut Cursor<'_>) -> bool
     ensures { IsTrue result → with_comma is_first (rest_of line.old) ≡ key_in (slot_view slot.now) ++ rest_of line.new }
 {
     if !is_first {
@@ -51,7 +51,7 @@ fn skip_key(slot: &Slot, is_first: bool, line: &mut Line<'_>) -> bool
 }
 
 /// Passes over the comma before an item that is not the first.
-fn skip_comma(later: bool, line: &mut Line<'_>) -> bool
+fn skip_comma(later: bool, line: &mut Cursor<'_>) -> bool
     ensures { IsTrue result → Takes line.old line.new (comma_if later) }
 {
     if later {
@@ -66,7 +66,7 @@ fn inside_printed(
     alloc: Global,
     field: &Field,
     slot: &Slot,
-    line: &mut Line<'_>,
+    line: &mut Cursor<'_>,
 ) -> Result<Value, Unread>
     requires { slot_view slot.now ≡ slot_of (field_view field.now) }
     ensures { IfOk result (λ v. IsShown (fits_inside (field_view field.now)) (inside_json (field_view field.now)) line.old (value_view v) line.new) }
@@ -92,7 +92,7 @@ fn items_printed(
     alloc: Global,
     field: &Field,
     slot: &Slot,
-    line: &mut Line<'_>,
+    line: &mut Cursor<'_>,
 ) -> Result<Vec<Value>, Unread>
     requires { slot_view slot.now ≡ slot_of (field_view field.now) }
     ensures fit { IfOk result (λ all. each (fits_inside (field_view field.now)) (views all.items) ≡ true) }
@@ -119,7 +119,7 @@ fn field_printed(
     alloc: Global,
     field: &Field,
     slot: &Slot,
-    line: &mut Line<'_>,
+    line: &mut Cursor<'_>,
 ) -> Result<Value, Unread>
     requires { slot_view slot.now ≡ slot_of (field_view field.now) }
     ensures { IfOk result (λ v. IsShown (fits (field_view field.now)) (field_json (field_view field.now)) line.old (value_view v) line.new) }
@@ -147,7 +147,7 @@ fn in_order(
     alloc: Global,
     fields: &[Field],
     slots: &[Slot],
-    line: &mut Line<'_>,
+    line: &mut Cursor<'_>,
 ) -> Result<Vec<Value>, Unread>
     requires { slots_view slots.now ≡ slots_made (field_views fields.now) }
     ensures fit { IfOk result (λ all. fits_each (field_views fields.now) (views all.items) ≡ true) }
@@ -174,7 +174,7 @@ pub fn members_printed(
     fields: &[Field],
     slots: &[Slot],
     order: Option<&[usize]>,
-    line: &mut Line<'_>,
+    line: &mut Cursor<'_>,
 ) -> Result<Vec<Value>, Unread>
     requires slots { slots_view slots.now ≡ slots_made (field_views fields.now) }
     requires order { order_view order ≡ order_of (field_views fields.now) }

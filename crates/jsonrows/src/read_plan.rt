@@ -6,7 +6,7 @@ ghost use Rattle.schema.specs.Fits.{fits_each};
 ghost use Rattle.schema.specs.Values.{views};
 ghost use Rattle.jsonrows.specs.Json.{row_text};
 
-use crate::line::Line;
+use crate::cursor::Cursor;
 use crate::printed_rows::members_printed;
 use crate::row_plan::RowPlan;
 use crate::unread::Unread;
@@ -60,7 +60,7 @@ impl<'a> ReadPlan<'a> {
         ensures fit { IfOk result (λ all. fits_each self.now (views all.items) ≡ true) }
         ensures shown { IfOk result (λ all. text.now ≡ row_text self.now (views all.items)) }
     {
-        let mut line = Line::new(text);
+        let mut line = Cursor::new(text);
         let fields = self.schema.fields();
         let slots = self.plan.slots();
         let order = self.plan.order();

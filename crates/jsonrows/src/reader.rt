@@ -109,13 +109,7 @@ impl<'a> Reader<'a> {
         ensures which { IfErr result (λ e. (e ≡ RowShape) ⊎ (e ≡ Script) ⊎ (e ≡ Memory)) }
         ensures same { schema_of self.new ≡ schema_of self.old }
     {
-        match values_from(
-            self.alloc,
-            &self.plan,
-            &self.names,
-            text,
-            &mut self.scratch,
-        ) {
+        match values_from(self.alloc, &self.plan, &self.names, text, &mut self.scratch) {
             Ok(values) => Ok(Row { values }),
             Err(Unread::OutOfMemory) => Err(Refusal::Memory),
             Err(Unread::Unknown) => row_from(self.alloc, self.plan.schema(), text),

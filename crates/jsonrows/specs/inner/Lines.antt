@@ -5,19 +5,19 @@ use Rattle.serde_json.specs.Written.{compact_text}
 use Rattle.schema.specs.Shape.{Fields, field}
 use Rattle.schema.specs.Values.{ValueTree, ValueTrees, value}
 use Rattle.jsonrows.specs.Json.{field_json}
-use Rattle.jsonrows.specs.declared.line.Line.{Line}
+use Rattle.jsonrows.specs.declared.cursor.Cursor.{Cursor}
 use Rattle.jsonrows.specs.inner.Slots.{slot_of, key_in}
 
 -- what is left of a line
-abbrev pub rest_of : Line → List ℕ
+abbrev pub rest_of : Cursor → List ℕ
 rest_of l = drop l.at l.text.now
 
 -- these bytes were read
-abbrev pub Takes : Line → Line → List ℕ → Type 0
+abbrev pub Takes : Cursor → Cursor → List ℕ → Type 0
 Takes old new s = rest_of old ≡ s ++ rest_of new
 
 -- a value that passes was read, as it is shown
-abbrev pub IsShown : (ValueTree → Bool) → (ValueTree → Data) → Line → ValueTree → Line → Type 0
+abbrev pub IsShown : (ValueTree → Bool) → (ValueTree → Data) → Cursor → ValueTree → Cursor → Type 0
 IsShown passes shown old v new = (passes v ≡ true) × Takes old new (compact_text (shown v))
 
 -- before the first member a brace stands in place of a comma

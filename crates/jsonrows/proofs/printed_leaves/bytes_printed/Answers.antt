@@ -11,5 +11,5 @@ pub returns : goal.returns
 returns c =
     let t = leaf_type_view c.args.leaf_type.now in
     IfOk-weaker c.leaf_at.result _ _ (λ v h.
-        let said = string_shown t c.in-Some.text.now (view v) h in
-        (said.0, c.in-Some.ensures ∙ ap (λ d. compact_text d ++ rest_of c.string.new.self) (sym said.1))) c.leaf_at.ensures
+    let said = string_shown t c.in-Some.text.now (view v) h in
+    (said.0, c.in-Some.ensures ∙ ap (λ d. compact_text d ++ rest_of c.string.new.self) (sym said.1))) c.leaf_at.ensures

@@ -1,7 +1,7 @@
 use Rattle.std.proofs.Common.{subst, sym, arith}
 use Rattle.json.specs.Written.{PlainBetween}
 use Rattle.jsonrows.proofs.Lines.{content_taken}
-use Rattle.jsonrows.proofs.line.Line.content.Goals as goal
+use Rattle.jsonrows.proofs.cursor.Cursor.content.Goals as goal
 
 pub returns : goal.returns
 returns c =

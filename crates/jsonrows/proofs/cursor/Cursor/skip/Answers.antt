@@ -3,7 +3,7 @@ use Rattle.std.proofs.lemmas.Bool.Decides.{Decides-eqb}
 use Rattle.std.proofs.lemmas.List.{length-drop}
 use Rattle.std.proofs.lemmas.Slice.Eq.{starts_is}
 use Rattle.jsonrows.proofs.Lines.{taken}
-use Rattle.jsonrows.proofs.line.Line.skip.Goals as goal
+use Rattle.jsonrows.proofs.cursor.Cursor.skip.Goals as goal
 
 pub returns-then-starts_with-clause-taken : goal.returns-then-starts_with-clause-taken
 returns-then-starts_with-clause-taken c held =

@@ -12,7 +12,7 @@ use std::simd::prelude::*;
 
 /// A line, and how many of its bytes were read.
 #[derive(Drop)]
-pub struct Line<'t> {
+pub struct Cursor<'t> {
     text: &'t str,
     at: usize,
 }
@@ -95,12 +95,12 @@ fn plain_front(bytes: &[u8]) -> usize
     plain_by_one(bytes, plain_by_4(bytes, plain_by_16(bytes)))
 }
 
-impl<'t> Line<'t> {
+impl<'t> Cursor<'t> {
     /// A line of which nothing was read.
-    pub fn new(text: &'t str) -> Line<'t>
+    pub fn new(text: &'t str) -> Cursor<'t>
         ensures { rest_of result ≡ text.now }
     {
-        Line { text, at: 0 }
+        Cursor { text, at: 0 }
     }
 
     /// What is left of it.
@@ -194,6 +194,10 @@ impl<'t> Line<'t> {
             return None;
         }
         let content = self.content()?;
-        if self.skip_byte(b'"') { Some(content) } else { None }
+        if self.skip_byte(b'"') {
+            Some(content)
+        } else {
+            None
+        }
     }
 }
