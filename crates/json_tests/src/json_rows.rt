@@ -319,6 +319,39 @@ fn a_reader_reads_what_row_from_reads(rt: HostRuntime) -> Result<(), Fail> {
     Ok(())
 }
 
+const NUMBER_NULL_AND_TEXT: &str = r#"[{"name":"a","rep":"required","type":"int64"},{"name":"b","rep":"optional","type":"boolean"},{"name":"c","rep":"required","type":"bytes","note":"utf8"}]"#;
+
+/// Lines that are the text of a row or differ from one by little, and what comes of each.
+const NEARLY_PRINTED: [[&str; 2]; 15] = [
+    [r#"{"a":1,"b":null,"c":"x"}"#, r#"{"a":1,"b":null,"c":"x"}"#],
+    [r#"{"a":-1,"b":true,"c":""}"#, r#"{"a":-1,"b":true,"c":""}"#],
+    [r#"{"a":0,"b":false,"c":"a text of more than 32 bytes, é too"}"#, r#"{"a":0,"b":false,"c":"a text of more than 32 bytes, é too"}"#],
+    [r#"{"a":01,"b":null,"c":"x"}"#, "29 Script"],
+    [r#"{"a":-0,"b":null,"c":"x"}"#, "14 RowShape"],
+    [r#"{"a":9223372036854775808,"b":null,"c":"x"}"#, "14 RowShape"],
+    [r#"{"a":-9223372036854775809,"b":null,"c":"x"}"#, "14 RowShape"],
+    [r#"{"a":18446744073709551616,"b":null,"c":"x"}"#, "14 RowShape"],
+    [r#"{"a":1,"b":null,"c":"\u0078"}"#, r#"{"a":1,"b":null,"c":"x"}"#],
+    [r#"{"a":1,"b":null,"c":"x"} "#, r#"{"a":1,"b":null,"c":"x"}"#],
+    [r#"{"a": 1,"b":null,"c":"x"}"#, r#"{"a":1,"b":null,"c":"x"}"#],
+    [r#"{"c":"x","a":1}"#, r#"{"a":1,"b":null,"c":"x"}"#],
+    [r#"{"a":1,"b":nul,"c":"x"}"#, "29 Script"],
+    [r#"{"a":1,"b":null,"c":"x"}}"#, "29 Script"],
+    [r#"{"a":1,"b":null,"c":"x""#, "29 Script"],
+];
+
+#[test]
+fn lines_near_printed_ones_are_read_as_row_from_reads_them(rt: HostRuntime) -> Result<(), Fail> {
+    let schema = NUMBER_NULL_AND_TEXT;
+    for [line, wanted] in &NEARLY_PRINTED {
+        let at_once = answer(rt.alloc(), schema, schema, line)?;
+        let again = answer_again(rt.alloc(), schema, schema, line)?;
+        assert_eq!(rt; at_once.as_str(), *wanted);
+        assert_eq!(rt; again.as_str(), *wanted);
+    }
+    Ok(())
+}
+
 #[test]
 fn rows_are_printed_one_after_another(rt: HostRuntime) -> Result<(), Fail> {
     let alloc = rt.alloc();

@@ -33,3 +33,8 @@ pub mod Showing
 pub mod RowPlans
 pub mod Openings
 pub mod TextLeaves
+pub mod Lines
+pub mod ShownLeaves
+pub mod ShownRows
+pub mod Sizes
+pub mod PrintedLines

@@ -7,3 +7,4 @@ pub mod Slots
 pub mod Levels
 pub mod Opening
 pub mod Room
+pub mod Lines

@@ -1,6 +1,6 @@
 //! Integers from the text of JSON numbers.
 
-ghost use Rattle.std.specs.Prelude.{◌≡◌, ◌+◌, ◌<◌, ◌∷◌, ◌++◌, Some, IfSome, decimal};
+ghost use Rattle.std.specs.Prelude.{◌≡◌, ◌+◌, ◌<◌, ◌≤◌, ◌∷◌, ◌++◌, Some, IfSome, decimal, drop, length};
 ghost use Rattle.std.specs.Fmt.{signed_decimal};
 ghost use Rattle.serde_json.specs.Read.{number_of};
 ghost use Rattle.serde_json.specs.View.{number_view};
@@ -52,6 +52,37 @@ fn natural_from(digits: &[u8]) -> Option<u64>
     } else {
         None
     }
+}
+
+/// The number that the digits at the front are after those of another, and how many they are.
+#[inline(always)]
+fn front_after(before: u64, digits: &[u8]) -> Option<(u64, usize)>
+    requires { 0 < before }
+    ensures { IfSome result (λ r. (decimal before ++ digits.now ≡ decimal r.0 ++ drop r.1 digits.now) × (r.1 ≤ length digits.now)) }
+{
+    let mut number = before;
+    for (i, byte) in digits.iter().enumerate() {
+        let Some(digit) = digit_of(*byte) else {
+            return Some((number, i));
+        };
+        number = number.checked_mul(10)?.checked_add(digit)?;
+    }
+    Some((number, digits.len()))
+}
+
+/// The number below 2^64 whose decimal digits stand at the front, with no zero before another digit, and how many
+/// they are.
+#[inline(always)]
+pub fn natural_front(bytes: &[u8]) -> Option<(u64, usize)>
+    ensures { IfSome result (λ r. (bytes.now ≡ decimal r.0 ++ drop r.1 bytes.now) × (r.1 ≤ length bytes.now)) }
+{
+    let (first, rest) = split_first(bytes)?;
+    let first = digit_of(first)?;
+    if first == 0 {
+        return Some((0, 1));
+    }
+    let (number, count) = front_after(first, rest)?;
+    Some((number, count + 1))
 }
 
 /// The number from -2^63 up to -1 whose digits, without its sign, these are.

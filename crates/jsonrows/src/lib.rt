@@ -5,6 +5,7 @@
 //! what a printer of rows was shown, `specs/Reader.antt` what a reader keeps, `specs/Filters.antt` which filter a text is.
 #![tactic(auto)]
 
+mod cursor;
 mod filter_reading;
 mod integers;
 mod json_text;
@@ -13,6 +14,9 @@ mod line;
 mod names;
 mod place;
 mod plain_text;
+mod printed_leaves;
+mod printed_rows;
+mod read_plan;
 mod reader;
 mod row_plan;
 mod row_printing;

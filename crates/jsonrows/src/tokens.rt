@@ -32,7 +32,7 @@ pub fn next_token<'r>(tokens: &mut Reader<'r>) -> Result<Token<'r>, Unread>
 }
 
 /// The value, where it fits the leaf.
-fn fitting(leaf_type: &LeafType, value: Value) -> Result<Value, Unread>
+pub fn fitting(leaf_type: &LeafType, value: Value) -> Result<Value, Unread>
     ensures same { IfOk result (λ fit. value_view fit ≡ value_view value) }
     ensures fits { OnOk result (IsTrue (fits_leaf (leaf_type_view leaf_type.now) (value_view value))) }
 {
@@ -71,7 +71,7 @@ fn integer_at(leaf_type: &LeafType, text: &str) -> Result<i64, Unread>
 }
 
 /// A value of a leaf, its repetition aside.
-fn leaf_at(alloc: Global, leaf_type: &LeafType, token: Token<'_>) -> Result<Value, Unread>
+pub fn leaf_at(alloc: Global, leaf_type: &LeafType, token: Token<'_>) -> Result<Value, Unread>
     ensures { IfOk result (λ value. option_and_then (leaf_read (leaf_type_view leaf_type.now)) (scalar_of (token_of token.entry)) ≡ Some (value_view value)) }
 {
     match token {

@@ -1,0 +1,29 @@
+use Rattle.std.proofs.Common.{◌+◌, ◌*◌, drop}
+use Rattle.schema.specs.Fits.{fits_inside}
+use Rattle.schema.specs.Views.{field_view, field_views}
+use Rattle.jsonrows.specs.Json.{inside_json}
+use Rattle.jsonrows.specs.inner.Lines.{rest_of}
+use Rattle.jsonrows.proofs.ShownRows.{ItemsGo, MembersGo}
+use Rattle.jsonrows.proofs.Sizes.{size, sizes}
+use Rattle.jsonrows.proofs.printed_rows.+printed.Given as goal
+
+abbrev pub invariant-items_printed-items : goal.invariant-items_printed-items
+invariant-items_printed-items l = ItemsGo (fits_inside (field_view l.field)) (inside_json (field_view l.field)) (rest_of l.initial.line) (rest_of l.line) l.later l.values.items
+
+abbrev pub invariant-in_order-loop-i : goal.invariant-in_order-loop-i
+invariant-in_order-loop-i l = MembersGo (field_views l.fields) (rest_of l.initial.line) (drop l.i l.fields) l.i (rest_of l.line) l.values.items
+
+abbrev pub decreases-inside_printed : goal.decreases-inside_printed
+decreases-inside_printed l = 4 * size (field_view l.field.now)
+
+abbrev pub decreases-items_printed : goal.decreases-items_printed
+decreases-items_printed l = 4 * size (field_view l.field.now) + 1
+
+abbrev pub decreases-field_printed : goal.decreases-field_printed
+decreases-field_printed l = 4 * size (field_view l.field.now) + 2
+
+abbrev pub decreases-in_order : goal.decreases-in_order
+decreases-in_order l = 4 * sizes (field_views l.fields.now) + 3
+
+abbrev pub decreases-members_printed : goal.decreases-members_printed
+decreases-members_printed l = 4 * sizes (field_views l.fields.now) + 4

@@ -1,0 +1,31 @@
+-- What is read of a line in the form in which rows are printed.
+use Rattle.std.specs.Prelude.{◌≡◌, ℕ, Bool, true, false, List, [], ◌∷◌, ◌++◌, drop}
+use Rattle.serde_json.specs.Data.{Data}
+use Rattle.serde_json.specs.Written.{compact_text}
+use Rattle.schema.specs.Shape.{Fields, field}
+use Rattle.schema.specs.Values.{ValueTree, ValueTrees, value}
+use Rattle.jsonrows.specs.Json.{field_json}
+use Rattle.jsonrows.specs.declared.cursor.Cursor.{Cursor}
+use Rattle.jsonrows.specs.inner.Slots.{slot_of, key_in}
+
+-- what is left of a line
+abbrev pub rest_of : Cursor → List ℕ
+rest_of l = drop l.at l.text.now
+
+-- these bytes were read
+abbrev pub Takes : Cursor → Cursor → List ℕ → Type 0
+Takes old new s = rest_of old ≡ s ++ rest_of new
+
+-- a value that passes was read, as it is shown
+abbrev pub IsShown : (ValueTree → Bool) → (ValueTree → Data) → Cursor → ValueTree → Cursor → Type 0
+IsShown passes shown old v new = (passes v ≡ true) × Takes old new (compact_text (shown v))
+
+-- before the first member a brace stands in place of a comma
+abbrev pub with_comma : Bool → List ℕ → List ℕ
+with_comma true s = 44 ∷ s
+with_comma false s = s
+
+-- the members of an object, each with a comma before it, in the order of the fields
+abbrev pub members_shown : Fields → ValueTrees → List ℕ
+members_shown (field f fs) (value v vs) = (key_in (slot_of f) ++ compact_text (field_json f v)) ++ members_shown fs vs
+members_shown _ _ = []
