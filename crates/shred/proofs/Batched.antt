@@ -1,5 +1,6 @@
 -- Batches of columns, and the rows that they hold.
-use Rattle.std.proofs.Common.{ℕ, zero, suc, ◌≡◌, ◌+◌, ◌≤◌, ◌^◌, List, [], ◌∷◌, ◌++◌, length, map, get_or, refl, ap, sym, subst, ◌∙◌, arith, append_assoc, Vec}
+use Rattle.std.proofs.Common.{ℕ, zero, suc, ◌≡◌, ◌+◌, ◌≤◌, ◌^◌, List, [], ◌∷◌, ◌++◌, length, map, get_or, refl, ap, sym, subst, ◌∙◌, arith, IsTrue, append_assoc, Vec}
+use Rattle.std.specs.List.{AllByRecursion}
 use Rattle.std.specs.declared.alloc.Global.{Global}
 use Rattle.std.proofs.lemmas.List.{append-nil, map-append, length-append, length-map}
 use Rattle.std.proofs.lemmas.Grind.{flat_map-append}
@@ -7,7 +8,7 @@ use Rattle.schema.specs.declared.row.Row.{Row}
 use Rattle.schema.specs.Values.{ValueTrees, group}
 use Rattle.schema.specs.Shape.{Fields}
 use Rattle.schema.specs.Stripe.{Entry, Leaf, stripe, column, columns, leaves_of}
-use Rattle.schema.specs.Fits.{RowsFit}
+use Rattle.schema.specs.Fits.{RowsFit, fits_each}
 use Rattle.schema.specs.Views.{row_view, rows_view}
 use Rattle.schema.proofs.Kept.{all_joined}
 use Rattle.shred.specs.declared.kept_column.KeptColumn.{KeptColumn}
@@ -83,3 +84,13 @@ fresh_fit fs bs n fresh rows h fit = later (rows_of_parts h.parts) (rows_view fr
     later : (xs ys : List ValueTrees) → RowsFit fs (xs ++ ys) → RowsFit fs ys
     later [] ys k = k
     later (x ∷ xs) ys k = later xs ys k.1
+
+-- the rows that a buffer holds as columns fit
+pub settled_fit : (fs : Fields) (bs : List (Vec KeptColumn Global)) (n : ℕ) (fresh : List Row) (rows : List ValueTrees) → HoldsRows fs bs n fresh rows → fresh ≡ [] → RowsFit fs rows
+settled_fit fs bs n fresh rows h none =
+    let all : rows ≡ rows_of_parts h.parts = h.joined ∙ ap (λ (xs : List Row). rows_of_parts h.parts ++ rows_view xs) none ∙ append-nil (rows_of_parts h.parts) in
+    subst (RowsFit fs) (sym all) (each h.parts h.fit)
+  where
+    each : (ps : List (List ValueTrees)) → AllByRecursion (RowsFit fs) ps → RowsFit fs (rows_of_parts ps)
+    each [] k = tt
+    each (p ∷ ps) k = all_joined (λ row. IsTrue (fits_each fs row)) p (rows_of_parts ps) k.0 (each ps k.1)

@@ -36,3 +36,7 @@ holds buffer rows = HoldsRows (schema_of buffer) buffer.batches.items buffer.set
 -- all rows that it holds are columns
 abbrev pub is_settled : RowBuffer → Type 0
 is_settled buffer = buffer.fresh.items ≡ []
+
+-- the buffer holds these rows, each of them as columns
+abbrev pub holds_columns : RowBuffer → List ValueTrees → Type 0
+holds_columns buffer rows = holds buffer rows × is_settled buffer

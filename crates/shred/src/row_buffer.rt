@@ -37,7 +37,7 @@ pub struct RowBuffer<'a> {
 }
 
 impl<'a> RowBuffer<'a> {
-    ghost use Rattle.shred.specs.Buffer.{schema_of, holds, is_settled};
+    ghost use Rattle.shred.specs.Buffer.{schema_of, holds, is_settled, holds_columns};
 
     /// A buffer without rows.
     pub fn new(alloc: Global, schema: &'a Schema) -> RowBuffer<'a>
@@ -113,7 +113,7 @@ impl<'a> RowBuffer<'a> {
     /// The entries of a leaf, given by its place among the leaves of the schema, in place of what was in
     /// `entries`. The rows have to be settled. It fails only when out of memory; the time is linear in the entries.
     pub fn entries<'b>(&'b self, leaf: usize, entries: &mut Vec<EntryRef<'b>>) -> R<()>
-        ensures stands { OnOk result ((rows : List ValueTrees) → holds self.now rows → is_settled self.now
+        ensures stands { OnOk result ((rows : List ValueTrees) → holds_columns self.now rows
             → map entry_ref_view entries.new.items ≡ get_or (columns (schema_of self.now) rows) leaf []) }
         ensures which { RefusedMemoryOnly result }
     {

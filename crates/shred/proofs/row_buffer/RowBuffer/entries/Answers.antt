@@ -9,11 +9,11 @@ use Rattle.shred.proofs.Batched.{settled_column}
 use Rattle.shred.proofs.row_buffer.RowBuffer.entries.Goals as goal
 
 pub returns-clause-stands : goal.returns-clause-stands
-returns-clause-stands c = λ rows held settled.
+returns-clause-stands c = λ rows held.
     let b = c.args.self.now in
     let i = c.args.leaf in
     let es = map entry_ref_view c.loop-batch.entries.items in
     let none : drop c.loop-batch.batch-index b.batches.items ≡ [] = drop_of_length-le b.batches.items {i = c.loop-batch.batch-index} (omega arith) in
     sym (append-nil es)
     ∙ subst (λ (t : List (Vec KeptColumn Global)). es ++ leaf_entries i t ≡ leaf_entries i b.batches.items) none c.loop-batch.invariant
-    ∙ settled_column (schema_of b) b.batches.items b.settled b.fresh.items rows i held settled
+    ∙ settled_column (schema_of b) b.batches.items b.settled b.fresh.items rows i held.0 held.1
