@@ -217,6 +217,35 @@ fn rows_given_one_by_one_are_the_worked_bytes(rt: HostRuntime) -> Result<(), Fai
     Ok(())
 }
 
+/// Row after row of `of_four`.
+fn many_rows(alloc: Global, count: u32) -> R<Vec<Row>> {
+    let mut rows = Vec::new(alloc);
+    for n in 0..count {
+        let text = format!(in alloc; "row {n}")?;
+        let fixed = if n % 3 == 0 { "ab" } else { "cd" };
+        rows.push(row_of_four(alloc, n % 2 == 0, n as i64, text.as_str(), fixed)?)?;
+    }
+    Ok(rows)
+}
+
+#[test]
+fn rows_given_one_by_one_make_the_file_of_all_rows(rt: HostRuntime) -> Result<(), Fail> {
+    let alloc = rt.alloc();
+    let schema = of_four(alloc)?;
+    for group_rows in [1, 700, 1024, 1500, 5000] {
+        let options = WriteOptions {
+            group_rows,
+            page_rows: 300,
+            ..WriteOptions::standard()
+        };
+        let rows = many_rows(alloc, 2500)?;
+        let file = write_file(alloc, &schema, &options, rows.as_slice())?;
+        let again = pushed(alloc, &schema, &options, rows)?;
+        assert!(rt; again.as_slice() == file.as_slice());
+    }
+    Ok(())
+}
+
 #[test]
 fn a_writer_refuses_a_row_that_does_not_fit_once_its_group_is_full(
     rt: HostRuntime,

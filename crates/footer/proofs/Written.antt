@@ -4,12 +4,10 @@ use Rattle.std.specs.Prelude.{Result, Ok, Err, OnOk, IfOk}
 use Rattle.std.specs.List.{AllByRecursion}
 use Rattle.bits.specs.declared.refusal.Refusal.{Refusal}
 use Rattle.std.proofs.Math.Seq.{take-append_seam, drop-append_seam}
-use Rattle.std.proofs.lemmas.List.{length-map, map-append, append-nil, take_all, drop_all}
-use Rattle.schema.specs.declared.row.Row.{Row}
+use Rattle.std.proofs.lemmas.List.{append-nil, take_all, drop_all}
 use Rattle.schema.specs.Values.{ValueTrees}
 use Rattle.schema.specs.Shape.{Fields}
 use Rattle.schema.specs.Fits.{RowsFit}
-use Rattle.schema.specs.Views.{row_view, rows_view}
 use Rattle.metadata.specs.Records.{GroupMeta}
 use Rattle.metadata.specs.Views.{group_meta_view}
 use Rattle.row_group.specs.Writing.{AppendsGroup, AreTaken, IsGroupTooMuch}
@@ -18,7 +16,8 @@ use Rattle.footer.specs.File.{magic}
 use Rattle.footer.specs.Writing.{chunk_options, groups_of, IsOutOfRange, IsTooMuch}
 use Rattle.footer.specs.declared.file_writer.FileWriter.{FileWriter}
 use Rattle.footer.specs.Writer.{IsBegun, AreGiven, HasWritten, schema_of, options_of, has_rows}
-use Rattle.footer.specs.inner.Waiting.{IsNextGroupOf, IsNextGroup, HoldsSame}
+use Rattle.shred.specs.Buffer.{holds}
+use Rattle.footer.specs.inner.Waiting.{IsNextGroupOf, IsNextGroup, HasRoom, HoldsSame}
 use Rattle.footer.proofs.InGroups.{in_range, goes_on, too_much, all_written}
 use Rattle.footer.proofs.Parted.{fit_within}
 use Rattle.footer.proofs.Whole.{AreWritten}
@@ -84,11 +83,11 @@ none_given fs o range = record {
 }
 
 -- one more waits
-pub one_given : (fs : Fields) (o : WriteOptions) (out : List ℕ) (metas : List GroupMeta) (waiting : List Row) (written : ℕ) (rows : List ValueTrees) (row : Row) → length waiting < o.group_rows
-    → AreGiven fs o out metas waiting written rows → AreGiven fs o out metas (waiting ++ row ∷ []) written (rows ++ row_view row ∷ [])
+pub one_given : (fs : Fields) (o : WriteOptions) (out : List ℕ) (metas : List GroupMeta) (waiting : List ValueTrees) (written : ℕ) (rows : List ValueTrees) (row : ValueTrees) → length waiting < o.group_rows
+    → AreGiven fs o out metas waiting written rows → AreGiven fs o out metas (waiting ++ row ∷ []) written (rows ++ row ∷ [])
 one_given fs o out metas waiting written rows row room so = record {
   full = so.full;
-  joined = ap (λ (t : List ValueTrees). t ++ row_view row ∷ []) so.joined ∙ append_assoc so.full (rows_view waiting) (row_view row ∷ []) ∙ ap (λ (t : List ValueTrees). so.full ++ t) (sym (map-append row_view waiting (row ∷ [])));
+  joined = ap (λ (t : List ValueTrees). t ++ row ∷ []) so.joined ∙ append_assoc so.full waiting (row ∷ []);
   begun = so.begun;
   few = omega (arith, room, length-append waiting (row ∷ []));
   counted = so.counted;
@@ -96,29 +95,29 @@ one_given fs o out metas waiting written rows row room so = record {
 }
 
 -- those that wait are full, and so are the next group
-pub full_group : (fs : Fields) (o : WriteOptions) (out : List ℕ) (metas : List GroupMeta) (waiting : List Row) (written : ℕ) (rows later : List ValueTrees) → length waiting ≡ o.group_rows
+pub full_group : (fs : Fields) (o : WriteOptions) (out : List ℕ) (metas : List GroupMeta) (waiting : List ValueTrees) (written : ℕ) (rows later : List ValueTrees) → length waiting ≡ o.group_rows
     → AreGiven fs o out metas waiting written rows → IsNextGroupOf fs o out metas waiting (rows ++ later) later
 full_group fs o out metas waiting written rows later full so = record {
   in_range = so.in_range;
-  begun = subst (λ (t : List ValueTrees). IsBegun fs o t (rows_view waiting ++ later) out metas)
-      (sym (append_assoc so.full (rows_view waiting) later) ∙ ap (λ (t : List ValueTrees). t ++ later) (sym so.joined)) (so.begun (rows_view waiting ++ later));
+  begun = subst (λ (t : List ValueTrees). IsBegun fs o t (waiting ++ later) out metas)
+      (sym (append_assoc so.full waiting later) ∙ ap (λ (t : List ValueTrees). t ++ later) (sym so.joined)) (so.begun (waiting ++ later));
   few = so.few;
   ends = inl full;
 }
 
 -- or the last one
-pub last_group : (fs : Fields) (o : WriteOptions) (out : List ℕ) (metas : List GroupMeta) (waiting : List Row) (written : ℕ) (rows : List ValueTrees) → AreGiven fs o out metas waiting written rows
+pub last_group : (fs : Fields) (o : WriteOptions) (out : List ℕ) (metas : List GroupMeta) (waiting : List ValueTrees) (written : ℕ) (rows : List ValueTrees) → AreGiven fs o out metas waiting written rows
     → IsNextGroupOf fs o out metas waiting rows []
 last_group fs o out metas waiting written rows so = record {
   in_range = so.in_range;
-  begun = subst (λ (t : List ValueTrees). IsBegun fs o rows t out metas) (sym (append-nil (rows_view waiting)))
-      (subst (λ (t : List ValueTrees). IsBegun fs o t (rows_view waiting) out metas) (sym so.joined) (so.begun (rows_view waiting)));
+  begun = subst (λ (t : List ValueTrees). IsBegun fs o rows t out metas) (sym (append-nil waiting))
+      (subst (λ (t : List ValueTrees). IsBegun fs o t waiting out metas) (sym so.joined) (so.begun waiting));
   few = so.few;
   ends = inr refl;
 }
 
 -- once they are written none waits
-pub none_waits : (fs : Fields) (o : WriteOptions) (out new : List ℕ) (metas more : List GroupMeta) (waiting : List Row) (written now : ℕ) (rows : List ValueTrees)
+pub none_waits : (fs : Fields) (o : WriteOptions) (out new : List ℕ) (metas more : List GroupMeta) (waiting : List ValueTrees) (written now : ℕ) (rows : List ValueTrees)
     → ((later : List ValueTrees) → IsBegun fs o (rows ++ later) later new more) → now ≡ written + length waiting
     → AreGiven fs o out metas waiting written rows → AreGiven fs o new more [] now rows
 none_waits fs o out new metas more waiting written now rows begun counts so =
@@ -128,79 +127,99 @@ none_waits fs o out new metas more waiting written now rows begun counts so =
       joined = sym (append-nil rows);
       begun = begun;
       few = omega arith;
-      counted = omega (arith, counts, counted, ap length so.joined, length-append so.full (rows_view waiting), length-map waiting row_view);
+      counted = omega (arith, counts, counted, ap length so.joined, length-append so.full waiting);
       in_range = so.in_range;
     }
 
 -- how many they are
-pub all_counted : (fs : Fields) (o : WriteOptions) (out : List ℕ) (metas : List GroupMeta) (waiting : List Row) (written : ℕ) (rows : List ValueTrees) → AreGiven fs o out metas waiting written rows
+pub all_counted : (fs : Fields) (o : WriteOptions) (out : List ℕ) (metas : List GroupMeta) (waiting : List ValueTrees) (written : ℕ) (rows : List ValueTrees) → AreGiven fs o out metas waiting written rows
     → written + length waiting ≡ length rows
 all_counted fs o out metas waiting written rows so =
     let counted = so.counted in
-    omega (arith, counted, ap length so.joined, length-append so.full (rows_view waiting), length-map waiting row_view)
+    omega (arith, counted, ap length so.joined, length-append so.full waiting)
 
 -- those that wait fit, where all do
-pub waiting_fit : (fs : Fields) (o : WriteOptions) (out : List ℕ) (metas : List GroupMeta) (waiting : List Row) (written : ℕ) (rows : List ValueTrees) → AreGiven fs o out metas waiting written rows
-    → RowsFit fs rows → RowsFit fs (rows_view waiting)
-waiting_fit fs o out metas waiting written rows so = fit_within fs so.full (rows_view waiting) [] rows (so.joined ∙ ap (λ (t : List ValueTrees). so.full ++ t) (sym (append-nil (rows_view waiting))))
+pub waiting_fit : (fs : Fields) (o : WriteOptions) (out : List ℕ) (metas : List GroupMeta) (waiting : List ValueTrees) (written : ℕ) (rows : List ValueTrees) → AreGiven fs o out metas waiting written rows
+    → RowsFit fs rows → RowsFit fs waiting
+waiting_fit fs o out metas waiting written rows so = fit_within fs so.full waiting [] rows (so.joined ∙ ap (λ (t : List ValueTrees). so.full ++ t) (sym (append-nil waiting)))
 
 -- a writer that holds the same has the same rows
 pub has_same : (old new : FileWriter) (rows : List ValueTrees) → HoldsSame old new → schema_of new ≡ schema_of old → options_of new ≡ options_of old → has_rows old rows → has_rows new rows
-has_same old new rows same schema options so = rw (schema, options, same.bytes, same.groups, same.waiting, same.written) so
+has_same old new rows same schema options so = record {
+  waiting = so.waiting;
+  held = same.waiting so.waiting so.held;
+  given = rw (schema, options, same.bytes, same.groups, same.written) so.given;
+}
 
 -- ---- the rows that wait, as a group
 
-next_of : (fs : Fields) (o : WriteOptions) (out : List ℕ) (metas : List GroupMeta) (waiting : List Row) (rows later : List ValueTrees) → 0 < length waiting
-    → IsNextGroupOf fs o out metas waiting rows later → IsNext o (rows_view waiting) later
-next_of fs o out metas waiting rows later some next =
-    let same : length (rows_view waiting) ≡ length waiting = length-map waiting row_view in
-    let few = next.few in
-    record {
-      in_range = next.in_range;
-      some = omega (arith, some, same);
-      few = omega (arith, few, same);
-      ends = elim next.ends [ inl full ↦ inl (same ∙ full) | inr none ↦ inr none ];
-    }
+next_of : (fs : Fields) (o : WriteOptions) (out : List ℕ) (metas : List GroupMeta) (waiting rows later : List ValueTrees) → 0 < length waiting
+    → IsNextGroupOf fs o out metas waiting rows later → IsNext o waiting later
+next_of fs o out metas waiting rows later some next = record { in_range = next.in_range; some = some; few = next.few; ends = next.ends }
 
-pub group_written : (fs : Fields) (o : WriteOptions) (out new : List ℕ) (metas : List GroupMeta) (g : GroupMeta) (waiting : List Row) (rows later : List ValueTrees) → 0 < length waiting
-    → AppendsGroup fs (chunk_options o) out new g (rows_view waiting) → AreTaken fs (rows_view waiting) → IsNextGroupOf fs o out metas waiting rows later → IsBegun fs o rows later new (metas ++ g ∷ [])
+pub group_written : (fs : Fields) (o : WriteOptions) (out new : List ℕ) (metas : List GroupMeta) (g : GroupMeta) (waiting : List ValueTrees) (rows later : List ValueTrees) → 0 < length waiting
+    → AppendsGroup fs (chunk_options o) out new g waiting → AreTaken fs waiting → IsNextGroupOf fs o out metas waiting rows later → IsBegun fs o rows later new (metas ++ g ∷ [])
 group_written fs o out new metas g waiting rows later some written taken next =
-    one_written fs o rows (rows_view waiting) later out new metas g (next_of fs o out metas waiting rows later some next) next.begun written taken
+    one_written fs o rows waiting later out new metas g (next_of fs o out metas waiting rows later some next) next.begun written taken
 
-pub group_too_much : (fs : Fields) (o : WriteOptions) (out : List ℕ) (metas : List GroupMeta) (waiting : List Row) (rows later : List ValueTrees) → 0 < length waiting
-    → IsGroupTooMuch (length out) o.page_rows fs (rows_view waiting) → IsNextGroupOf fs o out metas waiting rows later → IsTooMuch fs o rows
+pub group_too_much : (fs : Fields) (o : WriteOptions) (out : List ℕ) (metas : List GroupMeta) (waiting : List ValueTrees) (rows later : List ValueTrees) → 0 < length waiting
+    → IsGroupTooMuch (length out) o.page_rows fs waiting → IsNextGroupOf fs o out metas waiting rows later → IsTooMuch fs o rows
 group_too_much fs o out metas waiting rows later some much next =
-    one_too_much fs o rows (rows_view waiting) later out metas (next_of fs o out metas waiting rows later some next) next.begun much
+    one_too_much fs o rows waiting later out metas (next_of fs o out metas waiting rows later some next) next.begun much
+
+-- those that wait are the next group
+pub full_next : (w : FileWriter) (rows later : List ValueTrees) (so : has_rows w rows) → length so.waiting ≡ (options_of w).group_rows → IsNextGroup w so.waiting (rows ++ later) later
+full_next w rows later so full = record {
+  held = so.held;
+  next = full_group (schema_of w) (options_of w) w.bytes.items (map group_meta_view w.groups.items) so.waiting w.written rows later full so.given;
+}
+
+pub last_next : (w : FileWriter) (rows : List ValueTrees) (so : has_rows w rows) → IsNextGroup w so.waiting rows []
+last_next w rows so = record {
+  held = so.held;
+  next = last_group (schema_of w) (options_of w) w.bytes.items (map group_meta_view w.groups.items) so.waiting w.written rows so.given;
+}
+
+-- they fit where all rows do
+pub next_fit : (w : FileWriter) (rows : List ValueTrees) (so : has_rows w rows) → RowsFit (schema_of w) rows → RowsFit (schema_of w) so.waiting
+next_fit w rows so = waiting_fit (schema_of w) (options_of w) w.bytes.items (map group_meta_view w.groups.items) so.waiting w.written rows so.given
 
 -- a full group was written, and none waits
-pub none_waits_in : {X : Type 0} (old new : FileWriter) (r : Result X Refusal) → length old.waiting.items ≡ (options_of old).group_rows
-    → OnOk r ((rows later : List ValueTrees) → IsNextGroup old rows later → HasWritten new rows later) → OnOk r (new.waiting.items ≡ []) → OnOk r (new.written ≡ old.written + length old.waiting.items)
-    → schema_of new ≡ schema_of old → options_of new ≡ options_of old → OnOk r ((rows : List ValueTrees) → has_rows old rows → has_rows new rows)
+pub none_waits_in : {X : Type 0} (old new : FileWriter) (r : Result X Refusal) → ((waiting : List ValueTrees) → holds old.waiting waiting → length waiting ≡ (options_of old).group_rows)
+    → OnOk r ((waiting rows later : List ValueTrees) → IsNextGroup old waiting rows later → HasWritten new rows later) → OnOk r ((waiting : List ValueTrees) → holds old.waiting waiting → holds new.waiting [])
+    → OnOk r ((waiting : List ValueTrees) → holds old.waiting waiting → new.written ≡ old.written + length waiting)
+    → schema_of new ≡ schema_of old → options_of new ≡ options_of old → OnOk r ((rows : List ValueTrees) → has_rows old rows → HasRoom new rows)
 none_waits_in old new (Err e) full stands emptied counted schema options = tt
 none_waits_in old new (Ok x) full stands emptied counted schema options = λ rows so.
     let fs = schema_of old in
     let o = options_of old in
-    let out = old.bytes.items in
     let metas = map group_meta_view old.groups.items in
-    let begun : (later : List ValueTrees) → IsBegun fs o (rows ++ later) later new.bytes.items (map group_meta_view new.groups.items) = λ later.
-    rw (← schema, ← options) (stands (rows ++ later) later (full_group fs o out metas old.waiting.items old.written rows later full so)) in
-    rw (schema, options, emptied) (none_waits fs o out new.bytes.items metas (map group_meta_view new.groups.items) old.waiting.items old.written new.written rows begun counted so)
+    let more = map group_meta_view new.groups.items in
+    let begun : (later : List ValueTrees) → IsBegun fs o (rows ++ later) later new.bytes.items more = λ later.
+    rw (← schema, ← options) (stands so.waiting (rows ++ later) later (full_next old rows later so (full so.waiting so.held))) in
+    let given : AreGiven fs o new.bytes.items more [] new.written rows = none_waits fs o old.bytes.items new.bytes.items metas more so.waiting old.written new.written rows begun (counted so.waiting so.held) so.given in
+    let range = in_range o so.given.in_range in
+    let some = range.some in
+    record {
+      has = record { waiting = []; held = emptied so.waiting so.held; given = rw (schema, options) given };
+      few = rw options some;
+    }
 
 -- the last group was written, and so all are
-pub last_written : (old new : FileWriter) → ((rows later : List ValueTrees) → IsNextGroup old rows later → HasWritten new rows later) → schema_of new ≡ schema_of old → options_of new ≡ options_of old
+pub last_written : (old new : FileWriter) → ((waiting rows later : List ValueTrees) → IsNextGroup old waiting rows later → HasWritten new rows later) → schema_of new ≡ schema_of old → options_of new ≡ options_of old
     → (rows : List ValueTrees) → has_rows old rows
     → AreWritten (schema_of old) (options_of old) rows new.bytes.items (map group_meta_view new.groups.items) × AllByRecursion (AreTaken (schema_of old)) (groups_of (options_of old).group_rows rows)
 last_written old new stands schema options rows so =
     let fs = schema_of old in
     let o = options_of old in
-    let range = in_range o so.in_range in
-    let next = last_group fs o old.bytes.items (map group_meta_view old.groups.items) old.waiting.items old.written rows so in
-    let begun : IsBegun fs o rows [] new.bytes.items (map group_meta_view new.groups.items) = rw (← schema, ← options) (stands rows [] next) in
+    let range = in_range o so.given.in_range in
+    let begun : IsBegun fs o rows [] new.bytes.items (map group_meta_view new.groups.items) = rw (← schema, ← options) (stands so.waiting rows [] (last_next old rows so)) in
     all_written fs o rows [] new.bytes.items (map group_meta_view new.groups.items) range.some refl begun
 
 -- how many rows all groups have
-pub last_counted : (old new : FileWriter) → new.written ≡ old.written + length old.waiting.items → (rows : List ValueTrees) → has_rows old rows → new.written ≡ length rows
-last_counted old new counted rows so = counted ∙ all_counted (schema_of old) (options_of old) old.bytes.items (map group_meta_view old.groups.items) old.waiting.items old.written rows so
+pub last_counted : (old new : FileWriter) → ((waiting : List ValueTrees) → holds old.waiting waiting → new.written ≡ old.written + length waiting) → (rows : List ValueTrees) → has_rows old rows → new.written ≡ length rows
+last_counted old new counted rows so =
+    counted so.waiting so.held ∙ all_counted (schema_of old) (options_of old) old.bytes.items (map group_meta_view old.groups.items) so.waiting old.written rows so.given
 
 -- two facts of what is Ok
 pub ok_both : {X : Type 0} (P Q S : X → Type 0) (r : Result X Refusal) → ((x : X) → P x → Q x → S x) → IfOk r P → IfOk r Q → IfOk r S

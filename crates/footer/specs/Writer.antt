@@ -1,12 +1,12 @@
 -- The rows that a writer was given, and what it does with them.
 use Rattle.std.specs.Prelude.{◌≡◌, ℕ, ◌+◌, ◌≤◌, ◌<◌, List, ◌++◌, length, map, sum_by}
 use Rattle.std.specs.List.{AllByRecursion}
-use Rattle.schema.specs.declared.row.Row.{Row}
 use Rattle.schema.specs.Values.{ValueTrees}
 use Rattle.schema.specs.Shape.{Fields}
-use Rattle.schema.specs.Views.{rows_view}
 use Rattle.metadata.specs.Records.{GroupMeta}
 use Rattle.metadata.specs.Views.{group_meta_view}
+use Rattle.shred.specs.Buffer.{holds}
+use Rattle.shred.specs.Buffer as buffer
 use Rattle.row_group.specs.Paged.{group_weight}
 use Rattle.row_group.specs.Writing.{AreTaken}
 use Rattle.footer.specs.declared.options.WriteOptions.{WriteOptions}
@@ -29,28 +29,29 @@ pub record IsBegun (fs : Fields) (o : WriteOptions) (rows rest : List ValueTrees
 
 -- the schema of the rows, and how they are written
 abbrev pub schema_of : FileWriter → Fields
-schema_of writer = writer.schema.now
+schema_of writer = buffer.schema_of writer.waiting
 
 abbrev pub options_of : FileWriter → WriteOptions
 options_of writer = writer.options
-
--- the rows that wait for their group
-abbrev pub waiting_of : FileWriter → List ValueTrees
-waiting_of writer = rows_view writer.waiting.items
 
 -- of these rows all but the rest are written
 abbrev pub HasWritten : FileWriter → List ValueTrees → List ValueTrees → Type 0
 HasWritten writer rows rest = IsBegun (schema_of writer) (options_of writer) rows rest writer.bytes.items (map group_meta_view writer.groups.items)
 
 -- Rows were given: full groups of them are written, whatever rows come later, and the others wait.
-pub record AreGiven (fs : Fields) (o : WriteOptions) (out : List ℕ) (metas : List GroupMeta) (waiting : List Row) (written : ℕ) (rows : List ValueTrees) : Type 0 where
+pub record AreGiven (fs : Fields) (o : WriteOptions) (out : List ℕ) (metas : List GroupMeta) (waiting : List ValueTrees) (written : ℕ) (rows : List ValueTrees) : Type 0 where
   pub full : List ValueTrees
-  pub joined : rows ≡ full ++ rows_view waiting
+  pub joined : rows ≡ full ++ waiting
   pub begun : (later : List ValueTrees) → IsBegun fs o (full ++ later) later out metas
   pub few : length waiting ≤ o.group_rows
   pub counted : written ≡ length full
   pub in_range : IsOutOfRange o → ⊥
 
--- the writer was given these rows
+-- a writer was given these rows: its buffer holds those that wait
+pub record IsGiven (writer : FileWriter) (rows : List ValueTrees) : Type 0 where
+  pub waiting : List ValueTrees
+  pub held : holds writer.waiting waiting
+  pub given : AreGiven (schema_of writer) (options_of writer) writer.bytes.items (map group_meta_view writer.groups.items) waiting writer.written rows
+
 abbrev pub has_rows : FileWriter → List ValueTrees → Type 0
-has_rows writer rows = AreGiven (schema_of writer) (options_of writer) writer.bytes.items (map group_meta_view writer.groups.items) writer.waiting.items writer.written rows
+has_rows = IsGiven

@@ -4,7 +4,8 @@ ghost use Rattle.std.specs.Prelude.{◌≡◌, ◌⊎◌, ◌+◌, ◌≤◌, �
 ghost use Rattle.bits.specs.Refusals.{OnFault, RefusedOnly};
 ghost use Rattle.schema.specs.Fits.{RowsFit};
 ghost use Rattle.schema.specs.Values.{ValueTrees};
-ghost use Rattle.schema.specs.Views.{row_view, rows_view};
+ghost use Rattle.schema.specs.Views.{row_view};
+ghost use Rattle.shred.specs.Buffer.{holds};
 ghost use Rattle.row_group.specs.Writing.{IsOfRows};
 ghost use Rattle.footer.specs.Faults.{IsOverLimit};
 ghost use Rattle.footer.specs.File.{FileMeans};
@@ -18,19 +19,21 @@ use crate::limits::MAGIC;
 use crate::options::WriteOptions;
 use bits::{R, Refusal};
 use metadata::{GroupMeta, one_footer};
-use row_group::{an_appended_group_has_its_rows, an_appended_group_is_within_limits, write_group};
+use row_group::{
+    an_appended_group_has_its_rows, an_appended_group_is_within_limits, write_buffered_group,
+};
 use schema::{Row, Schema, a_list_means_one_schema};
+use shred::RowBuffer;
 use std::alloc::Global;
 
 /// The most rows that a writer takes: more than any file has.
 const MOST_ROWS: usize = 1 << 62;
 
 /// A file that is being written. Its rows are given one by one, and each group is written when it is full: kept
-/// are the bytes so far, and the rows of one group.
+/// are the bytes so far, and the rows of one group, as columns.
 #[derive(Drop)]
 pub struct FileWriter<'a> {
     alloc: Global,
-    schema: &'a Schema,
     options: WriteOptions,
     /// The bytes so far.
     bytes: Vec<u8>,
@@ -38,13 +41,13 @@ pub struct FileWriter<'a> {
     groups: Vec<GroupMeta>,
     /// How many rows these groups have.
     written: usize,
-    /// The rows of the next group.
-    waiting: Vec<Row>,
+    /// The rows of the next group, and their schema.
+    waiting: RowBuffer<'a>,
 }
 
 impl<'a> FileWriter<'a> {
-    ghost use Rattle.footer.specs.Writer.{schema_of, options_of, waiting_of, HasWritten, has_rows};
-    ghost use Rattle.footer.specs.inner.Waiting.{IsNextGroup, HoldsSame};
+    ghost use Rattle.footer.specs.Writer.{schema_of, options_of, HasWritten, has_rows};
+    ghost use Rattle.footer.specs.inner.Waiting.{IsNextGroup, HasRoom, HoldsSame};
 
     /// A writer of a file of this schema, without rows. Refused Limit for options out of range: a number of rows
     /// in a group outside 1 to 1,048,576, pages of no rows, a version other than 1 and 2.
@@ -59,16 +62,16 @@ impl<'a> FileWriter<'a> {
         }
         Ok(FileWriter {
             alloc,
-            schema,
             options: *options,
             bytes: Vec::from_slice(alloc, MAGIC)?,
             groups: Vec::new(alloc),
             written: 0,
-            waiting: Vec::new(alloc),
+            waiting: RowBuffer::new(alloc, schema),
         })
     }
 
-    /// Gives the writer one more row. Where a group is full, it is written first.
+    /// Gives the writer one more row. Where a group is full, it is written first; each 1,024 rows of a group become
+    /// columns.
     ///
     /// Refused RowShape only where a row that was given before does not fit the schema, and Limit only where the
     /// rows that were given before are too much for a file, whatever comes after them, as
@@ -109,14 +112,13 @@ impl<'a> FileWriter<'a> {
         one_footer();
         a_list_means_one_schema();
         self.write_waiting()?;
-        let record = record_of(self.alloc, self.schema, self.written, self.groups)?;
+        let record = record_of(self.alloc, self.waiting.schema(), self.written, self.groups)?;
         ended(self.alloc, self.bytes, &record)
     }
 
     /// Writes the rows that wait where they are a full group. After a refusal they still wait.
     fn make_room(&mut self) -> R<()>
-        ensures stands { OnOk result ((rows : List ValueTrees) → has_rows self.old rows → has_rows self.new rows) }
-        ensures room { OnOk result ((rows : List ValueTrees) → has_rows self.old rows → length self.new.waiting.items < (options_of self.old).group_rows) }
+        ensures stands { OnOk result ((rows : List ValueTrees) → has_rows self.old rows → HasRoom self.new rows) }
         ensures only { OnFault result ((rows : List ValueTrees) → has_rows self.old rows → RowsFit (schema_of self.old) rows → ⊥) }
         ensures limit { result ≡ Err Refusal.Limit → (rows later : List ValueTrees) → has_rows self.old rows
             → IsTooMuch (schema_of self.old) (options_of self.old) (rows ++ later) }
@@ -134,30 +136,30 @@ impl<'a> FileWriter<'a> {
 
     /// Writes the rows that wait as a group, if there are any. After a refusal they still wait.
     fn write_waiting(&mut self) -> R<()>
-        ensures stands { OnOk result ((rows later : List ValueTrees) → IsNextGroup self.old rows later → HasWritten self.new rows later) }
-        ensures emptied { OnOk result (self.new.waiting.items ≡ []) }
-        ensures counted { OnOk result (self.new.written ≡ self.old.written + length self.old.waiting.items) }
+        ensures stands { OnOk result ((waiting rows later : List ValueTrees) → IsNextGroup self.old waiting rows later → HasWritten self.new rows later) }
+        ensures emptied { OnOk result ((waiting : List ValueTrees) → holds self.old.waiting waiting → holds self.new.waiting []) }
+        ensures counted { OnOk result ((waiting : List ValueTrees) → holds self.old.waiting waiting → self.new.written ≡ self.old.written + length waiting) }
         ensures countable { OnOk result (self.new.written ≤ MOST_ROWS) }
-        ensures only { OnFault result (RowsFit (schema_of self.old) (waiting_of self.old) → ⊥) }
-        ensures limit { result ≡ Err Refusal.Limit → (rows later : List ValueTrees) → IsNextGroup self.old rows later
+        ensures only { OnFault result ((waiting : List ValueTrees) → holds self.old.waiting waiting → RowsFit (schema_of self.old) waiting → ⊥) }
+        ensures limit { result ≡ Err Refusal.Limit → (waiting rows later : List ValueTrees) → IsNextGroup self.old waiting rows later
             → IsTooMuch (schema_of self.old) (options_of self.old) rows }
         ensures which { RefusedOnly IsOfRows result }
-        ensures unchanged { OnErr result (HoldsSame self.old self.new) }
+        ensures unchanged { OnErr result ((waiting : List ValueTrees) → holds self.old.waiting waiting → HoldsSame self.old self.new) }
         ensures same_schema { schema_of self.new ≡ schema_of self.old }
         ensures same_options { options_of self.new ≡ options_of self.old }
     {
-        let written = self.written.saturating_add(self.waiting.len());
+        let count = self.waiting.len();
+        let written = self.written.saturating_add(count);
         if written > MOST_ROWS {
             // Never reached: no file has as many rows.
             return Err(Refusal::Memory);
         }
-        if self.waiting.is_empty() {
+        if count == 0 {
             return Ok(());
         }
-        let group = self.waiting.as_slice();
         let options = self.options.of_chunks();
         let kept = self.bytes.len();
-        let meta = write_group(self.alloc, self.schema, options, group, &mut self.bytes)?;
+        let meta = write_buffered_group(self.alloc, options, &mut self.waiting, &mut self.bytes)?;
         match self.groups.push(meta) {
             Ok(()) => {
                 self.written = written;

@@ -27,3 +27,4 @@ pub mod TooMuch
 pub mod ChunkPut
 pub mod WantedChunks
 pub mod WantedRows
+pub mod BufferedColumns

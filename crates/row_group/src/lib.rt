@@ -8,6 +8,7 @@
 //! `specs/Laws.antt` says that they hold one column, and one list of rows.
 #![tactic(auto)]
 
+mod buffer_writing;
 mod chunk_pages;
 mod chunk_reader;
 mod chunk_reading;
@@ -27,6 +28,7 @@ mod pages_left;
 mod rows;
 mod wanted_chunks;
 
+pub use buffer_writing::write_buffered_group;
 pub use chunk_reader::ChunkReader;
 pub use chunk_reading::{check_chunk, read_chunk};
 pub use chunk_writing::write_chunk;

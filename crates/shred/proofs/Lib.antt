@@ -1,2 +1,4 @@
 pub mod Growing
 pub mod Turns
+pub mod Slotted
+pub mod Batched

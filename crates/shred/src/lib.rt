@@ -4,9 +4,14 @@
 //! borrowed column shows.
 #![tactic(auto)]
 
+mod batch;
 mod column;
 mod field;
+mod kept_column;
+mod row_buffer;
 mod rows;
+mod slot;
 
 pub use column::{ColumnRef, to_columns};
+pub use row_buffer::RowBuffer;
 pub use rows::shred;

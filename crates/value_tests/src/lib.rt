@@ -31,6 +31,8 @@ mod record_bytes;
 #[cfg(test)]
 mod records;
 #[cfg(test)]
+mod row_buffers;
+#[cfg(test)]
 mod schemas;
 #[cfg(test)]
 mod shredding;

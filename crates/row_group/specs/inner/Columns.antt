@@ -1,5 +1,5 @@
 -- Words of the functions that write the columns of a group one by one.
-use Rattle.std.specs.Prelude.{◌≡◌, ℕ, ◌+◌, ◌<◌, ◌<ℤ◌, pos, List, [], ◌∷◌, length, sum_by}
+use Rattle.std.specs.Prelude.{◌≡◌, ℕ, ◌+◌, ◌<◌, ◌<ℤ◌, pos, List, [], ◌∷◌, ◌++◌, length, sum_by}
 use Rattle.std.specs.List.{Any, AllByRecursion}
 use Rattle.schema.specs.Stripe.{Leaf, Entry}
 use Rattle.schema.specs.Law.{IsEntryOf}
@@ -11,7 +11,7 @@ use Rattle.pages.specs.Writing.{AreShort}
 use Rattle.row_group.specs.Greatest.{most_entries, most_bytes_before}
 use Rattle.row_group.specs.declared.options.ChunkOptions.{ChunkOptions}
 use Rattle.row_group.specs.Paged.{BeginsRow, parts_of, chunk_weight}
-use Rattle.row_group.specs.Writing.{AppendsEach}
+use Rattle.row_group.specs.Writing.{AppendsChunk, IsOwnChunk, AppendsEach}
 
 -- for each leaf, a column of its entries
 abbrev pub AreColumnsOf : List Leaf → List (List Entry) → Type 0
@@ -37,3 +37,14 @@ pub data AreTooMuch (before size : ℕ) (cols : List (List Entry)) : Type 0 wher
   many_entries : Any (λ es. most_entries <ℤ pos (length es)) cols → AreTooMuch before size cols
   long_value : Any (λ es. Any IsTooLong (values es)) cols → AreTooMuch before size cols
   heavy : ((n : ℕ) → AllByRecursion (HasRows n) cols → most_bytes_before < before + sum_by (chunk_weight (parts_of n size)) cols) → AreTooMuch before size cols
+
+-- what was there stands before what is new
+abbrev pub Extends : List ℕ → List ℕ → Type 0
+Extends old new = (text : List ℕ) × (new ≡ old ++ text)
+
+-- the bytes of `new` are those of `old` and a chunk of this file with these entries, which are not too much for a reader
+pub record AppendsColumn (leaf : Leaf) (o : ChunkOptions) (es : List Entry) (old new : List ℕ) (c : ChunkMeta) : Type 0 where
+  pub chunk : AppendsChunk leaf o old new c.meta_data es
+  pub own : IsOwnChunk c
+  pub few : most_entries <ℤ pos (length es) → ⊥
+  pub values_short : AreShort es

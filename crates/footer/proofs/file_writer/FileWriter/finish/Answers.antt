@@ -18,7 +18,7 @@ use Rattle.footer.proofs.Single.{ok_map}
 use Rattle.footer.proofs.InGroups.{in_range}
 use Rattle.footer.proofs.Whole.{means, laid_out, is_heavy, passes_limit}
 use Rattle.footer.proofs.WrittenWithin.{file_within}
-use Rattle.footer.proofs.Written.{last_group, last_written, last_counted, waiting_fit, ok_both}
+use Rattle.footer.proofs.Written.{last_next, last_written, last_counted, next_fit, ok_both}
 use Rattle.footer.proofs.file_writer.FileWriter.finish.Goals as goal
 
 pub returns-in_err-write_waiting-clause-only : goal.returns-in_err-write_waiting-clause-only
@@ -26,7 +26,7 @@ returns-in_err-write_waiting-clause-only c =
     let w = c.args.self in
     let fs = schema_of w in
     passes (λ e. IsFault e → (rows : List ValueTrees) → has_rows w rows → RowsFit fs rows → ⊥) c.from_residual.result c.in_err-write_waiting.field-0.0 c.from_residual.ensures.1
-    (λ fault rows so fit. c.in_err-write_waiting.ensures.only fault (waiting_fit fs (options_of w) w.bytes.items (map group_meta_view w.groups.items) w.waiting.items w.written rows so fit))
+    (λ fault rows so fit. c.in_err-write_waiting.ensures.only fault so.waiting so.held (next_fit w rows so fit))
 
 pub returns-in_err-write_waiting-clause-limit : goal.returns-in_err-write_waiting-clause-limit
 returns-in_err-write_waiting-clause-limit c =
@@ -34,7 +34,7 @@ returns-in_err-write_waiting-clause-limit c =
     let fs = schema_of w in
     let o = options_of w in
     passes_limit ((rows : List ValueTrees) → has_rows w rows → IsTooMuch fs o rows) c.from_residual.result c.in_err-write_waiting.field-0.0 c.from_residual.ensures.1
-    (λ is rows so. c.in_err-write_waiting.ensures.limit (ap Err is) rows [] (last_group fs o w.bytes.items (map group_meta_view w.groups.items) w.waiting.items w.written rows so))
+    (λ is rows so. c.in_err-write_waiting.ensures.limit (ap Err is) so.waiting rows [] (last_next w rows so))
 
 pub returns-clause-means : goal.returns-clause-means
 returns-clause-means c =
@@ -45,11 +45,12 @@ returns-clause-means c =
     let gs = map group_meta_view new.groups.items in
     let meta = file_meta_view c.in_ok-record.record in
     let same = c.in_ok-write_waiting.ensures.same_schema in
-    let is : meta ≡ own_record fs new.written gs = subst (λ (t : Fields). meta ≡ own_record t new.written gs) same c.in_ok-record.ensures.meta_is in
-    let listed : IsSchemaOf (elements_of fs) fs = subst (λ (t : Fields). IsSchemaOf (elements_of t) t) same c.in_ok-record.ensures.listed in
+    let shown = c.schema.ensures ∙ same in
+    let is : meta ≡ own_record fs new.written gs = subst (λ (t : Fields). meta ≡ own_record t new.written gs) shown c.in_ok-record.ensures.meta_is in
+    let listed : IsSchemaOf (elements_of fs) fs = subst (λ (t : Fields). IsSchemaOf (elements_of t) t) shown c.in_ok-record.ensures.listed in
     ok_map (λ (file : Vec ℕ Global). EndsWith new.bytes.items meta file.items) (λ (file : Vec ℕ Global). (rows : List ValueTrees) → has_rows old rows → FileMeans file.items fs rows) c.ended.result
     (λ file ends rows so.
-    let range = in_range o so.in_range in
+    let range = in_range o so.given.in_range in
     let all = last_written old new c.in_ok-write_waiting.ensures.stands same c.in_ok-write_waiting.ensures.same_options rows so in
     means new.written fs o rows new.bytes.items file.items gs meta c.an_appended_group_has_its_rows.ensures range.some is all.0 ends listed)
     c.ended.ensures.stands
@@ -63,7 +64,8 @@ returns-clause-laid_out c =
     let gs = map group_meta_view new.groups.items in
     let meta = file_meta_view c.in_ok-record.record in
     let same = c.in_ok-write_waiting.ensures.same_schema in
-    let is : meta ≡ own_record fs new.written gs = subst (λ (t : Fields). meta ≡ own_record t new.written gs) same c.in_ok-record.ensures.meta_is in
+    let shown = c.schema.ensures ∙ same in
+    let is : meta ≡ own_record fs new.written gs = subst (λ (t : Fields). meta ≡ own_record t new.written gs) shown c.in_ok-record.ensures.meta_is in
     ok_map (λ (file : Vec ℕ Global). EndsWith new.bytes.items meta file.items) (λ (file : Vec ℕ Global). (rows : List ValueTrees) → has_rows old rows → IsLaidOut o fs rows file.items) c.ended.result
     (λ file ends rows so.
     let all = last_written old new c.in_ok-write_waiting.ensures.stands same c.in_ok-write_waiting.ensures.same_options rows so in
@@ -78,7 +80,8 @@ returns-clause-readable c =
     let fs = schema_of old in
     let o = options_of old in
     let same = c.in_ok-write_waiting.ensures.same_schema in
-    let within : IsWithinLimits fs = subst IsWithinLimits same c.in_ok-record.ensures.within in
+    let shown = c.schema.ensures ∙ same in
+    let within : IsWithinLimits fs = subst IsWithinLimits shown c.in_ok-record.ensures.within in
     ok_both (λ (file : Vec ℕ Global). length file.items ≤ most_of_file) (λ (file : Vec ℕ Global). (before footer : List ℕ) → IsFramed file.items before footer → length footer ≤ most_of_footer)
     (λ (file : Vec ℕ Global). (rows : List ValueTrees) → has_rows old rows → IsTaken o.group_rows fs rows file.items) c.ended.result
     (λ file short few rows so.
@@ -95,9 +98,10 @@ returns-clause-within_limits c =
     let gs = map group_meta_view new.groups.items in
     let meta = file_meta_view c.in_ok-record.record in
     let same = c.in_ok-write_waiting.ensures.same_schema in
-    let is : meta ≡ own_record fs new.written gs = subst (λ (t : Fields). meta ≡ own_record t new.written gs) same c.in_ok-record.ensures.meta_is in
-    let listed : IsSchemaOf (elements_of fs) fs = subst (λ (t : Fields). IsSchemaOf (elements_of t) t) same c.in_ok-record.ensures.listed in
-    let small : IsTooLarge (elements_of fs) → ⊥ = subst (λ (t : Fields). IsTooLarge (elements_of t) → ⊥) same c.in_ok-record.ensures.within_limits in
+    let shown = c.schema.ensures ∙ same in
+    let is : meta ≡ own_record fs new.written gs = subst (λ (t : Fields). meta ≡ own_record t new.written gs) shown c.in_ok-record.ensures.meta_is in
+    let listed : IsSchemaOf (elements_of fs) fs = subst (λ (t : Fields). IsSchemaOf (elements_of t) t) shown c.in_ok-record.ensures.listed in
+    let small : IsTooLarge (elements_of fs) → ⊥ = subst (λ (t : Fields). IsTooLarge (elements_of t) → ⊥) shown c.in_ok-record.ensures.within_limits in
     ok_both (λ (file : Vec ℕ Global). EndsWith new.bytes.items meta file.items × length file.items ≤ most_of_file) (λ (file : Vec ℕ Global). (before footer : List ℕ) → IsFramed file.items before footer → length footer ≤ most_of_footer)
     (λ (file : Vec ℕ Global). (rows : List ValueTrees) → has_rows old rows → IsOverLimit file.items → ⊥) c.ended.result
     (λ file both few rows so.
@@ -116,7 +120,8 @@ returns-clause-limit c = λ limit rows so.
     let gs = map group_meta_view new.groups.items in
     let meta = file_meta_view c.in_ok-record.record in
     let same = c.in_ok-write_waiting.ensures.same_schema in
-    let is : meta ≡ own_record fs new.written gs = subst (λ (t : Fields). meta ≡ own_record t new.written gs) same c.in_ok-record.ensures.meta_is in
-    let within : IsWithinLimits fs = subst IsWithinLimits same c.in_ok-record.ensures.within in
+    let shown = c.schema.ensures ∙ same in
+    let is : meta ≡ own_record fs new.written gs = subst (λ (t : Fields). meta ≡ own_record t new.written gs) shown c.in_ok-record.ensures.meta_is in
+    let within : IsWithinLimits fs = subst IsWithinLimits shown c.in_ok-record.ensures.within in
     let all = last_written old new c.in_ok-write_waiting.ensures.stands same c.in_ok-write_waiting.ensures.same_options rows so in
     is_heavy fs o new.written rows new.bytes.items gs meta is all.0 within (c.ended.ensures.limit limit)

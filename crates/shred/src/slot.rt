@@ -1,0 +1,66 @@
+//! Entries whose bytes lie one after the other.
+
+ghost use Rattle.std.specs.Prelude.{◌≡◌, ◌≤◌, length, drop, IfOk, option_map};
+ghost use Rattle.bits.specs.Refusals.{RefusedMemoryOnly};
+ghost use Rattle.schema.specs.Borrowed.{value_ref_view};
+ghost use Rattle.shred.specs.Slots.{slot_size, slot_value};
+ghost use Rattle.shred.specs.inner.Put.{IsPut};
+
+use bits::{R, Refusal};
+use schema::ValueRef;
+
+/// What an entry has for a value. The bytes of byte values lie in their column, in the order of the entries.
+#[derive(Debug, Clone, Copy)]
+pub(crate) enum Slot {
+    Missing,
+    Null,
+    Bool(bool),
+    Int(i64),
+    /// How many bytes the value has.
+    Bytes(usize),
+}
+
+/// An entry of a column whose bytes lie beside it.
+#[derive(Debug, Clone, Copy)]
+pub(crate) struct KeptEntry {
+    pub(crate) repetition: u32,
+    pub(crate) definition: u32,
+    pub(crate) slot: Slot,
+}
+
+/// Puts the bytes of a leaf's value, if it has any, after the bytes of others, and returns its slot.
+pub(crate) fn put_value(value: Option<ValueRef<'_>>, bytes: &mut Vec<u8>) -> R<Slot>
+    ensures stands { IfOk result (λ slot. IsPut slot (option_map value_ref_view value.entry) bytes.old.items bytes.new.items) }
+    ensures which { RefusedMemoryOnly result }
+{
+    match value {
+        None => Ok(Slot::Missing),
+        Some(ValueRef::Null) => Ok(Slot::Null),
+        Some(ValueRef::Bool(b)) => Ok(Slot::Bool(b)),
+        Some(ValueRef::Int(n)) => Ok(Slot::Int(n)),
+        Some(ValueRef::Bytes(own)) => {
+            bytes.extend_from_slice(own)?;
+            Ok(Slot::Bytes(own.len()))
+        }
+        // Never reached: a leaf has no such value.
+        Some(ValueRef::Group(_) | ValueRef::List(_)) => Err(Refusal::Memory),
+    }
+}
+
+/// The value of a slot, whose bytes come first, and the bytes after them.
+pub(crate) fn value_of<'a>(slot: Slot, bytes: &'a [u8]) -> (Option<ValueRef<'a>>, &'a [u8])
+    requires { slot_size slot ≤ length bytes.now }
+    ensures shown { option_map value_ref_view result.0 ≡ slot_value slot bytes.now }
+    ensures rest { result.1.now ≡ drop (slot_size slot) bytes.now }
+{
+    match slot {
+        Slot::Missing => (None, bytes),
+        Slot::Null => (Some(ValueRef::Null), bytes),
+        Slot::Bool(b) => (Some(ValueRef::Bool(b)), bytes),
+        Slot::Int(n) => (Some(ValueRef::Int(n)), bytes),
+        Slot::Bytes(size) => {
+            let (own, others) = bytes.split_at(size);
+            (Some(ValueRef::Bytes(own)), others)
+        }
+    }
+}

@@ -1,0 +1,190 @@
+use bits::{R, Refusal};
+use schema::{Element, EntryRef, Row, Schema, Value, ValueRef};
+use shred::RowBuffer;
+use std::alloc::Global;
+use std::test::*;
+
+/// FieldRepetitionType, Type and ConvertedType, as `parquet.thrift` has them.
+const REQUIRED: i32 = 0;
+
+const OPTIONAL: i32 = 1;
+
+const REPEATED: i32 = 2;
+
+const BOOLEAN: i32 = 0;
+
+const INT64: i32 = 2;
+
+const BYTE_ARRAY: i32 = 6;
+
+fn element(alloc: Global, name: &str, repetition: i32, kind: Option<i32>) -> R<Element> {
+    Ok(Element {
+        kind,
+        type_length: None,
+        repetition_type: Some(repetition),
+        name: Vec::from_slice(alloc, name.as_bytes())?,
+        num_children: None,
+        converted_type: None,
+        scale: None,
+        precision: None,
+        field_id: None,
+        logical_type: None,
+    })
+}
+
+/// A BOOLEAN, an INT64 that may be absent, bytes, and a list of groups with one INT64.
+fn of_all_kinds(alloc: Global) -> R<Schema> {
+    let mut elements = Vec::new(alloc);
+    let mut root = element(alloc, "root", REQUIRED, None)?;
+    root.num_children = Some(4);
+    elements.push(root)?;
+    elements.push(element(alloc, "flag", REQUIRED, Some(BOOLEAN))?)?;
+    elements.push(element(alloc, "number", OPTIONAL, Some(INT64))?)?;
+    elements.push(element(alloc, "bytes", REQUIRED, Some(BYTE_ARRAY))?)?;
+    let mut list = element(alloc, "items", REPEATED, None)?;
+    list.num_children = Some(1);
+    elements.push(list)?;
+    elements.push(element(alloc, "item", REQUIRED, Some(INT64))?)?;
+    Schema::new(alloc, elements.as_slice())
+}
+
+/// Row n: whether n is even; n, but null for each third row; n times the byte n, up to 3; and as many items.
+fn row(alloc: Global, n: u8) -> R<Row> {
+    let mut values = Vec::new(alloc);
+    values.push(Value::Bool(n % 2 == 0))?;
+    let number = Value::Int(n as i64);
+    values.push(if n % 3 == 0 { Value::Null } else { number })?;
+    let (mut bytes, mut items) = (Vec::new(alloc), Vec::new(alloc));
+    for _ in 0..n % 4 {
+        bytes.push(n)?;
+        let mut item = Vec::new(alloc);
+        item.push(Value::Int(n as i64))?;
+        items.push(Value::Group(item))?;
+    }
+    values.push(Value::Bytes(bytes))?;
+    values.push(Value::List(items))?;
+    Ok(Row { values })
+}
+
+/// A row of one value, which does not fit.
+fn short_row(alloc: Global) -> R<Row> {
+    let mut values = Vec::new(alloc);
+    values.push(Value::Bool(true))?;
+    Ok(Row { values })
+}
+
+/// Adds the rows 0 to 249 again and again.
+fn fill(alloc: Global, buffer: &mut RowBuffer<'_>, count: usize) -> R<()> {
+    for n in 0..count {
+        buffer.push(row(alloc, (n % 250) as u8)?)?;
+    }
+    Ok(())
+}
+
+fn is_flag(entry: &EntryRef<'_>, n: u8) -> bool {
+    matches!(entry.value, Some(ValueRef::Bool(flag)) if flag == (n % 2 == 0))
+}
+
+fn is_number(entry: &EntryRef<'_>, n: u8) -> bool {
+    match entry.value {
+        None => n % 3 == 0 && entry.definition == 0,
+        Some(ValueRef::Int(number)) => number == n as i64 && entry.definition == 1,
+        Some(_) => false,
+    }
+}
+
+fn is_bytes(entry: &EntryRef<'_>, n: u8) -> bool {
+    match entry.value {
+        Some(ValueRef::Bytes(bytes)) => {
+            bytes.len() == (n % 4) as usize && bytes.iter().all(|b| *b == n)
+        }
+        _ => false,
+    }
+}
+
+#[test]
+fn thousands_of_rows_have_their_entries(rt: HostRuntime) -> Result<(), Fail> {
+    let alloc = rt.alloc();
+    let schema = of_all_kinds(alloc)?;
+    let mut buffer = RowBuffer::new(alloc, &schema);
+    fill(alloc, &mut buffer, 2500)?;
+    assert_eq!(rt; buffer.len(), 2500);
+    assert_eq!(rt; buffer.schema().leaves().len(), 4);
+    buffer.settle()?;
+    assert_eq!(rt; buffer.len(), 2500);
+    let tests: [fn(&EntryRef<'_>, u8) -> bool; 3] = [is_flag, is_number, is_bytes];
+    for (leaf, is) in tests.iter().enumerate() {
+        let mut entries = Vec::new(alloc);
+        buffer.entries(leaf, &mut entries)?;
+        assert_eq!(rt; entries.len(), 2500);
+        for (i, entry) in entries.iter().enumerate() {
+            assert!(rt; entry.repetition == 0 && is(entry, (i % 250) as u8));
+        }
+    }
+    Ok(())
+}
+
+#[test]
+fn lists_and_empty_lists_have_their_entries(rt: HostRuntime) -> Result<(), Fail> {
+    let alloc = rt.alloc();
+    let schema = of_all_kinds(alloc)?;
+    let mut buffer = RowBuffer::new(alloc, &schema);
+    fill(alloc, &mut buffer, 2000)?;
+    buffer.settle()?;
+    let mut entries = Vec::new(alloc);
+    buffer.entries(3, &mut entries)?;
+    let mut at = 0;
+    for n in 0..2000 {
+        let n = (n % 250) as u8;
+        if n % 4 == 0 {
+            let entry = entries.get(at);
+            assert!(rt;
+                matches!(entry, Some(e) if e.repetition == 0 && e.definition == 0 && e.value.is_none())
+            );
+            at += 1;
+        }
+        for k in 0..n % 4 {
+            let level = if k == 0 { 0 } else { 1 };
+            match entries.get(at) {
+                Some(
+                    EntryRef {
+                        repetition,
+                        definition: 1,
+                        value: Some(ValueRef::Int(number)),
+                    },
+                ) => assert!(rt; *repetition == level && *number == n as i64),
+                _ => assert!(rt; false),
+            }
+            at += 1;
+        }
+    }
+    assert_eq!(rt; at, entries.len());
+    buffer.entries(4, &mut entries)?;
+    assert_eq!(rt; entries.len(), 0);
+    Ok(())
+}
+
+#[test]
+fn a_row_that_does_not_fit_is_found_when_it_is_shredded(rt: HostRuntime) -> Result<(), Fail> {
+    let alloc = rt.alloc();
+    let schema = of_all_kinds(alloc)?;
+    let mut buffer = RowBuffer::new(alloc, &schema);
+    fill(alloc, &mut buffer, 1024)?;
+    buffer.push(short_row(alloc)?)?;
+    assert!(rt; matches!(buffer.settle(), Err(Refusal::RowShape)));
+    fill(alloc, &mut buffer, 1023)?;
+    assert_eq!(rt; buffer.len(), 2048);
+    for _ in 0..2 {
+        let refused = buffer.push(row(alloc, 1)?);
+        assert!(rt; matches!(refused, Err(Refusal::RowShape)));
+        assert_eq!(rt; buffer.len(), 2048);
+    }
+    buffer.clear();
+    assert_eq!(rt; buffer.len(), 0);
+    fill(alloc, &mut buffer, 3)?;
+    buffer.settle()?;
+    let mut entries = Vec::new(alloc);
+    buffer.entries(1, &mut entries)?;
+    assert_eq!(rt; entries.len(), 3);
+    Ok(())
+}
