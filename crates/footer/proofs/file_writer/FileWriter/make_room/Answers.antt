@@ -1,11 +1,10 @@
-use Rattle.std.proofs.Common.{◌≡◌, ◌++◌, ◌<◌, ◌∙◌, List, length, map, arith, Result, Ok, Err}
+use Rattle.std.proofs.Common.{◌≡◌, ◌++◌, List, length, arith, Result, Ok, Err}
 use Rattle.std.proofs.lemmas.Bool.Decides.{nat_tests}
 use Rattle.std.specs.Prelude.{IfErr}
 use Rattle.bits.specs.declared.refusal.Refusal.{Refusal}
-use Rattle.bits.specs.Refusals.{IsFault}
 use Rattle.schema.specs.Values.{ValueTrees}
 use Rattle.shred.specs.Buffer.{holds}
-use Rattle.footer.specs.Writer.{schema_of, options_of}
+use Rattle.footer.specs.Writer.{options_of}
 use Rattle.footer.proofs.Written.{full_next, none_waits_in, next_fit, has_same}
 use Rattle.footer.proofs.file_writer.FileWriter.make_room.Goals as goal
 

@@ -1,4 +1,4 @@
-use Rattle.std.proofs.Common.{◌≡◌, ◌++◌, ◌∷◌, [], List, map, ap, sym, subst, ◌∙◌, Result, Ok, Err}
+use Rattle.std.proofs.Common.{◌≡◌, ◌++◌, ◌∷◌, [], List, map, sym, subst, Result, Ok, Err}
 use Rattle.std.specs.Prelude.{OnErr}
 use Rattle.bits.specs.declared.refusal.Refusal.{Refusal}
 use Rattle.bits.specs.declared.refusal.Refusal.TheVariants.{RowShape, Limit}
@@ -9,7 +9,6 @@ use Rattle.schema.specs.Shape.{Fields}
 use Rattle.schema.specs.Fits.{RowsFit}
 use Rattle.schema.specs.Views.{row_view}
 use Rattle.metadata.specs.Views.{group_meta_view}
-use Rattle.shred.specs.Buffer as buffer
 use Rattle.footer.specs.Writer.{schema_of, options_of, has_rows, AreGiven}
 use Rattle.footer.specs.Writing.{IsTooMuch}
 use Rattle.footer.proofs.Whole.{passes_limit}
