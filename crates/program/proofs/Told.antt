@@ -146,7 +146,7 @@ file_of_lines fs o texts writer (Ok file) rows told has schema options means lai
   read = told;
   means = rw (← schema) (means rows has);
   laid_out = rw (← schema, ← options) (laid rows has);
-  in_range = subst (λ (k : WriteOptions). IsOutOfRange k → ⊥) options has.in_range;
+  in_range = subst (λ (k : WriteOptions). IsOutOfRange k → ⊥) options has.given.in_range;
 }
 
 -- what is refused at the end

@@ -81,6 +81,13 @@ fn fill(alloc: Global, buffer: &mut RowBuffer<'_>, count: usize) -> R<()> {
     Ok(())
 }
 
+/// The entries of a leaf.
+fn entries_of<'b>(alloc: Global, buffer: &'b RowBuffer<'_>, leaf: usize) -> R<Vec<EntryRef<'b>>> {
+    let mut entries = Vec::new(alloc);
+    buffer.entries(leaf, &mut entries)?;
+    Ok(entries)
+}
+
 fn is_flag(entry: &EntryRef<'_>, n: u8) -> bool {
     matches!(entry.value, Some(ValueRef::Bool(flag)) if flag == (n % 2 == 0))
 }
@@ -102,6 +109,24 @@ fn is_bytes(entry: &EntryRef<'_>, n: u8) -> bool {
     }
 }
 
+/// Whether the entry at an index has these levels, repetition first, and this number or none.
+fn is_item(
+    entries: &[EntryRef<'_>],
+    index: usize,
+    levels: (u32, u32),
+    number: Option<i64>,
+) -> bool {
+    let Some(entry) = entries.get(index) else {
+        return false;
+    };
+    let same = match (entry.value, number) {
+        (None, None) => true,
+        (Some(ValueRef::Int(found)), Some(number)) => found == number,
+        _ => false,
+    };
+    same && (entry.repetition, entry.definition) == levels
+}
+
 #[test]
 fn thousands_of_rows_have_their_entries(rt: HostRuntime) -> Result<(), Fail> {
     let alloc = rt.alloc();
@@ -112,14 +137,16 @@ fn thousands_of_rows_have_their_entries(rt: HostRuntime) -> Result<(), Fail> {
     assert_eq!(rt; buffer.schema().leaves().len(), 4);
     buffer.settle()?;
     assert_eq!(rt; buffer.len(), 2500);
-    let tests: [fn(&EntryRef<'_>, u8) -> bool; 3] = [is_flag, is_number, is_bytes];
-    for (leaf, is) in tests.iter().enumerate() {
-        let mut entries = Vec::new(alloc);
-        buffer.entries(leaf, &mut entries)?;
-        assert_eq!(rt; entries.len(), 2500);
-        for (i, entry) in entries.iter().enumerate() {
-            assert!(rt; entry.repetition == 0 && is(entry, (i % 250) as u8));
-        }
+    let flags = entries_of(alloc, &buffer, 0)?;
+    let numbers = entries_of(alloc, &buffer, 1)?;
+    let texts = entries_of(alloc, &buffer, 2)?;
+    assert_eq!(rt;
+        (flags.len(), numbers.len(), texts.len()),
+        (2500, 2500, 2500)
+    );
+    for i in 0..2500 {
+        let n = (i % 250) as u8;
+        assert!(rt; is_flag(&flags[i], n) && is_number(&numbers[i], n) && is_bytes(&texts[i], n));
     }
     Ok(())
 }
@@ -131,36 +158,22 @@ fn lists_and_empty_lists_have_their_entries(rt: HostRuntime) -> Result<(), Fail>
     let mut buffer = RowBuffer::new(alloc, &schema);
     fill(alloc, &mut buffer, 2000)?;
     buffer.settle()?;
-    let mut entries = Vec::new(alloc);
-    buffer.entries(3, &mut entries)?;
+    let entries = entries_of(alloc, &buffer, 3)?;
     let mut at = 0;
-    for n in 0..2000 {
+    for n in 0..2000u32 {
         let n = (n % 250) as u8;
         if n % 4 == 0 {
-            let entry = entries.get(at);
-            assert!(rt;
-                matches!(entry, Some(e) if e.repetition == 0 && e.definition == 0 && e.value.is_none())
-            );
+            assert!(rt; is_item(&entries, at, (0, 0), None));
             at += 1;
         }
         for k in 0..n % 4 {
-            let level = if k == 0 { 0 } else { 1 };
-            match entries.get(at) {
-                Some(
-                    EntryRef {
-                        repetition,
-                        definition: 1,
-                        value: Some(ValueRef::Int(number)),
-                    },
-                ) => assert!(rt; *repetition == level && *number == n as i64),
-                _ => assert!(rt; false),
-            }
+            let repetition = if k == 0 { 0 } else { 1 };
+            assert!(rt; is_item(&entries, at, (repetition, 1), Some(i64::from(n))));
             at += 1;
         }
     }
     assert_eq!(rt; at, entries.len());
-    buffer.entries(4, &mut entries)?;
-    assert_eq!(rt; entries.len(), 0);
+    assert!(rt; entries_of(alloc, &buffer, 4)?.is_empty());
     Ok(())
 }
 
@@ -183,8 +196,6 @@ fn a_row_that_does_not_fit_is_found_when_it_is_shredded(rt: HostRuntime) -> Resu
     assert_eq!(rt; buffer.len(), 0);
     fill(alloc, &mut buffer, 3)?;
     buffer.settle()?;
-    let mut entries = Vec::new(alloc);
-    buffer.entries(1, &mut entries)?;
-    assert_eq!(rt; entries.len(), 3);
+    assert_eq!(rt; entries_of(alloc, &buffer, 1)?.len(), 3);
     Ok(())
 }
