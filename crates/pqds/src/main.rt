@@ -10,10 +10,10 @@ use std::process::ExitCode;
 /// The status of the program, which is then done. An argument that is not UTF-8 cannot be handed over.
 fn run(rt: &HostRuntime) -> R<u8> {
     let alloc = rt.alloc();
-    let words = env::args(rt).map_err(refusal_of)?;
+    let words = env::args(rt).map_err(|error| refusal_of(error))?;
     let words: Vec<String> = words.skip(1).collect(alloc)?;
     let gathered = BufWriter::with_capacity(alloc, OUTPUT_BUFFER_BYTES, rt.stdout());
-    let mut out = gathered.map_err(refusal_of)?;
+    let mut out = gathered.map_err(|error| refusal_of(error))?;
     let terminals = Terminals {
         out: rt.stdout().is_terminal(),
         err: rt.stderr().is_terminal(),

@@ -133,7 +133,7 @@ fn is_there(rt: &HostRuntime, path: &str) -> bool {
 
 /// The bytes at a path, which are taken away.
 fn taken(rt: &HostRuntime, path: &str) -> R<Vec<u8>> {
-    let bytes = fs::read(rt, path).map_err(refusal_of)?;
+    let bytes = fs::read(rt, path).map_err(|error| refusal_of(error))?;
     let _ = fs::remove_file(rt, path);
     Ok(bytes)
 }

@@ -164,12 +164,12 @@ fn lists_and_empty_lists_have_their_entries(rt: HostRuntime) -> Result<(), Fail>
         let n = (n % 250) as u8;
         if n % 4 == 0 {
             assert!(rt; is_item(&entries, at, (0, 0), None));
-            at += 1;
+            at = at.saturating_add(1);
         }
         for k in 0..n % 4 {
             let repetition = if k == 0 { 0 } else { 1 };
             assert!(rt; is_item(&entries, at, (repetition, 1), Some(i64::from(n))));
-            at += 1;
+            at = at.saturating_add(1);
         }
     }
     assert_eq!(rt; at, entries.len());
