@@ -256,7 +256,7 @@ SCHEMA = [
 
 def our_row(i, rng):
     some = lambda value: None if rng.random() < 0.25 else value
-    return {"b": some(i % 2 == 0), "n": i - 50, "u": some((i * 2654435761) % 2**32), "l": some((i * 7919) ** 3 - 2**40), "day": i % 20000,
+    return {"b": some(i % 2 == 0), "n": i - 50, "u": some((i * 2654435761) % 2**32), "l": some((i * 7919) ** 3 % 2**62 - 2**40), "day": i % 20000,
             "t": some(["", "axle", "Grüße \"x\"", f"value {i % 7}"][i % 4]), "raw": bytes(rng.randrange(256) for _ in range(i % 6)).hex(),
             "f": some(f"{i % 2**24:06x}"), "xs": some({"list": [{"element": some(i + k)} for k in range(i % 4)]}), "g": some({"a": i, "s": some("s" * (i % 5))})}
 
