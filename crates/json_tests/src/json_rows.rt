@@ -319,21 +319,43 @@ fn a_reader_reads_what_row_from_reads(rt: HostRuntime) -> Result<(), Fail> {
     Ok(())
 }
 
-const NUMBER_NULL_AND_TEXT: &str = r#"[{"name":"a","rep":"required","type":"int64"},{"name":"b","rep":"optional","type":"boolean"},{"name":"c","rep":"required","type":"bytes","note":"utf8"}]"#;
+const NUMBER_NULL_AND_TEXT: &str =
+    r#"[{"name":"a","rep":"required","type":"int64"},{"name":"b","rep":"optional","type":"boolean"},{"name":"c","rep":"required","type":"bytes","note":"utf8"}]"#;
 
 /// Lines that are the text of a row or differ from one by little, and what comes of each.
 const NEARLY_PRINTED: [[&str; 2]; 15] = [
     [r#"{"a":1,"b":null,"c":"x"}"#, r#"{"a":1,"b":null,"c":"x"}"#],
     [r#"{"a":-1,"b":true,"c":""}"#, r#"{"a":-1,"b":true,"c":""}"#],
-    [r#"{"a":0,"b":false,"c":"a text of more than 32 bytes, é too"}"#, r#"{"a":0,"b":false,"c":"a text of more than 32 bytes, é too"}"#],
+    [
+        r#"{"a":0,"b":false,"c":"a text of more than 32 bytes, é too"}"#,
+        r#"{"a":0,"b":false,"c":"a text of more than 32 bytes, é too"}"#,
+    ],
     [r#"{"a":01,"b":null,"c":"x"}"#, "29 Script"],
     [r#"{"a":-0,"b":null,"c":"x"}"#, "14 RowShape"],
-    [r#"{"a":9223372036854775808,"b":null,"c":"x"}"#, "14 RowShape"],
-    [r#"{"a":-9223372036854775809,"b":null,"c":"x"}"#, "14 RowShape"],
-    [r#"{"a":18446744073709551616,"b":null,"c":"x"}"#, "14 RowShape"],
-    [r#"{"a":1,"b":null,"c":"\u0078"}"#, r#"{"a":1,"b":null,"c":"x"}"#],
-    [r#"{"a":1,"b":null,"c":"x"} "#, r#"{"a":1,"b":null,"c":"x"}"#],
-    [r#"{"a": 1,"b":null,"c":"x"}"#, r#"{"a":1,"b":null,"c":"x"}"#],
+    [
+        r#"{"a":9223372036854775808,"b":null,"c":"x"}"#,
+        "14 RowShape",
+    ],
+    [
+        r#"{"a":-9223372036854775809,"b":null,"c":"x"}"#,
+        "14 RowShape",
+    ],
+    [
+        r#"{"a":18446744073709551616,"b":null,"c":"x"}"#,
+        "14 RowShape",
+    ],
+    [
+        r#"{"a":1,"b":null,"c":"\u0078"}"#,
+        r#"{"a":1,"b":null,"c":"x"}"#,
+    ],
+    [
+        r#"{"a":1,"b":null,"c":"x"} "#,
+        r#"{"a":1,"b":null,"c":"x"}"#,
+    ],
+    [
+        r#"{"a": 1,"b":null,"c":"x"}"#,
+        r#"{"a":1,"b":null,"c":"x"}"#,
+    ],
     [r#"{"c":"x","a":1}"#, r#"{"a":1,"b":null,"c":"x"}"#],
     [r#"{"a":1,"b":nul,"c":"x"}"#, "29 Script"],
     [r#"{"a":1,"b":null,"c":"x"}}"#, "29 Script"],
