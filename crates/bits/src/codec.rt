@@ -43,7 +43,8 @@ pub trait ValueCodec {
     /// Writes the values at the end of `out`. Refused Value only where no bytes stand for them, and
     /// Limit exactly when they are over a limit; then `out` is unchanged.
     fn encode(&self, values: &[Self::Value], out: &mut Vec<u8>) -> R<()>
-        ensures stands { let seen = map shown values.now in OnOk result (AppendsValues (stands self.now) (most self.now seen) seen out.old.items out.new.items) }
+        ensures stands { let seen = map shown values.now in
+            OnOk result (AppendsValues (stands self.now) (most self.now seen) seen out.old.items out.new.items) }
         ensures only { let seen = map shown values.now in OnFault result ((bytes : List ℕ) (used : ℕ) → stands self.now (length seen) bytes seen used → ⊥) }
         ensures which { RefusedOnly (λ e. (e ≡ Refusal.Value) ⊎ (e ≡ Refusal.Limit)) result }
         ensures limit { LimitJustWhere (writes_over self.now (map shown values.now)) result }

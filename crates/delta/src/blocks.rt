@@ -61,7 +61,8 @@ fn take_miniblocks<T: Integer>(
 ) -> R<usize>
     requires whole { size % 32 ≡ 0 }
     requires some { 0 < vec_len values.old }
-    ensures taken { IfOk result (AreTaken (AreMiniblocks size widths.now bytes.now) T.width least left (map T.seen values.old.items) (map T.seen values.new.items)) }
+    ensures taken { IfOk result (AreTaken (AreMiniblocks size widths.now bytes.now) T.width least left (map T.seen values.old.items)
+        (map T.seen values.new.items)) }
     ensures some { OnOk result (0 < vec_len values.new) }
     ensures within { IfOk result (λ used. used ≤ length bytes.now) }
     ensures only { OnFault result (NothingStands (AreMiniblocks size widths.now bytes.now)) }

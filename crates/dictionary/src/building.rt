@@ -32,7 +32,8 @@ fn index_of<'a>(
     ensures same { IfOk result (λ found. IfSome found (λ _. map key_view keys.new.keys ≡ map view entries.new.items)) }
     ensures few { IfOk result (λ found. IfSome found (λ _. length entries.new.items ≤ 65536)) }
     ensures full { let v = value_ref_view value.entry in IfOk result (λ found. IfNone found (IsFull 65536 (map view entries.old.items) v)) }
-    ensures placed { let v = value_ref_view value.entry in IfOk result (λ found. IfSome found (λ at. IsPlaced (map view entries.old.items) v at (map view entries.new.items))) }
+    ensures placed { let v = value_ref_view value.entry in
+        IfOk result (λ found. IfSome found (λ at. IsPlaced (map view entries.old.items) v at (map view entries.new.items))) }
     ensures of_leaf { OnOk result (IsLeafValue (value_ref_view value.entry)) }
     ensures only { OnFault result (IsLeafValue (value_ref_view value.entry) → ⊥) }
     ensures which { RefusedOnly (λ e. e ≡ Refusal.Value) result }

@@ -75,9 +75,11 @@ impl Dictionary {
     /// Refused Value exactly when an entry is not of the type, and Limit exactly when all are and one
     /// has more than 16 MiB. On a refusal `out` is unchanged.
     pub fn write(&self, kind: Kind, out: &mut Vec<u8>) -> R<()>
-        ensures stands { let seen = entries_of self.now in OnOk result (Appends (λ bytes. IsPlain kind (length seen) bytes seen) (plain_size kind seen) out.old.items out.new.items) }
+        ensures stands { let seen = entries_of self.now in
+            OnOk result (Appends (λ bytes. IsPlain kind (length seen) bytes seen) (plain_size kind seen) out.old.items out.new.items) }
         ensures size { OnOk result (length out.new.items ≡ length out.old.items + plain_size kind (entries_of self.now)) }
-        ensures padding { let seen = entries_of self.now in OnOk result (Appends (HasZeroPadding kind (length seen)) (plain_size kind seen) out.old.items out.new.items) }
+        ensures padding { let seen = entries_of self.now in
+            OnOk result (Appends (HasZeroPadding kind (length seen)) (plain_size kind seen) out.old.items out.new.items) }
         ensures only { let seen = entries_of self.now in OnFault result ((bytes : List ℕ) (used : ℕ) → IsPlain kind (length seen) bytes seen used → ⊥) }
         ensures unfit { OnFault result (All (IsOfKind kind) (entries_of self.now) → ⊥) }
         ensures which { RefusedOnly (λ e. (e ≡ Refusal.Value) ⊎ (e ≡ Refusal.Limit)) result }

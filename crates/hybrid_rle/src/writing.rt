@@ -21,7 +21,8 @@ use bits::{R, Refusal, pack, write_uleb};
 /// `out` is unchanged. Takes time in the numbers; each is looked at at most three times.
 pub fn encode<T: Number>(width: u32, numbers: &[T], out: &mut Vec<u8>) -> R<()>
     requires { width ≤ 64 }
-    ensures stands { let seen = map T.seen numbers.now in OnOk result (Appends (λ bytes. IsHybrid width bytes (length seen) seen) (80 + 9 * length seen) out.old.items out.new.items) }
+    ensures stands { let seen = map T.seen numbers.now in
+        OnOk result (Appends (λ bytes. IsHybrid width bytes (length seen) seen) (80 + 9 * length seen) out.old.items out.new.items) }
     ensures only { let seen = map T.seen numbers.now in OnFault result ((bytes : List ℕ) (used : ℕ) → IsHybrid width bytes (length seen) seen used → ⊥) }
     ensures unfit { OnFault result (All (λ x. x < 2 ^ width) (map T.seen numbers.now) → ⊥) }
     ensures which { RefusedOnly (λ e. e ≡ Refusal.Value) result }
@@ -103,7 +104,8 @@ fn count_to_pack<T: Number>(numbers: &[T]) -> usize
 fn put_repeated(width: u32, number: u64, count: usize, out: &mut Vec<u8>) -> R<()>
     requires wide { width ≤ 64 }
     requires held { count < 2 ^ 63 }
-    ensures put { (xs : List ℕ) → 8 ≤ count → count ≤ length xs → take count xs ≡ replicate count number → OnOk result (IsPut width xs out.old.items out.new.items count) }
+    ensures put { (xs : List ℕ) → 8 ≤ count → count ≤ length xs → take count xs ≡ replicate count number
+        → OnOk result (IsPut width xs out.old.items out.new.items count) }
     ensures unfit { OnFault result (number < 2 ^ width → ⊥) }
     ensures which { RefusedOnly (λ e. e ≡ Refusal.Value) result }
     ensures front { Extends out.old.items out.new.items }

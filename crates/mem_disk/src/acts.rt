@@ -30,7 +30,8 @@ impl Held {
         ensures effect { (f g r s : ℕ) → AlsoFailed (Created path.now (state_held self.old f r) (state_held self.new g s)) result }
         ensures passes { trip ≡ Trip.Passes → IsErrOf result Failed → ⊥ }
         ensures nothing { trip ≡ Trip.Fails Done.Nothing → self.new.calls.items ≡ self.old.calls.items }
-        ensures extent { IsVacant (image_held self.old) path.now → DoesBy (taken (λ l. bound l path.now (File (next_node self.old)))) trip self.old self.new result }
+        ensures extent { IsVacant (image_held self.old) path.now
+            → DoesBy (taken (λ l. bound l path.now (File (next_node self.old)))) trip self.old self.new result }
         ensures out_of_memory { IsErrOf result Memory → IsToBeDone trip (IsVacant (image_held self.old) path.now) }
         ensures whole { OnOk result (loose_held self.new ≡ bound (loose_held self.old) path.now (File (next_node self.old))) }
         ensures unable { (IsVacant (image_held self.old) path.now → ⊥) → self.new.calls.items ≡ self.old.calls.items }

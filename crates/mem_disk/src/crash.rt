@@ -175,7 +175,8 @@ fn torn_nodes(alloc: Global, nodes: &[Node], picks: &mut Picks<'_>) -> Result<Ve
 fn left_of(held: &Held, picks: &mut Picks<'_>) -> Result<Held, AllocError>
     ensures image { IfOk result (λ left. (f r g s : ℕ) → may_leave (state_with held.now.calls.items f r) (state_with left.calls.items g s).seen) }
     ensures rest { IfOk result (λ left. IsAtRest (state_with left.calls.items 0 0)) }
-    ensures words { IfOk result (λ left. ArePickedBy held.now.names.list.items held.now.nodes.items (words_left picks.old) (state_with left.calls.items 0 0).seen) }
+    ensures words { IfOk result (λ left. ArePickedBy held.now.names.list.items held.now.nodes.items (words_left picks.old)
+        (state_with left.calls.items 0 0).seen) }
 {
     let picked = picked_names(held.alloc, &held.names.list, picks)?;
     let picked = Names::of(held.alloc, picked)?;

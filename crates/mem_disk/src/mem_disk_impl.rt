@@ -31,7 +31,8 @@ impl Disk for MemDisk {
         ensures fuse { Burns self.old.fuse self.new.fuse result }
         ensures passes { trip_of self.old.fuse ≡ case.Passes → IsErrOf result Fault.Failed → ⊥ }
         ensures nothing { trip_of self.old.fuse ≡ case.Fails extent.Nothing → self.new.held.calls.items ≡ self.old.held.calls.items }
-        ensures extent { IsVacant (state_of self.old).seen path.now → FailsBy (taken (λ l. bound l path.now (File (next_node self.old.held)))) self.old self.new }
+        ensures extent { IsVacant (state_of self.old).seen path.now
+            → FailsBy (taken (λ l. bound l path.now (File (next_node self.old.held)))) self.old self.new }
         ensures ample { ShortOnlyWhere (IsVacant (state_of self.old).seen path.now) self.old self.new result }
         ensures whole { OnOk result (loose_in self.new ≡ bound (loose_in self.old) path.now (File (next_node self.old.held))) }
         ensures unable { (IsVacant (state_of self.old).seen path.now → ⊥) → self.new.held.calls.items ≡ self.old.held.calls.items }
@@ -147,7 +148,8 @@ impl Disk for MemDisk {
         ensures nothing { trip_of self.old.fuse ≡ case.Fails extent.Nothing → (loose_in self.new).synced ≡ (loose_in self.old).synced }
         ensures extent { (n : ℕ) → IsFileAt self.old.held path.now n → IsSure self.old.held n → FailsBy (doubtful n) self.old self.new }
         ensures ample { StaysUnlessShort (IsSureFile (loose_in self.old) path.now) result self.old.shortages self.new.shortages }
-        ensures whole { (n : ℕ) → IsFileAt self.old.held path.now n → IsSure self.old.held n → OnOk result (loose_in self.new ≡ node_synced (loose_in self.old) n) }
+        ensures whole { (n : ℕ) → IsFileAt self.old.held path.now n → IsSure self.old.held n
+            → OnOk result (loose_in self.new ≡ node_synced (loose_in self.old) n) }
         ensures unable { (IsSureFile (loose_in self.old) path.now → ⊥) → self.new.held.calls.items ≡ self.old.held.calls.items }
     {
         let trip = self.fuse.burn();

@@ -39,7 +39,8 @@ impl Held {
         from: u64,
         len: usize,
     ) -> Result<Vec<u8>, Fault>
-        ensures effect { (f g r s : ℕ) → AlsoFailed (RangeRead (λ bytes. bytes.items) path.now from len (state_held self.now f r) (state_held self.now g s)) result }
+        ensures effect { (f g r s : ℕ) → AlsoFailed (RangeRead (λ bytes. bytes.items) path.now from len (state_held self.now f r)
+            (state_held self.now g s)) result }
         ensures which { IfErr result (λ e. (e ≡ Absent) ⊎ (e ≡ Memory)) }
     {
         let Binding::File(node) = self.binding(path) else {

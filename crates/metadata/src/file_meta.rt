@@ -87,8 +87,10 @@ impl FileMeta {
     /// element nests deeper than 29, or no bytes have it. After a refusal `out` is unchanged.
     pub fn write(&self, alloc: Global, out: &mut Vec<u8>) -> R<()>
         ensures stands { OnOk result (AppendsStruct (file_meta_fields (file_meta_view self.now)) out.old.items out.new.items) }
-        ensures read_again { let seen = file_meta_view self.now in OnOk result (AppendsRecord file_meta seen (size_struct (file_meta_fields seen)) out.old.items out.new.items) }
-        ensures weight { let seen = file_meta_view self.now in (keys : List (List ℕ)) → IsOfTheWriter keys seen → OnOk result (length out.new.items ≤ length out.old.items + footer_weight keys seen) }
+        ensures read_again { let seen = file_meta_view self.now in
+            OnOk result (AppendsRecord file_meta seen (size_struct (file_meta_fields seen)) out.old.items out.new.items) }
+        ensures weight { let seen = file_meta_view self.now in
+            (keys : List (List ℕ)) → IsOfTheWriter keys seen → OnOk result (length out.new.items ≤ length out.old.items + footer_weight keys seen) }
         ensures only { OnFault result ((bytes : List ℕ) (used : ℕ) → StandsFor file_meta bytes (file_meta_view self.now) used → ⊥) }
         ensures which { RefusedOnly (λ e. (e ≡ Refusal.Thrift) × (EachKeepsWritten (file_meta_view self.now) → ⊥)) result }
         ensures unchanged { OnErr result (out.new.items ≡ out.old.items) }

@@ -99,7 +99,8 @@ impl PageHeader {
     /// not there. After a refusal `out` is unchanged.
     pub fn write(&self, alloc: Global, out: &mut Vec<u8>) -> R<()>
         ensures stands { OnOk result (AppendsStruct (page_header_fields (page_header_view self.now)) out.old.items out.new.items) }
-        ensures read_again { let seen = page_header_view self.now in OnOk result (AppendsRecord page_header seen (size_struct (page_header_fields seen)) out.old.items out.new.items) }
+        ensures read_again { let seen = page_header_view self.now in
+            OnOk result (AppendsRecord page_header seen (size_struct (page_header_fields seen)) out.old.items out.new.items) }
         ensures only { OnFault result ((bytes : List ℕ) (used : ℕ) → StandsFor page_header bytes (page_header_view self.now) used → ⊥) }
         ensures which { RefusedOnly (λ e. (e ≡ Refusal.Thrift) × (has_own_header (page_header_view self.now) ≡ false)) result }
         ensures unchanged { OnErr result (out.new.items ≡ out.old.items) }

@@ -143,7 +143,8 @@ pub fn put_given<T: ToNode>(
     id: i16,
     value: &Option<T>,
 ) -> R<()>
-    ensures stands { OnOk result (map field_view fields.new.items ≡ map field_view fields.old.items ++ present id (option_map T.write (option_map T.shown value.now))) }
+    ensures stands { OnOk result (map field_view fields.new.items ≡ map field_view fields.old.items ++ present id
+        (option_map T.write (option_map T.shown value.now))) }
     ensures which { RefusedMemoryOnly result }
 {
     match value {

@@ -33,10 +33,12 @@ pub fn read_data_page_v1<'a>(
     dictionary: Option<&[ValueRef<'a>]>,
     left: usize,
 ) -> R<DataPage<'a>>
-    ensures stands { let d = dictionary_view dictionary.entry in IfOk result (λ p. IsBodyV1 (leaf_view leaf.now) d (data_page_header_view header.now) body.now (entries_left p)) }
+    ensures stands { let d = dictionary_view dictionary.entry in
+        IfOk result (λ p. IsBodyV1 (leaf_view leaf.now) d (data_page_header_view header.now) body.now (entries_left p)) }
     ensures at_most_left { IfOk result (λ p. length (entries_left p) ≤ left) }
     ensures within_limits { OnOk result (IsDataOver (leaf_view leaf.now) (data_page_header_view header.now) body.now → ⊥) }
-    ensures only { let d = dictionary_view dictionary.entry in OnFault result ((es : List Entry) → IsBodyV1 (leaf_view leaf.now) d (data_page_header_view header.now) body.now es → length es ≤ left → ⊥) }
+    ensures only { let d = dictionary_view dictionary.entry in
+        OnFault result ((es : List Entry) → IsBodyV1 (leaf_view leaf.now) d (data_page_header_view header.now) body.now es → length es ≤ left → ⊥) }
     ensures limit { result ≡ Err Refusal.Limit → IsDataOver (leaf_view leaf.now) (data_page_header_view header.now) body.now }
     ensures which { RefusedOnly IsOfPages result }
 {
@@ -64,10 +66,12 @@ pub fn read_data_page_v2<'a>(
     dictionary: Option<&[ValueRef<'a>]>,
     left: usize,
 ) -> R<DataPage<'a>>
-    ensures stands { let d = dictionary_view dictionary.entry in IfOk result (λ p. IsBodyV2 (leaf_view leaf.now) d (data_page_header_v2_view header.now) body.now (entries_left p)) }
+    ensures stands { let d = dictionary_view dictionary.entry in
+        IfOk result (λ p. IsBodyV2 (leaf_view leaf.now) d (data_page_header_v2_view header.now) body.now (entries_left p)) }
     ensures at_most_left { IfOk result (λ p. length (entries_left p) ≤ left) }
     ensures within_limits { OnOk result (IsDataOverV2 (leaf_view leaf.now) (data_page_header_v2_view header.now) body.now → ⊥) }
-    ensures only { let d = dictionary_view dictionary.entry in OnFault result ((es : List Entry) → IsBodyV2 (leaf_view leaf.now) d (data_page_header_v2_view header.now) body.now es → length es ≤ left → ⊥) }
+    ensures only { let d = dictionary_view dictionary.entry in
+        OnFault result ((es : List Entry) → IsBodyV2 (leaf_view leaf.now) d (data_page_header_v2_view header.now) body.now es → length es ≤ left → ⊥) }
     ensures limit { result ≡ Err Refusal.Limit → IsDataOverV2 (leaf_view leaf.now) (data_page_header_v2_view header.now) body.now }
     ensures which { RefusedOnly IsOfPages result }
 {
@@ -111,9 +115,11 @@ fn read_entries<'a>(
 ) -> R<DataPage<'a>>
     requires within { AreWithin (leaf_view leaf.now) (levels_of repetitions) (levels_of definitions) }
     requires paired { length (levels_of repetitions) ≡ length (levels_of definitions) }
-    ensures stands { let d = dictionary_view dictionary.entry in IfOk result (λ p. AreEntries (leaf_view leaf.now) d encoding bytes.now (levels_of repetitions) (levels_of definitions) (entries_left p)) }
+    ensures stands { let d = dictionary_view dictionary.entry in
+        IfOk result (λ p. AreEntries (leaf_view leaf.now) d encoding bytes.now (levels_of repetitions) (levels_of definitions) (entries_left p)) }
     ensures within_limits { OnOk result (IsValueOver leaf.now.leaf_type.kind encoding bytes.now (full (leaf_view leaf.now) (levels_of definitions)) → ⊥) }
-    ensures only { let d = dictionary_view dictionary.entry in OnFault result ((es : List Entry) → AreEntries (leaf_view leaf.now) d encoding bytes.now (levels_of repetitions) (levels_of definitions) es → ⊥) }
+    ensures only { let d = dictionary_view dictionary.entry in
+        OnFault result ((es : List Entry) → AreEntries (leaf_view leaf.now) d encoding bytes.now (levels_of repetitions) (levels_of definitions) es → ⊥) }
     ensures limit { result ≡ Err Refusal.Limit → IsValueOver leaf.now.leaf_type.kind encoding bytes.now (full (leaf_view leaf.now) (levels_of definitions)) }
     ensures which { RefusedOnly IsOfPages result }
 {

@@ -30,8 +30,10 @@ pub fn write_dictionary_page(
     dictionary: &Dictionary,
     out: &mut Vec<u8>,
 ) -> R<()>
-    ensures stands { let vs = entries_of dictionary.now in OnOk result (Appends (StandsAsDictionary kind vs) (dictionary_weight vs) out.old.items out.new.items) }
-    ensures written { let vs = entries_of dictionary.now in OnOk result (Appends (IsWrittenDictionary kind vs) (dictionary_weight vs) out.old.items out.new.items) }
+    ensures stands { let vs = entries_of dictionary.now in
+        OnOk result (Appends (StandsAsDictionary kind vs) (dictionary_weight vs) out.old.items out.new.items) }
+    ensures written { let vs = entries_of dictionary.now in
+        OnOk result (Appends (IsWrittenDictionary kind vs) (dictionary_weight vs) out.old.items out.new.items) }
     ensures within_limits { OnOk result (Any IsTooLong (entries_of dictionary.now) → ⊥) }
     ensures size { OnOk result (length out.new.items ≤ length out.old.items + 2147484671) }
     ensures only { OnFault result (All (IsOfKind kind) (entries_of dictionary.now) → ⊥) }
@@ -54,7 +56,8 @@ fn put_dictionary_page(
     dictionary: &Dictionary,
     out: &mut Vec<u8>,
 ) -> R<()>
-    ensures written { let vs = entries_of dictionary.now in OnOk result (Appends (IsWrittenDictionary kind vs) (dictionary_weight vs) out.old.items out.new.items) }
+    ensures written { let vs = entries_of dictionary.now in
+        OnOk result (Appends (IsWrittenDictionary kind vs) (dictionary_weight vs) out.old.items out.new.items) }
     ensures within_limits { OnOk result (Any IsTooLong (entries_of dictionary.now) → ⊥) }
     ensures size { OnOk result (length out.new.items ≤ length out.old.items + 2147484671) }
     ensures only { OnFault result (All (IsOfKind kind) (entries_of dictionary.now) → ⊥) }

@@ -49,7 +49,8 @@ pub(crate) fn put_data_header(
     requires rows { head.rows ≤ head.entries }
     requires repetitions { sections.repetitions ≤ size }
     requires definitions { sections.definitions ≤ size }
-    ensures stands { let h = data_header_shown head.version head.encoding head.entries head.nulls head.rows size sections.repetitions sections.definitions in OnOk result (Appends (λ bytes. IsThrift bytes (page_header_fields h)) 128 out.old.items out.new.items) }
+    ensures stands { let h = data_header_shown head.version head.encoding head.entries head.nulls head.rows size
+        sections.repetitions sections.definitions in OnOk result (Appends (λ bytes. IsThrift bytes (page_header_fields h)) 128 out.old.items out.new.items) }
     ensures fits { OnOk result ((size ≤ most_of_page) × (head.entries ≤ most_of_page)) }
     ensures limit { result ≡ Err Refusal.Limit → (most_of_page < size) ⊎ (most_of_page < head.entries) }
     ensures which { RefusedOnly (λ e. e ≡ Refusal.Limit) result }
@@ -70,7 +71,8 @@ fn data_header(head: DataPageHead, size: usize, sections: SectionSizes) -> PageH
     requires definitions { sections.definitions ≤ size }
     requires size { size ≤ most_of_page }
     requires entries { head.entries ≤ most_of_page }
-    ensures { page_header_view result ≡ data_header_shown head.version head.encoding head.entries head.nulls head.rows size sections.repetitions sections.definitions }
+    ensures { page_header_view result ≡ data_header_shown head.version head.encoding head.entries head.nulls head.rows size
+        sections.repetitions sections.definitions }
 {
     match head.version {
         PageVersion::V1 => PageHeader {

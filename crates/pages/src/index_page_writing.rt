@@ -42,12 +42,16 @@ pub fn write_index_page(
     scratch: &mut Vec<u8>,
     out: &mut Vec<u8>,
 ) -> R<()>
-    ensures stands { let es = map entry_ref_view entries.now in OnOk result (Appends (StandsByIndexes (leaf_view leaf.now) size indexes.now es) (index_weight (length es)) out.old.items out.new.items) }
-    ensures written { let es = map entry_ref_view entries.now in OnOk result (Appends (IsWrittenPage (leaf_view leaf.now) version RleDictionary (AreIndexesIn size indexes.now) es) (index_weight (length es)) out.old.items out.new.items) }
+    ensures stands { let es = map entry_ref_view entries.now in
+        OnOk result (Appends (StandsByIndexes (leaf_view leaf.now) size indexes.now es) (index_weight (length es)) out.old.items out.new.items) }
+    ensures written { let es = map entry_ref_view entries.now in
+        OnOk result (Appends (IsWrittenPage (leaf_view leaf.now) version RleDictionary (AreIndexesIn size indexes.now) es)
+        (index_weight (length es)) out.old.items out.new.items) }
     ensures entries { OnOk result (AllByRecursion (IsEntryOf (leaf_view leaf.now)) (map entry_ref_view entries.now)) }
     ensures indexes { OnOk result (AreIndexesFor size indexes.now (map entry_ref_view entries.now)) }
     ensures size { OnOk result (length out.new.items ≤ length out.old.items + 2147484671) }
-    ensures only { OnFault result (AreIndexesFor size indexes.now (map entry_ref_view entries.now) → AllByRecursion (IsEntryOf (leaf_view leaf.now)) (map entry_ref_view entries.now) → ⊥) }
+    ensures only { OnFault result (AreIndexesFor size indexes.now (map entry_ref_view entries.now)
+        → AllByRecursion (IsEntryOf (leaf_view leaf.now)) (map entry_ref_view entries.now) → ⊥) }
     ensures limit { result ≡ Err Refusal.Limit → IsPageTooMuch (map entry_ref_view entries.now) }
     ensures which { RefusedOnly IsOfEntries result }
     ensures unchanged { OnErr result (out.new.items ≡ out.old.items) }

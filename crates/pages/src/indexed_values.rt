@@ -24,10 +24,14 @@ pub fn read_indexed<'a>(
     bytes: &[u8],
     count: usize,
 ) -> R<Vec<ValueRef<'a>>>
-    ensures plain_dictionary { let d = dictionary_view dictionary.entry in IfOk result (λ vs. AreLeafValues d (leaf_type_view leaf_type.now) (Some Encoding.PlainDictionary) bytes.now count (map value_ref_view vs.items)) }
-    ensures rle_dictionary { let d = dictionary_view dictionary.entry in IfOk result (λ vs. AreLeafValues d (leaf_type_view leaf_type.now) (Some Encoding.RleDictionary) bytes.now count (map value_ref_view vs.items)) }
-    ensures only_plain_dictionary { let d = dictionary_view dictionary.entry in OnFault result ((ws : List ValueTree) → AreLeafValues d (leaf_type_view leaf_type.now) (Some Encoding.PlainDictionary) bytes.now count ws → ⊥) }
-    ensures only_rle_dictionary { let d = dictionary_view dictionary.entry in OnFault result ((ws : List ValueTree) → AreLeafValues d (leaf_type_view leaf_type.now) (Some Encoding.RleDictionary) bytes.now count ws → ⊥) }
+    ensures plain_dictionary { let d = dictionary_view dictionary.entry in
+        IfOk result (λ vs. AreLeafValues d (leaf_type_view leaf_type.now) (Some Encoding.PlainDictionary) bytes.now count (map value_ref_view vs.items)) }
+    ensures rle_dictionary { let d = dictionary_view dictionary.entry in
+        IfOk result (λ vs. AreLeafValues d (leaf_type_view leaf_type.now) (Some Encoding.RleDictionary) bytes.now count (map value_ref_view vs.items)) }
+    ensures only_plain_dictionary { let d = dictionary_view dictionary.entry in
+        OnFault result ((ws : List ValueTree) → AreLeafValues d (leaf_type_view leaf_type.now) (Some Encoding.PlainDictionary) bytes.now count ws → ⊥) }
+    ensures only_rle_dictionary { let d = dictionary_view dictionary.entry in
+        OnFault result ((ws : List ValueTree) → AreLeafValues d (leaf_type_view leaf_type.now) (Some Encoding.RleDictionary) bytes.now count ws → ⊥) }
     ensures which { RefusedOnly IsOfValuePages result }
 {
     one_list();
@@ -49,7 +53,8 @@ fn look_up<'a>(
     requires { All (λ i. i < length entries.now) indexes.now }
     ensures stands { IfOk result (λ vs. AreEntriesAt (map value_ref_view entries.now) indexes.now (map value_ref_view vs.items)) }
     ensures fit { IfOk result (λ vs. AllFit (leaf_type_view leaf_type.now) (map value_ref_view vs.items)) }
-    ensures only { OnFault result ((ws : List ValueTree) → AreEntriesAt (map value_ref_view entries.now) indexes.now ws → AllFit (leaf_type_view leaf_type.now) ws → ⊥) }
+    ensures only { OnFault result ((ws : List ValueTree) → AreEntriesAt (map value_ref_view entries.now) indexes.now ws
+        → AllFit (leaf_type_view leaf_type.now) ws → ⊥) }
     ensures which { RefusedOnly (λ e. (e ≡ Refusal.Value) ⊎ (e ≡ Refusal.Utf8)) result }
 {
     let mut checked = Vec::new(alloc);

@@ -30,7 +30,8 @@ pub fn read_levels_v1<'a>(
     requires { header.now.num_values ≡ pos count }
     ensures stands { IfOk result (λ x. AreLevelsV1 (leaf_view leaf.now) (data_page_header_view header.now) body.now (levels_of x.0) (levels_of x.1) x.2.now) }
     ensures within { IfOk result (λ x. AreWithin (leaf_view leaf.now) (levels_of x.0) (levels_of x.1)) }
-    ensures only { OnFault result ((rs ds text : List ℕ) → AreLevelsV1 (leaf_view leaf.now) (data_page_header_view header.now) body.now rs ds text → AreWithin (leaf_view leaf.now) rs ds → ⊥) }
+    ensures only { OnFault result ((rs ds text : List ℕ) → AreLevelsV1 (leaf_view leaf.now) (data_page_header_view header.now) body.now rs ds text
+        → AreWithin (leaf_view leaf.now) rs ds → ⊥) }
     ensures which { RefusedOnly IsOfLevels result }
 {
     hybrid_rle::one_list();
@@ -60,9 +61,11 @@ pub fn read_levels_v2<'a>(
     count: usize,
 ) -> R<(LevelList, LevelList, &'a [u8])>
     requires { header.now.num_values ≡ pos count }
-    ensures stands { IfOk result (λ x. AreLevelsV2 (leaf_view leaf.now) (data_page_header_v2_view header.now) body.now (levels_of x.0) (levels_of x.1) x.2.now) }
+    ensures stands { IfOk result (λ x. AreLevelsV2 (leaf_view leaf.now) (data_page_header_v2_view header.now) body.now (levels_of x.0)
+        (levels_of x.1) x.2.now) }
     ensures within { IfOk result (λ x. AreWithin (leaf_view leaf.now) (levels_of x.0) (levels_of x.1)) }
-    ensures only { OnFault result ((rs ds text : List ℕ) → AreLevelsV2 (leaf_view leaf.now) (data_page_header_v2_view header.now) body.now rs ds text → AreWithin (leaf_view leaf.now) rs ds → ⊥) }
+    ensures only { OnFault result ((rs ds text : List ℕ)
+        → AreLevelsV2 (leaf_view leaf.now) (data_page_header_v2_view header.now) body.now rs ds text → AreWithin (leaf_view leaf.now) rs ds → ⊥) }
     ensures which { RefusedOnly IsOfLevels result }
 {
     hybrid_rle::one_list();

@@ -27,7 +27,8 @@ pub(crate) fn put_sections(
     scratch: &mut Vec<u8>,
 ) -> R<SectionSizes>
     requires { AllByRecursion (IsEntryOf (leaf_view leaf.now)) (map entry_ref_view entries.now) }
-    ensures stands { IfOk result (λ sizes. AreSections (leaf_view leaf.now) (map entry_ref_view entries.now) scratch.new.items sizes.repetitions sizes.definitions) }
+    ensures stands { IfOk result (λ sizes. AreSections (leaf_view leaf.now)
+        (map entry_ref_view entries.now) scratch.new.items sizes.repetitions sizes.definitions) }
     ensures which { RefusedMemoryOnly result }
 {
     scratch.clear();
@@ -43,7 +44,8 @@ pub(crate) fn put_sections(
 /// Writes the repetition levels at the end.
 fn put_repetitions(alloc: Global, leaf: &Leaf, entries: &[EntryRef<'_>], out: &mut Vec<u8>) -> R<()>
     requires { AllByRecursion (IsEntryOf (leaf_view leaf.now)) (map entry_ref_view entries.now) }
-    ensures stands { OnOk result (Puts (AreLevelsIn leaf.now.greatest_repetition (repetitions (map entry_ref_view entries.now))) (80 + 9 * length entries.now) out.old.items out.new.items) }
+    ensures stands { OnOk result (Puts (AreLevelsIn leaf.now.greatest_repetition (repetitions (map entry_ref_view entries.now)))
+        (80 + 9 * length entries.now) out.old.items out.new.items) }
     ensures which { RefusedMemoryOnly result }
 {
     if leaf.greatest_repetition == 0 {
@@ -56,7 +58,8 @@ fn put_repetitions(alloc: Global, leaf: &Leaf, entries: &[EntryRef<'_>], out: &m
 /// Writes the definition levels at the end.
 fn put_definitions(alloc: Global, leaf: &Leaf, entries: &[EntryRef<'_>], out: &mut Vec<u8>) -> R<()>
     requires { AllByRecursion (IsEntryOf (leaf_view leaf.now)) (map entry_ref_view entries.now) }
-    ensures stands { OnOk result (Puts (AreLevelsIn leaf.now.greatest_definition (definitions (map entry_ref_view entries.now))) (80 + 9 * length entries.now) out.old.items out.new.items) }
+    ensures stands { OnOk result (Puts (AreLevelsIn leaf.now.greatest_definition (definitions (map entry_ref_view entries.now)))
+        (80 + 9 * length entries.now) out.old.items out.new.items) }
     ensures which { RefusedMemoryOnly result }
 {
     if leaf.greatest_definition == 0 {

@@ -109,10 +109,12 @@ fn read_body<'a>(
     dictionary: Option<&[ValueRef<'a>]>,
     left: usize,
 ) -> R<PageRef<'a>>
-    ensures stands { let d = dictionary_view dictionary.entry in IfOk result (λ p. IsBody (leaf_view leaf.now) d (page_header_view header.now) body.now (page_view p)) }
+    ensures stands { let d = dictionary_view dictionary.entry in
+        IfOk result (λ p. IsBody (leaf_view leaf.now) d (page_header_view header.now) body.now (page_view p)) }
     ensures at_most_left { IfOk result (λ p. length (entries_of (page_view p)) ≤ left) }
     ensures within_limits { OnOk result (IsBodyOver (leaf_view leaf.now) (page_header_view header.now) body.now → ⊥) }
-    ensures only { let d = dictionary_view dictionary.entry in OnFault result ((page : Page) → IsBody (leaf_view leaf.now) d (page_header_view header.now) body.now page → length (entries_of page) ≤ left → ⊥) }
+    ensures only { let d = dictionary_view dictionary.entry in
+        OnFault result ((page : Page) → IsBody (leaf_view leaf.now) d (page_header_view header.now) body.now page → length (entries_of page) ≤ left → ⊥) }
     ensures limit { result ≡ Err Refusal.Limit → IsBodyOver (leaf_view leaf.now) (page_header_view header.now) body.now }
     ensures which { RefusedOnly IsOfPages result }
 {

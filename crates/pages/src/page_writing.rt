@@ -51,13 +51,17 @@ pub fn write_page(
     scratch: &mut Vec<u8>,
     out: &mut Vec<u8>,
 ) -> R<()>
-    ensures stands { let es = map entry_ref_view entries.now in OnOk result (Appends (StandsAsPage (leaf_view leaf.now) es) (page_weight es) out.old.items out.new.items) }
-    ensures written { let es = map entry_ref_view entries.now in OnOk result (Appends (IsWrittenPage (leaf_view leaf.now) version encoding (AreValuesIn leaf.now.leaf_type.kind encoding (values_in es)) es) (page_weight es) out.old.items out.new.items) }
+    ensures stands { let es = map entry_ref_view entries.now in
+        OnOk result (Appends (StandsAsPage (leaf_view leaf.now) es) (page_weight es) out.old.items out.new.items) }
+    ensures written { let es = map entry_ref_view entries.now in
+        OnOk result (Appends (IsWrittenPage (leaf_view leaf.now) version encoding (AreValuesIn leaf.now.leaf_type.kind encoding (values_in es)) es)
+        (page_weight es) out.old.items out.new.items) }
     ensures within_limits { OnOk result (AreShort (map entry_ref_view entries.now)) }
     ensures entries { OnOk result (AllByRecursion (IsEntryOf (leaf_view leaf.now)) (map entry_ref_view entries.now)) }
     ensures encoding { OnOk result (IsEncodingFor leaf.now.leaf_type.kind encoding) }
     ensures size { OnOk result (length out.new.items ≤ length out.old.items + 2147484671) }
-    ensures only { OnFault result (IsEncodingFor leaf.now.leaf_type.kind encoding → AllByRecursion (IsEntryOf (leaf_view leaf.now)) (map entry_ref_view entries.now) → ⊥) }
+    ensures only { OnFault result (IsEncodingFor leaf.now.leaf_type.kind encoding
+        → AllByRecursion (IsEntryOf (leaf_view leaf.now)) (map entry_ref_view entries.now) → ⊥) }
     ensures limit { result ≡ Err Refusal.Limit → IsPageTooMuch (map entry_ref_view entries.now) }
     ensures which { RefusedOnly (IsOfWriting leaf.now.leaf_type.kind encoding) result }
     ensures unchanged { OnErr result (out.new.items ≡ out.old.items) }
@@ -92,7 +96,9 @@ fn put_entries(
     requires values { map value_ref_view values.now ≡ values_in (map entry_ref_view entries.now) }
     requires few { length values.now ≤ length entries.now }
     requires of_kind { All (IsOfKind leaf.now.leaf_type.kind) (map value_ref_view values.now) }
-    ensures written { let es = map entry_ref_view entries.now in OnOk result (Appends (IsWrittenPage (leaf_view leaf.now) version encoding (AreValuesIn leaf.now.leaf_type.kind encoding (values_in es)) es) (page_weight es) out.old.items out.new.items) }
+    ensures written { let es = map entry_ref_view entries.now in
+        OnOk result (Appends (IsWrittenPage (leaf_view leaf.now) version encoding (AreValuesIn leaf.now.leaf_type.kind encoding (values_in es)) es)
+        (page_weight es) out.old.items out.new.items) }
     ensures within_limits { OnOk result (Any IsTooLong (map value_ref_view values.now) → ⊥) }
     ensures encoding { OnOk result (IsEncodingFor leaf.now.leaf_type.kind encoding) }
     ensures size { OnOk result (length out.new.items ≤ length out.old.items + 2147484671) }

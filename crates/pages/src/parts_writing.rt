@@ -29,7 +29,8 @@ pub(crate) fn put_data_page(
     requires nulls { head.nulls ≤ head.entries }
     requires rows { head.rows ≤ head.entries }
     requires sections { sections.repetitions + sections.definitions ≤ length parts.now }
-    ensures stands { (r d text : List ℕ) → AreParts parts.now sections r d text → OnOk result (IsDataPage (leaf_view leaf.now) head r d text out.old.items out.new.items) }
+    ensures stands { (r d text : List ℕ) → AreParts parts.now sections r d text
+        → OnOk result (IsDataPage (leaf_view leaf.now) head r d text out.old.items out.new.items) }
     ensures limit { result ≡ Err Refusal.Limit → (most_of_page < 8 + length parts.now) ⊎ (most_of_page < head.entries) }
     ensures which { RefusedOnly (λ e. e ≡ Refusal.Limit) result }
     ensures unchanged { OnErr result (out.new.items ≡ out.old.items) }
@@ -54,7 +55,8 @@ fn put_parts(
     requires nulls { head.nulls ≤ head.entries }
     requires rows { head.rows ≤ head.entries }
     requires sections { sections.repetitions + sections.definitions ≤ length parts.now }
-    ensures stands { (r d text : List ℕ) → AreParts parts.now sections r d text → OnOk result (IsDataPage (leaf_view leaf.now) head r d text out.old.items out.new.items) }
+    ensures stands { (r d text : List ℕ) → AreParts parts.now sections r d text
+        → OnOk result (IsDataPage (leaf_view leaf.now) head r d text out.old.items out.new.items) }
     ensures limit { result ≡ Err Refusal.Limit → (most_of_page < 8 + length parts.now) ⊎ (most_of_page < head.entries) }
     ensures which { RefusedOnly (λ e. e ≡ Refusal.Limit) result }
     ensures front { OnErr result (take (length out.old.items) out.new.items ≡ out.old.items) }

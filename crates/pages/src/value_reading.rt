@@ -34,9 +34,11 @@ pub fn read_values<'a>(
     bytes: &'a [u8],
     count: usize,
 ) -> R<PageValues<'a>>
-    ensures stands { let d = dictionary_view dictionary.entry in IfOk result (λ vs. AreSpelled d (leaf_type_view leaf_type.now) encoding bytes.now count (values_left vs)) }
+    ensures stands { let d = dictionary_view dictionary.entry in
+        IfOk result (λ vs. AreSpelled d (leaf_type_view leaf_type.now) encoding bytes.now count (values_left vs)) }
     ensures within_limits { OnOk result (IsValueOver leaf_type.now.kind encoding bytes.now count → ⊥) }
-    ensures only { let d = dictionary_view dictionary.entry in OnFault result ((ws : List ValueTree) → AreSpelled d (leaf_type_view leaf_type.now) encoding bytes.now count ws → ⊥) }
+    ensures only { let d = dictionary_view dictionary.entry in
+        OnFault result ((ws : List ValueTree) → AreSpelled d (leaf_type_view leaf_type.now) encoding bytes.now count ws → ⊥) }
     ensures limit { result ≡ Err Refusal.Limit → IsValueOver leaf_type.now.kind encoding bytes.now count }
     ensures which { RefusedOnly IsOfPages result }
 {
@@ -65,9 +67,11 @@ fn read_listed<'a>(
 ) -> R<Vec<ValueRef<'a>>>
     requires not_plain { encoding ≡ Encoding.Plain → ⊥ }
     requires not_shared { encoding ≡ Encoding.DeltaByteArray → ⊥ }
-    ensures stands { let d = dictionary_view dictionary.entry in IfOk result (λ vs. AreLeafValues d (leaf_type_view leaf_type.now) (Some encoding) bytes.now count (map value_ref_view vs.items)) }
+    ensures stands { let d = dictionary_view dictionary.entry in
+        IfOk result (λ vs. AreLeafValues d (leaf_type_view leaf_type.now) (Some encoding) bytes.now count (map value_ref_view vs.items)) }
     ensures within_limits { OnOk result (IsValueOver leaf_type.now.kind (Some encoding) bytes.now count → ⊥) }
-    ensures only { let d = dictionary_view dictionary.entry in OnFault result ((ws : List ValueTree) → AreLeafValues d (leaf_type_view leaf_type.now) (Some encoding) bytes.now count ws → ⊥) }
+    ensures only { let d = dictionary_view dictionary.entry in
+        OnFault result ((ws : List ValueTree) → AreLeafValues d (leaf_type_view leaf_type.now) (Some encoding) bytes.now count ws → ⊥) }
     ensures limit { result ≡ Err Refusal.Limit → IsValueOver leaf_type.now.kind (Some encoding) bytes.now count }
     ensures which { RefusedOnly IsOfPages result }
 {
@@ -125,7 +129,8 @@ fn read_numbers<'a>(
     bytes: &'a [u8],
     count: usize,
 ) -> R<Vec<ValueRef<'a>>>
-    ensures stands { IfOk result (λ vs. StandInAnyChunk (leaf_type_view leaf_type.now) Encoding.DeltaBinaryPacked bytes.now count (map value_ref_view vs.items)) }
+    ensures stands { IfOk result (λ vs. StandInAnyChunk (leaf_type_view leaf_type.now) Encoding.DeltaBinaryPacked bytes.now count
+        (map value_ref_view vs.items)) }
     ensures only { OnFault result (StandInNoChunk (leaf_type_view leaf_type.now) Encoding.DeltaBinaryPacked bytes.now count) }
     ensures which { RefusedOnly IsOfValuePages result }
 {
@@ -176,7 +181,8 @@ fn read_by_lengths<'a>(
     bytes: &'a [u8],
     count: usize,
 ) -> R<Vec<ValueRef<'a>>>
-    ensures stands { IfOk result (λ vs. StandInAnyChunk (leaf_type_view leaf_type.now) Encoding.DeltaLengthByteArray bytes.now count (map value_ref_view vs.items)) }
+    ensures stands { IfOk result (λ vs. StandInAnyChunk (leaf_type_view leaf_type.now) Encoding.DeltaLengthByteArray bytes.now count
+        (map value_ref_view vs.items)) }
     ensures within_limits { OnOk result (IsValueOver leaf_type.now.kind (Some Encoding.DeltaLengthByteArray) bytes.now count → ⊥) }
     ensures only { OnFault result (StandInNoChunk (leaf_type_view leaf_type.now) Encoding.DeltaLengthByteArray bytes.now count) }
     ensures limit { result ≡ Err Refusal.Limit → IsValueOver leaf_type.now.kind (Some Encoding.DeltaLengthByteArray) bytes.now count }

@@ -31,7 +31,8 @@ pub(crate) fn put_values(
     out: &mut Vec<u8>,
 ) -> R<()>
     requires { All (IsOfKind kind) (map value_ref_view values.now) }
-    ensures stands { let vs = map value_ref_view values.now in OnOk result (Appends (AreWritten kind encoding vs) (most_of_values vs) out.old.items out.new.items) }
+    ensures stands { let vs = map value_ref_view values.now in
+        OnOk result (Appends (AreWritten kind encoding vs) (most_of_values vs) out.old.items out.new.items) }
     ensures within_limits { OnOk result (Any IsTooLong (map value_ref_view values.now) → ⊥) }
     ensures fits { OnOk result (IsEncodingFor kind encoding) }
     ensures which { RefusedOnly (IsOfValueWriting kind encoding (map value_ref_view values.now)) result }
@@ -57,7 +58,8 @@ pub(crate) fn put_values(
 /// Writes booleans by RLE at the end: the length of the hybrid, and the hybrid of width 1.
 fn put_booleans(alloc: Global, values: &[ValueRef<'_>], out: &mut Vec<u8>) -> R<()>
     requires { All (IsOfKind Kind.Boolean) (map value_ref_view values.now) }
-    ensures stands { let vs = map value_ref_view values.now in OnOk result (Appends (AreWritten Kind.Boolean Encoding.Rle vs) (most_of_values vs) out.old.items out.new.items) }
+    ensures stands { let vs = map value_ref_view values.now in
+        OnOk result (Appends (AreWritten Kind.Boolean Encoding.Rle vs) (most_of_values vs) out.old.items out.new.items) }
     ensures limit { result ≡ Err Refusal.Limit → most_of_page < 80 + 9 * length values.now }
     ensures which { RefusedOnly (λ e. e ≡ Refusal.Limit) result }
 {

@@ -61,7 +61,8 @@ pub fn split_by_key(alloc: Global, columns: &[KeyColumn], rows: Vec<Row>) -> R<V
 
 /// The key of a row; None where a value is missing or no key has it.
 fn parts_of(alloc: Global, columns: &[KeyColumn], row: &Row) -> R<Option<Vec<Part>>>
-    ensures stands { let keys = key_columns_view columns.now in let seen = row_view row.now in IfOk result (λ found. MatchOption found (HasNoKey keys seen) (λ parts. AreOfRow keys seen parts.items)) }
+    ensures stands { let keys = key_columns_view columns.now in let seen = row_view row.now in
+        IfOk result (λ found. MatchOption found (HasNoKey keys seen) (λ parts. AreOfRow keys seen parts.items)) }
     ensures which { RefusedMemoryOnly result }
 {
     let mut parts = Vec::with_capacity(alloc, columns.len())?;
@@ -105,7 +106,8 @@ fn place_of(
 ) -> R<usize>
     requires { map (λ k. parts_view k.items) keys.old.keys ≡ map (λ p. p.key) (map key_rows_view split.old.items) }
     ensures keys { OnOk result (map (λ k. parts_view k.items) keys.new.keys ≡ map (λ p. p.key) (map key_rows_view split.new.items)) }
-    ensures placed { IfOk result (λ at. IsPlaced (key_columns_view columns.now) (map key_rows_view split.old.items) (parts_view parts.items) at (map key_rows_view split.new.items)) }
+    ensures placed { IfOk result (λ at. IsPlaced (key_columns_view columns.now) (map key_rows_view split.old.items) (parts_view parts.items) at
+        (map key_rows_view split.new.items)) }
     ensures only { OnFault result (CanPartition (key_columns_view columns.now) (parts_view parts.items) → ⊥) }
     ensures which { RefusedOnly (λ e. e ≡ Refusal.Key) result }
 {

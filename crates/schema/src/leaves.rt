@@ -65,7 +65,8 @@ fn push_each(
 ) -> R<()>
     requires deep { length steps.now + tallest (field_views fields.now) ≤ 32 }
     requires paired { length path.now ≡ length steps.now }
-    ensures adds { OnOk result (map leaf_view out.new.items ≡ map leaf_view out.old.items ++ leaves_along path.now steps.now (leaves_from 0 (field_views fields.now))) }
+    ensures adds { OnOk result (map leaf_view out.new.items ≡ map leaf_view out.old.items ++ leaves_along path.now steps.now
+        (leaves_from 0 (field_views fields.now))) }
     ensures which { RefusedMemoryOnly result }
 {
     for (place, field) in fields.iter().enumerate() {
@@ -116,7 +117,8 @@ fn push_leaves(
 ) -> R<()>
     requires deep { length steps.items + tall (field_view field.now) ≤ 33 }
     requires paired { length path.items ≡ length steps.items }
-    ensures adds { OnOk result (map leaf_view out.new.items ≡ map leaf_view out.old.items ++ leaves_along path.items steps.items (leaves (field_view field.now))) }
+    ensures adds { OnOk result (map leaf_view out.new.items ≡ map leaf_view out.old.items ++ leaves_along path.items steps.items
+        (leaves (field_view field.now))) }
     ensures which { RefusedMemoryOnly result }
 {
     match field {

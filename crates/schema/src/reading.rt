@@ -205,7 +205,8 @@ fn is_tree(elements: &[Element]) -> bool
 
 /// How many trees a list is, one after the other, where each element has the children that it says.
 fn count_trees(elements: &[Element]) -> Option<usize>
-    ensures counted { let seen = elements_view elements.now in MatchOption result (well_formed seen ≡ false) (λ n. (well_formed seen ≡ true) × (n ≡ count_branches (forest seen))) }
+    ensures counted { let seen = elements_view elements.now in
+        MatchOption result (well_formed seen ≡ false) (λ n. (well_formed seen ≡ true) × (n ≡ count_branches (forest seen))) }
 {
     let mut trees = 0;
     let mut at = elements.len();

@@ -175,7 +175,8 @@ fn put_map(keys: u8, values: u8, pairs: &[(Node, Node)], left: u32, out: &mut Ve
 
 #[cycle(write)]
 fn put_pairs(keys: u8, values: u8, pairs: &[(Node, Node)], left: u32, out: &mut Vec<u8>) -> R<()>
-    ensures stands { let seen = pair_views pairs.now in OnOk result (Appends (SpellsPairs keys values left seen) (size_pairs seen) out.old.items out.new.items) }
+    ensures stands { let seen = pair_views pairs.now in
+        OnOk result (Appends (SpellsPairs keys values left seen) (size_pairs seen) out.old.items out.new.items) }
     ensures which { RefusedOnly (IsWithoutBytes (SpellsPairs keys values left (pair_views pairs.now))) result }
     ensures kept { Keeps out.old.items out.new.items }
     ensures shape { RefusedOnly (IsShapeless (pairs_have_shape left keys values (pair_views pairs.now))) result }

@@ -36,7 +36,8 @@ pub fn commit<D: Disk>(
 ) -> R<()>
     requires files { All (λ f. IsNoRoot (path_of f)) files.now }
     requires gone { All (λ p. IsNoRoot (text_of p)) gone.now }
-    ensures effect { CanCommit (D.state vault.old.disk) files.now gone.now → CommitsAll files.now root.now gone.now (D.state vault.old.disk) (D.state vault.new.disk) result }
+    ensures effect { CanCommit (D.state vault.old.disk) files.now gone.now
+        → CommitsAll files.now root.now gone.now (D.state vault.old.disk) (D.state vault.new.disk) result }
     ensures which { RefusedOnly (λ e. (e ≡ Refusal.Device) ⊎ (e ≡ Refusal.InDoubt)) result }
     ensures counts { (D.state vault.old.disk).failures ≤ (D.state vault.new.disk).failures }
     ensures reads { (D.state vault.new.disk).reads ≡ (D.state vault.old.disk).reads }

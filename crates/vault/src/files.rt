@@ -43,7 +43,8 @@ pub(crate) fn make_folders<D: Disk>(disk: &mut D, path: &str) -> Result<(), Faul
 /// Writes a file of its own node where no name is, and syncs it once.
 pub(crate) fn write_new<D: Disk>(disk: &mut D, path: &str, bytes: &[u8]) -> Result<(), Fault>
     requires { path.now ≢ root_path }
-    ensures effect { (D.state disk.old).honest → IsVacant (D.state disk.old) path.now → Written path.now bytes.now (D.state disk.old) (D.state disk.new) result }
+    ensures effect { (D.state disk.old).honest → IsVacant (D.state disk.old) path.now
+        → Written path.now bytes.now (D.state disk.old) (D.state disk.new) result }
     ensures counts { CountsFailure result (D.state disk.old).failures (D.state disk.new).failures }
     ensures reads { (D.state disk.new).reads ≡ (D.state disk.old).reads }
     ensures honest { (D.state disk.old).honest ↔ (D.state disk.new).honest }
@@ -83,7 +84,8 @@ pub(crate) fn make_firm<D: Disk>(disk: &mut D, path: &str) -> Result<(), Fault>
 /// Writes a file in the place of what its name stood for, with the folders on the way, and makes all of them durable.
 pub(crate) fn place<D: Disk>(disk: &mut D, path: &str, bytes: &[u8]) -> Result<(), Fault>
     requires { path.now ≢ root_path }
-    ensures effect { (D.state disk.old).honest → IsOpenWay (D.state disk.old) path.now → Placed path.now bytes.now (D.state disk.old) (D.state disk.new) result }
+    ensures effect { (D.state disk.old).honest → IsOpenWay (D.state disk.old) path.now
+        → Placed path.now bytes.now (D.state disk.old) (D.state disk.new) result }
     ensures counts { CountsFailure result (D.state disk.old).failures (D.state disk.new).failures }
     ensures reads { (D.state disk.new).reads ≡ (D.state disk.old).reads }
     ensures honest { (D.state disk.old).honest ↔ (D.state disk.new).honest }

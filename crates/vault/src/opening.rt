@@ -29,7 +29,8 @@ pub struct Opened {
 pub fn open_root<D: Disk>(vault: &mut Vault<D>, alloc: Global) -> R<Opened>
     ensures effect { (D.state vault.old.disk).honest → Opens (D.state vault.old.disk) (D.state vault.new.disk) }
     ensures stands { (D.state vault.old.disk).honest → IfOk result (λ opened. ReadsRoot (D.state vault.old.disk) opened.root) }
-    ensures durable { (D.state vault.old.disk).honest → IsRooted (D.state vault.old.disk) → IfOk result (λ opened. HasRoot (D.state vault.new.disk) opened.root) }
+    ensures durable { (D.state vault.old.disk).honest → IsRooted (D.state vault.old.disk)
+        → IfOk result (λ opened. HasRoot (D.state vault.new.disk) opened.root) }
     ensures clean { (D.state vault.old.disk).honest → IfOk result (λ opened. IsTrue opened.clean → IsGone (D.state vault.new.disk) next_path) }
     ensures which { RefusedOnly (IsHonestDevice (D.state vault.old.disk) (D.state vault.new.disk)) result }
     ensures counts { (D.state vault.old.disk).failures ≤ (D.state vault.new.disk).failures }
