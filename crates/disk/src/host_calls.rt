@@ -83,30 +83,12 @@ pub fn list<R: Files + Clone + Drop>(
     Ok(entries)
 }
 
-/// That a folder is there: Absent where none is, Failed where another kind of node is.
-fn check_folder<R: Files>(files: &R, place: &str) -> Result<(), Fault>
-    ensures which { IfErr result (λ e. e ≢ Fault.Exists) }
-{
-    match found_at(files, place)? {
-        Found::Folder => Ok(()),
-        Found::Other => Err(Fault::Failed),
-        Found::Nothing | Found::File(_) => Err(Fault::Absent),
-    }
-}
-
 pub fn append<R: Files>(files: &R, place: &str, bytes: &[u8]) -> Result<(), Fault>
     ensures which { IfErr result (λ e. e ≢ Fault.Exists) }
 {
     length(files, place)?;
     let mut file = OpenOptions::new().append(true).open(files, place)?;
     file.write_all(bytes).map_err(failed)
-}
-
-/// What the system refuses in the midst of a call: the call may have taken effect, not, or in part.
-fn failed(_e: io::Error) -> Fault
-    ensures { result ≡ Fault.Failed }
-{
-    Fault::Failed
 }
 
 pub fn sync<R: Files>(files: &R, place: &str) -> Result<(), Fault>
@@ -154,4 +136,22 @@ pub fn remove<R: Files>(files: &R, place: &str) -> Result<(), Fault> {
         Found::Folder => Err(Fault::Exists),
         Found::Other => Err(Fault::Failed),
     }
+}
+
+/// That a folder is there: Absent where none is, Failed where another kind of node is.
+fn check_folder<R: Files>(files: &R, place: &str) -> Result<(), Fault>
+    ensures which { IfErr result (λ e. e ≢ Fault.Exists) }
+{
+    match found_at(files, place)? {
+        Found::Folder => Ok(()),
+        Found::Other => Err(Fault::Failed),
+        Found::Nothing | Found::File(_) => Err(Fault::Absent),
+    }
+}
+
+/// What the system refuses in the midst of a call: the call may have taken effect, not, or in part.
+fn failed(_e: io::Error) -> Fault
+    ensures { result ≡ Fault.Failed }
+{
+    Fault::Failed
 }

@@ -26,16 +26,6 @@ pub fn is_path(path: &str) -> bool
     path.is_empty() || path.split('/').all(|part| is_plain(part))
 }
 
-/// Whether a part of a path names something in its folder, and neither the folder itself nor the one above it.
-fn is_plain(part: &str) -> bool
-    ensures { IsTrue result ↔ IsPlain part.now }
-{
-    match part {
-        "" | "." | ".." => false,
-        _ => true,
-    }
-}
-
 /// What stands at a place of the host.
 pub fn found_at<R: Files>(files: &R, place: &str) -> Result<Found, Fault>
     ensures which { IfErr result (λ e. e ≢ Fault.Exists) }
@@ -67,6 +57,16 @@ pub fn reach<R: Files>(files: &R, alloc: Global, root: &str, path: &str) -> Resu
     }
     check_way(files, alloc, root, path)?;
     path_in(alloc, root, path)
+}
+
+/// Whether a part of a path names something in its folder, and neither the folder itself nor the one above it.
+fn is_plain(part: &str) -> bool
+    ensures { IsTrue result ↔ IsPlain part.now }
+{
+    match part {
+        "" | "." | ".." => false,
+        _ => true,
+    }
 }
 
 /// That each folder on the way to a path is there, and that none is a link.

@@ -30,15 +30,6 @@ pub fn numbers_in(alloc: Global, list: &Value) -> R<HashSet<i64>>
     Ok(numbers)
 }
 
-fn number_of(value: &Value) -> Option<i64>
-    ensures { MatchOption result ((z : ℤ) → same (integer z) (view value.now) ≡ false) (λ n. view value.now ≡ integer n) }
-{
-    match value {
-        Value::Int(number) => Some(*number),
-        Value::Null | Value::Bool(_) | Value::Bytes(_) | Value::Group(_) | Value::List(_) => None,
-    }
-}
-
 /// The byte strings in a list, copied.
 pub fn texts_in(alloc: Global, list: &Value) -> R<HashSet<Vec<u8>>>
     ensures texts { IfOk result (λ s. HasTexts s.keys (view list.now)) }
@@ -53,6 +44,15 @@ pub fn texts_in(alloc: Global, list: &Value) -> R<HashSet<Vec<u8>>>
         }
     }
     Ok(texts)
+}
+
+fn number_of(value: &Value) -> Option<i64>
+    ensures { MatchOption result ((z : ℤ) → same (integer z) (view value.now) ≡ false) (λ n. view value.now ≡ integer n) }
+{
+    match value {
+        Value::Int(number) => Some(*number),
+        Value::Null | Value::Bool(_) | Value::Bytes(_) | Value::Group(_) | Value::List(_) => None,
+    }
 }
 
 fn text_of(value: &Value) -> Option<&[u8]>

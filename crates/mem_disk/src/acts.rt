@@ -17,7 +17,7 @@ use crate::held::Held;
 use disk::{Binding, Fault, folder_of};
 use std::alloc::AllocError;
 
-// Two names of one folder.
+/// Two names of one folder.
 fn are_beside(source: &str, target: &str) -> bool
     ensures { IsTrue result ↔ (folder_of target.now ≡ folder_of source.now) × (target.now ≢ source.now) }
 {
@@ -201,7 +201,7 @@ impl Held {
         }
     }
 
-    // A sync of the node fails and leaves doubt. It was done nevertheless, or not.
+    /// A sync of the node fails and leaves doubt. It was done nevertheless, or not.
     fn fail_sync(&mut self, done: Done, path: &str, node: usize) -> Result<(), AllocError>
         requires { (loose_held self.old).names path.now ≡ File node }
         ensures effect { (f g r s : ℕ) → FailsToSync path.now (state_held self.old f r) (state_held self.new g s) }

@@ -21,7 +21,7 @@ use crate::node::Node;
 use disk::{Binding, Fault};
 use std::alloc::{AllocError, Global};
 
-// The words that decide the open choices, in turn.
+/// The words that decide the open choices, in turn.
 #[derive(Drop)]
 struct Picks<'a> {
     words: &'a [u64],
@@ -29,7 +29,7 @@ struct Picks<'a> {
 }
 
 impl Picks<'_> {
-    // The next word; a missing one is 0.
+    /// The next word; a missing one is 0.
     fn word(&mut self) -> u64
         ensures word { result ≡ next_word (words_left self.old) }
         ensures left { words_left self.new ≡ drop 1 (words_left self.old) }
@@ -42,7 +42,7 @@ impl Picks<'_> {
         word
     }
 
-    // One of this many outcomes.
+    /// One of this many outcomes.
     fn one_of(&mut self, outcomes: usize) -> usize
         ensures word { 0 < outcomes → result ≡ next_word (words_left self.old) % outcomes }
         ensures left { 0 < outcomes → words_left self.new ≡ drop 1 (words_left self.old) }
@@ -55,8 +55,8 @@ impl Picks<'_> {
     }
 }
 
-// The binding that a stop leaves to a name, by itself: those that it had since its folder's last sync, in the order of
-// time, so that the first is that of the last sync. A name that is durable asks for no word.
+/// The binding that a stop leaves to a name, by itself: those that it had since its folder's last sync, in the order of
+/// time, so that the first is that of the last sync. A name that is durable asks for no word.
 fn chosen(name: &Name, picks: &mut Picks<'_>) -> Binding
     ensures may { (result ≡ name.entry.now.now) ⊎ Among result name.entry.now.had.items }
     ensures word { result ≡ binding_by name.entry.now (next_word (words_left picks.old)) }
@@ -73,8 +73,8 @@ fn chosen(name: &Name, picks: &mut Picks<'_>) -> Binding
     }
 }
 
-// A byte of what stands in a touched sector: 0 as at the last sync (zeros where nothing was), 1 as it was written,
-// 2 zeros, 3 bytes that the word gives.
+/// A byte of what stands in a touched sector: 0 as at the last sync (zeros where nothing was), 1 as it was written,
+/// 2 zeros, 3 bytes that the word gives.
 fn torn_byte(node: &Node, at: usize, word: u64) -> u8
     ensures { result ≡ byte_by node.now at word }
 {
@@ -91,7 +91,7 @@ fn torn_byte(node: &Node, at: usize, word: u64) -> u8
     }
 }
 
-// The word of the sector that a byte lies in: the next one where the sector begins, and else the one before.
+/// The word of the sector that a byte lies in: the next one where the sector begins, and else the one before.
 fn sector_word(at: usize, word: u64, picks: &mut Picks<'_>) -> u64
     ensures word { result ≡ (if at % 512 == 0 then next_word (words_left picks.old) else word) }
     ensures left { words_left picks.new ≡ (if at % 512 == 0 then drop 1 (words_left picks.old) else words_left picks.old) }
@@ -99,8 +99,8 @@ fn sector_word(at: usize, word: u64, picks: &mut Picks<'_>) -> u64
     if at % 512 == 0 { picks.word() } else { word }
 }
 
-// The bytes that a stop leaves to a node: first its length, between the shortest and the longest since its last sync,
-// the shortest first; then each touched sector below that length, in turn. A node that is durable asks for no word.
+/// The bytes that a stop leaves to a node: first its length, between the shortest and the longest since its last sync,
+/// the shortest first; then each touched sector below that length, in turn. A node that is durable asks for no word.
 fn torn(alloc: Global, node: &Node, picks: &mut Picks<'_>) -> Result<Vec<u8>, AllocError>
     ensures may { IfOk result (λ bytes. node.now.synced ≤ length node.now.bytes.items → MayHold node.now.synced node.now.bytes.items bytes.items) }
     ensures words { IfOk result (λ bytes. PicksBytes node.now (words_left picks.old) bytes.items) }
@@ -122,7 +122,7 @@ fn torn(alloc: Global, node: &Node, picks: &mut Picks<'_>) -> Result<Vec<u8>, Al
     Ok(bytes)
 }
 
-// A name with the binding that a stop leaves to it, by itself.
+/// A name with the binding that a stop leaves to it, by itself.
 fn picked_name(alloc: Global, name: &Name, picks: &mut Picks<'_>) -> Result<Name, AllocError>
     ensures may { IfOk result (λ picked. IsPicked name.entry.now picked) }
     ensures words { IfOk result (λ picked. PicksBinding name.entry.now (words_left picks.old) picked) }
@@ -135,7 +135,7 @@ fn picked_name(alloc: Global, name: &Name, picks: &mut Picks<'_>) -> Result<Name
     })
 }
 
-// The names, each with the binding that a stop leaves to it, by itself.
+/// The names, each with the binding that a stop leaves to it, by itself.
 fn picked_names(
     alloc: Global,
     names: &[Name],
@@ -152,7 +152,7 @@ fn picked_names(
     Ok(picked)
 }
 
-// The nodes, each with the bytes that a stop leaves to it.
+/// The nodes, each with the bytes that a stop leaves to it.
 fn torn_nodes(alloc: Global, nodes: &[Node], picks: &mut Picks<'_>) -> Result<Vec<Node>, AllocError>
     ensures may { IfOk result (λ left. EachOf IsTorn nodes.now left.items) }
     ensures words { IfOk result (λ left. PickInTurn PicksNode after_node nodes.now (words_left picks.old) left.items) }
@@ -170,8 +170,8 @@ fn torn_nodes(alloc: Global, nodes: &[Node], picks: &mut Picks<'_>) -> Result<Ve
     Ok(left)
 }
 
-// What a stop leaves, by these words: first each loose name decides, in the order in which names first came up, then
-// each node with unsynced bytes, in the order in which the nodes were made.
+/// What a stop leaves, by these words: first each loose name decides, in the order in which names first came up, then
+/// each node with unsynced bytes, in the order in which the nodes were made.
 fn left_of(held: &Held, picks: &mut Picks<'_>) -> Result<Held, AllocError>
     ensures image { IfOk result (λ left. (f r g s : ℕ) → may_leave (state_with held.now.calls.items f r) (state_with left.calls.items g s).seen) }
     ensures rest { IfOk result (λ left. IsAtRest (state_with left.calls.items 0 0)) }

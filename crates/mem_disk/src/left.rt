@@ -24,19 +24,6 @@ pub fn left_names(alloc: Global, picked: &Names) -> Result<Vec<Name>, AllocError
     Ok(left)
 }
 
-// What is there of a path, where each of these names has picked its binding: nothing below a folder that is not there.
-fn left_at(picked: &Names, path: &str) -> Binding
-    ensures { result ≡ left_in picked.now.list.items path.now }
-{
-    if path.is_empty() {
-        return Binding::Folder;
-    }
-    match left_at(picked, folder_of(path)) {
-        Binding::Folder => picked.binding(path),
-        _ => Binding::Nothing,
-    }
-}
-
 /// The same nodes once more.
 pub fn copies_of(alloc: Global, nodes: &[Node]) -> Result<Vec<Node>, AllocError>
     ensures { IfOk result (λ copies. EachOf IsCopy nodes.now copies.items) }
@@ -50,4 +37,17 @@ pub fn copies_of(alloc: Global, nodes: &[Node]) -> Result<Vec<Node>, AllocError>
         })?;
     }
     Ok(copies)
+}
+
+/// What is there of a path, where each of these names has picked its binding: nothing below a folder that is not there.
+fn left_at(picked: &Names, path: &str) -> Binding
+    ensures { result ≡ left_in picked.now.list.items path.now }
+{
+    if path.is_empty() {
+        return Binding::Folder;
+    }
+    match left_at(picked, folder_of(path)) {
+        Binding::Folder => picked.binding(path),
+        _ => Binding::Nothing,
+    }
 }

@@ -14,7 +14,7 @@ use crate::name::Name;
 use disk::{Binding, Entry, Fault, Kind};
 use std::alloc::{AllocError, Global};
 
-// What a binding is listed as.
+/// What a binding is listed as.
 fn kind_of(binding: Binding) -> Option<Kind>
     ensures { MatchOption result (binding ≡ Nothing) (λ kind. IsKindOf binding kind) }
 {
@@ -25,7 +25,7 @@ fn kind_of(binding: Binding) -> Option<Kind>
     }
 }
 
-// Whether these bytes are a name in a folder.
+/// Whether these bytes are a name in a folder.
 fn is_name(bytes: &[u8]) -> bool
     ensures yes { result ≡ true → IsName bytes.now }
     ensures no { result ≡ false → IsName bytes.now → ⊥ }
@@ -38,7 +38,7 @@ fn is_name(bytes: &[u8]) -> bool
     !bytes.is_empty()
 }
 
-// What stands after a folder and its slash.
+/// What stands after a folder and its slash.
 fn behind<'a>(path: &'a str, folder: &str) -> Option<&'a str>
     ensures { MatchOption result ((name : List ℕ) → path.now ≢ path_in folder.now name) (λ name. path.now ≡ path_in folder.now name.now) }
 {
@@ -48,7 +48,7 @@ fn behind<'a>(path: &'a str, folder: &str) -> Option<&'a str>
     path.strip_prefix(folder)?.strip_prefix('/')
 }
 
-// What a name is listed as, where it stands for something and lies in the folder.
+/// What a name is listed as, where it stands for something and lies in the folder.
 fn entry_of(alloc: Global, name: &Name, folder: &str) -> Result<Option<Entry>, AllocError>
     ensures { IfOk result (λ r. MatchOption r (IsUnlisted folder.now name.entry.now) (λ entry. IsEntryOf folder.now name.entry.now entry)) }
 {
@@ -67,7 +67,7 @@ fn entry_of(alloc: Global, name: &Name, folder: &str) -> Result<Option<Entry>, A
     }))
 }
 
-// Adds what a name is listed as.
+/// Adds what a name is listed as.
 fn add_entry(
     alloc: Global,
     entries: &mut Vec<Entry>,
@@ -83,7 +83,7 @@ fn add_entry(
     }
 }
 
-// The names in a folder, in the order of the list.
+/// The names in a folder, in the order of the list.
 fn entries_of(alloc: Global, names: &[Name], folder: &str) -> Result<Vec<Entry>, AllocError>
     ensures { IfOk result (λ entries. AreListed folder.now names.now entries.items) }
 {

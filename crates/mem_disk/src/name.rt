@@ -18,7 +18,7 @@ pub struct Name {
 impl Name {
     ghost use Rattle.mem_disk.specs.Tables.{Settled};
 
-    // From now on it stands for this.
+    /// From now on it stands for this.
     pub fn turn(&mut self, to: Binding) -> Result<(), AllocError>
         ensures path { self.new.path ≡ self.old.path }
         ensures now { OnOk result (self.new.now ≡ to) }
@@ -30,7 +30,7 @@ impl Name {
         Ok(())
     }
 
-    // Its folder was synced, if it lies in this one.
+    /// Its folder was synced, if it lies in this one.
     pub fn settle(&mut self, folder: &str)
         ensures settled { Settled folder.now self.old self.new }
     {

@@ -9,7 +9,7 @@ use disk::Binding;
 use std::alloc::{AllocError, Global};
 use std::collections::HashMap;
 
-// What a path names at the beginning: only the dataset's own folder is there.
+/// What a path names at the beginning: only the dataset's own folder is there.
 fn first_of(path: &str) -> Binding
     ensures { result ≡ at_first path.now }
 {
@@ -32,7 +32,7 @@ fn fresh_name(alloc: Global, path: &str, to: Binding) -> Result<Name, AllocError
     })
 }
 
-// The first name with this path is at this place, where none before it has the path.
+/// The first name with this path is at this place, where none before it has the path.
 fn place(
     alloc: Global,
     places: &mut HashMap<String, usize>,
@@ -47,7 +47,7 @@ fn place(
     Ok(())
 }
 
-// The names in a folder are durable, and no path changes.
+/// The names in a folder are durable, and no path changes.
 fn settle(names: &mut Vec<Name>, folder: &str)
     ensures settles { Settles folder.now names.old.items names.new.items }
     ensures apart { AreApart names.old.items → AreApart names.new.items }
@@ -87,7 +87,7 @@ impl Names {
         Ok(Names { list, places })
     }
 
-    // Where the first name with this path is.
+    /// Where the first name with this path is.
     fn find(&self, path: &str) -> Option<usize>
         ensures place { MatchOption result (FindsNone self.now.list.items path.now) (λ i. Finds self.now.list.items path.now i) }
         ensures within { IfSome result (λ i. i < length self.now.list.items) }
@@ -105,7 +105,7 @@ impl Names {
         }
     }
 
-    // A name whose path none has.
+    /// A name whose path none has.
     fn add(&mut self, alloc: Global, name: Name) -> Result<(), AllocError>
         requires { FindsNone self.old.list.items (string_bytes name.path) }
         ensures ok { OnOk result (self.new.list.items ≡ self.old.list.items ++ name ∷ []) }

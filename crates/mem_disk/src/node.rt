@@ -27,7 +27,7 @@ impl Node {
         }
     }
 
-    // Its bytes are durable.
+    /// Its bytes are durable.
     pub fn sync(&mut self)
         ensures bytes { self.new.bytes ≡ self.old.bytes }
         ensures synced { self.new.synced ≡ length self.old.bytes.items }

@@ -10,7 +10,7 @@ use crate::held::Held;
 use disk::{Binding, Fault};
 use std::alloc::{AllocError, Global};
 
-// So much of the bytes from there on as is there.
+/// So much of the bytes from there on as is there.
 fn part(alloc: Global, bytes: &[u8], from: u64, len: usize) -> Result<Vec<u8>, AllocError>
     ensures { IfOk result (λ read. read.items ≡ take len (drop from bytes.now)) }
 {
@@ -23,7 +23,7 @@ fn part(alloc: Global, bytes: &[u8], from: u64, len: usize) -> Result<Vec<u8>, A
 }
 
 impl Held {
-    // The bytes of a node.
+    /// The bytes of a node.
     fn bytes_of(&self, node: usize) -> &[u8]
         requires { node < length self.now.nodes.items }
         ensures { result.now ≡ (loose_held self.now).bytes node }

@@ -25,6 +25,26 @@ pub(crate) fn are_key_columns(columns: &[KeyColumn]) -> bool
     columns.len() <= MOST_COLUMNS && are_apart(columns)
 }
 
+/// Whether a key can partition: there are at most eight columns, each with a name, no name or place comes twice, each
+/// value is its column's and no empty text, and no folder `name=value` is longer than 255 bytes when escaped.
+///
+/// Takes no memory; the time is linear in the key and the columns' names.
+pub fn can_partition(columns: &[KeyColumn], key: &Key) -> bool
+    ensures { IsTrue result ↔ CanPartition (key_columns_view columns.now) (key_view key.now) }
+{
+    are_key_columns(columns) && have_folders(columns, key.values.as_slice())
+}
+
+/// Whether the key of a row can partition, as [`can_partition`] has it: the key is the row's values at the columns'
+/// places.
+///
+/// Takes no memory; the time is linear in the row's key and the columns' names.
+pub fn row_can_partition(columns: &[KeyColumn], row: &Row) -> bool
+    ensures { IsTrue result ↔ CanPartition (key_columns_view columns.now) (key_of_row (key_columns_view columns.now) (row_view row.now)) }
+{
+    are_key_columns(columns) && row_has_folders(columns, row)
+}
+
 /// Whether each column has a name, and none has the name or the place of another.
 fn are_apart(columns: &[KeyColumn]) -> bool
     ensures { result ≡ are_apart (key_columns_view columns.now) }
@@ -49,16 +69,6 @@ fn clashes(column: &KeyColumn, others: &[KeyColumn]) -> bool
         }
     }
     false
-}
-
-/// Whether a key can partition: there are at most eight columns, each with a name, no name or place comes twice, each
-/// value is its column's and no empty text, and no folder `name=value` is longer than 255 bytes when escaped.
-///
-/// Takes no memory; the time is linear in the key and the columns' names.
-pub fn can_partition(columns: &[KeyColumn], key: &Key) -> bool
-    ensures { IsTrue result ↔ CanPartition (key_columns_view columns.now) (key_view key.now) }
-{
-    are_key_columns(columns) && have_folders(columns, key.values.as_slice())
 }
 
 /// Whether there is one value for each column, each with a folder.
@@ -183,16 +193,6 @@ fn digits(number: u64) -> usize
         count += 1;
     }
     count
-}
-
-/// Whether the key of a row can partition, as [`can_partition`] has it: the key is the row's values at the columns'
-/// places.
-///
-/// Takes no memory; the time is linear in the row's key and the columns' names.
-pub fn row_can_partition(columns: &[KeyColumn], row: &Row) -> bool
-    ensures { IsTrue result ↔ CanPartition (key_columns_view columns.now) (key_of_row (key_columns_view columns.now) (row_view row.now)) }
-{
-    are_key_columns(columns) && row_has_folders(columns, row)
 }
 
 /// Whether a row has a value for each column, each with a folder.

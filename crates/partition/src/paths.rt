@@ -32,6 +32,28 @@ pub fn path_of(alloc: Global, columns: &[KeyColumn], key: &Key) -> R<String>
     joined_folders(alloc, columns, key.values.as_slice())
 }
 
+/// The key that a path names: the one whose path it is.
+///
+/// Refused Key exactly when the text is the path of no key, out of memory aside: escapes in lower case or of what needs
+/// none, numbers with a plus, leading zeros or out of range, folders of other names, too many or too few. The time is
+/// linear in the text.
+pub fn key_of(alloc: Global, columns: &[KeyColumn], text: &str) -> R<Key>
+    ensures stands { IfOk result (λ key. path (key_columns_view columns.now) (key_view key) ≡ text.now) }
+    ensures can { IfOk result (λ key. CanPartition (key_columns_view columns.now) (key_view key)) }
+    ensures only { let keys = key_columns_view columns.now in OnFault result ((key : List ValueTree) → CanPartition keys key → path keys key ≡ text.now → ⊥) }
+    ensures which { RefusedOnly (λ e. e ≡ Refusal.Key) result }
+{
+    let Some(key) = read_folders(alloc, columns, text.as_bytes())? else {
+        return Err(Refusal::Key);
+    };
+    let path = path_of(alloc, columns, &key)?;
+    if path.as_bytes() == text.as_bytes() {
+        Ok(key)
+    } else {
+        Err(Refusal::Key)
+    }
+}
+
 /// The folders of these values, one in another.
 fn joined_folders(alloc: Global, columns: &[KeyColumn], values: &[Value]) -> R<String>
     requires { length columns.now ≡ length values.now }
@@ -82,28 +104,6 @@ fn boolean_text(b: bool) -> &'static str
     match b {
         true => "true",
         false => "false",
-    }
-}
-
-/// The key that a path names: the one whose path it is.
-///
-/// Refused Key exactly when the text is the path of no key, out of memory aside: escapes in lower case or of what needs
-/// none, numbers with a plus, leading zeros or out of range, folders of other names, too many or too few. The time is
-/// linear in the text.
-pub fn key_of(alloc: Global, columns: &[KeyColumn], text: &str) -> R<Key>
-    ensures stands { IfOk result (λ key. path (key_columns_view columns.now) (key_view key) ≡ text.now) }
-    ensures can { IfOk result (λ key. CanPartition (key_columns_view columns.now) (key_view key)) }
-    ensures only { let keys = key_columns_view columns.now in OnFault result ((key : List ValueTree) → CanPartition keys key → path keys key ≡ text.now → ⊥) }
-    ensures which { RefusedOnly (λ e. e ≡ Refusal.Key) result }
-{
-    let Some(key) = read_folders(alloc, columns, text.as_bytes())? else {
-        return Err(Refusal::Key);
-    };
-    let path = path_of(alloc, columns, &key)?;
-    if path.as_bytes() == text.as_bytes() {
-        Ok(key)
-    } else {
-        Err(Refusal::Key)
     }
 }
 

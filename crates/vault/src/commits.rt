@@ -49,7 +49,7 @@ pub fn commit<D: Disk>(
     Ok(())
 }
 
-// Puts all of them, in order, up to the first that is refused.
+/// Puts all of them, in order, up to the first that is refused.
 fn put_all<D: Disk>(vault: &mut Vault<D>, files: &[NewFile]) -> R<()>
     requires { All (λ f. IsNoRoot (path_of f)) files.now }
     ensures effect { PutsReady files.now (D.state vault.old.disk) (D.state vault.new.disk) result }
@@ -64,7 +64,7 @@ fn put_all<D: Disk>(vault: &mut Vault<D>, files: &[NewFile]) -> R<()>
     Ok(())
 }
 
-// Forgets all of them, whatever fails.
+/// Forgets all of them, whatever fails.
 fn forget_all<D: Disk>(vault: &mut Vault<D>, paths: &[String])
     requires { All (λ p. IsNoRoot (text_of p)) paths.now }
     ensures effect { (D.state vault.old.disk).honest → ForgetsAll paths.now (D.state vault.old.disk) (D.state vault.new.disk) }

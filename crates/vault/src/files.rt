@@ -54,17 +54,6 @@ pub(crate) fn write_new<D: Disk>(disk: &mut D, path: &str, bytes: &[u8]) -> Resu
     sync_once(disk, path)
 }
 
-/// Syncs a file, once: of one that could not be synced a second sync promises nothing.
-fn sync_once<D: Disk>(disk: &mut D, path: &str) -> Result<(), Fault>
-    ensures effect { (D.state disk.old).honest → Synced path.now (D.state disk.old) (D.state disk.new) result }
-    ensures which { IfErr result (λ e. e ≢ Fault.Exists) }
-    ensures counts { CountsFailure result (D.state disk.old).failures (D.state disk.new).failures }
-    ensures reads { (D.state disk.new).reads ≡ (D.state disk.old).reads }
-    ensures honest { (D.state disk.old).honest ↔ (D.state disk.new).honest }
-{
-    disk.sync(path)
-}
-
 /// Syncs the folder of a path and the folders above, up to the dataset's own.
 pub(crate) fn make_firm<D: Disk>(disk: &mut D, path: &str) -> Result<(), Fault>
     ensures effect { (D.state disk.old).honest → IsHoused (D.state disk.old) path.now → MadeFirm path.now (D.state disk.old) (D.state disk.new) result }
@@ -94,4 +83,15 @@ pub(crate) fn place<D: Disk>(disk: &mut D, path: &str, bytes: &[u8]) -> Result<(
     make_folders(disk, path)?;
     write_new(disk, path, bytes)?;
     make_firm(disk, path)
+}
+
+/// Syncs a file, once: of one that could not be synced a second sync promises nothing.
+fn sync_once<D: Disk>(disk: &mut D, path: &str) -> Result<(), Fault>
+    ensures effect { (D.state disk.old).honest → Synced path.now (D.state disk.old) (D.state disk.new) result }
+    ensures which { IfErr result (λ e. e ≢ Fault.Exists) }
+    ensures counts { CountsFailure result (D.state disk.old).failures (D.state disk.new).failures }
+    ensures reads { (D.state disk.new).reads ≡ (D.state disk.old).reads }
+    ensures honest { (D.state disk.old).honest ↔ (D.state disk.new).honest }
+{
+    disk.sync(path)
 }

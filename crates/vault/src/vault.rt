@@ -27,7 +27,7 @@ pub struct Vault<D: Disk> {
     pub disk: D,
 }
 
-// The refusal for a fault.
+/// The refusal for a fault.
 fn refusal_of(e: Fault) -> Refusal
     ensures { result ≡ refusal_for e }
 {
@@ -224,7 +224,7 @@ impl<D: Disk> Vault<D> {
     }
 }
 
-// The bytes of a whole file, by one `read_range`.
+/// The bytes of a whole file, by one `read_range`.
 fn read_whole<D: Disk>(disk: &mut D, alloc: Global, path: &str) -> Result<Vec<u8>, Fault>
     ensures effect { (D.state disk.old).honest → RangeRead (λ bytes. bytes.items) path.now 0 (2 ^ 64 - 1) (D.state disk.old) (D.state disk.new) result }
     ensures which { IfErr result (λ e. e ≢ Fault.Exists) }
@@ -235,8 +235,8 @@ fn read_whole<D: Disk>(disk: &mut D, alloc: Global, path: &str) -> Result<Vec<u8
     disk.read_range(alloc, path, 0, usize::MAX)
 }
 
-// Renames the next root to the root and syncs the dataset's folder. The rules of the disk leave it no cause but a
-// failure.
+/// Renames the next root to the root and syncs the dataset's folder. The rules of the disk leave it no cause but a
+/// failure.
 fn turn<D: Disk>(disk: &mut D) -> Result<(), Fault>
     ensures effect { (D.state disk.old).honest → TurnsWritten (D.state disk.old) (D.state disk.new) result }
     ensures counts { CountsFailure result (D.state disk.old).failures (D.state disk.new).failures }
