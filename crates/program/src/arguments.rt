@@ -29,6 +29,25 @@ pub enum Call<'a> {
 /// The words for the styles.
 static STYLES: [&str; 4] = ["plain", "dictionary", "delta", "lengths"];
 
+/// What the words ask for, or the text on the program's use, where they ask for nothing that it knows.
+pub fn call_of<'a>(alloc: Global, words: &'a [String]) -> R<Result<Call<'a>, String>>
+    ensures first { IfOk result (λ said. IfOk said (λ call. first_word words.now ≡ Some (word_of call))) }
+{
+    let program = match program(alloc) {
+        Ok(program) => program,
+        Err(_) => return Err(Refusal::Memory),
+    };
+    let matches = match program.try_get_matches_from(words) {
+        Ok(matches) => matches,
+        Err(error) => return Ok(Err(error_text(alloc, &error)?)),
+    };
+    match call_in(words, &matches) {
+        Some(call) => Ok(Ok(call)),
+        // The files are required, so that this does not come.
+        None => Ok(Err(String::new(alloc))),
+    }
+}
+
 /// A file that must be named.
 fn file_named<'a>(alloc: Global, name: &'a str, help: &'a str) -> Arg<'a> {
     Arg::new(alloc, name)
@@ -239,24 +258,5 @@ fn call_in<'a>(words: &[String], matches: &ArgMatches<'a>) -> Option<Call<'a>>
         check_call(matches.subcommand_matches("check")?)
     } else {
         None
-    }
-}
-
-/// What the words ask for, or the text on the program's use, where they ask for nothing that it knows.
-pub fn call_of<'a>(alloc: Global, words: &'a [String]) -> R<Result<Call<'a>, String>>
-    ensures first { IfOk result (λ said. IfOk said (λ call. first_word words.now ≡ Some (word_of call))) }
-{
-    let program = match program(alloc) {
-        Ok(program) => program,
-        Err(_) => return Err(Refusal::Memory),
-    };
-    let matches = match program.try_get_matches_from(words) {
-        Ok(matches) => matches,
-        Err(error) => return Ok(Err(error_text(alloc, &error)?)),
-    };
-    match call_in(words, &matches) {
-        Some(call) => Ok(Ok(call)),
-        // The files are required, so that this does not come.
-        None => Ok(Err(String::new(alloc))),
     }
 }

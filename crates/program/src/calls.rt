@@ -36,6 +36,45 @@ pub fn refuse<E: Write>(err: &mut E, refusal: &Refusal) -> u8
     REFUSED
 }
 
+/// What the program does for these arguments, which begin after its name; returns its status.
+///
+/// Status 0: done, and `out` has what was asked for; of `encode` it has nothing, and the new file is there.
+/// Status 1: refused, with one line on `err`, such as `refused 6 Float a.b`, before which `check` says why; `out`
+/// has nothing new where the file itself was refused, and no file was made. Status 2: the arguments are no call of
+/// the program, or ask for help, and `err` has the text on its use.
+///
+/// `terminals` says which of both are terminals. Where `err` is one, and `--quiet` is not among the arguments, `decode`
+/// and `encode` show on it how many rows they have dealt with, and take that away again at the end.
+pub fn work<F: Files, W: Write, E: Write>(
+    rt: &F,
+    alloc: Global,
+    words: &[String],
+    out: &mut W,
+    err: &mut E,
+    terminals: Terminals,
+) -> u8
+    ensures status { result ≤ 2 }
+    ensures done { result ≡ 0 → IsDone words.now (W.contents out.old) (W.contents out.new) }
+    ensures silent { first_word words.now ≡ Some (codes "encode") → W.contents out.new ≡ W.contents out.old }
+    ensures quiet { terminals.err ≡ false → result ≡ 0 → E.contents err.new ≡ E.contents err.old }
+    ensures silenced { has_word (codes "--quiet") words.now ≡ true → result ≡ 0 → E.contents err.new ≡ E.contents err.old }
+    ensures usage { result ≡ 2 → W.contents out.new ≡ W.contents out.old }
+{
+    let call = match call_of(alloc, words) {
+        Ok(Ok(call)) => call,
+        Ok(Err(text)) => {
+            let _ = err.write_all(text.as_bytes());
+            return USAGE;
+        }
+        Err(refusal) => return refuse(err, &refusal),
+    };
+    let terminals = terminals_for(words, terminals);
+    match make(rt, alloc, &call, out, err, terminals) {
+        Ok(()) => DONE,
+        Err(refusal) => refuse(err, &refusal),
+    }
+}
+
 /// Whether the arguments ask that no progress is shown.
 fn are_quiet(words: &[String]) -> bool
     ensures { result ≡ has_word (codes "--quiet") words.now }
@@ -80,44 +119,5 @@ fn make<F: Files, W: Write, E: Write>(
             inspect(alloc, bytes.as_slice(), *as_json, out)
         }
         Call::Check { sources } => check(rt, alloc, sources, out, err),
-    }
-}
-
-/// What the program does for these arguments, which begin after its name; returns its status.
-///
-/// Status 0: done, and `out` has what was asked for; of `encode` it has nothing, and the new file is there.
-/// Status 1: refused, with one line on `err`, such as `refused 6 Float a.b`, before which `check` says why; `out`
-/// has nothing new where the file itself was refused, and no file was made. Status 2: the arguments are no call of
-/// the program, or ask for help, and `err` has the text on its use.
-///
-/// `terminals` says which of both are terminals. Where `err` is one, and `--quiet` is not among the arguments, `decode`
-/// and `encode` show on it how many rows they have dealt with, and take that away again at the end.
-pub fn work<F: Files, W: Write, E: Write>(
-    rt: &F,
-    alloc: Global,
-    words: &[String],
-    out: &mut W,
-    err: &mut E,
-    terminals: Terminals,
-) -> u8
-    ensures status { result ≤ 2 }
-    ensures done { result ≡ 0 → IsDone words.now (W.contents out.old) (W.contents out.new) }
-    ensures silent { first_word words.now ≡ Some (codes "encode") → W.contents out.new ≡ W.contents out.old }
-    ensures quiet { terminals.err ≡ false → result ≡ 0 → E.contents err.new ≡ E.contents err.old }
-    ensures silenced { has_word (codes "--quiet") words.now ≡ true → result ≡ 0 → E.contents err.new ≡ E.contents err.old }
-    ensures usage { result ≡ 2 → W.contents out.new ≡ W.contents out.old }
-{
-    let call = match call_of(alloc, words) {
-        Ok(Ok(call)) => call,
-        Ok(Err(text)) => {
-            let _ = err.write_all(text.as_bytes());
-            return USAGE;
-        }
-        Err(refusal) => return refuse(err, &refusal),
-    };
-    let terminals = terminals_for(words, terminals);
-    match make(rt, alloc, &call, out, err, terminals) {
-        Ok(()) => DONE,
-        Err(refusal) => refuse(err, &refusal),
     }
 }

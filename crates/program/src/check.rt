@@ -25,20 +25,6 @@ const ROWS_OVER_A_LIMIT: &str =
     "a value of more than 16 MiB, more than 16777216 entries of a column in a row group, or \
 too much for a file of 2147483647 bytes or its footer of 16 MiB";
 
-/// How many lines a text has.
-fn count_of_lines(text: &str) -> usize
-    ensures { result ≡ length (lines text.now) }
-{
-    text.lines().count()
-}
-
-/// What is printed of this many rows.
-fn line_of_count(alloc: Global, count: usize) -> Result<String, AllocError>
-    ensures { IfOk result (λ line. string_bytes line ≡ codes "ok " ++ decimal count ++ codes " rows\n") }
-{
-    format!(in alloc; "ok {count} rows\n")
-}
-
 /// How many rows the file of two texts has, which `encoded` makes and which is let go. Refused as `encoded`
 /// refuses them: it decides. No progress is shown.
 pub fn counted<E: Write>(
@@ -55,6 +41,55 @@ pub fn counted<E: Write>(
     let file = encoded(alloc, schema_text, rows_text, options, err, false)?;
     drop(file);
     Ok(count_of_lines(rows_text))
+}
+
+/// Says whether the files of a call of `encode` would be made into a file: writes `ok N rows` where they would,
+/// N being the number of rows. Refused as `encode` refuses them, which then is explained by a line on `err`:
+/// which file and line it is, where in it, and what was expected and found. Nothing is made. The time and the
+/// memory are those of `encode`.
+pub fn check<F: Files, W: Write, E: Write>(
+    rt: &F,
+    alloc: Global,
+    sources: &Sources<'_>,
+    out: &mut W,
+    err: &mut E,
+) -> R<()>
+    ensures stands { OnOk result (WritesCount sources.now.options (W.contents out.old) (W.contents out.new)) }
+    ensures which { RefusedOnly (AreRefusedSources sources.now.options) result }
+    ensures quiet { OnOk result (E.contents err.new ≡ E.contents err.old) }
+    ensures unchanged { IfErr result (λ e. e ≢ Device → e ≢ Memory → W.contents out.new ≡ W.contents out.old) }
+{
+    let schema_bytes = whole_of(rt, alloc, sources.schema)?;
+    let rows_bytes = whole_of(rt, alloc, sources.rows)?;
+    let schema_text = text_in(alloc, sources.schema, schema_bytes, err)?;
+    let rows_text = text_in(alloc, sources.rows, rows_bytes, err)?;
+    let (schema_text, rows_text) = (schema_text.as_str(), rows_text.as_str());
+    match counted(alloc, schema_text, rows_text, &sources.options, err) {
+        Ok(count) => {
+            let line = line_of_count(alloc, count)?;
+            write_whole(line.as_bytes(), out)
+        }
+        Err(refusal) => {
+            if let Ok(line) = explained(alloc, sources, schema_text, rows_text) {
+                say(err, line.as_str());
+            }
+            Err(refusal)
+        }
+    }
+}
+
+/// How many lines a text has.
+fn count_of_lines(text: &str) -> usize
+    ensures { result ≡ length (lines text.now) }
+{
+    text.lines().count()
+}
+
+/// What is printed of this many rows.
+fn line_of_count(alloc: Global, count: usize) -> Result<String, AllocError>
+    ensures { IfOk result (λ line. string_bytes line ≡ codes "ok " ++ decimal count ++ codes " rows\n") }
+{
+    format!(in alloc; "ok {count} rows\n")
 }
 
 /// The number of the first line, from 1 on, that is no row, if there is one.
@@ -125,41 +160,6 @@ fn text_in<E: Write>(alloc: Global, path: &str, bytes: Vec<u8>, err: &mut E) -> 
         Ok(text) => Ok(text),
         Err(refusal) => {
             if let Ok(line) = format!(in alloc; "{path}: not UTF-8") {
-                say(err, line.as_str());
-            }
-            Err(refusal)
-        }
-    }
-}
-
-/// Says whether the files of a call of `encode` would be made into a file: writes `ok N rows` where they would,
-/// N being the number of rows. Refused as `encode` refuses them, which then is explained by a line on `err`:
-/// which file and line it is, where in it, and what was expected and found. Nothing is made. The time and the
-/// memory are those of `encode`.
-pub fn check<F: Files, W: Write, E: Write>(
-    rt: &F,
-    alloc: Global,
-    sources: &Sources<'_>,
-    out: &mut W,
-    err: &mut E,
-) -> R<()>
-    ensures stands { OnOk result (WritesCount sources.now.options (W.contents out.old) (W.contents out.new)) }
-    ensures which { RefusedOnly (AreRefusedSources sources.now.options) result }
-    ensures quiet { OnOk result (E.contents err.new ≡ E.contents err.old) }
-    ensures unchanged { IfErr result (λ e. e ≢ Device → e ≢ Memory → W.contents out.new ≡ W.contents out.old) }
-{
-    let schema_bytes = whole_of(rt, alloc, sources.schema)?;
-    let rows_bytes = whole_of(rt, alloc, sources.rows)?;
-    let schema_text = text_in(alloc, sources.schema, schema_bytes, err)?;
-    let rows_text = text_in(alloc, sources.rows, rows_bytes, err)?;
-    let (schema_text, rows_text) = (schema_text.as_str(), rows_text.as_str());
-    match counted(alloc, schema_text, rows_text, &sources.options, err) {
-        Ok(count) => {
-            let line = line_of_count(alloc, count)?;
-            write_whole(line.as_bytes(), out)
-        }
-        Err(refusal) => {
-            if let Ok(line) = explained(alloc, sources, schema_text, rows_text) {
                 say(err, line.as_str());
             }
             Err(refusal)

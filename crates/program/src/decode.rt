@@ -23,9 +23,39 @@ use schema::Schema;
 use std::alloc::Global;
 use std::io::Write;
 
+/// Writes the rows that the bytes of a file mean, each as a line of JSON. Refused as [`FileReader::new`] is,
+/// and then nothing is written; Device where a line cannot be written. Once the file was accepted, lines
+/// are made of the rows one by one, gathered, and written some 64 KiB at a time. If memory runs out at a row, lines
+/// before it may be written already. Where `shows` says so, `err` shows how many rows were decoded so far.
+///
+/// The file is decoded twice: once to accept it, and once for its rows. Time is linear in what is decoded and in the
+/// lines; memory is that of one page of each column of a group, of a line, and of what is gathered.
+pub fn decode<W: Write, E: Write>(
+    alloc: Global,
+    bytes: &[u8],
+    out: &mut W,
+    err: &mut E,
+    shows: bool,
+) -> R<()>
+    ensures stands { OnOk result (WritesRowsOf bytes.now (W.contents out.old) (W.contents out.new)) }
+    ensures only { IfErr result (λ e. IsFault e → e ≢ Device → (fs : Fields) (rows : List ValueTrees) → FileMeans bytes.now fs rows → ⊥) }
+    ensures accepted { IfErr result (λ e. ((e ≢ Device) × (W.contents out.new ≡ W.contents out.old)) ⊎ MeansRows bytes.now) }
+    ensures which { IfErr result (λ e. (e ≡ Device) ⊎ HasFault bytes.now e) }
+    ensures unchanged { IfErr result (λ e. e ≢ Device → e ≢ Memory → W.contents out.new ≡ W.contents out.old) }
+    ensures quiet { shows ≡ false → E.contents err.new ≡ E.contents err.old }
+{
+    let file = FileReader::new(alloc, bytes)?;
+    let mut progress = progress_of(alloc, bytes, shows);
+    let mut rows = file.rows(alloc);
+    let written = write_rows(alloc, file.schema(), &mut rows, out, err, &mut progress);
+    progress.clear(err);
+    written
+}
+
 /// Takes the next row, and gathers its line; false after the last row. It fails only when out of memory.
 fn put_line(rows: &mut Rows<'_>, text: &mut RowText<'_>, gathered: &mut Vec<u8>) -> R<bool>
-    ensures puts { (fs : Fields) → BeginsRow text.old fs → GathersLine fs (rows_stand rows.old) (rows_stand rows.new) (BeginsRow text.new fs) gathered.old.items gathered.new.items result }
+    ensures puts { (fs : Fields) → BeginsRow text.old fs
+        → GathersLine fs (rows_stand rows.old) (rows_stand rows.new) (BeginsRow text.new fs) gathered.old.items gathered.new.items result }
 {
     if !rows.next_to(text)? {
         return Ok(false);
@@ -57,7 +87,8 @@ fn write_rows<W: Write, E: Write>(
     err: &mut E,
     progress: &mut Progress,
 ) -> R<()>
-    ensures stands { (all : List ValueTrees) → rows_stand rows.old all → RowsFit schema.now all → OnOk result (AppendsLines schema.now all (W.contents out.old) (W.contents out.new)) }
+    ensures stands { (all : List ValueTrees) → rows_stand rows.old all → RowsFit schema.now all
+        → OnOk result (AppendsLines schema.now all (W.contents out.old) (W.contents out.new)) }
     ensures which { (all : List ValueTrees) → rows_stand rows.old all → RowsFit schema.now all → RefusedOnly (λ e. e ≡ Device) result }
     ensures quiet { progress.old.is_shown ≡ false → E.contents err.new ≡ E.contents err.old }
     ensures same { progress.new.is_shown ≡ progress.old.is_shown }
@@ -96,33 +127,4 @@ fn progress_of(alloc: Global, bytes: &[u8], shows: bool) -> Progress
         None
     };
     Progress::new(alloc, "decoded", all, shows)
-}
-
-/// Writes the rows that the bytes of a file mean, each as a line of JSON. Refused as [`FileReader::new`] is,
-/// and then nothing is written; Device where a line cannot be written. Once the file was accepted, lines
-/// are made of the rows one by one, gathered, and written some 64 KiB at a time. If memory runs out at a row, lines
-/// before it may be written already. Where `shows` says so, `err` shows how many rows were decoded so far.
-///
-/// The file is decoded twice: once to accept it, and once for its rows. Time is linear in what is decoded and in the
-/// lines; memory is that of one page of each column of a group, of a line, and of what is gathered.
-pub fn decode<W: Write, E: Write>(
-    alloc: Global,
-    bytes: &[u8],
-    out: &mut W,
-    err: &mut E,
-    shows: bool,
-) -> R<()>
-    ensures stands { OnOk result (WritesRowsOf bytes.now (W.contents out.old) (W.contents out.new)) }
-    ensures only { IfErr result (λ e. IsFault e → e ≢ Device → (fs : Fields) (rows : List ValueTrees) → FileMeans bytes.now fs rows → ⊥) }
-    ensures accepted { IfErr result (λ e. ((e ≢ Device) × (W.contents out.new ≡ W.contents out.old)) ⊎ MeansRows bytes.now) }
-    ensures which { IfErr result (λ e. (e ≡ Device) ⊎ HasFault bytes.now e) }
-    ensures unchanged { IfErr result (λ e. e ≢ Device → e ≢ Memory → W.contents out.new ≡ W.contents out.old) }
-    ensures quiet { shows ≡ false → E.contents err.new ≡ E.contents err.old }
-{
-    let file = FileReader::new(alloc, bytes)?;
-    let mut progress = progress_of(alloc, bytes, shows);
-    let mut rows = file.rows(alloc);
-    let written = write_rows(alloc, file.schema(), &mut rows, out, err, &mut progress);
-    progress.clear(err);
-    written
 }

@@ -28,54 +28,6 @@ pub struct Sources<'a> {
     pub options: WriteOptions,
 }
 
-/// The row of a line. Refused as `row_from` refuses the line.
-fn read_row(reader: &mut Reader<'_>, line: &str) -> R<Row>
-    ensures stands { IfOk result (λ row. IsRowText (fields_of reader.old) line.now (row_view row)) }
-    ensures fits { IfOk result (λ row. IsTrue (fits_each (fields_of reader.old) (row_view row))) }
-    ensures which { RefusedOnly (IsRefusedLine (fields_of reader.old) line.now) result }
-    ensures same { fields_of reader.new ≡ fields_of reader.old }
-{
-    reader.read(line)
-}
-
-/// The bytes of a file of the rows of a text, one of each line. Refused as `row_from` refuses the first line that
-/// is no row, or Limit where the rows before it are too much for a file. Later lines are then not read. Each row
-/// is counted.
-fn written<E: Write>(
-    alloc: Global,
-    schema: &Schema,
-    options: &WriteOptions,
-    text: &str,
-    err: &mut E,
-    progress: &mut Progress,
-) -> R<Vec<u8>>
-    ensures stands { IfOk result (λ file. IsFileOfLines options.now schema.now (lines text.now) file.items) }
-    ensures which { IfErr result (IsLinesRefusal schema.now options.now (lines text.now)) }
-    ensures quiet { progress.old.is_shown ≡ false → E.contents err.new ≡ E.contents err.old }
-    ensures same { progress.new.is_shown ≡ progress.old.is_shown }
-{
-    let mut reader = Reader::new(alloc, schema)?;
-    let mut writer = FileWriter::new(alloc, schema, options)?;
-    for line in text.lines() {
-        let row = read_row(&mut reader, line)?;
-        writer.push(row)?;
-        progress.count_row(err);
-    }
-    writer.finish()
-}
-
-/// Reads the rows of a text, one of each line, and keeps none. Refused as the first line is that is no row.
-fn check_lines(alloc: Global, schema: &Schema, text: &str) -> R<()>
-    ensures stands { OnOk result ((rows : List ValueTrees) × AreRowTexts schema.now (lines text.now) rows) }
-    ensures which { RefusedOnly (HasFirstFault schema.now (lines text.now)) result }
-{
-    let mut reader = Reader::new(alloc, schema)?;
-    for line in text.lines() {
-        read_row(&mut reader, line)?;
-    }
-    Ok(())
-}
-
 /// The bytes of a file that means, in the schema of one text, the rows of the other, one for each line (an
 /// empty line is no row; a last line needs no line feed), laid out as the options say.
 ///
@@ -138,4 +90,52 @@ pub fn encode<F: Files, E: Write>(
         shows,
     )?;
     put_new(rt, alloc, path, file.as_slice())
+}
+
+/// The row of a line. Refused as `row_from` refuses the line.
+fn read_row(reader: &mut Reader<'_>, line: &str) -> R<Row>
+    ensures stands { IfOk result (λ row. IsRowText (fields_of reader.old) line.now (row_view row)) }
+    ensures fits { IfOk result (λ row. IsTrue (fits_each (fields_of reader.old) (row_view row))) }
+    ensures which { RefusedOnly (IsRefusedLine (fields_of reader.old) line.now) result }
+    ensures same { fields_of reader.new ≡ fields_of reader.old }
+{
+    reader.read(line)
+}
+
+/// The bytes of a file of the rows of a text, one of each line. Refused as `row_from` refuses the first line that
+/// is no row, or Limit where the rows before it are too much for a file. Later lines are then not read. Each row
+/// is counted.
+fn written<E: Write>(
+    alloc: Global,
+    schema: &Schema,
+    options: &WriteOptions,
+    text: &str,
+    err: &mut E,
+    progress: &mut Progress,
+) -> R<Vec<u8>>
+    ensures stands { IfOk result (λ file. IsFileOfLines options.now schema.now (lines text.now) file.items) }
+    ensures which { IfErr result (IsLinesRefusal schema.now options.now (lines text.now)) }
+    ensures quiet { progress.old.is_shown ≡ false → E.contents err.new ≡ E.contents err.old }
+    ensures same { progress.new.is_shown ≡ progress.old.is_shown }
+{
+    let mut reader = Reader::new(alloc, schema)?;
+    let mut writer = FileWriter::new(alloc, schema, options)?;
+    for line in text.lines() {
+        let row = read_row(&mut reader, line)?;
+        writer.push(row)?;
+        progress.count_row(err);
+    }
+    writer.finish()
+}
+
+/// Reads the rows of a text, one of each line, and keeps none. Refused as the first line is that is no row.
+fn check_lines(alloc: Global, schema: &Schema, text: &str) -> R<()>
+    ensures stands { OnOk result ((rows : List ValueTrees) × AreRowTexts schema.now (lines text.now) rows) }
+    ensures which { RefusedOnly (HasFirstFault schema.now (lines text.now)) result }
+{
+    let mut reader = Reader::new(alloc, schema)?;
+    for line in text.lines() {
+        read_row(&mut reader, line)?;
+    }
+    Ok(())
 }

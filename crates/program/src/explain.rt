@@ -61,6 +61,38 @@ impl Misfit {
     }
 }
 
+/// What is wrong with the first of the fields whose member is none of its values, if there is one; else with a
+/// member of no field.
+#[cycle(explaining)]
+pub fn of_members(
+    alloc: Global,
+    fields: &[Field],
+    members: &Map<String, Json>,
+) -> R<Option<Misfit>> {
+    for field in fields {
+        let member = members.get(field.name());
+        if let Some(misfit) = of_member(alloc, field, member)? {
+            return Ok(Some(misfit.in_member(alloc, field.name())?));
+        }
+    }
+    of_names(alloc, fields, members)
+}
+
+/// What is wrong with a line, if something is.
+pub fn of_line(alloc: Global, fields: &[Field], line: &str) -> R<Option<Misfit>> {
+    match Json::from_str(alloc, line) {
+        Ok(Json::Object(members)) => of_members(alloc, fields, &members),
+        Ok(json) => Ok(Some(Misfit::expected(alloc, "an object", &json)?)),
+        Err(error) => {
+            let column = error.column();
+            Ok(Some(Misfit {
+                path: String::new(alloc),
+                what: format!(in alloc; "no JSON, at column {column}")?,
+            }))
+        }
+    }
+}
+
 /// A JSON value, in a few characters.
 fn found(alloc: Global, json: &Json) -> R<String> {
     match json {
@@ -193,23 +225,6 @@ fn of_member(alloc: Global, field: &Field, member: Option<&Json>) -> R<Option<Mi
     }
 }
 
-/// What is wrong with the first of the fields whose member is none of its values, if there is one; else with a
-/// member of no field.
-#[cycle(explaining)]
-pub fn of_members(
-    alloc: Global,
-    fields: &[Field],
-    members: &Map<String, Json>,
-) -> R<Option<Misfit>> {
-    for field in fields {
-        let member = members.get(field.name());
-        if let Some(misfit) = of_member(alloc, field, member)? {
-            return Ok(Some(misfit.in_member(alloc, field.name())?));
-        }
-    }
-    of_names(alloc, fields, members)
-}
-
 /// What is wrong with the first member that is of no field, if there is one.
 fn of_names(alloc: Global, fields: &[Field], members: &Map<String, Json>) -> R<Option<Misfit>> {
     for (name, _) in members.iter() {
@@ -219,19 +234,4 @@ fn of_names(alloc: Global, fields: &[Field], members: &Map<String, Json>) -> R<O
         }
     }
     Ok(None)
-}
-
-/// What is wrong with a line, if something is.
-pub fn of_line(alloc: Global, fields: &[Field], line: &str) -> R<Option<Misfit>> {
-    match Json::from_str(alloc, line) {
-        Ok(Json::Object(members)) => of_members(alloc, fields, &members),
-        Ok(json) => Ok(Some(Misfit::expected(alloc, "an object", &json)?)),
-        Err(error) => {
-            let column = error.column();
-            Ok(Some(Misfit {
-                path: String::new(alloc),
-                what: format!(in alloc; "no JSON, at column {column}")?,
-            }))
-        }
-    }
 }

@@ -53,6 +53,22 @@ const LEAF_MEMBERS: [&str; 9] = [
 
 const GROUP_MEMBERS: [&str; 4] = ["name", "rep", "fields", "note"];
 
+/// What is wrong with the text of a schema that was refused so.
+pub fn of_schema(alloc: Global, text: &str, refusal: &Refusal) -> R<Misfit> {
+    let json = match Json::from_str(alloc, text) {
+        Ok(json) => json,
+        Err(error) => {
+            let (line, column) = (error.line(), error.column());
+            let what = format!(in alloc; "no JSON, at line {line} column {column}")?;
+            return Misfit::because(alloc, what.as_str());
+        }
+    };
+    match of_fields(alloc, DEEPEST, &json)? {
+        Some(misfit) => Ok(misfit),
+        None => of_tree(alloc, refusal),
+    }
+}
+
 /// The words of a list, with a comma between two.
 fn listed(alloc: Global, words: &[&str]) -> R<String> {
     let mut list = String::new(alloc);
@@ -242,21 +258,5 @@ fn of_tree(alloc: Global, refusal: &Refusal) -> R<Misfit> {
             "no columns, a group without fields, two fields of one name, or a length below 1",
         ),
         _ => Misfit::because(alloc, "a note that has another form, or not for its type"),
-    }
-}
-
-/// What is wrong with the text of a schema that was refused so.
-pub fn of_schema(alloc: Global, text: &str, refusal: &Refusal) -> R<Misfit> {
-    let json = match Json::from_str(alloc, text) {
-        Ok(json) => json,
-        Err(error) => {
-            let (line, column) = (error.line(), error.column());
-            let what = format!(in alloc; "no JSON, at line {line} column {column}")?;
-            return Misfit::because(alloc, what.as_str());
-        }
-    };
-    match of_fields(alloc, DEEPEST, &json)? {
-        Some(misfit) => Ok(misfit),
-        None => of_tree(alloc, refusal),
     }
 }

@@ -34,28 +34,6 @@ pub fn refusal_of(error: io::Error) -> Refusal
     }
 }
 
-/// The same of a file that is to be new: Exists where its name is taken.
-fn refusal_of_new(error: io::Error) -> Refusal
-    ensures which { (result ≡ Memory) ⊎ ((result ≡ Exists) ⊎ (result ≡ Device)) }
-    ensures taken { result ≡ Exists ↔ (error_kind error ≡ ErrorKind.AlreadyExists) }
-{
-    match error.kind() {
-        ErrorKind::AlreadyExists => Refusal::Exists,
-        _ => refusal_of(error),
-    }
-}
-
-/// How much room to ask for before a file is read: for the bytes that it has, but no more than are read,
-/// and for one more, so that its end is seen without growth. None where its length is not known.
-fn room_for<O: OpenFile>(file: &O) -> usize
-    ensures limit { result ≤ greatest_file + 2 }
-{
-    match file.metadata() {
-        Ok(metadata) => metadata.len().min(MORE_THAN_A_FILE) as usize + 1,
-        Err(_) => 0,
-    }
-}
-
 /// The bytes of a file of the host, but no more than are needed to see that it is too long. Refused
 /// Device where it cannot be read. Room for as many bytes as it is said to have is asked for at once.
 pub fn bytes_of<F: Files>(rt: &F, alloc: Global, path: &str) -> R<Vec<u8>>
@@ -108,6 +86,54 @@ pub fn text_of(bytes: Vec<u8>) -> R<String>
     }
 }
 
+/// Makes a new file of these bytes. It is written and synced under a name of its own beside it, `PATH.new-N`,
+/// and only then called `path`: nothing that is there is replaced, and a stop leaves all of the file, or
+/// none of it, at `path` (unless the link fails). The name of its own is taken away, where the host lets it.
+///
+/// Refused Exists where something is at `path`, and Device where no file can be made there; then none is.
+pub fn put_new<F: Files>(rt: &F, alloc: Global, path: &str, bytes: &[u8]) -> R<()>
+    ensures which { RefusedOnly (λ e. (e ≡ Exists) ⊎ (e ≡ Device)) result }
+{
+    if fs::symlink_metadata(rt, path).is_ok() {
+        return Err(Refusal::Exists);
+    }
+    for number in 0..MOST_NAMES {
+        let beside = format!(in alloc; "{path}.new-{number}")?;
+        match make(rt, beside.as_str(), bytes) {
+            Ok(()) => {
+                give_name(rt, beside.as_str(), path, bytes).map_err(refusal_of_new)?;
+                sync_folder(rt, path);
+                return Ok(());
+            }
+            Err(error) if error.kind() == ErrorKind::AlreadyExists => {}
+            Err(error) => return Err(refusal_of(error)),
+        }
+    }
+    Err(Refusal::Device)
+}
+
+/// The same of a file that is to be new: Exists where its name is taken.
+fn refusal_of_new(error: io::Error) -> Refusal
+    ensures which { (result ≡ Memory) ⊎ ((result ≡ Exists) ⊎ (result ≡ Device)) }
+    ensures taken { result ≡ Exists ↔ (error_kind error ≡ ErrorKind.AlreadyExists) }
+{
+    match error.kind() {
+        ErrorKind::AlreadyExists => Refusal::Exists,
+        _ => refusal_of(error),
+    }
+}
+
+/// How much room to ask for before a file is read: for the bytes that it has, but no more than are read,
+/// and for one more, so that its end is seen without growth. None where its length is not known.
+fn room_for<O: OpenFile>(file: &O) -> usize
+    ensures limit { result ≤ greatest_file + 2 }
+{
+    match file.metadata() {
+        Ok(metadata) => metadata.len().min(MORE_THAN_A_FILE) as usize + 1,
+        Err(_) => 0,
+    }
+}
+
 /// Writes all of the bytes and makes them durable.
 fn fill<O: Write + OpenFile>(file: &mut O, bytes: &[u8]) -> io::Result<()>
     ensures stands { OnOk result (Appends (O.contents file.old) (O.contents file.new) bytes.now) }
@@ -148,30 +174,4 @@ fn give_name<F: Files>(rt: &F, beside: &str, path: &str, bytes: &[u8]) -> io::Re
         Err(error) if error.kind() != ErrorKind::AlreadyExists => make(rt, path, bytes),
         _ => named,
     }
-}
-
-/// Makes a new file of these bytes. It is written and synced under a name of its own beside it, `PATH.new-N`,
-/// and only then called `path`: nothing that is there is replaced, and a stop leaves all of the file, or
-/// none of it, at `path` (unless the link fails). The name of its own is taken away, where the host lets it.
-///
-/// Refused Exists where something is at `path`, and Device where no file can be made there; then none is.
-pub fn put_new<F: Files>(rt: &F, alloc: Global, path: &str, bytes: &[u8]) -> R<()>
-    ensures which { RefusedOnly (λ e. (e ≡ Exists) ⊎ (e ≡ Device)) result }
-{
-    if fs::symlink_metadata(rt, path).is_ok() {
-        return Err(Refusal::Exists);
-    }
-    for number in 0..MOST_NAMES {
-        let beside = format!(in alloc; "{path}.new-{number}")?;
-        match make(rt, beside.as_str(), bytes) {
-            Ok(()) => {
-                give_name(rt, beside.as_str(), path, bytes).map_err(refusal_of_new)?;
-                sync_folder(rt, path);
-                return Ok(());
-            }
-            Err(error) if error.kind() == ErrorKind::AlreadyExists => {}
-            Err(error) => return Err(refusal_of(error)),
-        }
-    }
-    Err(Refusal::Device)
 }

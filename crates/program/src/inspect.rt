@@ -22,6 +22,25 @@ use std::io::Write;
 /// How many bytes there are after the footer: its length, and `PAR1`.
 const BYTES_AFTER_FOOTER: usize = 8;
 
+/// Writes what a file is: for a person, or as a line of JSON. Only the footer and the page headers are read, and
+/// no value. Refused as [`read_footer`] is, and Device where the output cannot be written; nothing is written
+/// before all of the report is there. Time is linear in the footer and in the page headers that are listed, at
+/// most [`MOST_PAGES`]; no memory is asked for by an announced number.
+pub fn inspect<W: Write>(alloc: Global, bytes: &[u8], as_json: bool, out: &mut W) -> R<()>
+    ensures stands { OnOk result (WritesReportOf bytes.now (W.contents out.old) (W.contents out.new)) }
+    ensures which { IfErr result (λ e. (e ≡ Device) ⊎ HasFooterFault bytes.now e) }
+    ensures unchanged { IfErr result (λ e. e ≢ Device → e ≢ Memory → W.contents out.new ≡ W.contents out.old) }
+{
+    let record = read_footer(alloc, bytes)?;
+    let report = report_of(alloc, bytes, &record)?;
+    let text = if as_json {
+        json_of_report(alloc, &report)?
+    } else {
+        text_of_report(alloc, &report)?
+    };
+    write_whole(text.as_slice(), out)
+}
+
 /// The length of the footer that a file announces.
 fn footer_length(bytes: &[u8]) -> Option<usize> {
     let from = bytes.len().checked_sub(BYTES_AFTER_FOOTER)?;
@@ -104,23 +123,4 @@ fn json_of_report(alloc: Global, report: &FileReport) -> Result<Vec<u8>, AllocEr
         // No part of a report can be refused otherwise.
         Err(_) => Err(AllocError),
     }
-}
-
-/// Writes what a file is: for a person, or as a line of JSON. Only the footer and the page headers are read, and
-/// no value. Refused as [`read_footer`] is, and Device where the output cannot be written; nothing is written
-/// before all of the report is there. Time is linear in the footer and in the page headers that are listed, at
-/// most [`MOST_PAGES`]; no memory is asked for by an announced number.
-pub fn inspect<W: Write>(alloc: Global, bytes: &[u8], as_json: bool, out: &mut W) -> R<()>
-    ensures stands { OnOk result (WritesReportOf bytes.now (W.contents out.old) (W.contents out.new)) }
-    ensures which { IfErr result (λ e. (e ≡ Device) ⊎ HasFooterFault bytes.now e) }
-    ensures unchanged { IfErr result (λ e. e ≢ Device → e ≢ Memory → W.contents out.new ≡ W.contents out.old) }
-{
-    let record = read_footer(alloc, bytes)?;
-    let report = report_of(alloc, bytes, &record)?;
-    let text = if as_json {
-        json_of_report(alloc, &report)?
-    } else {
-        text_of_report(alloc, &report)?
-    };
-    write_whole(text.as_slice(), out)
 }

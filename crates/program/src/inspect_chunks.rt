@@ -21,6 +21,25 @@ pub fn path_of(alloc: Global, meta: &ColumnMeta) -> Result<String, AllocError> {
     Ok(path)
 }
 
+/// A row group; `room` is how many pages may be listed, and then how many more.
+pub fn group_of(
+    alloc: Global,
+    front: &[u8],
+    group: &GroupMeta,
+    leaves: &[Leaf],
+    room: &mut usize,
+) -> Result<GroupReport, AllocError> {
+    let mut chunks = Vec::new(alloc);
+    for (place, chunk) in group.columns.iter().enumerate() {
+        chunks.push(chunk_of(alloc, front, chunk, leaves.get(place), room)?)?;
+    }
+    Ok(GroupReport {
+        rows: group.num_rows,
+        bytes: group.total_byte_size,
+        chunks,
+    })
+}
+
 /// The names of the encodings that a chunk says it has.
 fn encodings_of(alloc: Global, meta: &ColumnMeta) -> Result<Vec<String>, AllocError> {
     let mut names = Vec::new(alloc);
@@ -84,24 +103,5 @@ fn chunk_of(
         statistics: statistics_of(alloc, meta, type_of_leaf(meta, leaf))?,
         pages: pages.listed,
         unlisted: pages.unlisted.map(Unlisted::words),
-    })
-}
-
-/// A row group; `room` is how many pages may be listed, and then how many more.
-pub fn group_of(
-    alloc: Global,
-    front: &[u8],
-    group: &GroupMeta,
-    leaves: &[Leaf],
-    room: &mut usize,
-) -> Result<GroupReport, AllocError> {
-    let mut chunks = Vec::new(alloc);
-    for (place, chunk) in group.columns.iter().enumerate() {
-        chunks.push(chunk_of(alloc, front, chunk, leaves.get(place), room)?)?;
-    }
-    Ok(GroupReport {
-        rows: group.num_rows,
-        bytes: group.total_byte_size,
-        chunks,
     })
 }

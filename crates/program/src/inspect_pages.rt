@@ -108,6 +108,44 @@ pub fn start_of(meta: &ColumnMeta) -> Option<usize> {
     }
 }
 
+/// Lists the pages of a chunk by their headers, from where they start until they have the chunk's entries, at
+/// most `room` of them. `front` has the bytes of the file before its footer. Where a header is refused, or a
+/// page goes beyond these bytes or has too many entries, the list ends there. Refused only when out of memory.
+pub fn pages_of(
+    alloc: Global,
+    front: &[u8],
+    meta: &ColumnMeta,
+    leaf: Option<&Leaf>,
+    room: usize,
+) -> Result<Pages, AllocError> {
+    let mut listed = Vec::new(alloc);
+    let Some(offset) = start_of(meta) else {
+        let unlisted = Some(Unlisted::Offset);
+        return Ok(Pages { listed, unlisted });
+    };
+    let mut walk = Walk {
+        leaf,
+        front,
+        offset,
+        lacking: meta.num_values,
+    };
+    for _ in 0..room {
+        if walk.lacking <= 0 {
+            break;
+        }
+        let unlisted = walk.step(alloc, &mut listed)?;
+        if unlisted.is_some() {
+            return Ok(Pages { listed, unlisted });
+        }
+    }
+    let unlisted = if walk.lacking > 0 {
+        Some(Unlisted::Room)
+    } else {
+        None
+    };
+    Ok(Pages { listed, unlisted })
+}
+
 /// What the header that a page's type names says of the page. None for a page of another type.
 fn said_of(header: &PageHeader) -> Option<Said> {
     match header.kind {
@@ -211,15 +249,6 @@ fn lacking_after(lacking: i64, header: &PageHeader) -> Option<i64> {
     }
 }
 
-/// The offset after a page; None where it goes beyond `end`.
-fn after(offset: usize, used: usize, header: &PageHeader, end: usize) -> Option<usize>
-    ensures { IfSome result (λ next. next ≤ end) }
-{
-    let body = usize::try_from(header.compressed_page_size).ok()?;
-    let next = offset.checked_add(used)?.checked_add(body)?;
-    if next <= end { Some(next) } else { None }
-}
-
 /// A walk over the pages of a chunk.
 #[derive(Drop)]
 struct Walk<'a> {
@@ -260,40 +289,11 @@ impl<'a> Walk<'a> {
     }
 }
 
-/// Lists the pages of a chunk by their headers, from where they start until they have the chunk's entries, at
-/// most `room` of them. `front` has the bytes of the file before its footer. Where a header is refused, or a
-/// page goes beyond these bytes or has too many entries, the list ends there. Refused only when out of memory.
-pub fn pages_of(
-    alloc: Global,
-    front: &[u8],
-    meta: &ColumnMeta,
-    leaf: Option<&Leaf>,
-    room: usize,
-) -> Result<Pages, AllocError> {
-    let mut listed = Vec::new(alloc);
-    let Some(offset) = start_of(meta) else {
-        let unlisted = Some(Unlisted::Offset);
-        return Ok(Pages { listed, unlisted });
-    };
-    let mut walk = Walk {
-        leaf,
-        front,
-        offset,
-        lacking: meta.num_values,
-    };
-    for _ in 0..room {
-        if walk.lacking <= 0 {
-            break;
-        }
-        let unlisted = walk.step(alloc, &mut listed)?;
-        if unlisted.is_some() {
-            return Ok(Pages { listed, unlisted });
-        }
-    }
-    let unlisted = if walk.lacking > 0 {
-        Some(Unlisted::Room)
-    } else {
-        None
-    };
-    Ok(Pages { listed, unlisted })
+/// The offset after a page; None where it goes beyond `end`.
+fn after(offset: usize, used: usize, header: &PageHeader, end: usize) -> Option<usize>
+    ensures { IfSome result (λ next. next ≤ end) }
+{
+    let body = usize::try_from(header.compressed_page_size).ok()?;
+    let next = offset.checked_add(used)?.checked_add(body)?;
+    if next <= end { Some(next) } else { None }
 }

@@ -137,6 +137,28 @@ impl Problems {
     }
 }
 
+/// What `decode` refuses of a file, in the order of its groups and chunks; `schema` is what its list of elements
+/// is read as.
+pub fn problems_of(
+    alloc: Global,
+    record: &FileMeta,
+    groups: &[GroupReport],
+    schema: &R<Schema>,
+) -> Result<Vec<Problem>, AllocError> {
+    let mut problems = Problems::new(alloc);
+    let leaves = match schema {
+        Ok(schema) => schema.leaves(),
+        Err(refusal) => {
+            problems.add_of_schema(refusal)?;
+            &[]
+        }
+    };
+    for (number, (group, report)) in record.row_groups.iter().zip(groups.iter()).enumerate() {
+        problems.add_of_group(number, group, report, leaves)?;
+    }
+    Ok(problems.found)
+}
+
 /// What is refused of a group's numbers, if something is.
 fn what_of_group(group: &GroupMeta, leaves: &[Leaf]) -> Option<&'static str> {
     if !leaves.is_empty() && group.columns.len() != leaves.len() {
@@ -206,26 +228,4 @@ fn what_of_record(
         Some(_) => "the chunk's number of entries is negative",
     };
     Ok(Some(String::from_str(alloc, what)?))
-}
-
-/// What `decode` refuses of a file, in the order of its groups and chunks; `schema` is what its list of elements
-/// is read as.
-pub fn problems_of(
-    alloc: Global,
-    record: &FileMeta,
-    groups: &[GroupReport],
-    schema: &R<Schema>,
-) -> Result<Vec<Problem>, AllocError> {
-    let mut problems = Problems::new(alloc);
-    let leaves = match schema {
-        Ok(schema) => schema.leaves(),
-        Err(refusal) => {
-            problems.add_of_schema(refusal)?;
-            &[]
-        }
-    };
-    for (number, (group, report)) in record.row_groups.iter().zip(groups.iter()).enumerate() {
-        problems.add_of_group(number, group, report, leaves)?;
-    }
-    Ok(problems.found)
 }

@@ -23,6 +23,21 @@ pub fn shown_where_given(
     }
 }
 
+/// The elements after the root, each with how many groups are around it. The list need not be a tree: where
+/// a group announces more children than there are, the list just ends.
+pub fn fields_of(alloc: Global, elements: &[Element]) -> Result<Vec<FieldReport>, AllocError> {
+    let mut fields = Vec::new(alloc);
+    let mut open = Vec::new(alloc);
+    for element in elements.iter().skip(1) {
+        close_full(&mut open);
+        fields.push(field_of(alloc, open.len(), element)?)?;
+        if let Some(children) = element.num_children {
+            open.push(children)?;
+        }
+    }
+    Ok(fields)
+}
+
 /// The name of an element's type, where it has one.
 fn kind_of(alloc: Global, element: &Element) -> Result<Option<String>, AllocError> {
     match element.kind {
@@ -89,19 +104,4 @@ fn close_full(open: &mut Vec<i32>) {
             _ => {}
         }
     }
-}
-
-/// The elements after the root, each with how many groups are around it. The list need not be a tree: where
-/// a group announces more children than there are, the list just ends.
-pub fn fields_of(alloc: Global, elements: &[Element]) -> Result<Vec<FieldReport>, AllocError> {
-    let mut fields = Vec::new(alloc);
-    let mut open = Vec::new(alloc);
-    for element in elements.iter().skip(1) {
-        close_full(&mut open);
-        fields.push(field_of(alloc, open.len(), element)?)?;
-        if let Some(children) = element.num_children {
-            open.push(children)?;
-        }
-    }
-    Ok(fields)
 }

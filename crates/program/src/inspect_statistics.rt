@@ -6,6 +6,18 @@ use schema::{LeafType, Order};
 use serde_json::Value as Json;
 use std::alloc::{AllocError, Global};
 
+/// The same of a chunk, where it has statistics.
+pub fn statistics_of(
+    alloc: Global,
+    meta: &ColumnMeta,
+    leaf_type: Option<&LeafType>,
+) -> Result<Option<StatisticsReport>, AllocError> {
+    match &meta.statistics {
+        Some(statistics) => Ok(Some(report_of(alloc, meta.kind, leaf_type, statistics)?)),
+        None => Ok(None),
+    }
+}
+
 /// Whether numbers of a leaf are unsigned.
 fn is_unsigned(leaf_type: Option<&LeafType>) -> bool {
     matches!(leaf_type.and_then(LeafType::order), Some(Order::Unsigned))
@@ -111,16 +123,4 @@ fn report_of(
         min,
         max,
     })
-}
-
-/// The same of a chunk, where it has statistics.
-pub fn statistics_of(
-    alloc: Global,
-    meta: &ColumnMeta,
-    leaf_type: Option<&LeafType>,
-) -> Result<Option<StatisticsReport>, AllocError> {
-    match &meta.statistics {
-        Some(statistics) => Ok(Some(report_of(alloc, meta.kind, leaf_type, statistics)?)),
-        None => Ok(None),
-    }
 }

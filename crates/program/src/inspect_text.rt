@@ -24,6 +24,23 @@ impl<T: Display> Display for Known<T> {
     }
 }
 
+/// The report as text: the file, its schema as a tree, its row groups with their chunks and pages, and what
+/// `decode` refuses. Each line is one, whatever the names have in them. Refused only when out of memory.
+pub fn text_of_report(alloc: Global, report: &FileReport) -> Result<Vec<u8>, AllocError> {
+    let mut text = Vec::new(alloc);
+    write_head(&mut text, report)?;
+    line(&mut text, "")?;
+    line(&mut text, "schema")?;
+    for field in &report.schema {
+        write_field(alloc, &mut text, field)?;
+    }
+    for (number, group) in report.groups.iter().enumerate() {
+        write_group(alloc, &mut text, number, group)?;
+    }
+    write_problems(&mut text, report.not_read.as_slice())?;
+    Ok(text)
+}
+
 /// Writes a line, in which control characters are escaped.
 fn line<D: Display + Drop>(text: &mut Vec<u8>, said: D) -> Result<(), AllocError> {
     let mut one_line = OneLine(&mut *text);
@@ -274,21 +291,4 @@ fn write_problems(text: &mut Vec<u8>, problems: &[Problem]) -> Result<(), AllocE
         write_problem(text, problem)?;
     }
     Ok(())
-}
-
-/// The report as text: the file, its schema as a tree, its row groups with their chunks and pages, and what
-/// `decode` refuses. Each line is one, whatever the names have in them. Refused only when out of memory.
-pub fn text_of_report(alloc: Global, report: &FileReport) -> Result<Vec<u8>, AllocError> {
-    let mut text = Vec::new(alloc);
-    write_head(&mut text, report)?;
-    line(&mut text, "")?;
-    line(&mut text, "schema")?;
-    for field in &report.schema {
-        write_field(alloc, &mut text, field)?;
-    }
-    for (number, group) in report.groups.iter().enumerate() {
-        write_group(alloc, &mut text, number, group)?;
-    }
-    write_problems(&mut text, report.not_read.as_slice())?;
-    Ok(text)
 }
