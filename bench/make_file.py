@@ -1,12 +1,14 @@
 """Makes a Parquet file of one kind: make_file.py KIND FILE [LINES].
 
-`numbers` and `texts` have some 50 MB in one REQUIRED column and one PLAIN page. The others have 1,000,000 values in
+`numbers` and `texts` have some 50 MB in one REQUIRED column and one PLAIN page. `huge` has 2.1 GB of numbers in one
+REQUIRED column, in 127 groups of one page each: one more would be beyond the greatest file. The others have 1,000,000 values in
 pages of 20,000 entries: `flat` and `strings` are REQUIRED columns in PLAIN; `optional` has a null in each eighth row;
 `lists` has lists of four numbers in their three-level form, `groups` two groups of two numbers in each row; `delta` has
 DELTA_BINARY_PACKED; and `dictionary`, `lengths` and `prefixes` have the texts of `strings` by a dictionary, in
 DELTA_LENGTH_BYTE_ARRAY and in DELTA_BYTE_ARRAY. LINES gets the rows as JSON, as they should be decoded.
 (parquet-format, Encodings.md and "Nested Encoding".)"""
 
+import array
 import struct
 import sys
 
@@ -188,6 +190,23 @@ def one_page(what, path):
     write(path, [root(1), leaf(b"x", kind, REQUIRED, annotation)], [(kind, [b"x"], rows, 0, data_page(rows, PLAIN, body))], rows)
 
 
+def huge(path):
+    """127 groups of 2,097,152 numbers: the rows 0, 1, 2 and so on."""
+    rows, count = 2_097_152, 127
+    groups, at = b"", 4
+    with open(path, "wb") as file:
+        file.write(b"PAR1")
+        for nth in range(count):
+            page = data_page(rows, PLAIN, array.array("q", range(nth * rows, (nth + 1) * rows)).tobytes())
+            file.write(page)
+            record = chunk_record(INT64, [b"x"], rows, at, 0, len(page))
+            groups += b"\x19\x1c" + record + b"\x16" + i(len(page)) + b"\x16" + i(rows) + b"\x00"
+            at += len(page)
+        elements = b"\x2c" + root(1) + leaf(b"x", INT64, REQUIRED)
+        footer = b"\x15\x02\x19" + elements + b"\x16" + i(rows * count) + b"\x19\xfc" + varint(count) + groups + b"\x28\x04pqds\x00"
+        file.write(footer + struct.pack("<I", len(footer)) + b"PAR1")
+
+
 def of_numbers(encoding, spelled, values):
     made = pages([(0, 0, value) for value in values], encoding, 0, 0, spelled)
     return [root(1), leaf(b"x", INT64, REQUIRED)], [(INT64, [b"x"], len(values), 0, made)], ['{"x":%d}' % value for value in values]
@@ -265,6 +284,9 @@ KINDS = {make.__name__: make for make in (flat, optional, lists, groups, delta, 
 
 
 def main(what, path, lines=None):
+    if what == "huge":
+        huge(path)
+        return
     if what not in KINDS:
         one_page(what, path)
         return
