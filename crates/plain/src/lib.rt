@@ -11,6 +11,7 @@ mod held;
 mod laws;
 mod lent;
 mod measuring;
+mod placing;
 mod reading;
 mod writing;
 
