@@ -1,2 +1,3 @@
 -- Definitions for private functions only.
 pub mod Sized
+pub mod Placed

@@ -11,6 +11,7 @@ mod held;
 mod laws;
 mod lent;
 mod measuring;
+mod placing;
 mod reading;
 mod writing;
 
@@ -20,4 +21,4 @@ pub use held::Holds;
 pub use laws::{one_list, what_is_of_a_kind_fits_it};
 pub use lent::Lends;
 pub use reading::{MOST_BYTES_OF_VALUE, decode, decode_to};
-pub use writing::{encode, encoded_size};
+pub use writing::{encode, encode_fitting, encoded_size, fitting_size};

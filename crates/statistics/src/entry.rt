@@ -32,6 +32,7 @@ impl HasValue for Entry {
 impl<'a> HasValue for EntryRef<'a> {
     ghost shown = { entry_ref_view };
 
+    #[inline(always)]
     fn value(&self) -> Option<ValueRef<'_>> {
         self.value
     }

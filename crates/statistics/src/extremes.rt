@@ -1,10 +1,10 @@
 //! The statistics of columns.
 
-ghost use Rattle.std.specs.Prelude.{map, ◌≡◌, IfOk, option_map};
+ghost use Rattle.std.specs.Prelude.{map, ◌≡◌, IfOk, IfSome, option_map};
 ghost use Rattle.std.specs.List.{list_all};
 ghost use Rattle.bits.specs.Refusals.{RefusedMemoryOnly};
 ghost use Rattle.schema.specs.Orders.{is_compared};
-ghost use Rattle.schema.specs.Values.{view};
+ghost use Rattle.schema.specs.Values.{view, integer, bytes};
 ghost use Rattle.schema.specs.Borrowed.{value_ref_view};
 ghost use Rattle.schema.specs.Views.{column_view, leaf_order};
 ghost use Rattle.statistics.specs.Bounds.{statistics_of, values, null_count, Bounds, AreLeastAndGreatest};
@@ -61,7 +61,93 @@ struct Extremes<'a> {
     nulls: u64,
 }
 
+/// The least and the greatest value in the order. Numbers in the signed order and bytes are compared as
+/// they are; all else goes by [`extremes_of_any`].
 fn extremes_of<'a, E: HasValue>(order: Option<Order>, entries: &'a [E]) -> Extremes<'a>
+    ensures least { option_map value_ref_view result.least ≡ pick_from (lesser order) None (values (map E.shown entries.now)) }
+    ensures greatest { option_map value_ref_view result.greatest ≡ pick_from (greater order) None (values (map E.shown entries.now)) }
+    ensures all_compared { result.all_compared ≡ list_all (is_compared order) (values (map E.shown entries.now)) }
+    ensures nulls { result.nulls ≡ null_count (map E.shown entries.now) }
+{
+    match order {
+        Some(Order::Signed) => match extremes_of_numbers(entries) {
+            Some(found) => found,
+            None => extremes_of_any(order, entries),
+        },
+        Some(Order::Bytewise) => match extremes_of_texts(entries) {
+            Some(found) => found,
+            None => extremes_of_any(order, entries),
+        },
+        _ => extremes_of_any(order, entries),
+    }
+}
+
+/// The least and the greatest number in the signed order; None where a value is none.
+fn extremes_of_numbers<'a, E: HasValue>(entries: &'a [E]) -> Option<Extremes<'a>>
+    ensures least { let vs = values (map E.shown entries.now) in
+        IfSome result (λ found. option_map value_ref_view found.least ≡ pick_from (lesser (Some Order.Signed)) None vs) }
+    ensures greatest { let vs = values (map E.shown entries.now) in
+        IfSome result (λ found. option_map value_ref_view found.greatest ≡ pick_from (greater (Some Order.Signed)) None vs) }
+    ensures all_compared { IfSome result (λ found. found.all_compared ≡ list_all (is_compared (Some Order.Signed)) (values (map E.shown entries.now))) }
+    ensures nulls { IfSome result (λ found. found.nulls ≡ null_count (map E.shown entries.now)) }
+{
+    let mut least: Option<i64> = None;
+    let mut greatest: Option<i64> = None;
+    let mut nulls = 0u64;
+    for entry in entries {
+        match entry.value() {
+            Some(value) => match value {
+                ValueRef::Int(number) => {
+                    least = Some(lesser_number(number, least));
+                    greatest = Some(greater_number(number, greatest));
+                }
+                _ => return None,
+            },
+            None => nulls += 1,
+        }
+    }
+    Some(Extremes {
+        least: number_value(least),
+        greatest: number_value(greatest),
+        all_compared: true,
+        nulls,
+    })
+}
+
+/// The least and the greatest bytes, byte by byte; None where a value is none.
+fn extremes_of_texts<'a, E: HasValue>(entries: &'a [E]) -> Option<Extremes<'a>>
+    ensures least { let vs = values (map E.shown entries.now) in
+        IfSome result (λ found. option_map value_ref_view found.least ≡ pick_from (lesser (Some Order.Bytewise)) None vs) }
+    ensures greatest { let vs = values (map E.shown entries.now) in
+        IfSome result (λ found. option_map value_ref_view found.greatest ≡ pick_from (greater (Some Order.Bytewise)) None vs) }
+    ensures all_compared { IfSome result (λ found. found.all_compared ≡ list_all (is_compared (Some Order.Bytewise)) (values (map E.shown entries.now))) }
+    ensures nulls { IfSome result (λ found. found.nulls ≡ null_count (map E.shown entries.now)) }
+{
+    let mut least: Option<&'a [u8]> = None;
+    let mut greatest: Option<&'a [u8]> = None;
+    let mut nulls = 0u64;
+    for entry in entries {
+        match entry.value() {
+            Some(value) => match value {
+                ValueRef::Bytes(text) => {
+                    least = Some(lesser_text(text, least));
+                    greatest = Some(greater_text(text, greatest));
+                }
+                _ => return None,
+            },
+            None => nulls += 1,
+        }
+    }
+    Some(Extremes {
+        least: text_value(least),
+        greatest: text_value(greatest),
+        all_compared: true,
+        nulls,
+    })
+}
+
+/// The least and the greatest value in any order.
+fn extremes_of_any<'a, E: HasValue>(order: Option<Order>, entries: &'a [E]) -> Extremes<'a>
     ensures least { option_map value_ref_view result.least ≡ pick_from (lesser order) None (values (map E.shown entries.now)) }
     ensures greatest { option_map value_ref_view result.greatest ≡ pick_from (greater order) None (values (map E.shown entries.now)) }
     ensures all_compared { result.all_compared ≡ list_all (is_compared order) (values (map E.shown entries.now)) }
@@ -86,6 +172,82 @@ fn extremes_of<'a, E: HasValue>(order: Option<Order>, entries: &'a [E]) -> Extre
         greatest,
         all_compared,
         nulls,
+    }
+}
+
+/// The lesser of two numbers.
+#[inline(always)]
+fn lesser_number(number: i64, other: Option<i64>) -> i64
+    ensures { integer result ≡ picked (lesser (Some Order.Signed)) (integer number) (option_map integer other) }
+{
+    match other {
+        None => number,
+        Some(m) => match number.cmp(&m) {
+            Ordering::Less => number,
+            _ => m,
+        },
+    }
+}
+
+/// The greater of two numbers.
+#[inline(always)]
+fn greater_number(number: i64, other: Option<i64>) -> i64
+    ensures { integer result ≡ picked (greater (Some Order.Signed)) (integer number) (option_map integer other) }
+{
+    match other {
+        None => number,
+        Some(m) => match number.cmp(&m) {
+            Ordering::Greater => number,
+            _ => m,
+        },
+    }
+}
+
+/// A number, where there is one, as a value.
+fn number_value<'a>(number: Option<i64>) -> Option<ValueRef<'a>>
+    ensures { option_map value_ref_view result ≡ option_map integer number }
+{
+    match number {
+        Some(number) => Some(ValueRef::Int(number)),
+        None => None,
+    }
+}
+
+/// The lesser of two texts.
+#[inline(always)]
+fn lesser_text<'a>(text: &'a [u8], other: Option<&'a [u8]>) -> &'a [u8]
+    ensures { bytes result.now ≡ picked (lesser (Some Order.Bytewise)) (bytes text.now) (option_map (λ t. bytes t.now) other.entry) }
+{
+    match other {
+        None => text,
+        Some(m) => match text.cmp(m) {
+            Ordering::Less => text,
+            _ => m,
+        },
+    }
+}
+
+/// The greater of two texts.
+#[inline(always)]
+fn greater_text<'a>(text: &'a [u8], other: Option<&'a [u8]>) -> &'a [u8]
+    ensures { bytes result.now ≡ picked (greater (Some Order.Bytewise)) (bytes text.now) (option_map (λ t. bytes t.now) other.entry) }
+{
+    match other {
+        None => text,
+        Some(m) => match text.cmp(m) {
+            Ordering::Greater => text,
+            _ => m,
+        },
+    }
+}
+
+/// A text, where there is one, as a value.
+fn text_value<'a>(text: Option<&'a [u8]>) -> Option<ValueRef<'a>>
+    ensures { option_map value_ref_view result ≡ option_map (λ t. bytes t.now) text.entry }
+{
+    match text {
+        Some(text) => Some(ValueRef::Bytes(text)),
+        None => None,
     }
 }
 

@@ -5,7 +5,7 @@ use Rattle.schema.specs.Orders.{is_compared}
 use Rattle.schema.specs.Borrowed.{value_ref_view}
 use Rattle.statistics.specs.Bounds.{values, null_count}
 use Rattle.statistics.specs.inner.Extremes.{lesser, greater, pick_from}
-use Rattle.statistics.proofs.extremes.extremes_of.Given as goal
+use Rattle.statistics.proofs.extremes.extremes_of_any.Given as goal
 
 -- what is found so far, taken on over the entries that remain, is what all entries give
 abbrev pub invariant-loop-entry : goal.invariant-loop-entry

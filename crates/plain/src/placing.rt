@@ -1,0 +1,116 @@
+//! Values written at a place of a buffer that has room. A short text is two copies of a fixed size that overlap.
+
+ghost use Rattle.std.specs.Prelude.{◌≡◌, ◌+◌, ◌≤◌, All, map, length, take};
+ghost use Rattle.std.specs.List.{flat_map};
+ghost use Rattle.schema.specs.Borrowed.{value_ref_view};
+ghost use Rattle.byteorder.specs.Endian.{little_bytes};
+ghost use Rattle.plain.specs.Plain.{HasSpelling, spelling};
+ghost use Rattle.plain.specs.inner.Placed.{Placed};
+
+use crate::lent::Lends;
+use byteorder::{ByteOrder, LittleEndian};
+use schema::{Kind, ValueRef};
+use std::simd::Simd;
+
+/// Writes the spellings of the values one after another, and returns where they end.
+pub(crate) fn place_values<V: Lends>(
+    kind: Kind,
+    values: &[V],
+    start: usize,
+    room: &mut [u8],
+) -> usize
+    requires spelled { All (HasSpelling kind) (map V.lent values.now) }
+    requires fits { start + length (flat_map (spelling kind) (map V.lent values.now)) ≤ length room.old }
+    ensures { Placed room.old room.new start (flat_map (spelling kind) (map V.lent values.now)) result }
+{
+    let mut at = start;
+    for value in values {
+        at = place_value(kind, value.lend(), at, room);
+    }
+    at
+}
+
+/// Writes the spelling of a value, and returns where it ends.
+#[inline(always)]
+fn place_value(kind: Kind, value: ValueRef<'_>, at: usize, room: &mut [u8]) -> usize
+    requires spelled { HasSpelling kind (value_ref_view value) }
+    requires fits { at + length (spelling kind (value_ref_view value)) ≤ length room.old }
+    ensures { Placed room.old room.new at (spelling kind (value_ref_view value.entry)) result }
+{
+    match (kind, value) {
+        (Kind::Int32, ValueRef::Int(z)) => {
+            let mut field = [0; 4];
+            LittleEndian::write_i32(&mut field, z as i32);
+            place_front::<4>(room, at, &field)
+        }
+        (Kind::Int64, ValueRef::Int(z)) => {
+            let mut field = [0; 8];
+            LittleEndian::write_i64(&mut field, z);
+            place_front::<8>(room, at, &field)
+        }
+        (Kind::ByteArray, ValueRef::Bytes(text)) => {
+            let mut length = [0; 4];
+            LittleEndian::write_u32(&mut length, text.len() as u32);
+            let begin = place_front::<4>(room, at, &length);
+            place_text(room, begin, text)
+        }
+        (Kind::FixedLenByteArray(_), ValueRef::Bytes(text)) => place_text(room, at, text),
+        _ => at,
+    }
+}
+
+/// Writes the first N bytes of a text by one load and one store.
+#[inline(always)]
+fn place_front<const N: usize>(room: &mut [u8], at: usize, text: &[u8]) -> usize
+    requires { (N ≤ length text.now) × (at + N ≤ length room.old) }
+    ensures { Placed room.old room.new at (take N text.now) result }
+{
+    Simd::<u8, N>::from_slice(text).copy_to_slice(&mut room[at..]);
+    at + N
+}
+
+/// Writes a text of N to 2N bytes.
+#[inline(always)]
+fn place_ends<const N: usize>(room: &mut [u8], at: usize, text: &[u8]) -> usize
+    requires fits { at + length text.now ≤ length room.old }
+    requires covers { (N ≤ length text.now) × (length text.now ≤ N + N) }
+    ensures { Placed room.old room.new at text.now result }
+{
+    let last = text.len() - N;
+    place_front::<N>(room, at, text);
+    place_front::<N>(room, at + last, &text[last..])
+}
+
+/// Writes a text of more than 32 bytes.
+fn place_long(room: &mut [u8], at: usize, text: &[u8]) -> usize
+    requires { at + length text.now ≤ length room.old }
+    ensures { Placed room.old room.new at text.now result }
+{
+    let end = at + text.len();
+    room[at..end].copy_from_slice(text);
+    end
+}
+
+/// Writes a text, and returns where it ends.
+#[inline(always)]
+fn place_text(room: &mut [u8], at: usize, text: &[u8]) -> usize
+    requires { at + length text.now ≤ length room.old }
+    ensures { Placed room.old room.new at text.now result }
+{
+    let len = text.len();
+    if len > 32 {
+        place_long(room, at, text)
+    } else if len >= 16 {
+        place_ends::<16>(room, at, text)
+    } else if len >= 8 {
+        place_ends::<8>(room, at, text)
+    } else if len >= 4 {
+        place_ends::<4>(room, at, text)
+    } else if len >= 2 {
+        place_ends::<2>(room, at, text)
+    } else if len == 1 {
+        place_front::<1>(room, at, text)
+    } else {
+        at
+    }
+}
