@@ -161,6 +161,7 @@ fn skip<S: EntrySource>(count: usize, place: Place, sources: &mut [S]) -> R<()>
 }
 
 /// Whether the value of an OPTIONAL or REPEATED field is missing at this definition level.
+#[inline(always)]
 fn is_missing<S: EntrySource>(definition: u32, sources: &mut [S]) -> R<bool>
     requires { 0 < length sources.old }
     ensures missing { IfOk result (λ b. (cs : Columns) → AllStand S.stands sources.old cs → IsMissing definition (first_of cs) b) }
@@ -175,6 +176,8 @@ fn is_missing<S: EntrySource>(definition: u32, sources: &mut [S]) -> R<bool>
 }
 
 /// Whether another item follows, of the list whose own level this is.
+// Each row begins here: only what is asked of the levels is loaded.
+#[inline(always)]
 pub fn has_item<S: EntrySource>(own: u32, sources: &mut [S]) -> R<bool>
     requires { 0 < length sources.old }
     ensures item { IfOk result (λ b. (cs : Columns) → AllStand S.stands sources.old cs → HasItem own (first_of cs) b) }
@@ -221,6 +224,7 @@ fn read_inside<S: EntrySource, K: RowSink>(
 
 /// Shows the values of some fields, and returns how many leaves they have.
 #[cycle(read)]
+#[inline(always)]
 pub fn read_fields<S: EntrySource, K: RowSink>(
     fields: &[Field],
     place: Place,

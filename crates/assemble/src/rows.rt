@@ -40,6 +40,7 @@ fn check_ended<S: EntrySource>(sources: &mut [S]) -> R<()>
 /// Shows a sink the values of the next row. Returns false at the end of all columns.
 ///
 /// Refused as [`next_row`]. After a refusal the sink may have been shown a part of the row.
+#[inline]
 pub fn next_row_to<S: EntrySource, K: RowSink>(
     schema: &Schema,
     sources: &mut [S],

@@ -27,7 +27,7 @@ pub struct Values<'a> {
 }
 
 impl<'a> Values<'a> {
-    ghost use Rattle.plain.specs.ValuesLeft.{values_left, last_taken, Advances};
+    ghost use Rattle.plain.specs.ValuesLeft.{values_left, last_taken, Gives, Advances};
 
     /// The first `n` values of the type, none of which is taken, and how many bytes they take. Bytes
     /// after them are ignored. (parquet-format, Encodings.md, "Plain".)
@@ -65,20 +65,34 @@ impl<'a> Values<'a> {
         self.left
     }
 
+    /// Takes the next value and returns it, or none at the end. Its bytes are those that the values stand
+    /// in. [`value`](Values::value) stays as it is.
+    #[inline(always)]
+    pub fn next(&mut self) -> Option<ValueRef<'a>>
+        ensures { Gives self.old self.new result }
+    {
+        if self.left == 0 {
+            return None;
+        }
+        let (value, size) = value_at(self.kind, self.bytes, self.at);
+        self.at += size;
+        self.left -= 1;
+        Some(value)
+    }
+
     /// Takes the next value and returns whether there was one. From then on it is
     /// [`value`](Values::value).
     #[inline(always)]
     pub fn advance(&mut self) -> bool
         ensures { Advances self.old self.new result }
     {
-        if self.left == 0 {
-            return false;
+        match self.next() {
+            None => false,
+            Some(value) => {
+                self.taken = value;
+                true
+            }
         }
-        let (value, size) = value_at(self.kind, self.bytes, self.at);
-        self.taken = value;
-        self.at += size;
-        self.left -= 1;
-        true
     }
 
     /// The value that was taken last; before the first one, null. Its bytes are those that the values

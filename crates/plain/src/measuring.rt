@@ -78,6 +78,8 @@ fn size_of_byte_arrays(bytes: &[u8], n: usize) -> R<usize>
 }
 
 /// How many bytes the byte array at the start takes with its length.
+// Each byte array comes through here, and a refusal takes memory: the call is to leave no trace.
+#[inline(always)]
 pub fn size_of_byte_array(bytes: &[u8]) -> R<usize>
     ensures stands { IfOk result (λ used. IsSpelled Kind.ByteArray bytes.now (value_at Kind.ByteArray 0 bytes.now) used) }
     ensures size { IfOk result (λ used. used ≡ size_at Kind.ByteArray 0 bytes.now) }

@@ -1,7 +1,7 @@
 use Rattle.std.proofs.Common.{arith}
 use Rattle.plain.specs.ValuesFrom.{greatest_end}
 use Rattle.plain.proofs.Places.{first_there}
-use Rattle.plain.proofs.cursor.Values.advance.Goals as goal
+use Rattle.plain.proofs.cursor.Values.next.Goals as goal
 
 pub value_at-size-requires : goal.value_at-size-requires
 value_at-size-requires c =
