@@ -1,4 +1,5 @@
 use crate::nested_round_trips::are_same;
+use assemble::show_row;
 use bits::{R, Refusal};
 use footer::{FileWriter, WriteOptions, read_file, read_footer, write_file};
 use row_group::Style;
@@ -246,8 +247,37 @@ fn rows_given_one_by_one_make_the_file_of_all_rows(rt: HostRuntime) -> Result<()
     Ok(())
 }
 
+/// The file of these rows, shown to a writer value by value.
+fn shown(alloc: Global, schema: &Schema, options: &WriteOptions, rows: &[Row]) -> R<Vec<u8>> {
+    let mut writer = FileWriter::new(alloc, schema, options)?;
+    for row in rows {
+        writer.begin_row()?;
+        show_row(row, &mut writer)?;
+        writer.end_row()?;
+    }
+    writer.finish()
+}
+
 #[test]
-fn a_writer_refuses_a_row_that_does_not_fit_once_its_group_is_full(
+fn rows_that_are_shown_make_the_file_of_all_rows(rt: HostRuntime) -> Result<(), Fail> {
+    let alloc = rt.alloc();
+    let schema = of_four(alloc)?;
+    for group_rows in [1, 7, 5000] {
+        let options = WriteOptions {
+            group_rows,
+            page_rows: 3,
+            ..WriteOptions::standard()
+        };
+        let rows = many_rows(alloc, 30)?;
+        let file = write_file(alloc, &schema, &options, rows.as_slice())?;
+        let again = shown(alloc, &schema, &options, rows.as_slice())?;
+        assert!(rt; again.as_slice() == file.as_slice());
+    }
+    Ok(())
+}
+
+#[test]
+fn a_writer_refuses_a_row_that_does_not_fit_when_it_is_given(
     rt: HostRuntime,
 ) -> Result<(), Fail> {
     let alloc = rt.alloc();
@@ -257,12 +287,13 @@ fn a_writer_refuses_a_row_that_does_not_fit_once_its_group_is_full(
         ..WriteOptions::standard()
     };
     let mut writer = FileWriter::new(alloc, &schema, &options)?;
-    writer.push(row(alloc, Value::Bool(true))?)?;
     for _ in 0..2 {
-        let refused = writer.push(row(alloc, Value::Int(1))?);
+        let refused = writer.push(row(alloc, Value::Bool(true))?);
         assert!(rt; matches!(refused, Err(Refusal::RowShape)));
+        writer.push(row(alloc, Value::Int(1))?)?;
     }
-    assert!(rt; matches!(writer.finish(), Err(Refusal::RowShape)));
+    let (_, again) = read_file(alloc, writer.finish()?.as_slice())?;
+    assert_eq!(rt; again.len(), 2);
     Ok(())
 }
 

@@ -11,5 +11,6 @@ pub mod InGroups
 pub mod Weighed
 pub mod Whole
 pub mod Written
+pub mod ShownWriter
 pub mod WrittenWithin
 pub mod OneMeaning

@@ -7,7 +7,6 @@ use Rattle.std.proofs.Math.Seq.{take-append_seam, drop-append_seam}
 use Rattle.std.proofs.lemmas.List.{append-nil, take_all, drop_all}
 use Rattle.schema.specs.Values.{ValueTrees}
 use Rattle.schema.specs.Shape.{Fields}
-use Rattle.schema.specs.Fits.{RowsFit}
 use Rattle.metadata.specs.Records.{GroupMeta}
 use Rattle.metadata.specs.Views.{group_meta_view}
 use Rattle.row_group.specs.Writing.{AppendsGroup, AreTaken, IsGroupTooMuch}
@@ -19,7 +18,6 @@ use Rattle.footer.specs.Writer.{IsBegun, AreGiven, HasWritten, schema_of, option
 use Rattle.shred.specs.Buffer.{holds}
 use Rattle.footer.specs.inner.Waiting.{IsNextGroupOf, IsNextGroup, HasRoom, HoldsSame}
 use Rattle.footer.proofs.InGroups.{in_range, goes_on, too_much, all_written}
-use Rattle.footer.proofs.Parted.{fit_within}
 use Rattle.footer.proofs.Whole.{AreWritten}
 
 -- nothing is written yet
@@ -138,11 +136,6 @@ all_counted fs o out metas waiting written rows so =
     let counted = so.counted in
     omega (arith, counted, ap length so.joined, length-append so.full waiting)
 
--- those that wait fit, where all do
-pub waiting_fit : (fs : Fields) (o : WriteOptions) (out : List ℕ) (metas : List GroupMeta) (waiting : List ValueTrees) (written : ℕ) (rows : List ValueTrees) → AreGiven fs o out metas waiting written rows
-    → RowsFit fs rows → RowsFit fs waiting
-waiting_fit fs o out metas waiting written rows so = fit_within fs so.full waiting [] rows (so.joined ∙ ap (λ (t : List ValueTrees). so.full ++ t) (sym (append-nil waiting)))
-
 -- a writer that holds the same has the same rows
 pub has_same : (old new : FileWriter) (rows : List ValueTrees) → HoldsSame old new → schema_of new ≡ schema_of old → options_of new ≡ options_of old → has_rows old rows → has_rows new rows
 has_same old new rows same schema options so = record {
@@ -179,10 +172,6 @@ last_next w rows so = record {
   held = so.held;
   next = last_group (schema_of w) (options_of w) w.bytes.items (map group_meta_view w.groups.items) so.waiting w.written rows so.given;
 }
-
--- they fit where all rows do
-pub next_fit : (w : FileWriter) (rows : List ValueTrees) (so : has_rows w rows) → RowsFit (schema_of w) rows → RowsFit (schema_of w) so.waiting
-next_fit w rows so = waiting_fit (schema_of w) (options_of w) w.bytes.items (map group_meta_view w.groups.items) so.waiting w.written rows so.given
 
 -- a full group was written, and none waits
 pub none_waits_in : {X : Type 0} (old new : FileWriter) (r : Result X Refusal) → ((waiting : List ValueTrees) → holds old.waiting waiting → length waiting ≡ (options_of old).group_rows)
@@ -225,3 +214,8 @@ last_counted old new counted rows so =
 pub ok_both : {X : Type 0} (P Q S : X → Type 0) (r : Result X Refusal) → ((x : X) → P x → Q x → S x) → IfOk r P → IfOk r Q → IfOk r S
 ok_both P Q S (Ok x) f p q = f x p q
 ok_both P Q S (Err e) f p q = tt
+
+-- what holds anyhow
+pub ok_always : {X P : Type 0} (r : Result X Refusal) → P → OnOk r P
+ok_always (Ok x) p = p
+ok_always (Err e) p = tt

@@ -1,12 +1,16 @@
 -- The rows that a writer was given, and what it does with them.
-use Rattle.std.specs.Prelude.{◌≡◌, ℕ, ◌+◌, ◌≤◌, ◌<◌, List, ◌++◌, length, map, sum_by}
+use Rattle.std.specs.Prelude.{◌≡◌, ℕ, ◌+◌, ◌≤◌, ◌<◌, pos, List, [], ◌∷◌, ◌++◌, length, map, sum_by}
 use Rattle.std.specs.List.{AllByRecursion}
-use Rattle.schema.specs.Values.{ValueTrees}
+use Rattle.schema.specs.Values.{ValueTrees, integer, group, no_values, value}
 use Rattle.schema.specs.Shape.{Fields}
 use Rattle.metadata.specs.Records.{GroupMeta}
 use Rattle.metadata.specs.Views.{group_meta_view}
-use Rattle.shred.specs.Buffer.{holds}
+use Rattle.assemble.specs.Sinks.{Token, single, tokens_each}
+use Rattle.shred.specs.Buffer.{Holds, holds}
 use Rattle.shred.specs.Buffer as buffer
+use Rattle.shred.specs.inner.Opening.{schema_token, rows_token, rows_said}
+use Rattle.row_group.specs.declared.options.Style.{Style}
+use Rattle.row_group.specs.declared.options.Style.TheVariants.{Plain, Dictionary, Delta, Lengths}
 use Rattle.row_group.specs.Paged.{group_weight}
 use Rattle.row_group.specs.Writing.{AreTaken}
 use Rattle.footer.specs.declared.options.WriteOptions.{WriteOptions}
@@ -55,3 +59,35 @@ pub record IsGiven (writer : FileWriter) (rows : List ValueTrees) : Type 0 where
 
 abbrev pub has_rows : FileWriter → List ValueTrees → Type 0
 has_rows = IsGiven
+
+-- ---- what a writer is shown of its next row
+
+abbrev pub style_number : Style → ℕ
+style_number Plain = 0
+style_number Dictionary = 1
+style_number Delta = 2
+style_number Lengths = 3
+
+-- the token that says the options
+abbrev pub options_token : WriteOptions → Token
+options_token o = single (group (value (integer (pos o.group_rows)) (value (integer (pos o.page_rows)) (value (integer (pos o.page_version)) (value (integer (pos (style_number o.style))) no_values)))))
+
+-- the writer was given these rows, its next group is not full, and of the next row it was shown these tokens
+pub record IsShown (writer : FileWriter) (rows : List ValueTrees) (shown : List Token) : Type 0 where
+  pub waiting : List ValueTrees
+  pub held : Holds writer.waiting waiting shown
+  pub given : AreGiven (schema_of writer) (options_of writer) writer.bytes.items (map group_meta_view writer.groups.items) waiting writer.written rows
+  pub few : length waiting < (options_of writer).group_rows
+
+-- what a writer was shown: first the schema, the rows before and the options, which nobody shows, and then values
+abbrev pub writer_shows : FileWriter → List Token → Type 0
+writer_shows writer (t ∷ u ∷ o ∷ ts) = (t ≡ schema_token (schema_of writer)) × ((o ≡ options_token (options_of writer)) × IsShown writer (rows_said u) ts)
+writer_shows writer _ = ⊥
+
+-- it was given these rows, and was shown nothing yet of the next one
+abbrev pub BeginsRow : FileWriter → Fields → WriteOptions → List ValueTrees → Type 0
+BeginsRow writer fs o rows = writer_shows writer (schema_token fs ∷ rows_token rows ∷ options_token o ∷ [])
+
+-- it was given these rows, and was shown the values of the next one
+abbrev pub ShowsRow : FileWriter → Fields → WriteOptions → List ValueTrees → ValueTrees → Type 0
+ShowsRow writer fs o rows values = writer_shows writer (schema_token fs ∷ rows_token rows ∷ options_token o ∷ tokens_each values)

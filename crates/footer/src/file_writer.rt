@@ -1,8 +1,9 @@
 //! A file that is written row by row.
 
-ghost use Rattle.std.specs.Prelude.{◌≡◌, ◌⊎◌, ◌+◌, ◌≤◌, ◌<◌, ◌++◌, ◌∷◌, [], List, length, IfOk, OnOk, OnErr, Err};
-ghost use Rattle.bits.specs.Refusals.{OnFault, RefusedOnly};
-ghost use Rattle.schema.specs.Fits.{RowsFit};
+ghost use Rattle.std.specs.Prelude.{◌≡◌, ◌⊎◌, ◌+◌, ◌≤◌, ◌<◌, ◌++◌, ◌∷◌, [], List, true, false, length, IfOk, OnOk, OnErr, Err};
+ghost use Rattle.bits.specs.Refusals.{OnFault, RefusedOnly, RefusedMemoryOnly};
+ghost use Rattle.schema.specs.Fits.{fits_each};
+ghost use Rattle.schema.specs.Shape.{Fields};
 ghost use Rattle.schema.specs.Values.{ValueTrees};
 ghost use Rattle.schema.specs.Views.{row_view};
 ghost use Rattle.shred.specs.Buffer.{holds};
@@ -22,15 +23,19 @@ use metadata::{GroupMeta, one_footer};
 use row_group::{
     an_appended_group_has_its_rows, an_appended_group_is_within_limits, write_buffered_group,
 };
-use schema::{Row, Schema, a_list_means_one_schema};
+use assemble::RowSink;
+use schema::{Row, Schema, ValueRef, a_list_means_one_schema};
 use shred::RowBuffer;
-use std::alloc::Global;
+use std::alloc::{AllocError, Global};
 
 /// The most rows that a writer takes: more than any file has.
 const MOST_ROWS: usize = 1 << 62;
 
 /// A file that is being written. Its rows are given one by one, and each group is written when it is full: kept
 /// are the bytes so far, and the rows of one group, as columns.
+///
+/// A row is given whole ([`push`](FileWriter::push)), or value by value: the writer is a sink, which is shown the
+/// values of a row between [`begin_row`](FileWriter::begin_row) and [`end_row`](FileWriter::end_row).
 #[derive(Drop)]
 pub struct FileWriter<'a> {
     alloc: Global,
@@ -46,7 +51,8 @@ pub struct FileWriter<'a> {
 }
 
 impl<'a> FileWriter<'a> {
-    ghost use Rattle.footer.specs.Writer.{schema_of, options_of, HasWritten, has_rows};
+    ghost use Rattle.footer.specs.Writer.{schema_of, options_of, HasWritten, has_rows, BeginsRow, ShowsRow};
+    ghost use Rattle.footer.specs.declared.options.WriteOptions.{WriteOptions};
     ghost use Rattle.footer.specs.inner.Waiting.{IsNextGroup, HasRoom, HoldsSame};
 
     /// A writer of a file of this schema, without rows. Refused Limit for options out of range: a number of rows
@@ -66,20 +72,20 @@ impl<'a> FileWriter<'a> {
             bytes: Vec::from_slice(alloc, MAGIC)?,
             groups: Vec::new(alloc),
             written: 0,
-            waiting: RowBuffer::new(alloc, schema),
+            waiting: RowBuffer::new(alloc, schema)?,
         })
     }
 
-    /// Gives the writer one more row. Where a group is full, it is written first; each 1,024 rows of a group become
-    /// columns.
+    /// Gives the writer one more row. Where a group is full, it is written first.
     ///
-    /// Refused RowShape only where a row that was given before does not fit the schema, and Limit only where the
-    /// rows that were given before are too much for a file, whatever comes after them, as
-    /// [`write_file`](crate::write_file) says it. After a refusal the writer has the rows that it had, and this row
-    /// is dropped. A call writes at most one group.
+    /// Refused RowShape exactly when the row does not fit the schema, and Limit only where the rows that were given
+    /// before are too much for a file, whatever comes after them, as [`write_file`](crate::write_file) says it.
+    /// After a refusal the writer has the rows that it had, and this row is dropped. A call writes at most one
+    /// group.
     pub fn push(&mut self, row: Row) -> R<()>
         ensures stands { OnOk result ((rows : List ValueTrees) → has_rows self.old rows → has_rows self.new (rows ++ row_view row ∷ [])) }
-        ensures only { OnFault result ((rows : List ValueTrees) → has_rows self.old rows → RowsFit (schema_of self.old) rows → ⊥) }
+        ensures fit { OnOk result (fits_each (schema_of self.old) (row_view row) ≡ true) }
+        ensures only { OnFault result ((rows : List ValueTrees) → has_rows self.old rows → fits_each (schema_of self.old) (row_view row) ≡ false) }
         ensures limit { result ≡ Err Refusal.Limit → (rows later : List ValueTrees) → has_rows self.old rows
             → IsTooMuch (schema_of self.old) (options_of self.old) (rows ++ later) }
         ensures which { RefusedOnly IsOfRows result }
@@ -92,9 +98,40 @@ impl<'a> FileWriter<'a> {
         Ok(())
     }
 
+    /// Awaits one more row, whose values are shown next, and then its end ([`end_row`](FileWriter::end_row)). Where
+    /// a group is full, it is written first.
+    ///
+    /// Refused Limit only where the rows that were given before are too much for a file, whatever comes after them,
+    /// as [`write_file`](crate::write_file) says it. The writer has the same rows afterwards. A call writes at most
+    /// one group.
+    pub fn begin_row(&mut self) -> R<()>
+        ensures begins { OnOk result ((rows : List ValueTrees) → has_rows self.old rows → BeginsRow self.new (schema_of self.old) (options_of self.old) rows) }
+        ensures only { OnFault result ((rows : List ValueTrees) → has_rows self.old rows → ⊥) }
+        ensures limit { result ≡ Err Refusal.Limit → (rows later : List ValueTrees) → has_rows self.old rows
+            → IsTooMuch (schema_of self.old) (options_of self.old) (rows ++ later) }
+        ensures which { RefusedOnly IsOfRows result }
+        ensures same { (rows : List ValueTrees) → has_rows self.old rows → has_rows self.new rows }
+        ensures same_schema { schema_of self.new ≡ schema_of self.old }
+        ensures same_options { options_of self.new ≡ options_of self.old }
+    {
+        self.make_room()
+    }
+
+    /// Gives the writer the row whose values it was shown. It fails only when out of memory.
+    pub fn end_row(&mut self) -> R<()>
+        ensures stands { OnOk result ((fs : Fields) (options : WriteOptions) (rows : List ValueTrees) (values : ValueTrees)
+            → ShowsRow self.old fs options rows values → fits_each fs values ≡ true → has_rows self.new (rows ++ values ∷ [])) }
+        ensures of { (fs : Fields) (options : WriteOptions) (rows : List ValueTrees) (values : ValueTrees)
+            → ShowsRow self.old fs options rows values → (schema_of self.new ≡ fs) × (options_of self.new ≡ options) }
+        ensures which { RefusedMemoryOnly result }
+        ensures same_schema { schema_of self.new ≡ schema_of self.old }
+        ensures same_options { options_of self.new ≡ options_of self.old }
+    {
+        self.waiting.end_row()
+    }
+
     /// The bytes of a file that means all rows that were given, laid out as by [`write_file`](crate::write_file).
-    /// Refused RowShape only where one of them does not fit the schema, and Limit only where they are too much for
-    /// a file.
+    /// Refused Limit only where they are too much for a file.
     pub fn finish(mut self) -> R<Vec<u8>>
         ensures means { IfOk result (λ file. (rows : List ValueTrees) → has_rows self.entry rows → FileMeans file.items (schema_of self.entry) rows) }
         ensures laid_out { IfOk result (λ file. (rows : List ValueTrees) → has_rows self.entry rows
@@ -102,7 +139,8 @@ impl<'a> FileWriter<'a> {
         ensures readable { IfOk result (λ file. (rows : List ValueTrees) → has_rows self.entry rows
             → IsTaken (options_of self.entry).group_rows (schema_of self.entry) rows file.items) }
         ensures within_limits { IfOk result (λ file. (rows : List ValueTrees) → has_rows self.entry rows → IsOverLimit file.items → ⊥) }
-        ensures only { OnFault result ((rows : List ValueTrees) → has_rows self.entry rows → RowsFit (schema_of self.entry) rows → ⊥) }
+        ensures in_range { OnOk result ((rows : List ValueTrees) → has_rows self.entry rows → IsOutOfRange (options_of self.entry) → ⊥) }
+        ensures only { OnFault result ((rows : List ValueTrees) → has_rows self.entry rows → ⊥) }
         ensures limit { result ≡ Err Refusal.Limit → (rows : List ValueTrees) → has_rows self.entry rows
             → IsTooMuch (schema_of self.entry) (options_of self.entry) rows }
         ensures which { RefusedOnly IsOfRows result }
@@ -119,7 +157,7 @@ impl<'a> FileWriter<'a> {
     /// Writes the rows that wait where they are a full group. After a refusal they still wait.
     fn make_room(&mut self) -> R<()>
         ensures stands { OnOk result ((rows : List ValueTrees) → has_rows self.old rows → HasRoom self.new rows) }
-        ensures only { OnFault result ((rows : List ValueTrees) → has_rows self.old rows → RowsFit (schema_of self.old) rows → ⊥) }
+        ensures only { OnFault result ((rows : List ValueTrees) → has_rows self.old rows → ⊥) }
         ensures limit { result ≡ Err Refusal.Limit → (rows later : List ValueTrees) → has_rows self.old rows
             → IsTooMuch (schema_of self.old) (options_of self.old) (rows ++ later) }
         ensures which { RefusedOnly IsOfRows result }
@@ -140,7 +178,7 @@ impl<'a> FileWriter<'a> {
         ensures emptied { OnOk result ((waiting : List ValueTrees) → holds self.old.waiting waiting → holds self.new.waiting []) }
         ensures counted { OnOk result ((waiting : List ValueTrees) → holds self.old.waiting waiting → self.new.written ≡ self.old.written + length waiting) }
         ensures countable { OnOk result (self.new.written ≤ MOST_ROWS) }
-        ensures only { OnFault result ((waiting : List ValueTrees) → holds self.old.waiting waiting → RowsFit (schema_of self.old) waiting → ⊥) }
+        ensures only { OnFault result ((waiting : List ValueTrees) → holds self.old.waiting waiting → ⊥) }
         ensures limit { result ≡ Err Refusal.Limit → (waiting rows later : List ValueTrees) → IsNextGroup self.old waiting rows later
             → IsTooMuch (schema_of self.old) (options_of self.old) rows }
         ensures which { RefusedOnly IsOfRows result }
@@ -159,7 +197,7 @@ impl<'a> FileWriter<'a> {
         }
         let options = self.options.of_chunks();
         let kept = self.bytes.len();
-        let meta = write_buffered_group(self.alloc, options, &mut self.waiting, &mut self.bytes)?;
+        let meta = write_buffered_group(self.alloc, options, &self.waiting, &mut self.bytes)?;
         match self.groups.push(meta) {
             Ok(()) => {
                 self.written = written;
@@ -171,5 +209,32 @@ impl<'a> FileWriter<'a> {
                 Err(Refusal::Memory)
             }
         }
+    }
+}
+
+impl<'a> RowSink for FileWriter<'a> {
+    ghost use Rattle.footer.specs.Writer.{writer_shows};
+
+    ghost shows = { writer_shows };
+
+    #[inline(always)]
+    fn value(&mut self, value: ValueRef<'_>) -> Result<(), AllocError> {
+        self.waiting.value(value)
+    }
+
+    fn begin_group(&mut self) -> Result<(), AllocError> {
+        self.waiting.begin_group()
+    }
+
+    fn end_group(&mut self) -> Result<(), AllocError> {
+        self.waiting.end_group()
+    }
+
+    fn begin_list(&mut self) -> Result<(), AllocError> {
+        self.waiting.begin_list()
+    }
+
+    fn end_list(&mut self) -> Result<(), AllocError> {
+        self.waiting.end_list()
     }
 }

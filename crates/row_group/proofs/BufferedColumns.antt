@@ -9,9 +9,6 @@ use Rattle.schema.specs.Fits.{RowsFit}
 use Rattle.schema.specs.Views.{leaf_view}
 use Rattle.schema.specs.Stripe.{Leaf, Entry, columns, leaves_of}
 use Rattle.schema.specs.Law.{IsEntryOf, EntriesAreOfLeaves}
-use Rattle.shred.specs.declared.row_buffer.RowBuffer.{RowBuffer}
-use Rattle.shred.specs.Buffer.{schema_of, holds_columns}
-use Rattle.shred.proofs.Batched.{settled_fit}
 use Rattle.row_group.specs.inner.Columns.{Extends}
 use Rattle.row_group.proofs.Places.{shown_here}
 use Rattle.row_group.proofs.ColumnsWritten.{as_many, column_of_leaf, columns_of_leaves}
@@ -20,9 +17,6 @@ any_default : {A : Type 0} (xs : List A) (i : ℕ) (d e : A) → i < length xs �
 any_default [] i d e h = absurd (omega (arith, h))
 any_default (x ∷ xs) zero d e h = refl
 any_default (x ∷ xs) (suc i) d e h = any_default xs i d e (omega (arith, h))
-
-pub rows_fit : (b : RowBuffer) (all : List ValueTrees) → holds_columns b all → RowsFit (schema_of b) all
-rows_fit b all held = settled_fit (schema_of b) b.batches.items b.settled b.fresh.items all held.0 held.1
 
 -- the leaf at a place of a schema, and the column of the rows there
 pub record IsPlace (fs : Fields) (all : List ValueTrees) (i : ℕ) (leaf : Leaf) (es : List Entry) : Type 0 where

@@ -3,13 +3,12 @@
 ghost use Rattle.std.specs.Prelude.{◌≡◌, List, [], ◌++◌, length, map, get_or, IfOk, OnOk, OnErr, Err};
 ghost use Rattle.std.specs.List.{AllByRecursion};
 ghost use Rattle.bits.specs.Refusals.{IsFault, OnFault, HasCause, RefusedOnly};
-ghost use Rattle.schema.specs.Fits.{RowsFit};
 ghost use Rattle.schema.specs.Values.{ValueTrees};
 ghost use Rattle.schema.specs.Law.{IsEntryOf};
 ghost use Rattle.schema.specs.Stripe.{columns, leaves_of};
 ghost use Rattle.schema.specs.Views.{leaf_view};
 ghost use Rattle.metadata.specs.Views.{chunk_meta_view, group_meta_view};
-ghost use Rattle.shred.specs.Buffer.{schema_of, holds, holds_columns};
+ghost use Rattle.shred.specs.Buffer.{schema_of, holds};
 ghost use Rattle.row_group.specs.Writing.{AppendsGroup, AreTaken, IsChunkTooMuch, IsGroupTooMuch, IsOfRows};
 ghost use Rattle.row_group.specs.inner.Columns.{AppendsChunks, AppendsColumn, AreTooMuch, Extends};
 
@@ -23,7 +22,7 @@ use shred::RowBuffer;
 use std::alloc::Global;
 
 /// Writes the rows of a buffer at the end of a file's bytes, as one group, laid out as by
-/// [`write_group`](crate::write_group); and returns its record. The buffer has the same rows afterwards.
+/// [`write_group`](crate::write_group); and returns its record.
 ///
 /// It is refused as `write_group` is; after a refusal `out` is as it was.
 ///
@@ -32,26 +31,23 @@ use std::alloc::Global;
 pub fn write_buffered_group(
     alloc: Global,
     options: ChunkOptions,
-    rows: &mut RowBuffer<'_>,
+    rows: &RowBuffer<'_>,
     out: &mut Vec<u8>,
 ) -> R<GroupMeta>
-    ensures stands { IfOk result (λ g. (all : List ValueTrees) → holds rows.old all
-        → AppendsGroup (schema_of rows.old) options out.old.items out.new.items (group_meta_view g) all) }
-    ensures readable { OnOk result ((all : List ValueTrees) → holds rows.old all → AreTaken (schema_of rows.old) all) }
-    ensures only { OnFault result ((all : List ValueTrees) → holds rows.old all → RowsFit (schema_of rows.old) all → ⊥) }
-    ensures limit { result ≡ Err Refusal.Limit → (all : List ValueTrees) → holds rows.old all
-        → IsGroupTooMuch (length out.old.items) options.page_rows (schema_of rows.old) all }
+    ensures stands { IfOk result (λ g. (all : List ValueTrees) → holds rows.now all
+        → AppendsGroup (schema_of rows.now) options out.old.items out.new.items (group_meta_view g) all) }
+    ensures readable { OnOk result ((all : List ValueTrees) → holds rows.now all → AreTaken (schema_of rows.now) all) }
+    ensures only { OnFault result ((all : List ValueTrees) → holds rows.now all → ⊥) }
+    ensures limit { result ≡ Err Refusal.Limit → (all : List ValueTrees) → holds rows.now all
+        → IsGroupTooMuch (length out.old.items) options.page_rows (schema_of rows.now) all }
     ensures which { RefusedOnly IsOfRows result }
     ensures unchanged { OnErr result (out.new.items ≡ out.old.items) }
-    ensures same { (all : List ValueTrees) → holds rows.old all → holds rows.new all }
-    ensures same_schema { schema_of rows.new ≡ schema_of rows.old }
 {
     rows_begin_once();
     let count = rows.len();
     if count > MOST_ROWS_OF_GROUP as usize {
         return Err(Refusal::Limit);
     }
-    rows.settle()?;
     let kept = out.len();
     match write_columns(alloc, options, rows, out) {
         Ok(columns) => Ok(GroupMeta {
@@ -66,7 +62,7 @@ pub fn write_buffered_group(
     }
 }
 
-/// Writes the columns of settled rows, each as a chunk. After a refusal some of the chunks may stand after what
+/// Writes the columns of the rows, each as a chunk. After a refusal some of the chunks may stand after what
 /// was there.
 fn write_columns(
     alloc: Global,
@@ -74,10 +70,10 @@ fn write_columns(
     rows: &RowBuffer<'_>,
     out: &mut Vec<u8>,
 ) -> R<Vec<ChunkMeta>>
-    ensures stands { IfOk result (λ cs. (all : List ValueTrees) → holds_columns rows.now all → AppendsChunks options
+    ensures stands { IfOk result (λ cs. (all : List ValueTrees) → holds rows.now all → AppendsChunks options
         (leaves_of (schema_of rows.now)) (columns (schema_of rows.now) all) out.old.items out.new.items (map chunk_meta_view cs.items)) }
-    ensures only { OnFault result ((all : List ValueTrees) → holds_columns rows.now all → ⊥) }
-    ensures limit { result ≡ Err Refusal.Limit → (all : List ValueTrees) → holds_columns rows.now all
+    ensures only { OnFault result ((all : List ValueTrees) → holds rows.now all → ⊥) }
+    ensures limit { result ≡ Err Refusal.Limit → (all : List ValueTrees) → holds rows.now all
         → AreTooMuch (length out.old.items) options.page_rows (columns (schema_of rows.now) all) }
     ensures which { RefusedOnly IsOfRows result }
     ensures extends { Extends out.old.items out.new.items }
@@ -104,11 +100,11 @@ fn write_column<'b>(
     entries: &mut Vec<EntryRef<'b>>,
     out: &mut Vec<u8>,
 ) -> R<ChunkMeta>
-    ensures stands { IfOk result (λ c. (all : List ValueTrees) → holds_columns rows.now all → AppendsColumn (leaf_view leaf.now) options
+    ensures stands { IfOk result (λ c. (all : List ValueTrees) → holds rows.now all → AppendsColumn (leaf_view leaf.now) options
         (get_or (columns (schema_of rows.now) all) place []) out.old.items out.new.items (chunk_meta_view c)) }
-    ensures only { OnFault result ((all : List ValueTrees) → holds_columns rows.now all
+    ensures only { OnFault result ((all : List ValueTrees) → holds rows.now all
         → AllByRecursion (IsEntryOf (leaf_view leaf.now)) (get_or (columns (schema_of rows.now) all) place []) → ⊥) }
-    ensures limit { result ≡ Err Refusal.Limit → (all : List ValueTrees) → holds_columns rows.now all
+    ensures limit { result ≡ Err Refusal.Limit → (all : List ValueTrees) → holds rows.now all
         → IsChunkTooMuch (length out.old.items) options.page_rows (get_or (columns (schema_of rows.now) all) place []) }
     ensures which { RefusedOnly IsOfRows result }
     ensures extends { Extends out.old.items out.new.items }

@@ -1,5 +1,5 @@
 -- Columns with more entries at their ends.
-use Rattle.std.proofs.Common.{ℕ, zero, suc, ◌≡◌, ◌+◌, ◌<◌, List, [], ◌∷◌, ◌++◌, map, length, get_or, take, drop, refl, ap, sym, ◌∙◌, arith, add-one, append_assoc}
+use Rattle.std.proofs.Common.{ℕ, zero, suc, ◌≡◌, ◌+◌, ◌<◌, ◌≤◌, List, [], ◌∷◌, ◌++◌, map, length, get_or, take, drop, refl, ap, sym, ◌∙◌, arith, add-one, append_assoc}
 use Rattle.std.proofs.Math.ListN.{set}
 use Rattle.std.proofs.lemmas.List.{append-nil, map-append, length-map}
 use Rattle.std.proofs.lemmas.Simd.{map-map}
@@ -53,7 +53,7 @@ grown_behind (suc u) xs [] = refl
 grown_behind (suc u) xs (c ∷ cs) = same_cons _ _ _ _ (sym (append-nil c)) (grown_behind u xs cs)
 
 -- and those from a later place on
-grown_next : (u m : ℕ) (xs ys cs : Columns) → m ≡ u + length xs → grown (grown cs (nils u ++ xs)) (nils m ++ ys) ≡ grown cs (nils u ++ (xs ++ ys))
+pub grown_next : (u m : ℕ) (xs ys cs : Columns) → m ≡ u + length xs → grown (grown cs (nils u ++ xs)) (nils m ++ ys) ≡ grown cs (nils u ++ (xs ++ ys))
 grown_next zero zero [] ys cs e = ap (λ t. grown t ys) (grown_by_none cs)
 grown_next zero (suc m) [] ys cs e = absurd (omega (arith, e))
 grown_next zero zero (a ∷ xs) ys cs e = absurd (omega (arith, e))
@@ -93,3 +93,21 @@ length_nils (suc n) = ap suc (length_nils n)
 pub grown_first : (s : List Entry) (x y : ColumnRef) (xs : List ColumnRef) → 0 < length xs → column_ref_view y ≡ column_ref_view (get_or xs 0 x) ++ s → column_refs_view (set xs 0 y) ≡ grown (column_refs_view xs) (s ∷ [])
 grown_first s x y [] lt h = absurd (omega (arith, lt))
 grown_first s x y (z ∷ xs) lt h = same_cons _ _ _ _ h (sym (grown_by_none (column_refs_view xs)))
+
+-- one entry at the end of the column at a place
+pub grown_at : {A : Type 0} (f : A → List Entry) (s : List Entry) (x y : A) (xs : List A) (i : ℕ) → i < length xs → f y ≡ f (get_or xs i x) ++ s → map f (set xs i y) ≡ grown (map f xs) (nils i ++ s ∷ [])
+grown_at f s x y [] i lt h = absurd (omega (arith, lt))
+grown_at f s x y (z ∷ xs) zero lt h = same_cons _ _ _ _ h (sym (grown_by_none (map f xs)))
+grown_at f s x y (z ∷ xs) (suc i) lt h = same_cons _ _ _ _ (sym (append-nil (f z))) (grown_at f s x y xs i (omega (arith, lt)) h)
+
+-- there is no column
+pub grown_beyond : (cs ss : Columns) (i : ℕ) → length cs ≤ i → cs ≡ grown cs (nils i ++ ss)
+grown_beyond [] ss i h = refl
+grown_beyond (c ∷ cs) ss zero h = absurd (omega (arith, h))
+grown_beyond (c ∷ cs) ss (suc i) h = same_cons _ _ _ _ (sym (append-nil c)) (grown_beyond cs ss i (omega (arith, h)))
+
+-- an element that shows the same
+pub same_at : {A B : Type 0} (f : A → B) (x y : A) (xs : List A) (i : ℕ) → i < length xs → f y ≡ f (get_or xs i x) → map f (set xs i y) ≡ map f xs
+same_at f x y [] i lt h = absurd (omega (arith, lt))
+same_at {B = B} f x y (z ∷ xs) zero lt h = ap (λ (t : B). t ∷ map f xs) h
+same_at {B = B} f x y (z ∷ xs) (suc i) lt h = ap (λ (t : List B). f z ∷ t) (same_at f x y xs i (omega (arith, lt)) h)

@@ -1,15 +1,12 @@
 -- Entries whose bytes lie one after the other.
-use Rattle.std.proofs.Common.{ℕ, ◌≡◌, ◌+◌, ◌<◌, ◌≤◌, List, [], ◌∷◌, ◌++◌, length, map, get_or, take, drop, Option, Some, refl, ap, sym, ◌∙◌, arith}
-use Rattle.std.proofs.lemmas.List.{take-append-le, drop-append-le, length-drop, length-append, drop_more, take_more, map-append}
-use Rattle.std.specs.Prelude.{option_map}
+use Rattle.std.proofs.Common.{ℕ, zero, suc, ◌≡◌, ◌+◌, ◌<◌, ◌≤◌, List, [], ◌∷◌, ◌++◌, length, get_or, take, drop, Option, Some, refl, ap, sym, ◌∙◌, arith}
+use Rattle.std.proofs.lemmas.List.{take-append-le, drop-append-le, length-drop, length-take-le, take-take, length-append, drop_more, take_all}
 use Rattle.schema.specs.Values.{ValueTree, bytes}
-use Rattle.schema.specs.Stripe.{Entry}
-use Rattle.schema.specs.declared.borrowed.EntryRef.{EntryRef}
-use Rattle.schema.specs.Borrowed.{value_ref_view, entry_ref_view}
+use Rattle.schema.specs.Stripe.{Entry, entry}
 use Rattle.shred.specs.declared.slot.Slot.{Slot}
 use Rattle.shred.specs.declared.slot.Slot.TheVariants.{Missing, Null, Bool, Int, Bytes}
 use Rattle.shred.specs.declared.slot.KeptEntry.{KeptEntry}
-use Rattle.shred.specs.Slots.{slot_size, slot_value, total_size, entries_in}
+use Rattle.shred.specs.Slots.{slot_size, slot_value, total_size, entries_in, AreKept}
 use Rattle.shred.specs.inner.Put.{IsPut}
 
 -- a value does not change as bytes come after its own
@@ -46,20 +43,70 @@ first_left es i e bs lt is = ap (entries_in bs) (drop_more es i e lt ∙ ap (λ 
 pub total_left : (es : List KeptEntry) (i : ℕ) (e : KeptEntry) → i < length es → e ≡ get_or es i e → total_size (drop i es) ≡ slot_size e.slot + total_size (drop (i + 1) es)
 total_left es i e lt is = ap total_size (drop_more es i e lt ∙ ap (λ x. x ∷ drop (i + 1) es) (sym is))
 
--- one entry more is kept
-pub entry_kept : (bs new : List ℕ) (es : List KeptEntry) (s : Slot) (xs : List EntryRef) (i : ℕ) (x : EntryRef) → i < length xs → x ≡ get_or xs i x → IsPut s (option_map value_ref_view x.value) bs new
-    → total_size es ≡ length bs → entries_in bs es ≡ map entry_ref_view (take i xs) → entries_in new (es ++ record { repetition = x.repetition; definition = x.definition; slot = s } ∷ []) ≡ map entry_ref_view (take (i + 1) xs)
-entry_kept bs new es s xs i x lt is put filled same =
-    let e : KeptEntry = record { repetition = x.repetition; definition = x.definition; slot = s } in
-    let next : map entry_ref_view (take (i + 1) xs) ≡ map entry_ref_view (take i xs) ++ entry_ref_view x ∷ [] =
-    ap (map entry_ref_view) (take_more xs i x lt ∙ ap (λ y. take i xs ++ y ∷ []) (sym is)) ∙ map-append entry_ref_view (take i xs) (x ∷ []) in
-    let own : entries_in put.own (e ∷ []) ≡ entry_ref_view x ∷ [] = ap (λ v. record { repetition = x.repetition; definition = x.definition; value = v } ∷ []) put.shows in
-    ap (λ t. entries_in t (es ++ e ∷ [])) put.joined ∙ entries_after bs put.own es (e ∷ []) filled
-    ∙ ap (λ t. t ++ entries_in put.own (e ∷ [])) same ∙ ap (λ t. map entry_ref_view (take i xs) ++ t) own ∙ sym next
-
 pub total_kept : (bs new : List ℕ) (es : List KeptEntry) (e : KeptEntry) (v : Option ValueTree) → IsPut e.slot v bs new → total_size es ≡ length bs → total_size (es ++ e ∷ []) ≡ length new
 total_kept bs new es e v put filled =
     let both = total_after es (e ∷ []) in
     let size = put.size in
     let joined = ap length put.joined ∙ length-append bs put.own in
     omega (arith, both, size, joined, filled)
+
+-- one entry more
+pub entry_put : (bs new : List ℕ) (es : List KeptEntry) (r d : ℕ) (s : Slot) (v : Option ValueTree) → IsPut s v bs new → total_size es ≡ length bs
+    → entries_in new (es ++ record { repetition = r; definition = d; slot = s } ∷ []) ≡ entries_in bs es ++ entry r d v
+entry_put bs new es r d s v put filled =
+    let e : KeptEntry = record { repetition = r; definition = d; slot = s } in
+    let own : entries_in put.own (e ∷ []) ≡ entry r d v = ap (λ o. entry r d o) put.shows in
+    ap (λ t. entries_in t (es ++ e ∷ [])) put.joined ∙ entries_after bs put.own es (e ∷ []) filled ∙ ap (λ t. entries_in bs es ++ t) own
+
+-- ---- entries that are marked
+
+total_first : (m : ℕ) (es : List KeptEntry) → total_size (take m es) ≤ total_size es
+total_first zero es = omega arith
+total_first (suc m) [] = omega arith
+total_first (suc m) (e ∷ es) = let more = total_first m es in omega (arith, more)
+
+-- their bytes are among all
+marked_within : (es : List KeptEntry) (bs : List ℕ) (m n : ℕ) → AreKept es bs m n → n ≤ length bs
+marked_within es bs m n k =
+    let first = k.first in
+    let filled = k.filled in
+    let all = total_first m es in
+    omega (arith, first, filled, all)
+
+-- one entry more, which is not marked
+pub still_kept : (bs new : List ℕ) (es : List KeptEntry) (e : KeptEntry) (v : Option ValueTree) (m n : ℕ) → IsPut e.slot v bs new → AreKept es bs m n → AreKept (es ++ e ∷ []) new m n
+still_kept bs new es e v m n put k =
+    let within = k.within in
+    record {
+      filled = total_kept bs new es e v put k.filled;
+      within = omega (arith, within, length-append es (e ∷ []));
+      first = ap total_size (take-append-le m es (e ∷ []) within) ∙ k.first;
+    }
+
+pub still_marked : (bs new : List ℕ) (es : List KeptEntry) (e : KeptEntry) (v : Option ValueTree) (m n : ℕ) → IsPut e.slot v bs new → AreKept es bs m n
+    → entries_in (take n new) (take m (es ++ e ∷ [])) ≡ entries_in (take n bs) (take m es)
+still_marked bs new es e v m n put k =
+    ap (λ t. entries_in (take n t) (take m (es ++ e ∷ []))) put.joined
+    ∙ ap (λ t. entries_in t (take m (es ++ e ∷ []))) (take-append-le n bs put.own (marked_within es bs m n k))
+    ∙ ap (entries_in (take n bs)) (take-append-le m es (e ∷ []) k.within)
+
+-- all are marked
+pub all_marked : (es : List KeptEntry) (bs : List ℕ) (m n i j : ℕ) → AreKept es bs m n → i ≡ length es → j ≡ length bs → AreKept es bs i j
+all_marked es bs m n i j k all both =
+    let filled = k.filled in
+    record {
+      filled = filled;
+      within = omega (arith, all);
+      first = ap total_size (take_all i es (omega (arith, all))) ∙ filled ∙ sym both;
+    }
+
+-- the others are cut off
+pub still_cut : (es : List KeptEntry) (bs : List ℕ) (m n : ℕ) → AreKept es bs m n → AreKept (take m es) (take n bs) m n
+still_cut es bs m n k =
+    let within = k.within in
+    let some : length (take m es) ≡ m = length-take-le m es within in
+    record {
+      filled = k.first ∙ sym (length-take-le n bs (marked_within es bs m n k));
+      within = omega (arith, some);
+      first = ap total_size (take-take m m es (omega arith)) ∙ k.first;
+    }

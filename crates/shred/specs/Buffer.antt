@@ -1,42 +1,37 @@
--- The rows that a buffer holds as columns.
-use Rattle.std.specs.Prelude.{◌≡◌, ℕ, ◌≤◌, ◌^◌, List, [], ◌∷◌, ◌++◌, map, length, Vec}
-use Rattle.std.specs.List.{AllByRecursion}
-use Rattle.std.specs.declared.alloc.Global.{Global}
-use Rattle.schema.specs.declared.row.Row.{Row}
+-- The rows that a buffer holds as columns, and what it was shown of the next one.
+use Rattle.std.specs.Prelude.{◌≡◌, ◌≤◌, ◌^◌, List, [], ◌∷◌, length}
 use Rattle.schema.specs.Values.{ValueTrees}
 use Rattle.schema.specs.Shape.{Fields}
 use Rattle.schema.specs.Stripe.{columns}
 use Rattle.schema.specs.Fits.{RowsFit}
-use Rattle.schema.specs.Views.{rows_view}
-use Rattle.shred.specs.declared.kept_column.KeptColumn.{KeptColumn}
+use Rattle.assemble.specs.Sinks.{Token, tokens_each}
 use Rattle.shred.specs.declared.row_buffer.RowBuffer.{RowBuffer}
-use Rattle.shred.specs.Kept.{batch_view}
-
--- the rows of the parts, one part after the other
-abbrev pub rows_of_parts : List (List ValueTrees) → List ValueTrees
-rows_of_parts [] = []
-rows_of_parts (part ∷ parts) = part ++ rows_of_parts parts
-
--- Each batch has the columns of a part of the rows, which fit; the fresh rows come after all parts.
-pub record HoldsRows (fs : Fields) (batches : List (Vec KeptColumn Global)) (settled : ℕ) (fresh : List Row) (rows : List ValueTrees) : Type 0 where
-  pub parts : List (List ValueTrees)
-  pub joined : rows ≡ rows_of_parts parts ++ rows_view fresh
-  pub kept : map batch_view batches ≡ map (columns fs) parts
-  pub fit : AllByRecursion (RowsFit fs) parts
-  pub counted : settled ≡ length (rows_of_parts parts)
-  pub countable : settled ≤ 2 ^ 62
+use Rattle.shred.specs.inner.Filling.{state_of, run, root}
+use Rattle.shred.specs.inner.Opening.{schema_token, rows_token, rows_said}
 
 abbrev pub schema_of : RowBuffer → Fields
 schema_of buffer = buffer.schema.now
 
--- the buffer holds these rows
+-- The buffer holds these rows, which fit, as columns; and of the next row it was shown these tokens.
+pub record Holds (buffer : RowBuffer) (rows : List ValueTrees) (shown : List Token) : Type 0 where
+  pub fit : RowsFit (schema_of buffer) rows
+  pub counted : buffer.count ≡ length rows
+  pub countable : buffer.count ≤ 2 ^ 62
+  pub state : state_of buffer.filling ≡ run (root (schema_of buffer) (columns (schema_of buffer) rows)) shown
+
+-- the buffer holds these rows, and was shown nothing of the next one
 abbrev pub holds : RowBuffer → List ValueTrees → Type 0
-holds buffer rows = HoldsRows (schema_of buffer) buffer.batches.items buffer.settled buffer.fresh.items rows
+holds buffer rows = Holds buffer rows []
 
--- all rows that it holds are columns
-abbrev pub is_settled : RowBuffer → Type 0
-is_settled buffer = buffer.fresh.items ≡ []
+-- what a buffer was shown: first the schema and the rows before, which nobody shows, and then values
+abbrev pub buffer_shows : RowBuffer → List Token → Type 0
+buffer_shows buffer (t ∷ u ∷ ts) = (t ≡ schema_token (schema_of buffer)) × Holds buffer (rows_said u) ts
+buffer_shows buffer _ = ⊥
 
--- the buffer holds these rows, each of them as columns
-abbrev pub holds_columns : RowBuffer → List ValueTrees → Type 0
-holds_columns buffer rows = holds buffer rows × is_settled buffer
+-- it holds these rows of the schema, and was shown nothing yet of the next one
+abbrev pub BeginsRow : RowBuffer → Fields → List ValueTrees → Type 0
+BeginsRow buffer fs rows = buffer_shows buffer (schema_token fs ∷ rows_token rows ∷ [])
+
+-- it holds these rows of the schema, and was shown the values of the next one
+abbrev pub ShowsRow : RowBuffer → Fields → List ValueTrees → ValueTrees → Type 0
+ShowsRow buffer fs rows values = buffer_shows buffer (schema_token fs ∷ rows_token rows ∷ tokens_each values)

@@ -1,5 +1,5 @@
 -- What entries show whose bytes lie one after the other.
-use Rattle.std.specs.Prelude.{ℕ, ◌+◌, List, [], ◌∷◌, take, drop, Option, Some, None}
+use Rattle.std.specs.Prelude.{◌≡◌, ℕ, ◌+◌, ◌≤◌, List, [], ◌∷◌, length, take, drop, Option, Some, None}
 use Rattle.schema.specs.Values.{ValueTree, null, boolean, integer, bytes}
 use Rattle.schema.specs.Stripe.{Entry}
 use Rattle.shred.specs.declared.slot.Slot.{Slot}
@@ -28,3 +28,9 @@ total_size (e ∷ es) = slot_size e.slot + total_size es
 abbrev pub entries_in : List ℕ → List KeptEntry → List Entry
 entries_in bs [] = []
 entries_in bs (e ∷ es) = record { repetition = e.repetition; definition = e.definition; value = slot_value e.slot bs } ∷ entries_in (drop (slot_size e.slot) bs) es
+
+-- the bytes are those of the entries, and the first ones are those of the entries that are marked
+pub record AreKept (entries : List KeptEntry) (bytes : List ℕ) (marked size : ℕ) : Type 0 where
+  pub filled : total_size entries ≡ length bytes
+  pub within : marked ≤ length entries
+  pub first : total_size (take marked entries) ≡ size

@@ -1,3 +1,4 @@
 pub mod Growing
 pub mod Put
-pub mod Batches
+pub mod Filling
+pub mod Opening

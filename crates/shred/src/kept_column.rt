@@ -1,47 +1,99 @@
 //! Columns that own the bytes of their values.
 
-ghost use Rattle.std.specs.Prelude.{◌≡◌, ◌++◌, length, map, IfOk, OnOk};
+ghost use Rattle.std.specs.Prelude.{◌≡◌, ◌++◌, [], map, OnOk, option_map};
 ghost use Rattle.bits.specs.Refusals.{RefusedMemoryOnly};
-ghost use Rattle.schema.specs.Borrowed.{entry_ref_view};
-ghost use Rattle.shred.specs.Columns.{column_ref_view};
-ghost use Rattle.shred.specs.Slots.{total_size, entries_in};
+ghost use Rattle.schema.specs.Borrowed.{value_ref_view, entry_ref_view};
+ghost use Rattle.schema.specs.Stripe.{entry};
+ghost use Rattle.shred.specs.Slots.{AreKept, entries_in};
 
-use crate::column::ColumnRef;
 use crate::slot::{KeptEntry, put_value, value_of};
 use bits::R;
-use schema::EntryRef;
-use std::alloc::Global;
+use schema::{EntryRef, ValueRef};
+use std::alloc::{AllocError, Global};
 
-/// The entries of one leaf, and the bytes of their values.
+/// The entries of one leaf, and the bytes of their values. The first of them can be marked, so that the others
+/// are cut off again.
 #[derive(Debug, Drop)]
 pub(crate) struct KeptColumn {
     entries: Vec<KeptEntry>,
     bytes: Vec<u8>,
-    ghost filled: { total_size entries.items ≡ length bytes.items },
+    /// How many entries are marked, and how many bytes their values have.
+    marked: usize,
+    marked_bytes: usize,
+    ghost kept: { AreKept entries.items bytes.items marked marked_bytes },
 }
 
 impl KeptColumn {
-    /// A copy of a column of a leaf's values. It fails only when out of memory.
-    pub(crate) fn of(alloc: Global, column: &ColumnRef<'_>) -> R<KeptColumn>
-        ensures same { IfOk result (λ kept. entries_in kept.bytes.items kept.entries.items ≡ column_ref_view column.now) }
-        ensures which { RefusedMemoryOnly result }
+    ghost use Rattle.shred.specs.Kept.{kept_view, marked_view};
+
+    /// A column without entries.
+    pub(crate) fn new(alloc: Global) -> KeptColumn
+        ensures empty { kept_view result ≡ [] }
     {
-        let mut entries = Vec::with_capacity(alloc, column.entries.len())?;
-        let mut bytes = Vec::new(alloc);
-        for entry in &column.entries {
-            let slot = put_value(entry.value, &mut bytes)?;
-            entries.push(KeptEntry {
-                repetition: entry.repetition,
-                definition: entry.definition,
-                slot,
-            })?;
+        KeptColumn {
+            entries: Vec::new(alloc),
+            bytes: Vec::new(alloc),
+            marked: 0,
+            marked_bytes: 0,
         }
-        Ok(KeptColumn { entries, bytes })
+    }
+
+    /// Puts an entry after the others. It fails only when out of memory, and then leaves the column as it is.
+    #[inline(always)]
+    pub(crate) fn put(
+        &mut self,
+        repetition: u32,
+        definition: u32,
+        value: Option<ValueRef<'_>>,
+    ) -> Result<(), AllocError>
+        ensures put { OnOk result (kept_view self.new ≡ kept_view self.old ++ entry repetition definition (option_map value_ref_view value.entry)) }
+        ensures marked { marked_view self.new ≡ marked_view self.old }
+    {
+        let size = self.bytes.len();
+        let slot = put_value(value, &mut self.bytes)?;
+        match self.entries.push(KeptEntry {
+            repetition,
+            definition,
+            slot,
+        }) {
+            Ok(()) => Ok(()),
+            Err(_) => {
+                self.bytes.truncate(size);
+                Err(AllocError)
+            }
+        }
+    }
+
+    /// Marks the entries that it has.
+    pub(crate) fn mark(&mut self)
+        ensures marked { marked_view self.new ≡ kept_view self.old }
+        ensures same { kept_view self.new ≡ kept_view self.old }
+    {
+        self.marked = self.entries.len();
+        self.marked_bytes = self.bytes.len();
+    }
+
+    /// Removes the entries that are not marked.
+    pub(crate) fn cut(&mut self)
+        ensures cut { kept_view self.new ≡ marked_view self.old }
+    {
+        self.entries.truncate(self.marked);
+        self.bytes.truncate(self.marked_bytes);
+    }
+
+    /// Removes all entries.
+    pub(crate) fn clear(&mut self)
+        ensures empty { kept_view self.new ≡ [] }
+    {
+        self.entries.clear();
+        self.bytes.clear();
+        self.marked = 0;
+        self.marked_bytes = 0;
     }
 
     /// Puts the entries, their values borrowed, after others. It fails only when out of memory.
     pub(crate) fn lend<'a>(&'a self, entries: &mut Vec<EntryRef<'a>>) -> R<()>
-        ensures lent { OnOk result (map entry_ref_view entries.new.items ≡ map entry_ref_view entries.old.items ++ entries_in self.now.bytes.items self.now.entries.items) }
+        ensures lent { OnOk result (map entry_ref_view entries.new.items ≡ map entry_ref_view entries.old.items ++ kept_view self.now) }
         ensures which { RefusedMemoryOnly result }
     {
         let mut rest = self.bytes.as_slice();

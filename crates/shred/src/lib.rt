@@ -4,9 +4,9 @@
 //! borrowed column shows.
 #![tactic(auto)]
 
-mod batch;
 mod column;
 mod field;
+mod filling;
 mod kept_column;
 mod row_buffer;
 mod rows;

@@ -1,56 +1,53 @@
 //! Rows that wait, kept as the columns that they shred to.
 
-ghost use Rattle.std.specs.Prelude.{◌≡◌, ◌++◌, ◌∷◌, [], List, length, map, get_or, IfOk, OnOk, OnErr};
-ghost use Rattle.bits.specs.Refusals.{OnFault, RefusedOnly, RefusedMemoryOnly};
-ghost use Rattle.schema.specs.Fits.{RowsFit};
+ghost use Rattle.std.specs.Prelude.{◌≡◌, ◌++◌, ◌∷◌, [], List, true, false, length, map, get_or, IfOk, OnOk, OnErr, Err};
+ghost use Rattle.bits.specs.Refusals.{RefusedOnly, RefusedMemoryOnly};
+ghost use Rattle.schema.specs.Fits.{fits_each};
+ghost use Rattle.schema.specs.Shape.{Fields};
 ghost use Rattle.schema.specs.Values.{ValueTrees};
-ghost use Rattle.schema.specs.Views.{row_view, rows_view};
+ghost use Rattle.schema.specs.Views.{row_view};
 ghost use Rattle.schema.specs.Borrowed.{entry_ref_view};
-ghost use Rattle.schema.specs.Stripe.{columns};
-ghost use Rattle.shred.specs.Kept.{batch_view};
+ghost use Rattle.schema.specs.Stripe.{columns, leaves_of};
 
-use crate::batch::{kept_columns, lend_leaf};
-use crate::kept_column::KeptColumn;
-use crate::rows::shred;
+use crate::filling::Filling;
+use assemble::RowSink;
 use bits::{R, Refusal};
-use schema::{EntryRef, Row, Schema};
-use std::alloc::Global;
-
-/// How many rows are shredded at a time: few enough that they are still in the processor's cache.
-const MOST_FRESH_ROWS: usize = 1024;
+use schema::{EntryRef, Row, Schema, ValueRef};
+use std::alloc::{AllocError, Global};
 
 /// The most rows that a buffer takes: more than there can be.
 const MOST_ROWS: usize = 1 << 62;
 
 /// Rows, kept as the columns that they shred to. A row takes as much room as its entries and the bytes of
-/// its values; the last rows, at most 1,024, are kept as they came.
+/// its values.
+///
+/// Rows are added whole ([`push`](RowBuffer::push)), or value by value: the buffer is a sink, which is shown the
+/// values of a row, and then its end ([`end_row`](RowBuffer::end_row)).
 #[derive(Drop)]
 pub struct RowBuffer<'a> {
-    alloc: Global,
     schema: &'a Schema,
-    /// The columns of the rows that are shredded, 1,024 rows at a time.
-    batches: Vec<Vec<KeptColumn>>,
-    /// How many rows these are.
-    settled: usize,
-    /// The rows after these.
-    fresh: Vec<Row>,
+    /// How many rows there are.
+    count: usize,
+    /// A column for each leaf.
+    filling: Filling<'a>,
+    ghost sized: { length filling.columns.items ≡ length (leaves_of schema.now) },
 }
 
 impl<'a> RowBuffer<'a> {
-    ghost use Rattle.shred.specs.Buffer.{schema_of, holds, is_settled, holds_columns};
+    ghost use Rattle.shred.specs.Buffer.{schema_of, holds, BeginsRow, ShowsRow};
 
-    /// A buffer without rows.
-    pub fn new(alloc: Global, schema: &'a Schema) -> RowBuffer<'a>
-        ensures begins { holds result [] }
-        ensures of { schema_of result ≡ schema.now }
+    /// A buffer without rows. It fails only when out of memory.
+    pub fn new(alloc: Global, schema: &'a Schema) -> R<RowBuffer<'a>>
+        ensures begins { IfOk result (λ buffer. holds buffer []) }
+        ensures of { IfOk result (λ buffer. schema_of buffer ≡ schema.now) }
+        ensures which { RefusedMemoryOnly result }
     {
-        RowBuffer {
-            alloc,
+        let filling = Filling::new(alloc, schema.leaves().len(), schema.fields())?;
+        Ok(RowBuffer {
             schema,
-            batches: Vec::new(alloc),
-            settled: 0,
-            fresh: Vec::new(alloc),
-        }
+            count: 0,
+            filling,
+        })
     }
 
     /// The schema of the rows.
@@ -64,84 +61,106 @@ impl<'a> RowBuffer<'a> {
     pub fn len(&self) -> usize
         ensures counted { (rows : List ValueTrees) → holds self.now rows → result ≡ length rows }
     {
-        self.settled.saturating_add(self.fresh.len())
+        self.count
     }
 
     /// Adds a row.
     ///
-    /// Refused RowShape only where a row that was added before does not fit the schema. After a refusal the
-    /// buffer has the rows that it had, and this row is dropped. Each 1,024 calls the rows since are shredded.
+    /// Refused RowShape exactly when it does not fit the schema. After a refusal the buffer has the rows that it
+    /// had, and this row is dropped.
     pub fn push(&mut self, row: Row) -> R<()>
         ensures stands { OnOk result ((rows : List ValueTrees) → holds self.old rows → holds self.new (rows ++ row_view row ∷ [])) }
-        ensures only { OnFault result ((rows : List ValueTrees) → holds self.old rows → RowsFit (schema_of self.old) rows → ⊥) }
+        ensures fit { OnOk result (fits_each (schema_of self.old) (row_view row) ≡ true) }
+        ensures only { result ≡ Err Refusal.RowShape → fits_each (schema_of self.old) (row_view row) ≡ false }
         ensures which { RefusedOnly (λ e. e ≡ Refusal.RowShape) result }
         ensures unchanged { OnErr result ((rows : List ValueTrees) → holds self.old rows → holds self.new rows) }
         ensures same_schema { schema_of self.new ≡ schema_of self.old }
     {
-        if self.fresh.len() >= MOST_FRESH_ROWS {
-            self.settle()?;
+        if !self.schema.fits(&row) {
+            return Err(Refusal::RowShape);
         }
-        self.fresh.push(row)?;
-        Ok(())
-    }
-
-    /// Shreds the rows that are still kept as they came, so that the entries of all rows can be had.
-    ///
-    /// Refused RowShape only where a row does not fit the schema. The buffer has the same rows afterwards.
-    pub fn settle(&mut self) -> R<()>
-        ensures settled { OnOk result (is_settled self.new) }
-        ensures only { OnFault result ((rows : List ValueTrees) → holds self.old rows → RowsFit (schema_of self.old) rows → ⊥) }
-        ensures which { RefusedOnly (λ e. e ≡ Refusal.RowShape) result }
-        ensures same { (rows : List ValueTrees) → holds self.old rows → holds self.new rows }
-        ensures same_schema { schema_of self.new ≡ schema_of self.old }
-    {
-        let settled = self.settled.saturating_add(self.fresh.len());
-        if settled > MOST_ROWS {
+        if self.count >= MOST_ROWS {
             // Never reached: there is no memory for as many rows.
             return Err(Refusal::Memory);
         }
-        if self.fresh.is_empty() {
-            return Ok(());
+        self.filling.mark();
+        match self.filling.show_each(row.values.as_slice()) {
+            Ok(()) => {
+                self.filling.restart(self.schema.fields());
+                self.count += 1;
+                Ok(())
+            }
+            Err(_) => {
+                self.filling.cut();
+                self.filling.restart(self.schema.fields());
+                Err(Refusal::Memory)
+            }
         }
-        let batch = self.shredded()?;
-        self.batches.push(batch)?;
-        self.settled = settled;
-        self.fresh.clear();
+    }
+
+    /// Adds the row whose values were shown. It fails only when out of memory.
+    pub fn end_row(&mut self) -> R<()>
+        ensures stands { OnOk result ((fs : Fields) (rows : List ValueTrees) (values : ValueTrees) → ShowsRow self.old fs rows values
+            → fits_each fs values ≡ true → holds self.new (rows ++ values ∷ [])) }
+        ensures of { (fs : Fields) (rows : List ValueTrees) (values : ValueTrees) → ShowsRow self.old fs rows values → schema_of self.new ≡ fs }
+        ensures which { RefusedMemoryOnly result }
+        ensures same_schema { schema_of self.new ≡ schema_of self.old }
+    {
+        if self.count >= MOST_ROWS {
+            // Never reached: there is no memory for as many rows.
+            return Err(Refusal::Memory);
+        }
+        self.filling.restart(self.schema.fields());
+        self.count += 1;
         Ok(())
     }
 
     /// The entries of a leaf, given by its place among the leaves of the schema, in place of what was in
-    /// `entries`. The rows have to be settled. It fails only when out of memory; the time is linear in the entries.
+    /// `entries`. It fails only when out of memory; the time is linear in the entries.
     pub fn entries<'b>(&'b self, leaf: usize, entries: &mut Vec<EntryRef<'b>>) -> R<()>
-        ensures stands { OnOk result ((rows : List ValueTrees) → holds_columns self.now rows
+        ensures stands { OnOk result ((rows : List ValueTrees) → holds self.now rows
             → map entry_ref_view entries.new.items ≡ get_or (columns (schema_of self.now) rows) leaf []) }
         ensures which { RefusedMemoryOnly result }
     {
         entries.clear();
-        for batch in &self.batches {
-            lend_leaf(batch.as_slice(), leaf, entries)?;
-        }
-        Ok(())
+        self.filling.lend(leaf, entries)
     }
 
-    /// Removes all rows.
+    /// Removes all rows, and what was shown of the next one. The room that they took is kept for others.
     pub fn clear(&mut self)
         ensures emptied { holds self.new [] }
         ensures same_schema { schema_of self.new ≡ schema_of self.old }
     {
-        self.batches.clear();
-        self.settled = 0;
-        self.fresh.clear();
+        self.filling.clear();
+        self.filling.restart(self.schema.fields());
+        self.count = 0;
+    }
+}
+
+impl<'a> RowSink for RowBuffer<'a> {
+    ghost use Rattle.shred.specs.Buffer.{buffer_shows};
+
+    ghost shows = { buffer_shows };
+
+    #[inline(always)]
+    fn value(&mut self, value: ValueRef<'_>) -> Result<(), AllocError> {
+        self.filling.value(value)
     }
 
-    /// The columns of the fresh rows.
-    fn shredded(&self) -> R<Vec<KeptColumn>>
-        ensures stands { IfOk result (λ batch. batch_view batch ≡ columns (schema_of self.now) (rows_view self.now.fresh.items)) }
-        ensures fit { OnOk result (RowsFit (schema_of self.now) (rows_view self.now.fresh.items)) }
-        ensures only { OnFault result (RowsFit (schema_of self.now) (rows_view self.now.fresh.items) → ⊥) }
-        ensures which { RefusedOnly (λ e. e ≡ Refusal.RowShape) result }
-    {
-        let columns = shred(self.alloc, self.schema, self.fresh.as_slice())?;
-        kept_columns(self.alloc, columns.as_slice())
+    fn begin_group(&mut self) -> Result<(), AllocError> {
+        self.filling.begin_group()
+    }
+
+    fn end_group(&mut self) -> Result<(), AllocError> {
+        self.filling.end_group();
+        Ok(())
+    }
+
+    fn begin_list(&mut self) -> Result<(), AllocError> {
+        self.filling.begin_list()
+    }
+
+    fn end_list(&mut self) -> Result<(), AllocError> {
+        self.filling.end_list()
     }
 }

@@ -1,13 +1,12 @@
 //! Entries whose bytes lie one after the other.
 
-ghost use Rattle.std.specs.Prelude.{◌≡◌, ◌≤◌, length, drop, IfOk, option_map};
-ghost use Rattle.bits.specs.Refusals.{RefusedMemoryOnly};
+ghost use Rattle.std.specs.Prelude.{◌≡◌, ◌≤◌, length, drop, IfOk, OnErr, option_map};
 ghost use Rattle.schema.specs.Borrowed.{value_ref_view};
 ghost use Rattle.shred.specs.Slots.{slot_size, slot_value};
 ghost use Rattle.shred.specs.inner.Put.{IsPut};
 
-use bits::{R, Refusal};
 use schema::ValueRef;
+use std::alloc::AllocError;
 
 /// What an entry has for a value. The bytes of byte values lie in their column, in the order of the entries.
 #[derive(Debug, Clone, Copy)]
@@ -29,9 +28,14 @@ pub(crate) struct KeptEntry {
 }
 
 /// Puts the bytes of a leaf's value, if it has any, after the bytes of others, and returns its slot.
-pub(crate) fn put_value(value: Option<ValueRef<'_>>, bytes: &mut Vec<u8>) -> R<Slot>
+/// It fails only when out of memory, and then leaves the bytes as they are.
+#[inline(always)]
+pub(crate) fn put_value(
+    value: Option<ValueRef<'_>>,
+    bytes: &mut Vec<u8>,
+) -> Result<Slot, AllocError>
     ensures stands { IfOk result (λ slot. IsPut slot (option_map value_ref_view value.entry) bytes.old.items bytes.new.items) }
-    ensures which { RefusedMemoryOnly result }
+    ensures unchanged { OnErr result (bytes.new.items ≡ bytes.old.items) }
 {
     match value {
         None => Ok(Slot::Missing),
@@ -43,7 +47,7 @@ pub(crate) fn put_value(value: Option<ValueRef<'_>>, bytes: &mut Vec<u8>) -> R<S
             Ok(Slot::Bytes(own.len()))
         }
         // Never reached: a leaf has no such value.
-        Some(ValueRef::Group(_) | ValueRef::List(_)) => Err(Refusal::Memory),
+        Some(ValueRef::Group(_) | ValueRef::List(_)) => Err(AllocError),
     }
 }
 

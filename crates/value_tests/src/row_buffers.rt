@@ -1,3 +1,4 @@
+use assemble::show_row;
 use bits::{R, Refusal};
 use schema::{Element, EntryRef, Row, Schema, Value, ValueRef};
 use shred::RowBuffer;
@@ -131,12 +132,10 @@ fn is_item(
 fn thousands_of_rows_have_their_entries(rt: HostRuntime) -> Result<(), Fail> {
     let alloc = rt.alloc();
     let schema = of_all_kinds(alloc)?;
-    let mut buffer = RowBuffer::new(alloc, &schema);
+    let mut buffer = RowBuffer::new(alloc, &schema)?;
     fill(alloc, &mut buffer, 2500)?;
     assert_eq!(rt; buffer.len(), 2500);
     assert_eq!(rt; buffer.schema().leaves().len(), 4);
-    buffer.settle()?;
-    assert_eq!(rt; buffer.len(), 2500);
     let flags = entries_of(alloc, &buffer, 0)?;
     let numbers = entries_of(alloc, &buffer, 1)?;
     let texts = entries_of(alloc, &buffer, 2)?;
@@ -155,9 +154,8 @@ fn thousands_of_rows_have_their_entries(rt: HostRuntime) -> Result<(), Fail> {
 fn lists_and_empty_lists_have_their_entries(rt: HostRuntime) -> Result<(), Fail> {
     let alloc = rt.alloc();
     let schema = of_all_kinds(alloc)?;
-    let mut buffer = RowBuffer::new(alloc, &schema);
+    let mut buffer = RowBuffer::new(alloc, &schema)?;
     fill(alloc, &mut buffer, 2000)?;
-    buffer.settle()?;
     let entries = entries_of(alloc, &buffer, 3)?;
     let mut at = 0;
     for n in 0..2000u32 {
@@ -178,24 +176,44 @@ fn lists_and_empty_lists_have_their_entries(rt: HostRuntime) -> Result<(), Fail>
 }
 
 #[test]
-fn a_row_that_does_not_fit_is_found_when_it_is_shredded(rt: HostRuntime) -> Result<(), Fail> {
+fn a_row_that_does_not_fit_is_refused_when_it_is_given(rt: HostRuntime) -> Result<(), Fail> {
     let alloc = rt.alloc();
     let schema = of_all_kinds(alloc)?;
-    let mut buffer = RowBuffer::new(alloc, &schema);
-    fill(alloc, &mut buffer, 1024)?;
-    buffer.push(short_row(alloc)?)?;
-    assert!(rt; matches!(buffer.settle(), Err(Refusal::RowShape)));
-    fill(alloc, &mut buffer, 1023)?;
-    assert_eq!(rt; buffer.len(), 2048);
+    let mut buffer = RowBuffer::new(alloc, &schema)?;
+    fill(alloc, &mut buffer, 5)?;
     for _ in 0..2 {
-        let refused = buffer.push(row(alloc, 1)?);
+        let refused = buffer.push(short_row(alloc)?);
         assert!(rt; matches!(refused, Err(Refusal::RowShape)));
-        assert_eq!(rt; buffer.len(), 2048);
+        assert_eq!(rt; buffer.len(), 5);
     }
+    fill(alloc, &mut buffer, 3)?;
+    assert_eq!(rt; buffer.len(), 8);
+    assert_eq!(rt; entries_of(alloc, &buffer, 1)?.len(), 8);
     buffer.clear();
     assert_eq!(rt; buffer.len(), 0);
     fill(alloc, &mut buffer, 3)?;
-    buffer.settle()?;
     assert_eq!(rt; entries_of(alloc, &buffer, 1)?.len(), 3);
+    Ok(())
+}
+
+#[test]
+fn rows_that_are_shown_have_their_entries(rt: HostRuntime) -> Result<(), Fail> {
+    let alloc = rt.alloc();
+    let schema = of_all_kinds(alloc)?;
+    let mut buffer = RowBuffer::new(alloc, &schema)?;
+    for n in 0..9 {
+        show_row(&row(alloc, n)?, &mut buffer)?;
+        buffer.end_row()?;
+    }
+    assert_eq!(rt; buffer.len(), 9);
+    let numbers = entries_of(alloc, &buffer, 1)?;
+    let texts = entries_of(alloc, &buffer, 2)?;
+    assert_eq!(rt; (numbers.len(), texts.len()), (9, 9));
+    for i in 0..9 {
+        assert!(rt; is_number(&numbers[i], i as u8) && is_bytes(&texts[i], i as u8));
+    }
+    let items = entries_of(alloc, &buffer, 3)?;
+    assert_eq!(rt; items.len(), 15);
+    assert!(rt; is_item(&items, 0, (0, 0), None) && is_item(&items, 6, (1, 1), Some(3)));
     Ok(())
 }

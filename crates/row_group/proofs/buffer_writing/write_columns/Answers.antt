@@ -6,11 +6,11 @@ use Rattle.schema.specs.Values.{ValueTrees}
 use Rattle.schema.specs.Stripe.{columns, leaves_of}
 use Rattle.schema.specs.Views.{leaf_view}
 use Rattle.metadata.specs.Views.{chunk_meta_view}
-use Rattle.shred.specs.Buffer.{schema_of, holds_columns}
+use Rattle.shred.specs.Buffer.{schema_of, holds}
 use Rattle.row_group.specs.inner.Columns.{AppendsChunks}
 use Rattle.row_group.proofs.Passed.{passed}
 use Rattle.row_group.proofs.ColumnsWritten.{chunk_more, too_much}
-use Rattle.row_group.proofs.BufferedColumns.{rows_fit, place_here, extends_more}
+use Rattle.row_group.proofs.BufferedColumns.{place_here, extends_more}
 use Rattle.row_group.proofs.buffer_writing.write_columns.Goals as goal
 
 pub returns-in_err-chunk-clause-only : goal.returns-in_err-chunk-clause-only
@@ -19,9 +19,9 @@ returns-in_err-chunk-clause-only c =
     let fs = schema_of b in
     let ls = c.leaves-leaves.result.now in
     let leaves : map leaf_view ls ≡ leaves_of fs = c.leaves-leaves.ensures.leaves_are ∙ ap leaves_of c.schema.ensures in
-    passes (λ e. IsFault e → (all : List ValueTrees) → holds_columns b all → ⊥) c.from_residual-in_err-chunk.result c.in_err-chunk.field-0.0 c.from_residual-in_err-chunk.ensures.1
+    passes (λ e. IsFault e → (all : List ValueTrees) → holds b all → ⊥) c.from_residual-in_err-chunk.result c.in_err-chunk.field-0.0 c.from_residual-in_err-chunk.ensures.1
     (λ fault all held.
-    let here = place_here c.entries_are_of_leaves.ensures fs all ls c.loop-i.i c.index-leaves-i.result (rows_fit b all held) leaves (omega arith) c.index-leaves-i.is in
+    let here = place_here c.entries_are_of_leaves.ensures fs all ls c.loop-i.i c.index-leaves-i.result held.fit leaves (omega arith) c.index-leaves-i.is in
     c.in_err-chunk.ensures.only fault all held here.entries)
 
 pub returns-in_err-chunk-clause-limit : goal.returns-in_err-chunk-clause-limit
@@ -31,7 +31,7 @@ returns-in_err-chunk-clause-limit c = λ limit all held.
     let i = c.loop-i.i in
     let ls = c.leaves-leaves.result.now in
     let leaves : map leaf_view ls ≡ leaves_of fs = c.leaves-leaves.ensures.leaves_are ∙ ap leaves_of c.schema.ensures in
-    let here = place_here c.entries_are_of_leaves.ensures fs all ls i c.index-leaves-i.result (rows_fit b all held) leaves (omega arith) c.index-leaves-i.is in
+    let here = place_here c.entries_are_of_leaves.ensures fs all ls i c.index-leaves-i.result held.fit leaves (omega arith) c.index-leaves-i.is in
     too_much c.args.options (leaves_of fs) (columns fs all) i (get_or (columns fs all) i []) c.args.out.now.items c.loop-i.out.items (map chunk_meta_view c.loop-i.chunks.items)
     here.of_columns here.column_is (c.loop-i.invariant.stands all held)
     (c.in_err-chunk.ensures.limit (passed c.from_residual-in_err-chunk.result c.in_err-chunk.field-0.0 _ c.from_residual-in_err-chunk.ensures.1 limit) all held)
@@ -52,7 +52,7 @@ loop-i-preserved c =
     let pushed : map chunk_meta_view c.push.new.self.items ≡ before ++ chunk ∷ [] = ap (map chunk_meta_view) c.in_ok-push.ensures.items ∙ map-append chunk_meta_view c.loop-i.chunks.items (_ ∷ []) in
     record {
       stands = λ all held.
-          let here = place_here c.entries_are_of_leaves.ensures fs all ls i c.index-leaves-i.result (rows_fit b all held) leaves (omega arith) c.index-leaves-i.is in
+          let here = place_here c.entries_are_of_leaves.ensures fs all ls i c.index-leaves-i.result held.fit leaves (omega arith) c.index-leaves-i.is in
           let p = c.in_ok-chunk.ensures.stands all held in
           subst (AppendsChunks c.args.options (take (i + 1) (leaves_of fs)) (take (i + 1) (columns fs all)) old new) (sym pushed)
           (chunk_more c.args.options (leaves_of fs) (columns fs all) i leaf (get_or (columns fs all) i []) old mid new before chunk

@@ -3,7 +3,6 @@ use Rattle.bits.specs.Refusals.{IsFault}
 use Rattle.bits.proofs.Passing.{passes}
 use Rattle.schema.specs.Values.{ValueTrees}
 use Rattle.schema.specs.Shape.{Fields}
-use Rattle.schema.specs.Fits.{RowsFit}
 use Rattle.schema.specs.Listed.{elements_of}
 use Rattle.schema.specs.Listing.{IsSchemaOf, IsTooLarge}
 use Rattle.schema.specs.Law.{IsWithinLimits}
@@ -18,15 +17,14 @@ use Rattle.footer.proofs.Single.{ok_map}
 use Rattle.footer.proofs.InGroups.{in_range}
 use Rattle.footer.proofs.Whole.{means, laid_out, is_heavy, passes_limit}
 use Rattle.footer.proofs.WrittenWithin.{file_within}
-use Rattle.footer.proofs.Written.{last_next, last_written, last_counted, next_fit, ok_both}
+use Rattle.footer.proofs.Written.{last_next, last_written, last_counted, ok_both, ok_always}
 use Rattle.footer.proofs.file_writer.FileWriter.finish.Goals as goal
 
 pub returns-in_err-write_waiting-clause-only : goal.returns-in_err-write_waiting-clause-only
 returns-in_err-write_waiting-clause-only c =
     let w = c.args.self in
-    let fs = schema_of w in
-    passes (λ e. IsFault e → (rows : List ValueTrees) → has_rows w rows → RowsFit fs rows → ⊥) c.from_residual.result c.in_err-write_waiting.field-0.0 c.from_residual.ensures.1
-    (λ fault rows so fit. c.in_err-write_waiting.ensures.only fault so.waiting so.held (next_fit w rows so fit))
+    passes (λ e. IsFault e → (rows : List ValueTrees) → has_rows w rows → ⊥) c.from_residual.result c.in_err-write_waiting.field-0.0 c.from_residual.ensures.1
+    (λ fault rows so. c.in_err-write_waiting.ensures.only fault so.waiting so.held)
 
 pub returns-in_err-write_waiting-clause-limit : goal.returns-in_err-write_waiting-clause-limit
 returns-in_err-write_waiting-clause-limit c =
@@ -125,3 +123,6 @@ returns-clause-limit c = λ limit rows so.
     let within : IsWithinLimits fs = subst IsWithinLimits shown c.in_ok-record.ensures.within in
     let all = last_written old new c.in_ok-write_waiting.ensures.stands same c.in_ok-write_waiting.ensures.same_options rows so in
     is_heavy fs o new.written rows new.bytes.items gs meta is all.0 within (c.ended.ensures.limit limit)
+
+pub returns-clause-in_range : goal.returns-clause-in_range
+returns-clause-in_range c = ok_always c.ended.result (λ rows so. so.given.in_range)

@@ -5,7 +5,7 @@ use Rattle.bits.specs.declared.refusal.Refusal.{Refusal}
 use Rattle.schema.specs.Values.{ValueTrees}
 use Rattle.shred.specs.Buffer.{holds}
 use Rattle.footer.specs.Writer.{options_of}
-use Rattle.footer.proofs.Written.{full_next, none_waits_in, next_fit, has_same}
+use Rattle.footer.proofs.Written.{full_next, none_waits_in, has_same}
 use Rattle.footer.proofs.file_writer.FileWriter.make_room.Goals as goal
 
 -- one fact of a refusal follows from another
@@ -22,9 +22,7 @@ returns-then-len-self-clause-stands c =
     none_waits_in w c.write_waiting.new.self c.write_waiting.result full c.write_waiting.ensures.stands c.write_waiting.ensures.emptied c.write_waiting.ensures.counted c.write_waiting.ensures.same_schema c.write_waiting.ensures.same_options
 
 pub returns-then-len-self-clause-only : goal.returns-then-len-self-clause-only
-returns-then-len-self-clause-only c =
-    let w = c.args.self.now in
-    on_refusal c.write_waiting.result _ _ (λ e none fault rows so fit. none fault so.waiting so.held (next_fit w rows so fit)) c.write_waiting.ensures.only
+returns-then-len-self-clause-only c = on_refusal c.write_waiting.result _ _ (λ e none fault rows so. none fault so.waiting so.held) c.write_waiting.ensures.only
 
 pub returns-then-len-self-clause-limit : goal.returns-then-len-self-clause-limit
 returns-then-len-self-clause-limit c = λ is rows later so.

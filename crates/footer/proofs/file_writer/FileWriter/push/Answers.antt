@@ -1,18 +1,18 @@
-use Rattle.std.proofs.Common.{◌≡◌, ◌++◌, ◌∷◌, [], List, map, sym, subst, Result, Ok, Err}
+use Rattle.std.proofs.Common.{◌≡◌, ◌++◌, ◌∷◌, [], List, map, false, ap, sym, subst, Result, Ok, Err}
 use Rattle.std.specs.Prelude.{OnErr}
 use Rattle.bits.specs.declared.refusal.Refusal.{Refusal}
-use Rattle.bits.specs.declared.refusal.Refusal.TheVariants.{RowShape, Limit}
+use Rattle.bits.specs.declared.refusal.Refusal.TheVariants.{RowShape, Limit, Memory}
 use Rattle.bits.specs.Refusals.{IsFault, HasCause}
 use Rattle.bits.proofs.Passing.{passes}
 use Rattle.schema.specs.Values.{ValueTrees}
 use Rattle.schema.specs.Shape.{Fields}
-use Rattle.schema.specs.Fits.{RowsFit}
+use Rattle.schema.specs.Fits.{fits_each}
 use Rattle.schema.specs.Views.{row_view}
 use Rattle.metadata.specs.Views.{group_meta_view}
 use Rattle.footer.specs.Writer.{schema_of, options_of, has_rows, AreGiven}
 use Rattle.footer.specs.Writing.{IsTooMuch}
 use Rattle.footer.proofs.Whole.{passes_limit}
-use Rattle.footer.proofs.Written.{one_given, next_fit}
+use Rattle.footer.proofs.Written.{one_given}
 use Rattle.footer.proofs.file_writer.FileWriter.push.Goals as goal
 
 refused : {X : Type 0} (r : Result X Refusal) {P : Type 0} → P → OnErr r P
@@ -33,15 +33,24 @@ returns-clause-stands c = λ rows so.
       given = subst (λ (f : Fields). AreGiven f (options_of w) w.bytes.items (map group_meta_view w.groups.items) (room.has.waiting ++ row_view c.args.row ∷ []) w.written (rows ++ row_view c.args.row ∷ [])) (sym c.in_ok-push.ensures.same_schema) more;
     }
 
+pub returns-in_err-make_room-clause-only : goal.returns-in_err-make_room-clause-only
+returns-in_err-make_room-clause-only c =
+    let w = c.args.self.now in
+    passes (λ e. IsFault e → (rows : List ValueTrees) → has_rows w rows → fits_each (schema_of w) (row_view c.args.row) ≡ false) c.from_residual.result c.in_err-make_room.field-0.0 c.from_residual.ensures.1
+    (λ fault rows so. absurd (c.in_err-make_room.ensures.only fault rows so))
+
+-- a fault that is RowShape
+row_shape : (e : Refusal) → HasCause (λ f. f ≡ RowShape) e → IsFault e → e ≡ RowShape
+row_shape Limit h fault = absurd fault
+row_shape Memory h fault = absurd fault
+row_shape e h fault = h
+
 pub returns-in_err-push-clause-only : goal.returns-in_err-push-clause-only
 returns-in_err-push-clause-only c =
-    let old = c.args.self.now in
-    let w = c.make_room.new.self in
-    passes (λ e. IsFault e → (rows : List ValueTrees) → has_rows old rows → RowsFit (schema_of old) rows → ⊥) c.from_residual-in_err-push.result c.in_err-push.field-0.0 c.from_residual-in_err-push.ensures.1
-    (λ fault rows so fit.
-    let room = c.in_ok-make_room.ensures.stands rows so in
-    c.in_err-push.ensures.only fault room.has.waiting room.has.held
-    (next_fit w rows room.has (subst (λ (f : Fields). RowsFit f rows) (sym c.in_ok-make_room.ensures.same_schema) fit)))
+    let w = c.args.self.now in
+    passes (λ e. IsFault e → (rows : List ValueTrees) → has_rows w rows → fits_each (schema_of w) (row_view c.args.row) ≡ false) c.from_residual-in_err-push.result c.in_err-push.field-0.0 c.from_residual-in_err-push.ensures.1
+    (λ fault rows so. subst (λ (f : Fields). fits_each f (row_view c.args.row) ≡ false) c.in_ok-make_room.ensures.same_schema
+    (c.in_err-push.ensures.only (ap Err (row_shape c.in_err-push.field-0.0 c.in_err-push.ensures.which fault))))
 
 pub returns-in_err-push-clause-limit : goal.returns-in_err-push-clause-limit
 returns-in_err-push-clause-limit c =

@@ -50,7 +50,7 @@ returns-clause-stands c =
           let items : c.push.new.self.items ≡ w.groups.items ++ c.in_ok-meta.meta ∷ [] = subst (λ r. c.push.new.self.items ≡ (if is_ok r then w.groups.items ++ c.in_ok-meta.meta ∷ [] else w.groups.items)) b.in-Ok.is c.push.ensures.items in
           let pushed : map group_meta_view c.push.new.self.items ≡ metas ++ g ∷ [] = ap (map group_meta_view) items ∙ map-append group_meta_view w.groups.items (c.in_ok-meta.meta ∷ []) in
           let begun : IsBegun fs o rows later new (metas ++ g ∷ []) = group_written fs o out new metas g waiting rows later some written taken next.next in
-          let same : buffer.schema_of b.clear.new.self ≡ fs = b.clear.ensures.same_schema ∙ c.in_ok-meta.ensures.same_schema in
+          let same : buffer.schema_of b.clear.new.self ≡ fs = b.clear.ensures.same_schema in
           subst (λ (f : Fields). IsBegun f o rows later new (map group_meta_view c.push.new.self.items)) (sym same)
           (subst (λ (ms : List GroupMeta). IsBegun fs o rows later new ms) (sym pushed) begun))
       | in-Err b ↦ rw (b.result-is) tt
@@ -69,5 +69,5 @@ returns-clause-unchanged c =
           let cut : take kept c.write_buffered_group.new.out.items ≡ old.items = ap (λ n. take n c.write_buffered_group.new.out.items) kept_is ∙ ap (take (length old.items)) more.joined ∙ take-append_seam old.items more.text in
           let bytes : b.truncate.new.self.items ≡ old.items = b.truncate.ensures.items ∙ cut in
           let groups : c.push.new.self.items ≡ w.groups.items = subst (λ r. c.push.new.self.items ≡ (if is_ok r then w.groups.items ++ c.in_ok-meta.meta ∷ [] else w.groups.items)) b.in-Err.is c.push.ensures.items in
-          record { bytes = bytes; groups = groups; waiting = c.in_ok-meta.ensures.same; written = refl })
+          record { bytes = bytes; groups = groups; waiting = λ rows h. h; written = refl })
     ]

@@ -1,0 +1,8 @@
+use Rattle.std.proofs.Common.{refl}
+use Rattle.std.proofs.lemmas.Result.{on_ok_weaker}
+use Rattle.assemble.specs.Sinks.{group_begins}
+use Rattle.shred.proofs.ShownRows.{shown_more}
+use Rattle.shred.proofs.row_buffer.RowBufferRowSink.begin_group.Goals as goal
+
+pub returns : goal.returns
+returns c = record { shown = on_ok_weaker c.begin_group.result (λ is. shown_more c.args.self.now _ group_begins refl refl is) c.begin_group.ensures.shown }

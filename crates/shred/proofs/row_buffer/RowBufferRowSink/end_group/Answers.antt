@@ -1,0 +1,7 @@
+use Rattle.std.proofs.Common.{refl}
+use Rattle.assemble.specs.Sinks.{group_ends}
+use Rattle.shred.proofs.ShownRows.{shown_more}
+use Rattle.shred.proofs.row_buffer.RowBufferRowSink.end_group.Goals as goal
+
+pub returns : goal.returns
+returns c = record { shown = shown_more c.args.self.now _ group_ends refl refl c.end_group.ensures.shown }
