@@ -1,0 +1,49 @@
+//! Rows that are shown to a sink.
+
+ghost use Rattle.std.specs.Prelude.{OnOk};
+ghost use Rattle.schema.specs.Values.{view, views};
+ghost use Rattle.schema.specs.Views.{row_view};
+ghost use Rattle.assemble.specs.Sinks.{Adds, tokens, tokens_each};
+
+use crate::sink::RowSink;
+use schema::{Row, Value, ValueRef};
+use std::alloc::AllocError;
+
+/// Shows the values of a row to a sink, in their order. It fails only when out of memory; the sink was then
+/// shown some of them. The time is linear in the row.
+pub fn show_row<K: RowSink>(row: &Row, sink: &mut K) -> Result<(), AllocError>
+    ensures shown { OnOk result (Adds (K.shows sink.old) (K.shows sink.new) (tokens_each (row_view row.now))) }
+{
+    show_values(row.values.as_slice(), sink)
+}
+
+/// Shows values, one after another.
+#[cycle(show)]
+fn show_values<K: RowSink>(values: &[Value], sink: &mut K) -> Result<(), AllocError>
+    ensures shown { OnOk result (Adds (K.shows sink.old) (K.shows sink.new) (tokens_each (views values.now))) }
+{
+    for value in values {
+        show_value(value, sink)?;
+    }
+    Ok(())
+}
+
+/// Shows a value.
+#[cycle(show)]
+fn show_value<K: RowSink>(value: &Value, sink: &mut K) -> Result<(), AllocError>
+    ensures shown { OnOk result (Adds (K.shows sink.old) (K.shows sink.new) (tokens (view value.now))) }
+{
+    match value {
+        Value::Group(values) => {
+            sink.begin_group()?;
+            show_values(values.as_slice(), sink)?;
+            sink.end_group()
+        }
+        Value::List(values) => {
+            sink.begin_list()?;
+            show_values(values.as_slice(), sink)?;
+            sink.end_list()
+        }
+        _ => sink.value(ValueRef::of(value)),
+    }
+}
