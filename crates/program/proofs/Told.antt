@@ -1,11 +1,11 @@
 -- Lines that are read as rows, one after another.
 use Rattle.std.proofs.Common.{◌≡◌, ◌⊎◌, inr, Result, Ok, Err, Vec, Global, subst, ◌<◌, ℕ, zero, suc, List, [], ◌∷◌, ◌++◌, length, map, take, drop, get_or, refl, sym, ap, ◌∙◌, arith}
-use Rattle.std.specs.Prelude.{IsTrue, IfOk, IfErr}
+use Rattle.std.specs.Prelude.{IsTrue, IfOk, OnOk, IfErr}
 use Rattle.std.specs.Borrow.{Bor}
 use Rattle.std.proofs.lemmas.List.{map_push, take-append-drop}
 use Rattle.bits.specs.declared.refusal.Refusal.{Refusal}
 use Rattle.bits.specs.declared.refusal.Refusal.TheVariants.{RowShape, Script, Limit, Memory}
-use Rattle.bits.specs.Refusals.{HasCause, IsFault, OnFault}
+use Rattle.bits.specs.Refusals.{HasCause, IsFault, OnFault, RefusedMemoryOnly}
 use Rattle.schema.specs.Values.{ValueTrees}
 use Rattle.schema.specs.Shape.{Fields}
 use Rattle.schema.specs.Fits.{fits_each, RowsFit}
@@ -15,7 +15,7 @@ use Rattle.footer.specs.Writer.{schema_of, options_of, has_rows}
 use Rattle.footer.specs.File.{FileMeans}
 use Rattle.footer.specs.Own.{IsLaidOut}
 use Rattle.footer.specs.Writing.{IsOutOfRange, IsTooMuch}
-use Rattle.program.specs.inner.Lines.{IsFileOfLines, IsLinesRefusal}
+use Rattle.program.specs.inner.Lines.{IsFileOfLines, IsLinesRefusal, IsLineRefusal, AreTooMuch}
 use Rattle.program.specs.Program.{IsRowText, AreRowTexts, IsRefusedLine, HasFirstFault}
 
 one_more : (fs : Fields) (texts : List (List ℕ)) (rows : List ValueTrees) (text : List ℕ) (row : ValueTrees) → AreRowTexts fs texts rows → IsRowText fs text row → AreRowTexts fs (texts ++ text ∷ []) (rows ++ row ∷ [])
@@ -104,13 +104,6 @@ refused_first fs texts text all rows so_far here told =
 
 -- ---- what lines are refused for
 
--- a line that is no row
-pub stopped_by_line : (fs : Fields) (o : WriteOptions) (texts : List (List ℕ)) (e : Refusal) → HasCause (HasFirstFault fs texts) e → IsLinesRefusal fs o texts e
-stopped_by_line fs o texts RowShape h = h
-stopped_by_line fs o texts Script h = h
-stopped_by_line fs o texts Memory h = tt
-stopped_by_line fs o texts e h = absurd h.refused
-
 -- a fault of the rows, which fit, or too many of them
 pub stopped_by_rows : (fs : Fields) (o : WriteOptions) (texts : List (List ℕ)) (e : Refusal) (rows : List ValueTrees) → RowsFit fs rows → (IsFault e → RowsFit fs rows → ⊥)
     → (e ≡ Limit → (all : List ValueTrees) → AreRowTexts fs texts all → IsOutOfRange o ⊎ IsTooMuch fs o all) → IsLinesRefusal fs o texts e
@@ -120,14 +113,42 @@ stopped_by_rows fs o texts e rows fit only limit = absurd (only tt fit)
 
 -- the rows of the lines so far are too much, whatever comes after them
 pub too_much_so_far : (fs : Fields) (o : WriteOptions) (yielded : List (Bor (List ℕ))) (texts : List (List ℕ)) (writer : FileWriter) (reads : Fields) → map (λ t. t.now) yielded ≡ take (length yielded) texts
-    → HasRead fs o (map (λ t. t.now) yielded) reads writer → ((rows later : List ValueTrees) → has_rows writer rows → IsTooMuch (schema_of writer) (options_of writer) (rows ++ later))
+    → (read : HasRead fs o (map (λ t. t.now) yielded) reads writer) → AreTooMuch (schema_of writer) (options_of writer) read.rows
     → (all : List ValueTrees) → AreRowTexts fs texts all → IsOutOfRange o ⊎ IsTooMuch fs o all
 too_much_so_far fs o yielded texts writer reads so_far read much all also =
     let begins = begin_with fs yielded texts read.rows all so_far read.told also in
     let grown = read.rows ++ begins.0 in
     inr (subst (IsTooMuch fs o) (sym begins.1)
     (subst (λ (k : WriteOptions). IsTooMuch fs k grown) read.options
-    (subst (λ (t : Fields). IsTooMuch t (options_of writer) grown) read.schema (much read.rows begins.0 read.has))))
+    (subst (λ (t : Fields). IsTooMuch t (options_of writer) grown) read.schema (much begins.0))))
+
+-- a line that is no row, or rows before it that are too much
+pub stopped_at_line : (fs : Fields) (o : WriteOptions) (yielded : List (Bor (List ℕ))) (text : Bor (List ℕ)) (texts : List (List ℕ)) (writer : FileWriter) (reads : Fields)
+    → map (λ t. t.now) yielded ≡ take (length yielded) texts → (length yielded < length texts) × (text.now ≡ get_or texts (length yielded) text.now)
+    → (read : HasRead fs o (map (λ t. t.now) yielded) reads writer) → (e : Refusal) → IsLineRefusal fs text.now (AreTooMuch (schema_of writer) (options_of writer) read.rows) e → IsLinesRefusal fs o texts e
+stopped_at_line fs o yielded text texts writer reads so_far here read RowShape h = refused_first fs yielded text texts read.rows so_far here read.told RowShape h
+stopped_at_line fs o yielded text texts writer reads so_far here read Script h = refused_first fs yielded text texts read.rows so_far here read.told Script h
+stopped_at_line fs o yielded text texts writer reads so_far here read Limit h = too_much_so_far fs o yielded texts writer reads so_far read h
+stopped_at_line fs o yielded text texts writer reads so_far here read Memory h = tt
+stopped_at_line fs o yielded text texts writer reads so_far here read e h = absurd h
+
+-- ---- what one line is refused for
+
+pub refused_at_begin : (fs : Fields) (text : List ℕ) (TooMuch : Type 0) (e : Refusal) → (IsFault e → ⊥) → (e ≡ Limit → TooMuch) → IsLineRefusal fs text TooMuch e
+refused_at_begin fs text TooMuch Limit only limit = limit refl
+refused_at_begin fs text TooMuch Memory only limit = tt
+refused_at_begin fs text TooMuch e only limit = absurd (only tt)
+
+pub refused_as_line : (fs : Fields) (text : List ℕ) (TooMuch : Type 0) (e : Refusal) → HasCause (IsRefusedLine fs text) e → IsLineRefusal fs text TooMuch e
+refused_as_line fs text TooMuch RowShape h = h
+refused_as_line fs text TooMuch Script h = h
+refused_as_line fs text TooMuch Memory h = tt
+refused_as_line fs text TooMuch e h = absurd h
+
+pub refused_at_end : {X : Type 0} (fs : Fields) (text : List ℕ) (TooMuch : Type 0) (r : Result X Refusal) → RefusedMemoryOnly r → IfErr r (IsLineRefusal fs text TooMuch)
+refused_at_end fs text TooMuch (Ok x) h = tt
+refused_at_end fs text TooMuch (Err Memory) h = tt
+refused_at_end fs text TooMuch (Err e) h = absurd h
 
 -- all rows are too much
 pub too_much_at_end : (fs : Fields) (o : WriteOptions) (texts : List (List ℕ)) (writer : FileWriter) (rows : List ValueTrees) → AreRowTexts fs texts rows → has_rows writer rows → schema_of writer ≡ fs → options_of writer ≡ o
@@ -139,23 +160,24 @@ pub file_of_lines : (fs : Fields) (o : WriteOptions) (texts : List (List ℕ)) (
     → schema_of writer ≡ fs → options_of writer ≡ o
     → IfOk r (λ file. (rows : List ValueTrees) → has_rows writer rows → FileMeans file.items (schema_of writer) rows)
     → IfOk r (λ file. (rows : List ValueTrees) → has_rows writer rows → IsLaidOut (options_of writer) (schema_of writer) rows file.items)
+    → OnOk r ((rows : List ValueTrees) → has_rows writer rows → IsOutOfRange (options_of writer) → ⊥)
     → IfOk r (λ file. IsFileOfLines o fs texts file.items)
-file_of_lines fs o texts writer (Err e) rows told has schema options means laid = tt
-file_of_lines fs o texts writer (Ok file) rows told has schema options means laid = record {
+file_of_lines fs o texts writer (Err e) rows told has schema options means laid range = tt
+file_of_lines fs o texts writer (Ok file) rows told has schema options means laid range = record {
   rows = rows;
   read = told;
   means = rw (← schema) (means rows has);
   laid_out = rw (← schema, ← options) (laid rows has);
-  in_range = subst (λ (k : WriteOptions). IsOutOfRange k → ⊥) options has.given.in_range;
+  in_range = subst (λ (k : WriteOptions). IsOutOfRange k → ⊥) options (range rows has);
 }
 
 -- what is refused at the end
 pub stopped_at_end : (fs : Fields) (o : WriteOptions) (texts : List (List ℕ)) (writer : FileWriter) (r : Result (Vec ℕ Global) Refusal) (rows : List ValueTrees) → AreRowTexts fs texts rows → has_rows writer rows
     → schema_of writer ≡ fs → options_of writer ≡ o → RowsFit fs rows
-    → OnFault r ((rows : List ValueTrees) → has_rows writer rows → RowsFit (schema_of writer) rows → ⊥)
+    → OnFault r ((rows : List ValueTrees) → has_rows writer rows → ⊥)
     → (r ≡ Err Limit → (rows : List ValueTrees) → has_rows writer rows → IsTooMuch (schema_of writer) (options_of writer) rows)
     → IfErr r (IsLinesRefusal fs o texts)
 stopped_at_end fs o texts writer (Ok file) rows told has schema options fit only limit = tt
 stopped_at_end fs o texts writer (Err e) rows told has schema options fit only limit =
-    stopped_by_rows fs o texts e rows fit (λ fault fits. only fault rows has (rw (schema) fits))
+    stopped_by_rows fs o texts e rows fit (λ fault fits. only fault rows has)
     (λ is all also. too_much_at_end fs o texts writer rows told has schema options (limit (ap Err is)) all also)

@@ -1,21 +1,22 @@
 //! Texts to files.
 
-ghost use Rattle.std.specs.Prelude.{◌≡◌, List, false, IfOk, IfErr, OnOk, IsTrue};
+ghost use Rattle.std.specs.Prelude.{◌≡◌, List, false, IfOk, IfErr, OnOk};
 ghost use Rattle.std.specs.Str.Lines.{lines};
 ghost use Rattle.bits.specs.Refusals.{RefusedOnly};
-ghost use Rattle.schema.specs.Fits.{fits_each};
 ghost use Rattle.schema.specs.Values.{ValueTrees};
-ghost use Rattle.schema.specs.Views.{row_view};
-ghost use Rattle.jsonrows.specs.Reader.{schema_of as fields_of};
-ghost use Rattle.program.specs.Program.{IsRowText, IsRefusedLine, AreRowTexts, HasFirstFault, IsFileOf, HaveFile, AreRefusedTexts, AreRefusedFiles};
-ghost use Rattle.program.specs.inner.Lines.{IsFileOfLines, IsLinesRefusal};
+ghost use Rattle.assemble.specs.Sinks.{Visits, tokens_each};
+ghost use Rattle.footer.specs.Writer.{has_rows, schema_of, options_of};
+ghost use Rattle.jsonrows.specs.Reader.{schema_of as fields_of, IsRowOf};
+ghost use Rattle.program.specs.Program.{IsRefusedLine, AreRowTexts, HasFirstFault, IsFileOf, HaveFile, AreRefusedTexts, AreRefusedFiles};
+ghost use Rattle.program.specs.inner.Lines.{IsFileOfLines, IsLinesRefusal, IsLineRefusal, AreTooMuch, HasLine};
 
 use crate::host::{put_new, text_of, whole_of};
 use crate::progress::Progress;
+use assemble::{Discard, RowSink};
 use bits::{R, Refusal};
 use footer::{FileWriter, WriteOptions};
 use jsonrows::{Reader, schema_from};
-use schema::{Row, Schema};
+use schema::Schema;
 use std::alloc::Global;
 use std::io::Write;
 use std::rt::Files;
@@ -92,14 +93,27 @@ pub fn encode<F: Files, E: Write>(
     put_new(rt, alloc, path, file.as_slice())
 }
 
-/// The row of a line. Refused as `row_from` refuses the line.
-fn read_row(reader: &mut Reader<'_>, line: &str) -> R<Row>
-    ensures stands { IfOk result (λ row. IsRowText (fields_of reader.old) line.now (row_view row)) }
-    ensures fits { IfOk result (λ row. IsTrue (fits_each (fields_of reader.old) (row_view row))) }
+/// Shows a sink the values of the row of a line. Refused as `row_from` refuses the line, and then it is shown nothing.
+fn show_line<K: RowSink>(reader: &mut Reader<'_>, line: &str, sink: &mut K) -> R<()>
+    ensures stands { OnOk result (Visits (K.shows sink.old) (K.shows sink.new) tokens_each (IsRowOf (fields_of reader.old) line.now)) }
     ensures which { RefusedOnly (IsRefusedLine (fields_of reader.old) line.now) result }
     ensures same { fields_of reader.new ≡ fields_of reader.old }
 {
-    reader.read(line)
+    reader.read_to(line, sink)
+}
+
+/// Gives a writer the row of a line. Refused as `row_from` refuses the line, or Limit where the rows that the writer
+/// has are too much for a file.
+fn put_line(reader: &mut Reader<'_>, line: &str, writer: &mut FileWriter<'_>) -> R<()>
+    ensures stands { (rows : List ValueTrees) → has_rows writer.old rows → schema_of writer.old ≡ fields_of reader.old
+        → OnOk result (HasLine (fields_of reader.old) (options_of writer.old) line.now rows writer.new) }
+    ensures which { (rows : List ValueTrees) → has_rows writer.old rows → IfErr result (IsLineRefusal (fields_of reader.old) line.now
+        (AreTooMuch (schema_of writer.old) (options_of writer.old) rows)) }
+    ensures same { fields_of reader.new ≡ fields_of reader.old }
+{
+    writer.begin_row()?;
+    show_line(reader, line, writer)?;
+    writer.end_row()
 }
 
 /// The bytes of a file of the rows of a text, one of each line. Refused as `row_from` refuses the first line that
@@ -121,8 +135,7 @@ fn written<E: Write>(
     let mut reader = Reader::new(alloc, schema)?;
     let mut writer = FileWriter::new(alloc, schema, options)?;
     for line in text.lines() {
-        let row = read_row(&mut reader, line)?;
-        writer.push(row)?;
+        put_line(&mut reader, line, &mut writer)?;
         progress.count_row(err);
     }
     writer.finish()
@@ -135,7 +148,7 @@ fn check_lines(alloc: Global, schema: &Schema, text: &str) -> R<()>
 {
     let mut reader = Reader::new(alloc, schema)?;
     for line in text.lines() {
-        read_row(&mut reader, line)?;
+        show_line(&mut reader, line, &mut Discard)?;
     }
     Ok(())
 }
