@@ -152,10 +152,10 @@ file_of_lines fs o texts writer (Ok file) rows told has schema options means lai
 -- what is refused at the end
 pub stopped_at_end : (fs : Fields) (o : WriteOptions) (texts : List (List ℕ)) (writer : FileWriter) (r : Result (Vec ℕ Global) Refusal) (rows : List ValueTrees) → AreRowTexts fs texts rows → has_rows writer rows
     → schema_of writer ≡ fs → options_of writer ≡ o → RowsFit fs rows
-    → OnFault r ((rows : List ValueTrees) → has_rows writer rows → RowsFit (schema_of writer) rows → ⊥)
+    → OnFault r ((rows : List ValueTrees) → has_rows writer rows → ⊥)
     → (r ≡ Err Limit → (rows : List ValueTrees) → has_rows writer rows → IsTooMuch (schema_of writer) (options_of writer) rows)
     → IfErr r (IsLinesRefusal fs o texts)
 stopped_at_end fs o texts writer (Ok file) rows told has schema options fit only limit = tt
 stopped_at_end fs o texts writer (Err e) rows told has schema options fit only limit =
-    stopped_by_rows fs o texts e rows fit (λ fault fits. only fault rows has (rw (schema) fits))
+    stopped_by_rows fs o texts e rows fit (λ fault fits. only fault rows has)
     (λ is all also. too_much_at_end fs o texts writer rows told has schema options (limit (ap Err is)) all also)

@@ -1,4 +1,4 @@
-use Rattle.std.proofs.Common.{[], ◌∷◌, ◌++◌, ap, subst, ◌∙◌, Err}
+use Rattle.std.proofs.Common.{◌≡◌, true, true≢false, [], ◌∷◌, ◌++◌, ap, sym, subst, ◌∙◌, Err}
 use Rattle.std.specs.Prelude.{IsTrue}
 use Rattle.std.specs.Str.Lines.{lines}
 use Rattle.std.proofs.lemmas.Iterator.Consumers.{YieldsList-at, YieldsList-so_far, YieldsList-turn, YieldsList-end}
@@ -8,6 +8,7 @@ use Rattle.bits.proofs.Passing.{passes}
 use Rattle.schema.specs.Shape.{Fields}
 use Rattle.schema.specs.Fits.{fits_each}
 use Rattle.schema.specs.Views.{row_view}
+use Rattle.footer.specs.Writer.{schema_of}
 use Rattle.program.specs.Program.{IsRefusedLine, IsRowText}
 use Rattle.program.specs.inner.Lines.{IsLinesRefusal}
 use Rattle.program.proofs.Told.{told_one_more, told_all, fit_one_more, refused_first, stopped_by_line, stopped_by_rows, stopped_at_end, too_much_so_far, file_of_lines}
@@ -38,11 +39,13 @@ returns-in_err-push-clause-which g c =
     let o = c.args.options.now in
     let texts = lines c.args.text.now in
     let read = c.loop-line.invariant.read in
+    let row = row_view c.in_ok-row.row in
+    let fits : fits_each (schema_of c.loop-line.writer) row ≡ true = subst (λ (t : Fields). fits_each t row ≡ true) (read.fields ∙ sym read.schema) c.in_ok-row.ensures.fits in
     let all = YieldsList-at c.into_iter-line-iterator.ensures.into_iter_gives (YieldsList-from_lines c.args.text.now c.lines-line-items.ensures.rest) in
     let so_far = YieldsList-so_far all c.loop-line.yielded _ c.loop-line.yielded_by in
     passes (IsLinesRefusal fs o texts) c.from_residual-in_err-push.result c.in_err-push.field-0.0 c.from_residual-in_err-push.ensures.1
     (stopped_by_rows fs o texts c.in_err-push.field-0.0 read.rows read.fit
-    (λ fault fits. c.in_err-push.ensures.only fault read.rows read.has (rw (read.schema) fits))
+    (λ fault none. true≢false (sym fits ∙ c.in_err-push.ensures.only fault read.rows read.has))
     (λ is. too_much_so_far fs o c.loop-line.yielded texts c.loop-line.writer _ so_far read (c.in_err-push.ensures.limit (ap Err is))))
 
 pub loop-line-preserved : goal.loop-line-preserved
