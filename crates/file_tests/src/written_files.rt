@@ -277,9 +277,7 @@ fn rows_that_are_shown_make_the_file_of_all_rows(rt: HostRuntime) -> Result<(), 
 }
 
 #[test]
-fn a_writer_refuses_a_row_that_does_not_fit_when_it_is_given(
-    rt: HostRuntime,
-) -> Result<(), Fail> {
+fn a_writer_refuses_a_row_that_does_not_fit_when_it_is_given(rt: HostRuntime) -> Result<(), Fail> {
     let alloc = rt.alloc();
     let schema = of_x(alloc)?;
     let options = WriteOptions {

@@ -1,6 +1,7 @@
 -- What a writer has as it is shown rows.
 use Rattle.std.proofs.Common.{◌≡◌, ℕ, zero, suc, true, List, [], ◌∷◌, ◌++◌, length, map, refl, ap, sym, subst, ◌∙◌}
-use Rattle.std.specs.Prelude.{pos}
+use Rattle.std.specs.Prelude.{pos, Result, Ok, Err, OnOk, OnErr}
+use Rattle.bits.specs.declared.refusal.Refusal.{Refusal}
 use Rattle.schema.specs.Values.{ValueTrees, integer, group, no_values, value}
 use Rattle.schema.specs.Shape.{Fields}
 use Rattle.schema.specs.Fits.{fits_each}
@@ -60,8 +61,7 @@ shown_more old new t options bytes groups written adds (x ∷ y ∷ []) h = absu
 shown_more old new t options bytes groups written adds (x ∷ y ∷ o ∷ ts) h =
     let so = h.1.1 in
     let after = adds (schema_token (schema_of old) ∷ rows_token so.waiting ∷ ts) (buffer_shown old (rows_said y) ts so) in
-    let schema : schema_of new ≡ schema_of old = sym (one_schema (schema_of old) (schema_of new) after.0) in
-    (
+    let schema : schema_of new ≡ schema_of old = sym (one_schema (schema_of old) (schema_of new) after.0) in (
       h.0 ∙ ap schema_token (sym schema),
       (
         h.1.0 ∙ ap options_token (sym options),
@@ -79,6 +79,12 @@ pub row_begins : (w : FileWriter) (fs : Fields) (o : WriteOptions) (rows : List 
 row_begins w fs o rows schema options room =
     let so : IsShown w rows [] = record { waiting = room.has.waiting; held = room.has.held; given = room.has.given; few = room.few } in
     (ap schema_token (sym schema), (ap options_token (sym options), subst (λ (rs : List ValueTrees). IsShown w rs []) (sym (rows_back rows)) so))
+
+-- where a row may begin, or not, the writer has the rows that it had
+pub kept_anyhow : {X : Type 0} (old new : FileWriter) (r : Result X Refusal) → OnOk r ((rows : List ValueTrees) → has_rows old rows → HasRoom new rows) → OnErr r ((rows : List ValueTrees) → has_rows old rows → has_rows new rows)
+    → (rows : List ValueTrees) → has_rows old rows → has_rows new rows
+kept_anyhow old new (Ok x) stands unchanged rows so = (stands rows so).has
+kept_anyhow old new (Err e) stands unchanged rows so = unchanged rows so
 
 -- a row ends, and the buffer has it
 pub row_ends : (old new : FileWriter) (fs : Fields) (o : WriteOptions) (rows : List ValueTrees) (values : ValueTrees) → schema_of new ≡ schema_of old → options_of new ≡ options_of old

@@ -18,12 +18,12 @@ use crate::footer_record::record_of;
 use crate::footer_writing::ended;
 use crate::limits::MAGIC;
 use crate::options::WriteOptions;
+use assemble::RowSink;
 use bits::{R, Refusal};
 use metadata::{GroupMeta, one_footer};
 use row_group::{
     an_appended_group_has_its_rows, an_appended_group_is_within_limits, write_buffered_group,
 };
-use assemble::RowSink;
 use schema::{Row, Schema, ValueRef, a_list_means_one_schema};
 use shred::RowBuffer;
 use std::alloc::{AllocError, Global};
