@@ -1,9 +1,10 @@
 -- The entries that a data page still has to give.
-use Rattle.std.specs.Prelude.{◌≡◌, ◌==◌, ℕ, Bool, true, false, List, [], ◌∷◌, map, drop, replicate, Option, Some, None, Result, Ok, Err}
+use Rattle.std.specs.Prelude.{◌≡◌, ◌==◌, ℕ, Bool, true, false, List, [], ◌∷◌, map, drop, replicate, Option, Some, None, MatchOption, Result, Ok, Err}
 use Rattle.bits.specs.declared.fault.Fault.{Fault}
 use Rattle.bits.specs.declared.fault.Fault.TheVariants.{Memory}
 use Rattle.schema.specs.Values.{ValueTree, bytes}
 use Rattle.schema.specs.Stripe.{Entry}
+use Rattle.schema.specs.declared.borrowed.ValueRef.{ValueRef}
 use Rattle.schema.specs.Borrowed.{value_ref_view}
 use Rattle.plain.specs.ValuesLeft.{values_left as plain_values_left, last_taken as last_plain_taken}
 use Rattle.delta.specs.ValuesLeft.{values_left as byte_values_left, last_taken}
@@ -34,6 +35,16 @@ abbrev pub value_taken : PageValues → ValueTree
 value_taken (Listed values) = value_ref_view values.taken
 value_taken (Plain values) = last_plain_taken values
 value_taken (Shared values) = bytes (last_taken values)
+
+-- the values are in PLAIN
+abbrev pub AreInPlain : PageValues → Type 0
+AreInPlain (Plain values) = Unit {0}
+AreInPlain _ = ⊥
+
+-- one value in PLAIN is taken, or none of other values and at the end
+abbrev pub TakesPlainValue : PageValues → PageValues → Option ValueRef → Type 0
+TakesPlainValue old new (Some v) = values_left old ≡ value_ref_view v ∷ values_left new
+TakesPlainValue old new None = (values_left new ≡ values_left old) × (AreInPlain old → values_left old ≡ [])
 
 -- one value of a list is taken, or none at the end
 abbrev pub TakesListed : ListedValues → ListedValues → Bool → Type 0
@@ -91,3 +102,13 @@ abbrev pub Advances : DataPage → DataPage → Result Bool Fault → Type 0
 Advances old new (Ok true) = entries_left old ≡ entry_taken new ∷ entries_left new
 Advances old new (Ok false) = (entries_left old ≡ []) × (entries_left new ≡ [])
 Advances old new (Err fault) = (fault ≡ Memory) × (entries_left new ≡ entries_left old)
+
+-- the first of the entries has a value, and both of its levels are 0
+abbrev pub BeginsWithValue : List Entry → Type 0
+BeginsWithValue [] = ⊥
+BeginsWithValue (e ∷ es) = (e.repetition ≡ 0) × (e.definition ≡ 0) × MatchOption e.value ⊥ (λ _. Unit {0})
+
+-- such an entry is taken, where the values are in PLAIN, and no other
+abbrev pub TakesPlain : DataPage → DataPage → Option ValueRef → Type 0
+TakesPlain old new (Some v) = entries_left old ≡ record { repetition = 0; definition = 0; value = Some (value_ref_view v) } ∷ entries_left new
+TakesPlain old new None = (entries_left new ≡ entries_left old) × (AreInPlain old.values → BeginsWithValue (entries_left old) → ⊥)

@@ -1,3 +1,4 @@
 -- Definitions for private functions alone.
 pub mod Reading
+pub mod Ascii
 pub mod Put

@@ -5,7 +5,7 @@ ghost use Rattle.std.specs.Prelude.{◌≡◌, length};
 use crate::level_list::LevelList;
 use crate::page_values::PageValues;
 use bits::Fault;
-use schema::EntryRef;
+use schema::{EntryRef, ValueRef};
 
 /// The entries of a data page that are not taken yet, in their order. All of them were checked when the
 /// page was read: taking one fails only when out of memory.
@@ -25,7 +25,7 @@ pub struct DataPage<'a> {
 
 impl<'a> DataPage<'a> {
     ghost use Rattle.schema.specs.Borrowed.{entry_ref_view};
-    ghost use Rattle.pages.specs.Left.{levels_of, values_left, entries_by, entries_left, entry_taken, Shows, Advances};
+    ghost use Rattle.pages.specs.Left.{levels_of, values_left, entries_by, entries_left, entry_taken, Shows, Advances, TakesPlain};
 
     /// The entries of these levels; those at the greatest definition level have the values, in turn.
     pub(crate) fn of(
@@ -58,6 +58,7 @@ impl<'a> DataPage<'a> {
     }
 
     /// The levels of the next entry, repetition first, or none at the end. No entry is taken.
+    #[inline(always)]
     pub fn peek(&self) -> Option<(u32, u32)>
         ensures { Shows (entries_left self.now) result }
     {
@@ -86,6 +87,33 @@ impl<'a> DataPage<'a> {
         self.definition = definition;
         self.index += 1;
         Ok(true)
+    }
+
+    /// Takes the next entry where it has a value in PLAIN and both of its levels are 0, and returns the
+    /// value, which lies in the bytes of the chunk. Returns none for another entry, and at the end, and then
+    /// takes nothing. [`entry`](DataPage::entry) says nothing of an entry that is taken so.
+    #[inline(always)]
+    pub fn next_plain(&mut self) -> Option<ValueRef<'a>>
+        ensures { TakesPlain self.old self.new result }
+    {
+        if self.greatest != 0 {
+            return None;
+        }
+        let first = self.repetitions.is_zero(self.index);
+        let second = self.definitions.is_zero(self.index);
+        if !first {
+            return None;
+        }
+        if !second {
+            return None;
+        }
+        match self.values.next_plain() {
+            None => None,
+            Some(value) => {
+                self.index += 1;
+                Some(value)
+            }
+        }
     }
 
     /// The entry that was taken last. Its value lies in the bytes of the chunk, in those of its

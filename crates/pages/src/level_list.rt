@@ -1,6 +1,6 @@
 //! The levels of the entries of a page.
 
-ghost use Rattle.std.specs.Prelude.{◌≡◌, ℕ, ◌<◌, length, filter, ◌==◌, slice_get, IfSome};
+ghost use Rattle.std.specs.Prelude.{◌≡◌, ℕ, ◌<◌, length, filter, ◌==◌, ◌↔◌, slice_get, Some, IfSome, IsTrue};
 
 /// One level for each entry of a page. Where all are 0, only their count is held.
 #[derive(Debug, Drop)]
@@ -21,6 +21,18 @@ impl LevelList {
         match self {
             LevelList::Zeros(count) => { if index < *count { Some(0) } else { None } }
             LevelList::Listed(levels) => levels.as_slice().get(index).copied(),
+        }
+    }
+
+    /// Whether there is a level at an index, and it is 0.
+    #[inline(always)]
+    pub fn is_zero(&self, index: usize) -> bool
+        ensures level { IsTrue result ↔ (slice_get (levels_of self.now) index ≡ Some 0) }
+        ensures within { IsTrue result → index < usize.MAX }
+    {
+        match self.get(index) {
+            Some(level) => level == 0,
+            None => false,
         }
     }
 

@@ -52,8 +52,8 @@ fn check_left(leaf_type: &LeafType, mut values: Values<'_>) -> R<()>
     ensures which { RefusedOnly (λ e. (e ≡ Refusal.Value) ⊎ (e ≡ Refusal.Utf8)) result }
 {
     for _i in 0..values.len() {
-        if values.advance() {
-            check_value(leaf_type, values.value())?;
+        if let Some(value) = values.next() {
+            check_value(leaf_type, value)?;
         }
     }
     Ok(())

@@ -9,6 +9,7 @@ ghost use Rattle.schema.specs.Fits.{fits_kind, fits_leaf, is_valid_text, are_byt
 ghost use Rattle.schema.specs.Views.{leaf_type_view};
 ghost use Rattle.pages.specs.inner.Reading.{AllFit};
 
+use crate::ascii_text::is_short_ascii;
 use bits::{R, Refusal};
 use schema::{Kind, LeafType, ValueRef};
 use simdutf8::basic::from_utf8;
@@ -27,6 +28,8 @@ pub fn check_values(leaf_type: &LeafType, values: &[ValueRef<'_>]) -> R<()>
 
 /// Refused Value where the value is not of the leaf's physical type, and Utf8 where it should be text
 /// and is not.
+// Each value of a page comes through here, and a refusal takes memory: the call is to leave no trace.
+#[inline(always)]
 pub fn check_value(leaf_type: &LeafType, value: ValueRef<'_>) -> R<()>
     ensures fit { OnOk result (IsTrue (fits_leaf (leaf_type_view leaf_type.now) (value_ref_view value.entry))) }
     ensures only { OnFault result (IsTrue (fits_leaf (leaf_type_view leaf_type.now) (value_ref_view value.entry)) → ⊥) }
@@ -42,6 +45,7 @@ pub fn check_value(leaf_type: &LeafType, value: ValueRef<'_>) -> R<()>
 }
 
 /// Whether a value is of a physical type: numbers within its bits, bytes of its length.
+#[inline(always)]
 pub fn is_of_kind(kind: Kind, value: ValueRef<'_>) -> bool
     ensures { result ≡ fits_kind kind (value_ref_view value.entry) }
 {
@@ -56,6 +60,7 @@ pub fn is_of_kind(kind: Kind, value: ValueRef<'_>) -> bool
 }
 
 /// Whether bytes are of the wanted length, where one is.
+#[inline(always)]
 fn has_length(bytes: &[u8], wanted: Option<u32>) -> bool
     ensures { result ≡ (option_map_or (λ n. length bytes.now == n) wanted true && are_bytes bytes.now) }
 {
@@ -66,6 +71,7 @@ fn has_length(bytes: &[u8], wanted: Option<u32>) -> bool
 }
 
 /// Whether a value is text.
+#[inline(always)]
 pub fn is_text(value: ValueRef<'_>) -> bool
     ensures { result ≡ is_valid_text (value_ref_view value.entry) }
 {
@@ -75,9 +81,10 @@ pub fn is_text(value: ValueRef<'_>) -> bool
     }
 }
 
-/// Whether bytes are UTF-8.
+/// Whether bytes are UTF-8. Short ASCII is found at once.
+#[inline(always)]
 fn is_utf8(bytes: &[u8]) -> bool
     ensures { result ≡ is_utf8 bytes.now }
 {
-    from_utf8(bytes).is_ok()
+    is_short_ascii(bytes) || from_utf8(bytes).is_ok()
 }
