@@ -23,6 +23,7 @@ pub mod FilterFaults
 pub mod Escapes
 pub mod SameNumbers
 pub mod Digits
+pub mod Counts
 pub mod Conversion
 pub mod Filling
 pub mod Turns

@@ -1,8 +1,8 @@
 -- What is held after the values of a row that fits.
-use Rattle.std.proofs.Common.{◌≡◌, ℕ, ◌+◌, Bool, true, false, true≢false, ◌&&◌, List, [], ◌∷◌, ◌++◌, length, Option, Some, refl, ap, ap₂, sym, ◌∙◌, append_assoc, append-nil}
+use Rattle.std.proofs.Common.{◌≡◌, ℕ, ◌+◌, Bool, true, false, true≢false, ◌&&◌, List, [], ◌∷◌, ◌++◌, length, take, drop, Option, Some, None, refl, ap, ap₂, sym, ◌∙◌, append_assoc, append-nil}
 use Rattle.std.specs.Prelude.{IsTrue, if◌then◌else◌}
 use Rattle.std.specs.Str.{is_utf8}
-use Rattle.std.proofs.Math.Seq.{take-append_seam, drop-append_seam}
+use Rattle.std.proofs.Math.Seq.{take-length, take-append_seam, drop-append_seam}
 use Rattle.std.proofs.lemmas.List.{length-append}
 use Rattle.json.specs.Print.{quoted}
 use Rattle.serde_json.specs.Data.{Data, Items, no_items, item, Members}
@@ -21,7 +21,7 @@ use Rattle.assemble.specs.Sinks.{single, group_ends, list_ends, tokens, tokens_e
 use Rattle.jsonrows.specs.Json.{leaf_json, items_json, json_as, object_json, field_json, members_json, row_text}
 use Rattle.jsonrows.specs.inner.Scalars.{numbers_of}
 use Rattle.jsonrows.specs.inner.Slots.{Slot, leaf_slot, group_slot, no_slots, slot_of, slots_made, key_of, key_in, order_of}
-use Rattle.jsonrows.specs.inner.Levels.{State, Level, object, items, held, next_slot, begun, more, entered, left, inside, sorted, braced_at, closed, run, root, text_at}
+use Rattle.jsonrows.specs.inner.Levels.{State, Level, object, items, held, next_slot, begun, more, entered, left, inside, with_starts, sorted, braced_at, closed, run, root, text_at}
 use Rattle.jsonrows.proofs.SameNumbers.{same_number}
 use Rattle.jsonrows.proofs.RowSteps.{run_append}
 use Rattle.jsonrows.proofs.RowOrder.{and_true, joined, starts_of, pieces, object_text}
@@ -109,16 +109,35 @@ module _ (slot : Slot) (p : ValueTree → Bool) (shown : ValueTree → Data) (on
 abbrev ArePrinted : Fields → Type 0
 ArePrinted fs =
     (vs : ValueTrees) → fits_each fs vs ≡ true → (text starts : List ℕ) (o : Option (List ℕ)) (f n : ℕ) (outer : List Level)
-    → run (held text starts (object (slots_made fs) o f n) outer) (tokens_each vs) ≡ held (text ++ joined (pieces fs vs)) (starts ++ starts_of (length text) (pieces fs vs)) (object no_slots o f n) outer
+    → run (held text starts (object (slots_made fs) o f n) outer) (tokens_each vs)
+    ≡ held (text ++ joined (pieces fs vs)) (with_starts o starts (starts_of (length text) (pieces fs vs))) (object no_slots o f n) outer
+
+-- where the order stays, starts are not needed
+started_none : (o : Option (List ℕ)) (starts : List ℕ) → starts ≡ with_starts o starts []
+started_none None starts = refl
+started_none (Some order) starts = sym (append-nil starts)
+
+started_more : (o : Option (List ℕ)) (starts : List ℕ) (at : ℕ) (later : List ℕ) → with_starts o (with_starts o starts (at ∷ [])) later ≡ with_starts o starts (at ∷ later)
+started_more None starts at later = refl
+started_more (Some order) starts at later = append_assoc starts (at ∷ []) later
+
+sorted_started : (o : Option (List ℕ)) (text starts added : List ℕ) (f : ℕ) → sorted text (drop (length starts) (with_starts o starts added)) f o ≡ sorted text added f o
+sorted_started None text starts added f = refl
+sorted_started (Some order) text starts added f = ap (λ (a : List ℕ). sorted text a f (Some order)) (drop-append_seam starts added)
+
+started_before : (o : Option (List ℕ)) (starts added : List ℕ) → take (length starts) (with_starts o starts added) ≡ starts
+started_before None starts added = take-length starts
+started_before (Some order) starts added = take-append_seam starts added
 
 -- an object that is closed
 object_closed : (fs : Fields) (vs : ValueTrees) → fits_each fs vs ≡ true → (text starts : List ℕ) (outer : List Level)
-    → closed (held (text ++ joined (pieces fs vs)) (starts ++ starts_of (length text) (pieces fs vs)) (object no_slots (order_of fs) (length text) (length starts)) outer)
+    → closed (held (text ++ joined (pieces fs vs)) (with_starts (order_of fs) starts (starts_of (length text) (pieces fs vs))) (object no_slots (order_of fs) (length text) (length starts)) outer)
     ≡ held (text ++ compact_text (json.object (members_json fs vs))) starts (object no_slots (order_of fs) (length text) (length starts)) outer
 object_closed fs vs h text starts outer =
     let ps = pieces fs vs in
     let l = object no_slots (order_of fs) (length text) (length starts) in
-    ap₂ (λ (a b : List ℕ). held (braced_at (length text) (sorted (text ++ joined ps) a (length text) (order_of fs)) ++ 125 ∷ []) b l outer) (drop-append_seam starts (starts_of (length text) ps)) (take-append_seam starts (starts_of (length text) ps))
+    ap₂ (λ (a b : List ℕ). held (braced_at (length text) a ++ 125 ∷ []) b l outer)
+    (sorted_started (order_of fs) (text ++ joined ps) starts (starts_of (length text) ps) (length text)) (started_before (order_of fs) starts (starts_of (length text) ps))
     ∙ ap (λ (a : List ℕ). held a starts l outer) (object_text fs vs text h)
 
 abbrev group_of : Fields → List ℕ → Slot
@@ -148,7 +167,7 @@ mutual
       as_printed (group_of fs (key_of n)) (is_group (fits_each fs)) (object_json (members_json fs)) (group_printed fs (key_of n) (fields_printed fs)) (null_in (group_of fs (key_of n)) refl) r v h s next
 
   fields_printed : (fs : Fields) → ArePrinted fs
-  fields_printed no_fields no_values h text starts o f n outer = ap₂ (λ (a b : List ℕ). held a b (object no_slots o f n) outer) (sym (append-nil text)) (sym (append-nil starts))
+  fields_printed no_fields no_values h text starts o f n outer = ap₂ (λ (a b : List ℕ). held a b (object no_slots o f n) outer) (sym (append-nil text)) (started_none o starts)
   fields_printed no_fields (value v vs) h text starts o f n outer = absurd (true≢false (sym h))
   fields_printed (field d fs) no_values h text starts o f n outer = absurd (true≢false (sym h))
   fields_printed (field d fs) (value v vs) h text starts o f n outer =
@@ -159,9 +178,9 @@ mutual
       let ps = pieces fs vs in
       let at : length ((text ++ key) ++ c) ≡ length text + length (key ++ c) = ap length (append_assoc text key c) ∙ length-append text (key ++ c) in
       run_append s (tokens v) (tokens_each vs) ∙ ap (λ x. run x (tokens_each vs)) (field_printed d v q.0 s refl)
-      ∙ fields_printed fs vs q.1 ((text ++ key) ++ c) (starts ++ length text ∷ []) o f n outer
+      ∙ fields_printed fs vs q.1 ((text ++ key) ++ c) (with_starts o starts (length text ∷ [])) o f n outer
       ∙ ap₂ (λ (a b : List ℕ). held a b (object no_slots o f n) outer) (ap (λ (x : List ℕ). x ++ joined ps) (append_assoc text key c) ∙ append_assoc text (key ++ c) (joined ps))
-      (append_assoc starts (length text ∷ []) _ ∙ ap (λ m. starts ++ length text ∷ starts_of m ps) at)
+      (started_more o starts (length text) _ ∙ ap (λ m. with_starts o starts (length text ∷ starts_of m ps)) at)
 
 -- after the values of a row that fits, its object is closed to the row's text
 pub row_printed : (fs : Fields) (vs : ValueTrees) → IsTrue (fits_each fs vs) → (s : State) → s ≡ run (root fs) (tokens_each vs) → (closed s).text ≡ row_text fs vs

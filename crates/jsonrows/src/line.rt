@@ -1,9 +1,9 @@
 //! A text in a buffer that is kept: room for a value is made once, and its bytes are then stored with no further test.
 
-ghost use Rattle.std.specs.Prelude.{◌≡◌, ◌+◌, ◌*◌, ◌<◌, ◌≤◌, [], ◌∷◌, ◌++◌, length, take, OnOk, slice_set};
+ghost use Rattle.std.specs.Prelude.{◌≡◌, ◌+◌, ◌*◌, ◌<◌, ◌≤◌, [], ◌∷◌, ◌++◌, length, take, OnOk, slice_set, decimal};
 ghost use Rattle.hex.specs.Hex.{encode_lower};
 
-use crate::place::{place_byte, place_digits, place_text};
+use crate::place::{place_byte, place_digits, place_natural, place_text};
 use std::alloc::{AllocError, Global};
 use std::marker::Model;
 
@@ -111,6 +111,16 @@ impl Line {
         ensures ready { self.old.ready ≡ self.new.ready + 2 * length bytes.now }
     {
         self.len = place_digits(self.bytes.as_mut_slice(), self.len, bytes);
+    }
+
+    /// Appends the digits of a number, which has this many and which there is room for.
+    #[inline(always)]
+    pub fn place_natural(&mut self, number: u64, count: usize)
+        requires { (count ≤ self.old.ready) × (count ≡ length (decimal number)) }
+        ensures items { self.new.items ≡ self.old.items ++ decimal number }
+        ensures ready { self.old.ready ≡ self.new.ready + count }
+    {
+        self.len = place_natural(self.bytes.as_mut_slice(), self.len, number, count);
     }
 
     /// Appends bytes.

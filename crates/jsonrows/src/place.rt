@@ -1,6 +1,6 @@
 //! Bytes written at a place of a buffer that has room. A short text is two copies of a fixed size that overlap.
 
-ghost use Rattle.std.specs.Prelude.{◌≡◌, ◌+◌, ◌*◌, ◌<◌, ◌≤◌, [], ◌∷◌, length, take};
+ghost use Rattle.std.specs.Prelude.{◌≡◌, ◌+◌, ◌*◌, ◌<◌, ◌≤◌, [], ◌∷◌, length, take, decimal};
 ghost use Rattle.hex.specs.Hex.{encode_lower};
 ghost use Rattle.json.specs.Filled.{Placed};
 
@@ -39,6 +39,7 @@ fn place_ends<const N: usize>(buffer: &mut [u8], at: usize, text: &[u8]) -> usiz
 }
 
 /// Writes a text of more than 32 bytes.
+#[inline(never)]
 fn place_long(buffer: &mut [u8], at: usize, text: &[u8]) -> usize
     requires { at + length text.now ≤ length buffer.old }
     ensures { Placed buffer.old buffer.new at text.now result }
@@ -81,5 +82,17 @@ pub fn place_digits(buffer: &mut [u8], at: usize, bytes: &[u8]) -> usize
 {
     let end = at + bytes.len() * 2;
     let _ = hex::encode_to_slice(bytes, &mut buffer[at..end]);
+    end
+}
+
+/// Writes the decimal digits of a number, which has this many, and returns where they end.
+#[inline(always)]
+pub fn place_natural(buffer: &mut [u8], at: usize, number: u64, count: usize) -> usize
+    requires count { count ≡ length (decimal number) }
+    requires fits { at + count ≤ length buffer.old }
+    ensures { Placed buffer.old buffer.new at (decimal number) result }
+{
+    let end = at + count;
+    itoa::write_digits(number, buffer, end);
     end
 }

@@ -73,6 +73,7 @@ fn plain_few(text: &[u8]) -> bool
 }
 
 /// Whether a text of 32 bytes or more needs no escape.
+#[inline(never)]
 fn plain_long(text: &[u8]) -> bool
     requires { 32 ≤ length text.now }
     ensures { OnTrue result (PlainBetween text.now 0 (length text.now)) }

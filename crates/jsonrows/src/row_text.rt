@@ -1,6 +1,6 @@
 //! The text of rows, made of what a sink is shown.
 
-ghost use Rattle.std.specs.Prelude.{◌≡◌, ◌++◌, ◌∷◌, [], List, drop, IfOk, OnOk, OnErr, IsTrue, option_map, flat_map, take, ◌-◌};
+ghost use Rattle.std.specs.Prelude.{◌≡◌, ◌+◌, ◌++◌, ◌∷◌, [], List, drop, IfSome, IfNone, IfOk, OnOk, OnErr, IsTrue, option_map, flat_map, take, ◌-◌};
 ghost use Rattle.schema.specs.Borrowed.{value_ref_view};
 ghost use Rattle.schema.specs.Fits.{fits_each};
 ghost use Rattle.schema.specs.Shape.{Fields};
@@ -8,7 +8,7 @@ ghost use Rattle.schema.specs.Values.{ValueTrees};
 ghost use Rattle.jsonrows.specs.Json.{row_text};
 ghost use Rattle.jsonrows.specs.Rows.{plan_schema, IsReady, text_shows, BeginsRow, ShowsRow};
 ghost use Rattle.jsonrows.specs.inner.Slots.{slot_view, slots_view};
-ghost use Rattle.jsonrows.specs.inner.Levels.{top_of, state_of, begun, next_slot, left, closed, level_view, inside, between, piece, braced_at, bytes_text, value_text, text_at, seen};
+ghost use Rattle.jsonrows.specs.inner.Levels.{top_of, state_of, begun, next_slot, left, closed, level_at, entered, inside, between, piece, braced_at, bytes_text, value_text, text_at, seen};
 
 use crate::line::Line;
 use crate::row_plan::{RowPlan, Slot};
@@ -21,19 +21,25 @@ use std::alloc::{AllocError, Global};
 /// Where the values stand that are shown.
 #[derive(Clone, Copy)]
 pub enum Level<'a> {
-    /// In an object: the fields whose values are still to come, the order of all of them, where the text of
-    /// the object begins, and how many pieces begin before it.
+    /// In an object: its fields, their order, where the text of the object begins, and how many pieces begin
+    /// before it.
     Object {
         slots: &'a [Slot],
         order: Option<&'a [usize]>,
         from: usize,
         first: usize,
     },
-    /// In a list: what its items are, and whether there was one.
+    /// In a list: what its items are.
     List {
         slot: Option<&'a Slot>,
-        later: bool,
     },
+}
+
+/// A level around another, and how many of its values were shown.
+#[derive(Clone, Copy)]
+pub struct Outer<'a> {
+    level: Level<'a>,
+    shown: usize,
 }
 
 /// Prints the rows that it is shown. The bytes of each value are copied into one buffer, which is kept from row
@@ -44,16 +50,20 @@ pub struct RowText<'a> {
     plan: &'a RowPlan<'a>,
     /// The text so far.
     text: Line,
-    /// Where each member of the objects that have begun begins, before its comma.
+    /// Where each member begins, before its comma, of the objects that have begun and whose fields do not stand
+    /// in the order of their names.
     starts: Vec<usize>,
     here: Level<'a>,
+    /// How many values of this level were shown; of a list, whether there was one.
+    shown: usize,
     /// The levels around it, the outermost first.
-    outer: Vec<Level<'a>>,
+    outer: Vec<Outer<'a>>,
     /// Room for the members of an object in another order.
     spare: Line,
 }
 
 /// Bytes from one index of a text up to another.
+#[inline(always)]
 fn between(text: &[u8], from: usize, to: usize) -> &[u8]
     ensures { result.now ≡ between text.now from to }
 {
@@ -62,6 +72,7 @@ fn between(text: &[u8], from: usize, to: usize) -> &[u8]
 }
 
 /// The member of an object at an index, by where its members begin.
+#[inline(always)]
 fn piece<'t>(text: &'t [u8], starts: &[usize], index: usize) -> &'t [u8]
     ensures { result.now ≡ piece text.now starts.now index }
 {
@@ -76,6 +87,7 @@ fn piece<'t>(text: &'t [u8], starts: &[usize], index: usize) -> &'t [u8]
 }
 
 /// Appends the members of an object in this order.
+#[inline(always)]
 fn put_pieces(
     text: &[u8],
     starts: &[usize],
@@ -92,6 +104,7 @@ fn put_pieces(
 
 /// Puts the members of an object in this order. Its text begins at `from`, the first of `starts` is that of its
 /// first member, and `spare` is room.
+#[inline(never)]
 fn sort(
     order: &[usize],
     from: usize,
@@ -110,6 +123,7 @@ fn sort(
 }
 
 /// Puts a brace where a text begins, in place of the comma before its first member.
+#[inline(always)]
 fn put_brace(from: usize, text: &mut Line) -> Result<(), AllocError>
     ensures { OnOk result (text.new.items ≡ braced_at from text.old.items) }
 {
@@ -122,6 +136,7 @@ fn put_brace(from: usize, text: &mut Line) -> Result<(), AllocError>
 }
 
 /// Appends bytes of a leaf: text as a string, and all else by its digits.
+#[inline(always)]
 fn put_bytes(is_text: bool, bytes: &[u8], out: &mut Line) -> Result<(), AllocError>
     ensures { OnOk result (out.new.items ≡ out.old.items ++ bytes_text is_text bytes.now) }
 {
@@ -133,6 +148,7 @@ fn put_bytes(is_text: bool, bytes: &[u8], out: &mut Line) -> Result<(), AllocErr
 }
 
 /// Appends a value of a leaf, its repetition aside.
+#[inline(always)]
 fn put_value(
     numbers: Numbers,
     is_text: bool,
@@ -150,6 +166,7 @@ fn put_value(
 }
 
 /// Appends a value that is no group and no list: null where it is not of a leaf.
+#[inline(always)]
 fn put_single(slot: Option<&Slot>, value: ValueRef<'_>, out: &mut Line) -> Result<(), AllocError>
     ensures { OnOk result (out.new.items ≡ out.old.items ++ text_at (option_map seen slot.entry) (value_ref_view value.entry)) }
 {
@@ -166,8 +183,9 @@ fn put_single(slot: Option<&Slot>, value: ValueRef<'_>, out: &mut Line) -> Resul
 }
 
 /// The level inside a group, whose text begins here.
+#[inline(always)]
 fn inside(slot: Option<&Slot>, from: usize, first: usize) -> Level<'_>
-    ensures { level_view result ≡ inside (option_map seen slot.entry) from first }
+    ensures { level_at result 0 ≡ inside (option_map seen slot.entry) from first }
 {
     match slot {
         Some(Slot::Group { slots, order, .. }) => Level::Object {
@@ -188,6 +206,19 @@ fn inside(slot: Option<&Slot>, from: usize, first: usize) -> Level<'_>
     }
 }
 
+/// The slot at an index, and the index after it.
+#[inline(always)]
+fn slot_at(slots: &[Slot], index: usize) -> Option<(&Slot, usize)>
+    ensures some { IfSome result (λ r. drop index slots.now ≡ r.0.now ∷ drop (index + 1) slots.now) }
+    ensures next { IfSome result (λ r. r.1 ≡ index + 1) }
+    ensures none { IfNone result (drop index slots.now ≡ []) }
+{
+    match slots.get(index) {
+        None => None,
+        Some(slot) => Some((slot, index + 1)),
+    }
+}
+
 impl<'a> RowText<'a> {
     /// Nothing is shown yet.
     pub fn new(alloc: Global, plan: &'a RowPlan<'a>) -> RowText<'a>
@@ -198,6 +229,7 @@ impl<'a> RowText<'a> {
             text: Line::new(alloc),
             starts: Vec::new(alloc),
             here: RowText::top(plan),
+            shown: 0,
             outer: Vec::new(alloc),
             spare: Line::new(alloc),
         }
@@ -205,7 +237,7 @@ impl<'a> RowText<'a> {
 
     /// The level of a row.
     fn top(plan: &'a RowPlan<'a>) -> Level<'a>
-        ensures { level_view result ≡ top_of plan.now }
+        ensures { level_at result 0 ≡ top_of plan.now }
     {
         Level::Object {
             slots: plan.slots(),
@@ -223,46 +255,56 @@ impl<'a> RowText<'a> {
         ensures same { self.new.plan.now ≡ self.old.plan.now }
     {
         match self.here {
-            Level::Object {
-                slots,
-                order,
-                from,
-                first,
-            } => {
-                let Some((slot, rest)) = slots.split_first() else {
+            Level::Object { slots, order, .. } => {
+                let Some((slot, shown)) = slot_at(slots, self.shown) else {
                     return Ok(None);
                 };
-                self.starts.push(self.text.len())?;
+                self.shown = shown;
+                if order.is_some() {
+                    self.starts.push(self.text.len())?;
+                }
                 self.text.extend_from_slice(slot.key())?;
-                self.here = Level::Object {
-                    slots: rest,
-                    order,
-                    from,
-                    first,
-                };
                 Ok(Some(slot))
             }
-            Level::List { slot, later } => {
-                if later {
+            Level::List { slot } => {
+                if self.shown > 0 {
                     self.text.push(b',')?;
                 }
-                self.here = Level::List { slot, later: true };
+                self.shown = 1;
                 Ok(slot)
             }
         }
     }
 
+    /// Goes into a level of which no value was shown yet.
+    #[inline(always)]
+    fn enter(&mut self, level: Level<'a>) -> Result<(), AllocError>
+        ensures entered { OnOk result (state_of self.new ≡ entered (state_of self.old) (level_at level.entry 0)) }
+        ensures same { self.new.plan.now ≡ self.old.plan.now }
+    {
+        self.outer.push(Outer {
+            level: self.here,
+            shown: self.shown,
+        })?;
+        self.here = level;
+        self.shown = 0;
+        Ok(())
+    }
+
     /// Goes back to the level around this one.
+    #[inline(always)]
     fn leave(&mut self)
         ensures left { state_of self.new ≡ left (state_of self.old) }
         ensures same { self.new.plan.now ≡ self.old.plan.now }
     {
         if let Some(outer) = self.outer.pop() {
-            self.here = outer;
+            self.here = outer.level;
+            self.shown = outer.shown;
         }
     }
 
     /// Ends the text of the object that began last.
+    #[inline(always)]
     fn close(&mut self) -> Result<(), AllocError>
         ensures closed { OnOk result (state_of self.new ≡ closed (state_of self.old)) }
         ensures same { self.new.plan.now ≡ self.old.plan.now }
@@ -305,6 +347,7 @@ impl<'a> RowText<'a> {
         self.starts.clear();
         self.outer.clear();
         self.here = RowText::top(self.plan);
+        self.shown = 0;
         Ok(())
     }
 }
@@ -318,27 +361,29 @@ impl<'a> RowSink for RowText<'a> {
         put_single(slot, value, &mut self.text)
     }
 
+    #[inline(always)]
     fn begin_group(&mut self) -> Result<(), AllocError> {
         let slot = self.begin_value()?;
-        self.outer.push(self.here)?;
-        self.here = inside(slot, self.text.len(), self.starts.len());
-        Ok(())
+        let level = inside(slot, self.text.len(), self.starts.len());
+        self.enter(level)
     }
 
+    #[inline(always)]
     fn end_group(&mut self) -> Result<(), AllocError> {
         self.close()?;
         self.leave();
         Ok(())
     }
 
+    #[inline(always)]
     fn begin_list(&mut self) -> Result<(), AllocError> {
         let slot = self.begin_value()?;
-        self.outer.push(self.here)?;
-        self.here = Level::List { slot, later: false };
+        self.enter(Level::List { slot })?;
         self.text.push(b'[')?;
         Ok(())
     }
 
+    #[inline(always)]
     fn end_list(&mut self) -> Result<(), AllocError> {
         self.text.push(b']')?;
         self.leave();

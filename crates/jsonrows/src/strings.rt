@@ -78,6 +78,7 @@ fn put_slowly(bytes: &[u8], out: &mut Line) -> Result<(), AllocError>
 }
 
 /// Appends a string in quotes, at once where nothing has to be escaped.
+#[inline(always)]
 pub fn put_string(bytes: &[u8], out: &mut Line) -> Result<(), AllocError>
     ensures { OnOk result (out.new.items ≡ out.old.items ++ quoted bytes.now) }
 {
@@ -92,6 +93,7 @@ pub fn put_string(bytes: &[u8], out: &mut Line) -> Result<(), AllocError>
 }
 
 /// Appends the hexadecimal digits of bytes, in quotes.
+#[inline(never)]
 pub fn put_digits(bytes: &[u8], out: &mut Line) -> Result<(), AllocError>
     ensures { OnOk result (out.new.items ≡ out.old.items ++ quoted (encode_lower bytes.now)) }
 {

@@ -1,5 +1,5 @@
 -- What a sink holds of the values that it was shown, as text.
-use Rattle.std.specs.Prelude.{ℕ, ◌-◌, Bool, true, false, List, [], ◌∷◌, ◌++◌, map, reverse, length, take, drop, flat_map, Option, Some, None, option_map, if◌then◌else◌}
+use Rattle.std.specs.Prelude.{ℕ, ◌-◌, Bool, true, false, List, [], ◌∷◌, ◌++◌, map, reverse, length, take, drop, flat_map, Option, Some, None, option_map, nat_lt, if◌then◌else◌}
 use Rattle.std.specs.Borrow.{Bor}
 use Rattle.json.specs.Print.{quoted}
 use Rattle.serde_json.specs.Data as json
@@ -13,6 +13,7 @@ use Rattle.jsonrows.specs.declared.row_plan.Slot.{Slot as CodeSlot}
 use Rattle.jsonrows.specs.declared.row_plan.RowPlan.{RowPlan}
 use Rattle.jsonrows.specs.declared.row_text.Level.{Level as CodeLevel}
 use Rattle.jsonrows.specs.declared.row_text.Level.TheVariants.{Object, List as ListOf}
+use Rattle.jsonrows.specs.declared.row_text.Outer.{Outer as CodeOuter}
 use Rattle.jsonrows.specs.declared.row_text.RowText.{RowText}
 use Rattle.jsonrows.specs.inner.Scalars.{number_shown}
 use Rattle.jsonrows.specs.inner.Slots.{Slot, leaf_slot, group_slot, Slots, no_slots, slot, slot_view, slots_view, key_in, slots_made, order_of, vec_items, order_view}
@@ -63,10 +64,15 @@ before (object no_slots o f n) = []
 before (object (slot s ss) o f n) = key_in s
 before (items o later) = comma_if later
 
+-- where pieces begin, and then these, which are needed only where their order may change
+abbrev pub with_starts : Option (List ℕ) → List ℕ → List ℕ → List ℕ
+with_starts None starts added = starts
+with_starts (Some order) starts added = starts ++ added
+
 -- where pieces begin, and then that of the next value
 abbrev pub started : Level → List ℕ → ℕ → List ℕ
 started (object no_slots o f n) starts at = starts
-started (object (slot s ss) o f n) starts at = starts ++ at ∷ []
+started (object (slot s ss) o f n) starts at = with_starts o starts (at ∷ [])
 started (items o later) starts at = starts
 
 -- the level after its next value
@@ -157,13 +163,17 @@ root fs = held [] [] (object (slots_made fs) (order_of fs) 0 0) []
 abbrev pub seen : Bor CodeSlot → Slot
 seen s = slot_view s.now
 
-abbrev pub level_view : CodeLevel → Level
-level_view (Object ss o f n) = object (slots_view ss.now) (order_view o) f n
-level_view (ListOf s later) = items (option_map seen s) later
+-- a level of which so many values were shown
+abbrev pub level_at : CodeLevel → ℕ → Level
+level_at (Object ss o f n) shown = object (slots_view (drop shown ss.now)) (order_view o) f n
+level_at (ListOf s) shown = items (option_map seen s) (nat_lt 0 shown)
+
+abbrev pub outer_view : CodeOuter → Level
+outer_view o = level_at o.level o.shown
 
 -- the level of a row
 abbrev pub top_of : RowPlan → Level
 top_of p = object (slots_view p.slots.items) (option_map vec_items p.order) 0 0
 
 abbrev pub state_of : RowText → State
-state_of r = held r.text.items r.starts.items (level_view r.here) (reverse (map level_view r.outer.items))
+state_of r = held r.text.items r.starts.items (level_at r.here r.shown) (reverse (map outer_view r.outer.items))

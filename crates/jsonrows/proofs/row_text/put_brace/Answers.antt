@@ -1,4 +1,4 @@
-use Rattle.std.proofs.Common.{◌≡◌, ◌<◌, length, subst, ◌∙◌}
+use Rattle.std.proofs.Common.{◌<◌, subst, ◌∙◌}
 use Rattle.jsonrows.proofs.RowSteps.{brace_put}
 use Rattle.jsonrows.proofs.row_text.put_brace.Goals as goal
 

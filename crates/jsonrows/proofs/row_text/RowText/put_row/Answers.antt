@@ -1,11 +1,11 @@
 use Rattle.std.proofs.Common.{◌≡◌, ◌++◌, List, ℕ, [], map, reverse, sym, ap, ap₂, subst, ◌∙◌}
 use Rattle.schema.specs.Fits.{fits_each}
 use Rattle.std.specs.Prelude.{IsTrue}
-use Rattle.jsonrows.specs.declared.row_text.Level.{Level as CodeLevel}
+use Rattle.jsonrows.specs.declared.row_text.Outer.{Outer}
 use Rattle.jsonrows.specs.Json.{row_text}
 use Rattle.jsonrows.specs.Rows.{plan_schema, IsReady}
 use Rattle.jsonrows.specs.inner.Opening.{opening}
-use Rattle.jsonrows.specs.inner.Levels.{Level, held, object, level_view, state_of}
+use Rattle.jsonrows.specs.inner.Levels.{Level, held, object, level_at, outer_view, state_of}
 use Rattle.jsonrows.proofs.RowRuns.{row_printed}
 use Rattle.jsonrows.proofs.Openings.{one_schema}
 use Rattle.jsonrows.proofs.row_text.RowText.put_row.Goals as goal
@@ -25,7 +25,7 @@ returns-clause-again c = λ fs values shown.
       shown.0 ∙ same,
       (
         ready,
-        ap₂ (λ (a b : List ℕ). held a b (level_view c.top-self.result) (reverse (map level_view c.clear-3.new.self.items))) c.clear.ensures.items c.clear-2.ensures.items
-            ∙ ap₂ (λ (l : Level) (ls : List CodeLevel). held [] [] l (reverse (map level_view ls))) top c.clear-3.ensures.items,
+        ap₂ (λ (a b : List ℕ). held a b (level_at c.top-self.result 0) (reverse (map outer_view c.clear-3.new.self.items))) c.clear.ensures.items c.clear-2.ensures.items
+            ∙ ap₂ (λ (l : Level) (ls : List Outer). held [] [] l (reverse (map outer_view ls))) top c.clear-3.ensures.items,
       ),
     )
