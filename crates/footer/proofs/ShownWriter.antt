@@ -17,11 +17,11 @@ use Rattle.footer.specs.declared.options.WriteOptions.{WriteOptions}
 use Rattle.footer.specs.declared.file_writer.FileWriter.{FileWriter}
 use Rattle.footer.specs.Writer.{schema_of, options_of, has_rows, AreGiven, style_number, options_token, IsShown, writer_shows, BeginsRow, ShowsRow}
 use Rattle.footer.specs.inner.Waiting.{HasRoom}
-use Rattle.footer.proofs.Written.{one_given}
+use Rattle.footer.proofs.Written.{given_of, one_given}
 
 -- ---- a token says the options
 
-style_said : ℕ → Style
+abbrev style_said : ℕ → Style
 style_said zero = Plain
 style_said (suc zero) = Dictionary
 style_said (suc (suc zero)) = Delta
@@ -68,7 +68,7 @@ shown_more old new t options bytes groups written adds (x ∷ y ∷ o ∷ ts) h 
         record {
           waiting = so.waiting;
           held = subst (λ (rs : List ValueTrees). Holds new.waiting rs (ts ++ t ∷ [])) (rows_back so.waiting) after.1;
-          given = rw (schema, options, bytes, groups, written) so.given;
+          given = given_of _ _ _ _ _ _ _ _ _ _ _ _ schema options bytes (ap (map group_meta_view) groups) written so.given;
           few = rw options so.few;
         },
       ),
@@ -98,5 +98,5 @@ row_ends old new fs o rows values schema options bytes groups written ended show
     record {
       waiting = so.waiting ++ values ∷ [];
       held = ended (schema_of old) so.waiting values (buffer_shown old rows (tokens_each values) so) fits;
-      given = rw (schema, options, bytes, groups, written) more;
+      given = given_of _ _ _ _ _ _ _ _ _ _ _ _ schema options bytes (ap (map group_meta_view) groups) written more;
     }

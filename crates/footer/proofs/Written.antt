@@ -20,6 +20,14 @@ use Rattle.footer.specs.inner.Waiting.{IsNextGroupOf, IsNextGroup, HasRoom, Hold
 use Rattle.footer.proofs.InGroups.{in_range, goes_on, too_much, all_written}
 use Rattle.footer.proofs.Whole.{AreWritten}
 
+-- of a schema and options that are these
+pub given_of : (fs gs : Fields) (o p : WriteOptions) (out new : List ℕ) (metas more : List GroupMeta) (waiting : List ValueTrees) (written now : ℕ) (rows : List ValueTrees)
+    → gs ≡ fs → p ≡ o → new ≡ out → more ≡ metas → now ≡ written → AreGiven fs o out metas waiting written rows → AreGiven gs p new more waiting now rows
+given_of fs gs o p out new metas more waiting written now rows schema options bytes groups count h = rw (schema, options, bytes, groups, count) h
+
+begun_of : (fs gs : Fields) (o p : WriteOptions) (rows rest : List ValueTrees) (out : List ℕ) (metas : List GroupMeta) → gs ≡ fs → p ≡ o → IsBegun gs p rows rest out metas → IsBegun fs o rows rest out metas
+begun_of fs gs o p rows rest out metas schema options h = rw (← schema, ← options) h
+
 -- nothing is written yet
 pub none_written : (fs : Fields) (o : WriteOptions) (rows : List ValueTrees) → IsBegun fs o rows rows magic []
 none_written fs o rows = record {
@@ -141,7 +149,7 @@ pub has_same : (old new : FileWriter) (rows : List ValueTrees) → HoldsSame old
 has_same old new rows same schema options so = record {
   waiting = so.waiting;
   held = same.waiting so.waiting so.held;
-  given = rw (schema, options, same.bytes, same.groups, same.written) so.given;
+  given = given_of _ _ _ _ _ _ _ _ _ _ _ _ schema options same.bytes (ap (map group_meta_view) same.groups) same.written so.given;
 }
 
 -- ---- the rows that wait, as a group
@@ -185,12 +193,12 @@ none_waits_in old new (Ok x) full stands emptied counted schema options = λ row
     let metas = map group_meta_view old.groups.items in
     let more = map group_meta_view new.groups.items in
     let begun : (later : List ValueTrees) → IsBegun fs o (rows ++ later) later new.bytes.items more = λ later.
-    rw (← schema, ← options) (stands so.waiting (rows ++ later) later (full_next old rows later so (full so.waiting so.held))) in
+    begun_of _ _ _ _ _ _ _ _ schema options (stands so.waiting (rows ++ later) later (full_next old rows later so (full so.waiting so.held))) in
     let given : AreGiven fs o new.bytes.items more [] new.written rows = none_waits fs o old.bytes.items new.bytes.items metas more so.waiting old.written new.written rows begun (counted so.waiting so.held) so.given in
     let range = in_range o so.given.in_range in
     let some = range.some in
     record {
-      has = record { waiting = []; held = emptied so.waiting so.held; given = rw (schema, options) given };
+      has = record { waiting = []; held = emptied so.waiting so.held; given = given_of _ _ _ _ _ _ _ _ _ _ _ _ schema options refl refl refl given };
       few = rw options some;
     }
 
@@ -202,7 +210,7 @@ last_written old new stands schema options rows so =
     let fs = schema_of old in
     let o = options_of old in
     let range = in_range o so.given.in_range in
-    let begun : IsBegun fs o rows [] new.bytes.items (map group_meta_view new.groups.items) = rw (← schema, ← options) (stands so.waiting rows [] (last_next old rows so)) in
+    let begun : IsBegun fs o rows [] new.bytes.items (map group_meta_view new.groups.items) = begun_of _ _ _ _ _ _ _ _ schema options (stands so.waiting rows [] (last_next old rows so)) in
     all_written fs o rows [] new.bytes.items (map group_meta_view new.groups.items) range.some refl begun
 
 -- how many rows all groups have

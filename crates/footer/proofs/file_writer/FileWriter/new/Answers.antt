@@ -5,6 +5,6 @@ use Rattle.footer.proofs.file_writer.FileWriter.new.Goals as goal
 pub returns-clause-begins : goal.returns-clause-begins
 returns-clause-begins c = record {
   waiting = [];
-  held = c.new-2.ensures.begins;
-  given = rw (c.in_ok-from_slice.ensures.items, c.new.ensures.items, c.new-2.ensures.of) (none_given c.args.schema.now c.args.options.now (c.is_out_of_range.ensures.within c.if-is_out_of_range.false));
+  held = c.in_ok-new.ensures.begins;
+  given = rw (c.in_ok-from_slice.ensures.items, c.new.ensures.items, c.in_ok-new.ensures.of) (none_given c.args.schema.now c.args.options.now (c.is_out_of_range.ensures.within c.if-is_out_of_range.false));
 }
