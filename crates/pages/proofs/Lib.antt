@@ -12,6 +12,7 @@ pub mod WrittenParts
 pub mod WrittenPages
 pub mod WrittenDictionaries
 pub mod WrittenPlain
+pub mod FullEntries
 pub mod OneList
 pub mod Sections
 pub mod LookUps

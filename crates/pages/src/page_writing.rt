@@ -68,6 +68,9 @@ pub fn write_page(
 {
     what_is_of_a_kind_fits_it();
     check_entries(leaf, entries)?;
+    if has_known_size(leaf, encoding) {
+        return put_full_entries(alloc, leaf, version, encoding, entries, out);
+    }
     let values = values_of(alloc, entries)?;
     put_entries(
         alloc,
@@ -79,6 +82,40 @@ pub fn write_page(
         scratch,
         out,
     )
+}
+
+/// Writes entries without levels in PLAIN: each begins a row and has a value, which is written from where it
+/// lies.
+fn put_full_entries(
+    alloc: Global,
+    leaf: &Leaf,
+    version: PageVersion,
+    encoding: Encoding,
+    entries: &[EntryRef<'_>],
+    out: &mut Vec<u8>,
+) -> R<()>
+    requires entries { AllByRecursion (IsEntryOf (leaf_view leaf.now)) (map entry_ref_view entries.now) }
+    requires of_kind { All (IsOfKind leaf.now.leaf_type.kind) (values_in (map entry_ref_view entries.now)) }
+    requires encoding { encoding ≡ Encoding.Plain }
+    requires repetition { leaf.now.greatest_repetition ≡ 0 }
+    requires definition { leaf.now.greatest_definition ≡ 0 }
+    ensures written { let es = map entry_ref_view entries.now in
+        OnOk result (Appends (IsWrittenPage (leaf_view leaf.now) version encoding (AreValuesIn leaf.now.leaf_type.kind encoding (values_in es)) es)
+        (page_weight es) out.old.items out.new.items) }
+    ensures within_limits { OnOk result (Any IsTooLong (values_in (map entry_ref_view entries.now)) → ⊥) }
+    ensures encoding { OnOk result (IsEncodingFor leaf.now.leaf_type.kind encoding) }
+    ensures size { OnOk result (length out.new.items ≤ length out.old.items + 2147484671) }
+    ensures which { RefusedOnly (IsOfPageWriting leaf.now.leaf_type.kind encoding (map entry_ref_view entries.now)) result }
+    ensures unchanged { OnErr result (out.new.items ≡ out.old.items) }
+{
+    let head = DataPageHead {
+        version,
+        encoding,
+        entries: entries.len(),
+        nulls: 0,
+        rows: entries.len(),
+    };
+    put_plain_page(alloc, leaf, head, entries, out)
 }
 
 /// Writes the entries, which are the leaf's and have these values.
@@ -112,9 +149,6 @@ fn put_entries(
         nulls: entries.len() - values.len(),
         rows: count_rows(entries),
     };
-    if has_known_size(leaf, encoding) {
-        return put_plain_page(alloc, leaf, head, values, out);
-    }
     let sections = put_sections(alloc, leaf, entries, scratch)?;
     put_values(alloc, leaf.leaf_type.kind, encoding, values, scratch)?;
     put_data_page(alloc, leaf, head, sections, scratch.as_slice(), out)

@@ -1,9 +1,10 @@
 //! The entries that a page is written of.
 
-ghost use Rattle.std.specs.Prelude.{◌≡◌, ◌≤◌, ◌⊎◌, map, length, vec_len, IfOk, IfErr, OnOk, OnErr};
+ghost use Rattle.std.specs.Prelude.{◌≡◌, ◌≤◌, ◌⊎◌, true, false, map, length, vec_len, IfOk, IfErr, OnOk, OnErr};
 ghost use Rattle.std.specs.List.{AllByRecursion};
 ghost use Rattle.bits.specs.Refusals.{RefusedMemoryOnly};
 ghost use Rattle.schema.specs.Borrowed.{value_ref_view, entry_ref_view};
+ghost use Rattle.schema.specs.Annotations.{is_text};
 ghost use Rattle.schema.specs.Fits.{fits_leaf};
 ghost use Rattle.schema.specs.Law.{IsEntryOf};
 ghost use Rattle.schema.specs.Views.{leaf_type_view, leaf_view};
@@ -21,35 +22,52 @@ pub(crate) fn check_entries(leaf: &Leaf, entries: &[EntryRef<'_>]) -> R<()>
     ensures only { OnErr result (AllByRecursion (IsEntryOf (leaf_view leaf.now)) (map entry_ref_view entries.now) → ⊥) }
     ensures which { IfErr result (λ e. (e ≡ Refusal.Levels) ⊎ (e ≡ Refusal.Value)) }
 {
+    let is_of_text = leaf.leaf_type.is_text();
     for entry in entries {
-        check_entry(leaf, *entry)?;
+        if !is_entry_of(leaf, is_of_text, *entry) {
+            return Err(refusal_of(leaf, *entry));
+        }
     }
     Ok(())
 }
 
-/// Refused Levels where a level is above the leaf's greatest, and Value where a value is missing, is
-/// there and should not be, or does not fit.
-fn check_entry(leaf: &Leaf, entry: EntryRef<'_>) -> R<()>
-    ensures is { OnOk result (IsEntryOf (leaf_view leaf.now) (entry_ref_view entry.entry)) }
-    ensures only { OnErr result (IsEntryOf (leaf_view leaf.now) (entry_ref_view entry.entry) → ⊥) }
-    ensures which { IfErr result (λ e. (e ≡ Refusal.Levels) ⊎ (e ≡ Refusal.Value)) }
+/// Whether an entry is the leaf's, whose values are text or not: its levels are at most the greatest, and
+/// it has a value, which fits, exactly when its definition level is the greatest.
+#[inline(always)]
+fn is_entry_of(leaf: &Leaf, is_of_text: bool, entry: EntryRef<'_>) -> bool
+    requires { let t = leaf_type_view leaf.now.leaf_type in is_of_text ≡ is_text t.kind t.annotation }
+    ensures is { result ≡ true → IsEntryOf (leaf_view leaf.now) (entry_ref_view entry.entry) }
+    ensures only { result ≡ false → IsEntryOf (leaf_view leaf.now) (entry_ref_view entry.entry) → ⊥ }
 {
     if entry.repetition > leaf.greatest_repetition || entry.definition > leaf.greatest_definition {
-        return Err(Refusal::Levels);
+        return false;
     }
     let is_full = entry.definition == leaf.greatest_definition;
     match entry.value {
-        None if !is_full => Ok(()),
-        Some(value) if is_full && is_value_of(&leaf.leaf_type, value) => Ok(()),
-        _ => Err(Refusal::Value),
+        None => !is_full,
+        Some(value) => is_full && is_value_of(&leaf.leaf_type, is_of_text, value),
     }
 }
 
 /// Whether a value is a leaf's: of its type, and UTF-8 where it is text.
-fn is_value_of(leaf_type: &LeafType, value: ValueRef<'_>) -> bool
+#[inline(always)]
+fn is_value_of(leaf_type: &LeafType, is_of_text: bool, value: ValueRef<'_>) -> bool
+    requires { let t = leaf_type_view leaf_type.now in is_of_text ≡ is_text t.kind t.annotation }
     ensures { result ≡ fits_leaf (leaf_type_view leaf_type.now) (value_ref_view value.entry) }
 {
-    is_of_kind(leaf_type.kind, value) && (!leaf_type.is_text() || is_text(value))
+    is_of_kind(leaf_type.kind, value) && (!is_of_text || is_text(value))
+}
+
+/// Why an entry that is none of the leaf's is refused: for its levels, or else for its value.
+#[cold]
+fn refusal_of(leaf: &Leaf, entry: EntryRef<'_>) -> Refusal
+    ensures { (result ≡ Refusal.Levels) ⊎ (result ≡ Refusal.Value) }
+{
+    if entry.repetition > leaf.greatest_repetition || entry.definition > leaf.greatest_definition {
+        Refusal::Levels
+    } else {
+        Refusal::Value
+    }
 }
 
 /// The values of the entries that have one, in their order. It fails only when out of memory.

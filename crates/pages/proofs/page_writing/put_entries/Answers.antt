@@ -10,7 +10,6 @@ use Rattle.pages.specs.WrittenValues.{AreWritten, AreValuesIn}
 use Rattle.pages.specs.Writing.{page_weight}
 use Rattle.pages.specs.inner.Put.{most_of_values}
 use Rattle.pages.proofs.WrittenPages.{entries_written, parts_are, fills, nulls_and_values}
-use Rattle.pages.proofs.WrittenPlain.{plain_written}
 use Rattle.pages.proofs.page_writing.put_entries.Goals as goal
 
 pub returns-clause-written : goal.returns-clause-written
@@ -29,15 +28,3 @@ returns-clause-written c =
     (entries_written leaf (record { version = c.args.version; encoding = c.args.encoding; entries = length c.args.entries.now; nulls = length c.args.entries.now - length c.args.values.now; rows = c.count_rows.result }) es (AreValuesIn kind c.args.encoding vs) (page_weight es) sections.repetition_bytes sections.definition_bytes p.text c.args.out.now.items c.put_data_page.new.out.items
     count (omega (arith, count, some, nulls_and_values es)) c.count_rows.ensures.rows sections.first sections.second (fills (AreWritten kind c.args.encoding vs) (most_of_values vs) mid c.put_values.new.out.items p) (omega (arith, sections.first_short, sections.second_short, p.short, count, some, c.requires.few)))
     (c.put_data_page.ensures.stands sections.repetition_bytes sections.definition_bytes p.text parts)
-
-pub returns-then-has_known_size-clause-written : goal.returns-then-has_known_size-clause-written
-returns-then-has_known_size-clause-written c =
-    let says = c.has_known_size.ensures in
-    let on = c.if-has_known_size.true in
-    let es = map entry_ref_view c.args.entries.now in
-    let count : length c.args.entries.now ≡ length es = sym (length-map c.args.entries.now entry_ref_view) in
-    let some : length c.args.values.now ≡ length (values es) = sym (length-map c.args.values.now value_ref_view) ∙ ap length c.requires.values in
-    on_ok_weaker c.put_plain_page.result
-    (plain_written (leaf_view c.args.leaf.now) (record { version = c.args.version; encoding = c.args.encoding; entries = length c.args.entries.now; nulls = length c.args.entries.now - length c.args.values.now; rows = c.count_rows.result }) es (map value_ref_view c.args.values.now) c.args.out.now.items c.put_plain_page.new.out.items
-    (says.repetition on) (says.definition on) (says.encoding on) c.requires.values count (omega (arith, count, some, nulls_and_values es)) c.count_rows.ensures.rows (omega (arith, count, some, c.requires.few)))
-    c.put_plain_page.ensures.stands

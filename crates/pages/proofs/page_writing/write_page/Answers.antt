@@ -23,3 +23,14 @@ returns-clause-stands c =
 pub returns-clause-within_limits : goal.returns-clause-within_limits
 returns-clause-within_limits c =
     on_ok_weaker c.put_entries.result (λ p. all_short (values (map entry_ref_view c.args.entries.now)) (subst (λ (t : List ValueTree). Any IsTooLong t → ⊥) (ap (map value_ref_view) c.as_slice.ensures.value ∙ c.in_ok-values.ensures.are) p)) c.put_entries.ensures.within_limits
+
+pub put_full_entries-requires-clause-of_kind : goal.put_full_entries-requires-clause-of_kind
+put_full_entries-requires-clause-of_kind c = kinds_in (leaf_view c.args.leaf.now) (map entry_ref_view c.args.entries.now) c.what_is_of_a_kind_fits_it.ensures c.in_ok-check_entries.ensures.are
+
+pub returns-then-has_known_size-clause-stands : goal.returns-then-has_known_size-clause-stands
+returns-then-has_known_size-clause-stands c =
+    on_ok_weaker c.put_full_entries.result (page_stands (leaf_view c.args.leaf.now) c.args.version c.args.encoding (map entry_ref_view c.args.entries.now) c.args.out.now.items c.put_full_entries.new.out.items c.in_ok-check_entries.ensures.are) c.put_full_entries.ensures.written
+
+pub returns-then-has_known_size-clause-within_limits : goal.returns-then-has_known_size-clause-within_limits
+returns-then-has_known_size-clause-within_limits c =
+    on_ok_weaker c.put_full_entries.result (all_short (values (map entry_ref_view c.args.entries.now))) c.put_full_entries.ensures.within_limits
