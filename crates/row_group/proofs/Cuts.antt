@@ -138,3 +138,23 @@ first_page size es i e large lt is begins rows =
     begun : (k : ℕ) → rows_in (map entry_ref_view (take k es)) ≡ size → 0 < k
     begun zero h = absurd (omega (arith, large, h))
     begun (suc k) h = omega arith
+
+rows_within : (es : List Entry) → rows_in es ≤ length es
+rows_within [] = omega arith
+rows_within (e ∷ es) = by (e.repetition == 0) refl (rows_within es)
+  where
+    by : (b : Bool) → (e.repetition == 0) ≡ b → rows_in es ≤ length es → rows_in (e ∷ es) ≤ suc (length es)
+    by true is rest = rw is (omega (arith, rest))
+    by false is rest = rw is (omega (arith, rest))
+
+-- all of them, where there are no more entries than rows in a page
+pub whole_page : (size : ℕ) (es : List EntryRef) → 0 < length es → length es ≤ size → IsFirstPage size (map entry_ref_view es) (length es)
+whole_page size es some small =
+    let count : length (map entry_ref_view es) ≡ length es = length-map es entry_ref_view in
+    let front : length (take (length es) (map entry_ref_view es)) ≡ length es = length-take-le (length es) (map entry_ref_view es) (omega (arith, count)) in
+    record {
+      some = some;
+      within = omega (arith, count);
+      few = omega (arith, small, front, rows_within (take (length es) (map entry_ref_view es)));
+      full = λ more. absurd (omega (arith, count, more));
+    }

@@ -35,6 +35,9 @@ fn first_page_len(entries: &[EntryRef<'_>], page_rows: u32) -> usize
     requires some { 0 < length entries.now }
     ensures { IsFirstPage page_rows (map entry_ref_view entries.now) result }
 {
+    if entries.len() <= page_rows as usize {
+        return entries.len();
+    }
     let mut rows = 0;
     for (i, entry) in entries.iter().enumerate() {
         if entry.repetition == 0 {
