@@ -34,6 +34,7 @@ impl<'a> Rows<'a> {
     /// The values are borrowed, and nothing is copied. It fails only when out of memory, the sink's own
     /// too. Where that was within a row, of which the sink was shown a part, it fails from then on: the
     /// file has to be read again for the rest.
+    #[inline]
     pub fn next_to<K: RowSink>(&mut self, sink: &mut K) -> R<bool>
         ensures takes { TakesRowTo (rows_stand self.old) (rows_stand self.new) (K.shows sink.old) (K.shows sink.new) result }
         ensures unshown { result ≡ Ok false → sink.new ≡ sink.old }
@@ -66,6 +67,7 @@ impl<'a> Rows<'a> {
     }
 
     /// Shows a sink the next row of the group that was begun; false where none of it is left.
+    #[inline]
     fn next_of_group<K: RowSink>(&mut self, sink: &mut K) -> R<bool>
         ensures takes { TakesOfGroup self.old self.new (K.shows sink.old) (K.shows sink.new) result }
         ensures unshown { result ≡ Ok false → sink.new ≡ sink.old }

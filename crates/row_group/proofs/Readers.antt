@@ -15,13 +15,13 @@ use Rattle.schema.specs.Fits.{fits_leaf}
 use Rattle.schema.specs.Borrowed.{value_ref_view, entry_ref_view}
 use Rattle.schema.specs.Stripe.{Leaf, Entry}
 use Rattle.pages.specs.declared.data_page.DataPage.{DataPage}
-use Rattle.pages.specs.Left.{entries_left, entry_taken, Shows as PageShows, Advances}
+use Rattle.pages.specs.Left.{entries_left, entry_taken, Shows as PageShows, Advances, TakesPlain}
 use Rattle.assemble.specs.Sources.{NothingStands, StandsOnly, Same, Precede, Refuses, Begins, Shows}
 use Rattle.row_group.specs.Rest.{ChunkLeft, HoldsRest, HasRestOver}
 use Rattle.row_group.specs.PageLeft.{page_left, value_fits, values_fit}
 use Rattle.row_group.specs.Left.{ReaderLeft, ChunkStands}
 use Rattle.row_group.specs.inner.Pages.{kept_fault, Passes, IsRefusedAt, NextPage}
-use Rattle.row_group.specs.inner.Readers.{KeepsFault, Fills, AdvancesReader}
+use Rattle.row_group.specs.inner.Readers.{KeepsFault, Fills, AdvancesReader, entry_of_plain, GivesPlain}
 use Rattle.row_group.proofs.NextPages.{holds_nothing}
 
 pub empty : {A : Type 0} (xs : List A) → length xs ≡ 0 → xs ≡ []
@@ -121,6 +121,29 @@ first_fits t e es h = both_true (value_fits t e) (values_fit t es) h
     both_true true b h = refl
     both_true false b h = absurd (false≢true h)
 
+-- the first entry of the page is taken
+pub first_taken : (old : ReaderLeft) (e : Entry) (rest : List Entry) → old.fault ≡ None → old.here ≡ e ∷ rest → values_fit old.pages.leaf.leaf_type old.here ≡ true → AdvancesReader old (reader old.pages rest old.fault) e (Ok true)
+first_taken old e rest sound here fit = (sound, sound, takes, first_fits old.pages.leaf.leaf_type e rest (sym (ap (values_fit old.pages.leaf.leaf_type) here) ∙ fit))
+  where
+    takes : Precede (e ∷ []) (ChunkStands old) (ChunkStands (reader old.pages rest old.fault))
+    takes = (
+      λ after s. record {
+        sound = sound;
+        rest = s.rest;
+        used = s.used;
+        joined = ap (λ (t : List Entry). e ∷ t) s.joined ∙ sym (ap (λ (t : List Entry). t ++ s.rest) here);
+        held = s.held;
+        short = s.short;
+      },
+      λ es t. (
+        rest ++ t.rest,
+        (
+          t.joined ∙ ap (λ (x : List Entry). x ++ t.rest) here,
+          record { sound = sound; rest = t.rest; used = t.used; joined = refl; held = t.held; short = t.short },
+        ),
+      ),
+    )
+
 pub page_advanced : (old r : ReaderLeft) (page new : DataPage) (b : Result Bool Fault) → Filled old r → r.here ≡ entries_left page → values_fit r.pages.leaf.leaf_type r.here ≡ true → Advances page new b
     → AdvancesReader old (reader r.pages (entries_left new) r.fault) (entry_taken new) b
 page_advanced old r page new (Ok true) f is fit h = (f.0, f.1, takes, subst (λ (l : Leaf). value_fits l.leaf_type (entry_taken new) ≡ true) f.4 (first_fits r.pages.leaf.leaf_type (entry_taken new) (entries_left new) (sym (ap (values_fit r.pages.leaf.leaf_type) here) ∙ fit)))
@@ -156,6 +179,12 @@ page_advanced old r page new (Ok false) f is fit h = (
 page_advanced old r page new (Err g) f is fit h =
     subst (λ (x : Fault). AdvancesReader old (reader r.pages (entries_left new) r.fault) (entry_taken new) (Err x)) (sym h.0)
     (tt, still old r (entries_left new) f (is ∙ sym h.1), ap (λ (o : Option Fault). option_map refusal_of o) (f.1 ∙ sym f.0))
+
+-- the value of an entry in PLAIN is taken, or nothing is
+pub given_plain : (old : ReaderLeft) (page new : DataPage) (o : Option ValueRef) → old.fault ≡ None → old.here ≡ entries_left page → values_fit old.pages.leaf.leaf_type old.here ≡ true → TakesPlain page new o
+    → GivesPlain old (reader old.pages (entries_left new) old.fault) o
+given_plain old page new (Some v) sound is fit h = first_taken old (entry_of_plain v) (entries_left new) sound (is ∙ h) fit
+given_plain old page new None sound is fit h = ap (λ (here : List Entry). reader old.pages here old.fault) (h.0 ∙ sym is)
 
 -- the value of an entry that was taken fits each type that its leaf's values fit
 pub taken_fits : (own t : LeafType) (e : EntryRef) → value_fits own (entry_ref_view e) ≡ true → ((v : ValueTree) → fits_leaf own v ≡ true → fits_leaf t v ≡ true)

@@ -19,7 +19,7 @@ use assemble::EntrySource;
 use bits::{Fault, R, Refusal};
 use metadata::ColumnMeta;
 use pages::{DataPage, one_page};
-use schema::{EntryRef, Leaf, LeafType};
+use schema::{EntryRef, Leaf, LeafType, ValueRef};
 use std::alloc::Global;
 
 /// Gives the entries of a chunk one by one, and reads its pages as it goes: it holds the entries of
@@ -117,7 +117,24 @@ fn kept(fault: Fault) -> Option<Fault>
 
 impl<'a> ChunkReader<'a> {
     ghost use Rattle.row_group.specs.Left.{reader_view};
-    ghost use Rattle.row_group.specs.inner.Readers.{AdvancesReader, last_taken};
+    ghost use Rattle.row_group.specs.inner.Readers.{GivesPlain, AdvancesReader, last_taken};
+
+    /// Takes the next entry where the page that was read last gives it in PLAIN with both levels 0, and
+    /// returns its value. Returns none for another entry, at the end of that page, and where a fault is
+    /// kept, and then takes nothing.
+    // Most values of columns without levels come through here: no more is looked at than for one value.
+    #[inline(always)]
+    fn next_plain(&mut self) -> Option<ValueRef<'a>>
+        ensures { GivesPlain (reader_view self.old) (reader_view self.new) result }
+    {
+        if let Some(_) = self.fault {
+            return None;
+        }
+        match &mut self.page {
+            Some(page) => page.next_plain(),
+            None => None,
+        }
+    }
 
     /// Takes the next entry, if there is one: `entry` is that one from then on. Refused as `fill`.
     #[inline(always)]
@@ -157,11 +174,13 @@ impl<'a> EntrySource for ChunkReader<'a> {
     ghost checked = { chunk_checked };
 
     /// Whether values of the reader's leaf fit this type: each was checked when its page was read.
+    #[inline(always)]
     fn has_checked(&self, leaf_type: &LeafType) -> bool {
         let own = &self.pages.leaf.leaf_type;
         own.kind == leaf_type.kind && (own.is_text() || !leaf_type.is_text())
     }
 
+    #[inline(always)]
     fn peek(&mut self) -> R<Option<(u32, u32)>> {
         self.fill()?;
         match &self.page {
@@ -172,6 +191,13 @@ impl<'a> EntrySource for ChunkReader<'a> {
 
     #[inline(always)]
     fn next(&mut self) -> Result<Option<EntryRef<'_>>, Fault> {
+        if let Some(value) = self.next_plain() {
+            return Ok(Some(EntryRef {
+                repetition: 0,
+                definition: 0,
+                value: Some(value),
+            }));
+        }
         if self.advance()? {
             Ok(Some(self.entry()))
         } else {

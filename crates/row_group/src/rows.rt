@@ -103,6 +103,7 @@ impl<'a> Rows<'a> {
     /// The values are borrowed, and nothing is copied. It fails only when out of memory, the sink's own
     /// too. The readers may then stand within a row of which the sink was shown a part, so that each later
     /// call fails in the same way.
+    #[inline]
     pub fn next_to<K: RowSink>(&mut self, sink: &mut K) -> R<bool>
         ensures takes { TakesRowTo (rows_stand self.old) (rows_stand self.new) (K.shows sink.old) (K.shows sink.new) result }
         ensures unshown { result ≡ Ok false → sink.new ≡ sink.old }

@@ -1,5 +1,5 @@
 -- The readers of a group's chunks.
-use Rattle.std.specs.Prelude.{◌≡◌, ℕ, Bool, true, false, List, [], ◌∷◌, length, Option, None, Result, Ok, Err, option_map, unwrap_or}
+use Rattle.std.specs.Prelude.{◌≡◌, ℕ, Bool, true, false, List, [], ◌∷◌, length, Option, None, Some, Result, Ok, Err, option_map, unwrap_or}
 use Rattle.bits.specs.Faults.{refusal_of}
 use Rattle.bits.specs.declared.fault.Fault.{Fault}
 use Rattle.bits.specs.declared.refusal.Refusal.{Refusal}
@@ -7,6 +7,8 @@ use Rattle.schema.specs.Values.{ValueTrees}
 use Rattle.schema.specs.Shape.{Fields}
 use Rattle.schema.specs.Fits.{RowsFit}
 use Rattle.schema.specs.Stripe.{Leaf, Entry, leaves_of, columns}
+use Rattle.schema.specs.declared.borrowed.ValueRef.{ValueRef}
+use Rattle.schema.specs.Borrowed.{value_ref_view}
 use Rattle.metadata.specs.Records.{ColumnMeta, ChunkMeta, GroupMeta}
 use Rattle.assemble.specs.RowsOf.{StandForRows}
 use Rattle.row_group.specs.declared.chunk_reader.ChunkReader.{ChunkReader}
@@ -44,6 +46,15 @@ abbrev pub AdvancesReader : ReaderLeft → ReaderLeft → Entry → Result Bool 
 AdvancesReader old new e (Ok true) = (old.fault ≡ None) × (new.fault ≡ None) × Precede (e ∷ []) (ChunkStands old) (ChunkStands new) × (value_fits old.pages.leaf.leaf_type e ≡ true)
 AdvancesReader old new e (Ok false) = (old.fault ≡ None) × (new.fault ≡ None) × StandsOnly (ChunkStands old) [] × Same (ChunkStands old) (ChunkStands new)
 AdvancesReader old new e (Err f) = KeepsFault old new f
+
+-- the entry of a value in PLAIN whose levels are 0
+abbrev pub entry_of_plain : ValueRef → Entry
+entry_of_plain v = record { repetition = 0; definition = 0; value = Some (value_ref_view v) }
+
+-- the next entry is taken, that of this value; or none
+abbrev pub GivesPlain : ReaderLeft → ReaderLeft → Option ValueRef → Type 0
+GivesPlain old new (Some v) = AdvancesReader old new (entry_of_plain v) (Ok true)
+GivesPlain old new None = new ≡ old
 
 -- for each chunk and its leaf, in the order of the leaves, something that is so
 abbrev pub EachChunk : {X : Type 0} → (ColumnMeta → Leaf → X → Type 0) → List ChunkMeta → List Leaf → List X → Type 0
