@@ -39,3 +39,6 @@ pub mod ShownLeaves
 pub mod ShownRows
 pub mod Sizes
 pub mod PrintedLines
+pub mod PieceShowing
+pub mod NamedMembers
+pub mod DigitRuns

@@ -1,27 +1,25 @@
 -- A line that is the text of a row is read as that row.
-use Rattle.std.proofs.Common.{◌≡◌, List, ℕ, true, Some, refl, ap, ◌∙◌}
-use Rattle.serde_json.specs.Data.{Data, Members, object}
-use Rattle.serde_json.specs.Data as json
+use Rattle.std.proofs.Common.{◌≡◌, List, ℕ, [], ◌++◌, true, sym, ap, ◌∙◌, append-nil}
 use Rattle.serde_json.specs.Read.{read}
 use Rattle.schema.specs.Values.{ValueTrees}
 use Rattle.schema.specs.Shape.{Fields}
 use Rattle.schema.specs.Fits.{fits_each}
 use Rattle.schema.specs.Law.{IsSchema, IsWithinLimits}
 use Rattle.jsonrows.specs.Json.{row_text}
-use Rattle.jsonrows.specs.Reading.{members_read, row_of}
+use Rattle.jsonrows.specs.Reader.{IsRowOf}
+use Rattle.assemble.specs.Sinks.{tokens_each}
+use Rattle.jsonrows.specs.declared.pieces.Piece.{Piece}
+use Rattle.jsonrows.specs.inner.Pieces.{tokens_of, AreRead}
 use Rattle.jsonrows.proofs.RowsBack.{rows_read_back}
 
-object_of : (fs : Fields) (d : Data) (vs : ValueTrees) → row_of fs d ≡ Some vs → (ms : Members) × (d ≡ object ms) × (members_read fs ms ≡ Some vs)
-object_of fs json.null vs h = absurd (cc)
-object_of fs (json.boolean b) vs h = absurd (cc)
-object_of fs (json.number n) vs h = absurd (cc)
-object_of fs (json.string s) vs h = absurd (cc)
-object_of fs (json.array ds) vs h = absurd (cc)
-object_of fs (json.object ms) vs h = (ms, refl, h)
-
-pub printed_read : (fs : Fields) (vs : ValueTrees) (text : List ℕ) → IsSchema fs → IsWithinLimits fs → fits_each fs vs ≡ true → text ≡ row_text fs vs
-    → (ms : Members) × (read text ≡ Some (object ms)) × (members_read fs ms ≡ Some vs)
-printed_read fs vs text valid within fit is =
+pub printed_row : (fs : Fields) (vs : ValueTrees) (text : List ℕ) → IsSchema fs → IsWithinLimits fs → fits_each fs vs ≡ true → text ≡ row_text fs vs → IsRowOf fs text vs
+printed_row fs vs text valid within fit is =
     let back = rows_read_back fs vs valid within fit in
-    let members = object_of fs back.0 vs back.2 in
-    (members.0, ap read is ∙ back.1 ∙ ap Some members.1, members.2)
+    (back.0, (ap read is ∙ back.1, (back.2, fit)))
+
+-- a whole line was read, with nothing before it
+pub line_read : (fs gs : Fields) (text rest new : List ℕ) (ks ls : List Piece) → fs ≡ gs → AreRead (fits_each fs) (row_text fs) rest new ks ls → rest ≡ text → new ≡ [] → ks ≡ [] → (vs : ValueTrees) × ((fits_each gs vs ≡ true) × ((text ≡ row_text gs vs) × (tokens_of ls ≡ tokens_each vs)))
+line_read fs gs text rest new ks ls same h is none empty =
+    let vs = h.0 in
+    let said : text ≡ row_text gs vs = sym is ∙ h.1.1.0 ∙ ap (λ x. row_text fs vs ++ x) none ∙ append-nil (row_text fs vs) ∙ ap (λ x. row_text x vs) same in
+    (vs, (ap (λ x. fits_each x vs) (sym same) ∙ h.1.0, (said, h.1.1.1 ∙ ap (λ x. tokens_of x ++ tokens_each vs) empty)))

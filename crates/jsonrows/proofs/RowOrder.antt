@@ -17,6 +17,7 @@ use Rattle.schema.specs.Shape.{Field, leaf, fields, Fields, no_fields, field, na
 use Rattle.schema.specs.Fits.{fits, fits_each}
 use Rattle.jsonrows.specs.Json.{field_json, members_json}
 use Rattle.jsonrows.specs.inner.Slots.{slot_of, key_in, key_of, put_index, ordered, second, indices_of, is_counting, is_in_order, order_of}
+use Rattle.jsonrows.specs.inner.Lines.{keyed, open_text}
 use Rattle.jsonrows.specs.inner.Levels.{between, first_or, piece, sorted, braced, braced_at}
 
 pub and_true : (a b : Bool) → (a && b) ≡ true → (a ≡ true) × (b ≡ true)
@@ -59,13 +60,6 @@ cut (p ∷ ps) pre (suc i) =
     ap₂ (λ (s : List ℕ) (n : ℕ). piece s (starts_of n ps) i) (sym (append_assoc pre p (joined ps))) (sym (length-append pre p)) ∙ cut ps (pre ++ p) i
 
 -- ---- members with their commas
-
-abbrev pub keyed : List ℕ → Data → List ℕ
-keyed k d = key_of k ++ compact_text d
-
-abbrev pub open_text : Members → List ℕ
-open_text no_members = []
-open_text (member k d ms) = keyed k d ++ open_text ms
 
 keyed_before : (k : List ℕ) (d : Data) (s : List ℕ) → keyed k d ++ s ≡ 44 ∷ (quoted k ++ 58 ∷ (compact_text d ++ s))
 keyed_before k d s = append_assoc (key_of k) (compact_text d) s ∙ ap (λ (r : List ℕ). 44 ∷ r) (append_assoc (quoted k) (58 ∷ []) (compact_text d ++ s))
@@ -171,11 +165,11 @@ counted (o ∷ os) (q ∷ qs) i text c n p =
     let next : (j : ℕ) → suc i + j ≡ i + suc j = λ j. omega arith in
     ap₂ (λ (a r : List ℕ). a ++ r) (ap text same ∙ p 0) (counted os qs (suc i) text b.1 (omega (arith, n)) (λ j. ap text (next j) ∙ p (suc j)))
 
-flat_same : (f g : ℕ → List ℕ) → ((i : ℕ) → f i ≡ g i) → (os : List ℕ) → flat_map f os ≡ flat_map g os
+pub flat_same : (f g : ℕ → List ℕ) → ((i : ℕ) → f i ≡ g i) → (os : List ℕ) → flat_map f os ≡ flat_map g os
 flat_same f g h [] = refl
 flat_same f g h (o ∷ os) = ap₂ (λ (a r : List ℕ). a ++ r) (h o) (flat_same f g h os)
 
-sorted_by : (fs : Fields) (vs : ValueTrees) (pre : List ℕ) → fits_each fs vs ≡ true → (b : Bool) → is_in_order (indices_of fs) (count fs) ≡ b
+pub sorted_by : (fs : Fields) (vs : ValueTrees) (pre : List ℕ) → fits_each fs vs ≡ true → (b : Bool) → is_in_order (indices_of fs) (count fs) ≡ b
     → sorted (pre ++ joined (pieces fs vs)) (starts_of (length pre) (pieces fs vs)) (length pre) (if b then None else Some (indices_of fs)) ≡ pre ++ open_text (members_json fs vs)
 sorted_by fs vs pre h true is =
     let ps = pieces fs vs in

@@ -1,5 +1,5 @@
 -- The values of leaves that were read as they are shown.
-use Rattle.std.proofs.Common.{◌≡◌, ℕ, ℤ, pos, negsuc, ◌+◌, ◌-◌, ◌%◌, ◌^◌, ◌<◌, Bool, true, false, true≢false, ◌&&◌, List, ◌∷◌, ◌++◌, Option, Some, None, option_map, option_and_then, if◌then◌else◌, decimal, refl, sym, ap, ◌∙◌, arith}
+use Rattle.std.proofs.Common.{◌≡◌, ℕ, ℤ, pos, negsuc, Bool, true, false, ◌&&◌, List, Option, Some, None, option_map, option_and_then, if◌then◌else◌, refl, sym, ap, ◌∙◌}
 use Rattle.std.specs.Fmt.{signed_decimal}
 use Rattle.std.specs.Result.{result_ok}
 use Rattle.std.specs.Str.{is_utf8, bytes_eq}
@@ -7,14 +7,12 @@ use Rattle.std.proofs.lemmas.Slice.Eq.{bytes_eq-Decides}
 use Rattle.hex.specs.Hex.{encode_lower, decode_of}
 use Rattle.serde_json.specs.Data as json
 use Rattle.serde_json.specs.Find.{of_integer}
-use Rattle.serde_json.specs.Written.{compact_text, number_text}
-use Rattle.schema.specs.Annotations.{LeafType, is_text, order_of}
-use Rattle.schema.specs.Values.{ValueTree, boolean, integer, bytes}
+use Rattle.serde_json.specs.Written.{number_text}
+use Rattle.schema.specs.Annotations.{LeafType, is_text}
+use Rattle.schema.specs.Values.{ValueTree, bytes}
 use Rattle.schema.specs.Fits.{fits_kind, is_valid_text, fits_leaf}
-use Rattle.jsonrows.specs.Json.{number_json, leaf_json}
+use Rattle.jsonrows.specs.Json.{leaf_json}
 use Rattle.jsonrows.specs.Reading.{bytes_of_digits, bytes_read, leaf_read}
-use Rattle.jsonrows.specs.declared.cursor.Cursor.{Cursor}
-use Rattle.jsonrows.specs.inner.Lines.{Takes, IsShown}
 use Rattle.jsonrows.proofs.RowOrder.{and_true}
 
 pub signed_text : (z : ℤ) → signed_decimal z ≡ number_text (of_integer z)

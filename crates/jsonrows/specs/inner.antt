@@ -8,3 +8,6 @@ pub mod Levels
 pub mod Opening
 pub mod Room
 pub mod Lines
+pub mod Pieces
+pub mod Spans
+pub mod LowerDigits

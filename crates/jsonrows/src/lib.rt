@@ -7,11 +7,13 @@
 
 mod cursor;
 mod filter_reading;
+mod hex_digits;
 mod integers;
 mod json_text;
 mod laws;
 mod line;
 mod names;
+mod pieces;
 mod place;
 mod plain_text;
 mod printed_leaves;
@@ -26,6 +28,7 @@ mod scalars;
 mod schema_notes;
 mod schema_printing;
 mod schema_reading;
+mod spans;
 mod strings;
 mod tokens;
 mod unread;

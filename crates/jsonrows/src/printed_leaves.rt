@@ -1,21 +1,21 @@
 //! Values of leaves from a line in the form in which rows are printed.
 
-ghost use Rattle.std.specs.Prelude.{◌≡◌, ◌%◌, ◌^◌, IfOk, IfSome, decimal};
+ghost use Rattle.std.specs.Prelude.{◌≡◌, ◌%◌, ◌^◌, true, false, OnOk, IfSome, decimal};
 ghost use Rattle.std.specs.Int.{w64, cast_unsigned};
-ghost use Rattle.serde_json.specs.Written.{number_text};
-ghost use Rattle.schema.specs.Annotations.{order_of};
+ghost use Rattle.serde_json.specs.Data as json;
+ghost use Rattle.serde_json.specs.Written.{compact_text, number_text};
+ghost use Rattle.schema.specs.Annotations.{is_text, order_of};
 ghost use Rattle.schema.specs.Fits.{fits_leaf};
-ghost use Rattle.schema.specs.Values.{view as value_view};
-ghost use Rattle.schema.specs.Views.{leaf_type_view};
+ghost use Rattle.schema.specs.Views.{annotation_view, leaf_type_view};
 ghost use Rattle.jsonrows.specs.Json.{number_json, leaf_json};
-ghost use Rattle.jsonrows.specs.inner.Lines.{Takes, IsShown};
+ghost use Rattle.jsonrows.specs.inner.Lines.{Takes};
+ghost use Rattle.jsonrows.specs.inner.Pieces.{IsAdded, IsRead};
 
 use crate::cursor::Cursor;
-use crate::tokens::{fitting, leaf_at};
+use crate::hex_digits::are_digits;
+use crate::pieces::Piece;
 use crate::unread::Unread;
-use json::Token;
 use schema::{Kind, LeafType, Order, Value};
-use std::alloc::Global;
 
 /// How many numbers have 32 bits.
 const NUMBERS_OF_INT32: u64 = 4_294_967_296;
@@ -51,52 +51,120 @@ fn number_printed(leaf_type: &LeafType, line: &mut Cursor<'_>) -> Option<i64>
     }
 }
 
-/// An integer of a leaf.
-fn integer_printed(leaf_type: &LeafType, line: &mut Cursor<'_>) -> Result<Value, Unread>
-    ensures { IfOk result (λ v. IsShown (fits_leaf (leaf_type_view leaf_type.now)) (leaf_json (leaf_type_view leaf_type.now)) line.old (value_view v) line.new) }
+/// Reads an integer of a leaf.
+fn integer_printed<'t>(
+    leaf_type: &LeafType,
+    line: &mut Cursor<'t>,
+    pieces: &mut Vec<Piece<'t>>,
+) -> Result<(), Unread>
+    ensures { OnOk result (IsRead (fits_leaf (leaf_type_view leaf_type.now)) (leaf_json (leaf_type_view leaf_type.now)) line.old line.new pieces.old.items pieces.new.items) }
 {
     let number = number_printed(leaf_type, line).ok_or(Unread::Unknown)?;
-    fitting(leaf_type, Value::Int(number))
+    if !leaf_type.fits(&Value::Int(number)) {
+        return Err(Unread::Unknown);
+    }
+    pieces.push(Piece::Int(number))?;
+    Ok(())
 }
 
-/// A boolean of a leaf.
-fn boolean_printed(leaf_type: &LeafType, line: &mut Cursor<'_>) -> Result<Value, Unread>
-    ensures { IfOk result (λ v. IsShown (fits_leaf (leaf_type_view leaf_type.now)) (leaf_json (leaf_type_view leaf_type.now)) line.old (value_view v) line.new) }
+/// The boolean that stands there.
+fn boolean_read(line: &mut Cursor<'_>) -> Option<bool>
+    ensures { IfSome result (λ b. Takes line.old line.new (compact_text (json.boolean b))) }
 {
     if line.skip(b"true") {
-        return fitting(leaf_type, Value::Bool(true));
+        Some(true)
+    } else if line.skip(b"false") {
+        Some(false)
+    } else {
+        None
     }
-    if line.skip(b"false") {
-        return fitting(leaf_type, Value::Bool(false));
-    }
-    Err(Unread::Unknown)
 }
 
-/// Bytes of a leaf.
-fn bytes_printed(
-    alloc: Global,
+/// Reads a boolean of a leaf.
+fn boolean_printed<'t>(
     leaf_type: &LeafType,
-    line: &mut Cursor<'_>,
-) -> Result<Value, Unread>
-    ensures { IfOk result (λ v. IsShown (fits_leaf (leaf_type_view leaf_type.now)) (leaf_json (leaf_type_view leaf_type.now)) line.old (value_view v) line.new) }
+    line: &mut Cursor<'t>,
+    pieces: &mut Vec<Piece<'t>>,
+) -> Result<(), Unread>
+    ensures { OnOk result (IsRead (fits_leaf (leaf_type_view leaf_type.now)) (leaf_json (leaf_type_view leaf_type.now)) line.old line.new pieces.old.items pieces.new.items) }
+{
+    let boolean = boolean_read(line).ok_or(Unread::Unknown)?;
+    if !leaf_type.fits(&Value::Bool(boolean)) {
+        return Err(Unread::Unknown);
+    }
+    pieces.push(Piece::Bool(boolean))?;
+    Ok(())
+}
+
+/// Adds the bytes of a leaf of texts. They are UTF-8, and so they fit.
+fn put_text<'t>(
+    leaf_type: &LeafType,
+    text: &'t str,
+    pieces: &mut Vec<Piece<'t>>,
+) -> Result<(), Unread>
+    requires { is_text leaf_type.now.kind (annotation_view leaf_type.now.annotation) ≡ true }
+    ensures { OnOk result (IsAdded (leaf_type_view leaf_type.now) text.now pieces.old.items pieces.new.items) }
+{
+    pieces.push(Piece::Text(text))?;
+    Ok(())
+}
+
+/// Adds the bytes of a leaf of other bytes, by their digits.
+fn put_digits<'t>(
+    leaf_type: &LeafType,
+    digits: &'t str,
+    pieces: &mut Vec<Piece<'t>>,
+) -> Result<(), Unread>
+    requires { is_text leaf_type.now.kind (annotation_view leaf_type.now.annotation) ≡ false }
+    ensures { OnOk result (IsAdded (leaf_type_view leaf_type.now) digits.now pieces.old.items pieces.new.items) }
+{
+    if !are_digits(leaf_type.kind, digits) {
+        return Err(Unread::Unknown);
+    }
+    pieces.push(Piece::Digits(digits))?;
+    Ok(())
+}
+
+/// Adds the bytes of a leaf that a string is.
+fn put_bytes<'t>(
+    leaf_type: &LeafType,
+    text: &'t str,
+    pieces: &mut Vec<Piece<'t>>,
+) -> Result<(), Unread>
+    ensures { OnOk result (IsAdded (leaf_type_view leaf_type.now) text.now pieces.old.items pieces.new.items) }
+{
+    if leaf_type.is_text() {
+        put_text(leaf_type, text, pieces)
+    } else {
+        put_digits(leaf_type, text, pieces)
+    }
+}
+
+/// Reads bytes of a leaf.
+fn bytes_printed<'t>(
+    leaf_type: &LeafType,
+    line: &mut Cursor<'t>,
+    pieces: &mut Vec<Piece<'t>>,
+) -> Result<(), Unread>
+    ensures { OnOk result (IsRead (fits_leaf (leaf_type_view leaf_type.now)) (leaf_json (leaf_type_view leaf_type.now)) line.old line.new pieces.old.items pieces.new.items) }
 {
     let Some(text) = line.string() else {
         return Err(Unread::Unknown);
     };
-    leaf_at(alloc, leaf_type, Token::String(text))
+    put_bytes(leaf_type, text, pieces)
 }
 
-/// A value of a leaf, its repetition aside.
-pub fn leaf_printed(
-    alloc: Global,
+/// Reads a value of a leaf, its repetition aside.
+pub fn leaf_printed<'t>(
     leaf_type: &LeafType,
-    line: &mut Cursor<'_>,
-) -> Result<Value, Unread>
-    ensures { IfOk result (λ v. IsShown (fits_leaf (leaf_type_view leaf_type.now)) (leaf_json (leaf_type_view leaf_type.now)) line.old (value_view v) line.new) }
+    line: &mut Cursor<'t>,
+    pieces: &mut Vec<Piece<'t>>,
+) -> Result<(), Unread>
+    ensures { OnOk result (IsRead (fits_leaf (leaf_type_view leaf_type.now)) (leaf_json (leaf_type_view leaf_type.now)) line.old line.new pieces.old.items pieces.new.items) }
 {
     match leaf_type.kind {
-        Kind::Boolean => boolean_printed(leaf_type, line),
-        Kind::Int32 | Kind::Int64 => integer_printed(leaf_type, line),
-        Kind::ByteArray | Kind::FixedLenByteArray(_) => bytes_printed(alloc, leaf_type, line),
+        Kind::Boolean => boolean_printed(leaf_type, line, pieces),
+        Kind::Int32 | Kind::Int64 => integer_printed(leaf_type, line, pieces),
+        Kind::ByteArray | Kind::FixedLenByteArray(_) => bytes_printed(leaf_type, line, pieces),
     }
 }

@@ -1,19 +1,23 @@
 //! Values of fields from a line in the form in which rows are printed.
 
-ghost use Rattle.std.specs.Prelude.{◌≡◌, ◌<◌, ◌∷◌, ◌++◌, [], true, false, length, IfOk, IsTrue, option_map, slice_index_or};
+ghost use Rattle.std.specs.Prelude.{◌≡◌, ◌<◌, ◌∷◌, ◌++◌, false, length, IfOk, OnOk, IsTrue, option_map, slice_index_or};
 ghost use Rattle.serde_json.specs.Written.{comma_if, items_text};
 ghost use Rattle.schema.specs.Fits.{fits, fits_inside, fits_each};
-ghost use Rattle.schema.specs.Values.{view as value_view, views, each};
+ghost use Rattle.schema.specs.Values.{each};
 ghost use Rattle.schema.specs.Views.{field_view, field_views};
-ghost use Rattle.jsonrows.specs.Json.{items_json, inside_json, field_json, row_text};
-ghost use Rattle.jsonrows.specs.inner.Lines.{rest_of, Takes, IsShown, with_comma, members_shown};
-ghost use Rattle.jsonrows.specs.inner.Slots.{slot_of, slots_made, slot_view, slots_view, key_in, order_of, order_view, vec_items};
+ghost use Rattle.jsonrows.specs.Json.{items_json, inside_json, field_json, members_json, row_text};
+ghost use Rattle.jsonrows.specs.inner.Lines.{rest_of, Takes, with_comma, open_text, members_shown};
+ghost use Rattle.jsonrows.specs.inner.Pieces.{IsRead, AreRead};
+ghost use Rattle.jsonrows.specs.inner.Spans.{IsMemberRead};
+ghost use Rattle.jsonrows.specs.inner.Slots.{slot_of, slots_made, slot_view, slots_view, key_in, indices_of, order_of, order_view, vec_items};
 
 use crate::cursor::Cursor;
+use crate::pieces::Piece;
 use crate::printed_leaves::leaf_printed;
 use crate::row_plan::Slot;
+use crate::spans::{Span, no_spans, note_span, put_spans};
 use crate::unread::Unread;
-use schema::{Field, Repetition, Value};
+use schema::{Field, Repetition};
 use std::alloc::Global;
 
 /// What stands at the field of an index.
@@ -22,6 +26,17 @@ fn slot_at(slots: &[Slot], index: usize) -> Result<&Slot, Unread>
 {
     if index < slots.len() {
         Ok(&slots[index])
+    } else {
+        Err(Unread::Unknown)
+    }
+}
+
+/// The field of an index.
+fn field_at(fields: &[Field], index: usize) -> Result<&Field, Unread>
+    ensures { IfOk result (λ field. (index < length fields.now) × (field.now ≡ slice_index_or fields.now index field.now)) }
+{
+    if index < fields.len() {
+        Ok(&fields[index])
     } else {
         Err(Unread::Unknown)
     }
@@ -60,136 +75,220 @@ fn skip_comma(later: bool, line: &mut Cursor<'_>) -> bool
     true
 }
 
-/// A value of a field, its repetition aside.
+/// Reads a value of a field, its repetition aside.
 #[cycle(printed)]
-fn inside_printed(
+fn inside_printed<'t>(
     alloc: Global,
     field: &Field,
     slot: &Slot,
-    line: &mut Cursor<'_>,
-) -> Result<Value, Unread>
+    line: &mut Cursor<'t>,
+    pieces: &mut Vec<Piece<'t>>,
+) -> Result<(), Unread>
     requires { slot_view slot.now ≡ slot_of (field_view field.now) }
-    ensures { IfOk result (λ v. IsShown (fits_inside (field_view field.now)) (inside_json (field_view field.now)) line.old (value_view v) line.new) }
+    ensures { OnOk result (IsRead (fits_inside (field_view field.now)) (inside_json (field_view field.now)) line.old line.new pieces.old.items pieces.new.items) }
 {
     match field {
-        Field::Leaf { leaf_type, .. } => leaf_printed(alloc, leaf_type, line),
+        Field::Leaf { leaf_type, .. } => leaf_printed(leaf_type, line, pieces),
         Field::Group { fields, .. } => match slot {
             Slot::Group { slots, order, .. } => {
                 let order = borrowed(order);
                 let slots = slots.as_slice();
                 let fields = fields.as_slice();
-                let values = members_printed(alloc, fields, slots, order, line)?;
-                Ok(Value::Group(values))
+                pieces.push(Piece::GroupBegins)?;
+                members_printed(alloc, fields, slots, order, line, pieces)?;
+                pieces.push(Piece::GroupEnds)?;
+                Ok(())
             }
             _ => Err(Unread::Unknown),
         },
     }
 }
 
-/// The items of a list, after its bracket.
+/// Reads the items of a list, after its bracket.
 #[cycle(printed)]
-fn items_printed(
+fn items_printed<'t>(
     alloc: Global,
     field: &Field,
     slot: &Slot,
-    line: &mut Cursor<'_>,
-) -> Result<Vec<Value>, Unread>
+    line: &mut Cursor<'t>,
+    pieces: &mut Vec<Piece<'t>>,
+) -> Result<(), Unread>
     requires { slot_view slot.now ≡ slot_of (field_view field.now) }
-    ensures fit { IfOk result (λ all. each (fits_inside (field_view field.now)) (views all.items) ≡ true) }
-    ensures shown { IfOk result (λ all. Takes line.old line.new (items_text false (items_json (inside_json (field_view field.now)) (views all.items)))) }
+    ensures { OnOk result (AreRead (each (fits_inside (field_view field.now))) (λ vs. items_text false (items_json (inside_json (field_view field.now)) vs)) (rest_of line.old) (rest_of line.new) pieces.old.items pieces.new.items) }
 {
-    let mut values = Vec::new(alloc);
     let mut later = false;
     'items: for _ in 0..u64::MAX {
         if line.skip_byte(b']') {
-            return Ok(values);
+            return Ok(());
         }
         if !skip_comma(later, line) {
             return Err(Unread::Unknown);
         }
-        values.push(inside_printed(alloc, field, slot, line)?)?;
+        inside_printed(alloc, field, slot, line, pieces)?;
         later = true;
     }
     Err(Unread::Unknown)
 }
 
-/// A value of a field.
+/// Reads a value of a field.
 #[cycle(printed)]
-fn field_printed(
+fn field_printed<'t>(
     alloc: Global,
     field: &Field,
     slot: &Slot,
-    line: &mut Cursor<'_>,
-) -> Result<Value, Unread>
+    line: &mut Cursor<'t>,
+    pieces: &mut Vec<Piece<'t>>,
+) -> Result<(), Unread>
     requires { slot_view slot.now ≡ slot_of (field_view field.now) }
-    ensures { IfOk result (λ v. IsShown (fits (field_view field.now)) (field_json (field_view field.now)) line.old (value_view v) line.new) }
+    ensures { OnOk result (IsRead (fits (field_view field.now)) (field_json (field_view field.now)) line.old line.new pieces.old.items pieces.new.items) }
 {
     match field.repetition() {
-        Repetition::Required => inside_printed(alloc, field, slot, line),
+        Repetition::Required => inside_printed(alloc, field, slot, line, pieces),
         Repetition::Optional => {
             if line.skip(b"null") {
-                return Ok(Value::Null);
+                pieces.push(Piece::Null)?;
+                return Ok(());
             }
-            inside_printed(alloc, field, slot, line)
+            inside_printed(alloc, field, slot, line, pieces)
         }
         Repetition::Repeated => {
-            if line.skip_byte(b'[') {
-                return Ok(Value::List(items_printed(alloc, field, slot, line)?));
+            if !line.skip_byte(b'[') {
+                return Err(Unread::Unknown);
             }
-            Err(Unread::Unknown)
+            pieces.push(Piece::ListBegins)?;
+            items_printed(alloc, field, slot, line, pieces)?;
+            pieces.push(Piece::ListEnds)?;
+            Ok(())
         }
     }
 }
 
-/// The values of fields that stand in the order of their names, after the brace.
+/// Reads the values of fields that stand in the order of their names, after the brace.
 #[cycle(printed)]
-fn in_order(
+fn in_order<'t>(
     alloc: Global,
     fields: &[Field],
     slots: &[Slot],
-    line: &mut Cursor<'_>,
-) -> Result<Vec<Value>, Unread>
+    line: &mut Cursor<'t>,
+    pieces: &mut Vec<Piece<'t>>,
+) -> Result<(), Unread>
     requires { slots_view slots.now ≡ slots_made (field_views fields.now) }
-    ensures fit { IfOk result (λ all. fits_each (field_views fields.now) (views all.items) ≡ true) }
-    ensures shown { IfOk result (λ all. 44 ∷ rest_of line.old ≡ members_shown (field_views fields.now) (views all.items) ++ rest_of line.new) }
+    ensures { OnOk result (AreRead (fits_each (field_views fields.now)) (members_shown (field_views fields.now)) (44 ∷ rest_of line.old) (rest_of line.new) pieces.old.items pieces.new.items) }
 {
     if fields.is_empty() {
         return Err(Unread::Unknown);
     }
-    let mut values = Vec::with_capacity(alloc, fields.len())?;
     for (i, field) in fields.iter().enumerate() {
         let slot = slot_at(slots, i)?;
         if !skip_key(slot, i == 0, line) {
             return Err(Unread::Unknown);
         }
-        values.push(field_printed(alloc, field, slot, line)?)?;
+        field_printed(alloc, field, slot, line, pieces)?;
     }
-    Ok(values)
+    Ok(())
 }
 
-/// The values of fields by the members of an object.
+/// Reads a member, by the index of its field.
 #[cycle(printed)]
-pub fn members_printed(
+fn member_printed<'t>(
+    alloc: Global,
+    fields: &[Field],
+    slots: &[Slot],
+    index: usize,
+    is_first: bool,
+    line: &mut Cursor<'t>,
+    read: &mut Vec<Piece<'t>>,
+    spans: &mut Vec<Option<Span>>,
+) -> Result<(), Unread>
+    requires { slots_view slots.now ≡ slots_made (field_views fields.now) }
+    ensures { OnOk result (IsMemberRead (field_views fields.now) index is_first (rest_of line.old) (rest_of line.new) read.old.items read.new.items spans.old.items spans.new.items) }
+{
+    let field = field_at(fields, index)?;
+    let slot = slot_at(slots, index)?;
+    if !skip_key(slot, is_first, line) {
+        return Err(Unread::Unknown);
+    }
+    let from = read.as_slice().len();
+    field_printed(alloc, field, slot, line, read)?;
+    let to = read.as_slice().len();
+    note_span(spans, index, Span { from, to })
+}
+
+/// Reads the values of fields that stand in another order than their names, after the brace. The members stand in the
+/// order of the names: their pieces are kept, and added in the order of the fields.
+#[cycle(printed)]
+fn by_name<'t>(
+    alloc: Global,
+    fields: &[Field],
+    slots: &[Slot],
+    order: &[usize],
+    line: &mut Cursor<'t>,
+    pieces: &mut Vec<Piece<'t>>,
+) -> Result<(), Unread>
+    requires slots { slots_view slots.now ≡ slots_made (field_views fields.now) }
+    requires order { order.now ≡ indices_of (field_views fields.now) }
+    ensures { OnOk result (AreRead (fits_each (field_views fields.now)) (λ vs. open_text (members_json (field_views fields.now) vs)) (44 ∷ rest_of line.old) (rest_of line.new) pieces.old.items pieces.new.items) }
+{
+    if order.is_empty() {
+        return Err(Unread::Unknown);
+    }
+    let mut read = Vec::with_capacity(alloc, fields.len())?;
+    let mut spans = no_spans(alloc, fields.len())?;
+    for (i, index) in order.iter().enumerate() {
+        member_printed(
+            alloc,
+            fields,
+            slots,
+            *index,
+            i == 0,
+            line,
+            &mut read,
+            &mut spans,
+        )?;
+    }
+    put_spans(read.as_slice(), spans.as_slice(), pieces)
+}
+
+/// Reads the values of fields by the members of an object, after its brace.
+#[cycle(printed)]
+fn ordered_printed<'t>(
     alloc: Global,
     fields: &[Field],
     slots: &[Slot],
     order: Option<&[usize]>,
-    line: &mut Cursor<'_>,
-) -> Result<Vec<Value>, Unread>
+    line: &mut Cursor<'t>,
+    pieces: &mut Vec<Piece<'t>>,
+) -> Result<(), Unread>
     requires slots { slots_view slots.now ≡ slots_made (field_views fields.now) }
     requires order { order_view order ≡ order_of (field_views fields.now) }
-    ensures fit { IfOk result (λ all. fits_each (field_views fields.now) (views all.items) ≡ true) }
-    ensures shown { IfOk result (λ all. Takes line.old line.new (row_text (field_views fields.now) (views all.items))) }
+    ensures { OnOk result (AreRead (fits_each (field_views fields.now)) (λ vs. open_text (members_json (field_views fields.now) vs)) (44 ∷ rest_of line.old) (rest_of line.new) pieces.old.items pieces.new.items) }
+{
+    match order {
+        None => in_order(alloc, fields, slots, line, pieces),
+        Some(order) => by_name(alloc, fields, slots, order, line, pieces),
+    }
+}
+
+/// Reads the values of fields by the members of an object.
+#[cycle(printed)]
+pub fn members_printed<'t>(
+    alloc: Global,
+    fields: &[Field],
+    slots: &[Slot],
+    order: Option<&[usize]>,
+    line: &mut Cursor<'t>,
+    pieces: &mut Vec<Piece<'t>>,
+) -> Result<(), Unread>
+    requires slots { slots_view slots.now ≡ slots_made (field_views fields.now) }
+    requires order { order_view order ≡ order_of (field_views fields.now) }
+    ensures { OnOk result (AreRead (fits_each (field_views fields.now)) (row_text (field_views fields.now)) (rest_of line.old) (rest_of line.new) pieces.old.items pieces.new.items) }
 {
     if !line.skip_byte(b'{') {
         return Err(Unread::Unknown);
     }
-    let values = match order {
-        None => in_order(alloc, fields, slots, line)?,
-        Some(_) => return Err(Unread::Unknown),
-    };
+    ordered_printed(alloc, fields, slots, order, line, pieces)?;
     if line.skip_byte(b'}') {
-        Ok(values)
+        Ok(())
     } else {
         Err(Unread::Unknown)
     }

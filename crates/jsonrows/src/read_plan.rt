@@ -3,15 +3,19 @@
 ghost use Rattle.std.specs.Prelude.{◌≡◌, true, IfOk};
 ghost use Rattle.bits.specs.Refusals.{RefusedMemoryOnly};
 ghost use Rattle.schema.specs.Fits.{fits_each};
-ghost use Rattle.schema.specs.Values.{views};
+ghost use Rattle.schema.specs.Values.{ValueTrees};
+ghost use Rattle.assemble.specs.Sinks.{tokens_each};
 ghost use Rattle.jsonrows.specs.Json.{row_text};
+ghost use Rattle.jsonrows.specs.Reader.{IsRowOf};
+ghost use Rattle.jsonrows.specs.inner.Pieces.{tokens_of};
 
 use crate::cursor::Cursor;
+use crate::pieces::Piece;
 use crate::printed_rows::members_printed;
 use crate::row_plan::RowPlan;
 use crate::unread::Unread;
 use bits::R;
-use schema::{Schema, Value};
+use schema::Schema;
 use std::alloc::Global;
 use std::marker::Model;
 
@@ -55,20 +59,39 @@ impl<'a> ReadPlan<'a> {
         self.schema
     }
 
-    /// The values of the row whose printed text a line is.
-    pub fn row_printed(&self, alloc: Global, text: &str) -> Result<Vec<Value>, Unread>
-        ensures fit { IfOk result (λ all. fits_each self.now (views all.items) ≡ true) }
-        ensures shown { IfOk result (λ all. text.now ≡ row_text self.now (views all.items)) }
+    /// The pieces of the row whose printed text a line is, in a vector with room for this many.
+    fn printed<'t>(
+        &self,
+        alloc: Global,
+        text: &'t str,
+        room: usize,
+    ) -> Result<Vec<Piece<'t>>, Unread>
+        ensures { IfOk result (λ pieces. (values : ValueTrees) × ((fits_each self.now values ≡ true) × ((text.now ≡ row_text self.now values) × (tokens_of pieces.items ≡ tokens_each values)))) }
     {
         let mut line = Cursor::new(text);
+        let mut pieces = Vec::with_capacity(alloc, room)?;
         let fields = self.schema.fields();
         let slots = self.plan.slots();
         let order = self.plan.order();
-        let values = members_printed(alloc, fields, slots, order, &mut line)?;
+        members_printed(alloc, fields, slots, order, &mut line, &mut pieces)?;
         if line.is_over() {
-            Ok(values)
+            Ok(pieces)
         } else {
             Err(Unread::Unknown)
         }
+    }
+
+    /// The pieces of the row that a text is, where it is one as it is printed, in a vector with room for this many.
+    pub fn pieces_of<'t>(
+        &self,
+        alloc: Global,
+        text: &'t str,
+        room: usize,
+    ) -> Result<Vec<Piece<'t>>, Unread>
+        ensures { IfOk result (λ pieces. (values : ValueTrees) × (IsRowOf self.now text.now values × (tokens_of pieces.items ≡ tokens_each values))) }
+    {
+        // For the proof: what is known of the schema.
+        let _ = self.schema.leaves();
+        self.printed(alloc, text, room)
     }
 }

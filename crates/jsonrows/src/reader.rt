@@ -1,25 +1,29 @@
 //! Rows of a schema from texts, one after another.
 
-ghost use Rattle.std.specs.Prelude.{◌≡◌, ◌⊎◌, Some, None, Err, IfOk, IfErr, IsTrue};
+ghost use Rattle.std.specs.Prelude.{◌≡◌, ◌⊎◌, Some, None, Err, IfOk, IfErr, OnOk, IsTrue};
 ghost use Rattle.bits.specs.Refusals.{RefusedMemoryOnly};
 ghost use Rattle.bits.specs.declared.refusal.Refusal.TheVariants.{Memory, RowShape, Script};
 ghost use Rattle.serde_json.specs.Data.{Data, Members, object};
 ghost use Rattle.serde_json.specs.Read.{read};
 ghost use Rattle.schema.specs.Fits.{fits_each};
-ghost use Rattle.schema.specs.Values.{views};
+ghost use Rattle.schema.specs.Values.{ValueTrees, views};
 ghost use Rattle.schema.specs.Views.{row_view};
+ghost use Rattle.assemble.specs.Sinks.{tokens_each, Visits};
 ghost use Rattle.jsonrows.specs.Reading.{members_read, row_of, line_of};
-ghost use Rattle.jsonrows.specs.Reader.{schema_of};
+ghost use Rattle.jsonrows.specs.Reader.{schema_of, IsRowOf};
+ghost use Rattle.jsonrows.specs.inner.Pieces.{tokens_of};
 
 use crate::names::{Names, names_of};
+use crate::pieces::{Piece, show_pieces};
 use crate::read_plan::ReadPlan;
 use crate::row_reading::row_from;
 use crate::tokens::{members_at, next_token};
 use crate::unread::Unread;
+use assemble::{RowBuilder, RowSink, show_row};
 use bits::{R, Refusal};
 use json::{Scratch, Token};
 use schema::{Row, Schema, Value};
-use std::alloc::Global;
+use std::alloc::{AllocError, Global};
 
 /// How deep the members of a row nest at most.
 const DEEPEST: usize = 126;
@@ -32,6 +36,8 @@ pub struct Reader<'a> {
     plan: ReadPlan<'a>,
     names: Names,
     scratch: Scratch,
+    /// How many pieces the row had that was read at once last.
+    room: usize,
 }
 
 /// The values of a row of the schema, where the text is one of the form that is read from tokens.
@@ -59,25 +65,29 @@ fn values_of_tokens(
     }
 }
 
-/// The values of a row of the schema, where the text is one of the form that is read with no JSON value between: the
-/// text of a row as it is printed, at once, and else from tokens.
-fn values_from(
+/// The row that is made of pieces.
+fn row_of_pieces(alloc: Global, fields: usize, pieces: &[Piece<'_>]) -> Result<Row, AllocError>
+    ensures { IfOk result (λ row. (values : ValueTrees) → tokens_of pieces.now ≡ tokens_each values → row_view row ≡ values) }
+{
+    let mut builder = RowBuilder::new(alloc, fields)?;
+    show_pieces(alloc, pieces, &mut builder)?;
+    Ok(builder.into_row())
+}
+
+/// The row that a text is, where it is the text of a row as it is printed. `room` is how many pieces the row had that
+/// was read so last.
+fn row_printed(
     alloc: Global,
     plan: &ReadPlan<'_>,
-    names: &Names,
     text: &str,
-    scratch: &mut Scratch,
-) -> Result<Vec<Value>, Unread>
-    ensures { IfOk result (λ values. (ms : Members) × (read text.now ≡ Some (object ms)) × (members_read plan.now ms ≡ Some (views values.items))) }
+    room: &mut usize,
+) -> Result<Row, Unread>
+    ensures { IfOk result (λ row. IsRowOf plan.now text.now (row_view row)) }
 {
-    let schema = plan.schema();
-    // For the proof: what is known of the schema.
-    let _ = schema.leaves();
-    match plan.row_printed(alloc, text) {
-        Ok(values) => Ok(values),
-        Err(Unread::OutOfMemory) => Err(Unread::OutOfMemory),
-        Err(Unread::Unknown) => values_of_tokens(alloc, schema, names, text, scratch),
-    }
+    let pieces = plan.pieces_of(alloc, text, *room)?;
+    *room = pieces.len();
+    let row = row_of_pieces(alloc, plan.schema().fields().len(), pieces.as_slice())?;
+    Ok(row)
 }
 
 impl<'a> Reader<'a> {
@@ -94,13 +104,31 @@ impl<'a> Reader<'a> {
             plan,
             names,
             scratch: Scratch::new(alloc),
+            room: 0,
         })
     }
 
+    /// The row that a text in any form is.
+    fn read_otherwise(&mut self, text: &str) -> R<Row>
+        ensures stands { IfOk result (λ row. (d : Data) × (read text.now ≡ Some d) × (row_of (schema_of self.old) d ≡ Some (row_view row))) }
+        ensures fits { IfOk result (λ row. IsTrue (fits_each (schema_of self.old) (row_view row))) }
+        ensures shape { result ≡ Err RowShape → (ms : Members) × (line_of text.now ≡ Some ms) × (members_read (schema_of self.old) ms ≡ None) }
+        ensures script { result ≡ Err Script → line_of text.now ≡ None }
+        ensures which { IfErr result (λ e. (e ≡ RowShape) ⊎ (e ≡ Script) ⊎ (e ≡ Memory)) }
+        ensures same { schema_of self.new ≡ schema_of self.old }
+    {
+        let schema = self.plan.schema();
+        match values_of_tokens(self.alloc, schema, &self.names, text, &mut self.scratch) {
+            Ok(values) => Ok(Row { values }),
+            Err(Unread::OutOfMemory) => Err(Refusal::Memory),
+            Err(Unread::Unknown) => row_from(self.alloc, schema, text),
+        }
+    }
+
     /// The row that a text is, under the same refusals as `row_from`. A row takes memory for its own values, and
-    /// where its text is longer than those before it. The text of a row as it is printed is read at once, where the
-    /// fields of each of its groups stand in the order of their names and its strings have no escape; any other text
-    /// is then read again from its tokens, and one that is refused, or names a member twice, by `row_from`.
+    /// where its text is longer than those before it. The text of a row as it is printed is read at once, where its
+    /// strings have no escape; any other text is then read again from its tokens, and one that is refused, or names a
+    /// member twice, by `row_from`.
     pub fn read(&mut self, text: &str) -> R<Row>
         ensures stands { IfOk result (λ row. (d : Data) × (read text.now ≡ Some d) × (row_of (schema_of self.old) d ≡ Some (row_view row))) }
         ensures fits { IfOk result (λ row. IsTrue (fits_each (schema_of self.old) (row_view row))) }
@@ -109,10 +137,37 @@ impl<'a> Reader<'a> {
         ensures which { IfErr result (λ e. (e ≡ RowShape) ⊎ (e ≡ Script) ⊎ (e ≡ Memory)) }
         ensures same { schema_of self.new ≡ schema_of self.old }
     {
-        match values_from(self.alloc, &self.plan, &self.names, text, &mut self.scratch) {
-            Ok(values) => Ok(Row { values }),
+        match row_printed(self.alloc, &self.plan, text, &mut self.room) {
+            Ok(row) => Ok(row),
             Err(Unread::OutOfMemory) => Err(Refusal::Memory),
-            Err(Unread::Unknown) => row_from(self.alloc, self.plan.schema(), text),
+            Err(Unread::Unknown) => self.read_otherwise(text),
+        }
+    }
+
+    /// Shows a sink the values of the row that a text is, under the same refusals as `read`, and reads it in the same
+    /// way. A text that is read at once takes no memory for the values: the sink is shown those that lie in the text.
+    ///
+    /// Refused RowShape or Script, it has shown nothing. Out of memory, it may have shown a part of the row.
+    pub fn read_to<K: RowSink>(&mut self, text: &str, sink: &mut K) -> R<()>
+        ensures stands { OnOk result (Visits (K.shows sink.old) (K.shows sink.new) tokens_each (IsRowOf (schema_of self.old) text.now)) }
+        ensures unshown { IfErr result (λ e. (e ≡ Memory) ⊎ (sink.new ≡ sink.old)) }
+        ensures shape { result ≡ Err RowShape → (ms : Members) × (line_of text.now ≡ Some ms) × (members_read (schema_of self.old) ms ≡ None) }
+        ensures script { result ≡ Err Script → line_of text.now ≡ None }
+        ensures which { IfErr result (λ e. (e ≡ RowShape) ⊎ (e ≡ Script) ⊎ (e ≡ Memory)) }
+        ensures same { schema_of self.new ≡ schema_of self.old }
+    {
+        match self.plan.pieces_of(self.alloc, text, self.room) {
+            Ok(pieces) => {
+                self.room = pieces.len();
+                show_pieces(self.alloc, pieces.as_slice(), sink)?;
+                Ok(())
+            }
+            Err(Unread::OutOfMemory) => Err(Refusal::Memory),
+            Err(Unread::Unknown) => {
+                let row = self.read_otherwise(text)?;
+                show_row(&row, sink)?;
+                Ok(())
+            }
         }
     }
 }

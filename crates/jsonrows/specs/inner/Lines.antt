@@ -1,12 +1,12 @@
 -- What is read of a line in the form in which rows are printed.
 use Rattle.std.specs.Prelude.{◌≡◌, ℕ, Bool, true, false, List, [], ◌∷◌, ◌++◌, drop}
-use Rattle.serde_json.specs.Data.{Data}
+use Rattle.serde_json.specs.Data.{Data, Members, no_members, member}
 use Rattle.serde_json.specs.Written.{compact_text}
 use Rattle.schema.specs.Shape.{Fields, field}
 use Rattle.schema.specs.Values.{ValueTree, ValueTrees, value}
 use Rattle.jsonrows.specs.Json.{field_json}
 use Rattle.jsonrows.specs.declared.cursor.Cursor.{Cursor}
-use Rattle.jsonrows.specs.inner.Slots.{slot_of, key_in}
+use Rattle.jsonrows.specs.inner.Slots.{slot_of, key_in, key_of}
 
 -- what is left of a line
 abbrev pub rest_of : Cursor → List ℕ
@@ -29,3 +29,12 @@ with_comma false s = s
 abbrev pub members_shown : Fields → ValueTrees → List ℕ
 members_shown (field f fs) (value v vs) = (key_in (slot_of f) ++ compact_text (field_json f v)) ++ members_shown fs vs
 members_shown _ _ = []
+
+-- a member, with a comma before it
+abbrev pub keyed : List ℕ → Data → List ℕ
+keyed k d = key_of k ++ compact_text d
+
+-- the members of an object, each with a comma before it
+abbrev pub open_text : Members → List ℕ
+open_text no_members = []
+open_text (member k d ms) = keyed k d ++ open_text ms

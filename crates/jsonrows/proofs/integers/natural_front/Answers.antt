@@ -1,4 +1,4 @@
-use Rattle.std.proofs.Common.{◌≡◌, ◌+◌, ◌∷◌, ◌++◌, length, drop, sym, ap, ap₂, ◌∙◌, arith, decimal}
+use Rattle.std.proofs.Common.{◌≡◌, ◌+◌, ◌++◌, length, drop, sym, ap, ap₂, ◌∙◌, arith, decimal}
 use Rattle.std.proofs.lemmas.List.{drop-drop}
 use Rattle.jsonrows.proofs.Digits.{one_digit}
 use Rattle.jsonrows.proofs.integers.natural_front.Goals as goal

@@ -1,4 +1,4 @@
-use Rattle.std.proofs.Common.{subst, sym, arith}
+use Rattle.std.proofs.Common.{subst, arith}
 use Rattle.json.specs.Written.{PlainBetween}
 use Rattle.jsonrows.proofs.Lines.{content_taken}
 use Rattle.jsonrows.proofs.cursor.Cursor.content.Goals as goal

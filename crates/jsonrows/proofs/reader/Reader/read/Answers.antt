@@ -1,10 +1,7 @@
-use Rattle.std.proofs.Common.{sym}
-use Rattle.serde_json.specs.Data.{object}
-use Rattle.jsonrows.proofs.Fitting.{read_fits}
 use Rattle.jsonrows.proofs.reader.Reader.read.Goals as goal
 
 pub returns-in-Ok-clause-stands : goal.returns-in-Ok-clause-stands
-returns-in-Ok-clause-stands c = let h = c.in-Ok.ensures in (object h.0, h.1, h.2)
+returns-in-Ok-clause-stands c = let h = c.in-Ok.ensures in (h.0, h.1.0, h.1.1.0)
 
 pub returns-in-Ok-clause-fits : goal.returns-in-Ok-clause-fits
-returns-in-Ok-clause-fits c = let h = c.in-Ok.ensures in read_fits c.args.self.now.plan h.0 _ (sym h.2)
+returns-in-Ok-clause-fits c = c.in-Ok.ensures.1.1.1
