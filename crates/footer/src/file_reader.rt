@@ -52,7 +52,8 @@ impl<'a> FileReader<'a> {
     /// [`read_footer`]: crate::read_footer
     pub fn new(alloc: Global, bytes: &'a [u8]) -> R<FileReader<'a>>
         ensures stands { IfOk result (λ file. (rows : List ValueTrees) × FileMeans bytes.now file.schema rows × rows_of_file file rows) }
-        ensures alone { IfOk result (λ file. (fs : Fields) (rows : List ValueTrees) → FileMeans bytes.now fs rows → (fs ≡ file.schema) × rows_of_file file rows) }
+        ensures alone { IfOk result (λ file. (fs : Fields) (rows : List ValueTrees) → FileMeans bytes.now fs rows
+            → (fs ≡ file.schema) × rows_of_file file rows) }
         ensures within_limits { OnOk result (IsOverLimit bytes.now → ⊥) }
         ensures only { OnFault result ((fs : Fields) (rows : List ValueTrees) → FileMeans bytes.now fs rows → ⊥) }
         ensures which { IfErr result (HasFault bytes.now) }

@@ -37,36 +37,6 @@ pub(crate) fn is_out_of_range(options: &WriteOptions) -> bool
         || (options.page_version != 1 && options.page_version != 2)
 }
 
-/// Writes the rows after the magic, in groups of as many as the options say, and returns the groups' records.
-fn write_groups(
-    alloc: Global,
-    schema: &Schema,
-    options: &WriteOptions,
-    rows: &[Row],
-    out: &mut Vec<u8>,
-) -> R<Vec<GroupMeta>>
-    requires in_range { IsOutOfRange options.now → ⊥ }
-    requires begun { out.old.items ≡ magic }
-    ensures stands { let groups = groups_of options.now.group_rows (rows_view rows.now) in
-        IfOk result (λ gs. AppendsGroups schema.now (chunk_options options.now) magic out.new.items (map group_meta_view gs.items) groups) }
-    ensures readable { OnOk result (AllByRecursion (AreTaken schema.now) (groups_of options.now.group_rows (rows_view rows.now))) }
-    ensures only { OnFault result (RowsFit schema.now (rows_view rows.now) → ⊥) }
-    ensures limit { result ≡ Err Refusal.Limit → IsTooMuch schema.now options.now (rows_view rows.now) }
-    ensures which { RefusedOnly IsOfRows result }
-{
-    let size = options.group_rows as usize;
-    let chunk_options = options.of_chunks();
-    let mut groups = Vec::new(alloc);
-    let mut rest = rows;
-    while !rest.is_empty() {
-        let (group, others) = rest.split_at(size.min(rest.len()));
-        let meta = write_group(alloc, schema, chunk_options, group, out)?;
-        groups.push(meta)?;
-        rest = others;
-    }
-    Ok(groups)
-}
-
 /// The bytes of a file that means these rows of this schema (parquet-format, README.md, "File
 /// format"): `PAR1`, the row groups, each with a chunk for each leaf in the order of the leaves, the
 /// footer, its length, and `PAR1`, each right after the other. The rows are borrowed.
@@ -109,4 +79,34 @@ pub fn write_file(
     let groups = write_groups(alloc, schema, options, rows, &mut front)?;
     let record = record_of(alloc, schema, rows.len(), groups)?;
     ended(alloc, front, &record)
+}
+
+/// Writes the rows after the magic, in groups of as many as the options say, and returns the groups' records.
+fn write_groups(
+    alloc: Global,
+    schema: &Schema,
+    options: &WriteOptions,
+    rows: &[Row],
+    out: &mut Vec<u8>,
+) -> R<Vec<GroupMeta>>
+    requires in_range { IsOutOfRange options.now → ⊥ }
+    requires begun { out.old.items ≡ magic }
+    ensures stands { let groups = groups_of options.now.group_rows (rows_view rows.now) in
+        IfOk result (λ gs. AppendsGroups schema.now (chunk_options options.now) magic out.new.items (map group_meta_view gs.items) groups) }
+    ensures readable { OnOk result (AllByRecursion (AreTaken schema.now) (groups_of options.now.group_rows (rows_view rows.now))) }
+    ensures only { OnFault result (RowsFit schema.now (rows_view rows.now) → ⊥) }
+    ensures limit { result ≡ Err Refusal.Limit → IsTooMuch schema.now options.now (rows_view rows.now) }
+    ensures which { RefusedOnly IsOfRows result }
+{
+    let size = options.group_rows as usize;
+    let chunk_options = options.of_chunks();
+    let mut groups = Vec::new(alloc);
+    let mut rest = rows;
+    while !rest.is_empty() {
+        let (group, others) = rest.split_at(size.min(rest.len()));
+        let meta = write_group(alloc, schema, chunk_options, group, out)?;
+        groups.push(meta)?;
+        rest = others;
+    }
+    Ok(groups)
 }

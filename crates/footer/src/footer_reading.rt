@@ -13,6 +13,38 @@ use byteorder::{ByteOrder, LittleEndian};
 use metadata::{FileMeta, one_footer};
 use std::alloc::Global;
 
+/// The bytes before the footer, and the record in the footer.
+pub fn parts_and_record(alloc: Global, bytes: &[u8]) -> R<(&[u8], FileMeta)>
+    ensures stands { IfOk result (λ x. IsFile bytes.now x.0.now (file_meta_view x.1)) }
+    ensures alone { IfOk result (λ x. (front : List ℕ) (other : FileMetaShown) → IsFile bytes.now front other
+        → (front ≡ x.0.now) × (other ≡ file_meta_view x.1)) }
+    ensures within_limits { OnOk result (IsLong bytes.now → ⊥) }
+    ensures only { OnFault result ((front : List ℕ) (meta : FileMetaShown) → IsFile bytes.now front meta → ⊥) }
+    ensures which { IfErr result (HasFooterFault bytes.now) }
+{
+    one_footer();
+    let (front, footer) = parts_of(bytes)?;
+    let (record, _) = FileMeta::read(alloc, footer)?;
+    Ok((front, record))
+}
+
+/// The record in the footer of a file (`parquet.thrift`, FileMetaData). The chunks are not looked at.
+///
+/// Refused Truncated for fewer than 12 bytes, a footer that is longer than the file, or one that ends
+/// within its struct; Magic where the first or the last four bytes are not `PAR1`; Thrift where the footer
+/// is no such struct; Limit for a file of more than 2,147,483,647 bytes, or a footer of more than 16 MiB.
+/// No record is answered of a file that has more bytes, or that announces a longer footer.
+pub fn read_footer(alloc: Global, bytes: &[u8]) -> R<FileMeta>
+    ensures stands { IfOk result (λ meta. (front : List ℕ) × IsFile bytes.now front (file_meta_view meta)) }
+    ensures alone { IfOk result (λ meta. (front : List ℕ) (other : FileMetaShown) → IsFile bytes.now front other → other ≡ file_meta_view meta) }
+    ensures within_limits { OnOk result (IsLong bytes.now → ⊥) }
+    ensures only { OnFault result ((front : List ℕ) (meta : FileMetaShown) → IsFile bytes.now front meta → ⊥) }
+    ensures which { IfErr result (HasFooterFault bytes.now) }
+{
+    let (_, record) = parts_and_record(alloc, bytes)?;
+    Ok(record)
+}
+
 /// Whether the bytes are the format's magic.
 fn is_magic(bytes: &[u8]) -> bool
     ensures { IsTrue result ↔ (bytes.now ≡ magic) }
@@ -54,35 +86,4 @@ fn parts_of(bytes: &[u8]) -> R<(&[u8], &[u8])>
         return Err(Refusal::Truncated);
     }
     Ok(head.split_at(head.len() - size))
-}
-
-/// The bytes before the footer, and the record in the footer.
-pub fn parts_and_record(alloc: Global, bytes: &[u8]) -> R<(&[u8], FileMeta)>
-    ensures stands { IfOk result (λ x. IsFile bytes.now x.0.now (file_meta_view x.1)) }
-    ensures alone { IfOk result (λ x. (front : List ℕ) (other : FileMetaShown) → IsFile bytes.now front other → (front ≡ x.0.now) × (other ≡ file_meta_view x.1)) }
-    ensures within_limits { OnOk result (IsLong bytes.now → ⊥) }
-    ensures only { OnFault result ((front : List ℕ) (meta : FileMetaShown) → IsFile bytes.now front meta → ⊥) }
-    ensures which { IfErr result (HasFooterFault bytes.now) }
-{
-    one_footer();
-    let (front, footer) = parts_of(bytes)?;
-    let (record, _) = FileMeta::read(alloc, footer)?;
-    Ok((front, record))
-}
-
-/// The record in the footer of a file (`parquet.thrift`, FileMetaData). The chunks are not looked at.
-///
-/// Refused Truncated for fewer than 12 bytes, a footer that is longer than the file, or one that ends
-/// within its struct; Magic where the first or the last four bytes are not `PAR1`; Thrift where the footer
-/// is no such struct; Limit for a file of more than 2,147,483,647 bytes, or a footer of more than 16 MiB.
-/// No record is answered of a file that has more bytes, or that announces a longer footer.
-pub fn read_footer(alloc: Global, bytes: &[u8]) -> R<FileMeta>
-    ensures stands { IfOk result (λ meta. (front : List ℕ) × IsFile bytes.now front (file_meta_view meta)) }
-    ensures alone { IfOk result (λ meta. (front : List ℕ) (other : FileMetaShown) → IsFile bytes.now front other → other ≡ file_meta_view meta) }
-    ensures within_limits { OnOk result (IsLong bytes.now → ⊥) }
-    ensures only { OnFault result ((front : List ℕ) (meta : FileMetaShown) → IsFile bytes.now front meta → ⊥) }
-    ensures which { IfErr result (HasFooterFault bytes.now) }
-{
-    let (_, record) = parts_and_record(alloc, bytes)?;
-    Ok(record)
 }

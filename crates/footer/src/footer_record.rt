@@ -24,6 +24,37 @@ const VERSION: i32 = 1;
 /// The name of the writer.
 const CREATED_BY: &[u8] = b"pqds";
 
+/// The record of a file with this schema, this many rows, and these groups.
+pub fn record_of(
+    alloc: Global,
+    schema: &Schema,
+    rows: usize,
+    row_groups: Vec<GroupMeta>,
+) -> R<FileMeta>
+    requires { rows < 2 ^ 63 }
+    ensures meta_is { IfOk result (λ meta. file_meta_view meta ≡ own_record schema.now rows (map group_meta_view row_groups.items)) }
+    ensures writable { IfOk result (λ meta. EachKeepsWritten (file_meta_view meta)) }
+    ensures listed { OnOk result (IsSchemaOf (elements_of schema.now) schema.now) }
+    ensures within { OnOk result (IsWithinLimits schema.now) }
+    ensures within_limits { OnOk result (IsTooLarge (elements_of schema.now) → ⊥) }
+    ensures which { RefusedOnly (λ _. ⊥) result }
+{
+    a_schema_is_its_elements();
+    let leaves = schema.leaves();
+    let elements = copied_elements(alloc, schema.elements())?;
+    let created_by = Vec::from_slice(alloc, CREATED_BY)?;
+    let column_orders = type_orders(alloc, leaves.len())?;
+    Ok(FileMeta {
+        version: Some(VERSION),
+        schema: elements,
+        num_rows: Some(rows as i64),
+        row_groups,
+        key_value_metadata: None,
+        created_by: Some(created_by),
+        column_orders: Some(column_orders),
+    })
+}
+
 fn copied_logical_type(alloc: Global, tree: &Option<Tree>) -> R<Option<Tree>>
     ensures same { IfOk result (λ copy. option_map tree_view copy ≡ option_map tree_view tree.now) }
     ensures which { RefusedOnly (λ _. ⊥) result }
@@ -79,35 +110,4 @@ fn type_orders(alloc: Global, columns: usize) -> R<Vec<ColumnOrder>>
         orders.push(ColumnOrder::TypeOrder)?;
     }
     Ok(orders)
-}
-
-/// The record of a file with this schema, this many rows, and these groups.
-pub fn record_of(
-    alloc: Global,
-    schema: &Schema,
-    rows: usize,
-    row_groups: Vec<GroupMeta>,
-) -> R<FileMeta>
-    requires { rows < 2 ^ 63 }
-    ensures meta_is { IfOk result (λ meta. file_meta_view meta ≡ own_record schema.now rows (map group_meta_view row_groups.items)) }
-    ensures writable { IfOk result (λ meta. EachKeepsWritten (file_meta_view meta)) }
-    ensures listed { OnOk result (IsSchemaOf (elements_of schema.now) schema.now) }
-    ensures within { OnOk result (IsWithinLimits schema.now) }
-    ensures within_limits { OnOk result (IsTooLarge (elements_of schema.now) → ⊥) }
-    ensures which { RefusedOnly (λ _. ⊥) result }
-{
-    a_schema_is_its_elements();
-    let leaves = schema.leaves();
-    let elements = copied_elements(alloc, schema.elements())?;
-    let created_by = Vec::from_slice(alloc, CREATED_BY)?;
-    let column_orders = type_orders(alloc, leaves.len())?;
-    Ok(FileMeta {
-        version: Some(VERSION),
-        schema: elements,
-        num_rows: Some(rows as i64),
-        row_groups,
-        key_value_metadata: None,
-        created_by: Some(created_by),
-        column_orders: Some(column_orders),
-    })
 }

@@ -20,6 +20,28 @@ use byteorder::{ByteOrder, LittleEndian};
 use metadata::{FileMeta, footer_again};
 use std::alloc::Global;
 
+/// The file of these bytes before its footer, and of this record.
+pub fn ended(alloc: Global, front: Vec<u8>, meta: &FileMeta) -> R<Vec<u8>>
+    requires { EachKeepsWritten (file_meta_view meta.now) }
+    ensures stands { IfOk result (λ file. EndsWith front.items (file_meta_view meta.now) file.items) }
+    ensures size { IfOk result (λ file. length file.items ≤ most_of_file) }
+    ensures footer_size { IfOk result (λ file. (before footer : List ℕ) → IsFramed file.items before footer → length footer ≤ most_of_footer) }
+    ensures limit { let seen = file_meta_view meta.now in result ≡ Err Refusal.Limit → IsOfTheWriter [] seen
+        → (most_of_footer < footer_weight [] seen) ⊎ (most_of_file < length front.items + 8 + footer_weight [] seen) }
+    ensures which { RefusedOnly (λ e. e ≡ Refusal.Limit) result }
+{
+    footer_again();
+    let mut out = front;
+    let start = out.len();
+    write_record(alloc, meta, &mut out)?;
+    let size = out.len() - start;
+    if size > MOST_BYTES_OF_FOOTER || out.len() > MOST_BYTES_OF_FILE - 8 {
+        return Err(Refusal::Limit);
+    }
+    write_length(&mut out, size as u32)?;
+    Ok(out)
+}
+
 /// Writes the record at the end of `out`. Refused only Memory.
 fn write_record(alloc: Global, meta: &FileMeta, out: &mut Vec<u8>) -> R<()>
     requires { EachKeepsWritten (file_meta_view meta.now) }
@@ -42,26 +64,4 @@ fn write_length(out: &mut Vec<u8>, size: u32) -> R<()>
     out.extend_from_slice(&length)?;
     out.extend_from_slice(MAGIC)?;
     Ok(())
-}
-
-/// The file of these bytes before its footer, and of this record.
-pub fn ended(alloc: Global, front: Vec<u8>, meta: &FileMeta) -> R<Vec<u8>>
-    requires { EachKeepsWritten (file_meta_view meta.now) }
-    ensures stands { IfOk result (λ file. EndsWith front.items (file_meta_view meta.now) file.items) }
-    ensures size { IfOk result (λ file. length file.items ≤ most_of_file) }
-    ensures footer_size { IfOk result (λ file. (before footer : List ℕ) → IsFramed file.items before footer → length footer ≤ most_of_footer) }
-    ensures limit { let seen = file_meta_view meta.now in result ≡ Err Refusal.Limit → IsOfTheWriter [] seen
-        → (most_of_footer < footer_weight [] seen) ⊎ (most_of_file < length front.items + 8 + footer_weight [] seen) }
-    ensures which { RefusedOnly (λ e. e ≡ Refusal.Limit) result }
-{
-    footer_again();
-    let mut out = front;
-    let start = out.len();
-    write_record(alloc, meta, &mut out)?;
-    let size = out.len() - start;
-    if size > MOST_BYTES_OF_FOOTER || out.len() > MOST_BYTES_OF_FILE - 8 {
-        return Err(Refusal::Limit);
-    }
-    write_length(&mut out, size as u32)?;
-    Ok(out)
 }

@@ -34,6 +34,26 @@ const OPERATORS: [(&str, Op); 9] = [
     ("not in", Op::NotIn),
 ];
 
+/// The terms of a filter over the leaves of a schema, as `Filter::new` takes them: an OR of ANDs.
+///
+/// The text is a JSON array (RFC 8259) of ANDs, each an array of triples `[column, operator, value]`, or an
+/// array of triples, which are one AND. A column is a top-level name, or an array of the names on the path to
+/// it. The operators are `==` or `=`, `!=`, `<`, `<=`, `>`, `>=`, `in` and `not in`. A value is read as in the
+/// rows of its leaf; where its JSON kind is another one, or the column is no leaf, by its kind: text as its
+/// bytes, and an array as a list of values that are each read in this same way. Whether the leaf takes such a
+/// value is for `Filter::new` to say.
+///
+/// Refused for the first fault: Script where the text is no JSON or not of this form, or has an object or a
+/// number that no i64 holds as such a value; RowShape for a value of its leaf's kind that the leaf cannot hold.
+/// Time and memory are linear in the text and, for each term, in the names of the leaves.
+pub fn filter_from(alloc: Global, schema: &Schema, text: &str) -> R<Vec<Vec<Term>>>
+    ensures stands { IfOk result (λ ands. IsFilterText (leaves_of schema.now) text.now (terms_view ands.items)) }
+    ensures which { IfErr result (IsRefusedFilter (leaves_of schema.now) text.now) }
+{
+    let json = json_of(alloc, text)?;
+    filter_of(alloc, schema.leaves(), &json)
+}
+
 /// The operator of a word, where it is one of these.
 fn operator_named(words: &[(&str, Op)], word: &str) -> Option<Op>
     ensures { result ≡ operator_named (map (λ w. (w.0.now, w.1)) words.now) word.now }
@@ -216,7 +236,8 @@ fn value_of(alloc: Global, leaf_type: Option<&LeafType>, json: &Json) -> R<Value
 /// The values of a list.
 #[cycle(values)]
 fn values_of(alloc: Global, leaf_type: Option<&LeafType>, items: &[Json]) -> R<Vec<Value>>
-    ensures made { IfOk result (λ values. each_of (value_of (option_map (λ t. leaf_type_view t.now) leaf_type.entry)) (map view items.now) ≡ Ok (map value_view values.items)) }
+    ensures made { IfOk result (λ values. each_of (value_of (option_map (λ t. leaf_type_view t.now) leaf_type.entry)) (map view items.now) ≡ Ok
+        (map value_view values.items)) }
     ensures which { RefusedOnly (λ e. each_of (value_of (option_map (λ t. leaf_type_view t.now) leaf_type.entry)) (map view items.now) ≡ Err e) result }
 {
     let mut values = Vec::with_capacity(alloc, items.len())?;
@@ -346,24 +367,4 @@ fn filter_of(alloc: Global, leaves: &[Leaf], json: &Json) -> R<Vec<Vec<Term>>>
         Json::Array(items) => filter_in(alloc, leaves, items.as_slice()),
         _ => Err(Refusal::Script),
     }
-}
-
-/// The terms of a filter over the leaves of a schema, as `Filter::new` takes them: an OR of ANDs.
-///
-/// The text is a JSON array (RFC 8259) of ANDs, each an array of triples `[column, operator, value]`, or an
-/// array of triples, which are one AND. A column is a top-level name, or an array of the names on the path to
-/// it. The operators are `==` or `=`, `!=`, `<`, `<=`, `>`, `>=`, `in` and `not in`. A value is read as in the
-/// rows of its leaf; where its JSON kind is another one, or the column is no leaf, by its kind: text as its
-/// bytes, and an array as a list of values that are each read in this same way. Whether the leaf takes such a
-/// value is for `Filter::new` to say.
-///
-/// Refused for the first fault: Script where the text is no JSON or not of this form, or has an object or a
-/// number that no i64 holds as such a value; RowShape for a value of its leaf's kind that the leaf cannot hold.
-/// Time and memory are linear in the text and, for each term, in the names of the leaves.
-pub fn filter_from(alloc: Global, schema: &Schema, text: &str) -> R<Vec<Vec<Term>>>
-    ensures stands { IfOk result (λ ands. IsFilterText (leaves_of schema.now) text.now (terms_view ands.items)) }
-    ensures which { IfErr result (IsRefusedFilter (leaves_of schema.now) text.now) }
-{
-    let json = json_of(alloc, text)?;
-    filter_of(alloc, schema.leaves(), &json)
 }

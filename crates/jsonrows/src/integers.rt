@@ -7,6 +7,34 @@ ghost use Rattle.serde_json.specs.View.{number_view};
 
 use serde_json::Number;
 
+/// The number below 2^64 whose decimal digits stand at the front, with no zero before another digit, and how many
+/// they are.
+#[inline(always)]
+pub fn natural_front(bytes: &[u8]) -> Option<(u64, usize)>
+    ensures { IfSome result (λ r. (bytes.now ≡ decimal r.0 ++ drop r.1 bytes.now) × (r.1 ≤ length bytes.now)) }
+{
+    let (first, rest) = split_first(bytes)?;
+    let first = digit_of(first)?;
+    if first == 0 {
+        return Some((0, 1));
+    }
+    let (number, count) = front_after(first, rest)?;
+    Some((number, count + 1))
+}
+
+/// The integer of 64 bits that the text of a JSON number is; none where it is another number.
+pub fn integer_from(text: &str) -> Option<Number>
+    ensures { IfSome result (λ n. number_of text.now ≡ Some (number_view n)) }
+{
+    let bytes = text.as_bytes();
+    let (first, rest) = split_first(bytes)?;
+    if first == b'-' {
+        Some(Number::from(negative_from(rest)?))
+    } else {
+        Some(Number::from(natural_from(bytes)?))
+    }
+}
+
 /// The value of a decimal digit.
 fn digit_of(byte: u8) -> Option<u64>
     ensures { IfSome result (λ n. (n < 10) × (byte ≡ 48 + n)) }
@@ -70,21 +98,6 @@ fn front_after(before: u64, digits: &[u8]) -> Option<(u64, usize)>
     Some((number, digits.len()))
 }
 
-/// The number below 2^64 whose decimal digits stand at the front, with no zero before another digit, and how many
-/// they are.
-#[inline(always)]
-pub fn natural_front(bytes: &[u8]) -> Option<(u64, usize)>
-    ensures { IfSome result (λ r. (bytes.now ≡ decimal r.0 ++ drop r.1 bytes.now) × (r.1 ≤ length bytes.now)) }
-{
-    let (first, rest) = split_first(bytes)?;
-    let first = digit_of(first)?;
-    if first == 0 {
-        return Some((0, 1));
-    }
-    let (number, count) = front_after(first, rest)?;
-    Some((number, count + 1))
-}
-
 /// The number from -2^63 up to -1 whose digits, without its sign, these are.
 fn negative_from(digits: &[u8]) -> Option<i64>
     ensures { IfSome result (λ z. 45 ∷ digits.now ≡ signed_decimal z) }
@@ -94,17 +107,4 @@ fn negative_from(digits: &[u8]) -> Option<i64>
         return None;
     }
     i64::try_from(-i128::from(number)).ok()
-}
-
-/// The integer of 64 bits that the text of a JSON number is; none where it is another number.
-pub fn integer_from(text: &str) -> Option<Number>
-    ensures { IfSome result (λ n. number_of text.now ≡ Some (number_view n)) }
-{
-    let bytes = text.as_bytes();
-    let (first, rest) = split_first(bytes)?;
-    if first == b'-' {
-        Some(Number::from(negative_from(rest)?))
-    } else {
-        Some(Number::from(natural_from(bytes)?))
-    }
 }

@@ -49,6 +49,28 @@ pub fn names_of(alloc: Global, fields: &[Field]) -> Result<Names, AllocError> {
     })
 }
 
+/// The index of the field of this name, where there is one; `turn` is how many members stand before it. Where the
+/// members stand in the byte order of their names or in the order of the fields, it is known by the turn, and else
+/// it is looked up.
+pub fn index_of(fields: &[Field], names: &Names, turn: usize, name: &str) -> Result<usize, Unread>
+    ensures { IfOk result (λ index. IsCalled (field_views fields.now) index name.now) }
+{
+    if let Some(index) = names.order.get(turn) {
+        if is_called(fields, *index, name) {
+            return Ok(*index);
+        }
+    }
+    if is_called(fields, turn, name) {
+        return Ok(turn);
+    }
+    let index = names.indices.get(name).copied().ok_or(Unread::Unknown)?;
+    if is_called(fields, index, name) {
+        Ok(index)
+    } else {
+        Err(Unread::Unknown)
+    }
+}
+
 /// The names below a field: none below a leaf.
 #[cycle(naming)]
 fn names_below(alloc: Global, field: &Field) -> Result<Names, AllocError> {
@@ -69,27 +91,5 @@ fn is_called(fields: &[Field], index: usize, name: &str) -> bool
     match fields.get(index) {
         Some(field) => field.name() == name,
         None => false,
-    }
-}
-
-/// The index of the field of this name, where there is one; `turn` is how many members stand before it. Where the
-/// members stand in the byte order of their names or in the order of the fields, it is known by the turn, and else
-/// it is looked up.
-pub fn index_of(fields: &[Field], names: &Names, turn: usize, name: &str) -> Result<usize, Unread>
-    ensures { IfOk result (λ index. IsCalled (field_views fields.now) index name.now) }
-{
-    if let Some(index) = names.order.get(turn) {
-        if is_called(fields, *index, name) {
-            return Ok(*index);
-        }
-    }
-    if is_called(fields, turn, name) {
-        return Ok(turn);
-    }
-    let index = names.indices.get(name).copied().ok_or(Unread::Unknown)?;
-    if is_called(fields, index, name) {
-        Ok(index)
-    } else {
-        Err(Unread::Unknown)
     }
 }

@@ -16,39 +16,6 @@ pub fn place_byte(buffer: &mut [u8], at: usize, byte: u8) -> usize
     at + 1
 }
 
-/// Writes the first N bytes of a text by one load and one store.
-#[inline(always)]
-fn place_front<const N: usize>(buffer: &mut [u8], at: usize, text: &[u8]) -> usize
-    requires { (N ≤ length text.now) × (at + N ≤ length buffer.old) }
-    ensures { Placed buffer.old buffer.new at (take N text.now) result }
-{
-    Simd::<u8, N>::from_slice(text).copy_to_slice(&mut buffer[at..]);
-    at + N
-}
-
-/// Writes a text of N to 2N bytes.
-#[inline(always)]
-fn place_ends<const N: usize>(buffer: &mut [u8], at: usize, text: &[u8]) -> usize
-    requires fits { at + length text.now ≤ length buffer.old }
-    requires covers { (N ≤ length text.now) × (length text.now ≤ N + N) }
-    ensures { Placed buffer.old buffer.new at text.now result }
-{
-    let last = text.len() - N;
-    place_front::<N>(buffer, at, text);
-    place_front::<N>(buffer, at + last, &text[last..])
-}
-
-/// Writes a text of more than 32 bytes.
-#[inline(never)]
-fn place_long(buffer: &mut [u8], at: usize, text: &[u8]) -> usize
-    requires { at + length text.now ≤ length buffer.old }
-    ensures { Placed buffer.old buffer.new at text.now result }
-{
-    let end = at + text.len();
-    buffer[at..end].copy_from_slice(text);
-    end
-}
-
 /// Writes a text, and returns where it ends.
 #[inline(always)]
 pub fn place_text(buffer: &mut [u8], at: usize, text: &[u8]) -> usize
@@ -94,5 +61,38 @@ pub fn place_natural(buffer: &mut [u8], at: usize, number: u64, count: usize) ->
 {
     let end = at + count;
     itoa::write_digits(number, buffer, end);
+    end
+}
+
+/// Writes the first N bytes of a text by one load and one store.
+#[inline(always)]
+fn place_front<const N: usize>(buffer: &mut [u8], at: usize, text: &[u8]) -> usize
+    requires { (N ≤ length text.now) × (at + N ≤ length buffer.old) }
+    ensures { Placed buffer.old buffer.new at (take N text.now) result }
+{
+    Simd::<u8, N>::from_slice(text).copy_to_slice(&mut buffer[at..]);
+    at + N
+}
+
+/// Writes a text of N to 2N bytes.
+#[inline(always)]
+fn place_ends<const N: usize>(buffer: &mut [u8], at: usize, text: &[u8]) -> usize
+    requires fits { at + length text.now ≤ length buffer.old }
+    requires covers { (N ≤ length text.now) × (length text.now ≤ N + N) }
+    ensures { Placed buffer.old buffer.new at text.now result }
+{
+    let last = text.len() - N;
+    place_front::<N>(buffer, at, text);
+    place_front::<N>(buffer, at + last, &text[last..])
+}
+
+/// Writes a text of more than 32 bytes.
+#[inline(never)]
+fn place_long(buffer: &mut [u8], at: usize, text: &[u8]) -> usize
+    requires { at + length text.now ≤ length buffer.old }
+    ensures { Placed buffer.old buffer.new at text.now result }
+{
+    let end = at + text.len();
+    buffer[at..end].copy_from_slice(text);
     end
 }

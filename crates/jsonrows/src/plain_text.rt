@@ -7,6 +7,18 @@ ghost use Rattle.json.specs.Written.{PlainBetween};
 
 use std::simd::prelude::*;
 
+/// Whether a text stands in a JSON string as it is: where it is not, it answers false.
+#[inline(always)]
+pub fn is_plain(text: &[u8]) -> bool
+    ensures { OnTrue result (escape text.now ≡ text.now) }
+{
+    if text.len() < 32 {
+        plain_short(text)
+    } else {
+        plain_long(text)
+    }
+}
+
 /// Whether the bytes from an index on need no escape, 4 of them.
 #[inline(always)]
 fn plain_4(text: &[u8], at: usize) -> bool
@@ -103,17 +115,5 @@ fn plain_short(text: &[u8]) -> bool
         plain_4(text, 0) && plain_4(text, len - 4)
     } else {
         plain_few(text)
-    }
-}
-
-/// Whether a text stands in a JSON string as it is: where it is not, it answers false.
-#[inline(always)]
-pub fn is_plain(text: &[u8]) -> bool
-    ensures { OnTrue result (escape text.now ≡ text.now) }
-{
-    if text.len() < 32 {
-        plain_short(text)
-    } else {
-        plain_long(text)
     }
 }

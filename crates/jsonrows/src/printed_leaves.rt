@@ -20,6 +20,22 @@ use schema::{Kind, LeafType, Order, Value};
 /// How many numbers have 32 bits.
 const NUMBERS_OF_INT32: u64 = 4_294_967_296;
 
+/// Reads a value of a leaf, its repetition aside.
+pub fn leaf_printed<'t>(
+    leaf_type: &LeafType,
+    line: &mut Cursor<'t>,
+    pieces: &mut Vec<Piece<'t>>,
+) -> Result<(), Unread>
+    ensures { OnOk result (IsRead (fits_leaf (leaf_type_view leaf_type.now))
+        (leaf_json (leaf_type_view leaf_type.now)) line.old line.new pieces.old.items pieces.new.items) }
+{
+    match leaf_type.kind {
+        Kind::Boolean => boolean_printed(leaf_type, line, pieces),
+        Kind::Int32 | Kind::Int64 => integer_printed(leaf_type, line, pieces),
+        Kind::ByteArray | Kind::FixedLenByteArray(_) => bytes_printed(leaf_type, line, pieces),
+    }
+}
+
 /// The integer of 32 bits whose unsigned number stands there.
 fn unsigned_32(line: &mut Cursor<'_>) -> Option<i64>
     ensures { IfSome result (λ z. Takes line.old line.new (decimal (cast_unsigned w64 z % 2 ^ 32))) }
@@ -57,7 +73,8 @@ fn integer_printed<'t>(
     line: &mut Cursor<'t>,
     pieces: &mut Vec<Piece<'t>>,
 ) -> Result<(), Unread>
-    ensures { OnOk result (IsRead (fits_leaf (leaf_type_view leaf_type.now)) (leaf_json (leaf_type_view leaf_type.now)) line.old line.new pieces.old.items pieces.new.items) }
+    ensures { OnOk result (IsRead (fits_leaf (leaf_type_view leaf_type.now))
+        (leaf_json (leaf_type_view leaf_type.now)) line.old line.new pieces.old.items pieces.new.items) }
 {
     let number = number_printed(leaf_type, line).ok_or(Unread::Unknown)?;
     if !leaf_type.fits(&Value::Int(number)) {
@@ -86,7 +103,8 @@ fn boolean_printed<'t>(
     line: &mut Cursor<'t>,
     pieces: &mut Vec<Piece<'t>>,
 ) -> Result<(), Unread>
-    ensures { OnOk result (IsRead (fits_leaf (leaf_type_view leaf_type.now)) (leaf_json (leaf_type_view leaf_type.now)) line.old line.new pieces.old.items pieces.new.items) }
+    ensures { OnOk result (IsRead (fits_leaf (leaf_type_view leaf_type.now))
+        (leaf_json (leaf_type_view leaf_type.now)) line.old line.new pieces.old.items pieces.new.items) }
 {
     let boolean = boolean_read(line).ok_or(Unread::Unknown)?;
     if !leaf_type.fits(&Value::Bool(boolean)) {
@@ -146,25 +164,11 @@ fn bytes_printed<'t>(
     line: &mut Cursor<'t>,
     pieces: &mut Vec<Piece<'t>>,
 ) -> Result<(), Unread>
-    ensures { OnOk result (IsRead (fits_leaf (leaf_type_view leaf_type.now)) (leaf_json (leaf_type_view leaf_type.now)) line.old line.new pieces.old.items pieces.new.items) }
+    ensures { OnOk result (IsRead (fits_leaf (leaf_type_view leaf_type.now))
+        (leaf_json (leaf_type_view leaf_type.now)) line.old line.new pieces.old.items pieces.new.items) }
 {
     let Some(text) = line.string() else {
         return Err(Unread::Unknown);
     };
     put_bytes(leaf_type, text, pieces)
-}
-
-/// Reads a value of a leaf, its repetition aside.
-pub fn leaf_printed<'t>(
-    leaf_type: &LeafType,
-    line: &mut Cursor<'t>,
-    pieces: &mut Vec<Piece<'t>>,
-) -> Result<(), Unread>
-    ensures { OnOk result (IsRead (fits_leaf (leaf_type_view leaf_type.now)) (leaf_json (leaf_type_view leaf_type.now)) line.old line.new pieces.old.items pieces.new.items) }
-{
-    match leaf_type.kind {
-        Kind::Boolean => boolean_printed(leaf_type, line, pieces),
-        Kind::Int32 | Kind::Int64 => integer_printed(leaf_type, line, pieces),
-        Kind::ByteArray | Kind::FixedLenByteArray(_) => bytes_printed(leaf_type, line, pieces),
-    }
 }

@@ -20,6 +20,32 @@ use crate::unread::Unread;
 use schema::{Field, Repetition};
 use std::alloc::Global;
 
+/// Reads the values of fields by the members of an object.
+#[cycle(printed)]
+pub fn members_printed<'t>(
+    alloc: Global,
+    fields: &[Field],
+    slots: &[Slot],
+    order: Option<&[usize]>,
+    line: &mut Cursor<'t>,
+    pieces: &mut Vec<Piece<'t>>,
+) -> Result<(), Unread>
+    requires slots { slots_view slots.now ≡ slots_made (field_views fields.now) }
+    requires order { order_view order ≡ order_of (field_views fields.now) }
+    ensures { OnOk result (AreRead (fits_each (field_views fields.now)) (row_text (field_views fields.now)) (rest_of line.old)
+        (rest_of line.new) pieces.old.items pieces.new.items) }
+{
+    if !line.skip_byte(b'{') {
+        return Err(Unread::Unknown);
+    }
+    ordered_printed(alloc, fields, slots, order, line, pieces)?;
+    if line.skip_byte(b'}') {
+        Ok(())
+    } else {
+        Err(Unread::Unknown)
+    }
+}
+
 /// What stands at the field of an index.
 fn slot_at(slots: &[Slot], index: usize) -> Result<&Slot, Unread>
     ensures { IfOk result (λ slot. (index < length slots.now) × (slot.now ≡ slice_index_or slots.now index slot.now)) }
@@ -85,7 +111,8 @@ fn inside_printed<'t>(
     pieces: &mut Vec<Piece<'t>>,
 ) -> Result<(), Unread>
     requires { slot_view slot.now ≡ slot_of (field_view field.now) }
-    ensures { OnOk result (IsRead (fits_inside (field_view field.now)) (inside_json (field_view field.now)) line.old line.new pieces.old.items pieces.new.items) }
+    ensures { OnOk result (IsRead (fits_inside (field_view field.now))
+        (inside_json (field_view field.now)) line.old line.new pieces.old.items pieces.new.items) }
 {
     match field {
         Field::Leaf { leaf_type, .. } => leaf_printed(leaf_type, line, pieces),
@@ -114,7 +141,8 @@ fn items_printed<'t>(
     pieces: &mut Vec<Piece<'t>>,
 ) -> Result<(), Unread>
     requires { slot_view slot.now ≡ slot_of (field_view field.now) }
-    ensures { OnOk result (AreRead (each (fits_inside (field_view field.now))) (λ vs. items_text false (items_json (inside_json (field_view field.now)) vs)) (rest_of line.old) (rest_of line.new) pieces.old.items pieces.new.items) }
+    ensures { OnOk result (AreRead (each (fits_inside (field_view field.now)))
+        (λ vs. items_text false (items_json (inside_json (field_view field.now)) vs)) (rest_of line.old) (rest_of line.new) pieces.old.items pieces.new.items) }
 {
     let mut later = false;
     'items: for _ in 0..u64::MAX {
@@ -173,7 +201,8 @@ fn in_order<'t>(
     pieces: &mut Vec<Piece<'t>>,
 ) -> Result<(), Unread>
     requires { slots_view slots.now ≡ slots_made (field_views fields.now) }
-    ensures { OnOk result (AreRead (fits_each (field_views fields.now)) (members_shown (field_views fields.now)) (44 ∷ rest_of line.old) (rest_of line.new) pieces.old.items pieces.new.items) }
+    ensures { OnOk result (AreRead (fits_each (field_views fields.now)) (members_shown (field_views fields.now)) (44 ∷ rest_of line.old)
+        (rest_of line.new) pieces.old.items pieces.new.items) }
 {
     if fields.is_empty() {
         return Err(Unread::Unknown);
@@ -201,7 +230,8 @@ fn member_printed<'t>(
     spans: &mut Vec<Option<Span>>,
 ) -> Result<(), Unread>
     requires { slots_view slots.now ≡ slots_made (field_views fields.now) }
-    ensures { OnOk result (IsMemberRead (field_views fields.now) index is_first (rest_of line.old) (rest_of line.new) read.old.items read.new.items spans.old.items spans.new.items) }
+    ensures { OnOk result (IsMemberRead (field_views fields.now) index is_first (rest_of line.old)
+        (rest_of line.new) read.old.items read.new.items spans.old.items spans.new.items) }
 {
     let field = field_at(fields, index)?;
     let slot = slot_at(slots, index)?;
@@ -227,7 +257,8 @@ fn by_name<'t>(
 ) -> Result<(), Unread>
     requires slots { slots_view slots.now ≡ slots_made (field_views fields.now) }
     requires order { order.now ≡ indices_of (field_views fields.now) }
-    ensures { OnOk result (AreRead (fits_each (field_views fields.now)) (λ vs. open_text (members_json (field_views fields.now) vs)) (44 ∷ rest_of line.old) (rest_of line.new) pieces.old.items pieces.new.items) }
+    ensures { OnOk result (AreRead (fits_each (field_views fields.now)) (λ vs. open_text (members_json (field_views fields.now) vs))
+        (44 ∷ rest_of line.old) (rest_of line.new) pieces.old.items pieces.new.items) }
 {
     if order.is_empty() {
         return Err(Unread::Unknown);
@@ -261,35 +292,11 @@ fn ordered_printed<'t>(
 ) -> Result<(), Unread>
     requires slots { slots_view slots.now ≡ slots_made (field_views fields.now) }
     requires order { order_view order ≡ order_of (field_views fields.now) }
-    ensures { OnOk result (AreRead (fits_each (field_views fields.now)) (λ vs. open_text (members_json (field_views fields.now) vs)) (44 ∷ rest_of line.old) (rest_of line.new) pieces.old.items pieces.new.items) }
+    ensures { OnOk result (AreRead (fits_each (field_views fields.now)) (λ vs. open_text (members_json (field_views fields.now) vs))
+        (44 ∷ rest_of line.old) (rest_of line.new) pieces.old.items pieces.new.items) }
 {
     match order {
         None => in_order(alloc, fields, slots, line, pieces),
         Some(order) => by_name(alloc, fields, slots, order, line, pieces),
-    }
-}
-
-/// Reads the values of fields by the members of an object.
-#[cycle(printed)]
-pub fn members_printed<'t>(
-    alloc: Global,
-    fields: &[Field],
-    slots: &[Slot],
-    order: Option<&[usize]>,
-    line: &mut Cursor<'t>,
-    pieces: &mut Vec<Piece<'t>>,
-) -> Result<(), Unread>
-    requires slots { slots_view slots.now ≡ slots_made (field_views fields.now) }
-    requires order { order_view order ≡ order_of (field_views fields.now) }
-    ensures { OnOk result (AreRead (fits_each (field_views fields.now)) (row_text (field_views fields.now)) (rest_of line.old) (rest_of line.new) pieces.old.items pieces.new.items) }
-{
-    if !line.skip_byte(b'{') {
-        return Err(Unread::Unknown);
-    }
-    ordered_printed(alloc, fields, slots, order, line, pieces)?;
-    if line.skip_byte(b'}') {
-        Ok(())
-    } else {
-        Err(Unread::Unknown)
     }
 }

@@ -66,7 +66,8 @@ impl<'a> ReadPlan<'a> {
         text: &'t str,
         room: usize,
     ) -> Result<Vec<Piece<'t>>, Unread>
-        ensures { IfOk result (λ pieces. (values : ValueTrees) × ((fits_each self.now values ≡ true) × ((text.now ≡ row_text self.now values) × (tokens_of pieces.items ≡ tokens_each values)))) }
+        ensures { IfOk result (λ pieces. (values : ValueTrees) ×
+            ((fits_each self.now values ≡ true) × ((text.now ≡ row_text self.now values) × (tokens_of pieces.items ≡ tokens_each values)))) }
     {
         let mut line = Cursor::new(text);
         let mut pieces = Vec::with_capacity(alloc, room)?;

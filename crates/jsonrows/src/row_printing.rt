@@ -16,6 +16,25 @@ use bits::{R, Refusal};
 use schema::{Row, Schema, Value, ValueRef};
 use std::alloc::{AllocError, Global};
 
+/// The text of a row of the schema: a compact JSON object, whose members stand in the byte order of
+/// their names. Refused RowShape where the row does not fit. Time and memory are linear in the row and the
+/// schema, with a look-up of each name among its siblings; for many rows keep a `RowPlan` and a `RowText`.
+pub fn row_to(alloc: Global, schema: &Schema, row: &Row) -> R<String>
+    ensures stands { IfOk result (λ text. string_bytes text ≡ row_text schema.now (row_view row.now)) }
+    ensures fits { OnOk result (IsTrue (fits_each schema.now (row_view row.now))) }
+    ensures which { IfErr result (λ e. (e ≡ Memory) ⊎ ((e ≡ RowShape) × (fits_each schema.now (row_view row.now) ≡ false))) }
+{
+    if !schema.fits(row) {
+        return Err(Refusal::RowShape);
+    }
+    let plan = RowPlan::new(alloc, schema)?;
+    let mut sink = RowText::new(alloc, &plan);
+    show_each(row.values.as_slice(), &mut sink)?;
+    let mut line = Vec::new(alloc);
+    sink.put_row(&mut line)?;
+    Ok(text_from(line)?)
+}
+
 /// Shows a value.
 #[cycle(showing)]
 fn show_value(value: &Value, sink: &mut RowText<'_>) -> Result<(), AllocError>
@@ -55,23 +74,4 @@ fn text_from(bytes: Vec<u8>) -> Result<String, AllocError>
         Ok(text) => Ok(text),
         Err(_) => Err(AllocError),
     }
-}
-
-/// The text of a row of the schema: a compact JSON object, whose members stand in the byte order of
-/// their names. Refused RowShape where the row does not fit. Time and memory are linear in the row and the
-/// schema, with a look-up of each name among its siblings; for many rows keep a `RowPlan` and a `RowText`.
-pub fn row_to(alloc: Global, schema: &Schema, row: &Row) -> R<String>
-    ensures stands { IfOk result (λ text. string_bytes text ≡ row_text schema.now (row_view row.now)) }
-    ensures fits { OnOk result (IsTrue (fits_each schema.now (row_view row.now))) }
-    ensures which { IfErr result (λ e. (e ≡ Memory) ⊎ ((e ≡ RowShape) × (fits_each schema.now (row_view row.now) ≡ false))) }
-{
-    if !schema.fits(row) {
-        return Err(Refusal::RowShape);
-    }
-    let plan = RowPlan::new(alloc, schema)?;
-    let mut sink = RowText::new(alloc, &plan);
-    show_each(row.values.as_slice(), &mut sink)?;
-    let mut line = Vec::new(alloc);
-    sink.put_row(&mut line)?;
-    Ok(text_from(line)?)
 }

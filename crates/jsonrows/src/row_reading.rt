@@ -61,6 +61,47 @@ pub fn bytes_of_digits(alloc: Global, digits: &str) -> Result<Option<Vec<u8>>, A
     }
 }
 
+/// A value of a leaf, its repetition aside; none where the JSON value is no such value.
+pub fn leaf_from(
+    alloc: Global,
+    leaf_type: &LeafType,
+    json: Json,
+) -> Result<Option<Value>, AllocError>
+    ensures { IfOk result (λ found. option_map value_view found ≡ leaf_read (leaf_type_view leaf_type.now) (view json)) }
+{
+    let Some(value) = scalar_from(alloc, leaf_type, json)? else {
+        return Ok(None);
+    };
+    if leaf_type.fits(&value) {
+        Ok(Some(value))
+    } else {
+        Ok(None)
+    }
+}
+
+/// The row of the schema that a text is: a JSON object (RFC 8259) with a member for each top-level field,
+/// by its name. An absent OPTIONAL member is null, and an absent REPEATED one is empty. Where the text
+/// names a member twice, the last counts.
+///
+/// Refused Script where the text is no JSON object; RowShape where a member that is needed is absent, one
+/// is of no field, or one is no value of its field. Time and memory are linear in the text and the
+/// fields, a member's look-up among the others of its object aside.
+pub fn row_from(alloc: Global, schema: &Schema, text: &str) -> R<Row>
+    ensures stands { IfOk result (λ row. (d : Data) × (read text.now ≡ Some d) × (row_of schema.now d ≡ Some (row_view row))) }
+    ensures fits { IfOk result (λ row. IsTrue (fits_each schema.now (row_view row))) }
+    ensures shape { result ≡ Err RowShape → (ms : Members) × (line_of text.now ≡ Some ms) × (members_read schema.now ms ≡ None) }
+    ensures script { result ≡ Err Script → line_of text.now ≡ None }
+    ensures which { IfErr result (λ e. (e ≡ RowShape) ⊎ (e ≡ Script) ⊎ (e ≡ Memory)) }
+{
+    let Json::Object(members) = json_of(alloc, text)? else {
+        return Err(Refusal::Script);
+    };
+    match members_from(alloc, schema.fields(), members)? {
+        Some(values) => Ok(Row { values }),
+        None => Err(Refusal::RowShape),
+    }
+}
+
 /// The bytes of a leaf that a text is: itself where they are text, and else those of its digits.
 fn bytes_from(
     alloc: Global,
@@ -91,24 +132,6 @@ fn scalar_from(alloc: Global, leaf_type: &LeafType, json: Json) -> Result<Option
             None => Ok(None),
         },
         _ => Ok(None),
-    }
-}
-
-/// A value of a leaf, its repetition aside; none where the JSON value is no such value.
-pub fn leaf_from(
-    alloc: Global,
-    leaf_type: &LeafType,
-    json: Json,
-) -> Result<Option<Value>, AllocError>
-    ensures { IfOk result (λ found. option_map value_view found ≡ leaf_read (leaf_type_view leaf_type.now) (view json)) }
-{
-    let Some(value) = scalar_from(alloc, leaf_type, json)? else {
-        return Ok(None);
-    };
-    if leaf_type.fits(&value) {
-        Ok(Some(value))
-    } else {
-        Ok(None)
     }
 }
 
@@ -216,28 +239,5 @@ fn members_from(
         Ok(Some(all))
     } else {
         Ok(None)
-    }
-}
-
-/// The row of the schema that a text is: a JSON object (RFC 8259) with a member for each top-level field,
-/// by its name. An absent OPTIONAL member is null, and an absent REPEATED one is empty. Where the text
-/// names a member twice, the last counts.
-///
-/// Refused Script where the text is no JSON object; RowShape where a member that is needed is absent, one
-/// is of no field, or one is no value of its field. Time and memory are linear in the text and the
-/// fields, a member's look-up among the others of its object aside.
-pub fn row_from(alloc: Global, schema: &Schema, text: &str) -> R<Row>
-    ensures stands { IfOk result (λ row. (d : Data) × (read text.now ≡ Some d) × (row_of schema.now d ≡ Some (row_view row))) }
-    ensures fits { IfOk result (λ row. IsTrue (fits_each schema.now (row_view row))) }
-    ensures shape { result ≡ Err RowShape → (ms : Members) × (line_of text.now ≡ Some ms) × (members_read schema.now ms ≡ None) }
-    ensures script { result ≡ Err Script → line_of text.now ≡ None }
-    ensures which { IfErr result (λ e. (e ≡ RowShape) ⊎ (e ≡ Script) ⊎ (e ≡ Memory)) }
-{
-    let Json::Object(members) = json_of(alloc, text)? else {
-        return Err(Refusal::Script);
-    };
-    match members_from(alloc, schema.fields(), members)? {
-        Some(values) => Ok(Row { values }),
-        None => Err(Refusal::RowShape),
     }
 }

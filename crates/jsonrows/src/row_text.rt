@@ -337,7 +337,8 @@ impl<'a> RowText<'a> {
     /// It fails only when out of memory, and leaves `out` unchanged; the row is then lost, and the caller makes a
     /// new `RowText`.
     pub fn put_row(&mut self, out: &mut Vec<u8>) -> Result<(), AllocError>
-        ensures stands { (fs : Fields) (values : ValueTrees) → ShowsRow self.old fs values → IsTrue (fits_each fs values) → OnOk result (out.new.items ≡ out.old.items ++ row_text fs values) }
+        ensures stands { (fs : Fields) (values : ValueTrees) → ShowsRow self.old fs values → IsTrue (fits_each fs values)
+            → OnOk result (out.new.items ≡ out.old.items ++ row_text fs values) }
         ensures again { (fs : Fields) (values : ValueTrees) → ShowsRow self.old fs values → OnOk result (BeginsRow self.new fs) }
         ensures unchanged { OnErr result (out.new.items ≡ out.old.items) }
     {

@@ -112,6 +112,21 @@ pub fn optional_int32(member: Option<&Json>) -> Option<Option<i32>>
     }
 }
 
+/// The note of a leaf's object, whose type this is.
+pub fn note_of(alloc: Global, kind: Option<Kind>, json: &Json) -> Result<Option<Note>, AllocError>
+    ensures { IfOk result (λ found. option_map note_view found ≡ note_of kind (view json.now)) }
+{
+    let converted = json.get("converted");
+    let logical = json.get("logical");
+    match json.get("note") {
+        None => Ok(named_of(None, converted, logical)),
+        Some(member) => match member.as_str() {
+            Some(word) => note_by(alloc, kind, word, converted, logical),
+            None => Ok(None),
+        },
+    }
+}
+
 /// Whether an annotation has no name over the type of its leaf.
 fn has_no_name(annotation: &Annotation) -> bool
     ensures { result ≡ not (is_known (annotation_view annotation.now)) }
@@ -142,7 +157,8 @@ fn other_of(
     converted: Option<&Json>,
     logical: Option<&Json>,
 ) -> Result<Option<Note>, AllocError>
-    ensures { IfOk result (λ found. option_map note_view found ≡ other_of kind (option_map (λ json. view json.now) converted.entry) (option_map (λ json. view json.now) logical.entry)) }
+    ensures { IfOk result (λ found. option_map note_view found ≡ other_of kind (option_map (λ json. view json.now) converted.entry)
+        (option_map (λ json. view json.now) logical.entry)) }
 {
     match (converted, logical) {
         (Some(json), None) => {
@@ -173,7 +189,8 @@ fn other_of(
 
 /// Another note, by its number, or none; beside it stands neither a number nor a struct.
 fn named_of(number: Option<i32>, converted: Option<&Json>, logical: Option<&Json>) -> Option<Note>
-    ensures { option_map note_view result ≡ named_of number (option_map (λ json. view json.now) converted.entry) (option_map (λ json. view json.now) logical.entry) }
+    ensures { option_map note_view result ≡ named_of number (option_map (λ json. view json.now) converted.entry)
+        (option_map (λ json. view json.now) logical.entry) }
 {
     match (converted, logical) {
         (None, None) => Some(Note {
@@ -192,7 +209,8 @@ fn note_by(
     converted: Option<&Json>,
     logical: Option<&Json>,
 ) -> Result<Option<Note>, AllocError>
-    ensures { IfOk result (λ found. option_map note_view found ≡ note_by kind (Some (Some word.now)) (option_map (λ json. view json.now) converted.entry) (option_map (λ json. view json.now) logical.entry)) }
+    ensures { IfOk result (λ found. option_map note_view found ≡ note_by kind (Some (Some word.now)) (option_map (λ json. view json.now) converted.entry)
+        (option_map (λ json. view json.now) logical.entry)) }
 {
     if word == OTHER {
         return other_of(alloc, kind, converted, logical);
@@ -200,20 +218,5 @@ fn note_by(
     match number_of(&NOTES, word) {
         Some(number) => Ok(named_of(Some(number), converted, logical)),
         None => Ok(None),
-    }
-}
-
-/// The note of a leaf's object, whose type this is.
-pub fn note_of(alloc: Global, kind: Option<Kind>, json: &Json) -> Result<Option<Note>, AllocError>
-    ensures { IfOk result (λ found. option_map note_view found ≡ note_of kind (view json.now)) }
-{
-    let converted = json.get("converted");
-    let logical = json.get("logical");
-    match json.get("note") {
-        None => Ok(named_of(None, converted, logical)),
-        Some(member) => match member.as_str() {
-            Some(word) => note_by(alloc, kind, word, converted, logical),
-            None => Ok(None),
-        },
     }
 }

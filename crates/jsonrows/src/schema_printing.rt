@@ -24,6 +24,20 @@ use serde_json::{Map, Value as Json};
 use std::alloc::{AllocError, Global};
 use thrift_compact::{Tree, write_struct};
 
+/// The text of a schema: a compact JSON array (RFC 8259) of its top-level fields, as `schema_from` reads it,
+/// the members of each in the byte order of their names. It fails only when out of memory. Time and memory
+/// are linear in the schema.
+pub fn schema_to(alloc: Global, schema: &Schema) -> R<String>
+    ensures stands { IfOk result (λ text. (ds : Items) × PrintsFields schema.now ds × (string_bytes text ≡ compact_text (array ds))) }
+    ensures reads_back { IfOk result (λ text. IsSchemaText (string_bytes text) schema.now) }
+    ensures which { RefusedMemoryOnly result }
+{
+    let _leaves = schema.leaves();
+    let fields = fields_json(alloc, schema.fields())?;
+    let text = Json::Array(fields).to_string(alloc)?;
+    Ok(text)
+}
+
 /// The word of a repetition.
 fn repetition_word(repetition: Repetition) -> &'static str
     ensures { result.now ≡ repetition_word repetition }
@@ -300,18 +314,4 @@ fn fields_json(alloc: Global, fields: &[Field]) -> R<Vec<Json>>
         all.push(field_json(alloc, field)?)?;
     }
     Ok(all)
-}
-
-/// The text of a schema: a compact JSON array (RFC 8259) of its top-level fields, as `schema_from` reads it,
-/// the members of each in the byte order of their names. It fails only when out of memory. Time and memory
-/// are linear in the schema.
-pub fn schema_to(alloc: Global, schema: &Schema) -> R<String>
-    ensures stands { IfOk result (λ text. (ds : Items) × PrintsFields schema.now ds × (string_bytes text ≡ compact_text (array ds))) }
-    ensures reads_back { IfOk result (λ text. IsSchemaText (string_bytes text) schema.now) }
-    ensures which { RefusedMemoryOnly result }
-{
-    let _leaves = schema.leaves();
-    let fields = fields_json(alloc, schema.fields())?;
-    let text = Json::Array(fields).to_string(alloc)?;
-    Ok(text)
 }

@@ -77,6 +77,31 @@ struct Numbers {
     precision: Option<i32>,
 }
 
+/// The schema that a text is: a JSON array (RFC 8259) of its top-level fields, each an object.
+///
+/// A leaf has the members `name`, `rep` (`required`, `optional` or `repeated`), `type` (`boolean`, `int32`,
+/// `int64`, `bytes` or `fixed`), `length` where it is fixed, and where they are wanted `note`, `scale` and
+/// `precision`. The note is the name of a ConvertedType in lower case, or `other`, and then a member
+/// `converted` has its number, or `logical` the bytes of the struct of a LogicalType (`parquet.thrift`) in
+/// hexadecimal digits in lower case. A group has `name`, `rep`, `fields`, and where it is wanted a `note`:
+/// `map`, `map_key_value` or `list`.
+///
+/// Refused Script where the text is no JSON, or not of this form; Schema, Float, Int96 and Limit as
+/// `Schema::new` does of the elements. The time is that of `Schema::new`, and linear in the text.
+pub fn schema_from(alloc: Global, text: &str) -> R<Schema>
+    ensures stands { IfOk result (IsSchemaText text.now) }
+    ensures only { OnFault result ((fs : Fields) → IsSchemaText text.now fs → ⊥) }
+    ensures which { IfErr result (IsRefusedSchema text.now) }
+{
+    one_struct();
+    let json = json_of(alloc, text)?;
+    let Some(all) = all_said(alloc, &json)? else {
+        return Err(Refusal::Script);
+    };
+    let elements = elements_of(alloc, all)?;
+    Schema::new(alloc, elements.as_slice())
+}
+
 /// Whether all members of an object are called by these names.
 fn has_only(json: &Json, names: &[&str]) -> bool
     ensures { result ≡ has_only (map (λ n. n.now) names.now) (view json.now) }
@@ -232,7 +257,8 @@ fn say_leaf(
     repetition: i32,
     all: &mut Vec<Said>,
 ) -> Result<bool, AllocError>
-    ensures { IfOk result (λ formed. Says (saids all.old.items) (saids all.new.items) formed (option_map (λ s. s ∷ []) (leaf_said name.now repetition (view json.now)))) }
+    ensures { IfOk result (λ formed. Says (saids all.old.items) (saids all.new.items) formed
+        (option_map (λ s. s ∷ []) (leaf_said name.now repetition (view json.now)))) }
 {
     match leaf_said(alloc, json, name, repetition)? {
         Some(said) => {
@@ -377,29 +403,4 @@ fn all_said(alloc: Global, json: &Json) -> Result<Option<Vec<Said>>, AllocError>
     } else {
         Ok(None)
     }
-}
-
-/// The schema that a text is: a JSON array (RFC 8259) of its top-level fields, each an object.
-///
-/// A leaf has the members `name`, `rep` (`required`, `optional` or `repeated`), `type` (`boolean`, `int32`,
-/// `int64`, `bytes` or `fixed`), `length` where it is fixed, and where they are wanted `note`, `scale` and
-/// `precision`. The note is the name of a ConvertedType in lower case, or `other`, and then a member
-/// `converted` has its number, or `logical` the bytes of the struct of a LogicalType (`parquet.thrift`) in
-/// hexadecimal digits in lower case. A group has `name`, `rep`, `fields`, and where it is wanted a `note`:
-/// `map`, `map_key_value` or `list`.
-///
-/// Refused Script where the text is no JSON, or not of this form; Schema, Float, Int96 and Limit as
-/// `Schema::new` does of the elements. The time is that of `Schema::new`, and linear in the text.
-pub fn schema_from(alloc: Global, text: &str) -> R<Schema>
-    ensures stands { IfOk result (IsSchemaText text.now) }
-    ensures only { OnFault result ((fs : Fields) → IsSchemaText text.now fs → ⊥) }
-    ensures which { IfErr result (IsRefusedSchema text.now) }
-{
-    one_struct();
-    let json = json_of(alloc, text)?;
-    let Some(all) = all_said(alloc, &json)? else {
-        return Err(Refusal::Script);
-    };
-    let elements = elements_of(alloc, all)?;
-    Schema::new(alloc, elements.as_slice())
 }

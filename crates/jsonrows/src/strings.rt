@@ -14,6 +14,36 @@ const DIGITS: [u8; 16] = *b"0123456789abcdef";
 /// More bytes than any memory has.
 const MOST_BYTES: usize = 4_611_686_018_427_387_904;
 
+/// Appends a string in quotes, at once where nothing has to be escaped.
+#[inline(always)]
+pub fn put_string(bytes: &[u8], out: &mut Line) -> Result<(), AllocError>
+    ensures { OnOk result (out.new.items ≡ out.old.items ++ quoted bytes.now) }
+{
+    if !is_plain(bytes) {
+        return put_slowly(bytes, out);
+    }
+    out.reserve(bytes.len() + 2)?;
+    out.place_byte(b'"');
+    out.place(bytes);
+    out.place_byte(b'"');
+    Ok(())
+}
+
+/// Appends the hexadecimal digits of bytes, in quotes.
+#[inline(never)]
+pub fn put_digits(bytes: &[u8], out: &mut Line) -> Result<(), AllocError>
+    ensures { OnOk result (out.new.items ≡ out.old.items ++ quoted (encode_lower bytes.now)) }
+{
+    if bytes.len() > MOST_BYTES {
+        return Err(AllocError);
+    }
+    out.reserve(bytes.len() * 2 + 2)?;
+    out.place_byte(b'"');
+    out.place_digits(bytes);
+    out.place_byte(b'"');
+    Ok(())
+}
+
 /// The hexadecimal digit of a number below 16.
 fn digit(number: u8) -> u8
     requires { number < 16 }
@@ -74,35 +104,5 @@ fn put_slowly(bytes: &[u8], out: &mut Line) -> Result<(), AllocError>
     out.push(b'"')?;
     put_escaped(bytes, out)?;
     out.push(b'"')?;
-    Ok(())
-}
-
-/// Appends a string in quotes, at once where nothing has to be escaped.
-#[inline(always)]
-pub fn put_string(bytes: &[u8], out: &mut Line) -> Result<(), AllocError>
-    ensures { OnOk result (out.new.items ≡ out.old.items ++ quoted bytes.now) }
-{
-    if !is_plain(bytes) {
-        return put_slowly(bytes, out);
-    }
-    out.reserve(bytes.len() + 2)?;
-    out.place_byte(b'"');
-    out.place(bytes);
-    out.place_byte(b'"');
-    Ok(())
-}
-
-/// Appends the hexadecimal digits of bytes, in quotes.
-#[inline(never)]
-pub fn put_digits(bytes: &[u8], out: &mut Line) -> Result<(), AllocError>
-    ensures { OnOk result (out.new.items ≡ out.old.items ++ quoted (encode_lower bytes.now)) }
-{
-    if bytes.len() > MOST_BYTES {
-        return Err(AllocError);
-    }
-    out.reserve(bytes.len() * 2 + 2)?;
-    out.place_byte(b'"');
-    out.place_digits(bytes);
-    out.place_byte(b'"');
     Ok(())
 }

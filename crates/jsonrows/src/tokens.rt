@@ -43,6 +43,48 @@ pub fn fitting(leaf_type: &LeafType, value: Value) -> Result<Value, Unread>
     }
 }
 
+/// A value of a leaf, its repetition aside.
+pub fn leaf_at(alloc: Global, leaf_type: &LeafType, token: Token<'_>) -> Result<Value, Unread>
+    ensures { IfOk result (λ value. option_and_then (leaf_read (leaf_type_view leaf_type.now)) (scalar_of (token_of token.entry)) ≡ Some (value_view value)) }
+{
+    match token {
+        Token::Bool(boolean) => fitting(leaf_type, Value::Bool(boolean)),
+        Token::Number(text) => fitting(leaf_type, Value::Int(integer_at(leaf_type, text)?)),
+        Token::String(text) if leaf_type.is_text() => text_at(alloc, leaf_type, text),
+        Token::String(text) => fitting(leaf_type, Value::Bytes(digits_at(alloc, text)?)),
+        _ => Err(Unread::Unknown),
+    }
+}
+
+/// The values of fields by the members of an object, after its brace.
+#[cycle(tokens)]
+pub fn members_at(
+    alloc: Global,
+    fields: &[Field],
+    names: &Names,
+    tokens: &mut Reader<'_>,
+    deep: usize,
+) -> Result<Vec<Value>, Unread>
+    requires differ { AllDiffer (names_in (field_views fields.now)) }
+    requires valid { AreValid (field_views fields.now) }
+    ensures { IfOk result (λ values. HoldsMembers (members_read (field_views fields.now)) deep tokens.old (views values.items) tokens.new) }
+{
+    let mut values = absent_each(alloc, fields)?;
+    let mut turn: usize = 0;
+    'members: while let Some(name) = tokens.next_key()? {
+        let index = index_of(fields, names, turn, name)?;
+        let below = names.below(index).ok_or(Unread::Unknown)?;
+        let value = field_at(alloc, field_of(fields, index), below, tokens, deep)?;
+        put_value(&mut values, index, value);
+        turn = turn.saturating_add(1);
+    }
+    if are_filled(fields, values.as_slice()) {
+        Ok(values)
+    } else {
+        Err(Unread::Unknown)
+    }
+}
+
 /// The value of a leaf of texts that a text is: itself. It is UTF-8, and so it fits.
 fn text_at(alloc: Global, leaf_type: &LeafType, text: &str) -> Result<Value, Unread>
     requires { is_text leaf_type.now.kind (annotation_view leaf_type.now.annotation) ≡ true }
@@ -68,19 +110,6 @@ fn integer_at(leaf_type: &LeafType, text: &str) -> Result<i64, Unread>
 {
     let number = integer_from(text).ok_or(Unread::Unknown)?;
     number_from(leaf_type, &number).ok_or(Unread::Unknown)
-}
-
-/// A value of a leaf, its repetition aside.
-pub fn leaf_at(alloc: Global, leaf_type: &LeafType, token: Token<'_>) -> Result<Value, Unread>
-    ensures { IfOk result (λ value. option_and_then (leaf_read (leaf_type_view leaf_type.now)) (scalar_of (token_of token.entry)) ≡ Some (value_view value)) }
-{
-    match token {
-        Token::Bool(boolean) => fitting(leaf_type, Value::Bool(boolean)),
-        Token::Number(text) => fitting(leaf_type, Value::Int(integer_at(leaf_type, text)?)),
-        Token::String(text) if leaf_type.is_text() => text_at(alloc, leaf_type, text),
-        Token::String(text) => fitting(leaf_type, Value::Bytes(digits_at(alloc, text)?)),
-        _ => Err(Unread::Unknown),
-    }
 }
 
 /// A value of a field, its repetition aside, which begins with the token.
@@ -217,33 +246,4 @@ fn put_value(values: &mut Vec<Value>, index: usize, value: Value)
     ensures { values.new.items ≡ slice_set values.old.items index value }
 {
     values[index] = value;
-}
-
-/// The values of fields by the members of an object, after its brace.
-#[cycle(tokens)]
-pub fn members_at(
-    alloc: Global,
-    fields: &[Field],
-    names: &Names,
-    tokens: &mut Reader<'_>,
-    deep: usize,
-) -> Result<Vec<Value>, Unread>
-    requires differ { AllDiffer (names_in (field_views fields.now)) }
-    requires valid { AreValid (field_views fields.now) }
-    ensures { IfOk result (λ values. HoldsMembers (members_read (field_views fields.now)) deep tokens.old (views values.items) tokens.new) }
-{
-    let mut values = absent_each(alloc, fields)?;
-    let mut turn: usize = 0;
-    'members: while let Some(name) = tokens.next_key()? {
-        let index = index_of(fields, names, turn, name)?;
-        let below = names.below(index).ok_or(Unread::Unknown)?;
-        let value = field_at(alloc, field_of(fields, index), below, tokens, deep)?;
-        put_value(&mut values, index, value);
-        turn = turn.saturating_add(1);
-    }
-    if are_filled(fields, values.as_slice()) {
-        Ok(values)
-    } else {
-        Err(Unread::Unknown)
-    }
 }

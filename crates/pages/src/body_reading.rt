@@ -90,6 +90,29 @@ pub fn read_data_page_v2<'a>(
     )
 }
 
+/// The values of a dictionary page.
+pub fn read_dictionary<'a>(
+    alloc: Global,
+    header: &DictionaryPageHeader,
+    kind: Kind,
+    body: &'a [u8],
+) -> R<Vec<ValueRef<'a>>>
+    ensures stands { IfOk result (λ vs. IsDictionaryBody kind (dictionary_page_header_view header.now) body.now (map value_ref_view vs.items)) }
+    ensures within_limits { OnOk result (IsDictionaryOver kind (dictionary_page_header_view header.now) body.now → ⊥) }
+    ensures only { OnFault result ((vs : List ValueTree) → IsDictionaryBody kind (dictionary_page_header_view header.now) body.now vs → ⊥) }
+    ensures limit { result ≡ Err Refusal.Limit → IsDictionaryOver kind (dictionary_page_header_view header.now) body.now }
+    ensures which { RefusedOnly IsOfPages result }
+{
+    let Ok(count) = usize::try_from(header.num_values) else {
+        return Err(Refusal::Page);
+    };
+    if header.encoding != PLAIN && header.encoding != PLAIN_DICTIONARY {
+        return Err(Refusal::Encoding);
+    }
+    let (values, _) = decode_to::<ValueRef<'a>>(alloc, kind, body, count)?;
+    Ok(values)
+}
+
 /// How many entries a page has. Refused Page where that is below 0 or above `left`.
 fn checked_count(number: i32, left: usize) -> R<usize>
     ensures stands { IfOk result (λ count. number ≡ pos count) }
@@ -102,6 +125,12 @@ fn checked_count(number: i32, left: usize) -> R<usize>
         _ => Err(Refusal::Page),
     }
 }
+
+/// The number of the encoding PLAIN (`parquet.thrift`, Encoding).
+const PLAIN: i32 = 0;
+
+/// The number of the encoding PLAIN_DICTIONARY, which is PLAIN in a dictionary page.
+const PLAIN_DICTIONARY: i32 = 2;
 
 /// The entries of these levels. Those at the greatest definition level have the values of the bytes.
 fn read_entries<'a>(
@@ -127,33 +156,4 @@ fn read_entries<'a>(
     let count = definitions.count_of(greatest);
     let values = read_values(alloc, encoding, &leaf.leaf_type, dictionary, bytes, count)?;
     Ok(DataPage::of(greatest, repetitions, definitions, values))
-}
-
-/// The number of the encoding PLAIN (`parquet.thrift`, Encoding).
-const PLAIN: i32 = 0;
-
-/// The number of the encoding PLAIN_DICTIONARY, which is PLAIN in a dictionary page.
-const PLAIN_DICTIONARY: i32 = 2;
-
-/// The values of a dictionary page.
-pub fn read_dictionary<'a>(
-    alloc: Global,
-    header: &DictionaryPageHeader,
-    kind: Kind,
-    body: &'a [u8],
-) -> R<Vec<ValueRef<'a>>>
-    ensures stands { IfOk result (λ vs. IsDictionaryBody kind (dictionary_page_header_view header.now) body.now (map value_ref_view vs.items)) }
-    ensures within_limits { OnOk result (IsDictionaryOver kind (dictionary_page_header_view header.now) body.now → ⊥) }
-    ensures only { OnFault result ((vs : List ValueTree) → IsDictionaryBody kind (dictionary_page_header_view header.now) body.now vs → ⊥) }
-    ensures limit { result ≡ Err Refusal.Limit → IsDictionaryOver kind (dictionary_page_header_view header.now) body.now }
-    ensures which { RefusedOnly IsOfPages result }
-{
-    let Ok(count) = usize::try_from(header.num_values) else {
-        return Err(Refusal::Page);
-    };
-    if header.encoding != PLAIN && header.encoding != PLAIN_DICTIONARY {
-        return Err(Refusal::Encoding);
-    }
-    let (values, _) = decode_to::<ValueRef<'a>>(alloc, kind, body, count)?;
-    Ok(values)
 }

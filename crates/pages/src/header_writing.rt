@@ -63,6 +63,27 @@ pub(crate) fn put_data_header(
     header.write(alloc, out)
 }
 
+/// Writes the header of a dictionary page with this many bytes of body and this many entries. Refused Limit
+/// exactly when one of them is more than an i32 holds. After a refusal `out` is unchanged.
+pub(crate) fn put_dictionary_header(
+    alloc: Global,
+    size: usize,
+    count: usize,
+    out: &mut Vec<u8>,
+) -> R<()>
+    ensures stands { OnOk result (Appends (λ bytes. IsThrift bytes (page_header_fields (dictionary_header_shown size count))) 128 out.old.items out.new.items) }
+    ensures fits { OnOk result ((size ≤ most_of_page) × (count ≤ most_of_page)) }
+    ensures limit { result ≡ Err Refusal.Limit → (most_of_page < size) ⊎ (most_of_page < count) }
+    ensures which { RefusedOnly (λ e. e ≡ Refusal.Limit) result }
+    ensures unchanged { OnErr result (out.new.items ≡ out.old.items) }
+{
+    if size > MOST_BYTES_OF_PAGE || count > MOST_BYTES_OF_PAGE {
+        return Err(Refusal::Limit);
+    }
+    let header = dictionary_header(size, count);
+    header.write(alloc, out)
+}
+
 /// The header of a data page with this many bytes of body.
 fn data_header(head: DataPageHead, size: usize, sections: SectionSizes) -> PageHeader
     requires nulls { head.nulls ≤ head.entries }
@@ -109,27 +130,6 @@ fn data_header(head: DataPageHead, size: usize, sections: SectionSizes) -> PageH
             }),
         },
     }
-}
-
-/// Writes the header of a dictionary page with this many bytes of body and this many entries. Refused Limit
-/// exactly when one of them is more than an i32 holds. After a refusal `out` is unchanged.
-pub(crate) fn put_dictionary_header(
-    alloc: Global,
-    size: usize,
-    count: usize,
-    out: &mut Vec<u8>,
-) -> R<()>
-    ensures stands { OnOk result (Appends (λ bytes. IsThrift bytes (page_header_fields (dictionary_header_shown size count))) 128 out.old.items out.new.items) }
-    ensures fits { OnOk result ((size ≤ most_of_page) × (count ≤ most_of_page)) }
-    ensures limit { result ≡ Err Refusal.Limit → (most_of_page < size) ⊎ (most_of_page < count) }
-    ensures which { RefusedOnly (λ e. e ≡ Refusal.Limit) result }
-    ensures unchanged { OnErr result (out.new.items ≡ out.old.items) }
-{
-    if size > MOST_BYTES_OF_PAGE || count > MOST_BYTES_OF_PAGE {
-        return Err(Refusal::Limit);
-    }
-    let header = dictionary_header(size, count);
-    header.write(alloc, out)
 }
 
 /// The header of a dictionary page.

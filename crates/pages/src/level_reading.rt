@@ -86,6 +86,34 @@ pub fn read_levels_v2<'a>(
     Ok((repetitions, definitions, rest))
 }
 
+/// The bytes after their length in four bytes, and those after them. Refused Truncated where they are
+/// not there.
+pub fn split_prefixed(bytes: &[u8]) -> R<(&[u8], &[u8])>
+    ensures stands { IfOk result (λ x. IsPrefixed bytes.now x.0.now x.1.now) }
+    ensures only { OnFault result ((inside rest : List ℕ) → IsPrefixed bytes.now inside rest → ⊥) }
+    ensures which { RefusedOnly (λ e. e ≡ Refusal.Truncated) result }
+{
+    if bytes.len() < 4 {
+        return Err(Refusal::Truncated);
+    }
+    let (announced, rest) = bytes.split_at(4);
+    let size = LittleEndian::read_u32(announced) as usize;
+    if size > rest.len() {
+        return Err(Refusal::Truncated);
+    }
+    Ok(rest.split_at(size))
+}
+
+/// How many binary digits a level that is above 0 has.
+pub fn width_of(level: u32) -> u32
+    requires { 0 < level }
+    ensures holds { level < 2 ^ result }
+    ensures least { 2 ^ result ≤ 2 * level }
+    ensures narrow { result ≤ 32 }
+{
+    32 - level.leading_zeros()
+}
+
 /// The levels in the section at the front, after its length in four bytes, and the bytes after the
 /// section. There is no section where the greatest level is 0.
 fn read_section_v1<'a>(
@@ -145,24 +173,6 @@ fn is_rle(encoding: Option<i32>) -> bool
     }
 }
 
-/// The bytes after their length in four bytes, and those after them. Refused Truncated where they are
-/// not there.
-pub fn split_prefixed(bytes: &[u8]) -> R<(&[u8], &[u8])>
-    ensures stands { IfOk result (λ x. IsPrefixed bytes.now x.0.now x.1.now) }
-    ensures only { OnFault result ((inside rest : List ℕ) → IsPrefixed bytes.now inside rest → ⊥) }
-    ensures which { RefusedOnly (λ e. e ≡ Refusal.Truncated) result }
-{
-    if bytes.len() < 4 {
-        return Err(Refusal::Truncated);
-    }
-    let (announced, rest) = bytes.split_at(4);
-    let size = LittleEndian::read_u32(announced) as usize;
-    if size > rest.len() {
-        return Err(Refusal::Truncated);
-    }
-    Ok(rest.split_at(size))
-}
-
 /// The first `size` bytes, and those after them. Refused Page where the size is below 0, and Truncated
 /// where it goes beyond the bytes.
 fn split_sized(bytes: &[u8], size: i32) -> R<(&[u8], &[u8])>
@@ -199,14 +209,4 @@ fn are_within(levels: &[u32], greatest: u32) -> bool
     ensures { IsTrue result ↔ All (λ l. l ≤ greatest) levels.now }
 {
     levels.iter().all(|level| *level <= greatest)
-}
-
-/// How many binary digits a level that is above 0 has.
-pub fn width_of(level: u32) -> u32
-    requires { 0 < level }
-    ensures holds { level < 2 ^ result }
-    ensures least { 2 ^ result ≤ 2 * level }
-    ensures narrow { result ≤ 32 }
-{
-    32 - level.leading_zeros()
 }

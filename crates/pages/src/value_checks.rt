@@ -59,17 +59,6 @@ pub fn is_of_kind(kind: Kind, value: ValueRef<'_>) -> bool
     }
 }
 
-/// Whether bytes are of the wanted length, where one is.
-#[inline(always)]
-fn has_length(bytes: &[u8], wanted: Option<u32>) -> bool
-    ensures { result ≡ (option_map_or (λ n. length bytes.now == n) wanted true && are_bytes bytes.now) }
-{
-    match wanted {
-        Some(wanted) => bytes.len() as u64 == u64::from(wanted),
-        None => true,
-    }
-}
-
 /// Whether a value is text.
 #[inline(always)]
 pub fn is_text(value: ValueRef<'_>) -> bool
@@ -78,6 +67,17 @@ pub fn is_text(value: ValueRef<'_>) -> bool
     match value {
         ValueRef::Bytes(bytes) => is_utf8(bytes),
         _ => false,
+    }
+}
+
+/// Whether bytes are of the wanted length, where one is.
+#[inline(always)]
+fn has_length(bytes: &[u8], wanted: Option<u32>) -> bool
+    ensures { result ≡ (option_map_or (λ n. length bytes.now == n) wanted true && are_bytes bytes.now) }
+{
+    match wanted {
+        Some(wanted) => bytes.len() as u64 == u64::from(wanted),
+        None => true,
     }
 }
 

@@ -31,45 +31,6 @@ pub(crate) fn check_entries(leaf: &Leaf, entries: &[EntryRef<'_>]) -> R<()>
     Ok(())
 }
 
-/// Whether an entry is the leaf's, whose values are text or not: its levels are at most the greatest, and
-/// it has a value, which fits, exactly when its definition level is the greatest.
-#[inline(always)]
-fn is_entry_of(leaf: &Leaf, is_of_text: bool, entry: EntryRef<'_>) -> bool
-    requires { let t = leaf_type_view leaf.now.leaf_type in is_of_text ≡ is_text t.kind t.annotation }
-    ensures is { result ≡ true → IsEntryOf (leaf_view leaf.now) (entry_ref_view entry.entry) }
-    ensures only { result ≡ false → IsEntryOf (leaf_view leaf.now) (entry_ref_view entry.entry) → ⊥ }
-{
-    if entry.repetition > leaf.greatest_repetition || entry.definition > leaf.greatest_definition {
-        return false;
-    }
-    let is_full = entry.definition == leaf.greatest_definition;
-    match entry.value {
-        None => !is_full,
-        Some(value) => is_full && is_value_of(&leaf.leaf_type, is_of_text, value),
-    }
-}
-
-/// Whether a value is a leaf's: of its type, and UTF-8 where it is text.
-#[inline(always)]
-fn is_value_of(leaf_type: &LeafType, is_of_text: bool, value: ValueRef<'_>) -> bool
-    requires { let t = leaf_type_view leaf_type.now in is_of_text ≡ is_text t.kind t.annotation }
-    ensures { result ≡ fits_leaf (leaf_type_view leaf_type.now) (value_ref_view value.entry) }
-{
-    is_of_kind(leaf_type.kind, value) && (!is_of_text || is_text(value))
-}
-
-/// Why an entry that is none of the leaf's is refused: for its levels, or else for its value.
-#[cold]
-fn refusal_of(leaf: &Leaf, entry: EntryRef<'_>) -> Refusal
-    ensures { (result ≡ Refusal.Levels) ⊎ (result ≡ Refusal.Value) }
-{
-    if entry.repetition > leaf.greatest_repetition || entry.definition > leaf.greatest_definition {
-        Refusal::Levels
-    } else {
-        Refusal::Value
-    }
-}
-
 /// The values of the entries that have one, in their order. It fails only when out of memory.
 pub fn values_of<'a>(alloc: Global, entries: &[EntryRef<'a>]) -> R<Vec<ValueRef<'a>>>
     ensures are { IfOk result (λ vs. map value_ref_view vs.items ≡ values (map entry_ref_view entries.now)) }
@@ -135,4 +96,43 @@ pub(crate) fn count_rows(entries: &[EntryRef<'_>]) -> usize
         }
     }
     rows
+}
+
+/// Whether an entry is the leaf's, whose values are text or not: its levels are at most the greatest, and
+/// it has a value, which fits, exactly when its definition level is the greatest.
+#[inline(always)]
+fn is_entry_of(leaf: &Leaf, is_of_text: bool, entry: EntryRef<'_>) -> bool
+    requires { let t = leaf_type_view leaf.now.leaf_type in is_of_text ≡ is_text t.kind t.annotation }
+    ensures is { result ≡ true → IsEntryOf (leaf_view leaf.now) (entry_ref_view entry.entry) }
+    ensures only { result ≡ false → IsEntryOf (leaf_view leaf.now) (entry_ref_view entry.entry) → ⊥ }
+{
+    if entry.repetition > leaf.greatest_repetition || entry.definition > leaf.greatest_definition {
+        return false;
+    }
+    let is_full = entry.definition == leaf.greatest_definition;
+    match entry.value {
+        None => !is_full,
+        Some(value) => is_full && is_value_of(&leaf.leaf_type, is_of_text, value),
+    }
+}
+
+/// Whether a value is a leaf's: of its type, and UTF-8 where it is text.
+#[inline(always)]
+fn is_value_of(leaf_type: &LeafType, is_of_text: bool, value: ValueRef<'_>) -> bool
+    requires { let t = leaf_type_view leaf_type.now in is_of_text ≡ is_text t.kind t.annotation }
+    ensures { result ≡ fits_leaf (leaf_type_view leaf_type.now) (value_ref_view value.entry) }
+{
+    is_of_kind(leaf_type.kind, value) && (!is_of_text || is_text(value))
+}
+
+/// Why an entry that is none of the leaf's is refused: for its levels, or else for its value.
+#[cold]
+fn refusal_of(leaf: &Leaf, entry: EntryRef<'_>) -> Refusal
+    ensures { (result ≡ Refusal.Levels) ⊎ (result ≡ Refusal.Value) }
+{
+    if entry.repetition > leaf.greatest_repetition || entry.definition > leaf.greatest_definition {
+        Refusal::Levels
+    } else {
+        Refusal::Value
+    }
 }

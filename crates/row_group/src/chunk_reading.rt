@@ -53,7 +53,8 @@ pub fn check_chunk(alloc: Global, bytes: &[u8], meta: &ColumnMeta, leaf: &Leaf) 
 /// (`parquet.thrift`, ColumnMetaData.)
 pub fn read_chunk(alloc: Global, bytes: &[u8], meta: &ColumnMeta, leaf: &Leaf) -> R<(Column, usize)>
     ensures stands { IfOk result (λ x. ChunkMeans (column_meta_view meta.now) (leaf_view leaf.now) bytes.now (column_view x.0) x.1) }
-    ensures alone { IfOk result (λ x. (es : List Entry) (used : ℕ) → ChunkMeans (column_meta_view meta.now) (leaf_view leaf.now) bytes.now es used → (es ≡ column_view x.0) × (used ≡ x.1)) }
+    ensures alone { IfOk result (λ x. (es : List Entry) (used : ℕ) → ChunkMeans (column_meta_view meta.now) (leaf_view leaf.now) bytes.now es used
+        → (es ≡ column_view x.0) × (used ≡ x.1)) }
     ensures within { IfOk result (λ x. x.1 ≤ length bytes.now) }
     ensures within_limits { OnOk result (IsChunkOver (column_meta_view meta.now) (leaf_view leaf.now) bytes.now → ⊥) }
     ensures only { OnFault result (NothingStands (ChunkMeans (column_meta_view meta.now) (leaf_view leaf.now) bytes.now)) }

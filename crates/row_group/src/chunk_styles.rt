@@ -57,17 +57,6 @@ pub(crate) fn numbers_of(alloc: Global, encodings: &[Encoding]) -> R<Vec<i32>>
     Ok(numbers)
 }
 
-/// Whether chunks of a type have dictionaries under a style.
-fn allows_dictionary(style: Style, kind: Kind) -> bool
-    ensures { IsTrue result ↔ ((style ≡ Style.Dictionary) × (kind ≢ Kind.Boolean)) }
-{
-    match (style, kind) {
-        (_, Kind::Boolean) => false,
-        (Style::Dictionary, _) => true,
-        _ => false,
-    }
-}
-
 /// The dictionary of a chunk's values, with their indexes; None where the chunk has none.
 ///
 /// Refused Value only where an entry is none of the leaf's.
@@ -93,4 +82,15 @@ pub(crate) fn dictionary_of(
         return Ok(None);
     }
     Dictionary::build(alloc, values.as_slice())
+}
+
+/// Whether chunks of a type have dictionaries under a style.
+fn allows_dictionary(style: Style, kind: Kind) -> bool
+    ensures { IsTrue result ↔ ((style ≡ Style.Dictionary) × (kind ≢ Kind.Boolean)) }
+{
+    match (style, kind) {
+        (_, Kind::Boolean) => false,
+        (Style::Dictionary, _) => true,
+        _ => false,
+    }
 }

@@ -29,6 +29,52 @@ pub(crate) enum PageValues<'a> {
     Indexed(&'a Dictionary),
 }
 
+/// Writes the entries as pages of `page_rows` rows each, the last with the rest. Refused Limit before a
+/// page that would begin after more than [`MOST_BYTES_BEFORE_CHUNK`] bytes. After a refusal whole pages may
+/// stand after what was there.
+pub(crate) fn put_pages(
+    alloc: Global,
+    leaf: &Leaf,
+    options: ChunkOptions,
+    values: PageValues<'_>,
+    entries: &[EntryRef<'_>],
+    out: &mut Vec<u8>,
+) -> R<()>
+    requires rows { 0 < options.page_rows }
+    requires kind { AreForKind leaf.now.leaf_type.kind values }
+    requires indexes { HaveIndexes values 0 (values_in (map entry_ref_view entries.now)) }
+    ensures stands { let es = map entry_ref_view entries.now in
+        OnOk result (AppendsParts (leaf_view leaf.now) options values.entry es out.old.items out.new.items) }
+    ensures within_limits { OnOk result (AreShortIn values.entry (map entry_ref_view entries.now)) }
+    ensures only { OnFault result (AllByRecursion (IsEntryOf (leaf_view leaf.now)) (map entry_ref_view entries.now) → ⊥) }
+    ensures limit { result ≡ Err Refusal.Limit → ArePartsTooMuch (length out.old.items) options.page_rows values.entry (map entry_ref_view entries.now) }
+    ensures which { RefusedOnly IsOfEntries result }
+    ensures front { OnErr result (take (length out.old.items) out.new.items ≡ out.old.items) }
+{
+    let mut scratch = Vec::new(alloc);
+    let (mut at, mut value) = (0, 0);
+    while at < entries.len() {
+        if out.len() > MOST_BYTES_BEFORE_CHUNK {
+            return Err(Refusal::Limit);
+        }
+        let rest = entries.split_at(at).1;
+        let size = first_page_len(rest, options.page_rows);
+        let page = rest.split_at(size).0;
+        value = put_page(
+            alloc,
+            leaf,
+            options.page_version,
+            values,
+            value,
+            page,
+            &mut scratch,
+            out,
+        )?;
+        at += size;
+    }
+    Ok(())
+}
+
 /// How many of these entries the first page has: those of the first `page_rows` rows, or all.
 fn first_page_len(entries: &[EntryRef<'_>], page_rows: u32) -> usize
     requires rows { 0 < page_rows }
@@ -87,50 +133,4 @@ fn put_page(
             Ok(at + count)
         }
     }
-}
-
-/// Writes the entries as pages of `page_rows` rows each, the last with the rest. Refused Limit before a
-/// page that would begin after more than [`MOST_BYTES_BEFORE_CHUNK`] bytes. After a refusal whole pages may
-/// stand after what was there.
-pub(crate) fn put_pages(
-    alloc: Global,
-    leaf: &Leaf,
-    options: ChunkOptions,
-    values: PageValues<'_>,
-    entries: &[EntryRef<'_>],
-    out: &mut Vec<u8>,
-) -> R<()>
-    requires rows { 0 < options.page_rows }
-    requires kind { AreForKind leaf.now.leaf_type.kind values }
-    requires indexes { HaveIndexes values 0 (values_in (map entry_ref_view entries.now)) }
-    ensures stands { let es = map entry_ref_view entries.now in
-        OnOk result (AppendsParts (leaf_view leaf.now) options values.entry es out.old.items out.new.items) }
-    ensures within_limits { OnOk result (AreShortIn values.entry (map entry_ref_view entries.now)) }
-    ensures only { OnFault result (AllByRecursion (IsEntryOf (leaf_view leaf.now)) (map entry_ref_view entries.now) → ⊥) }
-    ensures limit { result ≡ Err Refusal.Limit → ArePartsTooMuch (length out.old.items) options.page_rows values.entry (map entry_ref_view entries.now) }
-    ensures which { RefusedOnly IsOfEntries result }
-    ensures front { OnErr result (take (length out.old.items) out.new.items ≡ out.old.items) }
-{
-    let mut scratch = Vec::new(alloc);
-    let (mut at, mut value) = (0, 0);
-    while at < entries.len() {
-        if out.len() > MOST_BYTES_BEFORE_CHUNK {
-            return Err(Refusal::Limit);
-        }
-        let rest = entries.split_at(at).1;
-        let size = first_page_len(rest, options.page_rows);
-        let page = rest.split_at(size).0;
-        value = put_page(
-            alloc,
-            leaf,
-            options.page_version,
-            values,
-            value,
-            page,
-            &mut scratch,
-            out,
-        )?;
-        at += size;
-    }
-    Ok(())
 }
