@@ -1,6 +1,6 @@
 //! Rows from text, and as text.
 
-use assemble::RowSink;
+use assemble::{RowBuilder, RowSink};
 use bits::R;
 use jsonrows::{Reader, RowPlan, RowText, row_from, row_to, schema_from};
 use schema::{Value, ValueRef};
@@ -219,6 +219,16 @@ fn shown_again(alloc: Global, schema: &str, other: &str, line: &str) -> R<String
     row_to(alloc, &schema_from(alloc, other)?, &row)
 }
 
+/// The same by a reader that shows the row to a sink.
+fn shown_to_a_sink(alloc: Global, schema: &str, line: &str) -> R<String> {
+    let schema = schema_from(alloc, schema)?;
+    let mut reader = Reader::new(alloc, &schema)?;
+    let mut builder = RowBuilder::new(alloc, schema.fields().len())?;
+    drop(reader.read_to("{}", &mut builder));
+    reader.read_to(line, &mut builder)?;
+    row_to(alloc, &schema, &builder.into_row())
+}
+
 /// Shows values, one after another.
 fn show(values: &[Value], sink: &mut RowText<'_>) -> R<()> {
     for value in values {
@@ -388,6 +398,26 @@ fn rows_are_printed_one_after_another(rt: HostRuntime) -> Result<(), Fail> {
                 );
             }
         }
+    }
+    Ok(())
+}
+
+/// A schema whose fields do not stand in the order of their names, with a list of groups.
+const OUT_OF_ORDER: &str =
+    r#"[{"name":"n","rep":"required","type":"int64"},{"name":"b","rep":"required","type":"bytes"},{"name":"g","rep":"repeated","fields":[{"name":"y","rep":"optional","type":"bytes","note":"utf8"},{"name":"x","rep":"required","type":"boolean"}]}]"#;
+
+/// Lines of that schema, as they are printed; the second has an escape.
+const LINES_OUT_OF_ORDER: [&str; 3] = [
+    r#"{"b":"00ff","g":[{"x":true,"y":"Grüße"},{"x":false,"y":null}],"n":-7}"#,
+    r#"{"b":"","g":[{"x":true,"y":"a \"b\""}],"n":0}"#,
+    r#"{"b":"7f","g":[],"n":9223372036854775807}"#,
+];
+
+#[test]
+fn rows_are_shown_to_a_sink_as_they_are_read(rt: HostRuntime) -> Result<(), Fail> {
+    for line in LINES_OUT_OF_ORDER {
+        let text = shown_to_a_sink(rt.alloc(), OUT_OF_ORDER, line)?;
+        assert!(rt; text.as_str() == line);
     }
     Ok(())
 }

@@ -80,6 +80,18 @@ fn a_page_of_two_numbers_is_read(rt: HostRuntime) -> Result<(), Fail> {
 }
 
 #[test]
+fn values_in_plain_without_levels_are_taken_at_once(rt: HostRuntime) -> Result<(), Fail> {
+    let leaf = leaf_of(rt.alloc(), Kind::Int64, None);
+    let (mut page, _) = data_page(rt.alloc(), NUMBERS.as_slice(), &leaf, 5)?;
+    for number in [1, 300] {
+        assert!(rt; matches!(page.next_plain(), Some(ValueRef::Int(value)) if value == number));
+    }
+    assert!(rt; page.next_plain().is_none());
+    assert_eq!(rt; page.len(), 0);
+    Ok(())
+}
+
+#[test]
 fn a_page_of_two_texts_is_read(rt: HostRuntime) -> Result<(), Fail> {
     let leaf = leaf_of(rt.alloc(), Kind::ByteArray, Some(0));
     let (mut page, used) = data_page(rt.alloc(), TEXTS.as_slice(), &leaf, 2)?;

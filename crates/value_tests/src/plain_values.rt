@@ -1,5 +1,5 @@
 use bits::{R, Refusal, ValueCodec};
-use plain::{Holds, Plain, decode, decode_to, encode, encoded_size};
+use plain::{Holds, Plain, Values, decode, decode_to, encode, encoded_size};
 use schema::{Entry, Kind, Value, ValueRef, same};
 use std::alloc::Global;
 use std::test::*;
@@ -185,5 +185,16 @@ fn entries_hold_the_values_that_are_read_alone(rt: HostRuntime) -> Result<(), Fa
         let cut = read_to::<Entry>(rt.alloc(), kind, &TEXTS, usize::MAX);
         assert!(rt; matches!(cut, Err(Refusal::Truncated)));
     }
+    Ok(())
+}
+
+#[test]
+fn a_cursor_gives_its_values_one_by_one(rt: HostRuntime) -> Result<(), Fail> {
+    let bytes = [1, 0, 0, 0, b'a', 0, 0, 0, 0, b'x'];
+    let (mut values, used) = Values::new(Kind::ByteArray, bytes.as_slice(), 2)?;
+    assert_eq!(rt; used, 9);
+    assert!(rt; matches!(values.next(), Some(ValueRef::Bytes(text)) if text == b"a"));
+    assert!(rt; matches!(values.next(), Some(ValueRef::Bytes(text)) if text.is_empty()));
+    assert!(rt; values.next().is_none());
     Ok(())
 }
