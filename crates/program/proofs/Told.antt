@@ -1,5 +1,5 @@
 -- Lines that are read as rows, one after another.
-use Rattle.std.proofs.Common.{◌≡◌, ◌⊎◌, inr, Result, Ok, Err, Vec, Global, subst, ◌<◌, ℕ, zero, suc, List, [], ◌∷◌, ◌++◌, length, map, take, drop, get_or, refl, sym, ap, ◌∙◌, arith}
+use Rattle.std.proofs.Common.{◌≡◌, ◌⊎◌, inr, true, Result, Ok, Err, Vec, Global, subst, ◌<◌, ℕ, zero, suc, List, [], ◌∷◌, ◌++◌, length, map, take, drop, get_or, refl, sym, ap, ◌∙◌, arith}
 use Rattle.std.specs.Prelude.{IsTrue, IfOk, OnOk, IfErr}
 use Rattle.std.specs.Borrow.{Bor}
 use Rattle.std.proofs.lemmas.List.{map_push, take-append-drop}
@@ -11,11 +11,14 @@ use Rattle.schema.specs.Shape.{Fields}
 use Rattle.schema.specs.Fits.{fits_each, RowsFit}
 use Rattle.footer.specs.declared.options.WriteOptions.{WriteOptions}
 use Rattle.footer.specs.declared.file_writer.FileWriter.{FileWriter}
-use Rattle.footer.specs.Writer.{schema_of, options_of, has_rows}
+use Rattle.assemble.specs.Sinks.{Visits, tokens_each}
+use Rattle.shred.specs.inner.Opening.{schema_token, rows_token}
+use Rattle.footer.specs.Writer.{schema_of, options_of, has_rows, options_token, writer_shows, BeginsRow, ShowsRow}
+use Rattle.jsonrows.specs.Reader.{IsRowOf}
 use Rattle.footer.specs.File.{FileMeans}
 use Rattle.footer.specs.Own.{IsLaidOut}
 use Rattle.footer.specs.Writing.{IsOutOfRange, IsTooMuch}
-use Rattle.program.specs.inner.Lines.{IsFileOfLines, IsLinesRefusal, IsLineRefusal, AreTooMuch}
+use Rattle.program.specs.inner.Lines.{IsFileOfLines, IsLinesRefusal, IsLineRefusal, AreTooMuch, HasLine}
 use Rattle.program.specs.Program.{IsRowText, AreRowTexts, IsRefusedLine, HasFirstFault}
 
 one_more : (fs : Fields) (texts : List (List ℕ)) (rows : List ValueTrees) (text : List ℕ) (row : ValueTrees) → AreRowTexts fs texts rows → IsRowText fs text row → AreRowTexts fs (texts ++ text ∷ []) (rows ++ row ∷ [])
@@ -149,6 +152,28 @@ pub refused_at_end : {X : Type 0} (fs : Fields) (text : List ℕ) (TooMuch : Typ
 refused_at_end fs text TooMuch (Ok x) h = tt
 refused_at_end fs text TooMuch (Err Memory) h = tt
 refused_at_end fs text TooMuch (Err e) h = absurd h
+
+-- the row of a line that a writer was shown is one that it has
+pub line_given : {X : Type 0} (fs reads : Fields) (o : WriteOptions) (text : List ℕ) (old begun shown new : FileWriter) (r : Result X Refusal) → ((rows : List ValueTrees) → has_rows old rows → BeginsRow begun fs o rows)
+    → Visits (writer_shows begun) (writer_shows shown) tokens_each (IsRowOf reads text)
+    → OnOk r ((gs : Fields) (p : WriteOptions) (rs : List ValueTrees) (values : ValueTrees) → ShowsRow shown gs p rs values → fits_each gs values ≡ true → has_rows new (rs ++ values ∷ []))
+    → ((gs : Fields) (p : WriteOptions) (rs : List ValueTrees) (values : ValueTrees) → ShowsRow shown gs p rs values → (schema_of new ≡ gs) × (options_of new ≡ p))
+    → OnOk r ((rows : List ValueTrees) → has_rows old rows → fs ≡ reads → HasLine reads o text rows new)
+line_given fs reads o text old begun shown new (Err e) begins visits stands of = tt
+line_given fs reads o text old begun shown new (Ok x) begins visits stands of = λ rows has same.
+    let values = visits.0 in
+    let is = visits.1.0 in
+    let shows : ShowsRow shown fs o rows values = visits.1.1 (schema_token fs ∷ rows_token rows ∷ options_token o ∷ []) (begins rows has) in
+    let fits : fits_each fs values ≡ true = subst (λ (t : Fields). fits_each t values ≡ true) (sym same) is.1.1.1 in
+    let after = of fs o rows values shows in
+    record {
+      row = values;
+      is = (is.0, is.1.0, is.1.1.0);
+      fits = is.1.1.1;
+      has = stands fs o rows values shows fits;
+      schema = after.0 ∙ same;
+      options = after.1;
+    }
 
 -- all rows are too much
 pub too_much_at_end : (fs : Fields) (o : WriteOptions) (texts : List (List ℕ)) (writer : FileWriter) (rows : List ValueTrees) → AreRowTexts fs texts rows → has_rows writer rows → schema_of writer ≡ fs → options_of writer ≡ o

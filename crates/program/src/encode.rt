@@ -105,8 +105,8 @@ fn show_line<K: RowSink>(reader: &mut Reader<'_>, line: &str, sink: &mut K) -> R
 /// Gives a writer the row of a line. Refused as `row_from` refuses the line, or Limit where the rows that the writer
 /// has are too much for a file.
 fn put_line(reader: &mut Reader<'_>, line: &str, writer: &mut FileWriter<'_>) -> R<()>
-    ensures stands { (rows : List ValueTrees) → has_rows writer.old rows → schema_of writer.old ≡ fields_of reader.old
-        → OnOk result (HasLine (fields_of reader.old) (options_of writer.old) line.now rows writer.new) }
+    ensures stands { OnOk result ((rows : List ValueTrees) → has_rows writer.old rows → schema_of writer.old ≡ fields_of reader.old
+        → HasLine (fields_of reader.old) (options_of writer.old) line.now rows writer.new) }
     ensures which { (rows : List ValueTrees) → has_rows writer.old rows → IfErr result (IsLineRefusal (fields_of reader.old) line.now
         (AreTooMuch (schema_of writer.old) (options_of writer.old) rows)) }
     ensures same { fields_of reader.new ≡ fields_of reader.old }

@@ -31,5 +31,5 @@ loop-line-preserved c =
     let fs = c.args.schema.now in
     let shown = c.in_ok-show_line.ensures.stands in
     let row = shown.0 in
-    let is : IsRowText fs c.in-Some.line.now row = subst (λ (t : Fields). IsRowText t c.in-Some.line.now row) l.invariant.1 (shown.1.0.0, (shown.1.0.1.0, shown.1.0.1.1.0)) in
+    let is : IsRowText fs c.in-Some.line.now row = subst (λ (t : Fields). IsRowText t c.in-Some.line.now row) l.invariant.1 (shown.1.0.0, shown.1.0.1.0, shown.1.0.1.1.0) in
     ((l.invariant.0.0 ++ row ∷ [], told_one_more fs l.yielded l.invariant.0.0 c.in-Some.line row is l.invariant.0.1), c.in_ok-show_line.ensures.same ∙ l.invariant.1)

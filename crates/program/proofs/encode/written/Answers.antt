@@ -2,7 +2,6 @@ use Rattle.std.proofs.Common.{[], ◌∷◌, ◌++◌, ap, sym, subst, ◌∙◌
 use Rattle.std.specs.Str.Lines.{lines}
 use Rattle.std.proofs.lemmas.Iterator.Consumers.{YieldsList-at, YieldsList-so_far, YieldsList-turn, YieldsList-end}
 use Rattle.std.proofs.lemmas.Iterator.Splits.{YieldsList-from_lines}
-use Rattle.bits.specs.Refusals.{HasCause}
 use Rattle.bits.proofs.Passing.{passes}
 use Rattle.schema.specs.Shape.{Fields}
 use Rattle.footer.specs.declared.options.WriteOptions.{WriteOptions}
@@ -40,8 +39,8 @@ loop-line-preserved g c =
     let l = c.loop-line in
     let read = l.invariant.read in
     let text = c.in-Some.line.now in
-    let given = c.put_line.ensures.stands read.rows read.has (read.schema ∙ sym read.fields) in
-    let line = subst (λ (k : WriteOptions). HasLine fs k text read.rows c.put_line.writer) read.options (subst (λ (t : Fields). HasLine t (options_of l.writer) text read.rows c.put_line.writer) read.fields given) in
+    let given = c.in_ok-put_line.ensures.stands read.rows read.has (read.schema ∙ sym read.fields) in
+    let line = subst (λ (k : WriteOptions). HasLine fs k text read.rows c.put_line.new.writer) read.options (subst (λ (t : Fields). HasLine t (options_of l.writer) text read.rows c.put_line.new.writer) read.fields given) in
     record {
       read = record {
         rows = read.rows ++ line.row ∷ [];
