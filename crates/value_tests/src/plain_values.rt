@@ -193,7 +193,7 @@ fn a_cursor_gives_its_values_one_by_one(rt: HostRuntime) -> Result<(), Fail> {
     let bytes = [1, 0, 0, 0, b'a', 0, 0, 0, 0, b'x'];
     let (mut values, used) = Values::new(Kind::ByteArray, bytes.as_slice(), 2)?;
     assert_eq!(rt; used, 9);
-    assert!(rt; matches!(values.next(), Some(ValueRef::Bytes(text)) if text == b"a"));
+    assert!(rt; matches!(values.next(), Some(ValueRef::Bytes(text)) if text == b"a".as_slice()));
     assert!(rt; matches!(values.next(), Some(ValueRef::Bytes(text)) if text.is_empty()));
     assert!(rt; values.next().is_none());
     Ok(())
