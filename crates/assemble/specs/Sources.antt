@@ -8,8 +8,9 @@ use Rattle.bits.specs.declared.fault.Fault.{Fault}
 use Rattle.bits.specs.Faults.{refusal_of}
 use Rattle.schema.specs.Annotations.{LeafType}
 use Rattle.schema.specs.Fits.{fits_leaf}
-use Rattle.schema.specs.Stripe.{Entry}
+use Rattle.schema.specs.Stripe.{Entry, entry}
 use Rattle.schema.specs.declared.borrowed.EntryRef.{EntryRef}
+use Rattle.schema.specs.declared.borrowed.ValueRef.{ValueRef}
 use Rattle.schema.specs.Borrowed.{value_ref_view, entry_ref_view}
 
 -- which entries stand
@@ -84,3 +85,18 @@ Takes S T old new (Err e) = Same S T × Keeps old new (refusal_of e)
 abbrev pub Suited : (LeafType → Type 0) → Result (Option EntryRef) Fault → Type 0
 Suited checked (Ok (Some e)) = (t : LeafType) → checked t → MatchOption e.value (Unit {0}) (λ v. fits_leaf t (value_ref_view v) ≡ true)
 Suited checked _ = Unit {0}
+
+-- a value alone is given only by a source that was not refused
+abbrev pub GivesValue : Option Refusal → Option ValueRef → Type 0
+GivesValue r (Some v) = r ≡ None
+GivesValue r None = Unit {0}
+
+-- the entry with both levels 0 whose value is given is taken; or nothing is
+abbrev pub TakesValue : Stands → Stands → Option Refusal → Option Refusal → Option ValueRef → Type 0
+TakesValue S T old new (Some v) = Precede (entry 0 0 (Some (value_ref_view v))) S T × (new ≡ old)
+TakesValue S T old new None = Same S T × (new ≡ old)
+
+-- a value that is given alone fits each leaf type that was checked
+abbrev pub SuitedValue : (LeafType → Type 0) → Option ValueRef → Type 0
+SuitedValue checked (Some v) = (t : LeafType) → checked t → fits_leaf t (value_ref_view v) ≡ true
+SuitedValue checked None = Unit {0}

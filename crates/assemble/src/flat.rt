@@ -20,6 +20,12 @@ pub fn is_flat(schema: &Schema) -> bool
     true
 }
 
+/// Columns that have n entries for each leaf of a flat schema, each an entry of its leaf, are the columns of
+/// n rows that fit. So such columns need not be read row by row to know that they have rows.
+pub fn flat_columns_have_rows()
+    ensures { FlatColumnsHaveRows }
+{}
+
 /// Whether a field is REQUIRED, and has no fields below it.
 fn is_required_leaf(field: &Field) -> bool
     ensures { result ≡ is_required_leaf (field_view field.now) }
@@ -32,9 +38,3 @@ fn is_required_leaf(field: &Field) -> bool
         Field::Group { .. } => false,
     }
 }
-
-/// Columns that have n entries for each leaf of a flat schema, each an entry of its leaf, are the columns of
-/// n rows that fit. So such columns need not be read row by row to know that they have rows.
-pub fn flat_columns_have_rows()
-    ensures { FlatColumnsHaveRows }
-{}

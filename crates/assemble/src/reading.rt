@@ -40,7 +40,50 @@ impl Place {
     }
 }
 
-/// Takes the next entry, which has these levels and a value that fits, and shows the value.
+/// Whether another item follows, of the list whose own level this is.
+// Each row begins here: only what is asked of the levels is loaded.
+#[inline(always)]
+pub fn has_item<S: EntrySource>(own: u32, sources: &mut [S]) -> R<bool>
+    requires { 0 < length sources.old }
+    ensures item { IfOk result (λ b. (cs : Columns) → AllStand S.stands sources.old cs → HasItem own (first_of cs) b) }
+    ensures refused { IfErr result (IsRefusedFor S.stands S.refused sources.old sources.new (λ _. IsMemory)) }
+    ensures kept { OnOk result (map S.refused sources.new ≡ map S.refused sources.old) }
+    ensures same { AllSame S.stands sources.old sources.new }
+{
+    match sources[0].peek()? {
+        None => Ok(false),
+        Some((repetition, _)) => Ok(own <= repetition),
+    }
+}
+
+/// Shows the values of some fields, and returns how many leaves they have.
+#[cycle(read)]
+#[inline(always)]
+pub fn read_fields<S: EntrySource, K: RowSink>(
+    fields: &[Field],
+    place: Place,
+    sources: &mut [S],
+    sink: &mut K,
+) -> R<usize>
+    requires valid { AreValid (field_views fields.now) }
+    requires room { count_leaves_each (field_views fields.now) ≤ length sources.old }
+    requires deep { place.definition + tallest (field_views fields.now) < 2 ^ 32 }
+    requires own { place.own ≤ place.definition }
+    ensures reads { OnOk result (Visits (K.shows sink.old) (K.shows sink.new) tokens_each
+        (ReadsEach S.stands (field_views fields.now) place sources.old sources.new)) }
+    ensures refused { IfErr result (IsRefusedFor S.stands S.refused sources.old sources.new (AreEachFaulty (field_views fields.now) place)) }
+    ensures kept { OnOk result (map S.refused sources.new ≡ map S.refused sources.old) }
+    ensures used { IfOk result (λ used. used ≡ count_leaves_each (field_views fields.now)) }
+{
+    let mut used = 0;
+    for field in fields {
+        used += read_next(field, place, &mut sources[used..], sink)?;
+    }
+    Ok(used)
+}
+
+/// Takes the next entry, which has these levels and a value that fits, and shows the value. A source that
+/// has the value at hand, and checked, gives it alone.
 // Each value of a leaf comes through here: what is returned fits two registers.
 #[inline(always)]
 fn read_leaf<S: EntrySource, K: RowSink>(
@@ -49,14 +92,37 @@ fn read_leaf<S: EntrySource, K: RowSink>(
     source: &mut S,
     sink: &mut K,
 ) -> Result<(), Fault>
-    ensures reads { OnOk result (Visits (K.shows sink.old) (K.shows sink.new) tokens (ReadsLeaf (leaf_type_view leaf_type.now) place.repetition place.definition (S.stands source.old) (S.stands source.new))) }
-    ensures refused { IfErr result (λ f. IsSourceRefusedFor S.stands S.refused source.old source.new (IsLeafFaulty place.repetition place.definition (leaf_type_view leaf_type.now)) (refusal_of f)) }
+    ensures reads { OnOk result (Visits (K.shows sink.old) (K.shows sink.new) tokens
+        (ReadsLeaf (leaf_type_view leaf_type.now) place.repetition place.definition (S.stands source.old) (S.stands source.new))) }
+    ensures refused { IfErr result (λ f. IsSourceRefusedFor S.stands S.refused source.old source.new
+        (IsLeafFaulty place.repetition place.definition (leaf_type_view leaf_type.now)) (refusal_of f)) }
     ensures kept { OnOk result (S.refused source.new ≡ S.refused source.old) }
 {
-    let checked = source.has_checked(leaf_type);
+    if place.repetition == 0 && place.definition == 0 && source.has_checked(leaf_type) {
+        if let Some(value) = source.next_value() {
+            return show(value, sink);
+        }
+    }
+    read_leaf_entry(leaf_type, place, source, sink)
+}
+
+/// Takes the next entry as [`read_leaf`] does.
+fn read_leaf_entry<S: EntrySource, K: RowSink>(
+    leaf_type: &LeafType,
+    place: Place,
+    source: &mut S,
+    sink: &mut K,
+) -> Result<(), Fault>
+    ensures reads { OnOk result (Visits (K.shows sink.old) (K.shows sink.new) tokens
+        (ReadsLeaf (leaf_type_view leaf_type.now) place.repetition place.definition (S.stands source.old) (S.stands source.new))) }
+    ensures refused { IfErr result (λ f. IsSourceRefusedFor S.stands S.refused source.old source.new
+        (IsLeafFaulty place.repetition place.definition (leaf_type_view leaf_type.now)) (refusal_of f)) }
+    ensures kept { OnOk result (S.refused source.new ≡ S.refused source.old) }
+{
+    let is_checked = source.has_checked(leaf_type);
     match source.next()? {
-        Some(entry) if place.is_of(&entry) => match entry.value {
-            Some(value) if checked || fits(leaf_type, value) => show(value, sink),
+        Some(entry) if place.is_of(&entry) => match &entry.value {
+            Some(value) if is_checked || fits(leaf_type, value) => show(*value, sink),
             _ => Err(Fault::Value),
         },
         _ => Err(Fault::Levels),
@@ -72,8 +138,10 @@ fn read_optional<S: EntrySource, K: RowSink>(
     sink: &mut K,
 ) -> Result<(), Fault>
     requires { place.definition + 1 < 2 ^ 32 }
-    ensures reads { OnOk result (Visits (K.shows sink.old) (K.shows sink.new) tokens (ReadsOptional (leaf_type_view leaf_type.now) place.repetition place.definition (S.stands source.old) (S.stands source.new))) }
-    ensures refused { IfErr result (λ f. IsSourceRefusedFor S.stands S.refused source.old source.new (IsOptionalFaulty place.repetition place.definition (leaf_type_view leaf_type.now)) (refusal_of f)) }
+    ensures reads { OnOk result (Visits (K.shows sink.old) (K.shows sink.new) tokens
+        (ReadsOptional (leaf_type_view leaf_type.now) place.repetition place.definition (S.stands source.old) (S.stands source.new))) }
+    ensures refused { IfErr result (λ f. IsSourceRefusedFor S.stands S.refused source.old source.new
+        (IsOptionalFaulty place.repetition place.definition (leaf_type_view leaf_type.now)) (refusal_of f)) }
     ensures kept { OnOk result (S.refused source.new ≡ S.refused source.old) }
 {
     let there = Place {
@@ -83,8 +151,8 @@ fn read_optional<S: EntrySource, K: RowSink>(
     };
     let is_checked = source.has_checked(leaf_type);
     match source.next()? {
-        Some(entry) if there.is_of(&entry) => match entry.value {
-            Some(value) if is_checked || fits(leaf_type, value) => show(value, sink),
+        Some(entry) if there.is_of(&entry) => match &entry.value {
+            Some(value) if is_checked || fits(leaf_type, value) => show(*value, sink),
             _ => Err(Fault::Value),
         },
         Some(entry) if place.is_of(&entry) => match entry.value {
@@ -175,22 +243,6 @@ fn is_missing<S: EntrySource>(definition: u32, sources: &mut [S]) -> R<bool>
     }
 }
 
-/// Whether another item follows, of the list whose own level this is.
-// Each row begins here: only what is asked of the levels is loaded.
-#[inline(always)]
-pub fn has_item<S: EntrySource>(own: u32, sources: &mut [S]) -> R<bool>
-    requires { 0 < length sources.old }
-    ensures item { IfOk result (λ b. (cs : Columns) → AllStand S.stands sources.old cs → HasItem own (first_of cs) b) }
-    ensures refused { IfErr result (IsRefusedFor S.stands S.refused sources.old sources.new (λ _. IsMemory)) }
-    ensures kept { OnOk result (map S.refused sources.new ≡ map S.refused sources.old) }
-    ensures same { AllSame S.stands sources.old sources.new }
-{
-    match sources[0].peek()? {
-        None => Ok(false),
-        Some((repetition, _)) => Ok(own <= repetition),
-    }
-}
-
 /// Shows what the value of a field is, its repetition aside, and returns how many leaves the field has.
 #[cycle(read)]
 fn read_inside<S: EntrySource, K: RowSink>(
@@ -220,31 +272,6 @@ fn read_inside<S: EntrySource, K: RowSink>(
             Ok(used)
         }
     }
-}
-
-/// Shows the values of some fields, and returns how many leaves they have.
-#[cycle(read)]
-#[inline(always)]
-pub fn read_fields<S: EntrySource, K: RowSink>(
-    fields: &[Field],
-    place: Place,
-    sources: &mut [S],
-    sink: &mut K,
-) -> R<usize>
-    requires valid { AreValid (field_views fields.now) }
-    requires room { count_leaves_each (field_views fields.now) ≤ length sources.old }
-    requires deep { place.definition + tallest (field_views fields.now) < 2 ^ 32 }
-    requires own { place.own ≤ place.definition }
-    ensures reads { OnOk result (Visits (K.shows sink.old) (K.shows sink.new) tokens_each (ReadsEach S.stands (field_views fields.now) place sources.old sources.new)) }
-    ensures refused { IfErr result (IsRefusedFor S.stands S.refused sources.old sources.new (AreEachFaulty (field_views fields.now) place)) }
-    ensures kept { OnOk result (map S.refused sources.new ≡ map S.refused sources.old) }
-    ensures used { IfOk result (λ used. used ≡ count_leaves_each (field_views fields.now)) }
-{
-    let mut used = 0;
-    for field in fields {
-        used += read_next(field, place, &mut sources[used..], sink)?;
-    }
-    Ok(used)
 }
 
 /// Shows the value of a field as [`read_field`] does, that of a REQUIRED or OPTIONAL leaf at once: its
@@ -294,7 +321,8 @@ fn read_items<S: EntrySource, K: RowSink>(
     requires room { count_leaves (field_view field.now) ≤ length sources.old }
     requires deep { place.definition + tall (field_view field.now) < 2 ^ 32 }
     requires own { place.own ≤ place.definition }
-    ensures reads { OnOk result (Visits (K.shows sink.old) (K.shows sink.new) tokens_each (ReadsItems S.stands (field_view field.now) place sources.old sources.new)) }
+    ensures reads { OnOk result (Visits (K.shows sink.old) (K.shows sink.new) tokens_each
+        (ReadsItems S.stands (field_view field.now) place sources.old sources.new)) }
     ensures refused { IfErr result (IsRefusedFor S.stands S.refused sources.old sources.new (AreItemsFaulty (field_view field.now) place)) }
     ensures kept { OnOk result (map S.refused sources.new ≡ map S.refused sources.old) }
     ensures used { IfOk result (λ used. used ≡ count_leaves (field_view field.now)) }

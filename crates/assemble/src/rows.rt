@@ -21,22 +21,6 @@ use std::alloc::Global;
 /// The most entries that a column may have.
 pub const MOST_ENTRIES: usize = 16_777_216;
 
-/// Refused Levels where one of the sources has an entry left.
-fn check_ended<S: EntrySource>(sources: &mut [S]) -> R<()>
-    ensures ended { OnOk result (Ended S.stands (length sources.old) sources.old) }
-    ensures refused { IfErr result (IsRefusedFor S.stands S.refused sources.old sources.new (λ cs. Tells (Filled cs) ⊥)) }
-    ensures kept { OnOk result (map S.refused sources.new ≡ map S.refused sources.old) }
-    ensures same { AllSame S.stands sources.old sources.new }
-{
-    let count = sources.len();
-    for i in 0..count {
-        if sources[i].peek()?.is_some() {
-            return Err(Refusal::Levels);
-        }
-    }
-    Ok(())
-}
-
 /// Shows a sink the values of the next row. Returns false at the end of all columns.
 ///
 /// Refused as [`next_row`]. After a refusal the sink may have been shown a part of the row.
@@ -140,4 +124,20 @@ pub fn assemble(alloc: Global, schema: &Schema, columns: &[Column]) -> R<Vec<Row
         cursors.push(Cursor::new(column.entries.as_slice()))?;
     }
     assemble_from(alloc, schema, cursors.as_mut_slice())
+}
+
+/// Refused Levels where one of the sources has an entry left.
+fn check_ended<S: EntrySource>(sources: &mut [S]) -> R<()>
+    ensures ended { OnOk result (Ended S.stands (length sources.old) sources.old) }
+    ensures refused { IfErr result (IsRefusedFor S.stands S.refused sources.old sources.new (λ cs. Tells (Filled cs) ⊥)) }
+    ensures kept { OnOk result (map S.refused sources.new ≡ map S.refused sources.old) }
+    ensures same { AllSame S.stands sources.old sources.new }
+{
+    let count = sources.len();
+    for i in 0..count {
+        if sources[i].peek()?.is_some() {
+            return Err(Refusal::Levels);
+        }
+    }
+    Ok(())
 }

@@ -6,10 +6,10 @@ ghost use Rattle.bits.specs.declared.refusal.Refusal.{Refusal};
 ghost use Rattle.schema.specs.Annotations.{LeafType};
 ghost use Rattle.schema.specs.Stripe.{Entry};
 ghost use Rattle.schema.specs.Views.{leaf_type_view};
-ghost use Rattle.assemble.specs.Sources.{Rests, Shows, Stays, Gives, Takes, Suited};
+ghost use Rattle.assemble.specs.Sources.{Rests, Shows, Stays, Gives, Takes, Suited, GivesValue, TakesValue, SuitedValue};
 
 use bits::{Fault, R};
-use schema::{EntryRef, LeafType};
+use schema::{EntryRef, LeafType, ValueRef};
 
 /// What gives the entries of one leaf's column one by one, and may read them as it goes.
 ///
@@ -44,6 +44,17 @@ pub trait EntrySource {
         ensures gives { Gives (stands self.old) (refused self.old) result }
         ensures suited { Suited (checked self.old) result }
         ensures* takes { sem 𝓛 (Rests Self.row self.entry (λ new. Takes (stands self.old) (stands new) (refused self.old) (refused new) result)) };
+
+    /// The value of the next entry, which is taken, where that entry has both levels 0 and its value is at
+    /// hand. None says nothing of the next entry, and takes nothing. A source with no such short way leaves
+    /// this out.
+    fn next_value(&mut self) -> Option<ValueRef<'_>>
+        ensures gives { GivesValue (refused self.old) result }
+        ensures suited { SuitedValue (checked self.old) result }
+        ensures* takes { sem 𝓛 (Rests Self.row self.entry (λ new. TakesValue (stands self.old) (stands new) (refused self.old) (refused new) result)) }
+    {
+        None
+    }
 
     /// The law that a source stands for at most one list of entries.
     fn one_list(&self)

@@ -1,6 +1,6 @@
 //! Values one by one, where they lie.
 
-ghost use Rattle.std.specs.Prelude.{◌≡◌, ◌≤◌, ◌<◌, ◌+◌, ◌^◌, ◌⊎◌, All, length, IfOk, IfErr};
+ghost use Rattle.std.specs.Prelude.{◌≡◌, ◌≤◌, ◌<◌, ◌+◌, ◌^◌, ◌⊎◌, ℕ, All, length, IfOk, IfErr};
 ghost use Rattle.bits.specs.Refusals.{OnFault, LimitJustWhere};
 ghost use Rattle.bits.specs.Codec.{NothingStands};
 ghost use Rattle.schema.specs.Borrowed.{value_ref_view};
@@ -55,6 +55,24 @@ impl<'a> Values<'a> {
             taken: ValueRef::Null,
         };
         Ok((values, used))
+    }
+
+    /// The first `n` values of the type, none of which is taken, where they are known to stand. Bytes after
+    /// them are ignored. Takes constant time: nothing is checked again.
+    #[inline(always)]
+    pub fn known(kind: Kind, bytes: &'a [u8], n: usize) -> Values<'a>
+        requires stood { NothingStands (IsPlain kind n bytes.now) → ⊥ }
+        ensures stands { (used : ℕ) × IsPlain kind n bytes.now (values_left result) used }
+        ensures count { length (values_left result) ≡ n }
+        ensures of_kind { All (IsOfKind kind) (values_left result) }
+    {
+        Values {
+            kind,
+            bytes,
+            at: 0,
+            left: n,
+            taken: ValueRef::Null,
+        }
     }
 
     /// How many values are not taken yet.

@@ -30,6 +30,30 @@ pub fn size_of_values(kind: Kind, bytes: &[u8], n: usize) -> R<usize>
     }
 }
 
+/// How many bytes the byte array at the start takes with its length.
+// Each byte array comes through here, and a refusal takes memory: the call is to leave no trace.
+#[inline(always)]
+pub fn size_of_byte_array(bytes: &[u8]) -> R<usize>
+    ensures stands { IfOk result (λ used. IsSpelled Kind.ByteArray bytes.now (value_at Kind.ByteArray 0 bytes.now) used) }
+    ensures size { IfOk result (λ used. used ≡ size_at Kind.ByteArray 0 bytes.now) }
+    ensures within { IfOk result (λ used. used ≤ length bytes.now) }
+    ensures only { OnFault result (NothingStands (IsSpelled Kind.ByteArray bytes.now)) }
+    ensures which { IfErr result (λ e. (e ≡ Refusal.Truncated) ⊎ (e ≡ Refusal.Limit)) }
+    ensures limit { LimitJustWhere (AnnouncesTooMuch Kind.ByteArray bytes.now) result }
+{
+    if bytes.len() < 4 {
+        return Err(Refusal::Truncated);
+    }
+    let size = LittleEndian::read_u32(bytes) as usize;
+    if size > MOST_BYTES_OF_VALUE {
+        return Err(Refusal::Limit);
+    }
+    if size > bytes.len() - 4 {
+        return Err(Refusal::Truncated);
+    }
+    Ok(4 + size)
+}
+
 /// How many bytes the first `n` bits take.
 fn size_of_booleans(bytes: &[u8], n: usize) -> R<usize>
     ensures stands { IfOk result (λ used. AreBooleans n bytes.now (values_from Kind.Boolean n 0 bytes.now) used) }
@@ -75,28 +99,4 @@ fn size_of_byte_arrays(bytes: &[u8], n: usize) -> R<usize>
         at += size_of_byte_array(bytes.split_at(at).1)?;
     }
     Ok(at)
-}
-
-/// How many bytes the byte array at the start takes with its length.
-// Each byte array comes through here, and a refusal takes memory: the call is to leave no trace.
-#[inline(always)]
-pub fn size_of_byte_array(bytes: &[u8]) -> R<usize>
-    ensures stands { IfOk result (λ used. IsSpelled Kind.ByteArray bytes.now (value_at Kind.ByteArray 0 bytes.now) used) }
-    ensures size { IfOk result (λ used. used ≡ size_at Kind.ByteArray 0 bytes.now) }
-    ensures within { IfOk result (λ used. used ≤ length bytes.now) }
-    ensures only { OnFault result (NothingStands (IsSpelled Kind.ByteArray bytes.now)) }
-    ensures which { IfErr result (λ e. (e ≡ Refusal.Truncated) ⊎ (e ≡ Refusal.Limit)) }
-    ensures limit { LimitJustWhere (AnnouncesTooMuch Kind.ByteArray bytes.now) result }
-{
-    if bytes.len() < 4 {
-        return Err(Refusal::Truncated);
-    }
-    let size = LittleEndian::read_u32(bytes) as usize;
-    if size > MOST_BYTES_OF_VALUE {
-        return Err(Refusal::Limit);
-    }
-    if size > bytes.len() - 4 {
-        return Err(Refusal::Truncated);
-    }
-    Ok(4 + size)
 }

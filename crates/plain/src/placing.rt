@@ -3,6 +3,7 @@
 ghost use Rattle.std.specs.Prelude.{◌≡◌, ◌+◌, ◌≤◌, All, map, length, take};
 ghost use Rattle.std.specs.List.{flat_map};
 ghost use Rattle.schema.specs.Borrowed.{value_ref_view};
+ghost use Rattle.schema.specs.Values.{integer, bytes as spelled};
 ghost use Rattle.byteorder.specs.Endian.{little_bytes};
 ghost use Rattle.plain.specs.Plain.{HasSpelling, spelling};
 ghost use Rattle.plain.specs.inner.Placed.{Placed};
@@ -31,30 +32,57 @@ pub(crate) fn place_values<V: Lends>(
 }
 
 /// Writes the spelling of a value, and returns where it ends.
+// The value is looked at first: a pair of both would be written to memory and read back.
 #[inline(always)]
 fn place_value(kind: Kind, value: ValueRef<'_>, at: usize, room: &mut [u8]) -> usize
     requires spelled { HasSpelling kind (value_ref_view value) }
     requires fits { at + length (spelling kind (value_ref_view value)) ≤ length room.old }
     ensures { Placed room.old room.new at (spelling kind (value_ref_view value.entry)) result }
 {
-    match (kind, value) {
-        (Kind::Int32, ValueRef::Int(z)) => {
+    match value {
+        ValueRef::Int(number) => place_number(kind, number, at, room),
+        ValueRef::Bytes(text) => place_bytes(kind, text, at, room),
+        _ => at,
+    }
+}
+
+/// Writes the spelling of a number, and returns where it ends.
+#[inline(always)]
+fn place_number(kind: Kind, number: i64, at: usize, room: &mut [u8]) -> usize
+    requires spelled { HasSpelling kind (integer number) }
+    requires fits { at + length (spelling kind (integer number)) ≤ length room.old }
+    ensures { Placed room.old room.new at (spelling kind (integer number)) result }
+{
+    match kind {
+        Kind::Int32 => {
             let mut field = [0; 4];
-            LittleEndian::write_i32(&mut field, z as i32);
+            LittleEndian::write_i32(&mut field, number as i32);
             place_front::<4>(room, at, &field)
         }
-        (Kind::Int64, ValueRef::Int(z)) => {
+        Kind::Int64 => {
             let mut field = [0; 8];
-            LittleEndian::write_i64(&mut field, z);
+            LittleEndian::write_i64(&mut field, number);
             place_front::<8>(room, at, &field)
         }
-        (Kind::ByteArray, ValueRef::Bytes(text)) => {
+        _ => at,
+    }
+}
+
+/// Writes the spelling of bytes, and returns where it ends.
+#[inline(always)]
+fn place_bytes(kind: Kind, text: &[u8], at: usize, room: &mut [u8]) -> usize
+    requires spelled { HasSpelling kind (spelled text.now) }
+    requires fits { at + length (spelling kind (spelled text.now)) ≤ length room.old }
+    ensures { Placed room.old room.new at (spelling kind (spelled text.now)) result }
+{
+    match kind {
+        Kind::ByteArray => {
             let mut length = [0; 4];
             LittleEndian::write_u32(&mut length, text.len() as u32);
             let begin = place_front::<4>(room, at, &length);
             place_text(room, begin, text)
         }
-        (Kind::FixedLenByteArray(_), ValueRef::Bytes(text)) => place_text(room, at, text),
+        Kind::FixedLenByteArray(_) => place_text(room, at, text),
         _ => at,
     }
 }
