@@ -39,6 +39,16 @@ pub fn encode_lengths<V: Lends>(values: &[V], out: &mut Vec<u8>) -> R<()>
     Ok(())
 }
 
+/// The bytes of a byte value.
+pub fn bytes_of<V: Lends>(value: &V) -> &[u8]
+    ensures { result.now ≡ text_of (V.lent value.now) }
+{
+    match value.lend() {
+        ValueRef::Bytes(text) => text,
+        _ => &[],
+    }
+}
+
 /// The length of each value.
 fn lengths_of<V: Lends>(alloc: Global, values: &[V]) -> R<Vec<i32>>
     requires { All (λ v. IsTooLong v → ⊥) (map V.lent values.now) }
@@ -64,14 +74,4 @@ fn put_lengths<V: Lends>(lengths: &[i32], values: &[V], out: &mut Vec<u8>) -> R<
         out.extend_from_slice(bytes_of(value))?;
     }
     Ok(())
-}
-
-/// The bytes of a byte value.
-pub fn bytes_of<V: Lends>(value: &V) -> &[u8]
-    ensures { result.now ≡ text_of (V.lent value.now) }
-{
-    match value.lend() {
-        ValueRef::Bytes(text) => text,
-        _ => &[],
-    }
 }

@@ -336,15 +336,14 @@ impl<'a> Filling<'a> {
         if let Field::Group { fields, .. } = next.field {
             return self.put_absent_each(fields.as_slice(), levels);
         }
-        match (next.repetition, value) {
-            (Repetition::Optional, ValueRef::Null) => {
-                self.put(levels.repetition, levels.definition, None)
-            }
-            _ => {
-                let own = deeper(next.repetition, levels)?;
-                self.put(own.repetition, own.definition, Some(value))
+        // One after the other: a pair of both would be written to memory and read back.
+        if let Repetition::Optional = next.repetition {
+            if let ValueRef::Null = value {
+                return self.put(levels.repetition, levels.definition, None);
             }
         }
+        let own = deeper(next.repetition, levels)?;
+        self.put(own.repetition, own.definition, Some(value))
     }
 
     /// Goes back to the group or list around this one.

@@ -96,6 +96,7 @@ impl KeptColumn {
         ensures lent { OnOk result (map entry_ref_view entries.new.items ≡ map entry_ref_view entries.old.items ++ kept_view self.now) }
         ensures which { RefusedMemoryOnly result }
     {
+        entries.reserve(self.entries.len())?;
         let mut rest = self.bytes.as_slice();
         for entry in &self.entries {
             let (value, others) = value_of(entry.slot, rest);

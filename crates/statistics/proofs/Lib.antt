@@ -2,3 +2,4 @@ pub mod Picks
 pub mod Bounded
 pub mod OneBound
 pub mod ShortBounds
+pub mod Fronts

@@ -1,2 +1,3 @@
 -- Definitions for private functions only.
 pub mod Extremes
+pub mod Fronts

@@ -12,6 +12,7 @@ ghost use Rattle.statistics.specs.inner.Extremes.{is_within_limit, lesser, great
 
 use crate::entry::HasValue;
 use crate::stats::Stats;
+use crate::text::{Text, is_before, is_behind};
 use bits::R;
 use schema::{Column, Leaf, Order, Value, ValueRef, compare_refs};
 use std::alloc::Global;
@@ -123,13 +124,14 @@ fn extremes_of_texts<'a, E: HasValue>(entries: &'a [E]) -> Option<Extremes<'a>>
     ensures all_compared { IfSome result (λ found. found.all_compared ≡ list_all (is_compared (Some Order.Bytewise)) (values (map E.shown entries.now))) }
     ensures nulls { IfSome result (λ found. found.nulls ≡ null_count (map E.shown entries.now)) }
 {
-    let mut least: Option<&'a [u8]> = None;
-    let mut greatest: Option<&'a [u8]> = None;
+    let mut least: Option<Text<'a>> = None;
+    let mut greatest: Option<Text<'a>> = None;
     let mut nulls = 0u64;
     for entry in entries {
         match entry.value() {
             Some(value) => match value {
                 ValueRef::Bytes(text) => {
+                    let text = Text::of(text);
                     least = Some(lesser_text(text, least));
                     greatest = Some(greater_text(text, greatest));
                 }
@@ -215,38 +217,32 @@ fn number_value<'a>(number: Option<i64>) -> Option<ValueRef<'a>>
 
 /// The lesser of two texts.
 #[inline(always)]
-fn lesser_text<'a>(text: &'a [u8], other: Option<&'a [u8]>) -> &'a [u8]
-    ensures { bytes result.now ≡ picked (lesser (Some Order.Bytewise)) (bytes text.now) (option_map (λ t. bytes t.now) other.entry) }
+fn lesser_text<'a>(text: Text<'a>, other: Option<Text<'a>>) -> Text<'a>
+    ensures { bytes result.bytes.now ≡ picked (lesser (Some Order.Bytewise)) (bytes text.entry.bytes.now) (option_map (λ t. bytes t.bytes.now) other.entry) }
 {
     match other {
-        None => text,
-        Some(m) => match text.cmp(m) {
-            Ordering::Less => text,
-            _ => m,
-        },
+        Some(m) if !is_before(text, m) => m,
+        _ => text,
     }
 }
 
 /// The greater of two texts.
 #[inline(always)]
-fn greater_text<'a>(text: &'a [u8], other: Option<&'a [u8]>) -> &'a [u8]
-    ensures { bytes result.now ≡ picked (greater (Some Order.Bytewise)) (bytes text.now) (option_map (λ t. bytes t.now) other.entry) }
+fn greater_text<'a>(text: Text<'a>, other: Option<Text<'a>>) -> Text<'a>
+    ensures { bytes result.bytes.now ≡ picked (greater (Some Order.Bytewise)) (bytes text.entry.bytes.now) (option_map (λ t. bytes t.bytes.now) other.entry) }
 {
     match other {
-        None => text,
-        Some(m) => match text.cmp(m) {
-            Ordering::Greater => text,
-            _ => m,
-        },
+        Some(m) if !is_behind(text, m) => m,
+        _ => text,
     }
 }
 
 /// A text, where there is one, as a value.
-fn text_value<'a>(text: Option<&'a [u8]>) -> Option<ValueRef<'a>>
-    ensures { option_map value_ref_view result ≡ option_map (λ t. bytes t.now) text.entry }
+fn text_value<'a>(text: Option<Text<'a>>) -> Option<ValueRef<'a>>
+    ensures { option_map value_ref_view result ≡ option_map (λ t. bytes t.bytes.now) text.entry }
 {
     match text {
-        Some(text) => Some(ValueRef::Bytes(text)),
+        Some(text) => Some(ValueRef::Bytes(text.bytes)),
         None => None,
     }
 }

@@ -8,6 +8,7 @@ mod bytes;
 mod entry;
 mod extremes;
 mod stats;
+mod text;
 
 pub use bytes::{BoundBytes, kept_bounds_are_short, one_bound};
 pub use entry::HasValue;

@@ -11,8 +11,8 @@ use Rattle.statistics.proofs.extremes.extremes_of_texts.Given as goal
 -- what is found so far, taken on over the entries that remain, is what all entries give
 abbrev pub invariant-loop-entry : goal.invariant-loop-entry
 invariant-loop-entry g l = record {
-  least : pick_from (lesser (Some Bytewise)) (option_map (λ t. bytes t.now) l.least) (values (map g.E.HasValue.shown (drop l.entry-index l.entries))) ≡ pick_from (lesser (Some Bytewise)) None (values (map g.E.HasValue.shown l.entries));
-  greatest : pick_from (greater (Some Bytewise)) (option_map (λ t. bytes t.now) l.greatest) (values (map g.E.HasValue.shown (drop l.entry-index l.entries))) ≡ pick_from (greater (Some Bytewise)) None (values (map g.E.HasValue.shown l.entries));
+  least : pick_from (lesser (Some Bytewise)) (option_map (λ t. bytes t.bytes.now) l.least) (values (map g.E.HasValue.shown (drop l.entry-index l.entries))) ≡ pick_from (lesser (Some Bytewise)) None (values (map g.E.HasValue.shown l.entries));
+  greatest : pick_from (greater (Some Bytewise)) (option_map (λ t. bytes t.bytes.now) l.greatest) (values (map g.E.HasValue.shown (drop l.entry-index l.entries))) ≡ pick_from (greater (Some Bytewise)) None (values (map g.E.HasValue.shown l.entries));
   all_compared : list_all (is_compared (Some Bytewise)) (values (map g.E.HasValue.shown (drop l.entry-index l.entries))) ≡ list_all (is_compared (Some Bytewise)) (values (map g.E.HasValue.shown l.entries));
   nulls : l.nulls + null_count (map g.E.HasValue.shown (drop l.entry-index l.entries)) ≡ null_count (map g.E.HasValue.shown l.entries);
   few : l.nulls ≤ l.entry-index;
