@@ -23,4 +23,5 @@ pub mod OneChunk
 pub mod EntriesOf
 pub mod ShortValues
 pub mod Bodies
+pub mod StoodBefore
 pub mod Worked

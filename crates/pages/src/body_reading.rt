@@ -11,12 +11,13 @@ ghost use Rattle.pages.specs.Left.{levels_of, entries_left};
 ghost use Rattle.pages.specs.Limits.{IsValueOver, full, IsOfPages};
 ghost use Rattle.pages.specs.Page.{IsBodyV1, IsBodyV2, IsDictionaryBody};
 ghost use Rattle.pages.specs.Views.{dictionary_view};
-ghost use Rattle.pages.specs.inner.Reading.{AreWithin, AreEntries, IsDataOver, IsDataOverV2, IsDictionaryOver};
+ghost use Rattle.pages.specs.inner.Reading.{AreWithin, AreEntries, IsDataOver, IsDataOverV2, IsDictionaryOver, RuledOut};
 
 use crate::data_page::DataPage;
 use crate::encoding::Encoding;
 use crate::level_list::LevelList;
 use crate::level_reading::{read_levels_v1, read_levels_v2};
+use crate::standing::Standing;
 use crate::value_reading::read_values;
 use bits::{R, Refusal};
 use metadata::{DataPageHeader, DataPageHeaderV2, DictionaryPageHeader};
@@ -32,7 +33,11 @@ pub fn read_data_page_v1<'a>(
     leaf: &Leaf,
     dictionary: Option<&[ValueRef<'a>]>,
     left: usize,
+    standing: Standing,
 ) -> R<DataPage<'a>>
+    requires stood { let d = dictionary_view dictionary in
+        RuledOut standing ((es : List Entry) → IsBodyV1 (leaf_view leaf.now) d (data_page_header_view header.now) body.now es → length es ≤ left → ⊥) }
+    requires known_within_limits { RuledOut standing (IsDataOver (leaf_view leaf.now) (data_page_header_view header.now) body.now) }
     ensures stands { let d = dictionary_view dictionary.entry in
         IfOk result (λ p. IsBodyV1 (leaf_view leaf.now) d (data_page_header_view header.now) body.now (entries_left p)) }
     ensures at_most_left { IfOk result (λ p. length (entries_left p) ≤ left) }
@@ -54,6 +59,7 @@ pub fn read_data_page_v1<'a>(
         repetitions,
         definitions,
         text,
+        standing,
     )
 }
 
@@ -65,7 +71,11 @@ pub fn read_data_page_v2<'a>(
     leaf: &Leaf,
     dictionary: Option<&[ValueRef<'a>]>,
     left: usize,
+    standing: Standing,
 ) -> R<DataPage<'a>>
+    requires stood { let d = dictionary_view dictionary in
+        RuledOut standing ((es : List Entry) → IsBodyV2 (leaf_view leaf.now) d (data_page_header_v2_view header.now) body.now es → length es ≤ left → ⊥) }
+    requires known_within_limits { RuledOut standing (IsDataOverV2 (leaf_view leaf.now) (data_page_header_v2_view header.now) body.now) }
     ensures stands { let d = dictionary_view dictionary.entry in
         IfOk result (λ p. IsBodyV2 (leaf_view leaf.now) d (data_page_header_v2_view header.now) body.now (entries_left p)) }
     ensures at_most_left { IfOk result (λ p. length (entries_left p) ≤ left) }
@@ -87,6 +97,7 @@ pub fn read_data_page_v2<'a>(
         repetitions,
         definitions,
         text,
+        standing,
     )
 }
 
@@ -141,9 +152,13 @@ fn read_entries<'a>(
     repetitions: LevelList,
     definitions: LevelList,
     bytes: &'a [u8],
+    standing: Standing,
 ) -> R<DataPage<'a>>
     requires within { AreWithin (leaf_view leaf.now) (levels_of repetitions) (levels_of definitions) }
     requires paired { length (levels_of repetitions) ≡ length (levels_of definitions) }
+    requires stood { let d = dictionary_view dictionary in
+        RuledOut standing ((es : List Entry) → AreEntries (leaf_view leaf.now) d encoding bytes.now (levels_of repetitions) (levels_of definitions) es → ⊥) }
+    requires known_within_limits { RuledOut standing (IsValueOver leaf.now.leaf_type.kind encoding bytes.now (full (leaf_view leaf.now) (levels_of definitions))) }
     ensures stands { let d = dictionary_view dictionary.entry in
         IfOk result (λ p. AreEntries (leaf_view leaf.now) d encoding bytes.now (levels_of repetitions) (levels_of definitions) (entries_left p)) }
     ensures within_limits { OnOk result (IsValueOver leaf.now.leaf_type.kind encoding bytes.now (full (leaf_view leaf.now) (levels_of definitions)) → ⊥) }
@@ -154,6 +169,9 @@ fn read_entries<'a>(
 {
     let greatest = leaf.greatest_definition;
     let count = definitions.count_of(greatest);
-    let values = read_values(alloc, encoding, &leaf.leaf_type, dictionary, bytes, count)?;
+    let leaf_type = &leaf.leaf_type;
+    let values = read_values(
+        alloc, encoding, leaf_type, dictionary, bytes, count, standing,
+    )?;
     Ok(DataPage::of(greatest, repetitions, definitions, values))
 }

@@ -1,7 +1,7 @@
 //! From bytes to pages.
 
 ghost use Rattle.std.specs.Prelude.{◌≡◌, ◌⊎◌, ◌≤◌, ◌++◌, ℕ, pos, List, length, IfOk, OnOk, Err};
-ghost use Rattle.bits.specs.Refusals.{OnFault, RefusedOnly};
+ghost use Rattle.bits.specs.Refusals.{OnFault, RefusedOnly, RefusedMemoryOnly};
 ghost use Rattle.bits.specs.Codec.{NothingStands};
 ghost use Rattle.schema.specs.Views.{leaf_view};
 ghost use Rattle.metadata.specs.FromTree.{page_header};
@@ -13,10 +13,12 @@ ghost use Rattle.pages.specs.Chunk.{entries_of};
 ghost use Rattle.pages.specs.Limits.{IsBodyOver, IsPageOver, IsOfPages};
 ghost use Rattle.pages.specs.Apart.{IsOnlyPage, IsPageOfAtMost};
 ghost use Rattle.pages.specs.Views.{page_view, dictionary_view};
+ghost use Rattle.pages.specs.inner.Reading.{RuledOut};
 
 use crate::body_reading::{read_data_page_v1, read_data_page_v2, read_dictionary};
 use crate::laws::one_page;
 use crate::page::PageRef;
+use crate::standing::Standing;
 use bits::{R, Refusal};
 use metadata::{DATA_PAGE, DATA_PAGE_V2, DICTIONARY_PAGE, PageHeader, one_page_header};
 use schema::{Leaf, ValueRef};
@@ -54,10 +56,57 @@ pub fn read_page<'a>(
     ensures limit { result ≡ Err Refusal.Limit → IsPageOver (leaf_view leaf.now) bytes.now }
     ensures which { RefusedOnly IsOfPages result }
 {
+    read_page_by_standing(alloc, bytes, leaf, dictionary, left, Standing::Unknown)
+}
+
+/// The page at the front of the bytes, as [`read_page`] gives it, where one with at most `left` entries is
+/// known to stand there within the limits: it has been read before. Lengths and texts in PLAIN are not
+/// checked again.
+///
+/// It fails only when out of memory.
+pub fn read_page_again<'a>(
+    alloc: Global,
+    bytes: &'a [u8],
+    leaf: &Leaf,
+    dictionary: Option<&[ValueRef<'a>]>,
+    left: usize,
+) -> R<(PageRef<'a>, usize)>
+    requires stood { NothingStands (IsPageOfAtMost left (leaf_view leaf.now) (dictionary_view dictionary) bytes.now) → ⊥ }
+    requires within_limits { IsPageOver (leaf_view leaf.now) bytes.now → ⊥ }
+    ensures stands { let d = dictionary_view dictionary.entry in IfOk result (λ x. IsPage (leaf_view leaf.now) d bytes.now (page_view x.0) x.1) }
+    ensures alone { let d = dictionary_view dictionary.entry in IfOk result (λ x. IsOnlyPage (leaf_view leaf.now) d bytes.now (page_view x.0) x.1) }
+    ensures within { IfOk result (λ x. x.1 ≤ length bytes.now) }
+    ensures at_most_left { IfOk result (λ x. length (entries_of (page_view x.0)) ≤ left) }
+    ensures which { RefusedMemoryOnly result }
+{
+    read_page_by_standing(alloc, bytes, leaf, dictionary, left, Standing::Known)
+}
+
+/// The page at the front of the bytes, as [`read_page`] gives it. Where it is known to stand, its values
+/// in PLAIN are not checked.
+fn read_page_by_standing<'a>(
+    alloc: Global,
+    bytes: &'a [u8],
+    leaf: &Leaf,
+    dictionary: Option<&[ValueRef<'a>]>,
+    left: usize,
+    standing: Standing,
+) -> R<(PageRef<'a>, usize)>
+    requires stood { RuledOut standing (NothingStands (IsPageOfAtMost left (leaf_view leaf.now) (dictionary_view dictionary) bytes.now)) }
+    requires known_within_limits { RuledOut standing (IsPageOver (leaf_view leaf.now) bytes.now) }
+    ensures stands { let d = dictionary_view dictionary.entry in IfOk result (λ x. IsPage (leaf_view leaf.now) d bytes.now (page_view x.0) x.1) }
+    ensures alone { let d = dictionary_view dictionary.entry in IfOk result (λ x. IsOnlyPage (leaf_view leaf.now) d bytes.now (page_view x.0) x.1) }
+    ensures within { IfOk result (λ x. x.1 ≤ length bytes.now) }
+    ensures at_most_left { IfOk result (λ x. length (entries_of (page_view x.0)) ≤ left) }
+    ensures within_limits { OnOk result (IsPageOver (leaf_view leaf.now) bytes.now → ⊥) }
+    ensures only { let d = dictionary_view dictionary.entry in OnFault result (NothingStands (IsPageOfAtMost left (leaf_view leaf.now) d bytes.now)) }
+    ensures limit { result ≡ Err Refusal.Limit → IsPageOver (leaf_view leaf.now) bytes.now }
+    ensures which { RefusedOnly IsOfPages result }
+{
     one_page_header();
     one_page();
     let (header, body, used) = read_frame(alloc, bytes)?;
-    let page = read_body(alloc, &header, body, leaf, dictionary, left)?;
+    let page = read_body(alloc, &header, body, leaf, dictionary, left, standing)?;
     Ok((page, used))
 }
 
@@ -100,7 +149,7 @@ fn read_header(alloc: Global, bytes: &[u8]) -> R<(PageHeader, usize)>
     }
 }
 
-/// What the body of a page stands for.
+/// What the body of a page stands for. Where it is known to, its values in PLAIN are not checked.
 fn read_body<'a>(
     alloc: Global,
     header: &PageHeader,
@@ -108,7 +157,11 @@ fn read_body<'a>(
     leaf: &Leaf,
     dictionary: Option<&[ValueRef<'a>]>,
     left: usize,
+    standing: Standing,
 ) -> R<PageRef<'a>>
+    requires stood { let d = dictionary_view dictionary in
+        RuledOut standing ((page : Page) → IsBody (leaf_view leaf.now) d (page_header_view header.now) body.now page → length (entries_of page) ≤ left → ⊥) }
+    requires known_within_limits { RuledOut standing (IsBodyOver (leaf_view leaf.now) (page_header_view header.now) body.now) }
     ensures stands { let d = dictionary_view dictionary.entry in
         IfOk result (λ p. IsBody (leaf_view leaf.now) d (page_header_view header.now) body.now (page_view p)) }
     ensures at_most_left { IfOk result (λ p. length (entries_of (page_view p)) ≤ left) }
@@ -121,14 +174,14 @@ fn read_body<'a>(
     match header.kind {
         DATA_PAGE => match &header.data_page_header {
             Some(own) => {
-                let page = read_data_page_v1(alloc, own, body, leaf, dictionary, left)?;
+                let page = read_data_page_v1(alloc, own, body, leaf, dictionary, left, standing)?;
                 Ok(PageRef::Data(page))
             }
             None => Err(Refusal::Thrift),
         },
         DATA_PAGE_V2 => match &header.data_page_header_v2 {
             Some(own) => {
-                let page = read_data_page_v2(alloc, own, body, leaf, dictionary, left)?;
+                let page = read_data_page_v2(alloc, own, body, leaf, dictionary, left, standing)?;
                 Ok(PageRef::Data(page))
             }
             None => Err(Refusal::Thrift),

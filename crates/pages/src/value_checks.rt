@@ -6,6 +6,7 @@ ghost use Rattle.std.specs.Str.{is_utf8};
 ghost use Rattle.bits.specs.Refusals.{OnFault, RefusedOnly};
 ghost use Rattle.schema.specs.Borrowed.{value_ref_view};
 ghost use Rattle.schema.specs.Fits.{fits_kind, fits_leaf, is_valid_text, are_bytes};
+ghost use Rattle.schema.specs.Values.{integer, bytes as spelled};
 ghost use Rattle.schema.specs.Views.{leaf_type_view};
 ghost use Rattle.pages.specs.inner.Reading.{AllFit};
 
@@ -45,16 +46,15 @@ pub fn check_value(leaf_type: &LeafType, value: ValueRef<'_>) -> R<()>
 }
 
 /// Whether a value is of a physical type: numbers within its bits, bytes of its length.
+// The value is looked at first: a pair of both would be written to memory and read back.
 #[inline(always)]
 pub fn is_of_kind(kind: Kind, value: ValueRef<'_>) -> bool
     ensures { result ≡ fits_kind kind (value_ref_view value.entry) }
 {
-    match (kind, value) {
-        (Kind::Boolean, ValueRef::Bool(_)) => true,
-        (Kind::Int32, ValueRef::Int(number)) => i32::try_from(number).is_ok(),
-        (Kind::Int64, ValueRef::Int(_)) => true,
-        (Kind::ByteArray, ValueRef::Bytes(bytes)) => has_length(bytes, None),
-        (Kind::FixedLenByteArray(size), ValueRef::Bytes(bytes)) => has_length(bytes, Some(size)),
+    match value {
+        ValueRef::Int(number) => is_number_of(kind, number),
+        ValueRef::Bytes(bytes) => is_length_of(kind, bytes),
+        ValueRef::Bool(_) => matches!(kind, Kind::Boolean),
         _ => false,
     }
 }
@@ -66,6 +66,30 @@ pub fn is_text(value: ValueRef<'_>) -> bool
 {
     match value {
         ValueRef::Bytes(bytes) => is_utf8(bytes),
+        _ => false,
+    }
+}
+
+/// Whether a number is one of the physical type.
+#[inline(always)]
+fn is_number_of(kind: Kind, number: i64) -> bool
+    ensures { result ≡ fits_kind kind (integer number) }
+{
+    match kind {
+        Kind::Int64 => true,
+        Kind::Int32 => i32::try_from(number).is_ok(),
+        _ => false,
+    }
+}
+
+/// Whether bytes are a value of the physical type.
+#[inline(always)]
+fn is_length_of(kind: Kind, bytes: &[u8]) -> bool
+    ensures { result ≡ fits_kind kind (spelled bytes.now) }
+{
+    match kind {
+        Kind::ByteArray => has_length(bytes, None),
+        Kind::FixedLenByteArray(size) => has_length(bytes, Some(size)),
         _ => false,
     }
 }

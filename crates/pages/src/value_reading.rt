@@ -9,7 +9,7 @@ ghost use Rattle.plain.specs.Plain.{IsOfKind};
 ghost use Rattle.pages.specs.Left.{values_left};
 ghost use Rattle.pages.specs.Limits.{IsValueOver, IsOfPages};
 ghost use Rattle.pages.specs.Views.{dictionary_view};
-ghost use Rattle.pages.specs.inner.Reading.{AreLeafValues, AreSpelled, StandInAnyChunk, StandInNoChunk, IsOfValuePages};
+ghost use Rattle.pages.specs.inner.Reading.{AreLeafValues, AreSpelled, StandInAnyChunk, StandInNoChunk, RuledOut, IsOfValuePages};
 
 use crate::encoding::Encoding;
 use crate::indexed_values::read_indexed;
@@ -17,6 +17,7 @@ use crate::level_reading::split_prefixed;
 use crate::page_values::PageValues;
 use crate::plain_values::read_plain;
 use crate::shared_values::read_shared;
+use crate::standing::Standing;
 use crate::value_checks::check_values;
 use bits::{R, Refusal};
 use delta::{decode_i32, decode_i64, decode_lengths, one_byte_list};
@@ -25,7 +26,7 @@ use schema::{Kind, LeafType, ValueRef};
 use std::alloc::Global;
 
 /// The first `count` values of the bytes, in a chunk that has this dictionary. Where `count` is 0 neither
-/// the encoding nor the bytes are looked at.
+/// the encoding nor the bytes are looked at. Where they are known to stand, those in PLAIN are not checked.
 pub fn read_values<'a>(
     alloc: Global,
     encoding: Option<Encoding>,
@@ -33,7 +34,11 @@ pub fn read_values<'a>(
     dictionary: Option<&[ValueRef<'a>]>,
     bytes: &'a [u8],
     count: usize,
+    standing: Standing,
 ) -> R<PageValues<'a>>
+    requires stood { let d = dictionary_view dictionary in
+        RuledOut standing ((ws : List ValueTree) → AreSpelled d (leaf_type_view leaf_type.now) encoding bytes.now count ws → ⊥) }
+    requires known_within_limits { RuledOut standing (IsValueOver leaf_type.now.kind encoding bytes.now count) }
     ensures stands { let d = dictionary_view dictionary.entry in
         IfOk result (λ vs. AreSpelled d (leaf_type_view leaf_type.now) encoding bytes.now count (values_left vs)) }
     ensures within_limits { OnOk result (IsValueOver leaf_type.now.kind encoding bytes.now count → ⊥) }
@@ -47,7 +52,7 @@ pub fn read_values<'a>(
     }
     match encoding {
         None => Err(Refusal::Encoding),
-        Some(Encoding::Plain) => read_plain(leaf_type, bytes, count),
+        Some(Encoding::Plain) => read_plain(leaf_type, bytes, count, standing),
         Some(Encoding::DeltaByteArray) => read_shared(alloc, leaf_type, bytes, count),
         Some(encoding) => {
             let values = read_listed(alloc, encoding, leaf_type, dictionary, bytes, count)?;

@@ -11,6 +11,8 @@ use Rattle.schema.specs.Law.{IsEntryOf}
 use Rattle.schema.specs.Stripe.{Leaf, Entry}
 use Rattle.schema.specs.Values.{ValueTree}
 use Rattle.pages.specs.declared.encoding.Encoding.{Encoding}
+use Rattle.pages.specs.declared.standing.Standing.{Standing}
+use Rattle.pages.specs.declared.standing.Standing.TheVariants.{Unknown, Known}
 use Rattle.metadata.specs.Records.{DataPageHeader, DataPageHeaderV2, DictionaryPageHeader}
 use Rattle.plain.specs.Plain.{IsReadOver}
 use Rattle.pages.specs.Encodings.{encoding_of, AreValues}
@@ -80,6 +82,11 @@ pub record IsDictionaryOver (kind : Kind) (own : DictionaryPageHeader) (body : L
   pub says : own.num_values ≡ pos count
   pub encoding : IsEncodingOfDictionary own.encoding
   pub over : IsReadOver kind body count
+
+-- where it is known that a page stands within the limits, this is not so
+abbrev pub RuledOut : Standing → Type 0 → Type 0
+RuledOut Unknown P = Unit {0}
+RuledOut Known P = P → ⊥
 
 -- what levels are refused for
 abbrev pub IsOfLevels : Refusal → Type 0

@@ -13,6 +13,7 @@ use Rattle.pages.proofs.Sections.{count_is}
 use Rattle.pages.proofs.ListedValues.{if_ok, on_fault}
 use Rattle.pages.proofs.EntriesOf.{within_of}
 use Rattle.pages.proofs.Bodies.{on_ok, count_by_levels, entries_v2, over_v2}
+use Rattle.pages.proofs.StoodBefore.{rules_out, data_over_v2}
 use Rattle.pages.proofs.body_reading.read_data_page_v2.Goals as goal
 
 pub returns-in_err-repetitions-clause-only : goal.returns-in_err-repetitions-clause-only
@@ -64,3 +65,29 @@ returns-clause-only c =
     let number_is : to_z w32 (of_z w32 c.args.header.now.encoding) ≡ c.args.header.now.encoding = search rules in
     let is : e ≡ encoding_of own.encoding = c.of_number-encoding.ensures ∙ ap encoding_of number_is in
     on_fault c.read_entries.result (λ nothing es p few. nothing es (entries_v2 c.one_list.ensures leaf d own e c.args.body.now rs ds text es is c.in_ok-repetitions.ensures.stands p)) c.read_entries.ensures.only
+
+pub read_entries-requires-clause-stood : goal.read_entries-requires-clause-stood
+read_entries-requires-clause-stood c =
+    let d = dictionary_view c.args.dictionary in
+    let leaf = leaf_view c.args.leaf.now in
+    let own = data_page_header_v2_view c.args.header.now in
+    let rs = levels_of c.in_ok-repetitions.repetitions in
+    let ds = levels_of c.in_ok-repetitions.definitions in
+    let text = c.in_ok-repetitions.text.now in
+    let e = c.of_number-encoding.result in
+    let number_is : to_z w32 (of_z w32 c.args.header.now.encoding) ≡ c.args.header.now.encoding = search rules in
+    let is : e ≡ encoding_of own.encoding = c.of_number-encoding.ensures ∙ ap encoding_of number_is in
+    rules_out c.args.standing
+    (λ nothing es p few. nothing es (entries_v2 c.one_list.ensures leaf d own e c.args.body.now rs ds text es is c.in_ok-repetitions.ensures.stands p)) c.requires.stood
+
+pub read_entries-requires-clause-known_within_limits : goal.read_entries-requires-clause-known_within_limits
+read_entries-requires-clause-known_within_limits c =
+    let leaf = leaf_view c.args.leaf.now in
+    let own = data_page_header_v2_view c.args.header.now in
+    let rs = levels_of c.in_ok-repetitions.repetitions in
+    let ds = levels_of c.in_ok-repetitions.definitions in
+    let text = c.in_ok-repetitions.text.now in
+    let e = c.of_number-encoding.result in
+    let number_is : to_z w32 (of_z w32 c.args.header.now.encoding) ≡ c.args.header.now.encoding = search rules in
+    let is : e ≡ encoding_of own.encoding = c.of_number-encoding.ensures ∙ ap encoding_of number_is in
+    rules_out c.args.standing (data_over_v2 leaf own e c.args.body.now rs ds text is c.in_ok-repetitions.ensures.stands) c.requires.known_within_limits

@@ -1,11 +1,12 @@
-use Rattle.std.proofs.Common.{arith}
+use Rattle.std.proofs.Common.{arith, Some}
 use Rattle.schema.specs.Views.{leaf_type_view}
 use Rattle.pages.specs.declared.encoding.Encoding.TheVariants.{Plain, DeltaByteArray}
 use Rattle.pages.specs.Left.{values_left}
 use Rattle.pages.specs.Views.{dictionary_view}
 use Rattle.pages.proofs.SharedValues.{nothing_over}
-use Rattle.pages.proofs.ListedValues.{shared_spelled, none_spelled}
+use Rattle.pages.proofs.ListedValues.{shared_spelled, none_spelled, spelled_some}
 use Rattle.pages.proofs.PlainValues.{some_encoding}
+use Rattle.pages.proofs.StoodBefore.{rules_out, over_by_encoding}
 use Rattle.pages.proofs.value_reading.read_values.Goals as goal
 
 pub returns-then-count-eq0-clause-within_limits : goal.returns-then-count-eq0-clause-within_limits
@@ -34,3 +35,17 @@ returns-in-Some-DeltaByteArray-clause-only c =
     let here = rw c.in-Some-DeltaByteArray.is at c.in-Some-DeltaByteArray.field-0-is in
     let is = some_encoding c.args.encoding c.in-Some-DeltaByteArray.field-0 DeltaByteArray c.in-Some-DeltaByteArray.is here in
     none_spelled c.read_shared.result (dictionary_view c.args.dictionary) (leaf_type_view c.args.leaf_type.now) c.args.encoding DeltaByteArray c.args.bytes.now c.args.count is (omega (arith, c.if-count-eq0.false)) c.read_shared.ensures.only
+
+pub read_plain-requires-clause-stood : goal.read_plain-requires-clause-stood
+read_plain-requires-clause-stood c =
+    let d = dictionary_view c.args.dictionary in
+    let t = leaf_type_view c.args.leaf_type.now in
+    let here = rw c.in-Some-Plain.is at c.in-Some-Plain.field-0-is in
+    let is = some_encoding c.args.encoding c.in-Some-Plain.field-0 Plain c.in-Some-Plain.is here in
+    rules_out c.args.standing (λ nothing ws p. nothing d ws (spelled_some d t c.args.encoding Plain c.args.bytes.now c.args.count ws is (omega (arith, c.if-count-eq0.false)) p)) c.requires.stood
+
+pub read_plain-requires-clause-known_within_limits : goal.read_plain-requires-clause-known_within_limits
+read_plain-requires-clause-known_within_limits c =
+    let here = rw c.in-Some-Plain.is at c.in-Some-Plain.field-0-is in
+    let is = some_encoding c.args.encoding c.in-Some-Plain.field-0 Plain c.in-Some-Plain.is here in
+    rules_out c.args.standing (over_by_encoding c.args.leaf_type.now.kind c.args.encoding (Some Plain) c.args.bytes.now c.args.count is) c.requires.known_within_limits
