@@ -25,7 +25,8 @@ use plain::decode_to;
 use schema::{Kind, Leaf, ValueRef};
 use std::alloc::Global;
 
-/// The entries of a page of version 1, at most `left`.
+/// The entries of a page of version 1, at most `left`. Where they are known to stand, values in PLAIN are
+/// not checked.
 pub fn read_data_page_v1<'a>(
     alloc: Global,
     header: &DataPageHeader,
@@ -63,7 +64,7 @@ pub fn read_data_page_v1<'a>(
     )
 }
 
-/// The entries of a page of version 2, at most `left`.
+/// The entries of a page of version 2, at most `left`, in the same way.
 pub fn read_data_page_v2<'a>(
     alloc: Global,
     header: &DataPageHeaderV2,
@@ -143,7 +144,8 @@ const PLAIN: i32 = 0;
 /// The number of the encoding PLAIN_DICTIONARY, which is PLAIN in a dictionary page.
 const PLAIN_DICTIONARY: i32 = 2;
 
-/// The entries of these levels. Those at the greatest definition level have the values of the bytes.
+/// The entries of these levels. Those at the greatest definition level have the values of the bytes, which
+/// are not checked where they are known to stand in PLAIN.
 fn read_entries<'a>(
     alloc: Global,
     encoding: Option<Encoding>,
@@ -158,7 +160,8 @@ fn read_entries<'a>(
     requires paired { length (levels_of repetitions) ≡ length (levels_of definitions) }
     requires stood { let d = dictionary_view dictionary in
         RuledOut standing ((es : List Entry) → AreEntries (leaf_view leaf.now) d encoding bytes.now (levels_of repetitions) (levels_of definitions) es → ⊥) }
-    requires known_within_limits { RuledOut standing (IsValueOver leaf.now.leaf_type.kind encoding bytes.now (full (leaf_view leaf.now) (levels_of definitions))) }
+    requires known_within_limits { let n = full (leaf_view leaf.now) (levels_of definitions) in
+        RuledOut standing (IsValueOver leaf.now.leaf_type.kind encoding bytes.now n) }
     ensures stands { let d = dictionary_view dictionary.entry in
         IfOk result (λ p. AreEntries (leaf_view leaf.now) d encoding bytes.now (levels_of repetitions) (levels_of definitions) (entries_left p)) }
     ensures within_limits { OnOk result (IsValueOver leaf.now.leaf_type.kind encoding bytes.now (full (leaf_view leaf.now) (levels_of definitions)) → ⊥) }

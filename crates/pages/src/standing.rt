@@ -3,8 +3,8 @@
 /// Whether it is known that a page stands in the bytes, within the limits.
 #[derive(Debug, Clone, Copy)]
 pub enum Standing {
-    /// It is not known: all is checked.
+    /// It is not: all is checked.
     Unknown,
-    /// It has been read before: what takes no memory is not checked again.
+    /// It is: the page was read before, and its values in PLAIN are not checked again.
     Known,
 }
