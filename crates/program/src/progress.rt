@@ -83,13 +83,23 @@ impl Progress {
 
     /// Counts one more row, and shows after each [`ROWS_BETWEEN`] how many there are. Where that cannot be written,
     /// or there is no memory for it, nothing is shown.
+    // One test for each row where nothing is shown.
+    #[inline(always)]
     pub fn count_row<E: Write>(&mut self, err: &mut E)
         ensures quiet { self.old.is_shown ≡ false → E.contents err.new ≡ E.contents err.old }
         ensures same { self.new.is_shown ≡ self.old.is_shown }
     {
-        if !self.is_shown {
-            return;
+        if self.is_shown {
+            self.count_shown(err);
         }
+    }
+
+    /// Counts a row where that is shown.
+    #[cold]
+    #[inline(never)]
+    fn count_shown<E: Write>(&mut self, err: &mut E)
+        ensures same { self.new.is_shown ≡ self.old.is_shown }
+    {
         self.rows = self.rows.saturating_add(1);
         if self.rows % ROWS_BETWEEN != 0 {
             return;
