@@ -4,7 +4,7 @@ ghost use Rattle.std.specs.Prelude.{◌≡◌, ◌≢◌, ◌<ℤ◌, pos, List,
 ghost use Rattle.bits.specs.Faults.{refusal_of};
 ghost use Rattle.bits.specs.Refusals.{OnFault, RefusedOnly};
 ghost use Rattle.bits.specs.Codec.{NothingStands};
-ghost use Rattle.schema.specs.Borrowed.{entry_ref_view};
+ghost use Rattle.schema.specs.Borrowed.{entry_ref_view, value_ref_view};
 ghost use Rattle.schema.specs.Views.{leaf_view, leaf_type_view};
 ghost use Rattle.metadata.specs.Views.{column_meta_view};
 ghost use Rattle.row_group.specs.Chunks.{ChunkMeans};
@@ -136,6 +136,14 @@ impl<'a> ChunkReader<'a> {
         }
     }
 
+    // For the proof: the value as one that the reader lends.
+    #[inline(always)]
+    fn lent(&self, value: ValueRef<'a>) -> ValueRef<'_>
+        ensures { value_ref_view result ≡ value_ref_view value.entry }
+    {
+        value
+    }
+
     /// Takes the next entry, if there is one: `entry` is that one from then on. Refused as `fill`.
     #[inline(always)]
     fn advance(&mut self) -> Result<bool, Fault>
@@ -202,6 +210,14 @@ impl<'a> EntrySource for ChunkReader<'a> {
             Ok(Some(self.entry()))
         } else {
             Ok(None)
+        }
+    }
+
+    #[inline(always)]
+    fn next_value(&mut self) -> Option<ValueRef<'_>> {
+        match self.next_plain() {
+            Some(value) => Some(self.lent(value)),
+            None => None,
         }
     }
 
