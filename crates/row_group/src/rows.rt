@@ -78,13 +78,14 @@ impl<'a> Rows<'a> {
         })
     }
 
-    /// All rows of a group that [`check_group`] accepted. No page is read yet.
+    /// All rows of a group that was accepted ([`check_group`]). No page is read yet.
     ///
-    /// Of such a group it fails only when out of memory, and so do its rows; another may be refused, here
-    /// or at each row, as [`Rows::of_group`] refuses it. (`parquet.thrift`, RowGroup.)
+    /// It fails only when out of memory, and so do its rows. Lengths and texts in PLAIN are not checked
+    /// again. (`parquet.thrift`, RowGroup.)
     pub fn new(alloc: Global, front: &'a [u8], meta: &GroupMeta, schema: &'a Schema) -> R<Rows<'a>>
+        requires accepted { (rows : List ValueTrees) × IsReadable front.now schema.now (group_meta_view meta.now) rows }
         ensures stands { IfOk result (λ r. (rows : List ValueTrees) → IsReadable front.now schema.now (group_meta_view meta.now) rows → rows_stand r rows) }
-        ensures which { (rows : List ValueTrees) → IsReadable front.now schema.now (group_meta_view meta.now) rows → RefusedMemoryOnly result }
+        ensures which { RefusedMemoryOnly result }
     {
         let left = count_of(meta.num_rows, MOST_ROWS_OF_GROUP)?;
         let readers = readers_of(alloc, front, meta, schema)?;

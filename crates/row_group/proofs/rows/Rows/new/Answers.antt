@@ -10,7 +10,9 @@ use Rattle.row_group.proofs.Fresh.{has_rows, memory_only}
 use Rattle.row_group.proofs.rows.Rows.new.Goals as goal
 
 pub returns-in_err-left-clause-which : goal.returns-in_err-left-clause-which
-returns-in_err-left-clause-which c = λ rows r.
+returns-in_err-left-clause-which c =
+    let rows = c.requires.accepted.0 in
+    let r = c.requires.accepted.1 in
     passes (HasCause (λ _. ⊥)) c.from_residual.result c.in_err-left.field-0.0 c.from_residual.ensures.1
     (memory_only c.in_err-left.field-0.0 (λ fault. let m = r.means.count in c.in_err-left.ensures.only fault (length rows) (omega (arith, ints, m)))
     (λ is.
@@ -18,7 +20,8 @@ returns-in_err-left-clause-which c = λ rows r.
     r.within_limits (many_rows (omega (arith, ints, over)))))
 
 pub returns-in_err-readers-clause-which : goal.returns-in_err-readers-clause-which
-returns-in_err-readers-clause-which c = λ rows r.
+returns-in_err-readers-clause-which c =
+    let r = c.requires.accepted.1 in
     passes (HasCause (λ _. ⊥)) c.from_residual-in_err-readers.result c.in_err-readers.field-0.0 c.from_residual-in_err-readers.ensures.1
     (memory_only c.in_err-readers.field-0.0 (λ fault. c.in_err-readers.ensures.only fault _ r.means.chunks) (λ is. r.within_limits (large_chunk (c.in_err-readers.ensures.limit (ap Err is)))))
 
