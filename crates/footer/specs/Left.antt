@@ -1,30 +1,19 @@
 -- The rows that a file has, and those that it still has to give.
-use Rattle.std.specs.Prelude.{◌≡◌, ℕ, List, [], ◌∷◌, ◌++◌, map, Bool, true, false, Option, Some, None, Result, Ok, Err}
+use Rattle.std.specs.Prelude.{◌≡◌, List, [], ◌++◌, Bool, true, false, Option, Some, None, Result, Ok, Err}
 use Rattle.bits.specs.declared.refusal.Refusal.{Refusal}
 use Rattle.bits.specs.declared.refusal.Refusal.TheVariants.{Memory}
 use Rattle.schema.specs.Values.{ValueTrees}
-use Rattle.schema.specs.Shape.{Fields}
 use Rattle.assemble.specs.Sinks.{Token}
-use Rattle.metadata.specs.Records.{GroupMeta}
-use Rattle.metadata.specs.Views.{group_meta_view}
-use Rattle.row_group.specs.Limits.{IsReadable}
 pub use Rattle.row_group.specs.Left.{TakesRow, TakesRowTo, ShowsFirst}
 use Rattle.row_group.specs.Left.{rows_stand as rows_of_group_stand}
 use Rattle.row_group.specs.declared.rows.Rows.{Rows as GroupRows}
-use Rattle.footer.specs.File.{LiesHere}
+pub use Rattle.footer.specs.Held.{GroupsHold}
 use Rattle.footer.specs.declared.rows.Rows.{Rows}
 use Rattle.footer.specs.declared.file_reader.FileReader.{FileReader}
 
--- the groups lie in this file, and have these rows, each group its own; no group goes beyond a limit
-abbrev pub GroupsHold : List ℕ → Fields → List GroupMeta → List ValueTrees → Type 0
-GroupsHold front fs [] rows = rows ≡ []
-GroupsHold front fs (g ∷ gs) rows =
-    (first : List ValueTrees) × (rest : List ValueTrees) × (rows ≡ first ++ rest)
-    × LiesHere g × IsReadable front fs g first × GroupsHold front fs gs rest
-
 -- the rows of an accepted file
 abbrev pub rows_of_file : FileReader → List ValueTrees → Type 0
-rows_of_file file rows = GroupsHold file.front.now file.schema (map group_meta_view file.groups.items) rows
+rows_of_file file rows = GroupsHold file.front file.schema file.groups rows
 
 -- what is left of the group that was begun
 abbrev pub rows_of_begun : Option GroupRows → List ValueTrees → Type 0
@@ -33,7 +22,7 @@ rows_of_begun (Some group) rows = rows_of_group_stand group rows
 
 -- what is left of the groups that are not begun
 abbrev pub others_hold : Rows → List ValueTrees → Type 0
-others_hold left rows = GroupsHold left.front.now left.schema.now (map group_meta_view left.groups.now) rows
+others_hold left rows = GroupsHold left.others.front left.others.schema left.others.groups rows
 
 -- what is left: of the group that was begun, and then of all other groups
 pub record rows_stand (left : Rows) (rows : List ValueTrees) : Type 0 where

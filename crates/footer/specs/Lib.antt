@@ -4,6 +4,7 @@ pub mod Faults
 pub mod Writing
 pub mod Own
 pub mod Writer
+pub mod Held
 pub mod Left
 pub mod Laws
 pub mod inner

@@ -11,19 +11,37 @@ ghost use Rattle.footer.specs.Faults.{HasGroupsFault, IsOverLimit, HasFault};
 
 use crate::footer_reading::parts_and_record;
 use crate::groups::check_groups;
+use crate::groups_left::GroupsLeft;
 use crate::rows::Rows;
 use bits::R;
 use metadata::GroupMeta;
 use schema::{Row, Schema, a_list_means_one_schema};
 use std::alloc::Global;
+use std::marker::Model;
 
-/// A file that was accepted: all of it was read and checked, and its rows can be taken one by one.
+/// A file that was accepted: all of it was read and checked, and its rows can be taken one by one. A clause
+/// sees the bytes before the footer, the schema and the records of the groups.
 #[derive(Drop)]
 pub struct FileReader<'a> {
     /// The bytes before the footer.
     front: &'a [u8],
     groups: Vec<GroupMeta>,
     schema: Schema,
+}
+
+impl<'a> Model for FileReader<'a> {
+    ghost use Rattle.std.specs.Prelude.{map};
+    ghost use Rattle.metadata.specs.Views.{group_meta_view};
+    ghost use Rattle.footer.specs.Held.{FileGroups, AreAccepted};
+    ghost use Rattle.footer.specs.inner.Code.{file_groups_code};
+
+    ghost Value = { FileGroups };
+
+    ghost coded = { file_groups_code };
+
+    ghost view = { λ f. record { front = f.front.now; schema = f.schema; groups = map group_meta_view f.groups.items } };
+
+    ghost invariant = { λ f. AreAccepted f.front.now f.schema (map group_meta_view f.groups.items) };
 }
 
 impl<'a> FileReader<'a> {
@@ -82,9 +100,7 @@ impl<'a> FileReader<'a> {
     {
         Rows {
             alloc,
-            front: self.front,
-            schema: &self.schema,
-            groups: self.groups.as_slice(),
+            others: GroupsLeft::new(self.front, &self.schema, self.groups.as_slice()),
             group: None,
         }
     }

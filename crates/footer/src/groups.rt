@@ -6,7 +6,7 @@ ghost use Rattle.schema.specs.Values.{ValueTrees};
 ghost use Rattle.metadata.specs.Views.{group_meta_view};
 ghost use Rattle.footer.specs.File.{LiesHere, GroupsMean};
 ghost use Rattle.footer.specs.Faults.{HasGroupsFault};
-ghost use Rattle.footer.specs.Left.{GroupsHold};
+ghost use Rattle.footer.specs.Held.{GroupsHold};
 
 use bits::{R, Refusal};
 use metadata::GroupMeta;

@@ -13,6 +13,7 @@ mod footer_reading;
 mod footer_record;
 mod footer_writing;
 mod groups;
+mod groups_left;
 mod laws;
 mod limits;
 mod options;

@@ -6,10 +6,10 @@ ghost use Rattle.schema.specs.Values.{ValueTrees};
 ghost use Rattle.schema.specs.Views.{rows_view};
 ghost use Rattle.row_group.specs.Left.{TakesRow, TakesRowTo};
 
+use crate::groups_left::GroupsLeft;
 use assemble::{RowBuilder, RowSink};
 use bits::{R, Refusal};
-use metadata::GroupMeta;
-use schema::{Row, Schema};
+use schema::Row;
 use std::alloc::Global;
 
 /// The rows of an accepted file that are still to come, in their order. Each is made when it is asked
@@ -17,10 +17,8 @@ use std::alloc::Global;
 #[derive(Drop)]
 pub struct Rows<'a> {
     pub(crate) alloc: Global,
-    pub(crate) front: &'a [u8],
-    pub(crate) schema: &'a Schema,
     /// The groups that are not begun yet.
-    pub(crate) groups: &'a [GroupMeta],
+    pub(crate) others: GroupsLeft<'a>,
     /// What is left of the group that was begun.
     pub(crate) group: Option<row_group::Rows<'a>>,
 }
@@ -58,7 +56,7 @@ impl<'a> Rows<'a> {
     pub fn next(&mut self) -> R<Option<Row>>
         ensures takes { TakesRow (rows_stand self.old) (rows_stand self.new) result }
     {
-        let mut builder = RowBuilder::new(self.alloc, self.schema.fields().len())?;
+        let mut builder = RowBuilder::new(self.alloc, self.others.schema().fields().len())?;
         if self.next_to(&mut builder)? {
             Ok(Some(builder.into_row()))
         } else {
@@ -71,7 +69,7 @@ impl<'a> Rows<'a> {
     fn next_of_group<K: RowSink>(&mut self, sink: &mut K) -> R<bool>
         ensures takes { TakesOfGroup self.old self.new (K.shows sink.old) (K.shows sink.new) result }
         ensures unshown { result ≡ Ok false → sink.new ≡ sink.old }
-        ensures kept { self.new.groups.now ≡ self.old.groups.now }
+        ensures kept { self.new.others ≡ self.old.others }
     {
         match &mut self.group {
             Some(group) => group.next_to(sink),
@@ -82,16 +80,10 @@ impl<'a> Rows<'a> {
     /// Begins the next group; false where there is none. Nothing is to be left of the group before.
     fn begin_group(&mut self) -> R<bool>
         ensures begins { BeginsGroup self.old self.new result }
-        ensures fewer { IfOk result (λ b. IsTrue b → length self.new.groups.now < length self.old.groups.now) }
+        ensures fewer { IfOk result (λ b. IsTrue b → length self.new.others.groups < length self.old.others.groups) }
     {
-        let Some((group, others)) = self.groups.split_first() else {
-            self.group = None;
-            return Ok(false);
-        };
-        let rows = row_group::Rows::new(self.alloc, self.front, group, self.schema)?;
-        self.group = Some(rows);
-        self.groups = others;
-        Ok(true)
+        self.group = self.others.begin_next(self.alloc)?;
+        Ok(self.group.is_some())
     }
 
     /// All rows that are left. It fails only when out of memory. Time and memory are linear in their values.

@@ -11,4 +11,4 @@ invariant-loop-self g l = record {
 }
 
 abbrev pub decreases-loop-self : goal.decreases-loop-self
-decreases-loop-self g l = length l.self.groups.now
+decreases-loop-self g l = length l.self.others.groups
