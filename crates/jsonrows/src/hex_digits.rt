@@ -1,16 +1,13 @@
 //! Bytes by their hexadecimal digits in lower case.
 
-ghost use Rattle.std.specs.Prelude.{◌≡◌, ℕ, List, true, length, IfOk, IsTrue, option_map};
+ghost use Rattle.std.specs.Prelude.{◌≡◌, ◌≤◌, ℕ, List, true, length, OnOk, IsTrue};
 ghost use Rattle.std.specs.List.{AllPass};
-ghost use Rattle.std.specs.Result.{result_ok};
-ghost use Rattle.hex.specs.Hex.{decode_of};
 ghost use Rattle.schema.specs.Fits.{are_bytes, fits_kind};
 ghost use Rattle.schema.specs.Values.{bytes};
 ghost use Rattle.jsonrows.specs.inner.LowerDigits.{is_lower_digit, AreDigitsOf};
 
-use hex::FromHexError;
 use schema::Kind;
-use std::alloc::{AllocError, Global};
+use std::alloc::AllocError;
 
 /// Whether a byte is a digit in lower case.
 #[inline(always)]
@@ -57,13 +54,12 @@ pub fn are_digits(kind: Kind, digits: &str) -> bool
     are_lower_digits(bytes)
 }
 
-/// The bytes of these digits; none where they are no digits.
-pub fn bytes_of(alloc: Global, digits: &str) -> Result<Option<Vec<u8>>, AllocError>
-    ensures { IfOk result (λ found. option_map (λ bytes. bytes.items) found ≡ result_ok (decode_of digits.now)) }
+/// Makes a buffer at least this long. What it holds is kept, and only what is new is filled.
+pub fn make_room(buffer: &mut Vec<u8>, count: usize) -> Result<(), AllocError>
+    ensures { OnOk result (count ≤ length buffer.new.items) }
 {
-    match hex::decode(alloc, digits) {
-        Ok(bytes) => Ok(Some(bytes)),
-        Err(FromHexError::OutOfMemory) => Err(AllocError),
-        Err(_) => Ok(None),
+    if buffer.len() < count {
+        buffer.resize(count, 0)?;
     }
+    Ok(())
 }

@@ -6,10 +6,10 @@ ghost use Rattle.std.specs.Result.{result_ok};
 ghost use Rattle.hex.specs.Hex.{decode_of};
 ghost use Rattle.jsonrows.specs.inner.Pieces.{digits_value, token_of, tokens_of};
 
-use crate::hex_digits::bytes_of;
+use crate::hex_digits::make_room;
 use assemble::RowSink;
 use schema::ValueRef;
-use std::alloc::{AllocError, Global};
+use std::alloc::AllocError;
 
 /// A value of a row, or where a group or a list of it begins or ends.
 #[derive(Debug, Clone, Copy)]
@@ -27,18 +27,29 @@ pub enum Piece<'t> {
     ListEnds,
 }
 
-/// Shows a sink the bytes of these digits.
-fn show_digits<K: RowSink>(alloc: Global, digits: &str, sink: &mut K) -> Result<(), AllocError>
+/// Shows a sink the bytes of these digits, which are decoded into a buffer.
+fn show_digits<K: RowSink>(
+    digits: &str,
+    buffer: &mut Vec<u8>,
+    sink: &mut K,
+) -> Result<(), AllocError>
     ensures shown { OnOk result (Adds (K.shows sink.old) (K.shows sink.new) (single (digits_value (result_ok (decode_of digits.now))) ∷ [])) }
 {
-    match bytes_of(alloc, digits)? {
-        Some(bytes) => sink.value(ValueRef::Bytes(bytes.as_slice())),
-        None => sink.value(ValueRef::Null),
+    let count = digits.len() / 2;
+    make_room(buffer, count)?;
+    let bytes = &mut buffer.as_mut_slice()[..count];
+    match hex::decode_to_slice(digits, bytes) {
+        Ok(()) => sink.value(ValueRef::Bytes(bytes)),
+        Err(_) => sink.value(ValueRef::Null),
     }
 }
 
 /// Shows a sink a piece.
-fn show_piece<K: RowSink>(alloc: Global, piece: Piece<'_>, sink: &mut K) -> Result<(), AllocError>
+fn show_piece<K: RowSink>(
+    piece: Piece<'_>,
+    buffer: &mut Vec<u8>,
+    sink: &mut K,
+) -> Result<(), AllocError>
     ensures shown { OnOk result (Adds (K.shows sink.old) (K.shows sink.new) (token_of piece.entry ∷ [])) }
 {
     match piece {
@@ -46,7 +57,7 @@ fn show_piece<K: RowSink>(alloc: Global, piece: Piece<'_>, sink: &mut K) -> Resu
         Piece::Bool(boolean) => sink.value(ValueRef::Bool(boolean)),
         Piece::Int(number) => sink.value(ValueRef::Int(number)),
         Piece::Text(text) => sink.value(ValueRef::Bytes(text.as_bytes())),
-        Piece::Digits(digits) => show_digits(alloc, digits, sink),
+        Piece::Digits(digits) => show_digits(digits, buffer, sink),
         Piece::GroupBegins => sink.begin_group(),
         Piece::GroupEnds => sink.end_group(),
         Piece::ListBegins => sink.begin_list(),
@@ -54,16 +65,17 @@ fn show_piece<K: RowSink>(alloc: Global, piece: Piece<'_>, sink: &mut K) -> Resu
     }
 }
 
-/// Shows a sink pieces, one after another. It fails only when out of memory.
+/// Shows a sink pieces, one after another. Bytes that do not stand in the line are made in a buffer, of which nothing
+/// is kept but its room. It fails only when out of memory.
 pub fn show_pieces<K: RowSink>(
-    alloc: Global,
     pieces: &[Piece<'_>],
+    buffer: &mut Vec<u8>,
     sink: &mut K,
 ) -> Result<(), AllocError>
     ensures shown { OnOk result (Adds (K.shows sink.old) (K.shows sink.new) (tokens_of pieces.now)) }
 {
     for piece in pieces {
-        show_piece(alloc, *piece, sink)?;
+        show_piece(*piece, buffer, sink)?;
     }
     Ok(())
 }

@@ -28,14 +28,16 @@ use std::alloc::{AllocError, Global};
 /// How deep the members of a row nest at most.
 const DEEPEST: usize = 126;
 
-/// Reads rows of a schema, one after another. Names are sorted once, and the room for a text is kept from row to
-/// row.
+/// Reads rows of a schema, one after another. Names are sorted once, and the room for a text and for the bytes of a
+/// value is kept from row to row.
 #[derive(Drop)]
 pub struct Reader<'a> {
     alloc: Global,
     plan: ReadPlan<'a>,
     names: Names,
     scratch: Scratch,
+    /// Where bytes are made that do not stand in the text as they are.
+    buffer: Vec<u8>,
     /// How many pieces the row had that was read at once last.
     room: usize,
 }
@@ -66,11 +68,16 @@ fn values_of_tokens(
 }
 
 /// The row that is made of pieces.
-fn row_of_pieces(alloc: Global, fields: usize, pieces: &[Piece<'_>]) -> Result<Row, AllocError>
+fn row_of_pieces(
+    alloc: Global,
+    fields: usize,
+    pieces: &[Piece<'_>],
+    buffer: &mut Vec<u8>,
+) -> Result<Row, AllocError>
     ensures { IfOk result (λ row. (values : ValueTrees) → tokens_of pieces.now ≡ tokens_each values → row_view row ≡ values) }
 {
     let mut builder = RowBuilder::new(alloc, fields)?;
-    show_pieces(alloc, pieces, &mut builder)?;
+    show_pieces(pieces, buffer, &mut builder)?;
     Ok(builder.into_row())
 }
 
@@ -81,12 +88,14 @@ fn row_printed(
     plan: &ReadPlan<'_>,
     text: &str,
     room: &mut usize,
+    buffer: &mut Vec<u8>,
 ) -> Result<Row, Unread>
     ensures { IfOk result (λ row. IsRowOf plan.now text.now (row_view row)) }
 {
     let pieces = plan.pieces_of(alloc, text, *room)?;
     *room = pieces.len();
-    let row = row_of_pieces(alloc, plan.schema().fields().len(), pieces.as_slice())?;
+    let fields = plan.schema().fields().len();
+    let row = row_of_pieces(alloc, fields, pieces.as_slice(), buffer)?;
     Ok(row)
 }
 
@@ -104,6 +113,7 @@ impl<'a> Reader<'a> {
             plan,
             names,
             scratch: Scratch::new(alloc),
+            buffer: Vec::new(alloc),
             room: 0,
         })
     }
@@ -137,7 +147,13 @@ impl<'a> Reader<'a> {
         ensures which { IfErr result (λ e. (e ≡ RowShape) ⊎ (e ≡ Script) ⊎ (e ≡ Memory)) }
         ensures same { schema_of self.new ≡ schema_of self.old }
     {
-        match row_printed(self.alloc, &self.plan, text, &mut self.room) {
+        match row_printed(
+            self.alloc,
+            &self.plan,
+            text,
+            &mut self.room,
+            &mut self.buffer,
+        ) {
             Ok(row) => Ok(row),
             Err(Unread::OutOfMemory) => Err(Refusal::Memory),
             Err(Unread::Unknown) => self.read_otherwise(text),
@@ -159,7 +175,7 @@ impl<'a> Reader<'a> {
         match self.plan.pieces_of(self.alloc, text, self.room) {
             Ok(pieces) => {
                 self.room = pieces.len();
-                show_pieces(self.alloc, pieces.as_slice(), sink)?;
+                show_pieces(pieces.as_slice(), &mut self.buffer, sink)?;
                 Ok(())
             }
             Err(Unread::OutOfMemory) => Err(Refusal::Memory),
