@@ -22,7 +22,7 @@ use Rattle.pages.specs.Limits.{IsPageOver, IsOfPages}
 use Rattle.pages.specs.Apart.{DictionaryIsNotRead, IsPageOfAtMost}
 use Rattle.row_group.specs.PageLeft.{value_fits, values_fit}
 use Rattle.row_group.specs.Rest.{Known, dictionary_of, ChunkLeft}
-use Rattle.row_group.specs.inner.Pages.{Passes, IsRefusedAt, ReadsPage, NextPage, MayCome, known_after, IsAfter, TakesPage}
+use Rattle.row_group.specs.inner.Pages.{IsAccepted, Passes, IsRefusedAt, ReadsPage, NextPage, MayCome, known_after, IsAfter, TakesPage}
 use Rattle.row_group.proofs.NextPages.{after, IsHere, passes_page, nothing_after, nothing_here, over_here, passes_none, passes_then}
 
 abbrev left_of : Leaf → Known → List ℕ → ℕ → ChunkLeft
@@ -39,6 +39,18 @@ pub read_refused : DictionaryIsNotRead → (s : ChunkLeft) (e : Refusal) → 0 <
 read_refused unread s refusal.Memory some cause only limit = passes_none s
 read_refused unread s refusal.Limit some cause only limit = over_here s some (limit refl)
 read_refused unread s _ some cause only limit = (cause, nothing_here unread s some (λ p used h few. only tt p used (h, few)))
+
+-- ---- a page that was accepted stands
+
+pub accepted_stands : DictionaryIsNotRead → (s : ChunkLeft) → 0 < s.lacking → IsAccepted s → NothingStands (IsPageOfAtMost s.lacking s.leaf (dictionary_of s.known) s.bytes) → ⊥
+accepted_stands unread s some accepted none = accepted.0 (nothing_here unread s some (λ p used h few. none p used (h, few)))
+
+pub accepted_short : (s : ChunkLeft) → 0 < s.lacking → IsAccepted s → IsPageOver s.leaf s.bytes → ⊥
+accepted_short s some accepted over = accepted.1 (over_here s some over)
+
+-- what is left after it was accepted too
+pub passes_accepted : (old new : ChunkLeft) (es : List Entry) → Passes old new es → IsAccepted old → IsAccepted new
+passes_accepted old new es p accepted = (λ none. accepted.0 (λ all used h. let rest = p.onward all used h in none rest.0 rest.1 rest.4), λ over. accepted.1 (p.over_back over))
 
 -- ---- the page is taken
 

@@ -81,7 +81,7 @@ impl<'a> ChunkReader<'a> {
             return Ok(());
         }
         self.page = None;
-        match self.pages.next_page() {
+        match self.pages.next_page(false) {
             Ok(page) => {
                 self.page = page;
                 Ok(())

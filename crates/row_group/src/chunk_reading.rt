@@ -73,7 +73,7 @@ fn skip_entries(pages: &mut PagesLeft<'_>) -> R<()>
     ensures stands { OnOk result ((es : List Entry) × PassesAll (pages_view pages.old) (pages_view pages.new) es) }
     ensures refused { IfErr result (IsRefusedWithin (pages_view pages.old)) }
 {
-    while let Some(_) = pages.next_page()? {}
+    while let Some(_) = pages.next_page(false)? {}
     Ok(())
 }
 
@@ -83,7 +83,7 @@ fn read_entries(alloc: Global, pages: &mut PagesLeft<'_>) -> R<Vec<schema::Entry
     ensures refused { IfErr result (IsRefusedWithin (pages_view pages.old)) }
 {
     let mut entries = Vec::new(alloc);
-    while let Some(page) = pages.next_page()? {
+    while let Some(page) = pages.next_page(false)? {
         push_entries(alloc, page, &mut entries)?;
     }
     Ok(entries)

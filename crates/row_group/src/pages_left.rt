@@ -1,18 +1,21 @@
 //! What is left of a chunk's pages.
 
-ghost use Rattle.std.specs.Prelude.{◌≡◌, ◌<◌, ◌≤◌, length};
+ghost use Rattle.std.specs.Prelude.{◌≡◌, ◌<◌, ◌≤◌, true, length, IfOk, OnOk, Err};
+ghost use Rattle.bits.specs.Codec.{NothingStands};
 ghost use Rattle.bits.specs.Faults.{refusal_of};
-ghost use Rattle.bits.specs.Refusals.{HasCause};
+ghost use Rattle.bits.specs.Refusals.{HasCause, OnFault, RefusedOnly};
 ghost use Rattle.schema.specs.Views.{leaf_view};
+ghost use Rattle.pages.specs.Apart.{IsOnlyPage, IsPageOfAtMost};
 ghost use Rattle.pages.specs.Chunk.{entries_of};
-ghost use Rattle.pages.specs.Limits.{IsOfPages};
+ghost use Rattle.pages.specs.Limits.{IsOfPages, IsPageOver};
+ghost use Rattle.pages.specs.Page.{IsPage};
 ghost use Rattle.pages.specs.Views.{dictionary_view, page_view};
 ghost use Rattle.row_group.specs.Rest.{dictionary_of, all_pages};
 ghost use Rattle.row_group.specs.Left.{known_view, pages_view};
-ghost use Rattle.row_group.specs.inner.Pages.{GivesEntries, NextPage, ReadsPage, TakesPage};
+ghost use Rattle.row_group.specs.inner.Pages.{AcceptedWhere, GivesEntries, NextPage, ReadsPage, TakesPage};
 
-use bits::{Fault, Refusal};
-use pages::{DataPage, PageRef, pages_of_a_dictionary, read_page};
+use bits::{Fault, R, Refusal};
+use pages::{DataPage, PageRef, pages_of_a_dictionary, read_page, read_page_again};
 use schema::{Leaf, ValueRef};
 use std::alloc::Global;
 
@@ -76,6 +79,34 @@ fn with_entries(page: DataPage<'_>) -> Option<DataPage<'_>>
     if page.len() == 0 { None } else { Some(page) }
 }
 
+/// The page at the front of the bytes, as [`read_page`] gives it. Where one is known to stand there, since
+/// it was accepted, it is read without a second check ([`read_page_again`]).
+fn page_at<'a>(
+    alloc: Global,
+    bytes: &'a [u8],
+    leaf: &Leaf,
+    dictionary: Option<&[ValueRef<'a>]>,
+    left: usize,
+    is_accepted: bool,
+) -> R<(PageRef<'a>, usize)>
+    requires stood { let d = dictionary_view dictionary in is_accepted ≡ true → NothingStands (IsPageOfAtMost left (leaf_view leaf.now) d bytes.now) → ⊥ }
+    requires known_within_limits { is_accepted ≡ true → IsPageOver (leaf_view leaf.now) bytes.now → ⊥ }
+    ensures stands { let d = dictionary_view dictionary.entry in IfOk result (λ x. IsPage (leaf_view leaf.now) d bytes.now (page_view x.0) x.1) }
+    ensures alone { let d = dictionary_view dictionary.entry in IfOk result (λ x. IsOnlyPage (leaf_view leaf.now) d bytes.now (page_view x.0) x.1) }
+    ensures within { IfOk result (λ x. x.1 ≤ length bytes.now) }
+    ensures at_most_left { IfOk result (λ x. length (entries_of (page_view x.0)) ≤ left) }
+    ensures within_limits { OnOk result (IsPageOver (leaf_view leaf.now) bytes.now → ⊥) }
+    ensures only { let d = dictionary_view dictionary.entry in OnFault result (NothingStands (IsPageOfAtMost left (leaf_view leaf.now) d bytes.now)) }
+    ensures limit { result ≡ Err Refusal.Limit → IsPageOver (leaf_view leaf.now) bytes.now }
+    ensures which { RefusedOnly IsOfPages result }
+{
+    if is_accepted {
+        read_page_again(alloc, bytes, leaf, dictionary, left)
+    } else {
+        read_page(alloc, bytes, leaf, dictionary, left)
+    }
+}
+
 impl<'a> PagesLeft<'a> {
     /// All pages of a chunk of this many entries, which begin where `bytes` does.
     pub fn new(alloc: Global, bytes: &'a [u8], leaf: &'a Leaf, count: usize) -> PagesLeft<'a>
@@ -95,14 +126,17 @@ impl<'a> PagesLeft<'a> {
     ///
     /// Refused Page for a dictionary that is not the first page, skipped ones aside; otherwise as the
     /// pages are. After a refusal other than Memory nothing is promised of what is left.
-    pub fn next_page(&mut self) -> Result<Option<DataPage<'a>>, Fault>
+    ///
+    /// Pages that were accepted are read without a second check.
+    pub fn next_page(&mut self, is_accepted: bool) -> Result<Option<DataPage<'a>>, Fault>
+        requires accepted { AcceptedWhere is_accepted (pages_view self.old) }
         ensures { NextPage (pages_view self.old) (pages_view self.new) result }
     {
         'pages: for _ in 0..u64::MAX {
             if self.lacking == 0 {
                 return Ok(None);
             }
-            if let Some(page) = self.read_page()? {
+            if let Some(page) = self.read_page(is_accepted)? {
                 return Ok(Some(page));
             }
         }
@@ -111,13 +145,22 @@ impl<'a> PagesLeft<'a> {
     }
 
     /// Reads one page: its entries, or none where it has no entries.
-    fn read_page(&mut self) -> Result<Option<DataPage<'a>>, Fault>
-        requires { 0 < self.old.lacking }
+    fn read_page(&mut self, is_accepted: bool) -> Result<Option<DataPage<'a>>, Fault>
+        requires lacking { 0 < self.old.lacking }
+        requires accepted { AcceptedWhere is_accepted (pages_view self.old) }
         ensures { ReadsPage (pages_view self.old) (pages_view self.new) result }
     {
         pages_of_a_dictionary();
         let dictionary = self.dictionary.values();
-        match read_page(self.alloc, self.bytes, self.leaf, dictionary, self.lacking) {
+        let (bytes, lacking) = (self.bytes, self.lacking);
+        match page_at(
+            self.alloc,
+            bytes,
+            self.leaf,
+            dictionary,
+            lacking,
+            is_accepted,
+        ) {
             Err(refusal) => Err(fault_of(&refusal)),
             Ok((page, used)) => {
                 self.bytes = self.bytes.split_at(used).1;

@@ -1,5 +1,5 @@
 -- Pages that are read off what is left of a chunk.
-use Rattle.std.specs.Prelude.{◌≡◌, ℕ, ◌+◌, ◌<◌, ◌≤◌, true, List, [], ◌++◌, length, drop, Option, Some, None, Result, Ok, Err}
+use Rattle.std.specs.Prelude.{◌≡◌, ℕ, ◌+◌, ◌<◌, ◌≤◌, Bool, true, List, [], ◌++◌, length, drop, Option, Some, None, Result, Ok, Err}
 use Rattle.bits.specs.Codec.{NothingStands}
 use Rattle.bits.specs.Faults.{refusal_of}
 use Rattle.bits.specs.declared.fault.Fault.{Fault}
@@ -19,6 +19,14 @@ use Rattle.row_group.specs.Rest.{Known, known, dictionary_of, ChunkLeft, HoldsRe
 abbrev pub kept_fault : Fault → Option Fault
 kept_fault fault.Memory = None
 kept_fault f = Some f
+
+-- what is left holds entries, and no page of it is over a limit: it has been read before
+abbrev pub IsAccepted : ChunkLeft → Type 0
+IsAccepted s = (NothingStands (HoldsRest s) → ⊥) × (HasRestOver s → ⊥)
+
+-- so it is where the flag is set
+abbrev pub AcceptedWhere : Bool → ChunkLeft → Type 0
+AcceptedWhere flag s = flag ≡ true → IsAccepted s
 
 -- `new` is what is left of `old` after pages that hold these entries
 pub record Passes (old new : ChunkLeft) (es : List Entry) : Type 0 where

@@ -4,11 +4,14 @@ use Rattle.pages.specs.Left.{entries_left}
 use Rattle.row_group.specs.Left.{pages_view}
 use Rattle.row_group.specs.inner.Pages.{ReadsPage}
 use Rattle.row_group.proofs.NextPages.{passes_none, passes_then}
-use Rattle.row_group.proofs.PageSteps.{refused_later, next_refused}
+use Rattle.row_group.proofs.PageSteps.{passes_accepted, refused_later, next_refused}
 use Rattle.row_group.proofs.pages_left.PagesLeft.next_page.Goals as goal
 
 pub pages-init : goal.pages-init
 pages-init c = passes_none (pages_view c.args.self.now)
+
+pub read_page-requires-clause-accepted : goal.read_page-requires-clause-accepted
+read_page-requires-clause-accepted c = λ flag. passes_accepted (pages_view c.args.self.now) (pages_view c.pages.self) [] c.pages.invariant (c.requires.accepted flag)
 
 pub returns-then-self-eq0 : goal.returns-then-self-eq0
 returns-then-self-eq0 c = (c.pages.invariant, c.if-self-eq0.true)
