@@ -40,6 +40,15 @@ at_end {X} {A} {B} P f g xs ys i done lx ly so_far =
     (subst (λ (t : List Leaf). UpTo P (map f xs) (map g ys) [] t done) (at_drop_all (λ (t : List B). map g t) ys i ly)
     (subst (λ (t : List ChunkMeta). UpTo P (map f xs) (map g ys) t (map g (drop i ys)) done) (at_drop_all (λ (t : List A). map f t) xs i lx) so_far))
 
+-- what is so of all of them is so of the one at a place
+pub each_at : {X A B : Type 0} (P : ColumnMeta → Leaf → X → Type 0) (f : A → ChunkMeta) (g : B → Leaf) (xs : List A) (ys : List B) (i : ℕ) (x : A) (y : B) → i < length xs → i < length ys → x ≡ get_or xs i x → y ≡ get_or ys i y
+    → (all : List X) → EachChunk P (map f xs) (map g ys) all → (z : X) × P (f x).meta_data (g y) z
+each_at P f g [] ys i x y lx ly ex ey all h = absurd (omega (arith, lx))
+each_at P f g (a ∷ xs) [] i x y lx ly ex ey all h = absurd (omega (arith, ly))
+each_at P f g (a ∷ xs) (b ∷ ys) i x y lx ly ex ey [] h = absurd h
+each_at {X} {A} {B} P f g (a ∷ xs) (b ∷ ys) zero x y lx ly ex ey (z ∷ all) h = (z, subst (λ (t : B). P (f x).meta_data (g t) z) (sym ey) (subst (λ (t : A). P (f t).meta_data (g b) z) (sym ex) h.0))
+each_at P f g (a ∷ xs) (b ∷ ys) (suc i) x y lx ly ex ey (z ∷ all) h = each_at P f g xs ys i x y (omega (arith, lx)) (omega (arith, ly)) ex ey all h.1
+
 -- ---- the chunks hold columns
 
 -- the chunk at a place holds one of them

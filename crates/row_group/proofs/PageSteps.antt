@@ -18,11 +18,12 @@ use Rattle.schema.specs.Law.{IsEntryOf}
 use Rattle.pages.specs.declared.data_page.DataPage.{DataPage}
 use Rattle.pages.specs.Page.{Page, skipped, dictionary, entries, IsPage, IsBody}
 use Rattle.pages.specs.Chunk.{entries_of}
+use Rattle.pages.specs.Left.{entries_left}
 use Rattle.pages.specs.Limits.{IsPageOver, IsOfPages}
 use Rattle.pages.specs.Apart.{DictionaryIsNotRead, IsPageOfAtMost}
 use Rattle.row_group.specs.PageLeft.{value_fits, values_fit}
 use Rattle.row_group.specs.Rest.{Known, dictionary_of, ChunkLeft}
-use Rattle.row_group.specs.inner.Pages.{IsAccepted, Passes, IsRefusedAt, ReadsPage, NextPage, MayCome, known_after, IsAfter, TakesPage}
+use Rattle.row_group.specs.inner.Pages.{IsAccepted, AcceptedWhere, Passes, IsRefusedAt, ReadsPage, NextPage, MayCome, known_after, IsAfter, TakesPage}
 use Rattle.row_group.proofs.NextPages.{after, IsHere, passes_page, nothing_after, nothing_here, over_here, passes_none, passes_then}
 
 abbrev left_of : Leaf → Known → List ℕ → ℕ → ChunkLeft
@@ -51,6 +52,17 @@ accepted_short s some accepted over = accepted.1 (over_here s some over)
 -- what is left after it was accepted too
 pub passes_accepted : (old new : ChunkLeft) (es : List Entry) → Passes old new es → IsAccepted old → IsAccepted new
 passes_accepted old new es p accepted = (λ none. accepted.0 (λ all used h. let rest = p.onward all used h in none rest.0 rest.1 rest.4), λ over. accepted.1 (p.over_back over))
+
+-- so it is after each call
+pub next_accepted : (flag : Bool) (old new : ChunkLeft) (r : Result (Option DataPage) Fault) → AcceptedWhere flag old → NextPage old new r → AcceptedWhere flag new
+next_accepted flag old new (Ok (Some page)) accepted n = λ on. passes_accepted old new (entries_left page) n.0 (accepted on)
+next_accepted flag old new (Ok None) accepted n = λ on. passes_accepted old new [] n.0 (accepted on)
+next_accepted flag old new (Err f) accepted n = λ on. by (refusal_of f) (accepted on) n
+  where
+    by : (e : Refusal) → IsAccepted old → IsRefusedAt old new e → IsAccepted new
+    by refusal.Memory accepted n = passes_accepted old new [] n accepted
+    by refusal.Limit accepted n = absurd (accepted.1 n)
+    by _ accepted n = absurd (accepted.0 n.1)
 
 -- ---- the page is taken
 

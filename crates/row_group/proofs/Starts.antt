@@ -6,8 +6,9 @@ use Rattle.metadata.specs.Records.{ColumnMeta}
 use Rattle.row_group.specs.declared.chunk_reader.ChunkReader.{ChunkReader}
 use Rattle.row_group.specs.Chunks.{ChunkMeans, StartsAt, ColumnMeans}
 use Rattle.row_group.specs.Limits.{IsChunkOver, BeginsWith}
-use Rattle.row_group.specs.Left.{chunk_stands}
-use Rattle.row_group.specs.inner.Readers.{IsReaderOf}
+use Rattle.row_group.specs.Left.{ReaderLeft, ChunkStands, pages_view, reader_view, chunk_stands}
+use Rattle.row_group.specs.inner.Pages.{IsAccepted}
+use Rattle.row_group.specs.inner.Readers.{IsReaderOf, IsSound}
 
 -- the chunk starts here and nowhere else, where these bytes begin
 pub record IsStart (front : List ℕ) (m : ColumnMeta) (start : ℕ) (bytes : List ℕ) : Type 0 where
@@ -33,4 +34,16 @@ reader_is front m leaf start bytes r i h = record {
   means = λ es s. let k = (h es).0 s in column_there front m leaf start bytes i es k.0.0 k.0.1;
   short = λ es s over. ((h es).0 s).1 (over_here front m leaf start bytes i over);
   stands = λ es c short. (h es).1 (at_start front m leaf start bytes i es c, λ over. short (over_there front m leaf start bytes i over));
+}
+
+-- a reader of a chunk that was accepted reads pages that were
+pub reads_accepted : (front : List ℕ) (m : ColumnMeta) (leaf : Leaf) (r : ChunkReader) → IsReaderOf front m leaf r → (es : List Entry) → IsSound front m leaf es → IsAccepted (pages_view r.pages)
+reads_accepted front m leaf r is es sound = let s = is.stands es sound.0 sound.1 in (λ none. none s.rest s.used s.held, s.short)
+
+-- so is one of which the same is left
+pub same_reader : (front : List ℕ) (m : ColumnMeta) (leaf : Leaf) (r s : ChunkReader) → reader_view s ≡ reader_view r → IsReaderOf front m leaf r → IsReaderOf front m leaf s
+same_reader front m leaf r s same is = record {
+  means = λ es h. is.means es (subst (λ (v : ReaderLeft). ChunkStands v es) same h);
+  short = λ es h. is.short es (subst (λ (v : ReaderLeft). ChunkStands v es) same h);
+  stands = λ es means short. subst (λ (v : ReaderLeft). ChunkStands v es) (sym same) (is.stands es means short);
 }

@@ -1,5 +1,5 @@
 -- What readers of chunks and groups still have to give.
-use Rattle.std.specs.Prelude.{◌≡◌, ◌↔◌, ℕ, Bool, true, false, List, [], ◌∷◌, ◌++◌, map, length, Option, None, Some, Result, Ok, Err}
+use Rattle.std.specs.Prelude.{◌≡◌, ◌↔◌, ℕ, Bool, true, false, List, [], ◌∷◌, ◌++◌, length, Option, None, Some, Result, Ok, Err}
 use Rattle.bits.specs.declared.fault.Fault.{Fault}
 use Rattle.bits.specs.declared.refusal.Refusal.{Refusal}
 use Rattle.bits.specs.declared.refusal.Refusal.TheVariants.{Memory}
@@ -9,29 +9,17 @@ use Rattle.schema.specs.Annotations.{LeafType}
 use Rattle.schema.specs.Fits.{fits_leaf}
 use Rattle.schema.specs.Stripe.{Leaf, Entry}
 use Rattle.schema.specs.Law.{IsSchema}
-use Rattle.schema.specs.Borrowed.{value_ref_view}
 use Rattle.schema.specs.Views.{leaf_view, row_view}
 use Rattle.metadata.specs.Records.{ColumnMeta}
 use Rattle.assemble.specs.Sinks.{Token, tokens_each, Adds}
 use Rattle.assemble.specs.RowsOf.{StandForRows}
-use Rattle.row_group.specs.declared.pages_left.Dictionary.{Dictionary}
-use Rattle.row_group.specs.declared.pages_left.Dictionary.TheVariants.{Open, Absent, Present}
-use Rattle.row_group.specs.declared.pages_left.PagesLeft.{PagesLeft}
 use Rattle.row_group.specs.declared.chunk_reader.ChunkReader.{ChunkReader}
 use Rattle.row_group.specs.declared.rows.Rows.{Rows}
 use Rattle.row_group.specs.Chunks.{ChunkMeans}
 use Rattle.row_group.specs.Limits.{IsChunkOver}
 use Rattle.row_group.specs.PageLeft.{page_left}
-use Rattle.row_group.specs.Rest.{Known, nothing, known, ChunkLeft, HoldsRest, HasRestOver}
-
-abbrev pub known_view : Dictionary → Known
-known_view Open = nothing
-known_view Absent = known None
-known_view (Present vs) = known (Some (map value_ref_view vs.items))
-
--- what is left of a chunk's pages
-abbrev pub pages_view : PagesLeft → ChunkLeft
-pages_view p = record { leaf = leaf_view p.leaf.now; known = known_view p.dictionary; bytes = p.bytes.now; lacking = p.lacking }
+pub use Rattle.row_group.specs.PagesView.{known_view, pages_view}
+use Rattle.row_group.specs.Rest.{ChunkLeft, HoldsRest, HasRestOver}
 
 -- what is left to a reader: the pages that it did not read yet, the entries of the page before them, and the fault that it keeps
 pub record ReaderLeft : Type 0 where

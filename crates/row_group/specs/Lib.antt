@@ -4,6 +4,7 @@ pub mod Limits
 pub mod Wanted
 pub mod Rest
 pub mod PageLeft
+pub mod PagesView
 pub mod Left
 pub mod Styles
 pub mod Paged

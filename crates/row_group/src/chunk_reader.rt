@@ -11,7 +11,8 @@ ghost use Rattle.row_group.specs.Chunks.{ChunkMeans};
 ghost use Rattle.row_group.specs.Greatest.{most_entries};
 ghost use Rattle.row_group.specs.Limits.{IsOfChunks};
 ghost use Rattle.row_group.specs.PageLeft.{page_left, values_fit};
-ghost use Rattle.row_group.specs.inner.Pages.{kept_fault};
+ghost use Rattle.row_group.specs.PagesView.{pages_view};
+ghost use Rattle.row_group.specs.inner.Pages.{AcceptedWhere, kept_fault};
 
 use crate::chunk_record::check_record;
 use crate::pages_left::PagesLeft;
@@ -34,8 +35,12 @@ pub struct ChunkReader<'a> {
     pub(crate) page: Option<DataPage<'a>>,
     /// Why a page was refused, if one was.
     pub(crate) fault: Option<Fault>,
+    /// Whether the chunk was accepted: then its pages are read without a second check.
+    pub(crate) is_accepted: bool,
     /// What is left of the page was checked when it was read: the values are the leaf's.
     ghost of_leaf: { values_fit (leaf_type_view pages.leaf.now.leaf_type) (page_left page) ≡ true },
+    /// What is left of an accepted chunk stands.
+    ghost accepted: { AcceptedWhere is_accepted (pages_view pages) },
 }
 
 impl<'a> ChunkReader<'a> {
@@ -65,7 +70,17 @@ impl<'a> ChunkReader<'a> {
             pages: PagesLeft::new(alloc, bytes, leaf, count),
             page: None,
             fault: None,
+            is_accepted: false,
         })
+    }
+
+    /// The same reader; where its chunk was accepted, it reads the pages without a second check.
+    pub(crate) fn accepted_where(mut self, is_accepted: bool) -> ChunkReader<'a>
+        requires { AcceptedWhere is_accepted (pages_view self.pages) }
+        ensures { reader_view result ≡ reader_view self.entry }
+    {
+        self.is_accepted = is_accepted;
+        self
     }
 
     /// Reads on until an entry is there, or none is left. Refused with the fault that is kept, or with
@@ -81,7 +96,7 @@ impl<'a> ChunkReader<'a> {
             return Ok(());
         }
         self.page = None;
-        match self.pages.next_page(false) {
+        match self.pages.next_page(self.is_accepted) {
             Ok(page) => {
                 self.page = page;
                 Ok(())

@@ -1,6 +1,6 @@
 //! The chunks of a group.
 
-ghost use Rattle.std.specs.Prelude.{◌≡◌, ◌≢◌, ℕ, pos, List, drop, IfOk, OnOk, Err};
+ghost use Rattle.std.specs.Prelude.{◌≡◌, ◌≢◌, ℕ, pos, true, List, drop, IfOk, OnOk, Err};
 ghost use Rattle.bits.specs.Refusals.{OnFault, RefusedOnly};
 ghost use Rattle.schema.specs.Law.{IsSchema};
 ghost use Rattle.schema.specs.Stripe.{Entry, leaves_of};
@@ -19,7 +19,8 @@ use metadata::{ColumnMeta, GroupMeta};
 use schema::{Leaf, Schema};
 use std::alloc::Global;
 
-/// A reader for each chunk of the group, in the order of the leaves. No page is read.
+/// A reader for each chunk of the group, in the order of the leaves. No page is read yet; those of chunks
+/// that were accepted are read without a second check.
 ///
 /// Refused Schema where there are not as many chunks as leaves; Page for a negative offset; otherwise
 /// as [`ChunkReader::new`].
@@ -28,7 +29,9 @@ pub fn readers_of<'a>(
     front: &'a [u8],
     meta: &GroupMeta,
     schema: &'a Schema,
+    is_accepted: bool,
 ) -> R<Vec<ChunkReader<'a>>>
+    requires accepted { is_accepted ≡ true → (columns : List (List Entry)) × AreSound front.now (group_meta_view meta.now).columns (leaves_of schema.now) columns }
     ensures valid { OnOk result (IsSchema schema.now) }
     ensures stands { IfOk result (λ rs. AreReaders front.now (group_meta_view meta.now).columns (leaves_of schema.now) rs.items) }
     ensures only { OnFault result ((columns : List (List Entry)) → AreChunks front.now (group_meta_view meta.now).columns (leaves_of schema.now) columns → ⊥) }
@@ -44,7 +47,7 @@ pub fn readers_of<'a>(
     for (place, leaf) in leaves.iter().enumerate() {
         let chunk = &meta.columns[place].meta_data;
         let reader = reader_of(alloc, front, chunk, leaf)?;
-        readers.push(reader)?;
+        readers.push(reader.accepted_where(is_accepted))?;
     }
     Ok(readers)
 }

@@ -42,7 +42,8 @@ impl<'a> Rows<'a> {
     /// All rows of a group, from the bytes of its file before the footer.
     ///
     /// The group is accepted whole: each page is decoded and checked, and its rows are counted,
-    /// before the first row is given. So the bytes of its chunks are read twice until all rows came.
+    /// before the first row is given. So the bytes of its chunks are read twice until all rows came; the
+    /// second time lengths and texts in PLAIN are not checked again.
     ///
     /// Refused Page for a negative number of rows, or a chunk's negative offset; Limit for more than
     /// [`MOST_ROWS_OF_GROUP`] rows; Schema where there are not as many chunks as leaves; Levels where the
@@ -68,7 +69,7 @@ impl<'a> Rows<'a> {
         columns_determine_rows();
         let left = count_of(meta.num_rows, MOST_ROWS_OF_GROUP)?;
         check_rows(alloc, front, meta, schema, left)?;
-        let readers = readers_of(alloc, front, meta, schema)?;
+        let readers = readers_of(alloc, front, meta, schema, true)?;
         Ok(Rows {
             alloc,
             schema,
@@ -88,7 +89,7 @@ impl<'a> Rows<'a> {
         ensures which { RefusedMemoryOnly result }
     {
         let left = count_of(meta.num_rows, MOST_ROWS_OF_GROUP)?;
-        let readers = readers_of(alloc, front, meta, schema)?;
+        let readers = readers_of(alloc, front, meta, schema, true)?;
         Ok(Rows {
             alloc,
             schema,
@@ -230,7 +231,7 @@ fn check_row_by_row(
 {
     one_meaning();
     columns_determine_rows();
-    let mut readers = readers_of(alloc, front, meta, schema)?;
+    let mut readers = readers_of(alloc, front, meta, schema, false)?;
     match count_rows(schema, readers.as_mut_slice()) {
         Ok(rows) if rows == count as u64 => Ok(()),
         Ok(_) => Err(Refusal::Levels),

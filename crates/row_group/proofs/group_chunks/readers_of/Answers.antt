@@ -6,11 +6,13 @@ use Rattle.bits.proofs.Passing.{passes}
 use Rattle.schema.specs.Stripe.{Leaf, Entry, leaves_of}
 use Rattle.schema.specs.Views.{leaf_view}
 use Rattle.metadata.specs.Views.{chunk_meta_view}
+use Rattle.row_group.specs.declared.chunk_reader.ChunkReader.{ChunkReader}
 use Rattle.row_group.specs.Chunks.{AreChunks}
-use Rattle.row_group.specs.inner.Readers.{IsReaderOf, EachChunk}
+use Rattle.row_group.specs.inner.Readers.{IsReaderOf, IsSound, AreSound, EachChunk}
 use Rattle.row_group.proofs.Places.{gets_here}
 use Rattle.row_group.proofs.Passed.{passed}
-use Rattle.row_group.proofs.InOrder.{UpTo, none_done, one_done, at_place, at_end, column_at, as_many}
+use Rattle.row_group.proofs.InOrder.{UpTo, none_done, one_done, at_place, at_end, each_at, column_at, as_many}
+use Rattle.row_group.proofs.Starts.{reads_accepted, same_reader}
 use Rattle.row_group.proofs.group_chunks.readers_of.Goals as goal
 
 pub returns-then-len-leaves-clause-only : goal.returns-then-len-leaves-clause-only
@@ -60,6 +62,17 @@ returns-in_err-reader-clause-codec c = λ codec.
 pub loop-place-init : goal.loop-place-init
 loop-place-init c = subst (UpTo (IsReaderOf c.args.front.now) (map chunk_meta_view c.args.meta.now.columns.items) (map leaf_view c.leaves-leaves.result.now) _ _) (sym c.in_ok-readers.ensures.items) (none_done _ _ _)
 
+pub accepted_where-requires : goal.accepted_where-requires
+accepted_where-requires c = λ flag.
+    let chunks = c.args.meta.now.columns in
+    let leaves = c.leaves-leaves.result.now in
+    let i = c.loop-place.place in
+    let front = c.args.front.now in
+    let sound = c.requires.accepted flag in
+    let all = subst (λ (t : List Leaf). AreSound front (map chunk_meta_view chunks.items) t sound.0) (sym c.leaves-leaves.ensures.leaves_are) sound.1 in
+    let one = each_at (IsSound front) chunk_meta_view leaf_view chunks.items leaves i c.index.result.now c.index-leaves-place.result (omega (arith, chunks.ok.0)) (omega arith) c.index.ensures c.index-leaves-place.is sound.0 all in
+    reads_accepted front _ _ c.in_ok-reader.reader c.in_ok-reader.ensures.stands one.0 one.1
+
 pub loop-place-preserved : goal.loop-place-preserved
 loop-place-preserved c =
     let chunks = c.args.meta.now.columns in
@@ -68,8 +81,8 @@ loop-place-preserved c =
     let P = IsReaderOf c.args.front.now in
     let done = c.loop-place.readers.items in
     let so_far = at_place P chunk_meta_view leaf_view chunks.items leaves i c.index.result.now c.index-leaves-place.result done (omega (arith, chunks.ok.0)) (omega arith) c.index.ensures c.index-leaves-place.is c.loop-place.invariant in
-    let next = one_done P (map chunk_meta_view chunks.items) (map leaf_view leaves) (chunk_meta_view c.index.result.now) (leaf_view c.index-leaves-place.result) _ _ done c.in_ok-reader.reader c.in_ok-reader.ensures.stands so_far in
-    subst (UpTo P (map chunk_meta_view chunks.items) (map leaf_view leaves) (map chunk_meta_view (drop (i + 1) chunks.items)) (map leaf_view (drop (i + 1) leaves))) (sym c.in_ok-push.ensures.items) next
+    let next = one_done P (map chunk_meta_view chunks.items) (map leaf_view leaves) (chunk_meta_view c.index.result.now) (leaf_view c.index-leaves-place.result) _ _ done c.accepted_where.result (same_reader c.args.front.now _ _ c.in_ok-reader.reader c.accepted_where.result c.accepted_where.ensures c.in_ok-reader.ensures.stands) so_far in
+    subst (UpTo P (map chunk_meta_view chunks.items) (map leaf_view leaves) (map chunk_meta_view (drop (i + 1) chunks.items)) (map leaf_view (drop (i + 1) leaves))) (sym {A = List ChunkReader} c.in_ok-push.ensures.items) next
 
 pub returns-clause-stands : goal.returns-clause-stands
 returns-clause-stands c =

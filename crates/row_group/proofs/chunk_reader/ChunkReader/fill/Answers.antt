@@ -1,12 +1,23 @@
-use Rattle.std.proofs.Common.{◌≡◌, [], Option, sym, subst, arith}
+use Rattle.std.proofs.Common.{◌≡◌, [], Option, Ok, Err, sym, subst, arith}
 use Rattle.std.specs.Prelude.{option_map}
 use Rattle.bits.specs.declared.fault.Fault.{Fault}
 use Rattle.bits.specs.Faults.{refusal_of}
 use Rattle.assemble.specs.Sources.{StandsOnly, Same, Keeps}
 use Rattle.row_group.specs.PageLeft.{page_left}
 use Rattle.row_group.specs.Left.{pages_view, reader_view, ChunkStands}
+use Rattle.row_group.proofs.PageSteps.{next_accepted}
 use Rattle.row_group.proofs.Readers.{empty, reader, filled, refused}
 use Rattle.row_group.proofs.chunk_reader.ChunkReader.fill.Goals as goal
+
+pub invariant_of-self-clause-accepted : goal.invariant_of-self-clause-accepted
+invariant_of-self-clause-accepted c =
+    let old = c.args.self.now in
+    next_accepted old.is_accepted (pages_view old.pages) (pages_view c.next_page.new.self) (Ok c.in-Ok.page) old.accepted c.in-Ok.ensures
+
+pub invariant_of-self-in-Err-clause-accepted : goal.invariant_of-self-in-Err-clause-accepted
+invariant_of-self-in-Err-clause-accepted c =
+    let old = c.args.self.now in
+    next_accepted old.is_accepted (pages_view old.pages) (pages_view c.next_page.new.self) (Err c.in-Err.fault) old.accepted c.in-Err.ensures
 
 pub returns-in-Ok : goal.returns-in-Ok
 returns-in-Ok c =

@@ -3,6 +3,7 @@ use Rattle.std.specs.Prelude.{pos}
 use Rattle.std.proofs.lemmas.Int.{ints}
 use Rattle.bits.specs.Refusals.{HasCause}
 use Rattle.bits.proofs.Passing.{passes}
+use Rattle.schema.specs.Stripe.{columns}
 use Rattle.metadata.specs.Views.{group_meta_view}
 use Rattle.row_group.specs.Limits.{many_rows, large_chunk}
 use Rattle.row_group.proofs.GroupRows.{rows_of_group, stand_for}
@@ -18,6 +19,15 @@ returns-in_err-left-clause-which c =
     (λ is.
     let over = c.in_err-left.ensures.limit (ap Err is) in
     r.within_limits (many_rows (omega (arith, ints, over)))))
+
+pub readers_of-requires : goal.readers_of-requires
+readers_of-requires c =
+    let fs = c.args.schema.now in
+    let g = group_meta_view c.args.meta.now in
+    let e = c.in_ok-left.ensures.count_is in
+    let number : g.num_rows ≡ pos c.in_ok-left.left = omega (arith, ints) in
+    let h = has_rows c.args.front.now fs g c.in_ok-left.left c.requires.accepted.0 number c.requires.accepted.1 in
+    record { accepted = λ on. (columns fs h.rows, h.sound) }
 
 pub returns-in_err-readers-clause-which : goal.returns-in_err-readers-clause-which
 returns-in_err-readers-clause-which c =

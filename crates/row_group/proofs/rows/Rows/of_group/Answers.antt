@@ -4,6 +4,7 @@ use Rattle.std.proofs.lemmas.Int.{ints}
 use Rattle.bits.specs.Refusals.{IsFault}
 use Rattle.bits.proofs.Passing.{passes}
 use Rattle.schema.specs.Values.{ValueTrees}
+use Rattle.schema.specs.Stripe.{columns}
 use Rattle.metadata.specs.Views.{group_meta_view}
 use Rattle.row_group.specs.Chunks.{GroupMeans}
 use Rattle.row_group.specs.Limits.{large_chunk}
@@ -23,6 +24,9 @@ returns-in_err-check_rows-clause-only c =
 
 pub returns-in_err-check_rows-clause-limit : goal.returns-in_err-check_rows-clause-limit
 returns-in_err-check_rows-clause-limit c = λ limit. large_chunk (c.in_err-check_rows.ensures.limit (passed c.from_residual-in_err-check_rows.result c.in_err-check_rows.field-0.0 _ c.from_residual-in_err-check_rows.ensures.1 limit))
+
+pub readers_of-requires : goal.readers_of-requires
+readers_of-requires c = let h = c.in_ok-check_rows.ensures.stands in record { accepted = λ on. (columns c.args.schema.now h.rows, h.sound) }
 
 pub returns-in_err-readers-clause-only : goal.returns-in_err-readers-clause-only
 returns-in_err-readers-clause-only c =
