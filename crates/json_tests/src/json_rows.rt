@@ -406,10 +406,10 @@ fn rows_are_printed_one_after_another(rt: HostRuntime) -> Result<(), Fail> {
 const OUT_OF_ORDER: &str =
     r#"[{"name":"n","rep":"required","type":"int64"},{"name":"b","rep":"required","type":"bytes"},{"name":"g","rep":"repeated","fields":[{"name":"y","rep":"optional","type":"bytes","note":"utf8"},{"name":"x","rep":"required","type":"boolean"}]}]"#;
 
-/// Lines of that schema, as they are printed; the second has an escape.
+/// Lines of that schema, as they are printed; the second has escapes.
 const LINES_OUT_OF_ORDER: [&str; 3] = [
     r#"{"b":"00ff","g":[{"x":true,"y":"Grüße"},{"x":false,"y":null}],"n":-7}"#,
-    r#"{"b":"","g":[{"x":true,"y":"a \"b\""}],"n":0}"#,
+    r#"{"b":"","g":[{"x":true,"y":"a \"b\""},{"x":true,"y":"\\\b\f\n\r\té\u0001 \u001f"}],"n":0}"#,
     r#"{"b":"7f","g":[],"n":9223372036854775807}"#,
 ];
 

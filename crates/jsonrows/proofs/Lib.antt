@@ -20,7 +20,8 @@ pub mod RowsBack
 pub mod Made
 pub mod Operands
 pub mod FilterFaults
-pub mod Escapes
+pub mod EscapedBytes
+pub mod Unescaping
 pub mod SameNumbers
 pub mod Digits
 pub mod Counts

@@ -11,3 +11,4 @@ pub mod Lines
 pub mod Pieces
 pub mod Spans
 pub mod LowerDigits
+pub mod Escapes

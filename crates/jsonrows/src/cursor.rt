@@ -1,98 +1,24 @@
 //! What is left of a line that is read in the form in which rows are printed.
 
-ghost use Rattle.std.specs.Prelude.{◌≡◌, ◌+◌, ◌≤◌, ◌∷◌, [], false, length, IfSome, IsTrue, decimal};
-ghost use Rattle.std.specs.Bool.{OnTrue};
+ghost use Rattle.std.specs.Prelude.{◌≡◌, ℕ, List, ◌∷◌, [], false, IfSome, IsTrue, decimal};
 ghost use Rattle.std.specs.Fmt.{signed_decimal};
 ghost use Rattle.json.specs.Print.{escape, quoted};
-ghost use Rattle.json.specs.Written.{PlainBetween};
+ghost use Rattle.schema.specs.Values.{bytes};
+ghost use Rattle.assemble.specs.Sinks.{single};
+ghost use Rattle.jsonrows.specs.inner.Escapes.{IsText, IsPrintedText};
 ghost use Rattle.jsonrows.specs.inner.Lines.{rest_of, Takes};
+ghost use Rattle.jsonrows.specs.inner.Pieces.{token_of, IsTextRead};
 
+use crate::escapes::printed_end;
 use crate::integers::natural_front;
-use std::simd::prelude::*;
+use crate::pieces::Piece;
+use crate::plain_front::plain_front;
 
 /// A line, and how many of its bytes were read.
 #[derive(Drop)]
 pub struct Cursor<'t> {
     text: &'t str,
     at: usize,
-}
-
-/// Whether 16 bytes stand in a string as they are.
-#[inline(always)]
-fn are_plain_16(bytes: &[u8], at: usize) -> bool
-    requires { at + 16 ≤ length bytes.now }
-    ensures { OnTrue result (PlainBetween bytes.now at (at + 16)) }
-{
-    let v = u8x16::from_slice(&bytes[at..]);
-    (v.simd_eq(u8x16::splat(b'"'))
-        | v.simd_eq(u8x16::splat(b'\\'))
-        | v.simd_lt(u8x16::splat(0x20))).to_bitmask()
-        == 0
-}
-
-/// Whether 4 bytes stand in a string as they are.
-#[inline(always)]
-fn are_plain_4(bytes: &[u8], at: usize) -> bool
-    requires { at + 4 ≤ length bytes.now }
-    ensures { OnTrue result (PlainBetween bytes.now at (at + 4)) }
-{
-    let v = u8x4::from_slice(&bytes[at..]);
-    (v.simd_eq(u8x4::splat(b'"'))
-        | v.simd_eq(u8x4::splat(b'\\'))
-        | v.simd_lt(u8x4::splat(0x20))).to_bitmask()
-        == 0
-}
-
-/// How many bytes at the front, by 16, stand in a string as they are.
-#[inline(always)]
-fn plain_by_16(bytes: &[u8]) -> usize
-    ensures within { result ≤ length bytes.now }
-    ensures plain { PlainBetween bytes.now 0 result }
-{
-    let mut at = 0;
-    while bytes.len() - at >= 16 && are_plain_16(bytes, at) {
-        at += 16;
-    }
-    at
-}
-
-/// So by 4, after those before an index.
-#[inline(always)]
-fn plain_by_4(bytes: &[u8], from: usize) -> usize
-    requires within { from ≤ length bytes.now }
-    requires plain { PlainBetween bytes.now 0 from }
-    ensures within { result ≤ length bytes.now }
-    ensures plain { PlainBetween bytes.now 0 result }
-{
-    let mut at = from;
-    while bytes.len() - at >= 4 && are_plain_4(bytes, at) {
-        at += 4;
-    }
-    at
-}
-
-/// So one by one.
-#[inline(always)]
-fn plain_by_one(bytes: &[u8], from: usize) -> usize
-    requires within { from ≤ length bytes.now }
-    requires plain { PlainBetween bytes.now 0 from }
-    ensures within { result ≤ length bytes.now }
-    ensures plain { PlainBetween bytes.now 0 result }
-{
-    let mut at = from;
-    while at < bytes.len() && bytes[at] != b'"' && bytes[at] != b'\\' && bytes[at] >= 0x20 {
-        at += 1;
-    }
-    at
-}
-
-/// How many bytes at the front stand in a string as they are.
-#[inline(always)]
-fn plain_front(bytes: &[u8]) -> usize
-    ensures within { result ≤ length bytes.now }
-    ensures plain { PlainBetween bytes.now 0 result }
-{
-    plain_by_one(bytes, plain_by_4(bytes, plain_by_16(bytes)))
 }
 
 impl<'t> Cursor<'t> {
@@ -200,4 +126,50 @@ impl<'t> Cursor<'t> {
             None
         }
     }
+
+    /// The text whose string stands there, as it is printed.
+    #[inline(always)]
+    pub fn text(&mut self) -> Option<Piece<'t>>
+        ensures { IfSome result (λ p. IsTextRead self.old self.new p) }
+    {
+        let text = self.text;
+        let at = self.at;
+        if let Some(plain) = self.string() {
+            return Some(text_piece(plain));
+        }
+        self.text = text;
+        self.at = at;
+        let content = self.escaped()?;
+        Some(Piece::Escaped(content))
+    }
+
+    /// The content of the string that stands there in quotes, with escapes as they are printed.
+    #[cold]
+    #[inline(never)]
+    fn escaped(&mut self) -> Option<&'t str>
+        ensures { IfSome result (λ raw. (s : List ℕ) × (IsPrintedText raw.now s × Takes self.old self.new (quoted s))) }
+    {
+        if !self.skip_byte(b'"') {
+            return None;
+        }
+        let rest = self.text.get(self.at..)?;
+        let end = printed_end(rest)?;
+        let content = rest.get(..end)?;
+        self.text = rest.get(end..)?;
+        self.at = 0;
+        if self.skip_byte(b'"') {
+            Some(content)
+        } else {
+            None
+        }
+    }
+}
+
+/// A text that stands in a line as it is.
+#[inline(always)]
+fn text_piece<'t>(text: &'t str) -> Piece<'t>
+    ensures text { IsText text.now }
+    ensures shown { token_of result ≡ single (bytes text.now) }
+{
+    Piece::Text(text)
 }

@@ -6,6 +6,7 @@
 #![tactic(auto)]
 
 mod cursor;
+mod escapes;
 mod filter_reading;
 mod hex_digits;
 mod integers;
@@ -15,6 +16,7 @@ mod line;
 mod names;
 mod pieces;
 mod place;
+mod plain_front;
 mod plain_text;
 mod printed_leaves;
 mod printed_rows;

@@ -4,8 +4,11 @@ ghost use Rattle.std.specs.Prelude.{◌∷◌, [], OnOk};
 ghost use Rattle.assemble.specs.Sinks.{Adds, single};
 ghost use Rattle.std.specs.Result.{result_ok};
 ghost use Rattle.hex.specs.Hex.{decode_of};
+ghost use Rattle.schema.specs.Values.{bytes};
+ghost use Rattle.jsonrows.specs.inner.Escapes.{unescape};
 ghost use Rattle.jsonrows.specs.inner.Pieces.{digits_value, token_of, tokens_of};
 
+use crate::escapes::unescape;
 use crate::hex_digits::make_room;
 use assemble::RowSink;
 use schema::ValueRef;
@@ -19,6 +22,8 @@ pub enum Piece<'t> {
     Int(i64),
     /// The bytes of a text.
     Text(&'t str),
+    /// The bytes of a text, by the content of its string, in which escapes stand as they are printed.
+    Escaped(&'t str),
     /// Bytes, by their hexadecimal digits in lower case.
     Digits(&'t str),
     GroupBegins,
@@ -44,6 +49,18 @@ fn show_digits<K: RowSink>(
     }
 }
 
+/// Shows a sink the bytes for which the content of a string stands, which are put into a buffer.
+fn show_escaped<K: RowSink>(
+    content: &str,
+    buffer: &mut Vec<u8>,
+    sink: &mut K,
+) -> Result<(), AllocError>
+    ensures shown { OnOk result (Adds (K.shows sink.old) (K.shows sink.new) (single (bytes (unescape content.now)) ∷ [])) }
+{
+    unescape(content.as_bytes(), buffer)?;
+    sink.value(ValueRef::Bytes(buffer.as_slice()))
+}
+
 /// Shows a sink a piece.
 fn show_piece<K: RowSink>(
     piece: Piece<'_>,
@@ -57,6 +74,7 @@ fn show_piece<K: RowSink>(
         Piece::Bool(boolean) => sink.value(ValueRef::Bool(boolean)),
         Piece::Int(number) => sink.value(ValueRef::Int(number)),
         Piece::Text(text) => sink.value(ValueRef::Bytes(text.as_bytes())),
+        Piece::Escaped(content) => show_escaped(content, buffer, sink),
         Piece::Digits(digits) => show_digits(digits, buffer, sink),
         Piece::GroupBegins => sink.begin_group(),
         Piece::GroupEnds => sink.end_group(),

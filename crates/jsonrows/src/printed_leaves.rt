@@ -114,20 +114,7 @@ fn boolean_printed<'t>(
     Ok(())
 }
 
-/// Adds the bytes of a leaf of texts. They are UTF-8, and so they fit.
-fn put_text<'t>(
-    leaf_type: &LeafType,
-    text: &'t str,
-    pieces: &mut Vec<Piece<'t>>,
-) -> Result<(), Unread>
-    requires { is_text leaf_type.now.kind (annotation_view leaf_type.now.annotation) ≡ true }
-    ensures { OnOk result (IsAdded (leaf_type_view leaf_type.now) text.now pieces.old.items pieces.new.items) }
-{
-    pieces.push(Piece::Text(text))?;
-    Ok(())
-}
-
-/// Adds the bytes of a leaf of other bytes, by their digits.
+/// Adds the bytes of a leaf of other bytes than texts, by their digits.
 fn put_digits<'t>(
     leaf_type: &LeafType,
     digits: &'t str,
@@ -143,19 +130,37 @@ fn put_digits<'t>(
     Ok(())
 }
 
-/// Adds the bytes of a leaf that a string is.
-fn put_bytes<'t>(
+/// Reads a text of a leaf. Its bytes are UTF-8, and so they fit.
+fn text_printed<'t>(
     leaf_type: &LeafType,
-    text: &'t str,
+    line: &mut Cursor<'t>,
     pieces: &mut Vec<Piece<'t>>,
 ) -> Result<(), Unread>
-    ensures { OnOk result (IsAdded (leaf_type_view leaf_type.now) text.now pieces.old.items pieces.new.items) }
+    requires { is_text leaf_type.now.kind (annotation_view leaf_type.now.annotation) ≡ true }
+    ensures { OnOk result (IsRead (fits_leaf (leaf_type_view leaf_type.now))
+        (leaf_json (leaf_type_view leaf_type.now)) line.old line.new pieces.old.items pieces.new.items) }
 {
-    if leaf_type.is_text() {
-        put_text(leaf_type, text, pieces)
-    } else {
-        put_digits(leaf_type, text, pieces)
-    }
+    let Some(piece) = line.text() else {
+        return Err(Unread::Unknown);
+    };
+    pieces.push(piece)?;
+    Ok(())
+}
+
+/// Reads other bytes of a leaf.
+fn digits_printed<'t>(
+    leaf_type: &LeafType,
+    line: &mut Cursor<'t>,
+    pieces: &mut Vec<Piece<'t>>,
+) -> Result<(), Unread>
+    requires { is_text leaf_type.now.kind (annotation_view leaf_type.now.annotation) ≡ false }
+    ensures { OnOk result (IsRead (fits_leaf (leaf_type_view leaf_type.now))
+        (leaf_json (leaf_type_view leaf_type.now)) line.old line.new pieces.old.items pieces.new.items) }
+{
+    let Some(digits) = line.string() else {
+        return Err(Unread::Unknown);
+    };
+    put_digits(leaf_type, digits, pieces)
 }
 
 /// Reads bytes of a leaf.
@@ -167,8 +172,9 @@ fn bytes_printed<'t>(
     ensures { OnOk result (IsRead (fits_leaf (leaf_type_view leaf_type.now))
         (leaf_json (leaf_type_view leaf_type.now)) line.old line.new pieces.old.items pieces.new.items) }
 {
-    let Some(text) = line.string() else {
-        return Err(Unread::Unknown);
-    };
-    put_bytes(leaf_type, text, pieces)
+    if leaf_type.is_text() {
+        text_printed(leaf_type, line, pieces)
+    } else {
+        digits_printed(leaf_type, line, pieces)
+    }
 }

@@ -136,9 +136,8 @@ impl<'a> Reader<'a> {
     }
 
     /// The row that a text is, under the same refusals as `row_from`. A row takes memory for its own values, and
-    /// where its text is longer than those before it. The text of a row as it is printed is read at once, where its
-    /// strings have no escape; any other text is then read again from its tokens, and one that is refused, or names a
-    /// member twice, by `row_from`.
+    /// where its text is longer than those before it. The text of a row as it is printed is read at once; any other
+    /// text is then read again from its tokens, and one that is refused, or names a member twice, by `row_from`.
     pub fn read(&mut self, text: &str) -> R<Row>
         ensures stands { IfOk result (λ row. (d : Data) × (read text.now ≡ Some d) × (row_of (schema_of self.old) d ≡ Some (row_view row))) }
         ensures fits { IfOk result (λ row. IsTrue (fits_each (schema_of self.old) (row_view row))) }

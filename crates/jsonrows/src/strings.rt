@@ -45,7 +45,7 @@ pub fn put_digits(bytes: &[u8], out: &mut Line) -> Result<(), AllocError>
 }
 
 /// The hexadecimal digit of a number below 16.
-fn digit(number: u8) -> u8
+pub fn digit(number: u8) -> u8
     requires { number < 16 }
     ensures { result ≡ slice_index lower_digits number }
 {
@@ -53,7 +53,7 @@ fn digit(number: u8) -> u8
 }
 
 /// The letter of a byte's short escape, or 0.
-fn escape_letter(byte: u8) -> u8
+pub fn escape_letter(byte: u8) -> u8
     ensures { result ≡ escape_letter byte }
 {
     match byte {

@@ -10,8 +10,10 @@ use Rattle.hex.specs.Hex.{decode_of}
 use Rattle.jsonrows.specs.Json.{leaf_json}
 use Rattle.jsonrows.specs.declared.cursor.Cursor.{Cursor}
 use Rattle.jsonrows.specs.declared.pieces.Piece.{Piece}
-use Rattle.jsonrows.specs.declared.pieces.Piece.TheVariants.{Null, Bool as OfBool, Int, Text, Digits, GroupBegins, GroupEnds, ListBegins, ListEnds}
-use Rattle.jsonrows.specs.inner.Lines.{IsShown}
+use Rattle.jsonrows.specs.declared.pieces.Piece.TheVariants.{Null, Bool as OfBool, Int, Text, Escaped, Digits, GroupBegins, GroupEnds, ListBegins, ListEnds}
+use Rattle.json.specs.Print.{quoted}
+use Rattle.jsonrows.specs.inner.Escapes.{unescape, IsText}
+use Rattle.jsonrows.specs.inner.Lines.{Takes, IsShown}
 
 -- null where they are no digits
 abbrev pub digits_value : Option (List ℕ) → ValueTree
@@ -24,6 +26,7 @@ token_of Null = single null
 token_of (OfBool b) = single (boolean b)
 token_of (Int z) = single (integer z)
 token_of (Text s) = single (bytes s.now)
+token_of (Escaped s) = single (bytes (unescape s.now))
 token_of (Digits s) = single (digits_value (result_ok (decode_of s.now)))
 token_of GroupBegins = group_begins
 token_of GroupEnds = group_ends
@@ -36,6 +39,10 @@ tokens_of ps = map token_of ps
 -- pieces were added, which are these tokens
 abbrev pub Grows : List Piece → List Piece → List Token → Type 0
 Grows old new ts = tokens_of new ≡ tokens_of old ++ ts
+
+-- a text was read, whose piece this is
+abbrev pub IsTextRead : Cursor → Cursor → Piece → Type 0
+IsTextRead old new p = (s : List ℕ) × (IsText s × ((token_of p ≡ single (bytes s)) × Takes old new (quoted s)))
 
 -- bytes of a leaf were added, which a string shows
 abbrev pub IsAdded : LeafType → List ℕ → List Piece → List Piece → Type 0

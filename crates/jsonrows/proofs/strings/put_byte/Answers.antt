@@ -1,6 +1,6 @@
 use Rattle.std.proofs.Common.{◌≡◌, ◌++◌, List, ℕ, sym, ap, ◌∙◌, arith}
 use Rattle.json.specs.Print.{escape_letter}
-use Rattle.jsonrows.proofs.Escapes.{low_byte}
+use Rattle.jsonrows.proofs.EscapedBytes.{low_byte}
 use Rattle.jsonrows.proofs.strings.put_byte.Goals as goal
 
 pub returns-then-byte-lt32 : goal.returns-then-byte-lt32

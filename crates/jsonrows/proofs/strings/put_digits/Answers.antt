@@ -1,6 +1,6 @@
 use Rattle.std.proofs.Common.{arith, rules}
 use Rattle.hex.specs.Hex.{encode_lower}
-use Rattle.jsonrows.proofs.Escapes.{digits_plain, quotes_put}
+use Rattle.jsonrows.proofs.EscapedBytes.{digits_plain, quotes_put}
 use Rattle.jsonrows.proofs.strings.put_digits.Goals as goal
 
 pub returns : goal.returns

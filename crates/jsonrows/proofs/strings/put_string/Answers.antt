@@ -1,6 +1,6 @@
 use Rattle.std.proofs.Common.{◌≡◌, rules}
 use Rattle.json.specs.Print.{escape}
-use Rattle.jsonrows.proofs.Escapes.{quotes_put}
+use Rattle.jsonrows.proofs.EscapedBytes.{quotes_put}
 use Rattle.jsonrows.proofs.strings.put_string.Goals as goal
 
 pub returns : goal.returns
