@@ -21,7 +21,7 @@ use Rattle.row_group.specs.Rest.{ChunkLeft, HoldsRest, HasRestOver}
 use Rattle.row_group.specs.PageLeft.{page_left, value_fits, values_fit}
 use Rattle.row_group.specs.Left.{ReaderLeft, ChunkStands}
 use Rattle.row_group.specs.inner.Pages.{kept_fault, Passes, IsRefusedAt, NextPage}
-use Rattle.row_group.specs.inner.Readers.{KeepsFault, Fills, AdvancesReader, entry_of_plain, GivesPlain}
+use Rattle.row_group.specs.inner.Readers.{KeepsFault, Fills, AdvancesReader, entry_of_plain, GivesPlain, PeeksPage}
 use Rattle.row_group.proofs.NextPages.{holds_nothing}
 
 pub empty : {A : Type 0} (xs : List A) → length xs ≡ 0 → xs ≡ []
@@ -197,15 +197,24 @@ taken_fits own t e fit more = by e.value fit
 
 -- ---- a look at the next entry
 
+-- entries begin with the first of the page
+begins : (levels : ℕ × ℕ) (xs es rest : List Entry) → es ≡ xs ++ rest → PageShows xs (Some levels) → Begins es levels.0 levels.1
+begins levels [] es rest e h = absurd h
+begins levels (x ∷ xs) es rest e h = subst (λ (t : List Entry). Begins t levels.0 levels.1) (sym e) h
+
 pub page_shows : (old r : ReaderLeft) (page : DataPage) (o : Option (ℕ × ℕ)) → Filled old r → r.here ≡ entries_left page → PageShows (entries_left page) o → Shows (ChunkStands old) (option_map refusal_of old.fault) (Ok o)
 page_shows old r page None f is h =
     let s = f.3 (is ∙ h) in
     (ap (λ (x : Option Fault). option_map refusal_of x) f.0, (f.2.1 [] s.0, λ es t. s.1 es (f.2.0 es t)))
-page_shows old r page (Some levels) f is h = (ap (λ (x : Option Fault). option_map refusal_of x) f.0, λ es s. let t = f.2.0 es s in begins (entries_left page) es t.rest (t.joined ∙ ap (λ (x : List Entry). x ++ t.rest) is) h)
-  where
-    begins : (xs es rest : List Entry) → es ≡ xs ++ rest → PageShows xs (Some levels) → Begins es levels.0 levels.1
-    begins [] es rest e h = absurd h
-    begins (x ∷ xs) es rest e h = subst (λ (t : List Entry). Begins t levels.0 levels.1) (sym e) h
+page_shows old r page (Some levels) f is h = (ap (λ (x : Option Fault). option_map refusal_of x) f.0, λ es s. let t = f.2.0 es s in begins levels (entries_left page) es t.rest (t.joined ∙ ap (λ (x : List Entry). x ++ t.rest) is) h)
+
+-- the page that was read last has the next entry
+pub page_peeks : (r : ReaderLeft) (page : DataPage) (o : Option (ℕ × ℕ)) → r.fault ≡ None → r.here ≡ entries_left page → PageShows (entries_left page) o → PeeksPage r o
+page_peeks r page None sound is h = tt
+page_peeks r page (Some levels) sound is h = (sound, subst (λ (xs : List Entry). PageShows xs (Some levels)) (sym is) h)
+
+pub peeked : (r : ReaderLeft) (levels : ℕ × ℕ) → PeeksPage r (Some levels) → Shows (ChunkStands r) (option_map refusal_of r.fault) (Ok (Some levels))
+peeked r levels h = (ap (λ (x : Option Fault). option_map refusal_of x) h.0, λ es s. begins levels r.here es s.rest s.joined h.1)
 
 -- ---- no entry is left
 

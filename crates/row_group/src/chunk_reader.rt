@@ -1,6 +1,6 @@
 //! The entries of a chunk, one by one.
 
-ghost use Rattle.std.specs.Prelude.{◌≡◌, ◌≢◌, ◌<ℤ◌, pos, List, length, true, IfOk, Err, option_map};
+ghost use Rattle.std.specs.Prelude.{◌≡◌, ◌≢◌, ◌<ℤ◌, pos, List, [], length, true, None, IfOk, Err, option_map};
 ghost use Rattle.bits.specs.Faults.{refusal_of};
 ghost use Rattle.bits.specs.Refusals.{OnFault, RefusedOnly};
 ghost use Rattle.bits.specs.Codec.{NothingStands};
@@ -45,7 +45,7 @@ pub struct ChunkReader<'a> {
 
 impl<'a> ChunkReader<'a> {
     ghost use Rattle.row_group.specs.Left.{reader_view, StandsForChunk};
-    ghost use Rattle.row_group.specs.inner.Readers.{Fills};
+    ghost use Rattle.row_group.specs.inner.Readers.{Fills, PeeksPage};
 
     /// A reader of all entries of a chunk, whose pages begin where `bytes` does. No page is read.
     ///
@@ -95,6 +95,19 @@ impl<'a> ChunkReader<'a> {
         if self.page_len() > 0 {
             return Ok(());
         }
+        self.read_next_page()
+    }
+
+    /// Reads the next page with entries, where none is left of the page that was read last. Refused with
+    /// the fault of a page, which is kept unless it is Memory.
+    // Once a page: kept apart, so that what is done for each entry stays small.
+    #[cold]
+    #[inline(never)]
+    fn read_next_page(&mut self) -> Result<(), Fault>
+        requires sound { self.old.fault ≡ None }
+        requires ended { page_left self.old.page ≡ [] }
+        ensures { Fills (reader_view self.old) (reader_view self.new) result }
+    {
         self.page = None;
         match self.pages.next_page(self.is_accepted) {
             Ok(page) => {
@@ -105,6 +118,20 @@ impl<'a> ChunkReader<'a> {
                 self.fault = kept(fault);
                 Err(fault)
             }
+        }
+    }
+
+    /// The levels of the next entry, where the page that was read last has it and no fault is kept.
+    #[inline(always)]
+    fn peek_page(&self) -> Option<(u32, u32)>
+        ensures { PeeksPage (reader_view self.now) result }
+    {
+        if let Some(_) = self.fault {
+            return None;
+        }
+        match &self.page {
+            Some(page) => page.peek(),
+            None => None,
         }
     }
 
@@ -205,6 +232,9 @@ impl<'a> EntrySource for ChunkReader<'a> {
 
     #[inline(always)]
     fn peek(&mut self) -> R<Option<(u32, u32)>> {
+        if let Some(levels) = self.peek_page() {
+            return Ok(Some(levels));
+        }
         self.fill()?;
         match &self.page {
             None => Ok(None),

@@ -14,7 +14,7 @@ use Rattle.assemble.specs.RowsOf.{StandForRows}
 use Rattle.row_group.specs.declared.chunk_reader.ChunkReader.{ChunkReader}
 use Rattle.row_group.specs.Chunks.{ColumnMeans, AreChunks}
 use Rattle.row_group.specs.Limits.{IsChunkOver, BeginsWith}
-use Rattle.pages.specs.Left.{entry_taken}
+use Rattle.pages.specs.Left.{entry_taken, Shows as PageShows}
 use Rattle.assemble.specs.Sources.{Same, Precede, StandsOnly, Refuses, Keeps}
 use Rattle.row_group.specs.PageLeft.{value_fits}
 use Rattle.row_group.specs.Left.{ReaderLeft, ChunkStands, chunk_stands}
@@ -36,6 +36,11 @@ KeepsFault old new f =
 abbrev pub Fills : ReaderLeft → ReaderLeft → Result (Unit {0}) Fault → Type 0
 Fills old new (Ok x) = (old.fault ≡ None) × (new.fault ≡ None) × Same (ChunkStands old) (ChunkStands new) × (new.here ≡ [] → StandsOnly (ChunkStands new) []) × (new.pages.leaf ≡ old.pages.leaf)
 Fills old new (Err f) = KeepsFault old new f
+
+-- the levels of the next entry, where the page has it and no fault is kept
+abbrev pub PeeksPage : ReaderLeft → Option (ℕ × ℕ) → Type 0
+PeeksPage r (Some levels) = (r.fault ≡ None) × PageShows r.here (Some levels)
+PeeksPage r None = Unit {0}
 
 -- the entry that was taken last off the page
 abbrev pub last_taken : ChunkReader → Entry
