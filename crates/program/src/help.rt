@@ -4,7 +4,7 @@ pub const ABOUT: &str =
     "Reads Parquet files and prints their rows as JSON, and makes such files of JSON";
 
 /// The version, and the logic of the checker that it is proved with.
-pub const VERSION: &str = "0.1.0, proved with rattle-kit-13f logic dac8208d650f15bf";
+pub const VERSION: &str = "0.1.0, proved with Rattle logic dac8208d650f15bf";
 
 pub const AFTER: &str = "\
 Returns status 0 when all was done, and 1 when the call was refused: then the last line on standard error is
