@@ -61,9 +61,8 @@ pub fn check<F: Files, W: Write, E: Write>(
 {
     let schema_bytes = whole_of(rt, alloc, sources.schema)?;
     let rows_bytes = whole_of(rt, alloc, sources.rows)?;
-    let schema_text = text_in(alloc, sources.schema, schema_bytes, err)?;
-    let rows_text = text_in(alloc, sources.rows, rows_bytes, err)?;
-    let (schema_text, rows_text) = (schema_text.as_str(), rows_text.as_str());
+    let schema_text = text_in(alloc, sources.schema, schema_bytes.as_slice(), err)?;
+    let rows_text = text_in(alloc, sources.rows, rows_bytes.as_slice(), err)?;
     match counted(alloc, schema_text, rows_text, &sources.options, err) {
         Ok(count) => {
             let line = line_of_count(alloc, count)?;
@@ -152,7 +151,7 @@ fn say<E: Write>(err: &mut E, line: &str) {
 }
 
 /// The text that the bytes of a file are. Refused Script where they are not UTF-8, which is then said.
-fn text_in<E: Write>(alloc: Global, path: &str, bytes: Vec<u8>, err: &mut E) -> R<String>
+fn text_in<'b, E: Write>(alloc: Global, path: &str, bytes: &'b [u8], err: &mut E) -> R<&'b str>
     ensures quiet { OnOk result (E.contents err.new ≡ E.contents err.old) }
     ensures which { IfErr result (λ e. e ≡ Script) }
 {

@@ -80,16 +80,9 @@ pub fn encode<F: Files, E: Write>(
 {
     let schema_bytes = whole_of(rt, alloc, sources.schema)?;
     let rows_bytes = whole_of(rt, alloc, sources.rows)?;
-    let schema_text = text_of(schema_bytes)?;
-    let rows_text = text_of(rows_bytes)?;
-    let file = encoded(
-        alloc,
-        schema_text.as_str(),
-        rows_text.as_str(),
-        &sources.options,
-        err,
-        shows,
-    )?;
+    let schema_text = text_of(schema_bytes.as_slice())?;
+    let rows_text = text_of(rows_bytes.as_slice())?;
+    let file = encoded(alloc, schema_text, rows_text, &sources.options, err, shows)?;
     put_new(rt, alloc, path, file.as_slice())
 }
 

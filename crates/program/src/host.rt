@@ -1,6 +1,6 @@
 //! Files of the host, read whole or made whole.
 
-ghost use Rattle.std.specs.Prelude.{◌≡◌, ◌⊎◌, ◌↔◌, ◌≤◌, ◌+◌, OnOk, IfOk, IfErr, string_bytes};
+ghost use Rattle.std.specs.Prelude.{◌≡◌, ◌⊎◌, ◌↔◌, ◌≤◌, ◌+◌, OnOk, IfOk, IfErr};
 ghost use Rattle.std.specs.Str.{IsUtf8};
 ghost use Rattle.std.specs.IoError.{error_kind};
 ghost use Rattle.std.specs.Io.KnownBytes.{Appends};
@@ -9,6 +9,7 @@ ghost use Rattle.bits.specs.declared.refusal.Refusal.TheVariants.{Memory, Exists
 ghost use Rattle.program.specs.Program.{greatest_file};
 
 use bits::{R, Refusal};
+use simdutf8::basic::from_utf8;
 use std::alloc::Global;
 use std::fs::{self, File, OpenFile};
 use std::io::{self, ErrorKind, Read, Write};
@@ -76,11 +77,11 @@ pub fn write_whole<W: Write>(text: &[u8], out: &mut W) -> R<()>
 }
 
 /// The text that bytes are. Refused Script where they are not UTF-8. Takes no memory.
-pub fn text_of(bytes: Vec<u8>) -> R<String>
-    ensures stands { IfOk result (λ text. string_bytes text ≡ bytes.items) }
-    ensures which { IfErr result (λ e. (e ≡ Script) × (IsUtf8 bytes.items → ⊥)) }
+pub fn text_of(bytes: &[u8]) -> R<&str>
+    ensures stands { IfOk result (λ text. text.now ≡ bytes.now) }
+    ensures which { IfErr result (λ e. (e ≡ Script) × (IsUtf8 bytes.now → ⊥)) }
 {
-    match String::from_utf8(bytes) {
+    match from_utf8(bytes) {
         Ok(text) => Ok(text),
         Err(_) => Err(Refusal::Script),
     }

@@ -215,11 +215,11 @@ fn a_host_without_links_has_the_file_in_place(rt: HostRuntime) -> Result<(), Fai
 #[test]
 fn text_is_utf_8(rt: HostRuntime) -> Result<(), Fail> {
     for bytes in TEXTS {
-        let text = text_of(Vec::from_slice(rt.alloc(), bytes)?)?;
+        let text = text_of(bytes)?;
         assert!(rt; text.as_bytes() == *bytes);
     }
     for bytes in NO_TEXTS {
-        let text = text_of(Vec::from_slice(rt.alloc(), bytes)?);
+        let text = text_of(bytes);
         assert!(rt; matches!(text, Err(Refusal::Script)));
     }
     Ok(())

@@ -1,10 +1,10 @@
-use Rattle.std.proofs.Common.{◌∙◌, subst}
+use Rattle.std.proofs.Common.{◌≡◌, ◌∙◌, subst}
 use Rattle.std.specs.Io.KnownBytes.{Appends}
 use Rattle.std.proofs.lemmas.Result.{on_ok_weaker}
 use Rattle.bits.specs.Refusals.{HasCause}
 use Rattle.bits.proofs.Passing.{passes}
 use Rattle.program.specs.Program.{AreRefusedSources}
-use Rattle.program.proofs.Refused.{by_file, by_bytes, by_texts, by_devices}
+use Rattle.program.proofs.Refused.{by_file, by_bytes, by_texts, by_devices, on_ok_anyway}
 use Rattle.program.proofs.Rows.{is_no_other}
 use Rattle.program.proofs.check.check.Goals as goal
 
@@ -39,3 +39,6 @@ returns-in-Ok-clause-unchanged g c = is_no_other _ c.write_whole.result c.write_
 
 pub returns-clause-which : goal.returns-clause-which
 returns-clause-which g c = by_texts c.args.sources.now.options _ _ c.in-Err.refusal c.in-Err.ensures.which
+
+pub returns-in-Ok-clause-quiet : goal.returns-in-Ok-clause-quiet
+returns-in-Ok-clause-quiet g c = on_ok_anyway (g.E.Write.contents c.counted.new.err ≡ g.E.Write.contents c.args.err.now) c.write_whole.result (c.counted.ensures.quiet ∙ (c.in_ok-rows_text.ensures.quiet ∙ c.in_ok-schema_text.ensures.quiet))

@@ -1,5 +1,5 @@
-use Rattle.std.proofs.Common.{refl, sym, true≢false}
+use Rattle.std.proofs.Common.{refl}
 use Rattle.program.proofs.host.text_of.Goals as goal
 
-pub returns-clause-which : goal.returns-clause-which
-returns-clause-which c = (refl, λ u. true≢false (sym (c.in-Err.ensures.succeeds u)))
+pub returns-in-Err-clause-which : goal.returns-in-Err-clause-which
+returns-in-Err-clause-which c = (refl, c.in-Err.ensures)
