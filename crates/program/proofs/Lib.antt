@@ -4,3 +4,4 @@ pub mod Refused
 pub mod Printed
 pub mod Footers
 pub mod Done
+pub mod TextLines

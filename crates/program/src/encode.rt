@@ -12,6 +12,7 @@ ghost use Rattle.program.specs.inner.Lines.{IsFileOfLines, IsLinesRefusal, IsLin
 
 use crate::host::{put_new, text_of, whole_of};
 use crate::progress::Progress;
+use crate::text_lines::split_line;
 use assemble::{Discard, RowSink};
 use bits::{R, Refusal};
 use footer::{FileWriter, WriteOptions};
@@ -127,9 +128,11 @@ fn written<E: Write>(
 {
     let mut reader = Reader::new(alloc, schema)?;
     let mut writer = FileWriter::new(alloc, schema, options)?;
-    for line in text.lines() {
+    let mut rest = text;
+    while let Some((line, others)) = split_line(rest) {
         put_line(&mut reader, line, &mut writer)?;
         progress.count_row(err);
+        rest = others;
     }
     writer.finish()
 }

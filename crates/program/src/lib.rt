@@ -24,6 +24,7 @@ mod inspect_statistics;
 mod inspect_text;
 mod one_line;
 mod progress;
+mod text_lines;
 
 pub use arguments::{Call, call_of};
 pub use calls::{refuse, work};
