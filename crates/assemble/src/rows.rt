@@ -1,12 +1,13 @@
 //! Rows off the fronts of columns.
 
-ghost use Rattle.std.specs.Prelude.{◌≡◌, List, length, map, IfOk, OnOk, IfErr};
+ghost use Rattle.std.specs.Prelude.{◌≡◌, ◌<◌, List, length, map, IfOk, OnOk, IfErr};
 ghost use Rattle.bits.specs.Refusals.{OnFault, LimitJustWhere};
 ghost use Rattle.schema.specs.Values.{ValueTrees};
 ghost use Rattle.schema.specs.Views.{rows_view, columns_view};
 ghost use Rattle.assemble.specs.Columns.{Tells};
+ghost use Rattle.assemble.specs.Sinks.{Visits, tokens_each};
 ghost use Rattle.assemble.specs.Standing.{AllStand, AllSame, NoneStand, IsRefusedFor};
-ghost use Rattle.assemble.specs.RowsOf.{AreRowsOf, StandForRows, HasFault, NextRowTo, NextRow, IsTooLong, IsRefusedAs};
+ghost use Rattle.assemble.specs.RowsOf.{AreRowsOf, StandForRows, HasFault, IsNextRow, NextRowTo, NextRow, IsTooLong, IsRefusedAs};
 ghost use Rattle.assemble.specs.inner.Steps.{Ended, Filled};
 
 use crate::cursor::Cursor;
@@ -47,6 +48,32 @@ pub fn next_row_to<S: EntrySource, K: RowSink>(
     };
     read_fields(schema.fields(), start, sources, sink)?;
     Ok(true)
+}
+
+/// Shows a sink the values of the next row, where the sources are known to stand for one at least: nothing
+/// is asked of them before the row is read.
+///
+/// It fails only when out of memory where they do, and is refused as [`next_row`] where they do not. After a
+/// refusal the sink may have been shown a part of the row.
+#[inline]
+pub fn next_known_row_to<S: EntrySource, K: RowSink>(
+    schema: &Schema,
+    sources: &mut [S],
+    sink: &mut K,
+) -> R<()>
+    ensures row { OnOk result (Visits (K.shows sink.old) (K.shows sink.new) tokens_each (IsNextRow S.stands schema.now sources.old sources.new)) }
+    ensures known { IfErr result (λ e. (rows : List ValueTrees) → StandForRows S.stands sources.old schema.now rows → 0 < length rows → e ≡ Refusal.Memory) }
+{
+    if sources.len() != schema.leaves().len() {
+        return Err(Refusal::Levels);
+    }
+    let start = Place {
+        repetition: 0,
+        definition: 0,
+        own: 0,
+    };
+    read_fields(schema.fields(), start, sources, sink)?;
+    Ok(())
 }
 
 /// The next row, or none at the end of all columns. The bytes of each value are copied once.

@@ -16,10 +16,11 @@ use crate::counts::count_of;
 use crate::group_chunks::{check_chunks, readers_of};
 use crate::laws::one_meaning;
 use crate::limits::MOST_ROWS_OF_GROUP;
-use assemble::{RowBuilder, RowSink, count_rows, flat_columns_have_rows, is_flat, next_row_to};
+use assemble::{
+    RowBuilder, RowSink, count_rows, flat_columns_have_rows, is_flat, next_known_row_to,
+};
 use bits::{R, Refusal};
 use metadata::GroupMeta;
-use pages::one_page;
 use schema::{Row, Schema, columns_determine_rows};
 use std::alloc::Global;
 
@@ -118,12 +119,10 @@ impl<'a> Rows<'a> {
         if self.left == 0 {
             return Ok(false);
         }
-        one_page();
-        columns_determine_rows();
-        match next_row_to(self.schema, self.readers.as_mut_slice(), sink) {
-            Ok(is_shown) => {
+        match next_known_row_to(self.schema, self.readers.as_mut_slice(), sink) {
+            Ok(()) => {
                 self.left -= 1;
-                Ok(is_shown)
+                Ok(true)
             }
             Err(refusal) => {
                 self.is_broken = true;
