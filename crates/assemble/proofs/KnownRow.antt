@@ -1,5 +1,5 @@
 -- A row that is known to be left.
-use Rattle.std.proofs.Common.{◌≡◌, ◌<◌, List, [], ◌∷◌, length, map, refl, sym, ◌∙◌, arith, inl, inr, Option}
+use Rattle.std.proofs.Common.{◌≡◌, ◌<◌, List, [], ◌∷◌, length, refl, arith, inl, inr, Option}
 use Rattle.std.proofs.lemmas.List.{length-map}
 use Rattle.bits.specs.declared.refusal.Refusal.{Refusal}
 use Rattle.bits.specs.declared.refusal.Refusal.TheVariants as refusal
@@ -7,8 +7,8 @@ use Rattle.schema.specs.Values.{ValueTrees}
 use Rattle.schema.specs.Shape.{Fields}
 use Rattle.schema.specs.Fits.{RowsFit}
 use Rattle.schema.specs.Stripe.{Entry, Leaf, leaves_of, column, columns}
-use Rattle.assemble.specs.Columns.{Columns, Tells}
-use Rattle.assemble.specs.Standing.{AllStand, IsRefusedFor}
+use Rattle.assemble.specs.Columns.{Tells}
+use Rattle.assemble.specs.Standing.{IsRefusedFor}
 use Rattle.assemble.specs.RowsOf.{StandForRows, HasFault}
 use Rattle.assemble.specs.inner.Fronts.{FitEach, stripes_each, wants_each}
 use Rattle.assemble.specs.inner.ReadValues.{IsFaulty}

@@ -15,7 +15,7 @@ use crate::reading::{Place, has_item, read_fields};
 use crate::row_builder::RowBuilder;
 use crate::sink::{Discard, RowSink};
 use crate::source::EntrySource;
-use bits::{R, Refusal};
+use bits::{Fault, R, Refusal};
 use schema::{Column, Row, Schema};
 use std::alloc::Global;
 
@@ -53,27 +53,41 @@ pub fn next_row_to<S: EntrySource, K: RowSink>(
 /// Shows a sink the values of the next row, where the sources are known to stand for one at least: nothing
 /// is asked of them before the row is read.
 ///
-/// It fails only when out of memory where they do, and is refused as [`next_row`] where they do not. After a
-/// refusal the sink may have been shown a part of the row.
-#[inline]
+/// It fails only when out of memory where they do. Where they do not, the fault says only that something
+/// else is wrong. After it the sink may have been shown a part of the row.
+// Each row comes through here: what is returned fits a register.
+#[inline(always)]
 pub fn next_known_row_to<S: EntrySource, K: RowSink>(
     schema: &Schema,
     sources: &mut [S],
     sink: &mut K,
-) -> R<()>
+) -> Result<(), Fault>
     ensures row { OnOk result (Visits (K.shows sink.old) (K.shows sink.new) tokens_each (IsNextRow S.stands schema.now sources.old sources.new)) }
-    ensures known { IfErr result (λ e. (rows : List ValueTrees) → StandForRows S.stands sources.old schema.now rows → 0 < length rows → e ≡ Refusal.Memory) }
+    ensures known { IfErr result (λ f. (rows : List ValueTrees) → StandForRows S.stands sources.old schema.now rows → 0 < length rows → f ≡ Fault.Memory) }
 {
     if sources.len() != schema.leaves().len() {
-        return Err(Refusal::Levels);
+        return Err(Fault::Levels);
     }
     let start = Place {
         repetition: 0,
         definition: 0,
         own: 0,
     };
-    read_fields(schema.fields(), start, sources, sink)?;
-    Ok(())
+    match read_fields(schema.fields(), start, sources, sink) {
+        Ok(_) => Ok(()),
+        Err(refusal) => Err(fault_for(&refusal)),
+    }
+}
+
+/// Memory for Memory, and Levels for each other refusal.
+#[cold]
+fn fault_for(refusal: &Refusal) -> Fault
+    ensures { refusal.now ≡ Refusal.Memory → result ≡ Fault.Memory }
+{
+    match refusal {
+        Refusal::Memory => Fault::Memory,
+        _ => Fault::Levels,
+    }
 }
 
 /// The next row, or none at the end of all columns. The bytes of each value are copied once.

@@ -6,7 +6,7 @@ use Rattle.bits.specs.declared.refusal.Refusal.TheVariants as refusal
 use Rattle.bits.specs.Refusals.{IsFault, HasCause}
 use Rattle.schema.specs.Values.{ValueTrees}
 use Rattle.schema.specs.Shape.{Fields}
-use Rattle.schema.specs.Stripe.{Leaf, Entry, leaves_of, columns}
+use Rattle.schema.specs.Stripe.{Leaf, leaves_of, columns}
 use Rattle.schema.specs.Law.{IsSchema, ColumnsDetermineRows}
 use Rattle.metadata.specs.Records.{ChunkMeta, GroupMeta}
 use Rattle.assemble.specs.Columns.{Columns, Tells}

@@ -1,6 +1,11 @@
 -- Rows that are taken one by one.
 use Rattle.std.proofs.Common.{◌≡◌, ◌-◌, ◌<◌, List, [], ◌∷◌, length, true, false, Some, Ok, refl, sym, ap, subst, ◌∙◌, arith}
-use Rattle.bits.specs.declared.refusal.Refusal.{Refusal}
+use Rattle.bits.specs.Faults.{refusal_of}
+use Rattle.bits.specs.declared.fault.Fault.{Fault}
+use Rattle.bits.specs.declared.fault.Fault.TheVariants as fault
+use Rattle.bits.specs.Faults.{refusal_of}
+use Rattle.bits.specs.declared.fault.Fault.{Fault}
+use Rattle.bits.specs.declared.fault.Fault.TheVariants as fault
 use Rattle.bits.specs.declared.refusal.Refusal.TheVariants.{Memory}
 use Rattle.schema.specs.declared.row.Row.{Row}
 use Rattle.schema.specs.Values.{ValueTrees}
@@ -45,11 +50,11 @@ takes_to from to old new mid later some same is next = λ rows s.
     }
 
 -- a row is left, so that only memory is refused
-pub only_memory : (old : Rows) (mid : List ChunkReader) (e : Refusal) → (old.left ≡ 0 → ⊥) → mid ≡ old.readers.items
-    → ((rows : List ValueTrees) → StandForRows chunk_stands mid old.schema.now rows → 0 < length rows → e ≡ Memory) → (rows : List ValueTrees) → rows_stand old rows → e ≡ Memory
-only_memory old mid e some same known rows s =
+pub only_memory : (old : Rows) (mid : List ChunkReader) (f : Fault) → (old.left ≡ 0 → ⊥) → mid ≡ old.readers.items
+    → ((rows : List ValueTrees) → StandForRows chunk_stands mid old.schema.now rows → 0 < length rows → f ≡ fault.Memory) → (rows : List ValueTrees) → rows_stand old rows → refusal_of f ≡ Memory
+only_memory old mid f some same known rows s =
     let size = s.count in
-    known rows (subst (λ (rs : List ChunkReader). StandForRows chunk_stands rs old.schema.now rows) (sym same) s.columns) (omega (arith, size, some))
+    ap refusal_of (known rows (subst (λ (rs : List ChunkReader). StandForRows chunk_stands rs old.schema.now rows) (sym same) s.columns) (omega (arith, size, some)))
 
 -- where no row is left
 pub takes_none : (from to : List Token → Type 0) (r : Rows) → r.left ≡ 0 → TakesRowTo (rows_stand r) (rows_stand r) from to (Ok false)

@@ -1,15 +1,11 @@
-use Rattle.std.proofs.Common.{◌≡◌, ◌<◌, List, length, ap, sym, subst, ◌∙◌, arith}
+use Rattle.std.proofs.Common.{◌≡◌, length, ap, sym, subst, ◌∙◌, arith}
 use Rattle.std.proofs.lemmas.List.{length-map}
-use Rattle.bits.specs.declared.refusal.Refusal.TheVariants.{Memory}
-use Rattle.bits.proofs.Passing.{passes}
-use Rattle.schema.specs.Values.{ValueTrees}
 use Rattle.schema.specs.Stripe.{leaves_of}
 use Rattle.schema.specs.Views.{field_views, leaf_view}
 use Rattle.schema.specs.Reading.{count_leaves_each, tallest}
 use Rattle.schema.proofs.CutSteps.{counts_are}
 use Rattle.assemble.specs.Sinks.{Visits, tokens_each}
 use Rattle.assemble.specs.Standing.{IsRefusedFor}
-use Rattle.assemble.specs.RowsOf.{StandForRows}
 use Rattle.assemble.specs.inner.Fronts.{FitEach, stripes_each, wants_each}
 use Rattle.assemble.specs.inner.ReadValues.{IsFaulty, Reads}
 use Rattle.assemble.proofs.KnownRow.{only_memory, one_each}
@@ -38,24 +34,24 @@ returns-then-sources-leaves-clause-known g c = λ rows stand more.
     let other = c.if-sources-leaves.true in
     absurd (other (omega (arith, count, each)))
 
-pub returns-in_err-read_fields-clause-known : goal.returns-in_err-read_fields-clause-known
-returns-in_err-read_fields-clause-known g c =
+pub returns-in-Err-clause-known : goal.returns-in-Err-clause-known
+returns-in-Err-clause-known g c = λ rows stand more.
     let S = g.S.EntrySource.stands in
     let R = g.S.EntrySource.refused in
     let fs = c.args.schema.now in
     let old = c.args.sources.now in
     let new = c.read_fields.new.sources in
-    let e = c.in_err-read_fields.field-0.0 in
-    let told = subst (λ gs. IsRefusedFor S R old new (IsFaulty (FitEach gs) (stripes_each gs 0 0 0) 0 (wants_each gs 0)) e) c.fields.ensures c.in_err-read_fields.ensures.refused in
-    passes (λ f. (rows : List ValueTrees) → StandForRows S old fs rows → 0 < length rows → f ≡ Memory) c.from_residual.result e c.from_residual.ensures.1 (only_memory S R fs (has_leaves fs c.leaves.ensures.valid) old new e told)
+    let e = c.in-Err.refusal in
+    let told = subst (λ gs. IsRefusedFor S R old new (IsFaulty (FitEach gs) (stripes_each gs 0 0 0) 0 (wants_each gs 0)) e) c.fields.ensures c.in-Err.ensures.refused in
+    c.fault_for.ensures (only_memory S R fs (has_leaves fs c.leaves.ensures.valid) old new e told rows stand more)
 
-pub returns-clause-row : goal.returns-clause-row
-returns-clause-row g c =
+pub returns-in-Ok-clause-row : goal.returns-in-Ok-clause-row
+returns-in-Ok-clause-row g c =
     let S = g.S.EntrySource.stands in
     let fs = c.args.schema.now in
     let old = c.args.sources.now in
     let new = c.read_fields.new.sources in
-    let found = subst (λ gs. Visits (g.K.RowSink.shows c.args.sink.now) (g.K.RowSink.shows c.read_fields.new.sink) tokens_each (Reads S (FitEach gs) (stripes_each gs 0 0 0) 0 old new)) c.fields.ensures c.in_ok-read_fields.ensures.reads in
+    let found = subst (λ gs. Visits (g.K.RowSink.shows c.args.sink.now) (g.K.RowSink.shows c.read_fields.new.sink) tokens_each (Reads S (FitEach gs) (stripes_each gs 0 0 0) 0 old new)) c.fields.ensures c.in-Ok.ensures.reads in
     let row = found.0 in
     let read = found.1.0 in (
       row,
