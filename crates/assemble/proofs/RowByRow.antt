@@ -221,6 +221,14 @@ module _ (fs : Fields) (some : 0 < length (leaves_of fs)) where
       at none [] fit alike = has_none (first_of old) (none_level (first_of old) (ap (map level) (sym (first_none fs)) ∙ first_alike (columns fs []) old alike)) more
       at none (row ∷ rows) fit alike = none (columns fs rows) (first_row fs row rows old fit alike)
 
+  -- the columns of rows have an entry
+  pub has_entry : (row : ValueTrees) (rows : List ValueTrees) → RowsFit fs (row ∷ rows) → HasItem 0 (first_of (columns fs (row ∷ rows))) true
+  has_entry row rows fit = by (first_of (columns fs (row ∷ rows))) (filled_column fs (leaves_of fs) (row_starts fs) some row rows fit.0)
+    where
+      by : (es : List Entry) → (es ≡ [] → ⊥) → HasItem 0 es true
+      by [] filled = filled refl
+      by (e ∷ es) filled = omega arith
+
 pub nothing_first : (es : List Entry) → HasItem 0 es false → es ≡ []
 nothing_first [] h = refl
 nothing_first (e ∷ es) h = absurd (omega (arith, h))

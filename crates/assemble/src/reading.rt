@@ -14,7 +14,7 @@ ghost use Rattle.assemble.specs.Columns.{Columns, Fronts};
 ghost use Rattle.assemble.specs.Standing.{AllStand, AllSame, Onward, Backward, IsRefusedFor};
 ghost use Rattle.assemble.specs.inner.Fronts.{nones};
 ghost use Rattle.assemble.specs.inner.ReadValues.{ReadsField, ReadsInside, ReadsItems, ReadsEach, IsFieldFaulty, IsInsideFaulty, AreItemsFaulty, AreEachFaulty};
-ghost use Rattle.assemble.specs.inner.Steps.{IsMemory, ReadsLeaf, ReadsOptional, missing_value, IsSourceRefusedFor, IsLeafFaulty, IsOptionalFaulty, IsAbsentFaulty, IsSkipFaulty, IsMissing, NoneLeft, HasItem, first_of};
+ghost use Rattle.assemble.specs.inner.Steps.{IsMemory, ReadsLeaf, ReadsOptional, is_single, missing_value, IsSourceRefusedFor, IsLeafFaulty, IsOptionalFaulty, IsAbsentFaulty, IsSkipFaulty, IsMissing, NoneLeft, HasItem, first_of};
 
 use crate::fits::fits;
 use crate::sink::RowSink;
@@ -77,7 +77,12 @@ pub fn read_fields<S: EntrySource, K: RowSink>(
 {
     let mut used = 0;
     for field in fields {
-        used += read_next(field, place, &mut sources[used..], sink)?;
+        if is_single(field) {
+            read_single(field, place, &mut sources[used..], sink)?;
+            used += 1;
+            continue;
+        }
+        used += read_field(field, place, &mut sources[used..], sink)?;
     }
     Ok(used)
 }
@@ -161,6 +166,44 @@ fn read_optional<S: EntrySource, K: RowSink>(
         },
         _ => Err(Fault::Levels),
     }
+}
+
+/// Whether a field is a REQUIRED or OPTIONAL leaf, so that it has one entry in each row.
+#[inline(always)]
+fn is_single(field: &Field) -> bool
+    ensures { result ≡ is_single (field_view field.now) }
+{
+    match field {
+        Field::Leaf { repetition, .. } => !matches!(repetition, Repetition::Repeated),
+        Field::Group { .. } => false,
+    }
+}
+
+/// Shows the value of a REQUIRED or OPTIONAL leaf: its entry is taken without a look before.
+// Each value of such a leaf comes through here: what is returned fits a register.
+#[inline(always)]
+fn read_single<S: EntrySource, K: RowSink>(
+    field: &Field,
+    place: Place,
+    sources: &mut [S],
+    sink: &mut K,
+) -> Result<(), Fault>
+    requires valid { IsValid (field_view field.now) }
+    requires single { is_single (field_view field.now) ≡ true }
+    requires room { 0 < length sources.old }
+    requires deep { place.definition + 1 < 2 ^ 32 }
+    ensures reads { OnOk result (Visits (K.shows sink.old) (K.shows sink.new) tokens (ReadsField S.stands (field_view field.now) place sources.old sources.new)) }
+    ensures refused { IfErr result (λ f. IsRefusedFor S.stands S.refused sources.old sources.new (IsFieldFaulty (field_view field.now) place) (refusal_of f)) }
+    ensures kept { OnOk result (map S.refused sources.new ≡ map S.refused sources.old) }
+{
+    if let Field::Leaf { leaf_type, .. } = field {
+        match field.repetition() {
+            Repetition::Required => return read_leaf(leaf_type, place, &mut sources[0], sink),
+            Repetition::Optional => return read_optional(leaf_type, place, &mut sources[0], sink),
+            Repetition::Repeated => (),
+        }
+    }
+    unreachable!()
 }
 
 /// Shows a null, or a value of a leaf. It fails only when out of memory.
@@ -272,41 +315,6 @@ fn read_inside<S: EntrySource, K: RowSink>(
             Ok(used)
         }
     }
-}
-
-/// Shows the value of a field as [`read_field`] does, that of a REQUIRED or OPTIONAL leaf at once: its
-/// entry is taken without a look before.
-#[cycle(read)]
-#[inline(always)]
-fn read_next<S: EntrySource, K: RowSink>(
-    field: &Field,
-    place: Place,
-    sources: &mut [S],
-    sink: &mut K,
-) -> R<usize>
-    requires valid { IsValid (field_view field.now) }
-    requires room { count_leaves (field_view field.now) ≤ length sources.old }
-    requires deep { place.definition + tall (field_view field.now) < 2 ^ 32 }
-    requires own { place.own ≤ place.definition }
-    ensures reads { OnOk result (Visits (K.shows sink.old) (K.shows sink.new) tokens (ReadsField S.stands (field_view field.now) place sources.old sources.new)) }
-    ensures refused { IfErr result (IsRefusedFor S.stands S.refused sources.old sources.new (IsFieldFaulty (field_view field.now) place)) }
-    ensures kept { OnOk result (map S.refused sources.new ≡ map S.refused sources.old) }
-    ensures used { IfOk result (λ used. used ≡ count_leaves (field_view field.now)) }
-{
-    if let Field::Leaf { leaf_type, .. } = field {
-        match field.repetition() {
-            Repetition::Required => {
-                read_leaf(leaf_type, place, &mut sources[0], sink)?;
-                return Ok(1);
-            }
-            Repetition::Optional => {
-                read_optional(leaf_type, place, &mut sources[0], sink)?;
-                return Ok(1);
-            }
-            Repetition::Repeated => (),
-        }
-    }
-    read_field(field, place, sources, sink)
 }
 
 /// Shows the items of a list, one at least, and returns how many leaves the field has.

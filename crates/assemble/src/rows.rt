@@ -1,12 +1,13 @@
 //! Rows off the fronts of columns.
 
-ghost use Rattle.std.specs.Prelude.{◌≡◌, List, length, map, IfOk, OnOk, IfErr};
+ghost use Rattle.std.specs.Prelude.{◌≡◌, ◌<◌, List, length, map, IfOk, OnOk, IfErr};
 ghost use Rattle.bits.specs.Refusals.{OnFault, LimitJustWhere};
 ghost use Rattle.schema.specs.Values.{ValueTrees};
 ghost use Rattle.schema.specs.Views.{rows_view, columns_view};
 ghost use Rattle.assemble.specs.Columns.{Tells};
+ghost use Rattle.assemble.specs.Sinks.{Visits, tokens_each};
 ghost use Rattle.assemble.specs.Standing.{AllStand, AllSame, NoneStand, IsRefusedFor};
-ghost use Rattle.assemble.specs.RowsOf.{AreRowsOf, StandForRows, HasFault, NextRowTo, NextRow, IsTooLong, IsRefusedAs};
+ghost use Rattle.assemble.specs.RowsOf.{AreRowsOf, StandForRows, HasFault, IsNextRow, NextRowTo, NextRow, IsTooLong, IsRefusedAs};
 ghost use Rattle.assemble.specs.inner.Steps.{Ended, Filled};
 
 use crate::cursor::Cursor;
@@ -14,7 +15,7 @@ use crate::reading::{Place, has_item, read_fields};
 use crate::row_builder::RowBuilder;
 use crate::sink::{Discard, RowSink};
 use crate::source::EntrySource;
-use bits::{R, Refusal};
+use bits::{Fault, R, Refusal};
 use schema::{Column, Row, Schema};
 use std::alloc::Global;
 
@@ -47,6 +48,46 @@ pub fn next_row_to<S: EntrySource, K: RowSink>(
     };
     read_fields(schema.fields(), start, sources, sink)?;
     Ok(true)
+}
+
+/// Shows a sink the values of the next row, where the sources are known to stand for one at least: nothing
+/// is asked of them before the row is read.
+///
+/// It fails only when out of memory where they do. Where they do not, the fault says only that something
+/// else is wrong. After it the sink may have been shown a part of the row.
+// Each row comes through here: what is returned fits a register.
+#[inline(always)]
+pub fn next_known_row_to<S: EntrySource, K: RowSink>(
+    schema: &Schema,
+    sources: &mut [S],
+    sink: &mut K,
+) -> Result<(), Fault>
+    ensures row { OnOk result (Visits (K.shows sink.old) (K.shows sink.new) tokens_each (IsNextRow S.stands schema.now sources.old sources.new)) }
+    ensures known { IfErr result (λ f. (rows : List ValueTrees) → StandForRows S.stands sources.old schema.now rows → 0 < length rows → f ≡ Fault.Memory) }
+{
+    if sources.len() != schema.leaves().len() {
+        return Err(Fault::Levels);
+    }
+    let start = Place {
+        repetition: 0,
+        definition: 0,
+        own: 0,
+    };
+    match read_fields(schema.fields(), start, sources, sink) {
+        Ok(_) => Ok(()),
+        Err(refusal) => Err(fault_for(&refusal)),
+    }
+}
+
+/// Memory for Memory, and Levels for each other refusal.
+#[cold]
+fn fault_for(refusal: &Refusal) -> Fault
+    ensures { refusal.now ≡ Refusal.Memory → result ≡ Fault.Memory }
+{
+    match refusal {
+        Refusal::Memory => Fault::Memory,
+        _ => Fault::Levels,
+    }
 }
 
 /// The next row, or none at the end of all columns. The bytes of each value are copied once.

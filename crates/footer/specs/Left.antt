@@ -4,7 +4,7 @@ use Rattle.bits.specs.declared.refusal.Refusal.{Refusal}
 use Rattle.bits.specs.declared.refusal.Refusal.TheVariants.{Memory}
 use Rattle.schema.specs.Values.{ValueTrees}
 use Rattle.assemble.specs.Sinks.{Token}
-pub use Rattle.row_group.specs.Left.{TakesRow, TakesRowTo, ShowsFirst}
+pub use Rattle.row_group.specs.Left.{TakesRow, TakesRowTo, ShowsFirst, with_refusal}
 use Rattle.row_group.specs.Left.{rows_stand as rows_of_group_stand}
 use Rattle.row_group.specs.declared.rows.Rows.{Rows as GroupRows}
 pub use Rattle.footer.specs.Held.{GroupsHold}

@@ -8,7 +8,7 @@ ghost use Rattle.row_group.specs.Left.{TakesRow, TakesRowTo};
 
 use crate::groups_left::GroupsLeft;
 use assemble::{RowBuilder, RowSink};
-use bits::{R, Refusal};
+use bits::{Fault, R, Refusal};
 use schema::Row;
 use std::alloc::Global;
 
@@ -24,7 +24,7 @@ pub struct Rows<'a> {
 }
 
 impl<'a> Rows<'a> {
-    ghost use Rattle.footer.specs.Left.{rows_stand, TakesOfGroup, BeginsGroup};
+    ghost use Rattle.footer.specs.Left.{rows_stand, with_refusal, TakesOfGroup, BeginsGroup};
 
     /// Shows a sink the values of the next row. Returns false after the last row, however often it is
     /// asked, and then shows nothing.
@@ -65,14 +65,15 @@ impl<'a> Rows<'a> {
     }
 
     /// Shows a sink the next row of the group that was begun; false where none of it is left.
+    // Each row comes through here: what is returned fits a register.
     #[inline]
-    fn next_of_group<K: RowSink>(&mut self, sink: &mut K) -> R<bool>
-        ensures takes { TakesOfGroup self.old self.new (K.shows sink.old) (K.shows sink.new) result }
+    fn next_of_group<K: RowSink>(&mut self, sink: &mut K) -> Result<bool, Fault>
+        ensures takes { TakesOfGroup self.old self.new (K.shows sink.old) (K.shows sink.new) (with_refusal result) }
         ensures unshown { result ≡ Ok false → sink.new ≡ sink.old }
         ensures kept { self.new.others ≡ self.old.others }
     {
         match &mut self.group {
-            Some(group) => group.next_to(sink),
+            Some(group) => group.show_next(sink),
             None => Ok(false),
         }
     }

@@ -1,15 +1,15 @@
 -- The entries of a page, from their levels and their values.
-use Rattle.std.proofs.Common.{◌≡◌, ℕ, zero, suc, ◌+◌, ◌-◌, ◌<◌, Bool, true, false, List, [], ◌∷◌, length, filter, drop, replicate, Option, Some, None, refl, sym, ap, subst, ◌∙◌, arith, add-one}
+use Rattle.std.proofs.Common.{◌≡◌, ℕ, zero, suc, ◌+◌, ◌-◌, ◌<◌, Bool, true, false, List, [], ◌∷◌, map, length, filter, drop, replicate, Option, Some, None, refl, sym, ap, subst, ◌∙◌, arith, add-one}
 use Rattle.std.specs.Prelude.{◌==◌, slice_get, min, Ok, Err}
 use Rattle.std.proofs.lemmas.List.{length-drop}
 use Rattle.std.proofs.lemmas.Bool.Decides.{nat_tests}
-use Rattle.std.proofs.lemmas.Bool.{eqb-true}
 use Rattle.bits.specs.declared.fault.Fault.{Fault}
 use Rattle.bits.specs.declared.fault.Fault.TheVariants.{Memory}
 use Rattle.schema.specs.Values.{ValueTree}
 use Rattle.schema.specs.Stripe.{Entry}
 use Rattle.pages.specs.declared.page_values.PageValues.{PageValues}
-use Rattle.pages.specs.Left.{entry_by, values_after, entries_by, value_where, values_left, value_taken, TakesWhere, Shows, BeginsWithValue}
+use Rattle.pages.specs.Left.{entry_by, values_after, entries_by, value_where, values_left, value_taken, TakesWhere, Shows}
+use Rattle.pages.specs.Flat.{flat}
 
 -- ---- a level at an index
 
@@ -98,35 +98,18 @@ takes_entry g rs ds old new i r d o first second taken =
     first_entry g rs ds old i r d first second ∙ ap (λ (e : Entry). e ∷ entries_by g (drop (i + 1) rs) (drop (i + 1) ds) (values_after (d == g) old)) taken.entry
     ∙ ap (λ (t : List ValueTree). made r d o ∷ entries_by g (drop (i + 1) rs) (drop (i + 1) ds) t) taken.rest
 
--- ---- an entry with a value alone
+-- ---- entries without levels
 
--- the entry at the index has a value, and both of its levels are 0
-pub record IsAlone (g : ℕ) (rs ds : List ℕ) (vs : List ValueTree) (i : ℕ) : Type 0 where
-  pub repetition : slice_get rs i ≡ Some 0
-  pub definition : slice_get ds i ≡ Some 0
-  pub greatest : g ≡ 0
-  pub some : vs ≡ [] → ⊥
+-- where all levels are 0, and there is one for each value, the entries are those of the values
+flat_entries : (vs : List ValueTree) → entries_by 0 (replicate (length vs) 0) (replicate (length vs) 0) vs ≡ map flat vs
+flat_entries [] = refl
+flat_entries (v ∷ vs) = ap (λ (es : List Entry). flat v ∷ es) (flat_entries vs)
 
-pub alone_at : (g : ℕ) (rs ds : List ℕ) (vs : List ValueTree) (i : ℕ) → BeginsWithValue (entries_by g (drop i rs) (drop i ds) vs) → IsAlone g rs ds vs i
-alone_at g [] ds vs zero h = absurd h
-alone_at g [] ds vs (suc i) h = absurd h
-alone_at g (r ∷ rs) [] vs zero h = absurd h
-alone_at g (r ∷ rs) [] vs (suc i) h = absurd (subst BeginsWithValue (no_entries g (drop i rs) [] vs refl) h)
-alone_at g (r ∷ rs) (d ∷ ds) vs (suc i) h = let a = alone_at g rs ds vs i h in record { repetition = a.repetition; definition = a.definition; greatest = a.greatest; some = a.some }
-alone_at g (r ∷ rs) (d ∷ ds) vs zero h = by (d == g) refl vs h
-  where
-    by : (full : Bool) → (d == g) ≡ full → (vs : List ValueTree) → BeginsWithValue (entry_by full r d vs ∷ []) → IsAlone g (r ∷ rs) (d ∷ ds) vs zero
-    by true is [] h = absurd h.2
-    by true is (v ∷ vs) h = record { repetition = ap Some h.0; definition = ap Some h.1; greatest = sym (eqb-true d g is) ∙ h.1; some = λ e. cc }
-    by false is vs h = absurd h.2
-
--- its value is taken
-pub alone_taken : (g : ℕ) (rs ds : List ℕ) (old new : List ValueTree) (i : ℕ) (v : ValueTree) → g ≡ 0 → slice_get rs i ≡ Some 0 → slice_get ds i ≡ Some 0 → old ≡ v ∷ new
-    → entries_by g (drop i rs) (drop i ds) old ≡ record { repetition = 0; definition = 0; value = Some v } ∷ entries_by g (drop (i + 1) rs) (drop (i + 1) ds) new
-alone_taken g rs ds old new i v least first second is =
-    let full : (0 == g) ≡ true = ap (λ (k : ℕ). 0 == k) least in
-    let both = taken_full 0 0 old v new is in
-    takes_entry g rs ds old new i 0 0 (Some v) first second (subst (λ (b : Bool). IsTakenBy b 0 0 old (Some v) new) (sym full) (record { entry = both.0; rest = both.1 }))
+pub made_flat : (g n : ℕ) (rs ds : List ℕ) (plain vs : List ValueTree) → g ≡ 0 → rs ≡ replicate n 0 → ds ≡ replicate n 0 → n ≡ length plain → plain ≡ vs → map flat plain ≡ entries_by g rs ds vs
+made_flat g n rs ds plain vs least first second size same =
+    let zeros : (xs : List ℕ) → xs ≡ replicate n 0 → replicate (length plain) 0 ≡ xs = λ xs is. ap (λ (k : ℕ). replicate k 0) (sym size) ∙ sym is in
+    sym (flat_entries plain) ∙ ap (λ (xs : List ℕ). entries_by 0 xs (replicate (length plain) 0) plain) (zeros rs first) ∙ ap (λ (xs : List ℕ). entries_by 0 rs xs plain) (zeros ds second)
+    ∙ ap (λ (k : ℕ). entries_by k rs ds plain) (sym least) ∙ ap (λ (ws : List ValueTree). entries_by g rs ds ws) same
 
 -- ---- how many levels are one
 

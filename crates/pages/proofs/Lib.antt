@@ -24,4 +24,5 @@ pub mod EntriesOf
 pub mod ShortValues
 pub mod Bodies
 pub mod StoodBefore
+pub mod TextValues
 pub mod Worked

@@ -1,5 +1,5 @@
 -- The entries that a data page still has to give.
-use Rattle.std.specs.Prelude.{◌≡◌, ◌==◌, ℕ, Bool, true, false, List, [], ◌∷◌, map, drop, replicate, Option, Some, None, MatchOption, Result, Ok, Err}
+use Rattle.std.specs.Prelude.{◌≡◌, ◌==◌, ℕ, Bool, true, false, List, [], ◌∷◌, map, drop, replicate, Option, Some, None, Result, Ok, Err}
 use Rattle.bits.specs.declared.fault.Fault.{Fault}
 use Rattle.bits.specs.declared.fault.Fault.TheVariants.{Memory}
 use Rattle.schema.specs.Values.{ValueTree, bytes}
@@ -13,7 +13,10 @@ use Rattle.pages.specs.declared.level_list.LevelList.TheVariants.{Zeros, Listed 
 use Rattle.pages.specs.declared.page_values.PageValues.{PageValues}
 use Rattle.pages.specs.declared.page_values.PageValues.TheVariants.{Listed, Plain, Shared}
 use Rattle.pages.specs.declared.page_values.ListedValues.{ListedValues}
+use Rattle.pages.specs.declared.levelled_page.LevelledPage.{LevelledPage}
 use Rattle.pages.specs.declared.data_page.DataPage.{DataPage}
+use Rattle.pages.specs.declared.data_page.DataPage.TheVariants.{Flat, Levelled}
+use Rattle.pages.specs.Flat.{flat}
 
 -- the levels, one for each entry
 abbrev pub levels_of : LevelList → List ℕ
@@ -35,16 +38,6 @@ abbrev pub value_taken : PageValues → ValueTree
 value_taken (Listed values) = value_ref_view values.taken
 value_taken (Plain values) = last_plain_taken values
 value_taken (Shared values) = bytes (last_taken values)
-
--- the values are in PLAIN
-abbrev pub AreInPlain : PageValues → Type 0
-AreInPlain (Plain values) = Unit {0}
-AreInPlain _ = ⊥
-
--- one value in PLAIN is taken, or none of other values and at the end
-abbrev pub TakesPlainValue : PageValues → PageValues → Option ValueRef → Type 0
-TakesPlainValue old new (Some v) = values_left old ≡ value_ref_view v ∷ values_left new
-TakesPlainValue old new None = (values_left new ≡ values_left old) × (AreInPlain old → values_left old ≡ [])
 
 -- one value of a list is taken, or none at the end
 abbrev pub TakesListed : ListedValues → ListedValues → Bool → Type 0
@@ -78,18 +71,28 @@ abbrev pub entries_by : ℕ → List ℕ → List ℕ → List ValueTree → Lis
 entries_by greatest (r ∷ rs) (d ∷ ds) vs = entry_by (d == greatest) r d vs ∷ entries_by greatest rs ds (values_after (d == greatest) vs)
 entries_by greatest rs ds vs = []
 
+-- the entries with their levels that are not taken yet
+abbrev pub levelled_left : LevelledPage → List Entry
+levelled_left page = entries_by page.greatest (drop page.index (levels_of page.repetitions)) (drop page.index (levels_of page.definitions)) (values_left page.values)
+
 -- the entries that are not taken yet
 abbrev pub entries_left : DataPage → List Entry
-entries_left page = entries_by page.greatest (drop page.index (levels_of page.repetitions)) (drop page.index (levels_of page.definitions)) (values_left page.values)
+entries_left (Flat values) = map flat (plain_values_left values)
+entries_left (Levelled page) = levelled_left page
 
 -- the value of the entry that was taken last, where it has one
 abbrev pub value_where : Bool → ValueTree → Option ValueTree
 value_where true v = Some v
 value_where false v = None
 
+-- the entry with its levels that was taken last
+abbrev pub levelled_taken : LevelledPage → Entry
+levelled_taken page = record { repetition = page.repetition; definition = page.definition; value = value_where page.has_value (value_taken page.values) }
+
 -- the entry that was taken last
 abbrev pub entry_taken : DataPage → Entry
-entry_taken page = record { repetition = page.repetition; definition = page.definition; value = value_where page.has_value (value_taken page.values) }
+entry_taken (Flat values) = flat (last_plain_taken values)
+entry_taken (Levelled page) = levelled_taken page
 
 -- the first of the entries has these levels
 abbrev pub Shows : List Entry → Option (ℕ × ℕ) → Type 0
@@ -97,18 +100,24 @@ Shows es None = es ≡ []
 Shows [] (Some levels) = ⊥
 Shows (e ∷ es) (Some levels) = (e.repetition ≡ levels.0) × (e.definition ≡ levels.1)
 
+-- one entry with its levels is taken, or none at the end; out of memory, none is taken
+abbrev pub AdvancesLevelled : LevelledPage → LevelledPage → Result Bool Fault → Type 0
+AdvancesLevelled old new (Ok true) = levelled_left old ≡ levelled_taken new ∷ levelled_left new
+AdvancesLevelled old new (Ok false) = (levelled_left old ≡ []) × (levelled_left new ≡ [])
+AdvancesLevelled old new (Err fault) = (fault ≡ Memory) × (levelled_left new ≡ levelled_left old)
+
 -- one entry is taken, or none at the end; out of memory, none is taken
 abbrev pub Advances : DataPage → DataPage → Result Bool Fault → Type 0
 Advances old new (Ok true) = entries_left old ≡ entry_taken new ∷ entries_left new
 Advances old new (Ok false) = (entries_left old ≡ []) × (entries_left new ≡ [])
 Advances old new (Err fault) = (fault ≡ Memory) × (entries_left new ≡ entries_left old)
 
--- the first of the entries has a value, and both of its levels are 0
-abbrev pub BeginsWithValue : List Entry → Type 0
-BeginsWithValue [] = ⊥
-BeginsWithValue (e ∷ es) = (e.repetition ≡ 0) × (e.definition ≡ 0) × MatchOption e.value ⊥ (λ _. Unit {0})
+-- the values are in PLAIN, and all levels are 0
+abbrev pub IsFlat : DataPage → Type 0
+IsFlat (Flat values) = Unit {0}
+IsFlat (Levelled page) = ⊥
 
--- such an entry is taken, where the values are in PLAIN, and no other
+-- the first of the entries is taken, which has both levels 0 and this value; or none is, and a flat page has none left
 abbrev pub TakesPlain : DataPage → DataPage → Option ValueRef → Type 0
-TakesPlain old new (Some v) = entries_left old ≡ record { repetition = 0; definition = 0; value = Some (value_ref_view v) } ∷ entries_left new
-TakesPlain old new None = (entries_left new ≡ entries_left old) × (AreInPlain old.values → BeginsWithValue (entries_left old) → ⊥)
+TakesPlain old new (Some v) = entries_left old ≡ flat (value_ref_view v) ∷ entries_left new
+TakesPlain old new None = (entries_left new ≡ entries_left old) × (IsFlat old → entries_left old ≡ [])

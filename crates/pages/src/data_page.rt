@@ -3,24 +3,21 @@
 ghost use Rattle.std.specs.Prelude.{◌≡◌, length};
 
 use crate::level_list::LevelList;
+use crate::levelled_page::LevelledPage;
 use crate::page_values::PageValues;
 use bits::Fault;
+use plain::Values;
 use schema::{EntryRef, ValueRef};
 
 /// The entries of a data page that are not taken yet, in their order. All of them were checked when the
 /// page was read: taking one fails only when out of memory.
+// Most pages are flat: one test tells them apart, and their values are taken without a look at levels.
 #[derive(Debug, Drop)]
-pub struct DataPage<'a> {
-    repetitions: LevelList,
-    definitions: LevelList,
-    /// The leaf's greatest definition level: the entries at it have a value.
-    greatest: u32,
-    values: PageValues<'a>,
-    index: usize,
-    /// The entry that was taken last.
-    repetition: u32,
-    definition: u32,
-    has_value: bool,
+pub enum DataPage<'a> {
+    /// Values in PLAIN, each of an entry whose levels are 0.
+    Flat(Values<'a>),
+    /// All other entries.
+    Levelled(LevelledPage<'a>),
 }
 
 impl<'a> DataPage<'a> {
@@ -36,16 +33,13 @@ impl<'a> DataPage<'a> {
     ) -> DataPage<'a>
         ensures { entries_left result ≡ entries_by greatest (levels_of repetitions) (levels_of definitions) (values_left values.entry) }
     {
-        DataPage {
-            repetitions,
-            definitions,
-            greatest,
-            values,
-            index: 0,
-            repetition: 0,
-            definition: 0,
-            has_value: false,
+        if let PageValues::Plain(plain) = &values {
+            let count = plain.len();
+            if greatest == 0 && repetitions.are_zeros(count) && definitions.are_zeros(count) {
+                return DataPage::Flat(*plain);
+            }
         }
+        DataPage::Levelled(LevelledPage::of(greatest, repetitions, definitions, values))
     }
 
     /// How many entries are not taken yet.
@@ -53,8 +47,10 @@ impl<'a> DataPage<'a> {
     pub fn len(&self) -> usize
         ensures { result ≡ length (entries_left self.now) }
     {
-        let entries = self.repetitions.len().min(self.definitions.len());
-        entries.saturating_sub(self.index)
+        match self {
+            DataPage::Flat(values) => values.len(),
+            DataPage::Levelled(page) => page.len(),
+        }
     }
 
     /// The levels of the next entry, repetition first, or none at the end. No entry is taken.
@@ -62,11 +58,15 @@ impl<'a> DataPage<'a> {
     pub fn peek(&self) -> Option<(u32, u32)>
         ensures { Shows (entries_left self.now) result }
     {
-        let repetition = self.repetitions.get(self.index);
-        let definition = self.definitions.get(self.index);
-        match (repetition, definition) {
-            (Some(repetition), Some(definition)) => Some((repetition, definition)),
-            _ => None,
+        match self {
+            DataPage::Flat(values) => {
+                if values.len() == 0 {
+                    None
+                } else {
+                    Some((0, 0))
+                }
+            }
+            DataPage::Levelled(page) => page.peek(),
         }
     }
 
@@ -76,43 +76,22 @@ impl<'a> DataPage<'a> {
     pub fn advance(&mut self) -> Result<bool, Fault>
         ensures { Advances self.old self.new result }
     {
-        let repetition = self.repetitions.get(self.index);
-        let definition = self.definitions.get(self.index);
-        let (Some(repetition), Some(definition)) = (repetition, definition) else {
-            return Ok(false);
-        };
-        let is_full = definition == self.greatest;
-        self.has_value = self.values.advance_where(is_full)?;
-        self.repetition = repetition;
-        self.definition = definition;
-        self.index += 1;
-        Ok(true)
+        match self {
+            DataPage::Flat(values) => Ok(values.advance()),
+            DataPage::Levelled(page) => page.advance(),
+        }
     }
 
-    /// Takes the next entry where it has a value in PLAIN and both of its levels are 0, and returns the
-    /// value, which lies in the bytes of the chunk. Returns none for another entry, and at the end, and then
-    /// takes nothing. [`entry`](DataPage::entry) says nothing of an entry that is taken so.
+    /// Takes the next entry of a flat page and returns its value, which lies in the bytes of the chunk. Both
+    /// of its levels are 0. Returns none for another page, and at the end, and then takes nothing.
+    /// [`entry`](DataPage::entry) says nothing of an entry that is taken so.
     #[inline(always)]
     pub fn next_plain(&mut self) -> Option<ValueRef<'a>>
         ensures { TakesPlain self.old self.new result }
     {
-        if self.greatest != 0 {
-            return None;
-        }
-        let first = self.repetitions.is_zero(self.index);
-        let second = self.definitions.is_zero(self.index);
-        if !first {
-            return None;
-        }
-        if !second {
-            return None;
-        }
-        match self.values.next_plain() {
-            None => None,
-            Some(value) => {
-                self.index += 1;
-                Some(value)
-            }
+        match self {
+            DataPage::Flat(values) => values.next(),
+            DataPage::Levelled(_) => None,
         }
     }
 
@@ -122,15 +101,13 @@ impl<'a> DataPage<'a> {
     pub fn entry(&self) -> EntryRef<'_>
         ensures { entry_ref_view result ≡ entry_taken self.now }
     {
-        let value = if self.has_value {
-            Some(self.values.value())
-        } else {
-            None
-        };
-        EntryRef {
-            repetition: self.repetition,
-            definition: self.definition,
-            value,
+        match self {
+            DataPage::Flat(values) => EntryRef {
+                repetition: 0,
+                definition: 0,
+                value: Some(values.value()),
+            },
+            DataPage::Levelled(page) => page.entry(),
         }
     }
 }

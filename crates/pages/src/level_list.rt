@@ -1,6 +1,6 @@
 //! The levels of the entries of a page.
 
-ghost use Rattle.std.specs.Prelude.{◌≡◌, ℕ, ◌<◌, length, filter, ◌==◌, ◌↔◌, slice_get, Some, IfSome, IsTrue};
+ghost use Rattle.std.specs.Prelude.{◌≡◌, ◌<◌, length, filter, replicate, ◌==◌, slice_get, IfSome, IsTrue};
 
 /// One level for each entry of a page. Where all are 0, only their count is held.
 #[derive(Debug, Drop)]
@@ -24,15 +24,13 @@ impl LevelList {
         }
     }
 
-    /// Whether there is a level at an index, and it is 0.
-    #[inline(always)]
-    pub fn is_zero(&self, index: usize) -> bool
-        ensures level { IsTrue result ↔ (slice_get (levels_of self.now) index ≡ Some 0) }
-        ensures within { IsTrue result → index < usize.MAX }
+    /// Whether this many levels, all of them 0, are held by their count. False says nothing.
+    pub fn are_zeros(&self, count: usize) -> bool
+        ensures { IsTrue result → levels_of self.now ≡ replicate count 0 }
     {
-        match self.get(index) {
-            Some(level) => level == 0,
-            None => false,
+        match self {
+            LevelList::Zeros(own) => *own == count,
+            LevelList::Listed(_) => false,
         }
     }
 

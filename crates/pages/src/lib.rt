@@ -20,6 +20,7 @@ mod laws;
 mod level_list;
 mod level_reading;
 mod level_writing;
+mod levelled_page;
 mod limits;
 mod page;
 mod page_reading;

@@ -28,7 +28,7 @@ pub struct ListedValues<'a> {
 impl<'a> PageValues<'a> {
     ghost use Rattle.std.specs.Prelude.{map};
     ghost use Rattle.schema.specs.Borrowed.{value_ref_view};
-    ghost use Rattle.pages.specs.Left.{values_left, value_taken, TakesPlainValue, TakesValue, TakesWhere};
+    ghost use Rattle.pages.specs.Left.{values_left, value_taken, TakesValue, TakesWhere};
 
     /// These values, none of which is taken.
     pub fn of(values: Vec<ValueRef<'a>>) -> PageValues<'a>
@@ -51,18 +51,6 @@ impl<'a> PageValues<'a> {
             PageValues::Listed(values) => Ok(values.advance()),
             PageValues::Plain(values) => Ok(values.advance()),
             PageValues::Shared(values) => values.advance(),
-        }
-    }
-
-    /// Takes the next value and returns it, where the values are in PLAIN; none for other values, and at
-    /// the end. Then nothing is taken.
-    #[inline(always)]
-    pub fn next_plain(&mut self) -> Option<ValueRef<'a>>
-        ensures { TakesPlainValue self.old self.new result }
-    {
-        match self {
-            PageValues::Plain(values) => values.next(),
-            _ => None,
         }
     }
 

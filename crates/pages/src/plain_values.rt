@@ -1,25 +1,24 @@
 //! The values of a data page in PLAIN.
 
-ghost use Rattle.std.specs.Prelude.{◌≡◌, ◌⊎◌, All, IfOk, OnOk, Some, Err};
+ghost use Rattle.std.specs.Prelude.{◌≡◌, true, IfOk, OnOk, Some, Err};
 ghost use Rattle.bits.specs.Refusals.{OnFault, RefusedOnly};
-ghost use Rattle.schema.specs.Views.{leaf_type_view};
-ghost use Rattle.plain.specs.Plain.{IsOfKind};
-ghost use Rattle.plain.specs.ValuesLeft.{values_left as plain_values_left};
+ghost use Rattle.schema.specs.Annotations.{is_text};
+ghost use Rattle.schema.specs.Views.{annotation_view, leaf_type_view};
 ghost use Rattle.pages.specs.Left.{values_left};
 ghost use Rattle.pages.specs.Limits.{IsValueOver, IsOfPages};
-ghost use Rattle.pages.specs.inner.Reading.{AllFit, StandInAnyChunk, StandInNoChunk, RuledOut};
+ghost use Rattle.pages.specs.inner.Reading.{StandInAnyChunk, StandInNoChunk, RuledOut};
 
 use crate::encoding::Encoding;
 use crate::page_values::PageValues;
 use crate::standing::Standing;
-use crate::value_checks::check_value;
+use crate::value_checks::is_utf8;
 use bits::{R, Refusal};
-use plain::{Values, one_list, what_is_of_a_kind_fits_it};
+use plain::{Values, one_list, size_of_byte_array, what_is_of_a_kind_fits_it};
 use schema::LeafType;
 
 /// The first `count` values of the bytes, in PLAIN. They stay in the bytes and take no memory: one pass
-/// finds where byte values end, and one more checks those that should be text. Where they are known to
-/// stand, neither is made, and the time is constant.
+/// finds where byte values end, and checks those that should be text. Where they are known to stand, none
+/// is made, and the time is constant.
 pub fn read_plain<'a>(
     leaf_type: &LeafType,
     bytes: &'a [u8],
@@ -35,43 +34,50 @@ pub fn read_plain<'a>(
     ensures which { RefusedOnly IsOfPages result }
 {
     one_list();
-    match standing {
-        Standing::Known => {
-            let values = Values::known(leaf_type.kind, bytes, count);
-            Ok(PageValues::Plain(values))
-        }
-        Standing::Unknown => {
-            let (values, _) = Values::new(leaf_type.kind, bytes, count)?;
-            check_texts(leaf_type, values)?;
-            Ok(PageValues::Plain(values))
-        }
+    if let Standing::Unknown = standing {
+        check_plain(leaf_type, bytes, count)?;
     }
+    let values = Values::known(leaf_type.kind, bytes, count);
+    Ok(PageValues::Plain(values))
 }
 
-/// Refused Utf8 where values of the leaf's physical type should be text and one that is left is not.
-fn check_texts(leaf_type: &LeafType, values: Values<'_>) -> R<()>
-    requires { All (IsOfKind leaf_type.now.kind) (plain_values_left values) }
-    ensures fit { OnOk result (AllFit (leaf_type_view leaf_type.now) (plain_values_left values.entry)) }
-    ensures only { OnFault result (AllFit (leaf_type_view leaf_type.now) (plain_values_left values.entry) → ⊥) }
-    ensures which { RefusedOnly (λ e. (e ≡ Refusal.Value) ⊎ (e ≡ Refusal.Utf8)) result }
+/// Refused where the first `count` values do not stand in the bytes, or go beyond a limit.
+fn check_plain(leaf_type: &LeafType, bytes: &[u8], count: usize) -> R<()>
+    ensures stood { OnOk result (StandInNoChunk (leaf_type_view leaf_type.now) Encoding.Plain bytes.now count → ⊥) }
+    ensures within_limits { OnOk result (IsValueOver leaf_type.now.kind (Some Encoding.Plain) bytes.now count → ⊥) }
+    ensures only { OnFault result (StandInNoChunk (leaf_type_view leaf_type.now) Encoding.Plain bytes.now count) }
+    ensures limit { result ≡ Err Refusal.Limit → IsValueOver leaf_type.now.kind (Some Encoding.Plain) bytes.now count }
+    ensures which { RefusedOnly IsOfPages result }
 {
-    what_is_of_a_kind_fits_it();
     if leaf_type.is_text() {
-        return check_left(leaf_type, values);
+        return check_texts(leaf_type, bytes, count);
     }
+    what_is_of_a_kind_fits_it();
+    let _ = Values::new(leaf_type.kind, bytes, count)?;
     Ok(())
 }
 
-/// Refused where a value that is left is not the leaf's, as [`check_value`] refuses it.
-fn check_left(leaf_type: &LeafType, mut values: Values<'_>) -> R<()>
-    ensures fit { OnOk result (AllFit (leaf_type_view leaf_type.now) (plain_values_left values.entry)) }
-    ensures only { OnFault result (AllFit (leaf_type_view leaf_type.now) (plain_values_left values.entry) → ⊥) }
-    ensures which { RefusedOnly (λ e. (e ≡ Refusal.Value) ⊎ (e ≡ Refusal.Utf8)) result }
+/// Refused as [`check_plain`], where the values are texts: each is checked as its length is read.
+// A loop of its own over all texts of a page, with no more in it than is done for each.
+#[inline(never)]
+fn check_texts(_leaf_type: &LeafType, bytes: &[u8], count: usize) -> R<()>
+    requires { is_text _leaf_type.now.kind (annotation_view _leaf_type.now.annotation) ≡ true }
+    ensures stood { OnOk result (StandInNoChunk (leaf_type_view _leaf_type.now) Encoding.Plain bytes.now count → ⊥) }
+    ensures within_limits { OnOk result (IsValueOver _leaf_type.now.kind (Some Encoding.Plain) bytes.now count → ⊥) }
+    ensures only { OnFault result (StandInNoChunk (leaf_type_view _leaf_type.now) Encoding.Plain bytes.now count) }
+    ensures limit { result ≡ Err Refusal.Limit → IsValueOver _leaf_type.now.kind (Some Encoding.Plain) bytes.now count }
+    ensures which { RefusedOnly IsOfPages result }
 {
-    for _i in 0..values.len() {
-        if let Some(value) = values.next() {
-            check_value(leaf_type, value)?;
+    what_is_of_a_kind_fits_it();
+    let mut at = 0;
+    for _ in 0..count {
+        let rest = bytes.split_at(at).1;
+        let used = size_of_byte_array(rest)?;
+        let text = rest.split_at(4).1.split_at(used - 4).0;
+        if !is_utf8(text) {
+            return Err(Refusal::Utf8);
         }
+        at += used;
     }
     Ok(())
 }

@@ -107,7 +107,7 @@ fn has_length(bytes: &[u8], wanted: Option<u32>) -> bool
 
 /// Whether bytes are UTF-8. Short ASCII is found at once.
 #[inline(always)]
-fn is_utf8(bytes: &[u8]) -> bool
+pub fn is_utf8(bytes: &[u8]) -> bool
     ensures { result ≡ is_utf8 bytes.now }
 {
     is_short_ascii(bytes) || from_utf8(bytes).is_ok()

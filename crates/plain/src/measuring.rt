@@ -30,7 +30,10 @@ pub fn size_of_values(kind: Kind, bytes: &[u8], n: usize) -> R<usize>
     }
 }
 
-/// How many bytes the byte array at the start takes with its length.
+/// How many bytes the byte array at the start takes with its length, which are the first four of them.
+///
+/// Refused Limit exactly when more than 16 MiB are announced, and Truncated where the bytes end before it
+/// does. (parquet-format, Encodings.md, "Plain".)
 // Each byte array comes through here, and a refusal takes memory: the call is to leave no trace.
 #[inline(always)]
 pub fn size_of_byte_array(bytes: &[u8]) -> R<usize>

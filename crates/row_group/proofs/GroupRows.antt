@@ -6,7 +6,7 @@ use Rattle.bits.specs.declared.refusal.Refusal.TheVariants as refusal
 use Rattle.bits.specs.Refusals.{IsFault, HasCause}
 use Rattle.schema.specs.Values.{ValueTrees}
 use Rattle.schema.specs.Shape.{Fields}
-use Rattle.schema.specs.Stripe.{Leaf, Entry, leaves_of, columns}
+use Rattle.schema.specs.Stripe.{Leaf, leaves_of, columns}
 use Rattle.schema.specs.Law.{IsSchema, ColumnsDetermineRows}
 use Rattle.metadata.specs.Records.{ChunkMeta, GroupMeta}
 use Rattle.assemble.specs.Columns.{Columns, Tells}
@@ -18,9 +18,8 @@ use Rattle.row_group.specs.Chunks.{AreChunks, GroupMeans}
 use Rattle.row_group.specs.Greatest.{most_rows}
 use Rattle.row_group.specs.Limits.{IsGroupOver, many_rows, large_chunk, IsOfChunks}
 use Rattle.row_group.specs.Laws.{FilesHoldOneColumn}
-use Rattle.row_group.specs.Left.{reader_view, chunk_stands}
+use Rattle.row_group.specs.Left.{chunk_stands}
 use Rattle.row_group.specs.inner.Readers.{AreReaders, AreSound, HasRows, AreRowsOfGroup, CountsRows, refusal_kept}
-use Rattle.row_group.proofs.OneRest.{PagesAreOne, ChunksAreOne, one_reader}
 use Rattle.row_group.proofs.OneMeaning.{one_columns}
 use Rattle.row_group.proofs.InOrder.{sound_chunks, no_column_over}
 use Rattle.row_group.proofs.FirstRow.{same_first}
@@ -56,14 +55,6 @@ sound_others front (c ∷ cs) [] cols others h k = absurd k
 sound_others front (c ∷ cs) (l ∷ ls) [] others h k = absurd h
 sound_others front (c ∷ cs) (l ∷ ls) (fs ∷ cols) [] h k = absurd k
 sound_others front (c ∷ cs) (l ∷ ls) (fs ∷ cols) (es ∷ others) h k = ((k.0, h.0.1), sound_others front cs ls cols others h.1 k.1)
-
-pub stand_one : PagesAreOne → ChunksAreOne → (rs : List ChunkReader) (xs ys : Columns) → AllStand chunk_stands rs xs → AllStand chunk_stands rs ys → xs ≡ ys
-stand_one one chunks [] [] [] p q = refl
-stand_one one chunks [] [] (y ∷ ys) p q = absurd q
-stand_one one chunks [] (x ∷ xs) ys p q = absurd p
-stand_one one chunks (r ∷ rs) [] ys p q = absurd p
-stand_one one chunks (r ∷ rs) (x ∷ xs) [] p q = absurd q
-stand_one one chunks (r ∷ rs) (x ∷ xs) (y ∷ ys) p q = ap (λ (t : List Entry). t ∷ xs) (one_reader one chunks (reader_view r) x y p.0 q.0) ∙ ap (λ (t : Columns). y ∷ t) (stand_one one chunks rs xs ys p.1 q.1)
 
 -- ---- the group is accepted
 
@@ -141,19 +132,3 @@ row_taken fs schema old new row (r ∷ rs) some next s =
     let a = w.1.1.alone (r ∷ rs) s.fit refl in
     let e = same_first fs schema row r rs a.0 w.0 next.0 s.fit a.1.0 w.1.1.front a.1.1 in
     (rs, ap (λ (v : ValueTrees). v ∷ rs) (sym e.0), record { fit = s.fit.1; stand = subst (AllStand chunk_stands new) e.1 w.1.0 })
-
-pub no_row_left : PagesAreOne → ChunksAreOne → ColumnsDetermineRows → (fs : Fields) → IsSchema fs → (old : List ChunkReader) (rows : List ValueTrees) → AllStand chunk_stands old (columns fs []) → StandForRows chunk_stands old fs rows → rows ≡ []
-no_row_left one chunks determine fs schema old rows none s = determine fs rows [] schema s.fit tt (stand_one one chunks old (columns fs rows) (columns fs []) s.stand none)
-
-pub only_memory : (fs : Fields) (old new : List ChunkReader) (e : Refusal) → IsRefusedFor chunk_stands refusal_kept old new (HasFault fs) e → (rows : List ValueTrees) → StandForRows chunk_stands old fs rows → e ≡ refusal.Memory
-only_memory fs old new e refused rows s = by e (told refused) (λ fault. only_faults chunk_stands refusal_kept old new fs e refused fault rows s)
-  where
-    told : IsRefusedFor chunk_stands refusal_kept old new (HasFault fs) e → Tells (Unit {0}) (Unit {0}) e
-    told (inl h) = absurd (h.1 (columns fs rows) s.stand)
-    told (inr h) = h.1.0
-
-    by : (e : Refusal) → Tells (Unit {0}) (Unit {0}) e → (IsFault e → ⊥) → e ≡ refusal.Memory
-    by refusal.Memory t none = refl
-    by refusal.Levels t none = absurd (none tt)
-    by refusal.Value t none = absurd (none tt)
-    by _ t none = absurd t

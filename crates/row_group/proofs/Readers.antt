@@ -5,7 +5,7 @@ use Rattle.bits.specs.declared.fault.Fault.{Fault}
 use Rattle.bits.specs.declared.fault.Fault.TheVariants as fault
 use Rattle.bits.specs.declared.refusal.Refusal.{Refusal}
 use Rattle.bits.specs.declared.refusal.Refusal.TheVariants as refusal
-use Rattle.std.specs.Prelude.{MatchOption}
+use Rattle.std.specs.Prelude.{MatchOption, is_some}
 use Rattle.std.proofs.lemmas.Bool.{false≢true}
 use Rattle.schema.specs.declared.borrowed.ValueRef.{ValueRef}
 use Rattle.schema.specs.declared.borrowed.EntryRef.{EntryRef}
@@ -102,6 +102,12 @@ refused r pages fault.Limit sound none p = let n = nothing_short r p in (again r
 refused r pages f sound none p = let n = nothing_stands r p.1 in (again r f sound n (λ e. cc), same_nothing r pages f n, refl)
 
 -- ---- an entry is taken
+
+-- where a page is held, none was refused
+pub no_fault : (fault : Option Fault) (page : Option DataPage) (held : DataPage) → page ≡ Some held → (is_some fault && is_some page) ≡ false → fault ≡ None
+no_fault None page held is none = refl
+no_fault (Some f) None held is none = cc
+no_fault (Some f) (Some page) held is none = cc
 
 abbrev Filled : ReaderLeft → ReaderLeft → Type 0
 Filled old new = Fills old new (Ok tt)

@@ -1,19 +1,23 @@
 -- Rows that are taken one by one.
-use Rattle.std.proofs.Common.{◌≡◌, ◌-◌, List, [], ◌∷◌, length, Bool, true, false, Some, Result, Ok, refl, sym, ap, subst, ◌∙◌, arith}
-use Rattle.bits.specs.declared.refusal.Refusal.{Refusal}
+use Rattle.std.proofs.Common.{◌≡◌, ◌-◌, ◌<◌, List, [], ◌∷◌, length, true, false, Some, Ok, refl, sym, ap, subst, ◌∙◌, arith}
+use Rattle.bits.specs.Faults.{refusal_of}
+use Rattle.bits.specs.declared.fault.Fault.{Fault}
+use Rattle.bits.specs.declared.fault.Fault.TheVariants as fault
+use Rattle.bits.specs.Faults.{refusal_of}
+use Rattle.bits.specs.declared.fault.Fault.{Fault}
+use Rattle.bits.specs.declared.fault.Fault.TheVariants as fault
+use Rattle.bits.specs.declared.refusal.Refusal.TheVariants.{Memory}
 use Rattle.schema.specs.declared.row.Row.{Row}
 use Rattle.schema.specs.Values.{ValueTrees}
 use Rattle.schema.specs.Shape.{Fields}
-use Rattle.schema.specs.Law.{IsSchema, ColumnsDetermineRows}
+use Rattle.schema.specs.Law.{IsSchema}
 use Rattle.schema.specs.Views.{row_view}
-use Rattle.assemble.specs.Sinks.{Token, tokens_each}
-use Rattle.assemble.specs.RowsOf.{StandForRows, NextRowTo}
+use Rattle.assemble.specs.Sinks.{Token, Visits, tokens_each}
+use Rattle.assemble.specs.RowsOf.{StandForRows, IsNextRow}
 use Rattle.row_group.specs.declared.chunk_reader.ChunkReader.{ChunkReader}
 use Rattle.row_group.specs.declared.rows.Rows.{Rows}
 use Rattle.row_group.specs.Left.{chunk_stands, RowsStand, rows_stand, TakesRow, TakesRowTo}
-use Rattle.row_group.specs.inner.Readers.{refusal_kept}
-use Rattle.row_group.proofs.OneRest.{PagesAreOne, ChunksAreOne}
-use Rattle.row_group.proofs.GroupRows.{row_taken, no_row_left}
+use Rattle.row_group.proofs.GroupRows.{row_taken}
 
 -- what stays, and what the readers are now
 pub record IsNext (old new : Rows) (later : List ChunkReader) : Type 0 where
@@ -22,13 +26,14 @@ pub record IsNext (old new : Rows) (later : List ChunkReader) : Type 0 where
   pub left : new.left ≡ old.left - 1
   pub whole : new.is_broken ≡ old.is_broken
 
-pub takes_to : PagesAreOne → ChunksAreOne → ColumnsDetermineRows → {K : Type 0} (shows : K → List Token → Type 0) (from to : K) (old new : Rows) (mid later : List ChunkReader) (b : Bool) → (old.left ≡ 0 → ⊥) → mid ≡ old.readers.items → IsNext old new later
-    → NextRowTo chunk_stands refusal_kept shows old.schema.now mid later from to (Ok b) → TakesRowTo (rows_stand old) (rows_stand new) (shows from) (shows to) (Ok b)
-takes_to one chunks determine shows from to old new mid later true some same is next = λ rows s.
+-- the row that was shown is the first of those that stood
+pub takes_to : (from to : List Token → Type 0) (old new : Rows) (mid later : List ChunkReader) → (old.left ≡ 0 → ⊥) → mid ≡ old.readers.items → IsNext old new later
+    → Visits from to tokens_each (IsNextRow chunk_stands old.schema.now mid later) → TakesRowTo (rows_stand old) (rows_stand new) from to (Ok true)
+takes_to from to old new mid later some same is next = λ rows s.
     let stood = subst (λ (rs : List ChunkReader). StandForRows chunk_stands rs old.schema.now rows) (sym same) s.columns in
     let size = s.count in
-    let row = next.1.0 in
-    let t = row_taken old.schema.now s.schema mid later row rows (omega (arith, size, some)) next.1.1.0 stood in
+    let row = next.0 in
+    let t = row_taken old.schema.now s.schema mid later row rows (omega (arith, size, some)) next.1.0 stood in
     let more : length rows ≡ length (row ∷ t.0) = ap (λ (r : List ValueTrees). length r) t.1 in
     let left = is.left in
     record {
@@ -41,20 +46,15 @@ takes_to one chunks determine shows from to old new mid later true some same is 
         count = omega (arith, size, more, left);
         columns = subst (λ (fs : Fields). StandForRows chunk_stands new.readers.items fs t.0) (sym is.schema) (subst (λ (rs : List ChunkReader). StandForRows chunk_stands rs old.schema.now t.0) (sym is.readers) t.2);
       };
-      shown = next.1.1.1;
+      shown = next.1.1;
     }
-takes_to one chunks determine shows from to old new mid later false some same is next = λ rows s.
-    let stood = subst (λ (rs : List ChunkReader). StandForRows chunk_stands rs old.schema.now rows) (sym same) s.columns in
-    let none = no_row_left one chunks determine old.schema.now s.schema mid rows next.1.0 stood in
-    let size = s.count in
-    let empty = ap (λ (r : List ValueTrees). length r) none in
-    absurd (some (omega (arith, size, empty)))
 
--- where no row is shown, nothing is
-pub unshown : {K : Type 0} (shows : K → List Token → Type 0) (fs : Fields) (mid later : List ChunkReader) (from to : K) (b : Bool)
-    → NextRowTo chunk_stands refusal_kept shows fs mid later from to (Ok b) → ◌≡◌ {A = Result Bool Refusal} (Ok b) (Ok false) → to ≡ from
-unshown shows fs mid later from to true next is = cc
-unshown shows fs mid later from to false next is = next.1.1.1
+-- a row is left, so that only memory is refused
+pub only_memory : (old : Rows) (mid : List ChunkReader) (f : Fault) → (old.left ≡ 0 → ⊥) → mid ≡ old.readers.items
+    → ((rows : List ValueTrees) → StandForRows chunk_stands mid old.schema.now rows → 0 < length rows → f ≡ fault.Memory) → (rows : List ValueTrees) → rows_stand old rows → refusal_of f ≡ Memory
+only_memory old mid f some same known rows s =
+    let size = s.count in
+    ap refusal_of (known rows (subst (λ (rs : List ChunkReader). StandForRows chunk_stands rs old.schema.now rows) (sym same) s.columns) (omega (arith, size, some)))
 
 -- where no row is left
 pub takes_none : (from to : List Token → Type 0) (r : Rows) → r.left ≡ 0 → TakesRowTo (rows_stand r) (rows_stand r) from to (Ok false)

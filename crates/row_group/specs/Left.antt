@@ -1,5 +1,6 @@
 -- What readers of chunks and groups still have to give.
 use Rattle.std.specs.Prelude.{◌≡◌, ◌↔◌, ℕ, Bool, true, false, List, [], ◌∷◌, ◌++◌, length, Option, None, Some, Result, Ok, Err}
+use Rattle.bits.specs.Faults.{refusal_of}
 use Rattle.bits.specs.declared.fault.Fault.{Fault}
 use Rattle.bits.specs.declared.refusal.Refusal.{Refusal}
 use Rattle.bits.specs.declared.refusal.Refusal.TheVariants.{Memory}
@@ -83,3 +84,8 @@ abbrev pub TakesRowTo : (List ValueTrees → Type 0) → (List ValueTrees → Ty
 TakesRowTo S T from to (Ok true) = (rows : List ValueTrees) → S rows → ShowsFirst T from to rows
 TakesRowTo S T from to (Ok false) = (rows : List ValueTrees) → S rows → (rows ≡ []) × T []
 TakesRowTo S T from to (Err e) = (rows : List ValueTrees) → S rows → e ≡ Memory
+
+-- what is returned, with a refusal in place of a fault
+abbrev pub with_refusal : Result Bool Fault → Result Bool Refusal
+with_refusal (Ok b) = Ok b
+with_refusal (Err fault) = Err (refusal_of fault)

@@ -1,6 +1,6 @@
 //! The entries of a chunk, one by one.
 
-ghost use Rattle.std.specs.Prelude.{◌≡◌, ◌≢◌, ◌<ℤ◌, pos, List, [], length, true, None, IfOk, Err, option_map};
+ghost use Rattle.std.specs.Prelude.{◌≡◌, ◌≢◌, ◌<ℤ◌, ◌&&◌, pos, List, [], length, true, false, IfOk, Err, option_map, is_some};
 ghost use Rattle.bits.specs.Faults.{refusal_of};
 ghost use Rattle.bits.specs.Refusals.{OnFault, RefusedOnly};
 ghost use Rattle.bits.specs.Codec.{NothingStands};
@@ -41,6 +41,8 @@ pub struct ChunkReader<'a> {
     ghost of_leaf: { values_fit (leaf_type_view pages.leaf.now.leaf_type) (page_left page) ≡ true },
     /// What is left of an accepted chunk stands.
     ghost accepted: { AcceptedWhere is_accepted (pages_view pages) },
+    /// No page is held where a page was refused, so that a page is used without a look at the fault.
+    ghost no_page_refused: { (is_some fault && is_some page) ≡ false },
 }
 
 impl<'a> ChunkReader<'a> {
@@ -89,9 +91,6 @@ impl<'a> ChunkReader<'a> {
     fn fill(&mut self) -> Result<(), Fault>
         ensures { Fills (reader_view self.old) (reader_view self.new) result }
     {
-        if let Some(fault) = self.fault {
-            return Err(fault);
-        }
         if self.page_len() > 0 {
             return Ok(());
         }
@@ -99,15 +98,17 @@ impl<'a> ChunkReader<'a> {
     }
 
     /// Reads the next page with entries, where none is left of the page that was read last. Refused with
-    /// the fault of a page, which is kept unless it is Memory.
+    /// the fault that is kept, or with that of a page, which is kept unless it is Memory.
     // Once a page: kept apart, so that what is done for each entry stays small.
     #[cold]
     #[inline(never)]
     fn read_next_page(&mut self) -> Result<(), Fault>
-        requires sound { self.old.fault ≡ None }
-        requires ended { page_left self.old.page ≡ [] }
+        requires { page_left self.old.page ≡ [] }
         ensures { Fills (reader_view self.old) (reader_view self.new) result }
     {
+        if let Some(fault) = self.fault {
+            return Err(fault);
+        }
         self.page = None;
         match self.pages.next_page(self.is_accepted) {
             Ok(page) => {
@@ -121,14 +122,11 @@ impl<'a> ChunkReader<'a> {
         }
     }
 
-    /// The levels of the next entry, where the page that was read last has it and no fault is kept.
+    /// The levels of the next entry, where the page that was read last has it.
     #[inline(always)]
     fn peek_page(&self) -> Option<(u32, u32)>
         ensures { PeeksPage (reader_view self.now) result }
     {
-        if let Some(_) = self.fault {
-            return None;
-        }
         match &self.page {
             Some(page) => page.peek(),
             None => None,
@@ -162,16 +160,12 @@ impl<'a> ChunkReader<'a> {
     ghost use Rattle.row_group.specs.inner.Readers.{GivesPlain, AdvancesReader, last_taken};
 
     /// Takes the next entry where the page that was read last gives it in PLAIN with both levels 0, and
-    /// returns its value. Returns none for another entry, at the end of that page, and where a fault is
-    /// kept, and then takes nothing.
+    /// returns its value. Returns none for another entry, and at the end of that page, and then takes nothing.
     // Most values of columns without levels come through here: no more is looked at than for one value.
     #[inline(always)]
     fn next_plain(&mut self) -> Option<ValueRef<'a>>
         ensures { GivesPlain (reader_view self.old) (reader_view self.new) result }
     {
-        if let Some(_) = self.fault {
-            return None;
-        }
         match &mut self.page {
             Some(page) => page.next_plain(),
             None => None,

@@ -7,7 +7,7 @@ ghost use Rattle.schema.specs.Views.{rows_view};
 ghost use Rattle.metadata.specs.Views.{group_meta_view};
 ghost use Rattle.row_group.specs.Chunks.{GroupMeans};
 ghost use Rattle.row_group.specs.Limits.{IsChunkOver, IsGroupOver, HasColumn, BeginsWith, HasCodec, IsOfChunks, IsReadable};
-ghost use Rattle.row_group.specs.Left.{rows_stand, is_broken, TakesRow, TakesRowTo};
+ghost use Rattle.row_group.specs.Left.{rows_stand, is_broken, with_refusal, TakesRow, TakesRowTo};
 ghost use Rattle.row_group.specs.inner.Readers.{HasRows, AreRowsOfGroup};
 ghost use Rattle.row_group.specs.inner.Counts.{HaveCounts};
 
@@ -16,10 +16,11 @@ use crate::counts::count_of;
 use crate::group_chunks::{check_chunks, readers_of};
 use crate::laws::one_meaning;
 use crate::limits::MOST_ROWS_OF_GROUP;
-use assemble::{RowBuilder, RowSink, count_rows, flat_columns_have_rows, is_flat, next_row_to};
-use bits::{R, Refusal};
+use assemble::{
+    RowBuilder, RowSink, count_rows, flat_columns_have_rows, is_flat, next_known_row_to,
+};
+use bits::{Fault, R, Refusal};
 use metadata::GroupMeta;
-use pages::one_page;
 use schema::{Row, Schema, columns_determine_rows};
 use std::alloc::Global;
 
@@ -112,22 +113,36 @@ impl<'a> Rows<'a> {
         ensures breaks { result ≡ Err Refusal.Memory → is_broken self.new ≡ true }
         ensures broken { is_broken self.old ≡ true → result ≡ Err Refusal.Memory }
     {
+        match self.show_next(sink) {
+            Ok(is_shown) => Ok(is_shown),
+            Err(fault) => Err(Refusal::from(fault)),
+        }
+    }
+
+    /// Shows a sink the values of the next row as [`next_to`](Rows::next_to) does. A fault is the refusal of
+    /// that call, and owns no memory.
+    // Each row of a file comes through here: what is returned fits a register.
+    #[inline(always)]
+    pub fn show_next<K: RowSink>(&mut self, sink: &mut K) -> Result<bool, Fault>
+        ensures takes { TakesRowTo (rows_stand self.old) (rows_stand self.new) (K.shows sink.old) (K.shows sink.new) (with_refusal result) }
+        ensures unshown { result ≡ Ok false → sink.new ≡ sink.old }
+        ensures breaks { IfErr result (λ _. is_broken self.new ≡ true) }
+        ensures broken { is_broken self.old ≡ true → result ≡ Err Fault.Memory }
+    {
         if self.is_broken {
-            return Err(Refusal::Memory);
+            return Err(Fault::Memory);
         }
         if self.left == 0 {
             return Ok(false);
         }
-        one_page();
-        columns_determine_rows();
-        match next_row_to(self.schema, self.readers.as_mut_slice(), sink) {
-            Ok(is_shown) => {
+        match next_known_row_to(self.schema, self.readers.as_mut_slice(), sink) {
+            Ok(()) => {
                 self.left -= 1;
-                Ok(is_shown)
+                Ok(true)
             }
-            Err(refusal) => {
+            Err(fault) => {
                 self.is_broken = true;
-                Err(refusal)
+                Err(fault)
             }
         }
     }

@@ -6,6 +6,7 @@ use Rattle.schema.specs.Annotations.{LeafType}
 use Rattle.schema.specs.declared.value.Repetition.{Repetition}
 use Rattle.schema.specs.declared.value.Repetition.TheVariants.{Repeated}
 use Rattle.schema.specs.Values.{ValueTree, null, list, no_values}
+use Rattle.schema.specs.Shape.{Field, leaf}
 use Rattle.schema.specs.Fits.{fits_leaf}
 use Rattle.schema.specs.Stripe.{Entry, entry}
 use Rattle.assemble.specs.Sources.{Stands, Begins, NothingStands, Precede}
@@ -24,6 +25,12 @@ pub record ReadsLeaf (t : LeafType) (r d : ℕ) (S T : Stands) (v : ValueTree) :
 -- it is there, one level deeper, or it is null and the next entry, which is taken, has these levels and no value
 abbrev pub ReadsOptional : LeafType → ℕ → ℕ → Stands → Stands → ValueTree → Type 0
 ReadsOptional t r d S T v = ReadsLeaf t r (d + 1) S T v ⊎ ((v ≡ null) × Precede (entry r d None) S T)
+
+-- a REQUIRED or OPTIONAL leaf
+abbrev pub is_single : Field → Bool
+is_single (leaf n Repeated t) = false
+is_single (leaf n x t) = true
+is_single _ = false
 
 -- the value of a field that is missing
 abbrev pub missing_value : Repetition → ValueTree

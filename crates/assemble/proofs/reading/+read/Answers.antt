@@ -1,32 +1,33 @@
-use Rattle.std.proofs.Common.{rules, suc, add-one, drop, ◌-◌, ◌≡◌, ℕ, ◌+◌, ◌<◌, ◌≤◌, ◌^◌, [], length, get_or, true, false, string_bytes, ap, sym, subst, ◌∙◌, arith, drop_of_length-le, refl}
+use Rattle.std.proofs.Common.{List, rules, suc, add-one, drop, ◌-◌, ◌≡◌, ℕ, ◌+◌, ◌<◌, ◌≤◌, ◌^◌, [], length, true, false, string_bytes, ap, sym, subst, ◌∙◌, arith, drop_of_length-le, refl}
 use Rattle.std.proofs.lemmas.List.{append-nil}
 use Rattle.std.proofs.Math.ListN.{set}
 use Rattle.std.proofs.lemmas.Result.{IfOk-weaker, IfErr-weaker, on_ok_weaker}
 use borrow.Rule.Slice.PartMut.{put_mid, mid_of}
 use Rattle.bits.specs.Faults.{refusal_of}
-use Rattle.schema.specs.declared.value.Repetition.TheVariants.{Optional}
-use Rattle.schema.specs.Values.{no_values, value as item}
+use Rattle.schema.specs.declared.value.Repetition.TheVariants.{Required, Optional, Repeated}
+use Rattle.schema.specs.Stripe.{Entry}
+use Rattle.schema.specs.Values.{ValueTree, ValueTrees, no_values, value as item}
 use Rattle.schema.specs.Views.{field_view, field_views, leaf_type_view}
-use Rattle.schema.specs.Shape.{Field, fields, repetition_of}
+use Rattle.schema.specs.Shape.{Field, leaf, fields, Fields, field as one}
 use Rattle.schema.specs.Law.{IsValid, AreValid}
 use Rattle.schema.specs.Reading.{tallest, count_leaves, count_leaves_each}
 use Rattle.schema.proofs.Forest.{field_place}
-use Rattle.assemble.specs.Sinks.{Adds, Visits, tokens, tokens_each}
+use Rattle.assemble.specs.Sinks.{Token, Adds, Visits, tokens, tokens_each}
 use Rattle.assemble.specs.Columns.{Columns}
 use Rattle.assemble.specs.Standing.{AllStand, Onward, Backward, IsRefusedFor}
 use Rattle.assemble.specs.inner.Building.{snoc}
 use Rattle.assemble.specs.inner.Fronts.{stripes, stripes_inside, stripes_items, stripes_each, wants, wants_inside, wants_each, Fit, FitInside, FitItems, FitEach}
 use Rattle.assemble.specs.inner.ReadValues.{Reads, IsFaulty}
-use Rattle.assemble.specs.inner.Steps.{missing_value, IsOptionalFaulty, IsSkipFaulty, IsMissing, HasItem, NoneLeft, first_of}
+use Rattle.assemble.specs.inner.Steps.{is_single, missing_value, IsSkipFaulty, IsMissing, HasItem, NoneLeft, first_of}
 use Rattle.assemble.proofs.Starting.{has_leaf}
 use Rattle.schema.proofs.CutSteps.{count_is}
 use Rattle.assemble.proofs.Readings.{faulty_required, faulty_present, faulty_list, faulty_missing, faulty_nothing, optional_is}
-use Rattle.assemble.proofs.Standing.{same_self, stand_on, stand_get, stand_length, part_stands, among_put, refused_up, refused_same, refused_at, refused_ok, none_ok}
-use Rattle.assemble.proofs.Groups.{faulty_group, faulty_optional_at}
+use Rattle.assemble.proofs.Standing.{same_self, stand_on, part_stands, among_put, refused_up, refused_same, refused_ok, none_ok}
+use Rattle.assemble.proofs.Groups.{faulty_group}
 use Rattle.assemble.proofs.Items as items
 use Rattle.assemble.proofs.Items.{one_more}
 use Rattle.assemble.proofs.Each as each
-use Rattle.assemble.proofs.Taking.{reads_required, reads_present, reads_list, reads_group, reads_missing, reads_leaf, reads_optional, each_onward, each_backward, first_onward, first_backward, next_onward, next_backward, reads_items}
+use Rattle.assemble.proofs.Taking.{reads_required, reads_present, reads_list, reads_group, reads_missing, reads_leaf, each_onward, each_backward, first_onward, first_backward, next_onward, next_backward, reads_items}
 use Rattle.schema.proofs.Slices.{map_kept}
 use Rattle.schema.proofs.OneLevel.{view_leaf, view_fields}
 use Rattle.assemble.proofs.Showing.{adds_then, adds_none, tokens_snoc, visits_up, visits_group, visits_list}
@@ -194,8 +195,8 @@ read_fields-loop-field-init g t c =
       size = refl;
     }
 
-pub read_fields-returns-in_err-used-clause-refused : goal.read_fields-returns-in_err-used-clause-refused
-read_fields-returns-in_err-used-clause-refused g t c =
+pub read_fields-returns-in_err-read_single-clause-refused : goal.read_fields-returns-in_err-read_single-clause-refused
+read_fields-returns-in_err-read_single-clause-refused g t c =
     let S = g.S.EntrySource.stands in
     let R = g.S.EntrySource.refused in
     let fs = c.args.fields.now in
@@ -206,11 +207,11 @@ read_fields-returns-in_err-used-clause-refused g t c =
     let k = c.args.place.own in
     let old = c.args.sources.now in
     let xs = c.loop-field.sources in
-    let ys = c.read_next.new.sources in
+    let ys = c.read_single.new.sources in
     let used = c.loop-field.used in
     let seen = c.loop-field.invariant.seen in
     let vs = seen.0 in
-    let e = c.in_err-used.field-0.0 in
+    let e = refusal_of c.in_err-read_single.field-0.0 in
     let counts = c.loop-field.invariant.counts in
     let fits = c.requires.room in
     let size = c.loop-field.invariant.size in
@@ -223,7 +224,105 @@ read_fields-returns-in_err-used-clause-refused g t c =
     let w = seen.1.1.0 cs s in
     let so = subst (λ gs. each.SoFar (field_views fs) gs r d k cs w.0 used vs) place w.1.1 in
     (drop used w.0, (part_stands S used xs w.0 room w.1.0, each.faulty (field_views fs) (field_view f) (field_views (drop (i + 1) fs)) r d k cs w.0 used vs e so)))
+    c.in_err-read_single.ensures.refused)
+
+pub read_fields-returns-in_err-used-clause-refused : goal.read_fields-returns-in_err-used-clause-refused
+read_fields-returns-in_err-used-clause-refused g t c =
+    let S = g.S.EntrySource.stands in
+    let R = g.S.EntrySource.refused in
+    let fs = c.args.fields.now in
+    let i = c.loop-field.field-index in
+    let f = c.field-item.result in
+    let r = c.args.place.repetition in
+    let d = c.args.place.definition in
+    let k = c.args.place.own in
+    let old = c.args.sources.now in
+    let xs = c.loop-field.sources in
+    let ys = c.read_field.new.sources in
+    let used = c.loop-field.used in
+    let seen = c.loop-field.invariant.seen in
+    let vs = seen.0 in
+    let e = c.in_err-used.field-0.0 in
+    let counts = c.loop-field.invariant.counts in
+    let fits = c.requires.room in
+    let size = c.loop-field.invariant.size in
+    let room : used ≤ length xs = omega (arith, counts, fits, size) in
+    let place = field_place fs i f (omega arith) c.field-item.is in
+    refused_ok _ c.from_residual-in_err-used.result e c.from_residual-in_err-used.ensures.1
+    (refused_up S R old (put_mid used (length xs - used) xs ys) (mid_of used (length xs - used) xs) ys (IsFaulty (Fit (field_view f)) (stripes (field_view f) r d k) k (wants (field_view f) d)) (IsFaulty (FitEach (field_views fs)) (stripes_each (field_views fs) r d k) k (wants_each (field_views fs) d)) e
+    (among_put R used xs ys e room) (λ k. map_kept R used xs ys room k ∙ c.loop-field.invariant.kept)
+    (λ cs s.
+    let w = seen.1.1.0 cs s in
+    let so = subst (λ gs. each.SoFar (field_views fs) gs r d k cs w.0 used vs) place w.1.1 in
+    (drop used w.0, (part_stands S used xs w.0 room w.1.0, each.faulty (field_views fs) (field_view f) (field_views (drop (i + 1) fs)) r d k cs w.0 used vs e so)))
     c.in_err-used.ensures.refused)
+
+-- the values so far, and those of the fields that are left
+abbrev SeenTo : {A : Type 0} → (A → List Entry → Type 0) → Fields → Fields → ℕ → ℕ → ℕ → List A → List A → ℕ → ValueTrees → (List Token → Type 0) → (List Token → Type 0) → Type 0
+SeenTo S all gs r d k old now used vs from to =
+    each.WholeFit all gs vs × (Onward S old now (λ b a. each.SoFar all gs r d k b a used vs) × (Backward S old now (each.Whole all gs r d k used vs) × Adds from to (tokens_each vs)))
+
+seen_more : {A : Type 0} (S : A → List Entry → Type 0) (all : Fields) (fv : Field) (rest : Fields) (r d k : ℕ) (old xs ys : List A) (used count : ℕ) (vs : ValueTrees) (v : ValueTree) (from mid to : List Token → Type 0)
+    → used ≤ length xs → count ≡ count_leaves fv → SeenTo S all (one fv rest) r d k old xs used vs from mid → Reads S (Fit fv) (stripes fv r d k) k (mid_of used (length xs - used) xs) ys v → Adds mid to (tokens v)
+    → SeenTo S all rest r d k old (put_mid used (length xs - used) xs ys) (used + count) (snoc vs v) from to
+seen_more S all fv rest r d k old xs ys used count vs v from mid to room more seen read shown =
+    let now = put_mid used (length xs - used) xs ys in (
+      each.fit_step all fv rest vs v seen.0 read.fits,
+      (
+        subst (λ n. Onward S old now (λ b a. each.SoFar all rest r d k b a (used + n) (snoc vs v))) (sym more) (each_onward S all fv rest r d k old xs ys used vs v room seen.1.0 read),
+        (
+          subst (λ n. Backward S old now (each.Whole all rest r d k (used + n) (snoc vs v))) (sym more) (each_backward S all fv rest r d k old xs ys used vs v room seen.1.1.0 read),
+          subst (Adds from to) (sym (tokens_snoc vs v)) (adds_then from mid to (tokens_each vs) (tokens v) seen.1.1.1 shown),
+        ),
+      ),
+    )
+
+-- a REQUIRED or OPTIONAL leaf is one leaf
+single_count : (f : Field) → is_single f ≡ true → 1 ≡ count_leaves f
+single_count (leaf n Repeated t) single = cc
+single_count (leaf n Required t) single = refl
+single_count (leaf n Optional t) single = refl
+single_count (fields n x a fs) single = cc
+
+pub read_fields-loop-field-preserved-then-is_single : goal.read_fields-loop-field-preserved-then-is_single
+read_fields-loop-field-preserved-then-is_single g t c =
+    let S = g.S.EntrySource.stands in
+    let K = g.K.RowSink.shows in
+    let fs = c.args.fields.now in
+    let all = field_views fs in
+    let i = c.loop-field.field-index in
+    let fv = field_view c.field-item.result in
+    let r = c.args.place.repetition in
+    let d = c.args.place.definition in
+    let k = c.args.place.own in
+    let old = c.args.sources.now in
+    let xs = c.loop-field.sources in
+    let ys = c.read_single.new.sources in
+    let used = c.loop-field.used in
+    let seen = c.loop-field.invariant.seen in
+    let vs = seen.0 in
+    let rest = field_views (drop (i + 1) fs) in
+    let counts = c.loop-field.invariant.counts in
+    let fits = c.requires.room in
+    let size = c.loop-field.invariant.size in
+    let room : used ≤ length xs = omega (arith, counts, fits, size) in
+    let place = field_place fs i c.field-item.result (omega arith) c.field-item.is in
+    let found = c.in_ok-read_single.ensures.reads in
+    let v = found.0 in
+    let more : 1 ≡ count_leaves fv = single_count fv (sym c.is_single.ensures ∙ c.if-is_single.true) in
+    let from = K c.args.sink.now in
+    let mid = K c.loop-field.sink in
+    let here = subst (λ gs. SeenTo S all gs r d k old xs used vs from mid) place seen.1 in
+    let deep = subst (λ gs. d + tallest gs < 2 ^ 32) place c.loop-field.invariant.deep in
+    let count = subst (λ gs. used + count_leaves_each gs ≡ count_leaves_each all) place c.loop-field.invariant.counts in
+    record {
+      seen = (snoc vs v, seen_more S all fv rest r d k old xs ys used (1) vs v from mid (K c.read_single.new.sink) room more here found.1.0 found.1.1);
+      counts = omega (arith, count, more);
+      valid = (subst AreValid place c.loop-field.invariant.valid).1;
+      deep = omega (arith, deep);
+      kept = map_kept g.S.EntrySource.refused used xs ys room c.in_ok-read_single.ensures.kept ∙ c.loop-field.invariant.kept;
+      size = search rules;
+    }
 
 pub read_fields-loop-field-preserved : goal.read_fields-loop-field-preserved
 read_fields-loop-field-preserved g t c =
@@ -232,47 +331,32 @@ read_fields-loop-field-preserved g t c =
     let fs = c.args.fields.now in
     let all = field_views fs in
     let i = c.loop-field.field-index in
-    let f = c.field-item.result in
-    let fv = field_view f in
+    let fv = field_view c.field-item.result in
     let r = c.args.place.repetition in
     let d = c.args.place.definition in
     let k = c.args.place.own in
     let old = c.args.sources.now in
     let xs = c.loop-field.sources in
-    let ys = c.read_next.new.sources in
+    let ys = c.read_field.new.sources in
     let used = c.loop-field.used in
     let seen = c.loop-field.invariant.seen in
     let vs = seen.0 in
     let rest = field_views (drop (i + 1) fs) in
-    let now = put_mid used (length xs - used) xs ys in
     let counts = c.loop-field.invariant.counts in
     let fits = c.requires.room in
     let size = c.loop-field.invariant.size in
     let room : used ≤ length xs = omega (arith, counts, fits, size) in
-    let place = field_place fs i f (omega arith) c.field-item.is in
+    let place = field_place fs i c.field-item.result (omega arith) c.field-item.is in
     let found = c.in_ok-used.ensures.reads in
     let v = found.0 in
-    let read = found.1.0 in
-    let more = c.in_ok-used.ensures.used in
-    let fit = subst (λ gs. each.WholeFit all gs vs) place seen.1.0 in
-    let onward = subst (λ gs. Onward S old xs (λ b a. each.SoFar all gs r d k b a used vs)) place seen.1.1.0 in
-    let backward = subst (λ gs. Backward S old xs (each.Whole all gs r d k used vs)) place seen.1.1.1.0 in
+    let more : c.in_ok-used.field-0 ≡ count_leaves fv = c.in_ok-used.ensures.used in
+    let from = K c.args.sink.now in
+    let mid = K c.loop-field.sink in
+    let here = subst (λ gs. SeenTo S all gs r d k old xs used vs from mid) place seen.1 in
     let deep = subst (λ gs. d + tallest gs < 2 ^ 32) place c.loop-field.invariant.deep in
     let count = subst (λ gs. used + count_leaves_each gs ≡ count_leaves_each all) place c.loop-field.invariant.counts in
     record {
-      seen = (
-        snoc vs v,
-        (
-          each.fit_step all fv rest vs v fit read.fits,
-          (
-            subst (λ n. Onward S old now (λ b a. each.SoFar all rest r d k b a (used + n) (snoc vs v))) (sym more) (each_onward S all fv rest r d k old xs ys used vs v room onward read),
-            (
-              subst (λ n. Backward S old now (each.Whole all rest r d k (used + n) (snoc vs v))) (sym more) (each_backward S all fv rest r d k old xs ys used vs v room backward read),
-              subst (Adds (K c.args.sink.now) (K c.read_next.new.sink)) (sym (tokens_snoc vs v)) (adds_then (K c.args.sink.now) (K c.loop-field.sink) (K c.read_next.new.sink) (tokens_each vs) (tokens v) seen.1.1.1.1 found.1.1),
-            ),
-          ),
-        ),
-      );
+      seen = (snoc vs v, seen_more S all fv rest r d k old xs ys used (c.in_ok-used.field-0) vs v from mid (K c.read_field.new.sink) room more here found.1.0 found.1.1);
       counts = omega (arith, count, more);
       valid = (subst AreValid place c.loop-field.invariant.valid).1;
       deep = omega (arith, deep);
@@ -323,68 +407,6 @@ read_inside-returns-in_err-used-in-Group-clause-refused g t c =
     refused_ok _ c.from_residual-in_err-used-in-Group.result e c.from_residual-in_err-used-in-Group.ensures.1
     (refused_same S R xs xs ys (IsFaulty (FitEach fs) (stripes_each fs r d k) k (wants_each fs d)) (IsFaulty (FitInside (field_view c.args.field.now)) (stripes_inside (field_view c.args.field.now) r d k) k (wants_inside (field_view c.args.field.now) d)) e (same_self S xs) refl
     (λ cs s h. subst (λ f. IsFaulty (FitInside f) (stripes_inside f r d k) k (wants_inside f d) cs e) (sym is) (faulty_group (string_bytes c.in-Group.name) c.in-Group.repetition c.in-Group.annotation fs r d k cs e h)) told)
-
-pub read_next-returns-in-Required-clause-reads : goal.read_next-returns-in-Required-clause-reads
-read_next-returns-in-Required-clause-reads g t c =
-    let S = g.S.EntrySource.stands in
-    let xs = c.args.sources.now in
-    let y = c.read_leaf.new.source in
-    let r = c.args.place.repetition in
-    let d = c.args.place.definition in
-    let k = c.args.place.own in
-    let found = c.in_ok-read_leaf-in-Required.ensures.reads in
-    let v = found.0 in
-    let f = field_view c.args.field.now in
-    let is = ap field_view c.in-Leaf.is ∙ view_leaf c.in-Leaf.name c.in-Leaf.repetition c.in-Leaf.leaf_type in
-    let some : 0 < length xs = some_source f (length xs) c.requires.valid c.requires.room in
-    let inside =
-    subst (λ h. Reads S (FitInside h) (stripes_inside h r d k) k xs (set xs 0 y) v) (sym is)
-    (reads_leaf S (string_bytes c.in-Leaf.name) c.in-Leaf.repetition (leaf_type_view c.in-Leaf.leaf_type) r d k xs c.index-sources-0.result y v some found.1.0.fits found.1.0.first) in
-    (v, (reads_required S f (sym c.repetition.ensures ∙ c.in-Required.is) r d k xs (set xs 0 y) v (same_self S xs) inside, found.1.1))
-
-pub read_next-returns-in-Optional-clause-reads : goal.read_next-returns-in-Optional-clause-reads
-read_next-returns-in-Optional-clause-reads g t c =
-    let S = g.S.EntrySource.stands in
-    let xs = c.args.sources.now in
-    let y = c.read_optional.new.source in
-    let r = c.args.place.repetition in
-    let d = c.args.place.definition in
-    let k = c.args.place.own in
-    let found = c.in_ok-read_optional-in-Optional.ensures.reads in
-    let v = found.0 in
-    let f = field_view c.args.field.now in
-    let is = ap field_view c.in-Leaf.is ∙ view_leaf c.in-Leaf.name c.in-Leaf.repetition c.in-Leaf.leaf_type in
-    let x : c.in-Leaf.repetition ≡ Optional = sym (ap repetition_of is) ∙ sym c.repetition.ensures ∙ c.in-Optional.is in
-    let some : 0 < length xs = some_source f (length xs) c.requires.valid c.requires.room in (
-      v,
-      (
-        subst (λ h. Reads S (Fit h) (stripes h r d k) k xs (set xs 0 y) v) (sym is)
-            (reads_optional S (string_bytes c.in-Leaf.name) c.in-Leaf.repetition (leaf_type_view c.in-Leaf.leaf_type) x (subst IsValid is c.requires.valid) r d k xs c.index-sources-0-in-Optional.result y v some found.1.0),
-        found.1.1,
-      ),
-    )
-
-pub read_next-returns-in_err-read_optional-in-Optional-clause-refused : goal.read_next-returns-in_err-read_optional-in-Optional-clause-refused
-read_next-returns-in_err-read_optional-in-Optional-clause-refused g t c =
-    let S = g.S.EntrySource.stands in
-    let R = g.S.EntrySource.refused in
-    let xs = c.args.sources.now in
-    let y = c.read_optional.new.source in
-    let r = c.args.place.repetition in
-    let d = c.args.place.definition in
-    let k = c.args.place.own in
-    let e = refusal_of c.in_err-read_optional-in-Optional.field-0.0 in
-    let lt = leaf_type_view c.in-Leaf.leaf_type in
-    let f = field_view c.args.field.now in
-    let is = ap field_view c.in-Leaf.is ∙ view_leaf c.in-Leaf.name c.in-Leaf.repetition c.in-Leaf.leaf_type in
-    let x : c.in-Leaf.repetition ≡ Optional = sym (ap repetition_of is) ∙ sym c.repetition.ensures ∙ c.in-Optional.is in
-    let some : 0 < length xs = some_source f (length xs) c.requires.valid c.requires.room in
-    refused_ok _ c.from_residual-in_err-read_optional-in-Optional.result e c.from_residual-in_err-read_optional-in-Optional.ensures.1
-    (refused_at S R xs xs 0 c.index-sources-0-in-Optional.result y (IsOptionalFaulty r d lt) (IsFaulty (Fit f) (stripes f r d k) k (wants f d)) e some refl
-    (λ cs s.
-    let size = stand_length S xs cs s in
-    (get_or cs 0 [], (stand_get S xs cs 0 c.index-sources-0-in-Optional.result some s, λ h. subst (λ f. IsFaulty (Fit f) (stripes f r d k) k (wants f d) cs e) (sym is) (faulty_optional_at (string_bytes c.in-Leaf.name) c.in-Leaf.repetition lt x r d k cs (omega (arith, size, some)) e h))))
-    c.in_err-read_optional-in-Optional.ensures.refused)
 
 pub read_inside-returns-in_ok-read_leaf-in-Leaf-clause-reads : goal.read_inside-returns-in_ok-read_leaf-in-Leaf-clause-reads
 read_inside-returns-in_ok-read_leaf-in-Leaf-clause-reads g t c =

@@ -3,5 +3,5 @@ use Rattle.row_group.specs.PageLeft.{page_left}
 use Rattle.row_group.proofs.Readers.{empty}
 use Rattle.row_group.proofs.chunk_reader.ChunkReader.fill.Goals as goal
 
-pub read_next_page-requires-clause-ended : goal.read_next_page-requires-clause-ended
-read_next_page-requires-clause-ended c = empty (page_left c.args.self.now.page) (omega (arith, c.page_len.ensures, c.if-page_len-gt0.false))
+pub read_next_page-requires : goal.read_next_page-requires
+read_next_page-requires c = empty (page_left c.args.self.now.page) (omega (arith, c.page_len.ensures, c.if-page_len-gt0.false))

@@ -24,8 +24,8 @@ returns-in-Ok c =
     let r = reader_view c.args.self.now in
     let pages = pages_view c.next_page.new.self in
     let o = c.in-Ok.page in
-    let none : r.here ≡ [] = c.requires.ended in
-    let sound : r.fault ≡ _ = c.requires.sound in
+    let none : r.here ≡ [] = c.requires in
+    let sound : r.fault ≡ _ = c.in_default.is in
     let f = filled r pages o sound none c.in-Ok.ensures in
     let kept = subst (λ (g : Option Fault). Same (ChunkStands r) (ChunkStands (reader pages (page_left o) g)) × (page_left o ≡ [] → StandsOnly (ChunkStands (reader pages (page_left o) g)) [])) (sym sound) (f.0, f.1) in
     (sound, sound, kept.0, kept.1, f.2)
@@ -34,7 +34,7 @@ pub returns-in-Err : goal.returns-in-Err
 returns-in-Err c =
     let r = reader_view c.args.self.now in
     let pages = pages_view c.next_page.new.self in
-    let none : r.here ≡ [] = c.requires.ended in
-    let f = refused r pages c.in-Err.fault c.requires.sound none c.in-Err.ensures in
+    let none : r.here ≡ [] = c.requires in
+    let f = refused r pages c.in-Err.fault c.in_default.is none c.in-Err.ensures in
     let kept = subst (λ (g : Option Fault). Same (ChunkStands r) (ChunkStands (reader pages [] g)) × Keeps (option_map refusal_of r.fault) (option_map refusal_of g) (refusal_of c.in-Err.fault)) (sym c.kept-self.ensures) (f.1, f.2) in
     (f.0, kept.0, kept.1)

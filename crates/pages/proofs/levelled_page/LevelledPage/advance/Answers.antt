@@ -2,7 +2,7 @@ use Rattle.std.proofs.Common.{sym, ◌∙◌}
 use Rattle.std.specs.Prelude.{◌==◌}
 use Rattle.pages.specs.Left.{levels_of, values_left, value_where, value_taken}
 use Rattle.pages.proofs.LevelLists.{takes_entry, by_value, no_entries_at, no_entries_at_all}
-use Rattle.pages.proofs.data_page.DataPage.advance.Goals as goal
+use Rattle.pages.proofs.levelled_page.LevelledPage.advance.Goals as goal
 
 pub returns-in_default : goal.returns-in_default
 returns-in_default c =

@@ -1,7 +1,7 @@
 use Rattle.std.proofs.Common.{sym, ◌∙◌}
 use Rattle.pages.specs.Left.{levels_of, values_left}
 use Rattle.pages.proofs.LevelLists.{shows_entry, no_entries_at, no_entries_at_all}
-use Rattle.pages.proofs.data_page.DataPage.peek.Goals as goal
+use Rattle.pages.proofs.levelled_page.LevelledPage.peek.Goals as goal
 
 pub returns-in-Some-Some : goal.returns-in-Some-Some
 returns-in-Some-Some c =

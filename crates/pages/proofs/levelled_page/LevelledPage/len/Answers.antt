@@ -1,7 +1,7 @@
 use Rattle.std.proofs.Common.{arith}
 use Rattle.pages.specs.Left.{levels_of, values_left}
 use Rattle.pages.proofs.LevelLists.{count_left}
-use Rattle.pages.proofs.data_page.DataPage.len.Goals as goal
+use Rattle.pages.proofs.levelled_page.LevelledPage.len.Goals as goal
 
 pub returns : goal.returns
 returns c =
