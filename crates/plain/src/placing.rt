@@ -121,7 +121,7 @@ fn place_long(room: &mut [u8], at: usize, text: &[u8]) -> usize
 
 /// Writes a text, and returns where it ends.
 #[inline(always)]
-fn place_text(room: &mut [u8], at: usize, text: &[u8]) -> usize
+pub fn place_text(room: &mut [u8], at: usize, text: &[u8]) -> usize
     requires { at + length text.now ≤ length room.old }
     ensures { Placed room.old room.new at text.now result }
 {

@@ -2,3 +2,4 @@ pub mod Growing
 pub mod Put
 pub mod Filling
 pub mod Opening
+pub mod Roomy

@@ -5,7 +5,9 @@ ghost use Rattle.bits.specs.Refusals.{RefusedMemoryOnly};
 ghost use Rattle.schema.specs.Borrowed.{value_ref_view, entry_ref_view};
 ghost use Rattle.schema.specs.Stripe.{entry};
 ghost use Rattle.shred.specs.Slots.{AreKept, entries_in};
+ghost use Rattle.shred.specs.inner.Roomy.{list_of};
 
+use crate::roomy_list::RoomyList;
 use crate::slot::{KeptEntry, put_value, value_of};
 use bits::R;
 use schema::{EntryRef, ValueRef};
@@ -15,12 +17,12 @@ use std::alloc::{AllocError, Global};
 /// are cut off again.
 #[derive(Debug, Drop)]
 pub(crate) struct KeptColumn {
-    entries: Vec<KeptEntry>,
-    bytes: Vec<u8>,
+    entries: RoomyList<KeptEntry>,
+    bytes: RoomyList<u8>,
     /// How many entries are marked, and how many bytes their values have.
     marked: usize,
     marked_bytes: usize,
-    ghost kept: { AreKept entries.items bytes.items marked marked_bytes },
+    ghost kept: { AreKept (list_of entries) (list_of bytes) marked marked_bytes },
 }
 
 impl KeptColumn {
@@ -31,8 +33,8 @@ impl KeptColumn {
         ensures empty { kept_view result ≡ [] }
     {
         KeptColumn {
-            entries: Vec::new(alloc),
-            bytes: Vec::new(alloc),
+            entries: RoomyList::new(alloc),
+            bytes: RoomyList::new(alloc),
             marked: 0,
             marked_bytes: 0,
         }
@@ -98,7 +100,7 @@ impl KeptColumn {
     {
         entries.reserve(self.entries.len())?;
         let mut rest = self.bytes.as_slice();
-        for entry in &self.entries {
+        for entry in self.entries.as_slice() {
             let (value, others) = value_of(entry.slot, rest);
             entries.push(EntryRef {
                 repetition: entry.repetition,

@@ -4,7 +4,9 @@ ghost use Rattle.std.specs.Prelude.{◌≡◌, ◌≤◌, length, drop, IfOk, On
 ghost use Rattle.schema.specs.Borrowed.{value_ref_view};
 ghost use Rattle.shred.specs.Slots.{slot_size, slot_value};
 ghost use Rattle.shred.specs.inner.Put.{IsPut};
+ghost use Rattle.shred.specs.inner.Roomy.{list_of};
 
+use crate::roomy_list::RoomyList;
 use schema::ValueRef;
 use std::alloc::AllocError;
 
@@ -32,10 +34,10 @@ pub(crate) struct KeptEntry {
 #[inline(always)]
 pub(crate) fn put_value(
     value: Option<ValueRef<'_>>,
-    bytes: &mut Vec<u8>,
+    bytes: &mut RoomyList<u8>,
 ) -> Result<Slot, AllocError>
-    ensures stands { IfOk result (λ slot. IsPut slot (option_map value_ref_view value.entry) bytes.old.items bytes.new.items) }
-    ensures unchanged { OnErr result (bytes.new.items ≡ bytes.old.items) }
+    ensures stands { IfOk result (λ slot. IsPut slot (option_map value_ref_view value.entry) (list_of bytes.old) (list_of bytes.new)) }
+    ensures unchanged { OnErr result (list_of bytes.new ≡ list_of bytes.old) }
 {
     match value {
         None => Ok(Slot::Missing),
@@ -43,7 +45,7 @@ pub(crate) fn put_value(
         Some(ValueRef::Bool(b)) => Ok(Slot::Bool(b)),
         Some(ValueRef::Int(n)) => Ok(Slot::Int(n)),
         Some(ValueRef::Bytes(own)) => {
-            bytes.extend_from_slice(own)?;
+            bytes.append(own)?;
             Ok(Slot::Bytes(own.len()))
         }
         // Never reached: a leaf has no such value.
