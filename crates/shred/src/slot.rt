@@ -1,6 +1,6 @@
 //! Entries whose bytes lie one after the other.
 
-ghost use Rattle.std.specs.Prelude.{◌≡◌, ◌≤◌, length, drop, IfOk, OnErr, option_map};
+ghost use Rattle.std.specs.Prelude.{◌≡◌, ◌≤◌, ℕ, List, length, drop, IfOk, OnErr, option_map};
 ghost use Rattle.schema.specs.Borrowed.{value_ref_view};
 ghost use Rattle.shred.specs.Slots.{slot_size, slot_value};
 ghost use Rattle.shred.specs.inner.Put.{IsPut};
@@ -54,19 +54,32 @@ pub(crate) fn put_value(
 }
 
 /// The value of a slot, whose bytes come first, and the bytes after them.
+// Numbers and bytes are looked for first: a test of all variants at once would be a jump by a table.
+#[inline(always)]
 pub(crate) fn value_of<'a>(slot: Slot, bytes: &'a [u8]) -> (Option<ValueRef<'a>>, &'a [u8])
     requires { slot_size slot ≤ length bytes.now }
     ensures shown { option_map value_ref_view result.0 ≡ slot_value slot bytes.now }
     ensures rest { result.1.now ≡ drop (slot_size slot) bytes.now }
 {
+    if let Slot::Bytes(size) = slot {
+        let (own, others) = bytes.split_at(size);
+        return (Some(ValueRef::Bytes(own)), others);
+    }
+    if let Slot::Int(n) = slot {
+        return (Some(ValueRef::Int(n)), bytes);
+    }
+    (small_value_of(slot), bytes)
+}
+
+/// The value of a slot that is no number and has no bytes.
+#[inline(never)]
+fn small_value_of<'a>(slot: Slot) -> Option<ValueRef<'a>>
+    ensures { ((n : ℕ) → slot ≡ Slot.Bytes n → ⊥) → (bytes : List ℕ) → option_map value_ref_view result ≡ slot_value slot bytes }
+{
     match slot {
-        Slot::Missing => (None, bytes),
-        Slot::Null => (Some(ValueRef::Null), bytes),
-        Slot::Bool(b) => (Some(ValueRef::Bool(b)), bytes),
-        Slot::Int(n) => (Some(ValueRef::Int(n)), bytes),
-        Slot::Bytes(size) => {
-            let (own, others) = bytes.split_at(size);
-            (Some(ValueRef::Bytes(own)), others)
-        }
+        Slot::Missing | Slot::Bytes(_) => None,
+        Slot::Null => Some(ValueRef::Null),
+        Slot::Bool(b) => Some(ValueRef::Bool(b)),
+        Slot::Int(n) => Some(ValueRef::Int(n)),
     }
 }
