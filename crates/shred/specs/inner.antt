@@ -3,3 +3,4 @@ pub mod Put
 pub mod Filling
 pub mod Opening
 pub mod Roomy
+pub mod Packed

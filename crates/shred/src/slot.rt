@@ -3,6 +3,7 @@
 ghost use Rattle.std.specs.Prelude.{◌≡◌, ◌≤◌, ℕ, List, length, drop, IfOk, OnErr, option_map};
 ghost use Rattle.schema.specs.Borrowed.{value_ref_view};
 ghost use Rattle.shred.specs.Slots.{slot_size, slot_value};
+ghost use Rattle.shred.specs.inner.Packed.{entry_at, unpacked};
 ghost use Rattle.shred.specs.inner.Put.{IsPut};
 ghost use Rattle.shred.specs.inner.Roomy.{list_of};
 
@@ -27,6 +28,140 @@ pub(crate) struct KeptEntry {
     pub(crate) repetition: u32,
     pub(crate) definition: u32,
     pub(crate) slot: Slot,
+}
+
+/// An entry in 16 bytes: its levels stand in the variant, next to its tag.
+#[derive(Debug, Clone, Copy)]
+pub(crate) enum PackedEntry {
+    Missing {
+        repetition: u8,
+        definition: u8,
+    },
+    Null {
+        repetition: u8,
+        definition: u8,
+    },
+    Bool {
+        repetition: u8,
+        definition: u8,
+        value: bool,
+    },
+    Int {
+        repetition: u8,
+        definition: u8,
+        value: i64,
+    },
+    Bytes {
+        repetition: u8,
+        definition: u8,
+        size: usize,
+    },
+}
+
+/// The entry in 16 bytes. Levels that a byte does not hold are never reached: no schema nests so deep.
+#[inline(always)]
+pub(crate) fn packed(entry: KeptEntry) -> Result<PackedEntry, AllocError>
+    ensures { IfOk result (λ packed. unpacked packed ≡ entry) }
+{
+    if entry.repetition > 255 || entry.definition > 255 {
+        return Err(AllocError);
+    }
+    let repetition = entry.repetition as u8;
+    let definition = entry.definition as u8;
+    Ok(match entry.slot {
+        Slot::Missing => PackedEntry::Missing {
+            repetition,
+            definition,
+        },
+        Slot::Null => PackedEntry::Null {
+            repetition,
+            definition,
+        },
+        Slot::Bool(value) => PackedEntry::Bool {
+            repetition,
+            definition,
+            value,
+        },
+        Slot::Int(value) => PackedEntry::Int {
+            repetition,
+            definition,
+            value,
+        },
+        Slot::Bytes(size) => PackedEntry::Bytes {
+            repetition,
+            definition,
+            size,
+        },
+    })
+}
+
+/// The entry that was packed.
+// Numbers and bytes are looked for first: a test of all variants at once would be a jump by a table.
+#[inline(always)]
+pub(crate) fn unpacked(packed: PackedEntry) -> KeptEntry
+    ensures { result ≡ unpacked packed }
+{
+    if let PackedEntry::Bytes {
+        repetition,
+        definition,
+        size,
+    } = packed
+    {
+        return kept_entry(repetition, definition, Slot::Bytes(size));
+    }
+    if let PackedEntry::Int {
+        repetition,
+        definition,
+        value,
+    } = packed
+    {
+        return kept_entry(repetition, definition, Slot::Int(value));
+    }
+    any_unpacked(packed)
+}
+
+/// The entry that was packed, whatever its value.
+#[inline(never)]
+fn any_unpacked(packed: PackedEntry) -> KeptEntry
+    ensures { result ≡ unpacked packed }
+{
+    match packed {
+        PackedEntry::Missing {
+            repetition,
+            definition,
+        } => kept_entry(repetition, definition, Slot::Missing),
+        PackedEntry::Null {
+            repetition,
+            definition,
+        } => kept_entry(repetition, definition, Slot::Null),
+        PackedEntry::Bool {
+            repetition,
+            definition,
+            value,
+        } => kept_entry(repetition, definition, Slot::Bool(value)),
+        PackedEntry::Int {
+            repetition,
+            definition,
+            value,
+        } => kept_entry(repetition, definition, Slot::Int(value)),
+        PackedEntry::Bytes {
+            repetition,
+            definition,
+            size,
+        } => kept_entry(repetition, definition, Slot::Bytes(size)),
+    }
+}
+
+/// An entry of these levels.
+#[inline(always)]
+fn kept_entry(repetition: u8, definition: u8, slot: Slot) -> KeptEntry
+    ensures { result ≡ entry_at repetition definition slot }
+{
+    KeptEntry {
+        repetition: u32::from(repetition),
+        definition: u32::from(definition),
+        slot,
+    }
 }
 
 /// Puts the bytes of a leaf's value, if it has any, after the bytes of others, and returns its slot.
