@@ -13,7 +13,7 @@ ghost use Rattle.pages.specs.Page.{repetitions, definitions, values};
 
 use crate::value_checks::{is_of_kind, is_text};
 use bits::{R, Refusal};
-use schema::{EntryRef, Leaf, LeafType, ValueRef};
+use schema::{EntryRef, Kind, Leaf, LeafType, ValueRef};
 use std::alloc::Global;
 
 /// Refused Levels or Value exactly when an entry is none of the leaf's.
@@ -23,6 +23,9 @@ pub(crate) fn check_entries(leaf: &Leaf, entries: &[EntryRef<'_>]) -> R<()>
     ensures which { IfErr result (λ e. (e ≡ Refusal.Levels) ⊎ (e ≡ Refusal.Value)) }
 {
     let is_of_text = leaf.leaf_type.is_text();
+    if are_usual(leaf, is_of_text, entries) {
+        return Ok(());
+    }
     for entry in entries {
         if !is_entry_of(leaf, is_of_text, *entry) {
             return Err(refusal_of(leaf, *entry));
@@ -96,6 +99,97 @@ pub(crate) fn count_rows(entries: &[EntryRef<'_>]) -> usize
         }
     }
     rows
+}
+
+/// Whether the entries are those of a leaf without levels whose values are INT64 or BYTE_ARRAY, as most are. Where they are
+/// not, false is returned, and they may be the leaf's still.
+fn are_usual(leaf: &Leaf, is_of_text: bool, entries: &[EntryRef<'_>]) -> bool
+    requires { let t = leaf_type_view leaf.now.leaf_type in is_of_text ≡ is_text t.kind t.annotation }
+    ensures { result ≡ true → AllByRecursion (IsEntryOf (leaf_view leaf.now)) (map entry_ref_view entries.now) }
+{
+    if leaf.greatest_repetition != 0 || leaf.greatest_definition != 0 {
+        return false;
+    }
+    match leaf.leaf_type.kind {
+        Kind::Int64 => are_numbers(leaf, is_of_text, entries),
+        Kind::ByteArray => are_texts(leaf, is_of_text, entries),
+        _ => false,
+    }
+}
+
+/// Whether the entries are those of an INT64 leaf without levels.
+fn are_numbers(leaf: &Leaf, is_of_text: bool, entries: &[EntryRef<'_>]) -> bool
+    requires text { let t = leaf_type_view leaf.now.leaf_type in is_of_text ≡ is_text t.kind t.annotation }
+    requires kind { leaf.now.leaf_type.kind ≡ Kind.Int64 }
+    requires repetition { leaf.now.greatest_repetition ≡ 0 }
+    requires definition { leaf.now.greatest_definition ≡ 0 }
+    ensures { result ≡ true → AllByRecursion (IsEntryOf (leaf_view leaf.now)) (map entry_ref_view entries.now) }
+{
+    for entry in entries {
+        if !is_number_entry(leaf, is_of_text, *entry) {
+            return false;
+        }
+    }
+    true
+}
+
+/// Whether the entries are those of a BYTE_ARRAY leaf without levels.
+fn are_texts(leaf: &Leaf, is_of_text: bool, entries: &[EntryRef<'_>]) -> bool
+    requires text { let t = leaf_type_view leaf.now.leaf_type in is_of_text ≡ is_text t.kind t.annotation }
+    requires kind { leaf.now.leaf_type.kind ≡ Kind.ByteArray }
+    requires repetition { leaf.now.greatest_repetition ≡ 0 }
+    requires definition { leaf.now.greatest_definition ≡ 0 }
+    ensures { result ≡ true → AllByRecursion (IsEntryOf (leaf_view leaf.now)) (map entry_ref_view entries.now) }
+{
+    for entry in entries {
+        if !is_text_entry(leaf, is_of_text, *entry) {
+            return false;
+        }
+    }
+    true
+}
+
+/// Whether an entry is one of an INT64 leaf without levels.
+#[inline(always)]
+fn is_number_entry(leaf: &Leaf, is_of_text: bool, entry: EntryRef<'_>) -> bool
+    requires text { let t = leaf_type_view leaf.now.leaf_type in is_of_text ≡ is_text t.kind t.annotation }
+    requires kind { leaf.now.leaf_type.kind ≡ Kind.Int64 }
+    requires repetition { leaf.now.greatest_repetition ≡ 0 }
+    requires definition { leaf.now.greatest_definition ≡ 0 }
+    ensures { result ≡ true → IsEntryOf (leaf_view leaf.now) (entry_ref_view entry.entry) }
+{
+    let _leaf = leaf; // For the proof: the contract speaks of it.
+    if entry.repetition != 0 || entry.definition != 0 {
+        return false;
+    }
+    match entry.value {
+        Some(ValueRef::Int(number)) => {
+            is_of_kind(Kind::Int64, ValueRef::Int(number)) && !is_of_text
+        }
+        _ => false,
+    }
+}
+
+/// Whether an entry is one of a BYTE_ARRAY leaf without levels.
+#[inline(always)]
+fn is_text_entry(leaf: &Leaf, is_of_text: bool, entry: EntryRef<'_>) -> bool
+    requires text { let t = leaf_type_view leaf.now.leaf_type in is_of_text ≡ is_text t.kind t.annotation }
+    requires kind { leaf.now.leaf_type.kind ≡ Kind.ByteArray }
+    requires repetition { leaf.now.greatest_repetition ≡ 0 }
+    requires definition { leaf.now.greatest_definition ≡ 0 }
+    ensures { result ≡ true → IsEntryOf (leaf_view leaf.now) (entry_ref_view entry.entry) }
+{
+    let _leaf = leaf; // For the proof: the contract speaks of it.
+    if entry.repetition != 0 || entry.definition != 0 {
+        return false;
+    }
+    match entry.value {
+        Some(ValueRef::Bytes(text)) => {
+            let value = ValueRef::Bytes(text);
+            is_of_kind(Kind::ByteArray, value) && (!is_of_text || is_text(value))
+        }
+        _ => false,
+    }
 }
 
 /// Whether an entry is the leaf's, whose values are text or not: its levels are at most the greatest, and

@@ -14,12 +14,27 @@ use schema::{Kind, ValueRef};
 use std::simd::Simd;
 
 /// Writes the spellings of the values one after another, and returns where they end.
+// Each usual type has a loop of its own, in which nothing is left to be asked of the type.
 pub(crate) fn place_values<V: Lends>(
     kind: Kind,
     values: &[V],
     start: usize,
     room: &mut [u8],
 ) -> usize
+    requires spelled { All (HasSpelling kind) (map V.lent values.now) }
+    requires fits { start + length (flat_map (spelling kind) (map V.lent values.now)) ≤ length room.old }
+    ensures { Placed room.old room.new start (flat_map (spelling kind) (map V.lent values.now)) result }
+{
+    match kind {
+        Kind::Int64 => place_each(Kind::Int64, values, start, room),
+        Kind::ByteArray => place_each(Kind::ByteArray, values, start, room),
+        _ => place_each(kind, values, start, room),
+    }
+}
+
+/// Writes the spellings of the values of one type.
+#[inline(always)]
+fn place_each<V: Lends>(kind: Kind, values: &[V], start: usize, room: &mut [u8]) -> usize
     requires spelled { All (HasSpelling kind) (map V.lent values.now) }
     requires fits { start + length (flat_map (spelling kind) (map V.lent values.now)) ≤ length room.old }
     ensures { Placed room.old room.new start (flat_map (spelling kind) (map V.lent values.now)) result }
@@ -121,7 +136,7 @@ fn place_long(room: &mut [u8], at: usize, text: &[u8]) -> usize
 
 /// Writes a text, and returns where it ends.
 #[inline(always)]
-fn place_text(room: &mut [u8], at: usize, text: &[u8]) -> usize
+pub fn place_text(room: &mut [u8], at: usize, text: &[u8]) -> usize
     requires { at + length text.now ≤ length room.old }
     ensures { Placed room.old room.new at text.now result }
 {

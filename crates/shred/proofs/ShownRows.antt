@@ -1,5 +1,5 @@
 -- What a buffer holds as it is shown rows.
-use Rattle.std.proofs.Common.{◌≡◌, ℕ, zero, suc, ◌+◌, ◌≤◌, ◌^◌, true, List, [], ◌∷◌, ◌++◌, map, length, refl, ap, sym, subst, ◌∙◌, arith, length-append, IsTrue}
+use Rattle.std.proofs.Common.{◌≡◌, ℕ, zero, suc, ◌+◌, ◌≤◌, ◌^◌, true, List, [], ◌∷◌, ◌++◌, map, length, refl, ap, sym, ◌∙◌, arith, length-append, IsTrue}
 use Rattle.std.proofs.lemmas.List.{length-map}
 use Rattle.schema.specs.Values.{ValueTrees}
 use Rattle.schema.specs.Shape.{Fields}
@@ -10,7 +10,7 @@ use Rattle.assemble.specs.Sinks.{Token, tokens_each, Adds}
 use Rattle.shred.specs.declared.filling.Filling.{Filling}
 use Rattle.shred.specs.declared.row_buffer.RowBuffer.{RowBuffer}
 use Rattle.shred.specs.Kept.{kept_view, marked_view}
-use Rattle.shred.specs.Buffer.{schema_of, Holds, holds, buffer_shows}
+use Rattle.shred.specs.Buffer.{schema_of, holds, buffer_shows}
 use Rattle.shred.specs.inner.Growing.{nils}
 use Rattle.shred.specs.inner.Opening.{schema_token, rows_said}
 use Rattle.shred.specs.inner.Filling.{State, state_of, marked_of, step, run, root}

@@ -1,5 +1,5 @@
 -- What columns hold after the values of a row that fits.
-use Rattle.std.proofs.Common.{◌≡◌, ℕ, ℤ, zero, suc, ◌+◌, Bool, true, false, true≢false, ◌&&◌, List, [], ◌∷◌, ◌++◌, map, length, Option, Some, refl, ap, ap₂, sym, ◌∙◌, arith, append_assoc}
+use Rattle.std.proofs.Common.{◌≡◌, ℕ, ℤ, suc, ◌+◌, Bool, true, false, true≢false, ◌&&◌, List, [], ◌∷◌, ◌++◌, map, length, Option, Some, refl, ap, ap₂, sym, ◌∙◌}
 use Rattle.std.proofs.lemmas.List.{append-nil, length-map}
 use Rattle.std.proofs.lemmas.Grind.{flat_map-append}
 use Rattle.schema.specs.declared.value.Repetition.{Repetition}
@@ -10,9 +10,9 @@ use Rattle.schema.specs.declared.annotation.GroupAnnotation.{GroupAnnotation}
 use Rattle.schema.specs.Annotations.{LeafType}
 use Rattle.schema.specs.Values.{ValueTree, null, boolean, integer, bytes, group, list, ValueTrees, no_values, value, each, member_at}
 use Rattle.schema.specs.Shape.{Field, leaf, fields, Fields, no_fields, field, repetition_of}
-use Rattle.schema.specs.Fits.{fits_kind, fits_leaf, fits_as, is_group, fits, fits_each, fits_inside}
+use Rattle.schema.specs.Fits.{fits_kind, fits_leaf, fits_as, is_group, fits, fits_each}
 use Rattle.schema.specs.Stripe.{Entry, entry, Leaf, leaves, leaves_of, stripe, stripe_as, list_items, later_items, column, columns}
-use Rattle.assemble.specs.Sinks.{single, group_ends, list_ends, tokens, tokens_each}
+use Rattle.assemble.specs.Sinks.{group_ends, list_ends, tokens, tokens_each}
 use Rattle.shred.specs.declared.field.Levels.{Levels}
 use Rattle.shred.specs.inner.Growing.{Columns, grown, nils, levels_at, stripes, stripes_inside, stripes_items, stripes_later, stripes_each, absences}
 use Rattle.shred.specs.inner.Filling.{State, Level, in_group, in_list, held, next, of_field, item_levels, begun, given, deeper, leaf_entry, single_stripes, single_given, entered, left, inside, items, step, run, root}

@@ -1,6 +1,6 @@
 -- What columns hold, step by step, as values are shown.
-use Rattle.std.proofs.Common.{◌≡◌, ℕ, zero, suc, ◌+◌, List, [], ◌∷◌, ◌++◌, map, length, refl, ap, ap₂, sym, subst, ◌∙◌, arith, append_assoc, length-append}
-use Rattle.std.proofs.lemmas.List.{append-nil, length-map}
+use Rattle.std.proofs.Common.{◌≡◌, ℕ, zero, suc, ◌+◌, List, [], ◌∷◌, ◌++◌, map, length, refl, ap₂, arith, length-append}
+use Rattle.std.proofs.lemmas.List.{append-nil}
 use Rattle.schema.specs.Stripe.{Entry, Leaf}
 use Rattle.assemble.specs.Sinks.{Token}
 use Rattle.shred.specs.inner.Growing.{Columns, grown, nils}

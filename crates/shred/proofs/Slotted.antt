@@ -1,12 +1,14 @@
 -- Entries whose bytes lie one after the other.
-use Rattle.std.proofs.Common.{ℕ, zero, suc, ◌≡◌, ◌+◌, ◌<◌, ◌≤◌, List, [], ◌∷◌, ◌++◌, length, get_or, take, drop, Option, Some, refl, ap, sym, ◌∙◌, arith}
-use Rattle.std.proofs.lemmas.List.{take-append-le, drop-append-le, length-drop, length-take-le, take-take, length-append, drop_more, take_all}
+use Rattle.std.proofs.Common.{ℕ, zero, suc, ◌≡◌, ◌+◌, ◌<◌, ◌≤◌, List, [], ◌∷◌, ◌++◌, length, get_or, take, drop, Option, Some, refl, ap, sym, ◌∙◌, arith, append_assoc}
+use Rattle.std.proofs.lemmas.List.{get_or-map, take-append-le, drop-append-le, length-drop, length-take-le, take-take, length-append, length-map, drop_more, take_all}
 use Rattle.schema.specs.Values.{ValueTree, bytes}
 use Rattle.schema.specs.Stripe.{Entry, entry}
 use Rattle.shred.specs.declared.slot.Slot.{Slot}
 use Rattle.shred.specs.declared.slot.Slot.TheVariants.{Missing, Null, Bool, Int, Bytes}
 use Rattle.shred.specs.declared.slot.KeptEntry.{KeptEntry}
 use Rattle.shred.specs.Slots.{slot_size, slot_value, total_size, entries_in, AreKept}
+use Rattle.shred.specs.declared.slot.PackedEntry.{PackedEntry}
+use Rattle.shred.specs.inner.Packed.{unpacked, unpacked_each}
 use Rattle.shred.specs.inner.Put.{IsPut}
 
 -- a value does not change as bytes come after its own
@@ -110,3 +112,22 @@ still_cut es bs m n k =
       within = omega (arith, some);
       first = ap total_size (take-take m m es (omega arith)) ∙ k.first;
     }
+
+-- ---- entries in 16 bytes
+
+-- the entry that was packed at a place
+pub packed_here : (xs ps : List PackedEntry) (i : ℕ) (p : PackedEntry) (e : KeptEntry) → e ≡ unpacked (get_or xs i p) → xs ≡ ps → i < length xs → (i < length (unpacked_each ps)) × (e ≡ get_or (unpacked_each ps) i e)
+packed_here xs ps i p e is same lt =
+    let within : i < length ps = omega (arith, lt, ap length same) in (
+      omega (arith, within, length-map ps unpacked),
+      is ∙ ap (λ (t : List PackedEntry). unpacked (get_or t i p)) same ∙ sym (get_or-map unpacked ps i p e within),
+    )
+
+-- one entry more is lent
+pub one_lent : (shown : List Entry) (es : List KeptEntry) (i : ℕ) (e : KeptEntry) (bs rest : List ℕ) (v : Option ValueTree) → i < length es → e ≡ get_or es i e → v ≡ slot_value e.slot bs
+    → rest ≡ drop (slot_size e.slot) bs → (shown ++ entry e.repetition e.definition v) ++ entries_in rest (drop (i + 1) es) ≡ shown ++ entries_in bs (drop i es)
+one_lent shown es i e bs rest v lt is value after =
+    let left = drop (i + 1) es in
+    append_assoc shown (entry e.repetition e.definition v) (entries_in rest left)
+    ∙ ap (λ (t : List Entry). shown ++ t) (ap (λ (x : Option ValueTree). entry e.repetition e.definition x ++ entries_in rest left) value
+    ∙ ap (λ (t : List ℕ). entries_in bs (e ∷ []) ++ entries_in t left) after ∙ sym (first_left es i e bs lt is))

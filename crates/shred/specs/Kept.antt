@@ -3,10 +3,12 @@ use Rattle.std.specs.Prelude.{List, take}
 use Rattle.schema.specs.Stripe.{Entry}
 use Rattle.shred.specs.declared.kept_column.KeptColumn.{KeptColumn}
 use Rattle.shred.specs.Slots.{entries_in}
+use Rattle.shred.specs.inner.Roomy.{list_of}
+use Rattle.shred.specs.inner.Packed.{unpacked_each}
 
 abbrev pub kept_view : KeptColumn → List Entry
-kept_view c = entries_in c.bytes.items c.entries.items
+kept_view c = entries_in (list_of c.bytes) (unpacked_each (list_of c.entries))
 
 -- what it showed when it was marked
 abbrev pub marked_view : KeptColumn → List Entry
-marked_view c = entries_in (take c.marked_bytes c.bytes.items) (take c.marked c.entries.items)
+marked_view c = entries_in (take c.marked_bytes (list_of c.bytes)) (take c.marked (unpacked_each (list_of c.entries)))

@@ -2,3 +2,5 @@ pub mod Growing
 pub mod Put
 pub mod Filling
 pub mod Opening
+pub mod Roomy
+pub mod Packed

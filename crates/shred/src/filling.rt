@@ -237,19 +237,16 @@ impl<'a> Filling<'a> {
         ensures begun { OnOk result (state_of self.new ≡ begun (state_of self.old)) }
         ensures marked { marked_of self.new ≡ marked_of self.old }
     {
-        match self.here {
+        match &mut self.here {
             Level::Group { fields, levels } => {
                 let Some((field, rest)) = fields.split_first() else {
                     return Ok(None);
                 };
-                self.here = Level::Group {
-                    fields: rest,
-                    levels,
-                };
+                *fields = rest;
                 Ok(Some(Next {
                     field,
                     repetition: field.repetition(),
-                    levels,
+                    levels: *levels,
                 }))
             }
             Level::List {
@@ -258,16 +255,11 @@ impl<'a> Filling<'a> {
                 levels,
                 later,
             } => {
-                let own = item_levels(later, levels)?;
-                self.at = start;
-                self.here = Level::List {
-                    field,
-                    start,
-                    levels,
-                    later: true,
-                };
+                let own = item_levels(*later, *levels)?;
+                self.at = *start;
+                *later = true;
                 Ok(Some(Next {
-                    field,
+                    field: *field,
                     repetition: Repetition::Required,
                     levels: own,
                 }))

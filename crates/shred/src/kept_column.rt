@@ -1,12 +1,15 @@
 //! Columns that own the bytes of their values.
 
-ghost use Rattle.std.specs.Prelude.{◌≡◌, ◌++◌, [], map, OnOk, option_map};
+ghost use Rattle.std.specs.Prelude.{◌≡◌, ◌++◌, ◌∷◌, [], map, OnOk, OnErr, option_map};
 ghost use Rattle.bits.specs.Refusals.{RefusedMemoryOnly};
 ghost use Rattle.schema.specs.Borrowed.{value_ref_view, entry_ref_view};
 ghost use Rattle.schema.specs.Stripe.{entry};
 ghost use Rattle.shred.specs.Slots.{AreKept, entries_in};
+ghost use Rattle.shred.specs.inner.Roomy.{list_of};
+ghost use Rattle.shred.specs.inner.Packed.{unpacked_each};
 
-use crate::slot::{KeptEntry, put_value, value_of};
+use crate::roomy_list::RoomyList;
+use crate::slot::{KeptEntry, PackedEntry, packed, put_value, unpacked, value_of};
 use bits::R;
 use schema::{EntryRef, ValueRef};
 use std::alloc::{AllocError, Global};
@@ -15,12 +18,12 @@ use std::alloc::{AllocError, Global};
 /// are cut off again.
 #[derive(Debug, Drop)]
 pub(crate) struct KeptColumn {
-    entries: Vec<KeptEntry>,
-    bytes: Vec<u8>,
+    entries: RoomyList<PackedEntry>,
+    bytes: RoomyList<u8>,
     /// How many entries are marked, and how many bytes their values have.
     marked: usize,
     marked_bytes: usize,
-    ghost kept: { AreKept entries.items bytes.items marked marked_bytes },
+    ghost kept: { AreKept (unpacked_each (list_of entries)) (list_of bytes) marked marked_bytes },
 }
 
 impl KeptColumn {
@@ -31,8 +34,8 @@ impl KeptColumn {
         ensures empty { kept_view result ≡ [] }
     {
         KeptColumn {
-            entries: Vec::new(alloc),
-            bytes: Vec::new(alloc),
+            entries: RoomyList::new(alloc),
+            bytes: RoomyList::new(alloc),
             marked: 0,
             marked_bytes: 0,
         }
@@ -51,11 +54,12 @@ impl KeptColumn {
     {
         let size = self.bytes.len();
         let slot = put_value(value, &mut self.bytes)?;
-        match self.entries.push(KeptEntry {
+        let entry = KeptEntry {
             repetition,
             definition,
             slot,
-        }) {
+        };
+        match push_entry(entry, &mut self.entries) {
             Ok(()) => Ok(()),
             Err(_) => {
                 self.bytes.truncate(size);
@@ -98,7 +102,8 @@ impl KeptColumn {
     {
         entries.reserve(self.entries.len())?;
         let mut rest = self.bytes.as_slice();
-        for entry in &self.entries {
+        for packed in self.entries.as_slice() {
+            let entry = unpacked(*packed);
             let (value, others) = value_of(entry.slot, rest);
             entries.push(EntryRef {
                 repetition: entry.repetition,
@@ -109,4 +114,13 @@ impl KeptColumn {
         }
         Ok(())
     }
+}
+
+/// Puts an entry after others. It fails only when out of memory, and then leaves them as they are.
+#[inline(always)]
+fn push_entry(entry: KeptEntry, entries: &mut RoomyList<PackedEntry>) -> Result<(), AllocError>
+    ensures items { OnOk result (unpacked_each (list_of entries.new) ≡ unpacked_each (list_of entries.old) ++ entry ∷ []) }
+    ensures unchanged { OnErr result (list_of entries.new ≡ list_of entries.old) }
+{
+    entries.push(packed(entry)?)
 }

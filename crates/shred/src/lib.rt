@@ -8,6 +8,7 @@ mod column;
 mod field;
 mod filling;
 mod kept_column;
+mod roomy_list;
 mod row_buffer;
 mod rows;
 mod slot;

@@ -1,10 +1,13 @@
 //! Entries whose bytes lie one after the other.
 
-ghost use Rattle.std.specs.Prelude.{◌≡◌, ◌≤◌, length, drop, IfOk, OnErr, option_map};
+ghost use Rattle.std.specs.Prelude.{◌≡◌, ◌≤◌, ℕ, List, length, drop, IfOk, OnErr, option_map};
 ghost use Rattle.schema.specs.Borrowed.{value_ref_view};
 ghost use Rattle.shred.specs.Slots.{slot_size, slot_value};
+ghost use Rattle.shred.specs.inner.Packed.{entry_at, unpacked};
 ghost use Rattle.shred.specs.inner.Put.{IsPut};
+ghost use Rattle.shred.specs.inner.Roomy.{list_of};
 
+use crate::roomy_list::RoomyList;
 use schema::ValueRef;
 use std::alloc::AllocError;
 
@@ -27,15 +30,149 @@ pub(crate) struct KeptEntry {
     pub(crate) slot: Slot,
 }
 
+/// An entry in 16 bytes: its levels stand in the variant, next to its tag.
+#[derive(Debug, Clone, Copy)]
+pub(crate) enum PackedEntry {
+    Missing {
+        repetition: u8,
+        definition: u8,
+    },
+    Null {
+        repetition: u8,
+        definition: u8,
+    },
+    Bool {
+        repetition: u8,
+        definition: u8,
+        value: bool,
+    },
+    Int {
+        repetition: u8,
+        definition: u8,
+        value: i64,
+    },
+    Bytes {
+        repetition: u8,
+        definition: u8,
+        size: usize,
+    },
+}
+
+/// The entry in 16 bytes. Levels that a byte does not hold are never reached: no schema nests so deep.
+#[inline(always)]
+pub(crate) fn packed(entry: KeptEntry) -> Result<PackedEntry, AllocError>
+    ensures { IfOk result (λ packed. unpacked packed ≡ entry) }
+{
+    if entry.repetition > 255 || entry.definition > 255 {
+        return Err(AllocError);
+    }
+    let repetition = entry.repetition as u8;
+    let definition = entry.definition as u8;
+    Ok(match entry.slot {
+        Slot::Missing => PackedEntry::Missing {
+            repetition,
+            definition,
+        },
+        Slot::Null => PackedEntry::Null {
+            repetition,
+            definition,
+        },
+        Slot::Bool(value) => PackedEntry::Bool {
+            repetition,
+            definition,
+            value,
+        },
+        Slot::Int(value) => PackedEntry::Int {
+            repetition,
+            definition,
+            value,
+        },
+        Slot::Bytes(size) => PackedEntry::Bytes {
+            repetition,
+            definition,
+            size,
+        },
+    })
+}
+
+/// The entry that was packed.
+// Numbers and bytes are looked for first: a test of all variants at once would be a jump by a table.
+#[inline(always)]
+pub(crate) fn unpacked(packed: PackedEntry) -> KeptEntry
+    ensures { result ≡ unpacked packed }
+{
+    if let PackedEntry::Bytes {
+        repetition,
+        definition,
+        size,
+    } = packed
+    {
+        return kept_entry(repetition, definition, Slot::Bytes(size));
+    }
+    if let PackedEntry::Int {
+        repetition,
+        definition,
+        value,
+    } = packed
+    {
+        return kept_entry(repetition, definition, Slot::Int(value));
+    }
+    any_unpacked(packed)
+}
+
+/// The entry that was packed, whatever its value.
+#[inline(never)]
+fn any_unpacked(packed: PackedEntry) -> KeptEntry
+    ensures { result ≡ unpacked packed }
+{
+    match packed {
+        PackedEntry::Missing {
+            repetition,
+            definition,
+        } => kept_entry(repetition, definition, Slot::Missing),
+        PackedEntry::Null {
+            repetition,
+            definition,
+        } => kept_entry(repetition, definition, Slot::Null),
+        PackedEntry::Bool {
+            repetition,
+            definition,
+            value,
+        } => kept_entry(repetition, definition, Slot::Bool(value)),
+        PackedEntry::Int {
+            repetition,
+            definition,
+            value,
+        } => kept_entry(repetition, definition, Slot::Int(value)),
+        PackedEntry::Bytes {
+            repetition,
+            definition,
+            size,
+        } => kept_entry(repetition, definition, Slot::Bytes(size)),
+    }
+}
+
+/// An entry of these levels.
+#[inline(always)]
+fn kept_entry(repetition: u8, definition: u8, slot: Slot) -> KeptEntry
+    ensures { result ≡ entry_at repetition definition slot }
+{
+    KeptEntry {
+        repetition: u32::from(repetition),
+        definition: u32::from(definition),
+        slot,
+    }
+}
+
 /// Puts the bytes of a leaf's value, if it has any, after the bytes of others, and returns its slot.
 /// It fails only when out of memory, and then leaves the bytes as they are.
 #[inline(always)]
 pub(crate) fn put_value(
     value: Option<ValueRef<'_>>,
-    bytes: &mut Vec<u8>,
+    bytes: &mut RoomyList<u8>,
 ) -> Result<Slot, AllocError>
-    ensures stands { IfOk result (λ slot. IsPut slot (option_map value_ref_view value.entry) bytes.old.items bytes.new.items) }
-    ensures unchanged { OnErr result (bytes.new.items ≡ bytes.old.items) }
+    ensures stands { IfOk result (λ slot. IsPut slot (option_map value_ref_view value.entry) (list_of bytes.old) (list_of bytes.new)) }
+    ensures unchanged { OnErr result (list_of bytes.new ≡ list_of bytes.old) }
 {
     match value {
         None => Ok(Slot::Missing),
@@ -43,7 +180,7 @@ pub(crate) fn put_value(
         Some(ValueRef::Bool(b)) => Ok(Slot::Bool(b)),
         Some(ValueRef::Int(n)) => Ok(Slot::Int(n)),
         Some(ValueRef::Bytes(own)) => {
-            bytes.extend_from_slice(own)?;
+            bytes.append(own)?;
             Ok(Slot::Bytes(own.len()))
         }
         // Never reached: a leaf has no such value.
@@ -52,19 +189,32 @@ pub(crate) fn put_value(
 }
 
 /// The value of a slot, whose bytes come first, and the bytes after them.
+// Numbers and bytes are looked for first: a test of all variants at once would be a jump by a table.
+#[inline(always)]
 pub(crate) fn value_of<'a>(slot: Slot, bytes: &'a [u8]) -> (Option<ValueRef<'a>>, &'a [u8])
     requires { slot_size slot ≤ length bytes.now }
     ensures shown { option_map value_ref_view result.0 ≡ slot_value slot bytes.now }
     ensures rest { result.1.now ≡ drop (slot_size slot) bytes.now }
 {
+    if let Slot::Bytes(size) = slot {
+        let (own, others) = bytes.split_at(size);
+        return (Some(ValueRef::Bytes(own)), others);
+    }
+    if let Slot::Int(n) = slot {
+        return (Some(ValueRef::Int(n)), bytes);
+    }
+    (small_value_of(slot), bytes)
+}
+
+/// The value of a slot that is no number and has no bytes.
+#[inline(never)]
+fn small_value_of<'a>(slot: Slot) -> Option<ValueRef<'a>>
+    ensures { ((n : ℕ) → slot ≡ Slot.Bytes n → ⊥) → (bytes : List ℕ) → option_map value_ref_view result ≡ slot_value slot bytes }
+{
     match slot {
-        Slot::Missing => (None, bytes),
-        Slot::Null => (Some(ValueRef::Null), bytes),
-        Slot::Bool(b) => (Some(ValueRef::Bool(b)), bytes),
-        Slot::Int(n) => (Some(ValueRef::Int(n)), bytes),
-        Slot::Bytes(size) => {
-            let (own, others) = bytes.split_at(size);
-            (Some(ValueRef::Bytes(own)), others)
-        }
+        Slot::Missing | Slot::Bytes(_) => None,
+        Slot::Null => Some(ValueRef::Null),
+        Slot::Bool(b) => Some(ValueRef::Bool(b)),
+        Slot::Int(n) => Some(ValueRef::Int(n)),
     }
 }

@@ -1,5 +1,5 @@
 -- What columns hold while the values of rows are shown, one after another: parquet-format, "Nested Encoding".
-use Rattle.std.specs.Prelude.{ℕ, suc, ◌+◌, Bool, true, false, List, [], ◌∷◌, ◌++◌, map, reverse, length, Option, Some, None, option_map}
+use Rattle.std.specs.Prelude.{ℕ, suc, ◌+◌, Bool, true, false, List, [], ◌∷◌, ◌++◌, map, reverse, length, Option, Some, None}
 use Rattle.schema.specs.declared.value.Repetition.{Repetition}
 use Rattle.schema.specs.declared.value.Repetition.TheVariants.{Required, Optional}
 use Rattle.schema.specs.Values.{ValueTree, null}

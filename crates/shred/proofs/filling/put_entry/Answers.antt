@@ -1,4 +1,4 @@
-use Rattle.std.proofs.Common.{arith, length, map, ap, ◌∙◌}
+use Rattle.std.proofs.Common.{arith, map}
 use Rattle.std.proofs.lemmas.List.{length-map}
 use Rattle.shred.specs.Kept.{kept_view, marked_view}
 use Rattle.shred.proofs.Growing.{grown_at, grown_beyond, same_at}

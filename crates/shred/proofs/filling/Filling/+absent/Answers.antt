@@ -1,7 +1,7 @@
-use Rattle.std.proofs.Common.{◌≡◌, ◌+◌, ◌++◌, List, [], drop, ap, sym, ◌∙◌, arith, add-one, None, drop_of_length-le}
-use Rattle.schema.specs.Shape.{Fields, field}
+use Rattle.std.proofs.Common.{◌≡◌, ◌+◌, ◌++◌, drop, ap, sym, ◌∙◌, arith, add-one, None, drop_of_length-le}
+use Rattle.schema.specs.Shape.{Fields}
 use Rattle.schema.specs.Views.{field_view, field_views}
-use Rattle.schema.specs.Stripe.{Entry, entry, Leaf}
+use Rattle.schema.specs.Stripe.{entry, Leaf}
 use Rattle.schema.proofs.Forest.{field_place}
 use Rattle.shred.specs.inner.Growing.{Columns, absences, absences_each}
 use Rattle.shred.specs.inner.Filling.{State, state_of, given}

@@ -1,4 +1,4 @@
-use Rattle.std.proofs.Common.{◌≡◌, ◌+◌, ◌++◌, ◌∷◌, [], List, drop, ap, sym, ◌∙◌, arith, drop_of_length-le}
+use Rattle.std.proofs.Common.{◌+◌, ◌∷◌, [], drop, ap, sym, ◌∙◌, arith}
 use Rattle.std.proofs.lemmas.Result.{on_ok_weaker}
 use Rattle.schema.specs.Values.{ValueTree, ValueTrees, view, views}
 use Rattle.schema.proofs.OneLevel.{view_group, view_list}

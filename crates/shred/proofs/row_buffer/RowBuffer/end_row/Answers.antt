@@ -6,7 +6,7 @@ use Rattle.assemble.specs.Sinks.{tokens_each}
 use Rattle.shred.specs.Buffer.{schema_of, Holds}
 use Rattle.shred.specs.inner.Filling.{state_of, root}
 use Rattle.shred.proofs.Openings.{one_schema, rows_back}
-use Rattle.shred.proofs.ShownRows.{as_many_kept, row_held}
+use Rattle.shred.proofs.ShownRows.{row_held}
 use Rattle.shred.proofs.row_buffer.RowBuffer.end_row.Goals as goal
 
 pub returns-then-self-ge-MOST_ROWS-clause-of : goal.returns-then-self-ge-MOST_ROWS-clause-of

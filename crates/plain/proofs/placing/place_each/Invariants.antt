@@ -2,7 +2,7 @@ use Rattle.std.proofs.Common.{map, take}
 use Rattle.std.specs.List.{flat_map}
 use Rattle.plain.specs.Plain.{spelling}
 use Rattle.plain.specs.inner.Placed.{Placed}
-use Rattle.plain.proofs.placing.place_values.Given as goal
+use Rattle.plain.proofs.placing.place_each.Given as goal
 
 -- the spellings so far are there
 abbrev pub invariant-loop-value : goal.invariant-loop-value

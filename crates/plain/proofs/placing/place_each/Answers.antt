@@ -3,7 +3,7 @@ use Rattle.std.proofs.lemmas.List.{length-map}
 use Rattle.plain.specs.Plain.{HasSpelling, spelling}
 use Rattle.plain.proofs.PlacedTexts.{placed_none, next_fits, next_placed, all_placed}
 use Rattle.plain.proofs.Seen.{seen_all}
-use Rattle.plain.proofs.placing.place_values.Goals as goal
+use Rattle.plain.proofs.placing.place_each.Goals as goal
 
 pub loop-value-init : goal.loop-value-init
 loop-value-init g c = placed_none c.args.room.now c.args.start
