@@ -5,8 +5,9 @@ ghost use Rattle.std.specs.List.{AllByRecursion};
 ghost use Rattle.jsonrows.specs.inner.Pieces.{Grows};
 ghost use Rattle.jsonrows.specs.inner.Spans.{span_tokens, IsSpan, IsNoted};
 
-use crate::pieces::Piece;
+use crate::pieces::{Piece, Pieces};
 use crate::unread::Unread;
+use smallvec::SmallVec;
 use std::alloc::{AllocError, Global};
 
 /// The pieces from an index up to another.
@@ -16,11 +17,17 @@ pub struct Span {
     pub to: usize,
 }
 
+/// How many members of an object take no allocation.
+const FEW_MEMBERS: usize = 8;
+
+/// Where the pieces of each member are, where it was read.
+pub type Spans = SmallVec<Option<Span>, FEW_MEMBERS>;
+
 /// Room for the spans of this many members, none of which was read.
-pub fn no_spans(alloc: Global, count: usize) -> Result<Vec<Option<Span>>, AllocError>
+pub fn no_spans(alloc: Global, count: usize) -> Result<Spans, AllocError>
     ensures { IfOk result (λ spans. spans.items ≡ replicate count None) }
 {
-    let mut spans = Vec::with_capacity(alloc, count)?;
+    let mut spans = Spans::with_capacity(alloc, count)?;
     for _ in 0..count {
         spans.push(None)?;
     }
@@ -28,12 +35,12 @@ pub fn no_spans(alloc: Global, count: usize) -> Result<Vec<Option<Span>>, AllocE
 }
 
 /// Notes where the pieces of a member are. Unknown where it was read before.
-pub fn note_span(spans: &mut Vec<Option<Span>>, index: usize, span: Span) -> Result<(), Unread>
+pub fn note_span(spans: &mut Spans, index: usize, span: Span) -> Result<(), Unread>
     ensures { OnOk result (IsNoted spans.old.items index span spans.new.items) }
 {
-    match spans.get(index) {
+    match spans.as_slice().get(index) {
         Some(None) => {
-            spans[index] = Some(span);
+            spans.as_mut_slice()[index] = Some(span);
             Ok(())
         }
         _ => Err(Unread::Unknown),
@@ -44,7 +51,7 @@ pub fn note_span(spans: &mut Vec<Option<Span>>, index: usize, span: Span) -> Res
 fn put_span<'t>(
     read: &[Piece<'t>],
     span: Option<Span>,
-    pieces: &mut Vec<Piece<'t>>,
+    pieces: &mut Pieces<'t>,
 ) -> Result<(), Unread>
     ensures there { OnOk result (IsSpan span) }
     ensures grows { OnOk result (Grows pieces.old.items pieces.new.items (span_tokens read.now span)) }
@@ -63,7 +70,7 @@ fn put_span<'t>(
 pub fn put_spans<'t>(
     read: &[Piece<'t>],
     spans: &[Option<Span>],
-    pieces: &mut Vec<Piece<'t>>,
+    pieces: &mut Pieces<'t>,
 ) -> Result<(), Unread>
     ensures { OnOk result (AllByRecursion IsSpan spans.now × Grows pieces.old.items pieces.new.items (flat_map (span_tokens read.now) spans.now)) }
 {

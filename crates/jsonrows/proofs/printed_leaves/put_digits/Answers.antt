@@ -15,4 +15,4 @@ returns c =
     let held : c.are_digits.result ≡ true = grind (arith, c.if-not-are_digits.false) in
     let d = c.are_digits.ensures held in
     let said = digits_shown t c.args.digits.now d.0 c.requires d.1.1.1 d.1.1.0 in
-    (d.0, (said.0, (said.1, one_more old c.push.new.self.items (Digits c.args.digits) c.in_ok-push.ensures.items ∙ ap (λ r. tokens_of old ++ single (digits_value (result_ok r)) ∷ []) d.1.0)))
+    (d.0, (said.0, (said.1, one_more old c.push.new.self.items (Digits c.args.digits) c.in_ok-push.ensures.ok ∙ ap (λ r. tokens_of old ++ single (digits_value (result_ok r)) ∷ []) d.1.0)))
