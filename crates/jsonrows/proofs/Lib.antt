@@ -43,3 +43,4 @@ pub mod PrintedLines
 pub mod PieceShowing
 pub mod NamedMembers
 pub mod DigitRuns
+pub mod DigitLanes
