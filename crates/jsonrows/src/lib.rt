@@ -14,6 +14,7 @@ mod json_text;
 mod laws;
 mod line;
 mod names;
+mod piece_list;
 mod pieces;
 mod place;
 mod plain_front;

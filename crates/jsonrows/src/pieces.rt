@@ -11,13 +11,11 @@ use crate::escapes::unescape;
 use crate::hex_digits::{decode_digits, make_room};
 use assemble::RowSink;
 use schema::ValueRef;
-use smallvec::SmallVec;
 use std::alloc::AllocError;
 
 /// A value of a row, or where a group or a list of it begins or ends.
-#[derive(Debug, Clone, Copy, Default)]
+#[derive(Debug, Clone, Copy)]
 pub enum Piece<'t> {
-    #[default]
     Null,
     Bool(bool),
     Int(i64),
@@ -32,12 +30,6 @@ pub enum Piece<'t> {
     ListBegins,
     ListEnds,
 }
-
-/// How many pieces of a row take no allocation.
-const FEW_PIECES: usize = 8;
-
-/// The pieces of a row.
-pub type Pieces<'t> = SmallVec<Piece<'t>, FEW_PIECES>;
 
 /// Shows a sink the bytes of these digits, which are decoded into a buffer.
 fn show_digits<K: RowSink>(

@@ -13,7 +13,8 @@ ghost use Rattle.jsonrows.specs.inner.Pieces.{IsAdded, IsRead};
 
 use crate::cursor::Cursor;
 use crate::hex_digits::are_digits;
-use crate::pieces::{Piece, Pieces};
+use crate::piece_list::Pieces;
+use crate::pieces::Piece;
 use crate::unread::Unread;
 use schema::{Kind, LeafType, Order, Value};
 

@@ -12,7 +12,8 @@ ghost use Rattle.jsonrows.specs.inner.Spans.{IsMemberRead};
 ghost use Rattle.jsonrows.specs.inner.Slots.{slot_of, slots_made, slot_view, slots_view, key_in, indices_of, order_of, order_view, vec_items};
 
 use crate::cursor::Cursor;
-use crate::pieces::{Piece, Pieces};
+use crate::piece_list::Pieces;
+use crate::pieces::Piece;
 use crate::printed_leaves::leaf_printed;
 use crate::row_plan::Slot;
 use crate::spans::{Span, Spans, no_spans, note_span, put_spans};
@@ -263,7 +264,8 @@ fn by_name<'t>(
     if order.is_empty() {
         return Err(Unread::Unknown);
     }
-    let mut read = Pieces::with_capacity(alloc, fields.len())?;
+    let mut read = Pieces::new(alloc);
+    read.reserve(fields.len())?;
     let mut spans = no_spans(alloc, fields.len())?;
     for (i, index) in order.iter().enumerate() {
         member_printed(

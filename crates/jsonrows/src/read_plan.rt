@@ -10,7 +10,7 @@ ghost use Rattle.jsonrows.specs.Reader.{IsRowOf};
 ghost use Rattle.jsonrows.specs.inner.Pieces.{Grows};
 
 use crate::cursor::Cursor;
-use crate::pieces::Pieces;
+use crate::piece_list::Pieces;
 use crate::printed_rows::members_printed;
 use crate::row_plan::RowPlan;
 use crate::unread::Unread;

@@ -14,7 +14,8 @@ ghost use Rattle.jsonrows.specs.Reader.{schema_of, IsRowOf};
 ghost use Rattle.jsonrows.specs.inner.Pieces.{tokens_of};
 
 use crate::names::{Names, names_of};
-use crate::pieces::{Piece, Pieces, show_pieces};
+use crate::piece_list::Pieces;
+use crate::pieces::{Piece, show_pieces};
 use crate::read_plan::ReadPlan;
 use crate::row_reading::row_from;
 use crate::tokens::{members_at, next_token};
@@ -92,7 +93,8 @@ fn row_printed(
 ) -> Result<Row, Unread>
     ensures { IfOk result (λ row. IsRowOf plan.now text.now (row_view row)) }
 {
-    let mut pieces = Pieces::with_capacity(alloc, *room)?;
+    let mut pieces = Pieces::new(alloc);
+    pieces.reserve(*room)?;
     plan.put_pieces(alloc, text, &mut pieces)?;
     *room = pieces.len();
     let fields = plan.schema().fields().len();
@@ -172,7 +174,8 @@ impl<'a> Reader<'a> {
         ensures which { IfErr result (λ e. (e ≡ RowShape) ⊎ (e ≡ Script) ⊎ (e ≡ Memory)) }
         ensures same { schema_of self.new ≡ schema_of self.old }
     {
-        let mut pieces = Pieces::with_capacity(self.alloc, self.room)?;
+        let mut pieces = Pieces::new(self.alloc);
+        pieces.reserve(self.room)?;
         match self.plan.put_pieces(self.alloc, text, &mut pieces) {
             Ok(()) => {
                 self.room = pieces.len();

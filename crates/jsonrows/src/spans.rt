@@ -5,7 +5,8 @@ ghost use Rattle.std.specs.List.{AllByRecursion};
 ghost use Rattle.jsonrows.specs.inner.Pieces.{Grows};
 ghost use Rattle.jsonrows.specs.inner.Spans.{span_tokens, IsSpan, IsNoted};
 
-use crate::pieces::{Piece, Pieces};
+use crate::piece_list::Pieces;
+use crate::pieces::Piece;
 use crate::unread::Unread;
 use smallvec::SmallVec;
 use std::alloc::{AllocError, Global};

@@ -14,4 +14,4 @@ returns c =
     let d = c.are_digits.ensures held in
     let b = bytes_of_pairs c.args.digits.now in
     let said = digits_shown t c.args.digits.now b c.requires d.1 d.0 in
-    (b, (said.0, (said.1, one_more old c.push.new.self.items (Digits c.args.digits) c.in_ok-push.ensures.ok)))
+    (b, (said.0, (said.1, one_more old c.push.new.self.items (Digits c.args.digits) c.in_ok-push.ensures)))

@@ -7,5 +7,5 @@ use Rattle.jsonrows.proofs.reader.row_printed.Goals as goal
 pub returns : goal.returns
 returns c =
     let h = c.in_ok-put_pieces.ensures in
-    let whole = ap tokens_of c.as_slice.ensures ∙ h.1.1 ∙ ap (λ ps. tokens_of ps ++ tokens_each h.0) c.in_ok-pieces.ensures.items in
+    let whole = ap tokens_of c.as_slice.ensures ∙ h.1.1 ∙ ap (λ ps. tokens_of ps ++ tokens_each h.0) (c.in_ok-reserve.ensures ∙ c.new-pieces.ensures) in
     subst (IsRowOf c.args.plan.now c.args.text.now) (sym (c.in_ok-row.ensures h.0 whole)) h.1.0
