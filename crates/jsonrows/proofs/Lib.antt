@@ -44,4 +44,4 @@ pub mod PieceShowing
 pub mod PieceLists
 pub mod NamedMembers
 pub mod DigitRuns
-pub mod DigitLanes
+pub mod LaneTests

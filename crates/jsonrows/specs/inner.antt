@@ -13,3 +13,4 @@ pub mod PieceLists
 pub mod Spans
 pub mod LowerDigits
 pub mod Escapes
+pub mod FirstLane

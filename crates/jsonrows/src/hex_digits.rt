@@ -1,12 +1,12 @@
 //! Bytes by their hexadecimal digits in lower case.
 
 ghost use Rattle.std.specs.Prelude.{◌≡◌, ◌≤◌, ◌+◌, ◌/◌, ℕ, List, true, length, OnOk, IsTrue};
-ghost use Rattle.std.specs.Bool.{OnTrue};
 ghost use Rattle.std.specs.List.{AllPass};
 ghost use Rattle.schema.specs.Fits.{are_bytes, fits_kind};
 ghost use Rattle.schema.specs.Values.{bytes};
 ghost use Rattle.jsonrows.specs.inner.LowerDigits.{is_lower_digit, DigitsBetween, digit_value, pair_value, bytes_of_pairs, AreDigitsOf};
 
+use crate::lanes::first_set;
 use schema::Kind;
 use std::alloc::AllocError;
 use std::simd::prelude::*;
@@ -23,35 +23,71 @@ fn is_lower_digit(byte: u8) -> bool
 fn are_lower_digits(digits: &[u8]) -> bool
     ensures { IsTrue result → AllPass is_lower_digit digits.now }
 {
-    digits_by_one(digits, digits_by_16(digits)) == digits.len()
+    digits_front(digits) == digits.len()
 }
 
-/// Whether 16 bytes are digits.
+/// How many bytes at the front are digits.
 #[inline(always)]
-fn are_digits_16(bytes: &[u8], at: usize) -> bool
-    requires { at + 16 ≤ length bytes.now }
-    ensures { OnTrue result (DigitsBetween bytes.now at (at + 16)) }
-{
-    let v = u8x16::from_slice(&bytes[at..]);
-    ((v - u8x16::splat(b'0')).simd_ge(u8x16::splat(10))
-        & (v - u8x16::splat(b'a')).simd_ge(u8x16::splat(6))).to_bitmask()
-        == 0
-}
-
-/// How many bytes at the front, by 16, are digits.
-#[inline(always)]
-fn digits_by_16(bytes: &[u8]) -> usize
+fn digits_front(bytes: &[u8]) -> usize
     ensures within { result ≤ length bytes.now }
     ensures digits { DigitsBetween bytes.now 0 result }
 {
     let mut at = 0;
-    while bytes.len() - at >= 16 && are_digits_16(bytes, at) {
+    while bytes.len() - at >= 16 {
+        let count = digits_of_16(bytes, at);
+        if count < 16 {
+            return at + count;
+        }
         at += 16;
     }
-    at
+    digits_by_8(bytes, at)
 }
 
-/// So one by one, after those before an index.
+/// How many of 16 bytes are digits, up to the first that is none.
+#[inline(always)]
+fn digits_of_16(bytes: &[u8], at: usize) -> usize
+    requires { at + 16 ≤ length bytes.now }
+    ensures within { result ≤ 16 }
+    ensures digits { DigitsBetween bytes.now at (at + result) }
+{
+    let v = u8x16::from_slice(&bytes[at..]);
+    let others = ((v - u8x16::splat(b'0')).simd_ge(u8x16::splat(10))
+        & (v - u8x16::splat(b'a')).simd_ge(u8x16::splat(6))).to_bitmask();
+    first_set(others, 16)
+}
+
+/// So of 8 bytes.
+#[inline(always)]
+fn digits_of_8(bytes: &[u8], at: usize) -> usize
+    requires { at + 8 ≤ length bytes.now }
+    ensures within { result ≤ 8 }
+    ensures digits { DigitsBetween bytes.now at (at + result) }
+{
+    let v = u8x8::from_slice(&bytes[at..]);
+    let others = ((v - u8x8::splat(b'0')).simd_ge(u8x8::splat(10))
+        & (v - u8x8::splat(b'a')).simd_ge(u8x8::splat(6))).to_bitmask();
+    first_set(others, 8)
+}
+
+/// How many bytes are digits where those before an index are, and few are left.
+#[inline(always)]
+fn digits_by_8(bytes: &[u8], from: usize) -> usize
+    requires within { from ≤ length bytes.now }
+    requires digits { DigitsBetween bytes.now 0 from }
+    ensures within { result ≤ length bytes.now }
+    ensures digits { DigitsBetween bytes.now 0 result }
+{
+    if bytes.len() - from < 8 {
+        return digits_by_one(bytes, from);
+    }
+    let count = digits_of_8(bytes, from);
+    if count < 8 {
+        return from + count;
+    }
+    digits_by_one(bytes, from + 8)
+}
+
+/// So one by one.
 #[inline(always)]
 fn digits_by_one(bytes: &[u8], from: usize) -> usize
     requires within { from ≤ length bytes.now }

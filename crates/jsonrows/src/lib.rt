@@ -11,6 +11,7 @@ mod filter_reading;
 mod hex_digits;
 mod integers;
 mod json_text;
+mod lanes;
 mod laws;
 mod line;
 mod names;
