@@ -14,3 +14,4 @@ pub mod Spans
 pub mod LowerDigits
 pub mod Escapes
 pub mod FirstLane
+pub mod SpanLists

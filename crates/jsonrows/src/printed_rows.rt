@@ -16,7 +16,7 @@ use crate::piece_list::Pieces;
 use crate::pieces::Piece;
 use crate::printed_leaves::leaf_printed;
 use crate::row_plan::Slot;
-use crate::spans::{Span, Spans, no_spans, note_span, put_spans};
+use crate::spans::{Span, Spans, put_spans};
 use crate::unread::Unread;
 use schema::{Field, Repetition};
 use std::alloc::Global;
@@ -242,7 +242,7 @@ fn member_printed<'t>(
     let from = read.len();
     field_printed(alloc, field, slot, line, read)?;
     let to = read.len();
-    note_span(spans, index, Span { from, to })
+    spans.note(index, Span { from, to })
 }
 
 /// Reads the values of fields that stand in another order than their names, after the brace. The members stand in the
@@ -266,7 +266,7 @@ fn by_name<'t>(
     }
     let mut read = Pieces::new(alloc);
     read.reserve(fields.len())?;
-    let mut spans = no_spans(alloc, fields.len())?;
+    let mut spans = Spans::new(alloc, fields.len())?;
     for (i, index) in order.iter().enumerate() {
         member_printed(
             alloc,

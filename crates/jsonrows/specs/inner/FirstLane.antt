@@ -1,6 +1,6 @@
 -- Which lane of a vector is the first that a test finds.
 use Rattle.std.specs.Prelude.{ℕ, ◌==◌, if◌then◌else◌}
-use lib.Count.{count_trailing_zeros}
+use Rattle.std.specs.Int.Count.{count_trailing_zeros}
 
 -- by the mask of the lanes; how many they are, where it finds none
 abbrev pub first_lane : ℕ → ℕ → ℕ

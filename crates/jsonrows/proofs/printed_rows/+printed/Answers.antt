@@ -130,9 +130,9 @@ member_printed-returns t c =
     let s = c.in_ok-slot.slot.now in
     let same : slot_view s ≡ slot_of (field_view f) = slot_there fs c.args.slots.now c.args.index f s c.requires c.in_ok-field.ensures.0 c.in_ok-slot.ensures.0 c.in_ok-field.ensures.1 c.in_ok-slot.ensures.1 in
     let held : c.skip_key.result ≡ true = grind (arith, c.if-not-skip_key.false) in
-    on_ok_weaker c.note_span.result
-    (member_read fs c.args.index f c.args.is_first (rest_of c.args.line.now) (key_in (slot_view s)) c.skip_key.new.line c.field_printed.new.line c.args.read.now.items c.field_printed.new.pieces.items c.args.spans.now.items c.note_span.new.spans.items
-    c.len-from.result c.len-to.result c.in_ok-field.ensures.0 c.in_ok-field.ensures.1 (ap key_in same) (c.skip_key.ensures held) c.in_ok-field_printed.ensures c.len-from.ensures c.len-to.ensures) c.note_span.ensures
+    on_ok_weaker c.note.result
+    (member_read fs c.args.index f c.args.is_first (rest_of c.args.line.now) (key_in (slot_view s)) c.skip_key.new.line c.field_printed.new.line c.args.read.now.items c.field_printed.new.pieces.items c.args.spans.now.items c.note.new.self.items
+    c.len-from.result c.len-to.result c.in_ok-field.ensures.0 c.in_ok-field.ensures.1 (ap key_in same) (c.skip_key.ensures held) c.in_ok-field_printed.ensures c.len-from.ensures c.len-to.ensures) c.note.ensures
 
 pub ordered_printed-returns-in-None : goal.ordered_printed-returns-in-None
 ordered_printed-returns-in-None t c =
