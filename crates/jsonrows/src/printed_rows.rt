@@ -160,6 +160,7 @@ fn items_printed<'t>(
 }
 
 /// Reads a value of a field.
+#[inline(always)]
 #[cycle(printed)]
 fn field_printed<'t>(
     alloc: Global,

@@ -21,6 +21,9 @@ pub struct Span {
 /// How many members of an object take no allocation.
 const FEW: usize = 8;
 
+/// No spans.
+const NONE: [Option<Span>; FEW] = [None; FEW];
+
 /// Where the pieces of each member are, where it was read: in `few`, where there are `count` of no more, or in `many`.
 #[derive(Drop)]
 pub struct Spans {
@@ -50,13 +53,13 @@ impl Spans {
         if count > FEW {
             let many = no_spans(alloc, count)?;
             return Ok(Spans {
-                few: [None; FEW],
+                few: NONE,
                 count,
                 many,
             });
         }
         Ok(Spans {
-            few: [None; FEW],
+            few: NONE,
             count,
             many: Vec::new(alloc),
         })
