@@ -1,6 +1,7 @@
 -- The text of an integer, digit by digit.
-use Rattle.std.proofs.Common.{◌≡◌, ℕ, ℤ, pos, negsuc, ◌+◌, ◌-◌, ◌*◌, ◌/◌, ◌%◌, ◌^◌, ◌<◌, List, [], ◌∷◌, ◌++◌, Some, decimal, to_z, of_z, sym, ap, ◌∙◌, arith, append_assoc}
+use Rattle.std.proofs.Common.{◌≡◌, ℕ, ℤ, pos, negsuc, ◌+◌, ◌-◌, ◌*◌, ◌/◌, ◌%◌, ◌^◌, ◌<◌, List, [], ◌∷◌, ◌++◌, Some, decimal, to_z, of_z, sym, ap, ◌∙◌, arith, add-one, append_assoc}
 use Rattle.std.proofs.Math.Facts.{to_z-of_z}
+use Rattle.std.proofs.Math.Nat.{pow-suc, pow-le-pow_right}
 use Rattle.std.proofs.lemmas.Fmt.{decimal_step, decimal_digit}
 use Rattle.std.specs.Fmt.{signed_decimal}
 use Rattle.std.specs.Int.{w64}
@@ -42,3 +43,10 @@ integer_read s (negsuc n) is fits = ap number_of is ∙ number_of-negative n (om
 pub same_bits : (z : ℤ) → FitsSigned w64 z → to_z w64 (of_z w64 z) ≡ z
 same_bits (pos n) fits = to_z-of_z {w = w64} {z = pos n} (record { sfits = omega (arith, fits) })
 same_bits (negsuc n) fits = to_z-of_z {w = w64} {z = negsuc n} (record { sfits = omega (arith, fits) })
+
+-- a number of i + 1 digits
+pub few_below : (i n : ℕ) → i < 17 → n < 10 ^ (i + 1) → n < 10 ^ 17
+few_below i n few small = let le = pow-le-pow_right {n = 10} (omega arith) {i = i + 1} {j = 17} (omega (arith, few)) in omega (arith, small, le)
+
+pub one_longer : (i n d : ℕ) → n < 10 ^ (i + 1) → d < 10 → n * 10 + d < 10 ^ (i + 1 + 1)
+one_longer i n d small one = let e : 10 ^ (i + 1 + 1) ≡ 10 ^ (i + 1) * 10 = ap (λ k. 10 ^ k) (add-one (i + 1)) ∙ pow-suc 10 (i + 1) in omega (arith, small, one, e)

@@ -41,5 +41,7 @@ pub mod ShownRows
 pub mod Sizes
 pub mod PrintedLines
 pub mod PieceShowing
+pub mod PieceLists
 pub mod NamedMembers
 pub mod DigitRuns
+pub mod LaneTests

@@ -9,7 +9,7 @@ use Rattle.jsonrows.specs.Json.{row_text}
 use Rattle.jsonrows.specs.Reader.{IsRowOf}
 use Rattle.assemble.specs.Sinks.{tokens_each}
 use Rattle.jsonrows.specs.declared.pieces.Piece.{Piece}
-use Rattle.jsonrows.specs.inner.Pieces.{tokens_of, AreRead}
+use Rattle.jsonrows.specs.inner.Pieces.{Grows, AreRead}
 use Rattle.jsonrows.proofs.RowsBack.{rows_read_back}
 
 pub printed_row : (fs : Fields) (vs : ValueTrees) (text : List ℕ) → IsSchema fs → IsWithinLimits fs → fits_each fs vs ≡ true → text ≡ row_text fs vs → IsRowOf fs text vs
@@ -17,9 +17,9 @@ printed_row fs vs text valid within fit is =
     let back = rows_read_back fs vs valid within fit in
     (back.0, (ap read is ∙ back.1, (back.2, fit)))
 
--- a whole line was read, with nothing before it
-pub line_read : (fs gs : Fields) (text rest new : List ℕ) (ks ls : List Piece) → fs ≡ gs → AreRead (fits_each fs) (row_text fs) rest new ks ls → rest ≡ text → new ≡ [] → ks ≡ [] → (vs : ValueTrees) × ((fits_each gs vs ≡ true) × ((text ≡ row_text gs vs) × (tokens_of ls ≡ tokens_each vs)))
-line_read fs gs text rest new ks ls same h is none empty =
+-- a whole line was read
+pub line_read : (fs gs : Fields) (text rest new : List ℕ) (ks ls : List Piece) → fs ≡ gs → AreRead (fits_each fs) (row_text fs) rest new ks ls → rest ≡ text → new ≡ [] → (vs : ValueTrees) × ((fits_each gs vs ≡ true) × ((text ≡ row_text gs vs) × Grows ks ls (tokens_each vs)))
+line_read fs gs text rest new ks ls same h is none =
     let vs = h.0 in
     let said : text ≡ row_text gs vs = sym is ∙ h.1.1.0 ∙ ap (λ x. row_text fs vs ++ x) none ∙ append-nil (row_text fs vs) ∙ ap (λ x. row_text x vs) same in
-    (vs, (ap (λ x. fits_each x vs) (sym same) ∙ h.1.0, (said, h.1.1.1 ∙ ap (λ x. tokens_of x ++ tokens_each vs) empty)))
+    (vs, (ap (λ x. fits_each x vs) (sym same) ∙ h.1.0, (said, h.1.1.1)))

@@ -9,6 +9,9 @@ pub mod Opening
 pub mod Room
 pub mod Lines
 pub mod Pieces
+pub mod PieceLists
 pub mod Spans
 pub mod LowerDigits
 pub mod Escapes
+pub mod FirstLane
+pub mod SpanLists

@@ -7,6 +7,9 @@ ghost use Rattle.serde_json.specs.View.{number_view};
 
 use serde_json::Number;
 
+/// How many digits may stand after one digit in a number that cannot pass 64 bits.
+const FEW_DIGITS: usize = 17;
+
 /// The number below 2^64 whose decimal digits stand at the front, with no zero before another digit, and how many
 /// they are.
 #[inline(always)]
@@ -82,16 +85,51 @@ fn natural_from(digits: &[u8]) -> Option<u64>
     }
 }
 
-/// The number that the digits at the front are after those of another, and how many they are.
+/// The number that the digits at the front are after one digit, and how many they are.
 #[inline(always)]
 fn front_after(before: u64, digits: &[u8]) -> Option<(u64, usize)>
-    requires { 0 < before }
+    requires some { 0 < before }
+    requires one { before < 10 }
     ensures { IfSome result (λ r. (decimal before ++ digits.now ≡ decimal r.0 ++ drop r.1 digits.now) × (r.1 ≤ length digits.now)) }
 {
+    let (number, count) = few_after(before, digits);
+    if count < FEW_DIGITS {
+        Some((number, count))
+    } else {
+        more_after(number, digits, count)
+    }
+}
+
+/// So for the first digits, which cannot make a number that passes 64 bits.
+#[inline(always)]
+fn few_after(before: u64, digits: &[u8]) -> (u64, usize)
+    requires some { 0 < before }
+    requires one { before < 10 }
+    ensures some { 0 < result.0 }
+    ensures front { decimal before ++ digits.now ≡ decimal result.0 ++ drop result.1 digits.now }
+    ensures within { result.1 ≤ length digits.now }
+{
+    let most = digits.len().min(FEW_DIGITS);
     let mut number = before;
-    for (i, byte) in digits.iter().enumerate() {
-        let Some(digit) = digit_of(*byte) else {
-            return Some((number, i));
+    let mut count = 0;
+    while count < most && digits[count].is_ascii_digit() {
+        number = number * 10 + u64::from(digits[count] - b'0');
+        count += 1;
+    }
+    (number, count)
+}
+
+/// So for the digits from an index on, and where they end.
+#[inline(never)]
+fn more_after(before: u64, digits: &[u8], from: usize) -> Option<(u64, usize)>
+    requires some { 0 < before }
+    requires within { from ≤ length digits.now }
+    ensures { IfSome result (λ r. (decimal before ++ drop from digits.now ≡ decimal r.0 ++ drop r.1 digits.now) × (r.1 ≤ length digits.now)) }
+{
+    let mut number = before;
+    for at in from..digits.len() {
+        let Some(digit) = digit_of(digits[at]) else {
+            return Some((number, at));
         };
         number = number.checked_mul(10)?.checked_add(digit)?;
     }

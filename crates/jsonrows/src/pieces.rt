@@ -2,14 +2,13 @@
 
 ghost use Rattle.std.specs.Prelude.{◌∷◌, [], OnOk};
 ghost use Rattle.assemble.specs.Sinks.{Adds, single};
-ghost use Rattle.std.specs.Result.{result_ok};
-ghost use Rattle.hex.specs.Hex.{decode_of};
 ghost use Rattle.schema.specs.Values.{bytes};
 ghost use Rattle.jsonrows.specs.inner.Escapes.{unescape};
-ghost use Rattle.jsonrows.specs.inner.Pieces.{digits_value, token_of, tokens_of};
+ghost use Rattle.jsonrows.specs.inner.LowerDigits.{bytes_of_pairs};
+ghost use Rattle.jsonrows.specs.inner.Pieces.{token_of, tokens_of};
 
 use crate::escapes::unescape;
-use crate::hex_digits::make_room;
+use crate::hex_digits::{decode_digits, make_room};
 use assemble::RowSink;
 use schema::ValueRef;
 use std::alloc::AllocError;
@@ -38,15 +37,13 @@ fn show_digits<K: RowSink>(
     buffer: &mut Vec<u8>,
     sink: &mut K,
 ) -> Result<(), AllocError>
-    ensures shown { OnOk result (Adds (K.shows sink.old) (K.shows sink.new) (single (digits_value (result_ok (decode_of digits.now))) ∷ [])) }
+    ensures shown { OnOk result (Adds (K.shows sink.old) (K.shows sink.new) (single (bytes (bytes_of_pairs digits.now)) ∷ [])) }
 {
     let count = digits.len() / 2;
     make_room(buffer, count)?;
     let bytes = &mut buffer.as_mut_slice()[..count];
-    match hex::decode_to_slice(digits, bytes) {
-        Ok(()) => sink.value(ValueRef::Bytes(bytes)),
-        Err(_) => sink.value(ValueRef::Null),
-    }
+    decode_digits(digits.as_bytes(), bytes);
+    sink.value(ValueRef::Bytes(bytes))
 }
 
 /// Shows a sink the bytes for which the content of a string stands, which are put into a buffer.

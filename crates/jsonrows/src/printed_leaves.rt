@@ -13,6 +13,7 @@ ghost use Rattle.jsonrows.specs.inner.Pieces.{IsAdded, IsRead};
 
 use crate::cursor::Cursor;
 use crate::hex_digits::are_digits;
+use crate::piece_list::Pieces;
 use crate::pieces::Piece;
 use crate::unread::Unread;
 use schema::{Kind, LeafType, Order, Value};
@@ -24,7 +25,7 @@ const NUMBERS_OF_INT32: u64 = 4_294_967_296;
 pub fn leaf_printed<'t>(
     leaf_type: &LeafType,
     line: &mut Cursor<'t>,
-    pieces: &mut Vec<Piece<'t>>,
+    pieces: &mut Pieces<'t>,
 ) -> Result<(), Unread>
     ensures { OnOk result (IsRead (fits_leaf (leaf_type_view leaf_type.now))
         (leaf_json (leaf_type_view leaf_type.now)) line.old line.new pieces.old.items pieces.new.items) }
@@ -71,7 +72,7 @@ fn number_printed(leaf_type: &LeafType, line: &mut Cursor<'_>) -> Option<i64>
 fn integer_printed<'t>(
     leaf_type: &LeafType,
     line: &mut Cursor<'t>,
-    pieces: &mut Vec<Piece<'t>>,
+    pieces: &mut Pieces<'t>,
 ) -> Result<(), Unread>
     ensures { OnOk result (IsRead (fits_leaf (leaf_type_view leaf_type.now))
         (leaf_json (leaf_type_view leaf_type.now)) line.old line.new pieces.old.items pieces.new.items) }
@@ -101,7 +102,7 @@ fn boolean_read(line: &mut Cursor<'_>) -> Option<bool>
 fn boolean_printed<'t>(
     leaf_type: &LeafType,
     line: &mut Cursor<'t>,
-    pieces: &mut Vec<Piece<'t>>,
+    pieces: &mut Pieces<'t>,
 ) -> Result<(), Unread>
     ensures { OnOk result (IsRead (fits_leaf (leaf_type_view leaf_type.now))
         (leaf_json (leaf_type_view leaf_type.now)) line.old line.new pieces.old.items pieces.new.items) }
@@ -118,7 +119,7 @@ fn boolean_printed<'t>(
 fn put_digits<'t>(
     leaf_type: &LeafType,
     digits: &'t str,
-    pieces: &mut Vec<Piece<'t>>,
+    pieces: &mut Pieces<'t>,
 ) -> Result<(), Unread>
     requires { is_text leaf_type.now.kind (annotation_view leaf_type.now.annotation) ≡ false }
     ensures { OnOk result (IsAdded (leaf_type_view leaf_type.now) digits.now pieces.old.items pieces.new.items) }
@@ -134,7 +135,7 @@ fn put_digits<'t>(
 fn text_printed<'t>(
     leaf_type: &LeafType,
     line: &mut Cursor<'t>,
-    pieces: &mut Vec<Piece<'t>>,
+    pieces: &mut Pieces<'t>,
 ) -> Result<(), Unread>
     requires { is_text leaf_type.now.kind (annotation_view leaf_type.now.annotation) ≡ true }
     ensures { OnOk result (IsRead (fits_leaf (leaf_type_view leaf_type.now))
@@ -151,7 +152,7 @@ fn text_printed<'t>(
 fn digits_printed<'t>(
     leaf_type: &LeafType,
     line: &mut Cursor<'t>,
-    pieces: &mut Vec<Piece<'t>>,
+    pieces: &mut Pieces<'t>,
 ) -> Result<(), Unread>
     requires { is_text leaf_type.now.kind (annotation_view leaf_type.now.annotation) ≡ false }
     ensures { OnOk result (IsRead (fits_leaf (leaf_type_view leaf_type.now))
@@ -167,7 +168,7 @@ fn digits_printed<'t>(
 fn bytes_printed<'t>(
     leaf_type: &LeafType,
     line: &mut Cursor<'t>,
-    pieces: &mut Vec<Piece<'t>>,
+    pieces: &mut Pieces<'t>,
 ) -> Result<(), Unread>
     ensures { OnOk result (IsRead (fits_leaf (leaf_type_view leaf_type.now))
         (leaf_json (leaf_type_view leaf_type.now)) line.old line.new pieces.old.items pieces.new.items) }

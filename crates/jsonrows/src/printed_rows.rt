@@ -12,10 +12,11 @@ ghost use Rattle.jsonrows.specs.inner.Spans.{IsMemberRead};
 ghost use Rattle.jsonrows.specs.inner.Slots.{slot_of, slots_made, slot_view, slots_view, key_in, indices_of, order_of, order_view, vec_items};
 
 use crate::cursor::Cursor;
+use crate::piece_list::Pieces;
 use crate::pieces::Piece;
 use crate::printed_leaves::leaf_printed;
 use crate::row_plan::Slot;
-use crate::spans::{Span, no_spans, note_span, put_spans};
+use crate::spans::{Span, Spans, put_spans};
 use crate::unread::Unread;
 use schema::{Field, Repetition};
 use std::alloc::Global;
@@ -28,7 +29,7 @@ pub fn members_printed<'t>(
     slots: &[Slot],
     order: Option<&[usize]>,
     line: &mut Cursor<'t>,
-    pieces: &mut Vec<Piece<'t>>,
+    pieces: &mut Pieces<'t>,
 ) -> Result<(), Unread>
     requires slots { slots_view slots.now ≡ slots_made (field_views fields.now) }
     requires order { order_view order ≡ order_of (field_views fields.now) }
@@ -108,7 +109,7 @@ fn inside_printed<'t>(
     field: &Field,
     slot: &Slot,
     line: &mut Cursor<'t>,
-    pieces: &mut Vec<Piece<'t>>,
+    pieces: &mut Pieces<'t>,
 ) -> Result<(), Unread>
     requires { slot_view slot.now ≡ slot_of (field_view field.now) }
     ensures { OnOk result (IsRead (fits_inside (field_view field.now))
@@ -138,7 +139,7 @@ fn items_printed<'t>(
     field: &Field,
     slot: &Slot,
     line: &mut Cursor<'t>,
-    pieces: &mut Vec<Piece<'t>>,
+    pieces: &mut Pieces<'t>,
 ) -> Result<(), Unread>
     requires { slot_view slot.now ≡ slot_of (field_view field.now) }
     ensures { OnOk result (AreRead (each (fits_inside (field_view field.now)))
@@ -159,13 +160,14 @@ fn items_printed<'t>(
 }
 
 /// Reads a value of a field.
+#[inline(always)]
 #[cycle(printed)]
 fn field_printed<'t>(
     alloc: Global,
     field: &Field,
     slot: &Slot,
     line: &mut Cursor<'t>,
-    pieces: &mut Vec<Piece<'t>>,
+    pieces: &mut Pieces<'t>,
 ) -> Result<(), Unread>
     requires { slot_view slot.now ≡ slot_of (field_view field.now) }
     ensures { OnOk result (IsRead (fits (field_view field.now)) (field_json (field_view field.now)) line.old line.new pieces.old.items pieces.new.items) }
@@ -198,7 +200,7 @@ fn in_order<'t>(
     fields: &[Field],
     slots: &[Slot],
     line: &mut Cursor<'t>,
-    pieces: &mut Vec<Piece<'t>>,
+    pieces: &mut Pieces<'t>,
 ) -> Result<(), Unread>
     requires { slots_view slots.now ≡ slots_made (field_views fields.now) }
     ensures { OnOk result (AreRead (fits_each (field_views fields.now)) (members_shown (field_views fields.now)) (44 ∷ rest_of line.old)
@@ -226,8 +228,8 @@ fn member_printed<'t>(
     index: usize,
     is_first: bool,
     line: &mut Cursor<'t>,
-    read: &mut Vec<Piece<'t>>,
-    spans: &mut Vec<Option<Span>>,
+    read: &mut Pieces<'t>,
+    spans: &mut Spans,
 ) -> Result<(), Unread>
     requires { slots_view slots.now ≡ slots_made (field_views fields.now) }
     ensures { OnOk result (IsMemberRead (field_views fields.now) index is_first (rest_of line.old)
@@ -238,10 +240,10 @@ fn member_printed<'t>(
     if !skip_key(slot, is_first, line) {
         return Err(Unread::Unknown);
     }
-    let from = read.as_slice().len();
+    let from = read.len();
     field_printed(alloc, field, slot, line, read)?;
-    let to = read.as_slice().len();
-    note_span(spans, index, Span { from, to })
+    let to = read.len();
+    spans.note(index, Span { from, to })
 }
 
 /// Reads the values of fields that stand in another order than their names, after the brace. The members stand in the
@@ -253,7 +255,7 @@ fn by_name<'t>(
     slots: &[Slot],
     order: &[usize],
     line: &mut Cursor<'t>,
-    pieces: &mut Vec<Piece<'t>>,
+    pieces: &mut Pieces<'t>,
 ) -> Result<(), Unread>
     requires slots { slots_view slots.now ≡ slots_made (field_views fields.now) }
     requires order { order.now ≡ indices_of (field_views fields.now) }
@@ -263,8 +265,9 @@ fn by_name<'t>(
     if order.is_empty() {
         return Err(Unread::Unknown);
     }
-    let mut read = Vec::with_capacity(alloc, fields.len())?;
-    let mut spans = no_spans(alloc, fields.len())?;
+    let mut read = Pieces::new(alloc);
+    read.reserve(fields.len())?;
+    let mut spans = Spans::new(alloc, fields.len())?;
     for (i, index) in order.iter().enumerate() {
         member_printed(
             alloc,
@@ -288,7 +291,7 @@ fn ordered_printed<'t>(
     slots: &[Slot],
     order: Option<&[usize]>,
     line: &mut Cursor<'t>,
-    pieces: &mut Vec<Piece<'t>>,
+    pieces: &mut Pieces<'t>,
 ) -> Result<(), Unread>
     requires slots { slots_view slots.now ≡ slots_made (field_views fields.now) }
     requires order { order_view order ≡ order_of (field_views fields.now) }

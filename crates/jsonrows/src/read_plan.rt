@@ -1,16 +1,16 @@
 //! How rows of a schema are read from the form in which they are printed.
 
-ghost use Rattle.std.specs.Prelude.{◌≡◌, true, IfOk};
+ghost use Rattle.std.specs.Prelude.{◌≡◌, true, IfOk, OnOk};
 ghost use Rattle.bits.specs.Refusals.{RefusedMemoryOnly};
 ghost use Rattle.schema.specs.Fits.{fits_each};
 ghost use Rattle.schema.specs.Values.{ValueTrees};
 ghost use Rattle.assemble.specs.Sinks.{tokens_each};
 ghost use Rattle.jsonrows.specs.Json.{row_text};
 ghost use Rattle.jsonrows.specs.Reader.{IsRowOf};
-ghost use Rattle.jsonrows.specs.inner.Pieces.{tokens_of};
+ghost use Rattle.jsonrows.specs.inner.Pieces.{Grows};
 
 use crate::cursor::Cursor;
-use crate::pieces::Piece;
+use crate::piece_list::Pieces;
 use crate::printed_rows::members_printed;
 use crate::row_plan::RowPlan;
 use crate::unread::Unread;
@@ -59,40 +59,39 @@ impl<'a> ReadPlan<'a> {
         self.schema
     }
 
-    /// The pieces of the row whose printed text a line is, in a vector with room for this many.
+    /// Adds the pieces of the row whose printed text a line is.
     fn printed<'t>(
         &self,
         alloc: Global,
         text: &'t str,
-        room: usize,
-    ) -> Result<Vec<Piece<'t>>, Unread>
-        ensures { IfOk result (λ pieces. (values : ValueTrees) ×
-            ((fits_each self.now values ≡ true) × ((text.now ≡ row_text self.now values) × (tokens_of pieces.items ≡ tokens_each values)))) }
+        pieces: &mut Pieces<'t>,
+    ) -> Result<(), Unread>
+        ensures { OnOk result ((values : ValueTrees) ×
+            ((fits_each self.now values ≡ true) × ((text.now ≡ row_text self.now values) × Grows pieces.old.items pieces.new.items (tokens_each values)))) }
     {
         let mut line = Cursor::new(text);
-        let mut pieces = Vec::with_capacity(alloc, room)?;
         let fields = self.schema.fields();
         let slots = self.plan.slots();
         let order = self.plan.order();
-        members_printed(alloc, fields, slots, order, &mut line, &mut pieces)?;
+        members_printed(alloc, fields, slots, order, &mut line, pieces)?;
         if line.is_over() {
-            Ok(pieces)
+            Ok(())
         } else {
             Err(Unread::Unknown)
         }
     }
 
-    /// The pieces of the row that a text is, where it is one as it is printed, in a vector with room for this many.
-    pub fn pieces_of<'t>(
+    /// Adds the pieces of the row that a text is, where it is one as it is printed.
+    pub fn put_pieces<'t>(
         &self,
         alloc: Global,
         text: &'t str,
-        room: usize,
-    ) -> Result<Vec<Piece<'t>>, Unread>
-        ensures { IfOk result (λ pieces. (values : ValueTrees) × (IsRowOf self.now text.now values × (tokens_of pieces.items ≡ tokens_each values))) }
+        pieces: &mut Pieces<'t>,
+    ) -> Result<(), Unread>
+        ensures { OnOk result ((values : ValueTrees) × (IsRowOf self.now text.now values × Grows pieces.old.items pieces.new.items (tokens_each values))) }
     {
         // For the proof: what is known of the schema.
         let _ = self.schema.leaves();
-        self.printed(alloc, text, room)
+        self.printed(alloc, text, pieces)
     }
 }

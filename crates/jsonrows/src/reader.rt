@@ -14,6 +14,7 @@ ghost use Rattle.jsonrows.specs.Reader.{schema_of, IsRowOf};
 ghost use Rattle.jsonrows.specs.inner.Pieces.{tokens_of};
 
 use crate::names::{Names, names_of};
+use crate::piece_list::Pieces;
 use crate::pieces::{Piece, show_pieces};
 use crate::read_plan::ReadPlan;
 use crate::row_reading::row_from;
@@ -92,7 +93,9 @@ fn row_printed(
 ) -> Result<Row, Unread>
     ensures { IfOk result (λ row. IsRowOf plan.now text.now (row_view row)) }
 {
-    let pieces = plan.pieces_of(alloc, text, *room)?;
+    let mut pieces = Pieces::new(alloc);
+    pieces.reserve(*room)?;
+    plan.put_pieces(alloc, text, &mut pieces)?;
     *room = pieces.len();
     let fields = plan.schema().fields().len();
     let row = row_of_pieces(alloc, fields, pieces.as_slice(), buffer)?;
@@ -171,8 +174,10 @@ impl<'a> Reader<'a> {
         ensures which { IfErr result (λ e. (e ≡ RowShape) ⊎ (e ≡ Script) ⊎ (e ≡ Memory)) }
         ensures same { schema_of self.new ≡ schema_of self.old }
     {
-        match self.plan.pieces_of(self.alloc, text, self.room) {
-            Ok(pieces) => {
+        let mut pieces = Pieces::new(self.alloc);
+        pieces.reserve(self.room)?;
+        match self.plan.put_pieces(self.alloc, text, &mut pieces) {
+            Ok(()) => {
                 self.room = pieces.len();
                 show_pieces(pieces.as_slice(), &mut self.buffer, sink)?;
                 Ok(())

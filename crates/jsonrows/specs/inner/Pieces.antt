@@ -1,12 +1,10 @@
 -- What the pieces of a row are that was read from a line in the form in which rows are printed.
-use Rattle.std.specs.Prelude.{◌≡◌, ℕ, Bool, true, List, ◌++◌, map, Option, Some, None}
+use Rattle.std.specs.Prelude.{◌≡◌, ℕ, Bool, true, List, ◌++◌, map}
 use Rattle.serde_json.specs.Data.{Data, string}
 use Rattle.schema.specs.Annotations.{LeafType}
 use Rattle.schema.specs.Fits.{fits_leaf}
 use Rattle.schema.specs.Values.{ValueTree, null, boolean, integer, bytes, ValueTrees}
 use Rattle.assemble.specs.Sinks.{Token, single, group_begins, group_ends, list_begins, list_ends, tokens, tokens_each}
-use Rattle.std.specs.Result.{result_ok}
-use Rattle.hex.specs.Hex.{decode_of}
 use Rattle.jsonrows.specs.Json.{leaf_json}
 use Rattle.jsonrows.specs.declared.cursor.Cursor.{Cursor}
 use Rattle.jsonrows.specs.declared.pieces.Piece.{Piece}
@@ -14,11 +12,7 @@ use Rattle.jsonrows.specs.declared.pieces.Piece.TheVariants.{Null, Bool as OfBoo
 use Rattle.json.specs.Print.{quoted}
 use Rattle.jsonrows.specs.inner.Escapes.{unescape, IsText}
 use Rattle.jsonrows.specs.inner.Lines.{Takes, IsShown}
-
--- null where they are no digits
-abbrev pub digits_value : Option (List ℕ) → ValueTree
-digits_value (Some s) = bytes s
-digits_value None = null
+use Rattle.jsonrows.specs.inner.LowerDigits.{bytes_of_pairs}
 
 -- what a sink is shown of a piece
 abbrev pub token_of : Piece → Token
@@ -27,7 +21,7 @@ token_of (OfBool b) = single (boolean b)
 token_of (Int z) = single (integer z)
 token_of (Text s) = single (bytes s.now)
 token_of (Escaped s) = single (bytes (unescape s.now))
-token_of (Digits s) = single (digits_value (result_ok (decode_of s.now)))
+token_of (Digits s) = single (bytes (bytes_of_pairs s.now))
 token_of GroupBegins = group_begins
 token_of GroupEnds = group_ends
 token_of ListBegins = list_begins

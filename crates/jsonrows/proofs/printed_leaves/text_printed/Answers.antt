@@ -14,5 +14,5 @@ returns c =
     let read = c.in-Some.ensures in
     let s = read.0 in
     let said = string_shown t s (bytes s) (text_read t s c.requires read.1.0.0 read.1.0.1) in
-    let grown = one_more old c.push.new.self.items c.in-Some.piece c.in_ok-push.ensures.items ∙ ap (λ k. tokens_of old ++ k ∷ []) read.1.1.0 in
+    let grown = one_more old c.push.new.self.items c.in-Some.piece c.in_ok-push.ensures ∙ ap (λ k. tokens_of old ++ k ∷ []) read.1.1.0 in
     string_read t s c.args.line.now c.text.new.self old c.push.new.self.items read.1.1.1 (s, (said.0, (said.1, grown)))

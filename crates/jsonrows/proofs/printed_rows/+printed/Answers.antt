@@ -65,7 +65,7 @@ members_printed-returns-then-skip_byte t c =
     (c.if-not-skip_byte.ensures.taken refl) c.in_ok-ordered_printed.ensures (c.if-skip_byte.ensures.taken refl)
 
 pub by_name-loop-i-init : goal.by_name-loop-i-init
-by_name-loop-i-init t c = names_begin c.args.fields.now (rest_of c.args.line.now) c.in_ok-read.read.items c.in_ok-spans.spans.items c.in_ok-spans.ensures
+by_name-loop-i-init t c = names_begin c.args.fields.now (rest_of c.args.line.now) c.reserve.new.self.items c.in_ok-spans.spans.items c.in_ok-spans.ensures
 
 pub by_name-loop-i-preserved : goal.by_name-loop-i-preserved
 by_name-loop-i-preserved t c =
@@ -93,17 +93,17 @@ by_name-returns t c =
     let rest = rest_of l.line in
     let read = c.as_slice.result.now in
     let spans = c.as_slice-2.result.now in
-    let so = subst (λ x. NamesGo fs first js b rest x spans) (sym c.as_slice.ensures.value) (subst (λ x. NamesGo fs first js b rest l.read.items x) (sym c.as_slice-2.ensures.value) l.invariant) in
+    let so = subst (λ x. NamesGo fs first js b rest x spans) (sym c.as_slice.ensures) (subst (λ x. NamesGo fs first js b rest l.read.items x) (sym c.as_slice-2.ensures) l.invariant) in
     on_ok_weaker c.put_spans.result (names_end fs first js rest b read spans c.args.pieces.now.items c.put_spans.new.pieces.items so later (take_all l.i os (omega arith) ∙ c.requires.order)) c.put_spans.ensures
 
 pub field_printed-returns-then-skip : goal.field_printed-returns-then-skip
 field_printed-returns-then-skip t c =
-    null_read (field_view c.args.field.now) c.args.line.now c.skip.new.self c.args.pieces.now.items c.push.new.self.items Null (sym c.repetition.ensures ∙ c.in-Optional.is) (c.if-skip.ensures.taken refl) refl c.in_ok-push-in-Optional.ensures.items
+    null_read (field_view c.args.field.now) c.args.line.now c.skip.new.self c.args.pieces.now.items c.push.new.self.items Null (sym c.repetition.ensures ∙ c.in-Optional.is) (c.if-skip.ensures.taken refl) refl c.in_ok-push-in-Optional.ensures
 
 pub field_printed-returns-in_ok-push-in-Repeated-2 : goal.field_printed-returns-in_ok-push-in-Repeated-2
 field_printed-returns-in_ok-push-in-Repeated-2 t c =
     list_read (field_view c.args.field.now) c.args.line.now c.skip_byte.new.self c.items_printed.new.line c.args.pieces.now.items c.push-in-Repeated.new.self.items c.items_printed.new.pieces.items c.push-in-Repeated-2.new.self.items ListBegins ListEnds
-    (sym c.repetition.ensures ∙ c.in-Repeated.is) (c.if-not-skip_byte.ensures.taken refl) refl refl c.in_ok-push-in-Repeated.ensures.items c.in_ok-items_printed-in-Repeated.ensures c.in_ok-push-in-Repeated-2.ensures.items
+    (sym c.repetition.ensures ∙ c.in-Repeated.is) (c.if-not-skip_byte.ensures.taken refl) refl refl c.in_ok-push-in-Repeated.ensures c.in_ok-items_printed-in-Repeated.ensures c.in_ok-push-in-Repeated-2.ensures
 
 pub in_order-loop-i-init : goal.in_order-loop-i-init
 in_order-loop-i-init t c = members_begin c.args.fields.now (rest_of c.args.line.now) c.args.pieces.now.items
@@ -112,7 +112,7 @@ pub inside_printed-returns-in_ok-push-in-Group-slot-2 : goal.inside_printed-retu
 inside_printed-returns-in_ok-push-in-Group-slot-2 t c =
     group_shown c.args.field.now c.in-Group.name c.in-Group.repetition c.in-Group.annotation c.in-Group.fields c.as_slice-fields.result.now c.args.line.now c.members_printed.new.line
     c.args.pieces.now.items c.push.new.self.items c.members_printed.new.pieces.items c.push-in-Group-slot.new.self.items GroupBegins GroupEnds c.in-Group.is c.as_slice-fields.ensures.value refl refl
-    c.in_ok-push-in-Group-slot.ensures.items c.in_ok-members_printed-in-Group-slot.ensures c.in_ok-push-in-Group-slot-2.ensures.items
+    c.in_ok-push-in-Group-slot.ensures c.in_ok-members_printed-in-Group-slot.ensures c.in_ok-push-in-Group-slot-2.ensures
 
 pub items_printed-items-init : goal.items_printed-items-init
 items_printed-items-init t c = let f = field_view c.args.field.now in items_begin (fits_inside f) (inside_json f) (rest_of c.args.line.now) c.args.pieces.now.items
@@ -130,9 +130,9 @@ member_printed-returns t c =
     let s = c.in_ok-slot.slot.now in
     let same : slot_view s ≡ slot_of (field_view f) = slot_there fs c.args.slots.now c.args.index f s c.requires c.in_ok-field.ensures.0 c.in_ok-slot.ensures.0 c.in_ok-field.ensures.1 c.in_ok-slot.ensures.1 in
     let held : c.skip_key.result ≡ true = grind (arith, c.if-not-skip_key.false) in
-    on_ok_weaker c.note_span.result
-    (member_read fs c.args.index f c.args.is_first (rest_of c.args.line.now) (key_in (slot_view s)) c.skip_key.new.line c.field_printed.new.line c.args.read.now.items c.field_printed.new.pieces.items c.args.spans.now.items c.note_span.new.spans.items
-    (length c.as_slice-from.result.now) (length c.as_slice-to.result.now) c.in_ok-field.ensures.0 c.in_ok-field.ensures.1 (ap key_in same) (c.skip_key.ensures held) c.in_ok-field_printed.ensures (ap length c.as_slice-from.ensures.value) (ap length c.as_slice-to.ensures.value)) c.note_span.ensures
+    on_ok_weaker c.note.result
+    (member_read fs c.args.index f c.args.is_first (rest_of c.args.line.now) (key_in (slot_view s)) c.skip_key.new.line c.field_printed.new.line c.args.read.now.items c.field_printed.new.pieces.items c.args.spans.now.items c.note.new.self.items
+    c.len-from.result c.len-to.result c.in_ok-field.ensures.0 c.in_ok-field.ensures.1 (ap key_in same) (c.skip_key.ensures held) c.in_ok-field_printed.ensures c.len-from.ensures c.len-to.ensures) c.note.ensures
 
 pub ordered_printed-returns-in-None : goal.ordered_printed-returns-in-None
 ordered_printed-returns-in-None t c =

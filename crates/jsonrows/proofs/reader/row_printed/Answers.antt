@@ -1,9 +1,11 @@
-use Rattle.std.proofs.Common.{sym, ap, subst, ◌∙◌}
+use Rattle.std.proofs.Common.{◌++◌, sym, ap, subst, ◌∙◌}
+use Rattle.assemble.specs.Sinks.{tokens_each}
 use Rattle.jsonrows.specs.Reader.{IsRowOf}
 use Rattle.jsonrows.specs.inner.Pieces.{tokens_of}
 use Rattle.jsonrows.proofs.reader.row_printed.Goals as goal
 
 pub returns : goal.returns
 returns c =
-    let h = c.in_ok-pieces.ensures in
-    subst (IsRowOf c.args.plan.now c.args.text.now) (sym (c.in_ok-row.ensures h.0 (ap tokens_of c.as_slice.ensures.value ∙ h.1.1))) h.1.0
+    let h = c.in_ok-put_pieces.ensures in
+    let whole = ap tokens_of c.as_slice.ensures ∙ h.1.1 ∙ ap (λ ps. tokens_of ps ++ tokens_each h.0) (c.in_ok-reserve.ensures ∙ c.new-pieces.ensures) in
+    subst (IsRowOf c.args.plan.now c.args.text.now) (sym (c.in_ok-row.ensures h.0 whole)) h.1.0

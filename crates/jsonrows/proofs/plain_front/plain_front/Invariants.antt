@@ -1,6 +1,6 @@
 use Rattle.std.proofs.Common.{◌-◌, ◌≤◌, length}
 use Rattle.json.specs.Written.{PlainBetween}
-use Rattle.jsonrows.proofs.plain_front.plain_by_4.Given as goal
+use Rattle.jsonrows.proofs.plain_front.plain_front.Given as goal
 
 abbrev pub invariant-loop-at : goal.invariant-loop-at
 invariant-loop-at l = (l.at ≤ length l.bytes) × PlainBetween l.bytes 0 l.at

@@ -1,0 +1,7 @@
+-- Which lane of a vector is the first that a test finds.
+use Rattle.std.specs.Prelude.{ℕ, ◌==◌, if◌then◌else◌}
+use Rattle.std.specs.Int.Count.{count_trailing_zeros}
+
+-- by the mask of the lanes; how many they are, where it finds none
+abbrev pub first_lane : ℕ → ℕ → ℕ
+first_lane mask lanes = if mask == 0 then lanes else count_trailing_zeros 64 mask
