@@ -165,7 +165,8 @@ impl Line {
     #[inline(always)]
     pub fn set(&mut self, at: usize, byte: u8)
         requires { at < length self.old.items }
-        ensures { self.new.items ≡ slice_set self.old.items at byte }
+        ensures items { self.new.items ≡ slice_set self.old.items at byte }
+        ensures ready { self.new.ready ≡ self.old.ready }
     {
         self.bytes[at] = byte;
     }

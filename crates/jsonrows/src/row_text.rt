@@ -1,14 +1,14 @@
 //! The text of rows, made of what a sink is shown.
 
-ghost use Rattle.std.specs.Prelude.{◌≡◌, ◌+◌, ◌++◌, ◌∷◌, [], List, drop, IfSome, IfNone, IfOk, OnOk, OnErr, IsTrue, option_map, flat_map, take, ◌-◌};
+ghost use Rattle.std.specs.Prelude.{◌≡◌, ◌≤◌, ℕ, ◌+◌, ◌++◌, ◌∷◌, [], List, length, drop, IfSome, IfNone, IfOk, OnOk, OnErr, IsTrue, option_map, flat_map, take, ◌-◌};
 ghost use Rattle.schema.specs.Borrowed.{value_ref_view};
 ghost use Rattle.schema.specs.Fits.{fits_each};
 ghost use Rattle.schema.specs.Shape.{Fields};
 ghost use Rattle.schema.specs.Values.{ValueTrees};
 ghost use Rattle.jsonrows.specs.Json.{row_text};
-ghost use Rattle.jsonrows.specs.Rows.{plan_schema, IsReady, text_shows, BeginsRow, ShowsRow};
+ghost use Rattle.jsonrows.specs.Rows.{plan_schema, IsReady, text_shows, BeginsRow, ShowsRow, BeginsLine, ShowsLine};
 ghost use Rattle.jsonrows.specs.inner.Slots.{slot_view, slots_view};
-ghost use Rattle.jsonrows.specs.inner.Levels.{top_of, state_of, begun, next_slot, left, closed, level_at, entered, inside, between, piece, braced_at, bytes_text, value_text, text_at, seen};
+ghost use Rattle.jsonrows.specs.inner.Levels.{top_of, state_of, begun, next_slot, left, closed, level_at, entered, inside, between, piece, braced_at, bytes_text, value_text, text_at, seen, held, from_of};
 
 use crate::line::Line;
 use crate::row_plan::{RowPlan, Slot};
@@ -44,11 +44,12 @@ pub struct Outer<'a> {
 
 /// Prints the rows that it is shown. The bytes of each value are copied into one buffer, which is kept from row
 /// to row; where the fields of an object do not stand in the order of their names, its members are copied once
-/// more when it ends.
+/// more when it ends. Rows that are ended by [`end_row`](RowText::end_row) stay in the buffer as lines, until
+/// [`clear_lines`](RowText::clear_lines) is called.
 #[derive(Drop)]
 pub struct RowText<'a> {
     plan: &'a RowPlan<'a>,
-    /// The text so far.
+    /// The lines of earlier rows, and the text so far of the row that is being shown.
     text: Line,
     /// Where each member begins, before its comma, of the objects that have begun and whose fields do not stand
     /// in the order of their names.
@@ -62,12 +63,20 @@ pub struct RowText<'a> {
     spare: Line,
 }
 
+/// The bytes of a text from an index on.
+#[inline(always)]
+fn rest(text: &[u8], from: usize) -> &[u8]
+    ensures { result.now ≡ drop from text.now }
+{
+    text.get(from..).unwrap_or(&[])
+}
+
 /// Bytes from one index of a text up to another.
 #[inline(always)]
 fn between(text: &[u8], from: usize, to: usize) -> &[u8]
     ensures { result.now ≡ between text.now from to }
 {
-    let rest = text.get(from..).unwrap_or(&[]);
+    let rest = rest(text, from);
     rest.get(..to.saturating_sub(from)).unwrap_or(rest)
 }
 
@@ -124,14 +133,26 @@ fn sort(
 
 /// Puts a brace where a text begins, in place of the comma before its first member.
 #[inline(always)]
-fn put_brace(from: usize, text: &mut Line) -> Result<(), AllocError>
-    ensures { OnOk result (text.new.items ≡ braced_at from text.old.items) }
+fn put_brace(from: usize, text: &mut Line)
+    requires { 1 ≤ text.old.ready }
+    ensures items { text.new.items ≡ braced_at from text.old.items }
+    ensures ready { text.old.ready ≤ text.new.ready + 1 }
 {
     if from < text.len() {
         text.set(from, b'{');
-        return Ok(());
+    } else {
+        text.place_byte(b'{');
     }
-    text.push(b'{')?;
+}
+
+/// Puts the braces of an object whose text begins at `from`.
+#[inline(always)]
+fn put_braces(from: usize, text: &mut Line) -> Result<(), AllocError>
+    ensures { OnOk result (text.new.items ≡ braced_at from text.old.items ++ 125 ∷ []) }
+{
+    text.reserve(2)?;
+    put_brace(from, text);
+    text.place_byte(b'}');
     Ok(())
 }
 
@@ -223,26 +244,28 @@ impl<'a> RowText<'a> {
     /// Nothing is shown yet.
     pub fn new(alloc: Global, plan: &'a RowPlan<'a>) -> RowText<'a>
         ensures begins { IsReady plan.now → BeginsRow result (plan_schema plan.now) }
+        ensures empty { IsReady plan.now → BeginsLine result (plan_schema plan.now) [] }
     {
         RowText {
             plan,
             text: Line::new(alloc),
             starts: Vec::new(alloc),
-            here: RowText::top(plan),
+            here: RowText::top(plan, 0),
             shown: 0,
             outer: Vec::new(alloc),
             spare: Line::new(alloc),
         }
     }
 
-    /// The level of a row.
-    fn top(plan: &'a RowPlan<'a>) -> Level<'a>
-        ensures { level_at result 0 ≡ top_of plan.now }
+    /// The level of a row, whose text begins at `from`.
+    #[inline(always)]
+    fn top(plan: &'a RowPlan<'a>, from: usize) -> Level<'a>
+        ensures { level_at result 0 ≡ top_of plan.now from }
     {
         Level::Object {
             slots: plan.slots(),
             order: plan.order(),
-            from: 0,
+            from,
             first: 0,
         }
     }
@@ -325,15 +348,67 @@ impl<'a> RowText<'a> {
                     &mut self.text,
                     &mut self.spare,
                 )?;
+                self.starts.truncate(first);
             }
-            self.starts.truncate(first);
-            put_brace(from, &mut self.text)?;
-            self.text.push(b'}')?;
+            put_braces(from, &mut self.text)?;
         }
         Ok(())
     }
 
-    /// Appends the text of the row that was shown, as `row_to` returns it. It is then ready for the next row.
+    /// Where the text of the object begins of which values are shown.
+    #[inline(always)]
+    fn from(&self) -> usize
+        ensures { result ≡ from_of (state_of self.now).here }
+    {
+        match self.here {
+            Level::Object { from, .. } => from,
+            Level::List { .. } => 0,
+        }
+    }
+
+    /// Begins the next row, after the text so far.
+    fn begin_row(&mut self)
+        ensures begun { state_of self.new ≡ held (state_of self.old).text [] (top_of self.old.plan.now (length (state_of self.old).text)) [] }
+        ensures same { self.new.plan.now ≡ self.old.plan.now }
+    {
+        self.starts.clear();
+        self.outer.clear();
+        self.here = RowText::top(self.plan, self.text.len());
+        self.shown = 0;
+    }
+
+    /// Ends the row that was shown: its text, as `row_to` returns it, and a line feed stand after the lines of the
+    /// rows before it. It is then ready for the next row. It fails only when out of memory; all rows that it holds
+    /// are then lost, and the caller makes a new `RowText`.
+    #[inline]
+    pub fn end_row(&mut self) -> Result<(), AllocError>
+        ensures stands { (fs : Fields) (lines : List ℕ) (values : ValueTrees) → ShowsLine self.old fs lines values → IsTrue (fits_each fs values)
+            → OnOk result (BeginsLine self.new fs (lines ++ (row_text fs values ++ 10 ∷ []))) }
+    {
+        self.close()?;
+        self.text.push(b'\n')?;
+        self.here = RowText::top(self.plan, self.text.len());
+        self.shown = 0;
+        Ok(())
+    }
+
+    /// The lines of the rows that were ended, where no row has begun after them.
+    #[inline]
+    pub fn lines(&self) -> &[u8]
+        ensures { (fs : Fields) (lines : List ℕ) → BeginsLine self.now fs lines → result.now ≡ lines }
+    {
+        self.text.as_slice()
+    }
+
+    /// Forgets the lines. Where a row has begun after them, that is lost too.
+    pub fn clear_lines(&mut self)
+        ensures { (fs : Fields) (lines : List ℕ) → BeginsLine self.old fs lines → BeginsLine self.new fs [] }
+    {
+        self.text.clear();
+        self.begin_row();
+    }
+
+    /// Appends the text of the row that was shown, as `row_to` returns it, and forgets that row. It is then ready for the next row.
     /// It fails only when out of memory, and leaves `out` unchanged; the row is then lost, and the caller makes a
     /// new `RowText`.
     pub fn put_row(&mut self, out: &mut Vec<u8>) -> Result<(), AllocError>
@@ -343,12 +418,10 @@ impl<'a> RowText<'a> {
         ensures unchanged { OnErr result (out.new.items ≡ out.old.items) }
     {
         self.close()?;
-        out.extend_from_slice(self.text.as_slice())?;
-        self.text.clear();
-        self.starts.clear();
-        self.outer.clear();
-        self.here = RowText::top(self.plan);
-        self.shown = 0;
+        let from = self.from();
+        out.extend_from_slice(rest(self.text.as_slice(), from))?;
+        self.text.truncate(from);
+        self.begin_row();
         Ok(())
     }
 }
