@@ -24,7 +24,7 @@ pub mod EscapedBytes
 pub mod Unescaping
 pub mod SameNumbers
 pub mod Digits
-pub mod Counts
+pub mod MovedDigits
 pub mod Conversion
 pub mod Filling
 pub mod Turns

@@ -1,6 +1,6 @@
 //! Numbers, booleans and null as JSON text.
 
-ghost use Rattle.std.specs.Prelude.{◌≡◌, ◌<◌, ◌++◌, length, OnOk, decimal};
+ghost use Rattle.std.specs.Prelude.{◌≡◌, ◌++◌, OnOk, decimal};
 ghost use Rattle.std.specs.Fmt.{signed_decimal};
 ghost use Rattle.serde_json.specs.Data as json;
 ghost use Rattle.serde_json.specs.Written.{compact_text, number_text};
@@ -14,6 +14,9 @@ use std::alloc::AllocError;
 
 /// How many numbers have 32 bits.
 const NUMBERS_OF_INT32: u64 = 4_294_967_296;
+
+/// Room for a sign and 20 digits, and 32 bytes by which they are moved.
+const NUMBER_ROOM: usize = 53;
 
 /// How the numbers of a leaf are printed.
 #[derive(Clone, Copy)]
@@ -34,45 +37,13 @@ pub fn numbers_of(leaf_type: &LeafType) -> Numbers
     }
 }
 
-/// How many digits a number below 10,000 has.
-#[inline(always)]
-fn count_short(number: u64) -> usize
-    requires { number < 10000 }
-    ensures { result ≡ length (decimal number) }
-{
-    if number < 10 {
-        1
-    } else if number < 100 {
-        2
-    } else if number < 1000 {
-        3
-    } else {
-        4
-    }
-}
-
-/// How many digits a number has.
-#[inline(always)]
-fn count_digits(number: u64) -> usize
-    ensures { result ≡ length (decimal number) }
-{
-    let mut left = number;
-    let mut count = 0;
-    while left >= 10_000 {
-        left /= 10_000;
-        count += 4;
-    }
-    count + count_short(left)
-}
-
-/// Appends the digits of a number. They are counted first, and then written where they stand.
-#[inline(always)]
+/// Appends the digits of a number.
+#[inline(never)]
 fn put_natural(number: u64, out: &mut Line) -> Result<(), AllocError>
     ensures { OnOk result (out.new.items ≡ out.old.items ++ decimal number) }
 {
-    let count = count_digits(number);
-    out.reserve(count)?;
-    out.place_natural(number, count);
+    out.reserve(NUMBER_ROOM)?;
+    out.place_natural(number);
     Ok(())
 }
 
@@ -81,10 +52,12 @@ fn put_natural(number: u64, out: &mut Line) -> Result<(), AllocError>
 fn put_integer(number: i64, out: &mut Line) -> Result<(), AllocError>
     ensures { OnOk result (out.new.items ≡ out.old.items ++ signed_decimal number) }
 {
+    out.reserve(NUMBER_ROOM)?;
     if number < 0 {
-        out.push(b'-')?;
+        out.place_byte(b'-');
     }
-    put_natural(number.unsigned_abs(), out)
+    out.place_natural(number.unsigned_abs());
+    Ok(())
 }
 
 /// Appends a number of a leaf.
@@ -104,7 +77,11 @@ pub fn put_number(numbers: Numbers, number: i64, out: &mut Line) -> Result<(), A
 pub fn put_boolean(boolean: bool, out: &mut Line) -> Result<(), AllocError>
     ensures { OnOk result (out.new.items ≡ out.old.items ++ compact_text (json.boolean boolean)) }
 {
-    out.extend_from_slice(if boolean { b"true" } else { b"false" })
+    if boolean {
+        out.extend_from_slice(b"true")
+    } else {
+        out.extend_from_slice(b"false")
+    }
 }
 
 /// Appends null.
