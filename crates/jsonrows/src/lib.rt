@@ -9,6 +9,7 @@ mod cursor;
 mod escapes;
 mod filter_reading;
 mod hex_digits;
+mod hex_pairs;
 mod integers;
 mod json_text;
 mod laws;

@@ -5,7 +5,8 @@ ghost use Rattle.std.specs.Bool.{OnTrue};
 ghost use Rattle.hex.specs.Hex.{encode_lower};
 ghost use Rattle.json.specs.Print.{escape};
 
-use crate::place::{place_byte, place_digits, place_natural, place_text};
+use crate::hex_pairs::place_digits;
+use crate::place::{place_byte, place_natural, place_text};
 use crate::plain_text::place_plain;
 use std::alloc::{AllocError, Global};
 use std::marker::Model;

@@ -1,7 +1,6 @@
 //! Bytes written at a place of a buffer that has room. A short text is two copies of a fixed size that overlap.
 
 ghost use Rattle.std.specs.Prelude.{◌≡◌, ◌+◌, ◌*◌, ◌<◌, ◌≤◌, [], ◌∷◌, ◌++◌, length, take, drop, decimal};
-ghost use Rattle.hex.specs.Hex.{encode_lower};
 ghost use Rattle.json.specs.Filled.{Placed};
 
 use std::simd::Simd;
@@ -41,18 +40,6 @@ pub fn place_text(buffer: &mut [u8], at: usize, text: &[u8]) -> usize
     } else {
         at
     }
-}
-
-/// Writes the hexadecimal digits of bytes, and returns where they end.
-#[inline(always)]
-pub fn place_digits(buffer: &mut [u8], at: usize, bytes: &[u8]) -> usize
-    requires { at + 2 * length bytes.now ≤ length buffer.old }
-    ensures placed { Placed buffer.old buffer.new at (encode_lower bytes.now) result }
-    ensures end { result ≡ at + 2 * length bytes.now }
-{
-    let end = at + bytes.len() * 2;
-    let _ = hex::encode_to_slice(bytes, &mut buffer[at..end]);
-    end
 }
 
 /// Writes the decimal digits of a number, and returns where they end. They are written at the end of the room of the
@@ -103,10 +90,14 @@ pub fn place_ends<const N: usize>(buffer: &mut [u8], at: usize, text: &[u8]) -> 
 /// Writes a text of more than 32 bytes.
 #[inline(never)]
 pub fn place_long(buffer: &mut [u8], at: usize, text: &[u8]) -> usize
-    requires { at + length text.now ≤ length buffer.old }
+    requires long { 32 < length text.now }
+    requires fits { at + length text.now ≤ length buffer.old }
     ensures { Placed buffer.old buffer.new at text.now result }
 {
     let end = at + text.len();
+    if text.len() <= 64 {
+        return place_ends::<32>(buffer, at, text);
+    }
     buffer[at..end].copy_from_slice(text);
     end
 }

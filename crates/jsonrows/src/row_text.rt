@@ -76,6 +76,9 @@ fn rest(text: &[u8], from: usize) -> &[u8]
 fn between(text: &[u8], from: usize, to: usize) -> &[u8]
     ensures { result.now ≡ between text.now from to }
 {
+    if from <= to && to <= text.len() {
+        return &text[from..to];
+    }
     let rest = rest(text, from);
     rest.get(..to.saturating_sub(from)).unwrap_or(rest)
 }
@@ -429,7 +432,7 @@ impl<'a> RowText<'a> {
 impl<'a> RowSink for RowText<'a> {
     ghost shows = { text_shows };
 
-    #[inline(always)]
+    #[inline(never)]
     fn value(&mut self, value: ValueRef<'_>) -> Result<(), AllocError> {
         let slot = self.begin_value()?;
         put_single(slot, value, &mut self.text)
