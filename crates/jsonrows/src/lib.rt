@@ -15,6 +15,7 @@ mod json_text;
 mod laws;
 mod line;
 mod names;
+mod object_text;
 mod pieces;
 mod place;
 mod plain_front;

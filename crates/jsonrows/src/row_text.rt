@@ -1,6 +1,6 @@
 //! The text of rows, made of what a sink is shown.
 
-ghost use Rattle.std.specs.Prelude.{◌≡◌, ◌≤◌, ℕ, ◌+◌, ◌++◌, ◌∷◌, [], List, length, drop, IfSome, IfNone, IfOk, OnOk, OnErr, IsTrue, option_map, flat_map, take, ◌-◌};
+ghost use Rattle.std.specs.Prelude.{◌≡◌, ◌≤◌, ℕ, ◌+◌, ◌++◌, ◌∷◌, [], List, length, drop, IfSome, IfNone, IfOk, OnOk, OnErr, IsTrue, option_map};
 ghost use Rattle.schema.specs.Borrowed.{value_ref_view};
 ghost use Rattle.schema.specs.Fits.{fits_each};
 ghost use Rattle.schema.specs.Shape.{Fields};
@@ -8,11 +8,12 @@ ghost use Rattle.schema.specs.Values.{ValueTrees};
 ghost use Rattle.jsonrows.specs.Json.{row_text};
 ghost use Rattle.jsonrows.specs.Rows.{plan_schema, IsReady, text_shows, BeginsRow, ShowsRow, BeginsLine, ShowsLine};
 ghost use Rattle.jsonrows.specs.inner.Slots.{slot_view, slots_view};
-ghost use Rattle.jsonrows.specs.inner.Levels.{top_of, state_of, begun, next_slot, left, closed, level_at, entered, inside, between, piece, braced_at, bytes_text, value_text, text_at, seen, held, from_of};
+ghost use Rattle.jsonrows.specs.inner.Levels.{top_of, state_of, begun, next_slot, left, closed, level_at, entered, inside, bytes_text, value_text, text_at, seen, held, from_of};
 
 use crate::line::Line;
+use crate::object_text::{put_braces, rest, sort};
 use crate::row_plan::{RowPlan, Slot};
-use crate::scalars::{Numbers, put_boolean, put_null, put_number};
+use crate::scalars::{NUMBER_ROOM, Numbers, put_boolean, put_null, put_number};
 use crate::strings::{put_digits, put_string};
 use assemble::RowSink;
 use schema::ValueRef;
@@ -63,102 +64,6 @@ pub struct RowText<'a> {
     spare: Line,
 }
 
-/// The bytes of a text from an index on.
-#[inline(always)]
-fn rest(text: &[u8], from: usize) -> &[u8]
-    ensures { result.now ≡ drop from text.now }
-{
-    text.get(from..).unwrap_or(&[])
-}
-
-/// Bytes from one index of a text up to another.
-#[inline(always)]
-fn between(text: &[u8], from: usize, to: usize) -> &[u8]
-    ensures { result.now ≡ between text.now from to }
-{
-    if from <= to && to <= text.len() {
-        return &text[from..to];
-    }
-    let rest = rest(text, from);
-    rest.get(..to.saturating_sub(from)).unwrap_or(rest)
-}
-
-/// The member of an object at an index, by where its members begin.
-#[inline(always)]
-fn piece<'t>(text: &'t [u8], starts: &[usize], index: usize) -> &'t [u8]
-    ensures { result.now ≡ piece text.now starts.now index }
-{
-    let rest = starts.get(index..).unwrap_or(&[]);
-    match rest.split_first() {
-        None => &[],
-        Some((start, later)) => match later.first() {
-            None => between(text, *start, text.len()),
-            Some(end) => between(text, *start, *end),
-        },
-    }
-}
-
-/// Appends the members of an object in this order.
-#[inline(always)]
-fn put_pieces(
-    text: &[u8],
-    starts: &[usize],
-    order: &[usize],
-    out: &mut Line,
-) -> Result<(), AllocError>
-    ensures { OnOk result (out.new.items ≡ out.old.items ++ flat_map (piece text.now starts.now) order.now) }
-{
-    for index in order {
-        out.extend_from_slice(piece(text, starts, *index))?;
-    }
-    Ok(())
-}
-
-/// Puts the members of an object in this order. Its text begins at `from`, the first of `starts` is that of its
-/// first member, and `spare` is room.
-#[inline(never)]
-fn sort(
-    order: &[usize],
-    from: usize,
-    first: usize,
-    starts: &[usize],
-    text: &mut Line,
-    spare: &mut Line,
-) -> Result<(), AllocError>
-    ensures { OnOk result (text.new.items ≡ take from text.old.items ++ flat_map (piece text.old.items (drop first starts.now)) order.now) }
-{
-    let starts = starts.get(first..).unwrap_or(&[]);
-    spare.clear();
-    put_pieces(text.as_slice(), starts, order, spare)?;
-    text.truncate(from);
-    text.extend_from_slice(spare.as_slice())
-}
-
-/// Puts a brace where a text begins, in place of the comma before its first member.
-#[inline(always)]
-fn put_brace(from: usize, text: &mut Line)
-    requires { 1 ≤ text.old.ready }
-    ensures items { text.new.items ≡ braced_at from text.old.items }
-    ensures ready { text.old.ready ≤ text.new.ready + 1 }
-{
-    if from < text.len() {
-        text.set(from, b'{');
-    } else {
-        text.place_byte(b'{');
-    }
-}
-
-/// Puts the braces of an object whose text begins at `from`.
-#[inline(always)]
-fn put_braces(from: usize, text: &mut Line) -> Result<(), AllocError>
-    ensures { OnOk result (text.new.items ≡ braced_at from text.old.items ++ 125 ∷ []) }
-{
-    text.reserve(2)?;
-    put_brace(from, text);
-    text.place_byte(b'}');
-    Ok(())
-}
-
 /// Appends bytes of a leaf: text as a string, and all else by its digits.
 #[inline(always)]
 fn put_bytes(is_text: bool, bytes: &[u8], out: &mut Line) -> Result<(), AllocError>
@@ -171,7 +76,7 @@ fn put_bytes(is_text: bool, bytes: &[u8], out: &mut Line) -> Result<(), AllocErr
     }
 }
 
-/// Appends a value of a leaf, its repetition aside.
+/// Appends a value of a leaf, its repetition aside, where there is room for a number.
 #[inline(always)]
 fn put_value(
     numbers: Numbers,
@@ -179,19 +84,22 @@ fn put_value(
     value: ValueRef<'_>,
     out: &mut Line,
 ) -> Result<(), AllocError>
+    requires { 53 ≤ out.old.ready }
     ensures { OnOk result (out.new.items ≡ out.old.items ++ value_text numbers is_text (value_ref_view value.entry)) }
 {
     match value {
         ValueRef::Bool(boolean) => put_boolean(boolean, out),
         ValueRef::Int(number) => put_number(numbers, number, out),
-        ValueRef::Bytes(bytes) => put_bytes(is_text, bytes, out),
+        ValueRef::Bytes(bytes) => return put_bytes(is_text, bytes, out),
         ValueRef::Null | ValueRef::Group(_) | ValueRef::List(_) => put_null(out),
     }
+    Ok(())
 }
 
-/// Appends a value that is no group and no list: null where it is not of a leaf.
+/// Appends a value that is no group and no list, where there is room for a number: null where it is not of a leaf.
 #[inline(always)]
 fn put_single(slot: Option<&Slot>, value: ValueRef<'_>, out: &mut Line) -> Result<(), AllocError>
+    requires { 53 ≤ out.old.ready }
     ensures { OnOk result (out.new.items ≡ out.old.items ++ text_at (option_map seen slot.entry) (value_ref_view value.entry)) }
 {
     match slot {
@@ -202,7 +110,10 @@ fn put_single(slot: Option<&Slot>, value: ValueRef<'_>, out: &mut Line) -> Resul
                 ..
             },
         ) => put_value(*numbers, *is_text, value, out),
-        _ => put_null(out),
+        _ => {
+            put_null(out);
+            Ok(())
+        }
     }
 }
 
@@ -273,9 +184,10 @@ impl<'a> RowText<'a> {
         }
     }
 
-    /// Prints what stands before a value, and returns what the value is of.
+    /// Prints what stands before a value, with room after it for a number or a word, and returns what the value is of.
     #[inline(always)]
     fn begin_value(&mut self) -> Result<Option<&'a Slot>, AllocError>
+        ensures room { OnOk result (53 ≤ self.new.text.ready) }
         ensures slot { IfOk result (λ slot. option_map seen slot ≡ next_slot (state_of self.old).here) }
         ensures begun { OnOk result (state_of self.new ≡ begun (state_of self.old)) }
         ensures same { self.new.plan.now ≡ self.old.plan.now }
@@ -283,18 +195,21 @@ impl<'a> RowText<'a> {
         match self.here {
             Level::Object { slots, order, .. } => {
                 let Some((slot, shown)) = slot_at(slots, self.shown) else {
+                    self.text.reserve(NUMBER_ROOM)?;
                     return Ok(None);
                 };
                 self.shown = shown;
                 if order.is_some() {
                     self.starts.push(self.text.len())?;
                 }
-                self.text.extend_from_slice(slot.key())?;
+                self.text.reserve(slot.key().len() + NUMBER_ROOM)?;
+                self.text.place(slot.key());
                 Ok(Some(slot))
             }
             Level::List { slot } => {
+                self.text.reserve(1 + NUMBER_ROOM)?;
                 if self.shown > 0 {
-                    self.text.push(b',')?;
+                    self.text.place_byte(b',');
                 }
                 self.shown = 1;
                 Ok(slot)
