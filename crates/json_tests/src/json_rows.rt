@@ -263,6 +263,22 @@ fn printed(alloc: Global, schema: &str, line: &str) -> R<Vec<u8>> {
     Ok(out)
 }
 
+/// What is held of it when it is shown twice, after the lines before were forgotten.
+fn lines_of(alloc: Global, schema: &str, line: &str) -> R<Vec<u8>> {
+    let schema = schema_from(alloc, schema)?;
+    let row = row_from(alloc, &schema, line)?;
+    let plan = RowPlan::new(alloc, &schema)?;
+    let mut sink = RowText::new(alloc, &plan);
+    show(row.values.as_slice(), &mut sink)?;
+    sink.end_row()?;
+    sink.clear_lines();
+    for _ in 0..2 {
+        show(row.values.as_slice(), &mut sink)?;
+        sink.end_row()?;
+    }
+    Ok(Vec::from_slice(alloc, sink.lines())?)
+}
+
 /// The text of a row, or the refusal.
 fn answer(alloc: Global, schema: &str, other: &str, line: &str) -> R<String> {
     match shown(alloc, schema, other, line) {
@@ -391,6 +407,24 @@ fn rows_are_printed_one_after_another(rt: HostRuntime) -> Result<(), Fail> {
         let twice = wanted.repeat(alloc, 2)?;
         match printed(alloc, schema, line) {
             Ok(printed) => assert!(rt; printed.as_slice() == twice.as_bytes(), "{line}"),
+            Err(refusal) => {
+                assert!(rt;
+                    format!(in alloc; "{refusal}")?.as_str() == *wanted,
+                    "{line}"
+                );
+            }
+        }
+    }
+    Ok(())
+}
+
+#[test]
+fn rows_that_are_ended_stay_as_lines_until_they_are_cleared(rt: HostRuntime) -> Result<(), Fail> {
+    let alloc = rt.alloc();
+    for [schema, line, wanted] in &ROWS {
+        let twice = format!(in alloc; "{wanted}\n{wanted}\n")?;
+        match lines_of(alloc, schema, line) {
+            Ok(lines) => assert!(rt; lines.as_slice() == twice.as_bytes(), "{line}"),
             Err(refusal) => {
                 assert!(rt;
                     format!(in alloc; "{refusal}")?.as_str() == *wanted,

@@ -11,6 +11,7 @@ pub mod SchemaFields
 pub mod SchemaTexts
 pub mod SchemaObjects
 pub mod Heights
+pub mod HexPairs
 pub mod SchemaDepths
 pub mod SchemaFloats
 pub mod JsonTexts
@@ -18,13 +19,13 @@ pub mod Numbers
 pub mod RowJson
 pub mod RowsBack
 pub mod Made
+pub mod MovedDigits
 pub mod Operands
 pub mod FilterFaults
 pub mod EscapedBytes
 pub mod Unescaping
 pub mod SameNumbers
 pub mod Digits
-pub mod Counts
 pub mod Conversion
 pub mod Filling
 pub mod Turns

@@ -2,7 +2,7 @@
 use Rattle.std.proofs.Common.{◌≡◌, ℕ, ◌+◌, Bool, true, false, true≢false, ◌&&◌, List, [], ◌∷◌, ◌++◌, length, take, drop, Option, Some, None, refl, ap, ap₂, sym, ◌∙◌, append_assoc, append-nil}
 use Rattle.std.specs.Prelude.{IsTrue, if◌then◌else◌}
 use Rattle.std.specs.Str.{is_utf8}
-use Rattle.std.proofs.Math.Seq.{take-length, take-append_seam, drop-append_seam}
+use Rattle.std.proofs.Math.Seq.{take-append_seam, drop-append_seam}
 use Rattle.std.proofs.lemmas.List.{length-append}
 use Rattle.json.specs.Print.{quoted}
 use Rattle.serde_json.specs.Data.{Data, Items, no_items, item, Members}
@@ -21,7 +21,7 @@ use Rattle.assemble.specs.Sinks.{single, group_ends, list_ends, tokens, tokens_e
 use Rattle.jsonrows.specs.Json.{leaf_json, items_json, json_as, object_json, field_json, members_json, row_text}
 use Rattle.jsonrows.specs.inner.Scalars.{numbers_of}
 use Rattle.jsonrows.specs.inner.Slots.{Slot, leaf_slot, group_slot, no_slots, slot_of, slots_made, key_of, key_in, order_of}
-use Rattle.jsonrows.specs.inner.Levels.{State, Level, object, items, held, next_slot, begun, more, entered, left, inside, with_starts, sorted, braced_at, closed, run, root, text_at}
+use Rattle.jsonrows.specs.inner.Levels.{State, Level, object, items, held, next_slot, begun, more, entered, left, inside, with_starts, sorted, braced_at, kept_starts, closed, run, root, text_at}
 use Rattle.jsonrows.proofs.SameNumbers.{same_number}
 use Rattle.jsonrows.proofs.RowSteps.{run_append}
 use Rattle.jsonrows.proofs.RowOrder.{and_true, joined, starts_of, pieces, object_text}
@@ -125,8 +125,8 @@ sorted_started : (o : Option (List ℕ)) (text starts added : List ℕ) (f : ℕ
 sorted_started None text starts added f = refl
 sorted_started (Some order) text starts added f = ap (λ (a : List ℕ). sorted text a f (Some order)) (drop-append_seam starts added)
 
-started_before : (o : Option (List ℕ)) (starts added : List ℕ) → take (length starts) (with_starts o starts added) ≡ starts
-started_before None starts added = take-length starts
+started_before : (o : Option (List ℕ)) (starts added : List ℕ) → kept_starts o (length starts) (with_starts o starts added) ≡ starts
+started_before None starts added = refl
 started_before (Some order) starts added = take-append_seam starts added
 
 -- an object that is closed
@@ -183,5 +183,6 @@ mutual
       (started_more o starts (length text) _ ∙ ap (λ m. with_starts o starts (length text ∷ starts_of m ps)) at)
 
 -- after the values of a row that fits, its object is closed to the row's text
-pub row_printed : (fs : Fields) (vs : ValueTrees) → IsTrue (fits_each fs vs) → (s : State) → s ≡ run (root fs) (tokens_each vs) → (closed s).text ≡ row_text fs vs
-row_printed fs vs h s is = ap (λ x. (closed x).text) (is ∙ fields_printed fs vs h [] [] (order_of fs) 0 0 []) ∙ ap (λ x. x.text) (object_closed fs vs h [] [] [])
+pub row_closed : (fs : Fields) (vs : ValueTrees) → IsTrue (fits_each fs vs) → (lines : List ℕ) (s : State) → s ≡ run (root lines fs) (tokens_each vs)
+    → closed s ≡ held (lines ++ row_text fs vs) [] (object no_slots (order_of fs) (length lines) 0) []
+row_closed fs vs h lines s is = ap closed (is ∙ fields_printed fs vs h lines [] (order_of fs) (length lines) 0 []) ∙ object_closed fs vs h lines [] []

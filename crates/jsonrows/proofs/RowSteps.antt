@@ -1,10 +1,12 @@
 -- Each call of a sink that prints is one step.
-use Rattle.std.proofs.Common.{◌≡◌, ℕ, zero, suc, ◌<◌, List, [], ◌∷◌, ◌++◌, length, refl, ap, sym, subst, ◌∙◌, arith}
+use Rattle.std.proofs.Common.{◌≡◌, ℕ, zero, suc, ◌<◌, List, [], ◌∷◌, ◌++◌, length, refl, ap, ap₂, sym, subst, ◌∙◌, arith}
 use Rattle.std.specs.Prelude.{slice_set}
 use Rattle.assemble.specs.Sinks.{Token, Adds}
 use Rattle.jsonrows.specs.declared.row_plan.RowPlan.{RowPlan}
-use Rattle.jsonrows.specs.Rows.{plan_schema, shows_from}
-use Rattle.jsonrows.specs.inner.Levels.{State, held, more, step, run, root, braced_at}
+use Rattle.jsonrows.specs.Rows.{plan_schema, IsReady, shows_from}
+use Rattle.jsonrows.specs.inner.Slots.{slots_made, order_of}
+use Rattle.jsonrows.specs.inner.Opening.{lines_said}
+use Rattle.jsonrows.specs.inner.Levels.{State, Level, object, held, more, step, run, root, top_of, braced_at}
 
 pub run_append : (s : State) (ts us : List Token) → run s (ts ++ us) ≡ run (run s ts) us
 run_append s [] us = refl
@@ -13,8 +15,9 @@ run_append s (t ∷ ts) us = run_append (step s t) ts us
 -- one token more
 pub one_step : (p q : RowPlan) (old new : State) (t : Token) → q ≡ p → new ≡ step old t → Adds (shows_from p old) (shows_from q new) (t ∷ [])
 one_step p q old new t same is [] h = absurd h
-one_step p q old new t same is (x ∷ before) h =
-    subst (λ r. shows_from r new (x ∷ (before ++ t ∷ []))) (sym same) (h.0, (h.1.0, is ∙ ap (λ s. step s t) h.1.1 ∙ sym (run_append (root (plan_schema p)) before (t ∷ []))))
+one_step p q old new t same is (x ∷ []) h = absurd h
+one_step p q old new t same is (x ∷ y ∷ before) h =
+    subst (λ r. shows_from r new (x ∷ (y ∷ (before ++ t ∷ [])))) (sym same) (h.0, (h.1.0, is ∙ ap (λ s. step s t) h.1.1 ∙ sym (run_append (root (lines_said y) (plan_schema p)) before (t ∷ []))))
 
 -- some text more
 pub printed_more : (b s : State) (text t u : List ℕ) → b ≡ s → text ≡ b.text ++ t → t ≡ u → held text b.starts b.here b.outer ≡ more s u
@@ -25,3 +28,11 @@ pub brace_put : (text : List ℕ) (n : ℕ) → n < length text → slice_set te
 brace_put [] n h = absurd (omega (arith, h))
 brace_put (x ∷ s) zero h = refl
 brace_put (x ∷ s) (suc n) h = ap (λ (r : List ℕ). x ∷ r) (brace_put s n (omega (arith, h)))
+
+-- a text that stands before a row
+pub next_begun : (p : RowPlan) (text starts lines : List ℕ) (here : Level) (outer : List Level) (from : ℕ) → IsReady p → here ≡ top_of p from → from ≡ length text → text ≡ lines → starts ≡ [] → outer ≡ []
+    → held text starts here outer ≡ root lines (plan_schema p)
+next_begun p text starts lines here outer from ready top len same first last =
+    let fs = plan_schema p in
+    let level : here ≡ object (slots_made fs) (order_of fs) (length lines) 0 = top ∙ ap₂ (λ ss o. object ss o from 0) ready.0 ready.1 ∙ ap (λ n. object (slots_made fs) (order_of fs) n 0) (len ∙ ap length same) in
+    ap₂ (λ (a b : List ℕ). held a b here outer) same first ∙ ap₂ (λ l ls. held lines [] l ls) level last

@@ -1,9 +1,13 @@
 //! A text in a buffer that is kept: room for a value is made once, and its bytes are then stored with no further test.
 
 ghost use Rattle.std.specs.Prelude.{◌≡◌, ◌+◌, ◌*◌, ◌<◌, ◌≤◌, [], ◌∷◌, ◌++◌, length, take, OnOk, slice_set, decimal};
+ghost use Rattle.std.specs.Bool.{OnTrue};
 ghost use Rattle.hex.specs.Hex.{encode_lower};
+ghost use Rattle.json.specs.Print.{escape};
 
-use crate::place::{place_byte, place_digits, place_natural, place_text};
+use crate::hex_pairs::place_digits;
+use crate::place::{place_byte, place_natural, place_text};
+use crate::plain_text::place_plain;
 use std::alloc::{AllocError, Global};
 use std::marker::Model;
 
@@ -93,6 +97,20 @@ impl Line {
         self.len = place_text(self.bytes.as_mut_slice(), self.len, bytes);
     }
 
+    /// Appends a text that there is room for, and returns whether it stands in a JSON string as it is: where it is
+    /// not known, it returns false.
+    #[inline(always)]
+    pub fn place_plain(&mut self, text: &[u8]) -> bool
+        requires { length text.now ≤ self.old.ready }
+        ensures items { self.new.items ≡ self.old.items ++ text.now }
+        ensures ready { self.old.ready ≡ self.new.ready + length text.now }
+        ensures plain { OnTrue result (escape text.now ≡ text.now) }
+    {
+        let is_plain = place_plain(self.bytes.as_mut_slice(), self.len, text);
+        self.len += text.len();
+        is_plain
+    }
+
     /// Appends a byte that there is room for.
     #[inline(always)]
     pub fn place_byte(&mut self, byte: u8)
@@ -113,14 +131,13 @@ impl Line {
         self.len = place_digits(self.bytes.as_mut_slice(), self.len, bytes);
     }
 
-    /// Appends the digits of a number, which has this many and which there is room for.
+    /// Appends the digits of a number, which there is room for, and for 32 bytes more.
     #[inline(always)]
-    pub fn place_natural(&mut self, number: u64, count: usize)
-        requires { (count ≤ self.old.ready) × (count ≡ length (decimal number)) }
+    pub fn place_natural(&mut self, number: u64)
+        requires { 52 ≤ self.old.ready }
         ensures items { self.new.items ≡ self.old.items ++ decimal number }
-        ensures ready { self.old.ready ≡ self.new.ready + count }
     {
-        self.len = place_natural(self.bytes.as_mut_slice(), self.len, number, count);
+        self.len = place_natural(self.bytes.as_mut_slice(), self.len, number);
     }
 
     /// Appends bytes.
@@ -165,7 +182,8 @@ impl Line {
     #[inline(always)]
     pub fn set(&mut self, at: usize, byte: u8)
         requires { at < length self.old.items }
-        ensures { self.new.items ≡ slice_set self.old.items at byte }
+        ensures items { self.new.items ≡ slice_set self.old.items at byte }
+        ensures ready { self.new.ready ≡ self.old.ready }
     {
         self.bytes[at] = byte;
     }

@@ -1,10 +1,12 @@
 //! Bytes written at a place of a buffer that has room. A short text is two copies of a fixed size that overlap.
 
-ghost use Rattle.std.specs.Prelude.{◌≡◌, ◌+◌, ◌*◌, ◌<◌, ◌≤◌, [], ◌∷◌, length, take, decimal};
-ghost use Rattle.hex.specs.Hex.{encode_lower};
+ghost use Rattle.std.specs.Prelude.{◌≡◌, ◌+◌, ◌*◌, ◌<◌, ◌≤◌, [], ◌∷◌, ◌++◌, length, take, drop, decimal};
 ghost use Rattle.json.specs.Filled.{Placed};
 
 use std::simd::Simd;
+
+/// The most digits of a number of 64 bits.
+const MOST_DIGITS: usize = 20;
 
 /// Writes a byte, and returns where it ends.
 #[inline(always)]
@@ -40,28 +42,27 @@ pub fn place_text(buffer: &mut [u8], at: usize, text: &[u8]) -> usize
     }
 }
 
-/// Writes the hexadecimal digits of bytes, and returns where they end.
+/// Writes the decimal digits of a number, and returns where they end. They are written at the end of the room of the
+/// longest number, and then moved at once, so that they need not be counted first.
 #[inline(always)]
-pub fn place_digits(buffer: &mut [u8], at: usize, bytes: &[u8]) -> usize
-    requires { at + 2 * length bytes.now ≤ length buffer.old }
-    ensures placed { Placed buffer.old buffer.new at (encode_lower bytes.now) result }
-    ensures end { result ≡ at + 2 * length bytes.now }
-{
-    let end = at + bytes.len() * 2;
-    let _ = hex::encode_to_slice(bytes, &mut buffer[at..end]);
-    end
-}
-
-/// Writes the decimal digits of a number, which has this many, and returns where they end.
-#[inline(always)]
-pub fn place_natural(buffer: &mut [u8], at: usize, number: u64, count: usize) -> usize
-    requires count { count ≡ length (decimal number) }
-    requires fits { at + count ≤ length buffer.old }
+pub fn place_natural(buffer: &mut [u8], at: usize, number: u64) -> usize
+    requires { at + 52 ≤ length buffer.old }
     ensures { Placed buffer.old buffer.new at (decimal number) result }
 {
-    let end = at + count;
-    itoa::write_digits(number, buffer, end);
-    end
+    let end = at + MOST_DIGITS;
+    let from = itoa::write_digits(number, buffer, end);
+    move_back::<32>(buffer, from, at);
+    at + (end - from)
+}
+
+/// Writes N bytes of a buffer once more, at a place before them, by one load and one store.
+#[inline(always)]
+fn move_back<const N: usize>(buffer: &mut [u8], from: usize, at: usize)
+    requires { (from + N ≤ length buffer.old) × (at ≤ from) }
+    ensures { take (at + N) buffer.new ≡ take at buffer.old ++ take N (drop from buffer.old) }
+{
+    let bytes = Simd::<u8, N>::from_slice(&buffer[from..]);
+    bytes.copy_to_slice(&mut buffer[at..]);
 }
 
 /// Writes the first N bytes of a text by one load and one store.
@@ -76,7 +77,7 @@ fn place_front<const N: usize>(buffer: &mut [u8], at: usize, text: &[u8]) -> usi
 
 /// Writes a text of N to 2N bytes.
 #[inline(always)]
-fn place_ends<const N: usize>(buffer: &mut [u8], at: usize, text: &[u8]) -> usize
+pub fn place_ends<const N: usize>(buffer: &mut [u8], at: usize, text: &[u8]) -> usize
     requires fits { at + length text.now ≤ length buffer.old }
     requires covers { (N ≤ length text.now) × (length text.now ≤ N + N) }
     ensures { Placed buffer.old buffer.new at text.now result }
@@ -88,11 +89,15 @@ fn place_ends<const N: usize>(buffer: &mut [u8], at: usize, text: &[u8]) -> usiz
 
 /// Writes a text of more than 32 bytes.
 #[inline(never)]
-fn place_long(buffer: &mut [u8], at: usize, text: &[u8]) -> usize
-    requires { at + length text.now ≤ length buffer.old }
+pub fn place_long(buffer: &mut [u8], at: usize, text: &[u8]) -> usize
+    requires long { 32 < length text.now }
+    requires fits { at + length text.now ≤ length buffer.old }
     ensures { Placed buffer.old buffer.new at text.now result }
 {
     let end = at + text.len();
+    if text.len() <= 64 {
+        return place_ends::<32>(buffer, at, text);
+    }
     buffer[at..end].copy_from_slice(text);
     end
 }

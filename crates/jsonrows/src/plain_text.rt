@@ -1,21 +1,39 @@
-//! Whether a text needs no escape. Two loads that overlap cover a short text.
+//! Texts that are placed and need no escape. Two loads that overlap cover a short text.
 
 ghost use Rattle.std.specs.Prelude.{◌≡◌, ◌+◌, ◌≤◌, length};
 ghost use Rattle.std.specs.Bool.{OnTrue};
-ghost use Rattle.json.specs.Print.{escape};
+ghost use Rattle.json.specs.Filled.{Placed};
 ghost use Rattle.json.specs.Written.{PlainBetween};
 
+use crate::place::{place_ends, place_long, place_text};
 use std::simd::prelude::*;
 
-/// Whether a text stands in a JSON string as it is: where it is not, it answers false.
+/// Writes a text, and returns whether it needs no escape: where it is short, the same loads serve both.
 #[inline(always)]
-pub fn is_plain(text: &[u8]) -> bool
-    ensures { OnTrue result (escape text.now ≡ text.now) }
+pub fn place_plain(buffer: &mut [u8], at: usize, text: &[u8]) -> bool
+    requires { at + length text.now ≤ length buffer.old }
+    ensures placed { Placed buffer.old buffer.new at text.now (at + length text.now) }
+    ensures plain { OnTrue result (PlainBetween text.now 0 (length text.now)) }
 {
-    if text.len() < 32 {
-        plain_short(text)
-    } else {
+    let len = text.len();
+    if len > 32 {
+        place_long(buffer, at, text);
         plain_long(text)
+    } else if len >= 16 {
+        let is_plain = plain_16(text, 0) && plain_16(text, len - 16);
+        place_ends::<16>(buffer, at, text);
+        is_plain
+    } else if len >= 8 {
+        let is_plain = plain_8(text, 0) && plain_8(text, len - 8);
+        place_ends::<8>(buffer, at, text);
+        is_plain
+    } else if len >= 4 {
+        let is_plain = plain_4(text, 0) && plain_4(text, len - 4);
+        place_ends::<4>(buffer, at, text);
+        is_plain
+    } else {
+        place_text(buffer, at, text);
+        plain_few(text)
     }
 }
 
@@ -98,22 +116,4 @@ fn plain_long(text: &[u8]) -> bool
         at += 32;
     }
     plain_32(text, text.len() - 32)
-}
-
-/// Whether a text of up to 32 bytes needs no escape.
-#[inline(always)]
-fn plain_short(text: &[u8]) -> bool
-    requires { length text.now ≤ 32 }
-    ensures { OnTrue result (PlainBetween text.now 0 (length text.now)) }
-{
-    let len = text.len();
-    if len >= 16 {
-        plain_16(text, 0) && plain_16(text, len - 16)
-    } else if len >= 8 {
-        plain_8(text, 0) && plain_8(text, len - 8)
-    } else if len >= 4 {
-        plain_4(text, 0) && plain_4(text, len - 4)
-    } else {
-        plain_few(text)
-    }
 }

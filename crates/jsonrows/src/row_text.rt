@@ -1,18 +1,19 @@
 //! The text of rows, made of what a sink is shown.
 
-ghost use Rattle.std.specs.Prelude.{◌≡◌, ◌+◌, ◌++◌, ◌∷◌, [], List, drop, IfSome, IfNone, IfOk, OnOk, OnErr, IsTrue, option_map, flat_map, take, ◌-◌};
+ghost use Rattle.std.specs.Prelude.{◌≡◌, ◌≤◌, ℕ, ◌+◌, ◌++◌, ◌∷◌, [], List, length, drop, IfSome, IfNone, IfOk, OnOk, OnErr, IsTrue, option_map};
 ghost use Rattle.schema.specs.Borrowed.{value_ref_view};
 ghost use Rattle.schema.specs.Fits.{fits_each};
 ghost use Rattle.schema.specs.Shape.{Fields};
 ghost use Rattle.schema.specs.Values.{ValueTrees};
 ghost use Rattle.jsonrows.specs.Json.{row_text};
-ghost use Rattle.jsonrows.specs.Rows.{plan_schema, IsReady, text_shows, BeginsRow, ShowsRow};
+ghost use Rattle.jsonrows.specs.Rows.{plan_schema, IsReady, text_shows, BeginsRow, ShowsRow, BeginsLine, ShowsLine};
 ghost use Rattle.jsonrows.specs.inner.Slots.{slot_view, slots_view};
-ghost use Rattle.jsonrows.specs.inner.Levels.{top_of, state_of, begun, next_slot, left, closed, level_at, entered, inside, between, piece, braced_at, bytes_text, value_text, text_at, seen};
+ghost use Rattle.jsonrows.specs.inner.Levels.{top_of, state_of, begun, next_slot, left, closed, level_at, entered, inside, bytes_text, value_text, text_at, seen, held, from_of};
 
 use crate::line::Line;
+use crate::object_text::{put_braces, rest, sort};
 use crate::row_plan::{RowPlan, Slot};
-use crate::scalars::{Numbers, put_boolean, put_null, put_number};
+use crate::scalars::{NUMBER_ROOM, Numbers, put_boolean, put_null, put_number};
 use crate::strings::{put_digits, put_string};
 use assemble::RowSink;
 use schema::ValueRef;
@@ -44,11 +45,12 @@ pub struct Outer<'a> {
 
 /// Prints the rows that it is shown. The bytes of each value are copied into one buffer, which is kept from row
 /// to row; where the fields of an object do not stand in the order of their names, its members are copied once
-/// more when it ends.
+/// more when it ends. Rows that are ended by [`end_row`](RowText::end_row) stay in the buffer as lines, until
+/// [`clear_lines`](RowText::clear_lines) is called.
 #[derive(Drop)]
 pub struct RowText<'a> {
     plan: &'a RowPlan<'a>,
-    /// The text so far.
+    /// The lines of earlier rows, and the text so far of the row that is being shown.
     text: Line,
     /// Where each member begins, before its comma, of the objects that have begun and whose fields do not stand
     /// in the order of their names.
@@ -60,79 +62,6 @@ pub struct RowText<'a> {
     outer: Vec<Outer<'a>>,
     /// Room for the members of an object in another order.
     spare: Line,
-}
-
-/// Bytes from one index of a text up to another.
-#[inline(always)]
-fn between(text: &[u8], from: usize, to: usize) -> &[u8]
-    ensures { result.now ≡ between text.now from to }
-{
-    let rest = text.get(from..).unwrap_or(&[]);
-    rest.get(..to.saturating_sub(from)).unwrap_or(rest)
-}
-
-/// The member of an object at an index, by where its members begin.
-#[inline(always)]
-fn piece<'t>(text: &'t [u8], starts: &[usize], index: usize) -> &'t [u8]
-    ensures { result.now ≡ piece text.now starts.now index }
-{
-    let rest = starts.get(index..).unwrap_or(&[]);
-    match rest.split_first() {
-        None => &[],
-        Some((start, later)) => match later.first() {
-            None => between(text, *start, text.len()),
-            Some(end) => between(text, *start, *end),
-        },
-    }
-}
-
-/// Appends the members of an object in this order.
-#[inline(always)]
-fn put_pieces(
-    text: &[u8],
-    starts: &[usize],
-    order: &[usize],
-    out: &mut Line,
-) -> Result<(), AllocError>
-    ensures { OnOk result (out.new.items ≡ out.old.items ++ flat_map (piece text.now starts.now) order.now) }
-{
-    for index in order {
-        out.extend_from_slice(piece(text, starts, *index))?;
-    }
-    Ok(())
-}
-
-/// Puts the members of an object in this order. Its text begins at `from`, the first of `starts` is that of its
-/// first member, and `spare` is room.
-#[inline(never)]
-fn sort(
-    order: &[usize],
-    from: usize,
-    first: usize,
-    starts: &[usize],
-    text: &mut Line,
-    spare: &mut Line,
-) -> Result<(), AllocError>
-    ensures { OnOk result (text.new.items ≡ take from text.old.items ++ flat_map (piece text.old.items (drop first starts.now)) order.now) }
-{
-    let starts = starts.get(first..).unwrap_or(&[]);
-    spare.clear();
-    put_pieces(text.as_slice(), starts, order, spare)?;
-    text.truncate(from);
-    text.extend_from_slice(spare.as_slice())
-}
-
-/// Puts a brace where a text begins, in place of the comma before its first member.
-#[inline(always)]
-fn put_brace(from: usize, text: &mut Line) -> Result<(), AllocError>
-    ensures { OnOk result (text.new.items ≡ braced_at from text.old.items) }
-{
-    if from < text.len() {
-        text.set(from, b'{');
-        return Ok(());
-    }
-    text.push(b'{')?;
-    Ok(())
 }
 
 /// Appends bytes of a leaf: text as a string, and all else by its digits.
@@ -147,7 +76,7 @@ fn put_bytes(is_text: bool, bytes: &[u8], out: &mut Line) -> Result<(), AllocErr
     }
 }
 
-/// Appends a value of a leaf, its repetition aside.
+/// Appends a value of a leaf, its repetition aside, where there is room for a number.
 #[inline(always)]
 fn put_value(
     numbers: Numbers,
@@ -155,19 +84,22 @@ fn put_value(
     value: ValueRef<'_>,
     out: &mut Line,
 ) -> Result<(), AllocError>
+    requires { 53 ≤ out.old.ready }
     ensures { OnOk result (out.new.items ≡ out.old.items ++ value_text numbers is_text (value_ref_view value.entry)) }
 {
     match value {
         ValueRef::Bool(boolean) => put_boolean(boolean, out),
         ValueRef::Int(number) => put_number(numbers, number, out),
-        ValueRef::Bytes(bytes) => put_bytes(is_text, bytes, out),
+        ValueRef::Bytes(bytes) => return put_bytes(is_text, bytes, out),
         ValueRef::Null | ValueRef::Group(_) | ValueRef::List(_) => put_null(out),
     }
+    Ok(())
 }
 
-/// Appends a value that is no group and no list: null where it is not of a leaf.
+/// Appends a value that is no group and no list, where there is room for a number: null where it is not of a leaf.
 #[inline(always)]
 fn put_single(slot: Option<&Slot>, value: ValueRef<'_>, out: &mut Line) -> Result<(), AllocError>
+    requires { 53 ≤ out.old.ready }
     ensures { OnOk result (out.new.items ≡ out.old.items ++ text_at (option_map seen slot.entry) (value_ref_view value.entry)) }
 {
     match slot {
@@ -178,7 +110,10 @@ fn put_single(slot: Option<&Slot>, value: ValueRef<'_>, out: &mut Line) -> Resul
                 ..
             },
         ) => put_value(*numbers, *is_text, value, out),
-        _ => put_null(out),
+        _ => {
+            put_null(out);
+            Ok(())
+        }
     }
 }
 
@@ -223,33 +158,36 @@ impl<'a> RowText<'a> {
     /// Nothing is shown yet.
     pub fn new(alloc: Global, plan: &'a RowPlan<'a>) -> RowText<'a>
         ensures begins { IsReady plan.now → BeginsRow result (plan_schema plan.now) }
+        ensures empty { IsReady plan.now → BeginsLine result (plan_schema plan.now) [] }
     {
         RowText {
             plan,
             text: Line::new(alloc),
             starts: Vec::new(alloc),
-            here: RowText::top(plan),
+            here: RowText::top(plan, 0),
             shown: 0,
             outer: Vec::new(alloc),
             spare: Line::new(alloc),
         }
     }
 
-    /// The level of a row.
-    fn top(plan: &'a RowPlan<'a>) -> Level<'a>
-        ensures { level_at result 0 ≡ top_of plan.now }
+    /// The level of a row, whose text begins at `from`.
+    #[inline(always)]
+    fn top(plan: &'a RowPlan<'a>, from: usize) -> Level<'a>
+        ensures { level_at result 0 ≡ top_of plan.now from }
     {
         Level::Object {
             slots: plan.slots(),
             order: plan.order(),
-            from: 0,
+            from,
             first: 0,
         }
     }
 
-    /// Prints what stands before a value, and returns what the value is of.
+    /// Prints what stands before a value, with room after it for a number or a word, and returns what the value is of.
     #[inline(always)]
     fn begin_value(&mut self) -> Result<Option<&'a Slot>, AllocError>
+        ensures room { OnOk result (53 ≤ self.new.text.ready) }
         ensures slot { IfOk result (λ slot. option_map seen slot ≡ next_slot (state_of self.old).here) }
         ensures begun { OnOk result (state_of self.new ≡ begun (state_of self.old)) }
         ensures same { self.new.plan.now ≡ self.old.plan.now }
@@ -257,18 +195,21 @@ impl<'a> RowText<'a> {
         match self.here {
             Level::Object { slots, order, .. } => {
                 let Some((slot, shown)) = slot_at(slots, self.shown) else {
+                    self.text.reserve(NUMBER_ROOM)?;
                     return Ok(None);
                 };
                 self.shown = shown;
                 if order.is_some() {
                     self.starts.push(self.text.len())?;
                 }
-                self.text.extend_from_slice(slot.key())?;
+                self.text.reserve(slot.key().len() + NUMBER_ROOM)?;
+                self.text.place(slot.key());
                 Ok(Some(slot))
             }
             Level::List { slot } => {
+                self.text.reserve(1 + NUMBER_ROOM)?;
                 if self.shown > 0 {
-                    self.text.push(b',')?;
+                    self.text.place_byte(b',');
                 }
                 self.shown = 1;
                 Ok(slot)
@@ -325,15 +266,67 @@ impl<'a> RowText<'a> {
                     &mut self.text,
                     &mut self.spare,
                 )?;
+                self.starts.truncate(first);
             }
-            self.starts.truncate(first);
-            put_brace(from, &mut self.text)?;
-            self.text.push(b'}')?;
+            put_braces(from, &mut self.text)?;
         }
         Ok(())
     }
 
-    /// Appends the text of the row that was shown, as `row_to` returns it. It is then ready for the next row.
+    /// Where the text of the object begins of which values are shown.
+    #[inline(always)]
+    fn from(&self) -> usize
+        ensures { result ≡ from_of (state_of self.now).here }
+    {
+        match self.here {
+            Level::Object { from, .. } => from,
+            Level::List { .. } => 0,
+        }
+    }
+
+    /// Begins the next row, after the text so far.
+    fn begin_row(&mut self)
+        ensures begun { state_of self.new ≡ held (state_of self.old).text [] (top_of self.old.plan.now (length (state_of self.old).text)) [] }
+        ensures same { self.new.plan.now ≡ self.old.plan.now }
+    {
+        self.starts.clear();
+        self.outer.clear();
+        self.here = RowText::top(self.plan, self.text.len());
+        self.shown = 0;
+    }
+
+    /// Ends the row that was shown: its text, as `row_to` returns it, and a line feed stand after the lines of the
+    /// rows before it. It is then ready for the next row. It fails only when out of memory; all rows that it holds
+    /// are then lost, and the caller makes a new `RowText`.
+    #[inline]
+    pub fn end_row(&mut self) -> Result<(), AllocError>
+        ensures stands { (fs : Fields) (lines : List ℕ) (values : ValueTrees) → ShowsLine self.old fs lines values → IsTrue (fits_each fs values)
+            → OnOk result (BeginsLine self.new fs (lines ++ (row_text fs values ++ 10 ∷ []))) }
+    {
+        self.close()?;
+        self.text.push(b'\n')?;
+        self.here = RowText::top(self.plan, self.text.len());
+        self.shown = 0;
+        Ok(())
+    }
+
+    /// The lines of the rows that were ended, where no row has begun after them.
+    #[inline]
+    pub fn lines(&self) -> &[u8]
+        ensures { (fs : Fields) (lines : List ℕ) → BeginsLine self.now fs lines → result.now ≡ lines }
+    {
+        self.text.as_slice()
+    }
+
+    /// Forgets the lines. Where a row has begun after them, that is lost too.
+    pub fn clear_lines(&mut self)
+        ensures { (fs : Fields) (lines : List ℕ) → BeginsLine self.old fs lines → BeginsLine self.new fs [] }
+    {
+        self.text.clear();
+        self.begin_row();
+    }
+
+    /// Appends the text of the row that was shown, as `row_to` returns it, and forgets that row. It is then ready for the next row.
     /// It fails only when out of memory, and leaves `out` unchanged; the row is then lost, and the caller makes a
     /// new `RowText`.
     pub fn put_row(&mut self, out: &mut Vec<u8>) -> Result<(), AllocError>
@@ -343,12 +336,10 @@ impl<'a> RowText<'a> {
         ensures unchanged { OnErr result (out.new.items ≡ out.old.items) }
     {
         self.close()?;
-        out.extend_from_slice(self.text.as_slice())?;
-        self.text.clear();
-        self.starts.clear();
-        self.outer.clear();
-        self.here = RowText::top(self.plan);
-        self.shown = 0;
+        let from = self.from();
+        out.extend_from_slice(rest(self.text.as_slice(), from))?;
+        self.text.truncate(from);
+        self.begin_row();
         Ok(())
     }
 }
@@ -356,7 +347,7 @@ impl<'a> RowText<'a> {
 impl<'a> RowSink for RowText<'a> {
     ghost shows = { text_shows };
 
-    #[inline(always)]
+    #[inline(never)]
     fn value(&mut self, value: ValueRef<'_>) -> Result<(), AllocError> {
         let slot = self.begin_value()?;
         put_single(slot, value, &mut self.text)

@@ -1,6 +1,6 @@
 //! Numbers, booleans and null as JSON text.
 
-ghost use Rattle.std.specs.Prelude.{◌≡◌, ◌<◌, ◌++◌, length, OnOk, decimal};
+ghost use Rattle.std.specs.Prelude.{◌≡◌, ◌≤◌, ◌++◌};
 ghost use Rattle.std.specs.Fmt.{signed_decimal};
 ghost use Rattle.serde_json.specs.Data as json;
 ghost use Rattle.serde_json.specs.Written.{compact_text, number_text};
@@ -10,10 +10,12 @@ ghost use Rattle.jsonrows.specs.inner.Scalars.{number_shown, numbers_of};
 
 use crate::line::Line;
 use schema::{Kind, LeafType, Order};
-use std::alloc::AllocError;
 
 /// How many numbers have 32 bits.
 const NUMBERS_OF_INT32: u64 = 4_294_967_296;
+
+/// Room for a sign and 20 digits, and 32 bytes by which they are moved.
+pub const NUMBER_ROOM: usize = 53;
 
 /// How the numbers of a leaf are printed.
 #[derive(Clone, Copy)]
@@ -34,83 +36,49 @@ pub fn numbers_of(leaf_type: &LeafType) -> Numbers
     }
 }
 
-/// How many digits a number below 10,000 has.
-#[inline(always)]
-fn count_short(number: u64) -> usize
-    requires { number < 10000 }
-    ensures { result ≡ length (decimal number) }
-{
-    if number < 10 {
-        1
-    } else if number < 100 {
-        2
-    } else if number < 1000 {
-        3
-    } else {
-        4
-    }
-}
-
-/// How many digits a number has.
-#[inline(always)]
-fn count_digits(number: u64) -> usize
-    ensures { result ≡ length (decimal number) }
-{
-    let mut left = number;
-    let mut count = 0;
-    while left >= 10_000 {
-        left /= 10_000;
-        count += 4;
-    }
-    count + count_short(left)
-}
-
-/// Appends the digits of a number. They are counted first, and then written where they stand.
-#[inline(always)]
-fn put_natural(number: u64, out: &mut Line) -> Result<(), AllocError>
-    ensures { OnOk result (out.new.items ≡ out.old.items ++ decimal number) }
-{
-    let count = count_digits(number);
-    out.reserve(count)?;
-    out.place_natural(number, count);
-    Ok(())
-}
-
 /// Appends the digits of an integer, after a minus sign where it is below zero.
 #[inline(always)]
-fn put_integer(number: i64, out: &mut Line) -> Result<(), AllocError>
-    ensures { OnOk result (out.new.items ≡ out.old.items ++ signed_decimal number) }
+fn put_integer(number: i64, out: &mut Line)
+    requires { 53 ≤ out.old.ready }
+    ensures { out.new.items ≡ out.old.items ++ signed_decimal number }
 {
     if number < 0 {
-        out.push(b'-')?;
+        out.place_byte(b'-');
     }
-    put_natural(number.unsigned_abs(), out)
+    out.place_natural(number.unsigned_abs());
 }
 
 /// Appends a number of a leaf.
 #[inline(always)]
-pub fn put_number(numbers: Numbers, number: i64, out: &mut Line) -> Result<(), AllocError>
-    ensures { OnOk result (out.new.items ≡ out.old.items ++ number_text (number_shown numbers number)) }
+pub fn put_number(numbers: Numbers, number: i64, out: &mut Line)
+    requires { 53 ≤ out.old.ready }
+    ensures { out.new.items ≡ out.old.items ++ number_text (number_shown numbers number) }
 {
     match numbers {
         Numbers::Signed => put_integer(number, out),
-        Numbers::Unsigned32 => put_natural(number.cast_unsigned() % NUMBERS_OF_INT32, out),
-        Numbers::Unsigned64 => put_natural(number.cast_unsigned(), out),
+        Numbers::Unsigned32 => out.place_natural(number.cast_unsigned() % NUMBERS_OF_INT32),
+        Numbers::Unsigned64 => out.place_natural(number.cast_unsigned()),
     }
 }
 
 /// Appends a boolean.
 #[inline(always)]
-pub fn put_boolean(boolean: bool, out: &mut Line) -> Result<(), AllocError>
-    ensures { OnOk result (out.new.items ≡ out.old.items ++ compact_text (json.boolean boolean)) }
+pub fn put_boolean(boolean: bool, out: &mut Line)
+    requires { 5 ≤ out.old.ready }
+    ensures { out.new.items ≡ out.old.items ++ compact_text (json.boolean boolean) }
 {
-    out.extend_from_slice(if boolean { b"true" } else { b"false" })
+    if boolean {
+        out.place(b"true");
+    } else {
+        out.place(b"false");
+    }
 }
 
 /// Appends null.
 #[inline(always)]
-pub fn put_null(out: &mut Line) -> Result<(), AllocError>
-    ensures { OnOk result (out.new.items ≡ out.old.items ++ compact_text json.null) }
+pub fn put_null(out: &mut Line)
+    requires { 4 ≤ out.old.ready }
+    ensures { out.new.items ≡ out.old.items ++ compact_text json.null }
 {
-    out.extend_from_slice(b"null")
+    out.place(b"null");
 }

@@ -5,7 +5,6 @@ ghost use Rattle.hex.specs.Hex.{encode_lower, lower_digits};
 ghost use Rattle.json.specs.Print.{escape_letter, escape_byte, escape, quoted};
 
 use crate::line::Line;
-use crate::plain_text::is_plain;
 use std::alloc::AllocError;
 
 /// The digits of hexadecimal numbers.
@@ -19,12 +18,13 @@ const MOST_BYTES: usize = 4_611_686_018_427_387_904;
 pub fn put_string(bytes: &[u8], out: &mut Line) -> Result<(), AllocError>
     ensures { OnOk result (out.new.items ≡ out.old.items ++ quoted bytes.now) }
 {
-    if !is_plain(bytes) {
-        return put_slowly(bytes, out);
-    }
+    let len = out.len();
     out.reserve(bytes.len() + 2)?;
     out.place_byte(b'"');
-    out.place(bytes);
+    if !out.place_plain(bytes) {
+        out.truncate(len);
+        return put_slowly(bytes, out);
+    }
     out.place_byte(b'"');
     Ok(())
 }

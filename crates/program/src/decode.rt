@@ -1,6 +1,6 @@
 //! Files to lines.
 
-ghost use Rattle.std.specs.Prelude.{◌≡◌, ◌≢◌, ◌⊎◌, List, [], false, IfErr, OnOk};
+ghost use Rattle.std.specs.Prelude.{◌≡◌, ◌≢◌, ◌⊎◌, ℕ, List, [], false, IfErr, OnOk};
 ghost use Rattle.std.specs.Io.KnownBytes.{Appends};
 ghost use Rattle.bits.specs.Refusals.{IsFault, RefusedOnly};
 ghost use Rattle.bits.specs.declared.refusal.Refusal.TheVariants.{Memory, Device};
@@ -10,7 +10,7 @@ ghost use Rattle.schema.specs.Fits.{RowsFit};
 ghost use Rattle.footer.specs.File.{FileMeans};
 ghost use Rattle.footer.specs.Faults.{HasFault};
 ghost use Rattle.footer.specs.Left.{rows_stand};
-ghost use Rattle.jsonrows.specs.Rows.{BeginsRow};
+ghost use Rattle.jsonrows.specs.Rows.{BeginsLine};
 ghost use Rattle.program.specs.Program.{WritesRowsOf, MeansRows};
 ghost use Rattle.program.specs.inner.Gathered.{AppendsLines, GathersLine, WritesPart};
 
@@ -53,28 +53,28 @@ pub fn decode<W: Write, E: Write>(
 }
 
 /// Takes the next row, and gathers its line; false after the last row. It fails only when out of memory.
-fn put_line(rows: &mut Rows<'_>, text: &mut RowText<'_>, gathered: &mut Vec<u8>) -> R<bool>
-    ensures puts { (fs : Fields) → BeginsRow text.old fs
-        → GathersLine fs (rows_stand rows.old) (rows_stand rows.new) (BeginsRow text.new fs) gathered.old.items gathered.new.items result }
+fn put_line(rows: &mut Rows<'_>, text: &mut RowText<'_>) -> R<bool>
+    ensures puts { (fs : Fields) (lines : List ℕ) → BeginsLine text.old fs lines
+        → GathersLine fs (rows_stand rows.old) (rows_stand rows.new) (BeginsLine text.new fs) lines result }
 {
     if !rows.next_to(text)? {
         return Ok(false);
     }
-    text.put_row(gathered)?;
-    gathered.push(b'\n')?;
+    text.end_row()?;
     Ok(true)
 }
 
-/// Writes what was gathered once that is enough. Refused Device where it cannot be written.
-fn write_full<W: Write>(gathered: &mut Vec<u8>, out: &mut W) -> R<()>
-    ensures stands { OnOk result (WritesPart (W.contents out.old) (W.contents out.new) gathered.old.items gathered.new.items) }
+/// Writes the lines that were gathered once they are enough. Refused Device where they cannot be written.
+fn write_full<W: Write>(text: &mut RowText<'_>, out: &mut W) -> R<()>
+    ensures stands { (fs : Fields) (lines : List ℕ) → BeginsLine text.old fs lines
+        → OnOk result (WritesPart (W.contents out.old) (W.contents out.new) (BeginsLine text.new fs) lines) }
     ensures which { RefusedOnly (λ e. e ≡ Device) result }
 {
-    if gathered.len() < OUTPUT_BUFFER_BYTES {
+    if text.lines().len() < OUTPUT_BUFFER_BYTES {
         return Ok(());
     }
-    write_text(gathered.as_slice(), out)?;
-    gathered.clear();
+    write_text(text.lines(), out)?;
+    text.clear_lines();
     Ok(())
 }
 
@@ -95,12 +95,11 @@ fn write_rows<W: Write, E: Write>(
 {
     let plan = RowPlan::new(alloc, schema)?;
     let mut text = RowText::new(alloc, &plan);
-    let mut gathered = Vec::new(alloc);
     'row: for _ in 0..u64::MAX {
-        if !put_line(rows, &mut text, &mut gathered)? {
-            return write_whole(gathered.as_slice(), out);
+        if !put_line(rows, &mut text)? {
+            return write_whole(text.lines(), out);
         }
-        write_full(&mut gathered, out)?;
+        write_full(&mut text, out)?;
         progress.count_row(err);
     }
     // Never reached: no file has as many rows.

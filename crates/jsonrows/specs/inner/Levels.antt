@@ -81,6 +81,11 @@ passed (object no_slots o f n) = object no_slots o f n
 passed (object (slot s ss) o f n) = object ss o f n
 passed (items o later) = items o true
 
+-- where the text of an object begins
+abbrev pub from_of : Level → ℕ
+from_of (object ss o f n) = f
+from_of (items o later) = 0
+
 -- a value begins
 abbrev pub begun : State → State
 begun s = held (s.text ++ before s.here) (started s.here s.starts (length s.text)) (passed s.here) s.outer
@@ -134,8 +139,13 @@ braced (x ∷ s) = 123 ∷ s
 abbrev pub braced_at : ℕ → List ℕ → List ℕ
 braced_at from text = take from text ++ braced (drop from text)
 
+-- where pieces begin that are not of this object
+abbrev pub kept_starts : Option (List ℕ) → ℕ → List ℕ → List ℕ
+kept_starts None n starts = starts
+kept_starts (Some order) n starts = take n starts
+
 abbrev pub closed_at : List ℕ → List ℕ → Level → List Level → State
-closed_at text starts (object ss o f n) outer = held (braced_at f (sorted text (drop n starts) f o) ++ 125 ∷ []) (take n starts) (object ss o f n) outer
+closed_at text starts (object ss o f n) outer = held (braced_at f (sorted text (drop n starts) f o) ++ 125 ∷ []) (kept_starts o n starts) (object ss o f n) outer
 closed_at text starts (items o later) outer = held text starts (items o later) outer
 
 abbrev pub closed : State → State
@@ -154,9 +164,9 @@ abbrev pub run : State → List Token → State
 run s [] = s
 run s (t ∷ ts) = run (step s t) ts
 
--- nothing is shown yet
-abbrev pub root : Fields → State
-root fs = held [] [] (object (slots_made fs) (order_of fs) 0 0) []
+-- nothing is shown yet of a row, after these lines
+abbrev pub root : List ℕ → Fields → State
+root lines fs = held lines [] (object (slots_made fs) (order_of fs) (length lines) 0) []
 
 -- ---- what the code holds
 
@@ -171,9 +181,9 @@ level_at (ListOf s) shown = items (option_map seen s) (nat_lt 0 shown)
 abbrev pub outer_view : CodeOuter → Level
 outer_view o = level_at o.level o.shown
 
--- the level of a row
-abbrev pub top_of : RowPlan → Level
-top_of p = object (slots_view p.slots.items) (option_map vec_items p.order) 0 0
+-- the level of a row, whose text begins here
+abbrev pub top_of : RowPlan → ℕ → Level
+top_of p from = object (slots_view p.slots.items) (option_map vec_items p.order) from 0
 
 abbrev pub state_of : RowText → State
 state_of r = held r.text.items r.starts.items (level_at r.here r.shown) (reverse (map outer_view r.outer.items))

@@ -1,5 +1,5 @@
--- A schema as one token, by which two schemas are told apart.
-use Rattle.std.specs.Prelude.{ℤ, List, [], ◌∷◌}
+-- A schema as one token, by which two schemas are told apart, and the lines before a row as another.
+use Rattle.std.specs.Prelude.{ℕ, ℤ, List, [], ◌∷◌}
 use Rattle.schema.specs.Values.{ValueTree, integer, bytes, group, ValueTrees, no_values, value}
 use Rattle.schema.specs.Shape.{Fields}
 use Rattle.schema.specs.inner.Code.{Rose, rose, Roses, no_roses, roses, fields_roses}
@@ -20,3 +20,11 @@ abbrev mutual
 -- the token that says the schema
 abbrev pub opening : Fields → Token
 opening fs = single (group (roses_values (fields_roses fs)))
+
+-- the token that says the lines before a row, and what it says
+abbrev pub lines_token : List ℕ → Token
+lines_token lines = single (bytes lines)
+
+abbrev pub lines_said : Token → List ℕ
+lines_said (single (bytes lines)) = lines
+lines_said _ = []

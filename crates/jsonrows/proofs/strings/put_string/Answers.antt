@@ -7,4 +7,4 @@ pub returns : goal.returns
 returns c =
     let s = c.args.bytes.now in
     let plain : escape s ≡ s = search rules in
-    quotes_put c.args.out.now.items c.place_byte.new.self.items c.place.new.self.items c.place_byte-2.new.self.items s plain (search rules) c.place.ensures.items c.place_byte-2.ensures.items
+    quotes_put c.args.out.now.items c.place_byte.new.self.items c.place_plain.new.self.items c.place_byte-2.new.self.items s plain (search rules) c.place_plain.ensures.items c.place_byte-2.ensures.items
