@@ -192,7 +192,8 @@ fn read_single<S: EntrySource, K: RowSink>(
     requires single { is_single (field_view field.now) ≡ true }
     requires room { 0 < length sources.old }
     requires deep { place.definition + 1 < 2 ^ 32 }
-    ensures reads { OnOk result (Visits (K.shows sink.old) (K.shows sink.new) tokens (ReadsField S.stands (field_view field.now) place sources.old sources.new)) }
+    ensures reads { OnOk result (Visits (K.shows sink.old) (K.shows sink.new) tokens
+        (ReadsField S.stands (field_view field.now) place sources.old sources.new)) }
     ensures refused { IfErr result (λ f. IsRefusedFor S.stands S.refused sources.old sources.new (IsFieldFaulty (field_view field.now) place) (refusal_of f)) }
     ensures kept { OnOk result (map S.refused sources.new ≡ map S.refused sources.old) }
 {

@@ -59,6 +59,7 @@ fn check_plain(leaf_type: &LeafType, bytes: &[u8], count: usize) -> R<()>
 
 /// Refused as [`check_plain`], where the values are texts: each is checked as its length is read.
 // A loop of its own over all texts of a page, with no more in it than is done for each.
+// For the proof: the leaf's type is named by the clauses only.
 #[inline(never)]
 fn check_texts(_leaf_type: &LeafType, bytes: &[u8], count: usize) -> R<()>
     requires { is_text _leaf_type.now.kind (annotation_view _leaf_type.now.annotation) ≡ true }
