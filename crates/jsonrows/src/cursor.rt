@@ -51,7 +51,7 @@ impl<'t> Cursor<'t> {
         ensures unchanged { result ≡ false → rest_of self.new ≡ rest_of self.old }
     {
         if self.rest().starts_with(bytes) {
-            self.at = self.at.saturating_add(bytes.len());
+            self.at += bytes.len();
             true
         } else {
             false
@@ -66,7 +66,7 @@ impl<'t> Cursor<'t> {
     {
         match self.rest().first() {
             Some(first) if *first == byte => {
-                self.at = self.at.saturating_add(1);
+                self.at += 1;
                 true
             }
             _ => false,
@@ -79,7 +79,7 @@ impl<'t> Cursor<'t> {
         ensures { IfSome result (λ n. Takes self.old self.new (decimal n)) }
     {
         let (number, count) = natural_front(self.rest())?;
-        self.at = self.at.saturating_add(count);
+        self.at += count;
         Some(number)
     }
 
@@ -105,7 +105,7 @@ impl<'t> Cursor<'t> {
         ensures { IfSome result (λ s. Takes self.old self.new s.now × (escape s.now ≡ s.now)) }
     {
         let count = plain_front(self.rest());
-        let end = self.at.saturating_add(count);
+        let end = self.at + count;
         let content = self.text.get(self.at..end)?;
         self.at = end;
         Some(content)
