@@ -1,17 +1,13 @@
 //! What is left of a line that is read in the form in which rows are printed.
 
-ghost use Rattle.std.specs.Prelude.{◌≡◌, ℕ, List, ◌∷◌, [], false, IfSome, IsTrue, decimal};
+ghost use Rattle.std.specs.Prelude.{◌≡◌, ◌≤◌, ℕ, List, ◌∷◌, [], false, length, IfSome, IsTrue, decimal};
 ghost use Rattle.std.specs.Fmt.{signed_decimal};
 ghost use Rattle.json.specs.Print.{escape, quoted};
-ghost use Rattle.schema.specs.Values.{bytes};
-ghost use Rattle.assemble.specs.Sinks.{single};
-ghost use Rattle.jsonrows.specs.inner.Escapes.{IsText, IsPrintedText};
-ghost use Rattle.jsonrows.specs.inner.Lines.{rest_of, Takes};
-ghost use Rattle.jsonrows.specs.inner.Pieces.{token_of, IsTextRead};
+ghost use Rattle.jsonrows.specs.inner.Escapes.{IsPrintedText};
 
 use crate::escapes::printed_end;
 use crate::integers::natural_front;
-use crate::pieces::Piece;
+use crate::pieces::{Piece, text_piece};
 use crate::plain_front::plain_front;
 
 /// A line, and how many of its bytes were read.
@@ -19,9 +15,13 @@ use crate::plain_front::plain_front;
 pub struct Cursor<'t> {
     text: &'t str,
     at: usize,
+    ghost within: { at ≤ length text.now },
 }
 
 impl<'t> Cursor<'t> {
+    ghost use Rattle.jsonrows.specs.inner.Lines.{rest_of, Takes};
+    ghost use Rattle.jsonrows.specs.inner.Pieces.{IsTextRead};
+
     /// A line of which nothing was read.
     pub fn new(text: &'t str) -> Cursor<'t>
         ensures { rest_of result ≡ text.now }
@@ -34,7 +34,7 @@ impl<'t> Cursor<'t> {
     fn rest(&self) -> &'t [u8]
         ensures { result.now ≡ rest_of self.now }
     {
-        self.text.as_bytes().get(self.at..).unwrap_or(&[])
+        &self.text.as_bytes()[self.at..]
     }
 
     /// Whether nothing is left.
@@ -51,7 +51,7 @@ impl<'t> Cursor<'t> {
         ensures unchanged { result ≡ false → rest_of self.new ≡ rest_of self.old }
     {
         if self.rest().starts_with(bytes) {
-            self.at = self.at.saturating_add(bytes.len());
+            self.at += bytes.len();
             true
         } else {
             false
@@ -66,7 +66,7 @@ impl<'t> Cursor<'t> {
     {
         match self.rest().first() {
             Some(first) if *first == byte => {
-                self.at = self.at.saturating_add(1);
+                self.at += 1;
                 true
             }
             _ => false,
@@ -79,7 +79,7 @@ impl<'t> Cursor<'t> {
         ensures { IfSome result (λ n. Takes self.old self.new (decimal n)) }
     {
         let (number, count) = natural_front(self.rest())?;
-        self.at = self.at.saturating_add(count);
+        self.at += count;
         Some(number)
     }
 
@@ -105,7 +105,7 @@ impl<'t> Cursor<'t> {
         ensures { IfSome result (λ s. Takes self.old self.new s.now × (escape s.now ≡ s.now)) }
     {
         let count = plain_front(self.rest());
-        let end = self.at.saturating_add(count);
+        let end = self.at + count;
         let content = self.text.get(self.at..end)?;
         self.at = end;
         Some(content)
@@ -163,13 +163,4 @@ impl<'t> Cursor<'t> {
             None
         }
     }
-}
-
-/// A text that stands in a line as it is.
-#[inline(always)]
-fn text_piece<'t>(text: &'t str) -> Piece<'t>
-    ensures text { IsText text.now }
-    ensures shown { token_of result ≡ single (bytes text.now) }
-{
-    Piece::Text(text)
 }

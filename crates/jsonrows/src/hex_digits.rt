@@ -127,7 +127,7 @@ pub fn are_digits(kind: Kind, digits: &str) -> bool
     are_lower_digits(bytes)
 }
 
-/// The value of a digit.
+/// The value of a digit. The low four bits of a letter, which is above 64, are 9 less than its value.
 #[inline(always)]
 fn digit_value(digit: u8) -> u8
     ensures { result ≡ digit_value digit }

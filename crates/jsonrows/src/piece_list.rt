@@ -89,9 +89,23 @@ impl<'t> Pieces<'t> {
         }
     }
 
-    /// Adds a piece, and has all in the allocation then.
+    /// Adds a piece where there is no place left among the few.
     #[inline(never)]
     fn push_beyond(&mut self, piece: Piece<'t>) -> Result<(), AllocError>
+        ensures { OnOk result (self.new.items ≡ self.old.items ++ piece.entry ∷ []) }
+    {
+        if self.count == BEYOND {
+            self.many.push(piece)?;
+            Ok(())
+        } else {
+            self.push_moved(piece)
+        }
+    }
+
+    /// Adds a piece, after the few are moved to the allocation.
+    #[cold]
+    #[inline(never)]
+    fn push_moved(&mut self, piece: Piece<'t>) -> Result<(), AllocError>
         ensures { OnOk result (self.new.items ≡ self.old.items ++ piece.entry ∷ []) }
     {
         let count = self.count;

@@ -1,9 +1,9 @@
 //! A row that was read from a line, as small pieces that borrow from it.
 
-ghost use Rattle.std.specs.Prelude.{◌∷◌, [], OnOk};
+ghost use Rattle.std.specs.Prelude.{◌≡◌, ◌∷◌, [], OnOk};
 ghost use Rattle.assemble.specs.Sinks.{Adds, single};
 ghost use Rattle.schema.specs.Values.{bytes};
-ghost use Rattle.jsonrows.specs.inner.Escapes.{unescape};
+ghost use Rattle.jsonrows.specs.inner.Escapes.{IsText, unescape};
 ghost use Rattle.jsonrows.specs.inner.LowerDigits.{bytes_of_pairs};
 ghost use Rattle.jsonrows.specs.inner.Pieces.{token_of, tokens_of};
 
@@ -93,4 +93,13 @@ pub fn show_pieces<K: RowSink>(
         show_piece(*piece, buffer, sink)?;
     }
     Ok(())
+}
+
+/// A text that stands in a line as it is.
+#[inline(always)]
+pub fn text_piece<'t>(text: &'t str) -> Piece<'t>
+    ensures text { IsText text.now }
+    ensures shown { token_of result ≡ single (bytes text.now) }
+{
+    Piece::Text(text)
 }

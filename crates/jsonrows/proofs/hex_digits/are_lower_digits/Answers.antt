@@ -1,4 +1,3 @@
-use Rattle.std.proofs.Common.{◌≡◌, length, arith}
 use Rattle.std.proofs.lemmas.Bool.{eqb-true}
 use Rattle.jsonrows.proofs.LaneTests.{all_between}
 use Rattle.jsonrows.proofs.hex_digits.are_lower_digits.Goals as goal

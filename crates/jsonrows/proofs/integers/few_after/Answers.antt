@@ -1,4 +1,4 @@
-use Rattle.std.proofs.Common.{◌≡◌, ◌+◌, ◌<◌, ◌^◌, drop, arith}
+use Rattle.std.proofs.Common.{◌+◌, ◌<◌, ◌^◌, drop, arith}
 use Rattle.std.proofs.lemmas.List.{drop_more}
 use Rattle.jsonrows.proofs.Digits.{digits_after, few_below, one_longer}
 use Rattle.jsonrows.proofs.integers.few_after.Goals as goal

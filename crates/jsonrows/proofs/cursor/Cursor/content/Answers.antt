@@ -1,4 +1,4 @@
-use Rattle.std.proofs.Common.{subst, arith}
+use Rattle.std.proofs.Common.{◌+◌, subst, arith}
 use Rattle.json.specs.Written.{PlainBetween}
 use Rattle.jsonrows.proofs.Lines.{content_taken}
 use Rattle.jsonrows.proofs.cursor.Cursor.content.Goals as goal
@@ -9,4 +9,4 @@ returns c =
     let at = c.args.self.now.at in
     let count = c.plain_front-count.result in
     let got = c.in_ok-content.ensures.cases in
-    content_taken text c.in_ok-content.content.now at count c.saturating_add-end.result got.0 got.1 (omega arith) (subst (λ r. PlainBetween r 0 count) c.rest.ensures c.plain_front-count.ensures.plain)
+    content_taken text c.in_ok-content.content.now at count (at + count) got.0 got.1 (omega arith) (subst (λ r. PlainBetween r 0 count) c.rest.ensures c.plain_front-count.ensures.plain)

@@ -1,4 +1,4 @@
-use Rattle.std.proofs.Common.{◌∷◌, [], ◌++◌, sym, ap, ◌∙◌, arith}
+use Rattle.std.proofs.Common.{◌∷◌, [], ◌++◌, ap, ◌∙◌, arith}
 use Rattle.jsonrows.specs.inner.PieceLists.{PieceList}
 use Rattle.jsonrows.proofs.PieceLists.{few_more}
 use Rattle.jsonrows.proofs.piece_list.Pieces.push.Goals as goal

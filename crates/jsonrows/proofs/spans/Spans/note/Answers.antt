@@ -1,4 +1,4 @@
-use Rattle.std.proofs.Common.{◌≡◌, ◌<◌, length, get_or, slice_set, Some, None, sym, ap, subst, ◌∙◌, arith}
+use Rattle.std.proofs.Common.{◌≡◌, ◌<◌, length, get_or, slice_set, Some, None, sym, subst, ◌∙◌, arith}
 use Rattle.jsonrows.specs.inner.PieceLists.{held}
 use Rattle.jsonrows.specs.inner.SpanLists.{SpanList}
 use Rattle.jsonrows.proofs.PieceLists.{few_noted}
