@@ -1,5 +1,5 @@
 -- The digits of a byte in a table, and those of bytes one after another.
-use Rattle.std.proofs.Common.{◌≡◌, ℕ, zero, suc, ◌+◌, ◌-◌, ◌*◌, ◌/◌, ◌%◌, ◌<◌, ◌≤◌, Bool, true, ◌&&◌, T, eqb, eqb→eq, List, [], ◌∷◌, ◌++◌, length, take, drop, get_or, slice_index, slice_set, inl, inr, eq-zero-or-pos, append_assoc, append-nil, arith}
+use Rattle.std.proofs.Common.{◌≡◌, ℕ, zero, suc, ◌+◌, ◌-◌, ◌*◌, ◌/◌, ◌%◌, ◌<◌, ◌≤◌, Bool, true, ◌&&◌, T, eqb, eqb→eq, List, ◌++◌, length, take, drop, get_or, slice_index, slice_set, inl, inr, eq-zero-or-pos, append_assoc, append-nil, arith}
 use lib.Ieee.Fits.{and_l, and_r}
 use Rattle.std.proofs.lemmas.List.{drop_all}
 use Rattle.hex.specs.Hex.{encode_with, encode_lower, lower_digits}

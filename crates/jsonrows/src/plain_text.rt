@@ -1,6 +1,6 @@
 //! Texts that are placed and need no escape. Two loads that overlap cover a short text.
 
-ghost use Rattle.std.specs.Prelude.{◌≡◌, ◌+◌, ◌≤◌, length};
+ghost use Rattle.std.specs.Prelude.{◌+◌, ◌≤◌, length};
 ghost use Rattle.std.specs.Bool.{OnTrue};
 ghost use Rattle.json.specs.Filled.{Placed};
 ghost use Rattle.json.specs.Written.{PlainBetween};

@@ -347,6 +347,7 @@ impl<'a> RowText<'a> {
 impl<'a> RowSink for RowText<'a> {
     ghost shows = { text_shows };
 
+    // Inlined, it would keep the loops that read the values from being inlined.
     #[inline(never)]
     fn value(&mut self, value: ValueRef<'_>) -> Result<(), AllocError> {
         let slot = self.begin_value()?;

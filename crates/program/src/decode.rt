@@ -1,7 +1,6 @@
 //! Files to lines.
 
-ghost use Rattle.std.specs.Prelude.{◌≡◌, ◌≢◌, ◌⊎◌, ℕ, List, [], false, IfErr, OnOk};
-ghost use Rattle.std.specs.Io.KnownBytes.{Appends};
+ghost use Rattle.std.specs.Prelude.{◌≡◌, ◌≢◌, ◌⊎◌, ℕ, List, false, IfErr, OnOk};
 ghost use Rattle.bits.specs.Refusals.{IsFault, RefusedOnly};
 ghost use Rattle.bits.specs.declared.refusal.Refusal.TheVariants.{Memory, Device};
 ghost use Rattle.schema.specs.Values.{ValueTrees};

@@ -1,6 +1,5 @@
-use Rattle.std.proofs.Common.{◌≡◌, ◌+◌, ◌*◌, ◌<◌, ◌≤◌, ℕ, length, get_or, slice_index, take, ap, ◌∙◌, sym, arith}
-use Rattle.std.proofs.lemmas.List.{length-append}
-use Rattle.hex.specs.Hex.{encode_lower, lower_digits}
+use Rattle.std.proofs.Common.{◌+◌, ◌*◌, ◌<◌, ◌≤◌, ℕ, length, get_or, slice_index, ap, ◌∙◌, arith}
+use Rattle.hex.specs.Hex.{lower_digits}
 use Rattle.hex.proofs.HexLemmas.{length-encode_with}
 use Rattle.jsonrows.specs.declared.hex_pairs.TheConstants.{PAIRS}
 use Rattle.jsonrows.proofs.HexPairs.{pair_at, pair_placed, all_placed}

@@ -1,4 +1,4 @@
-use Rattle.std.proofs.Common.{◌++◌, ◌∷◌, [], List, ℕ, reverse, map, sym, ap, subst, ◌∙◌, append_assoc}
+use Rattle.std.proofs.Common.{◌++◌, ◌∷◌, [], reverse, map, sym, ap, subst, ◌∙◌, append_assoc}
 use Rattle.std.specs.Prelude.{IsTrue}
 use Rattle.schema.specs.Fits.{fits_each}
 use Rattle.jsonrows.specs.Json.{row_text}
