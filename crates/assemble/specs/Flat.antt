@@ -1,13 +1,14 @@
 -- Schemas whose fields are all REQUIRED leaves: each row has one entry in each column.
-use Rattle.std.specs.Prelude.{◌≡◌, ℕ, Bool, true, false, ◌&&◌, List, [], ◌∷◌, length}
+use Rattle.std.specs.Prelude.{◌≡◌, ℕ, ◌<◌, Bool, true, false, ◌&&◌, List, [], ◌∷◌, length}
 use Rattle.std.specs.List.{AllByRecursion}
 use Rattle.schema.specs.declared.value.Repetition.TheVariants.{Required}
 use Rattle.schema.specs.Values.{ValueTrees}
 use Rattle.schema.specs.Shape.{Field, leaf, Fields, no_fields, field}
-use Rattle.schema.specs.Stripe.{Leaf, leaves_of}
+use Rattle.schema.specs.Stripe.{Entry, Leaf, leaves_of}
 use Rattle.schema.specs.Law.{IsEntryOf}
 use Rattle.assemble.specs.Columns.{Columns}
-use Rattle.assemble.specs.RowsOf.{AreRowsOf}
+use Rattle.assemble.specs.Sinks.{Token, Adds, tokens_each}
+use Rattle.assemble.specs.RowsOf.{AreRowsOf, StandForRows}
 
 -- a REQUIRED field that has no fields below it
 abbrev pub is_required_leaf : Field → Bool
@@ -28,3 +29,15 @@ HaveEntries n _ _ = ⊥
 -- such columns of a flat schema are those of n rows that fit
 abbrev pub FlatColumnsHaveRows : Type 0
 FlatColumnsHaveRows = (fs : Fields) (n : ℕ) (cs : Columns) → is_flat fs ≡ true → HaveEntries n (leaves_of fs) cs → (rows : List ValueTrees) × ((length rows ≡ n) × AreRowsOf fs cs rows)
+
+-- P holds of each rows of a flat schema, one at least, for which the sources stand
+abbrev pub OfFlatRows : {A : Type 0} → (A → List Entry → Type 0) → List A → (Fields → List ValueTrees → Type 0) → Type 0
+OfFlatRows S xs P = (fs : Fields) (rows : List ValueTrees) → is_flat fs ≡ true → StandForRows S xs fs rows → 0 < length rows → P fs rows
+
+-- the first of these rows was shown, and the sources stand for the others
+pub record ShowsFirst {A : Type 0} (S : A → List Entry → Type 0) (new : List A) (from to : List Token → Type 0) (fs : Fields) (rows : List ValueTrees) : Type 0 where
+  pub first : ValueTrees
+  pub rest : List ValueTrees
+  pub split : rows ≡ first ∷ rest
+  pub stand : StandForRows S new fs rest
+  pub shown : Adds from to (tokens_each first)

@@ -209,13 +209,25 @@ fn read_single<S: EntrySource, K: RowSink>(
 
 /// Shows a null, or a value of a leaf. It fails only when out of memory.
 #[inline(always)]
-fn show<K: RowSink>(value: ValueRef<'_>, sink: &mut K) -> Result<(), Fault>
+pub fn show<K: RowSink>(value: ValueRef<'_>, sink: &mut K) -> Result<(), Fault>
     ensures shown { OnOk result (Adds (K.shows sink.old) (K.shows sink.new) (single (value_ref_view value.entry) ∷ [])) }
     ensures memory { IfErr result (λ f. f ≡ Fault.Memory) }
 {
-    match sink.value(value) {
+    match show_kind(value, sink) {
         Ok(()) => Ok(()),
         Err(_) => Err(Fault::Memory),
+    }
+}
+
+// Numbers and bytes have methods of their own, whose arguments are passed in registers.
+#[inline(always)]
+fn show_kind<K: RowSink>(value: ValueRef<'_>, sink: &mut K) -> Result<(), AllocError>
+    ensures shown { OnOk result (Adds (K.shows sink.old) (K.shows sink.new) (single (value_ref_view value.entry) ∷ [])) }
+{
+    match value {
+        ValueRef::Int(number) => sink.int(number),
+        ValueRef::Bytes(text) => sink.bytes(text),
+        _ => sink.value(value),
     }
 }
 

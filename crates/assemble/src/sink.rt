@@ -2,6 +2,7 @@
 
 ghost use Rattle.std.specs.Prelude.{List, OnOk, [], ◌∷◌};
 ghost use Rattle.schema.specs.Borrowed.{value_ref_view};
+ghost use Rattle.schema.specs.Values.{integer, bytes};
 ghost use Rattle.assemble.specs.Sinks.{Token, Adds, single, group_begins, group_ends, list_begins, list_ends};
 
 use schema::ValueRef;
@@ -18,6 +19,22 @@ pub trait RowSink {
     /// Is shown a null, or a value of a leaf.
     fn value(&mut self, value: ValueRef<'_>) -> Result<(), AllocError>
         ensures shown { OnOk result (Adds (shows self.old) (shows self.new) (single (value_ref_view value.entry) ∷ [])) };
+
+    /// Is shown a number, as by `value`.
+    #[inline(always)]
+    fn int(&mut self, number: i64) -> Result<(), AllocError>
+        ensures shown { OnOk result (Adds (shows self.old) (shows self.new) (single (integer number) ∷ [])) }
+    {
+        self.value(ValueRef::Int(number))
+    }
+
+    /// Is shown bytes, as by `value`.
+    #[inline(always)]
+    fn bytes(&mut self, text: &[u8]) -> Result<(), AllocError>
+        ensures shown { OnOk result (Adds (shows self.old) (shows self.new) (single (bytes text.now) ∷ [])) }
+    {
+        self.value(ValueRef::Bytes(text))
+    }
 
     fn begin_group(&mut self) -> Result<(), AllocError>
         ensures shown { OnOk result (Adds (shows self.old) (shows self.new) (group_begins ∷ [])) };

@@ -222,6 +222,16 @@ impl<'a> RowSink for FileWriter<'a> {
         self.waiting.value(value)
     }
 
+    #[inline(always)]
+    fn int(&mut self, number: i64) -> Result<(), AllocError> {
+        self.waiting.int(number)
+    }
+
+    #[inline(always)]
+    fn bytes(&mut self, text: &[u8]) -> Result<(), AllocError> {
+        self.waiting.bytes(text)
+    }
+
     fn begin_group(&mut self) -> Result<(), AllocError> {
         self.waiting.begin_group()
     }

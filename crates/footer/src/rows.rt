@@ -24,7 +24,7 @@ pub struct Rows<'a> {
 }
 
 impl<'a> Rows<'a> {
-    ghost use Rattle.footer.specs.Left.{rows_stand, with_refusal, TakesOfGroup, BeginsGroup};
+    ghost use Rattle.footer.specs.Left.{rows_stand, others_hold, with_refusal, TakesOfGroup, BeginsGroup};
 
     /// Shows a sink the values of the next row. Returns false after the last row, however often it is
     /// asked, and then shows nothing.
@@ -37,9 +37,34 @@ impl<'a> Rows<'a> {
         ensures takes { TakesRowTo (rows_stand self.old) (rows_stand self.new) (K.shows sink.old) (K.shows sink.new) result }
         ensures unshown { result ≡ Ok false → sink.new ≡ sink.old }
     {
+        match self.show_next(sink) {
+            Ok(is_shown) => Ok(is_shown),
+            Err(fault) => Err(Refusal::from(fault)),
+        }
+    }
+
+    /// Shows a sink the values of the next row as [`next_to`](Rows::next_to) does. A fault is the refusal of
+    /// that call, and owns no memory.
+    // Each row of a file comes through here: what is returned fits a register.
+    #[inline(always)]
+    pub fn show_next<K: RowSink>(&mut self, sink: &mut K) -> Result<bool, Fault>
+        ensures takes { TakesRowTo (rows_stand self.old) (rows_stand self.new) (K.shows sink.old) (K.shows sink.new) (with_refusal result) }
+        ensures unshown { result ≡ Ok false → sink.new ≡ sink.old }
+    {
         if self.next_of_group(sink)? {
             return Ok(true);
         }
+        self.show_of_others(sink)
+    }
+
+    /// Shows a sink the first row of the groups that are not begun; false where they have none. Nothing is to
+    /// be left of the group that was begun.
+    #[cold]
+    #[inline(never)]
+    fn show_of_others<K: RowSink>(&mut self, sink: &mut K) -> Result<bool, Fault>
+        ensures takes { TakesRowTo (others_hold self.old) (rows_stand self.new) (K.shows sink.old) (K.shows sink.new) (with_refusal result) }
+        ensures unshown { result ≡ Ok false → sink.new ≡ sink.old }
+    {
         while self.begin_group()? {
             if self.next_of_group(sink)? {
                 return Ok(true);
@@ -65,8 +90,7 @@ impl<'a> Rows<'a> {
     }
 
     /// Shows a sink the next row of the group that was begun; false where none of it is left.
-    // Each row comes through here: what is returned fits a register.
-    #[inline]
+    #[inline(always)]
     fn next_of_group<K: RowSink>(&mut self, sink: &mut K) -> Result<bool, Fault>
         ensures takes { TakesOfGroup self.old self.new (K.shows sink.old) (K.shows sink.new) (with_refusal result) }
         ensures unshown { result ≡ Ok false → sink.new ≡ sink.old }
@@ -79,12 +103,18 @@ impl<'a> Rows<'a> {
     }
 
     /// Begins the next group; false where there is none. Nothing is to be left of the group before.
-    fn begin_group(&mut self) -> R<bool>
-        ensures begins { BeginsGroup self.old self.new result }
+    fn begin_group(&mut self) -> Result<bool, Fault>
+        ensures begins { BeginsGroup self.old self.new (with_refusal result) }
         ensures fewer { IfOk result (λ b. IsTrue b → length self.new.others.groups < length self.old.others.groups) }
     {
-        self.group = self.others.begin_next(self.alloc)?;
-        Ok(self.group.is_some())
+        match self.others.begin_next(self.alloc) {
+            Ok(group) => {
+                self.group = group;
+                Ok(self.group.is_some())
+            }
+            // Nothing else is refused in a file that was accepted.
+            Err(_) => Err(Fault::Memory),
+        }
     }
 
     /// All rows that are left. It fails only when out of memory. Time and memory are linear in their values.

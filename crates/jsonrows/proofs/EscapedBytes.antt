@@ -1,10 +1,15 @@
 -- What is appended of strings, and of the digits of bytes.
-use Rattle.std.proofs.Common.{◌≡◌, ℕ, zero, suc, ◌/◌, ◌%◌, ◌<◌, nat_lt, true, List, [], ◌∷◌, ◌++◌, refl, sym, ap, ap₂, ◌∙◌, arith, append_assoc}
+use Rattle.std.proofs.Common.{◌≡◌, ℕ, zero, suc, ◌/◌, ◌%◌, ◌<◌, ◌≤◌, nat_lt, true, List, [], ◌∷◌, ◌++◌, length, take, drop, refl, sym, ap, ap₂, ◌∙◌, arith, append_assoc, append-nil, ◌-◌, get_or-take, length-take-le}
 use Rattle.std.specs.Prelude.{slice_index}
+use Rattle.std.proofs.lemmas.List.{take-append-drop, take_rest, nil_from_length}
+use Rattle.std.proofs.lemmas.List.Concat.{flat_map-append}
 use Rattle.std.specs.Char.{digit_char}
 use Rattle.std.proofs.lemmas.Bool.Decides.{Decides-ltb}
 use Rattle.hex.specs.Hex.{lower_digits, encode_with, encode_lower}
 use Rattle.json.specs.Print.{escape_letter, escape_byte, escape, quoted}
+use Rattle.json.specs.Run.{is_plain}
+use Rattle.json.specs.Written.{PlainBetween}
+use Rattle.json.proofs.Printed.Plain.{escape_on_plain}
 
 -- ---- strings
 
@@ -13,6 +18,24 @@ pub quotes_put : (old first mid last s : List ℕ) → escape s ≡ s → first 
 quotes_put old first mid last s plain begun put ended =
     ended ∙ ap (λ (x : List ℕ). x ++ 34 ∷ []) (put ∙ ap (λ (x : List ℕ). x ++ s) begun) ∙ append_assoc (old ++ 34 ∷ []) s (34 ∷ []) ∙ append_assoc old (34 ∷ []) (s ++ 34 ∷ [])
     ∙ ap (λ (x : List ℕ). old ++ 34 ∷ (x ++ 34 ∷ [])) (sym plain)
+
+-- the bytes before one that has to be escaped are put, of a text of which the escapes are to follow what was there
+module _ (old d mid all : List ℕ) (n : ℕ) (within : n ≤ length d) (plain : PlainBetween d 0 n) (put : mid ≡ old ++ take n d) (so : old ++ escape d ≡ all) where
+  run_put : mid ++ escape (take (length d - n) (drop n d)) ≡ all
+  run_put =
+      let x = take n d in
+      let long : length x ≡ n = length-take-le n d within in
+      let same : escape x ≡ x = escape_on_plain true x (λ k p q. ap is_plain (get_or-take n d k 0 (omega (arith, q, long))) ∙ plain k p (omega (arith, q, long))) in
+      let split : escape d ≡ x ++ escape (drop n d) = ap escape (sym (take-append-drop n d)) ∙ flat_map-append escape_byte x (drop n d) ∙ ap (λ (r : List ℕ). r ++ escape (drop n d)) same in
+      ap (λ (r : List ℕ). mid ++ escape r) (take_rest d n) ∙ ap (λ (r : List ℕ). r ++ escape (drop n d)) put ∙ append_assoc old x (escape (drop n d)) ∙ ap (λ (r : List ℕ). old ++ r) (sym split) ∙ so
+
+  pub escapes_end : length (take (length d - n) (drop n d)) ≡ 0 → mid ≡ all
+  escapes_end none = sym (append-nil mid) ∙ ap (λ (r : List ℕ). mid ++ escape r) (sym (nil_from_length (take (length d - n) (drop n d)) none)) ∙ run_put
+
+  -- and that byte
+  pub escapes_more : (new later : List ℕ) (b : ℕ) → take (length d - n) (drop n d) ≡ b ∷ later → new ≡ mid ++ escape_byte b → new ++ escape later ≡ all
+  escapes_more new later b first one =
+      ap (λ (r : List ℕ). r ++ escape later) one ∙ append_assoc mid (escape_byte b) (escape later) ∙ ap (λ (r : List ℕ). mid ++ escape r) (sym first) ∙ run_put
 
 -- ---- digits
 

@@ -46,3 +46,4 @@ pub mod PieceLists
 pub mod NamedMembers
 pub mod DigitRuns
 pub mod LaneTests
+pub mod Sorting

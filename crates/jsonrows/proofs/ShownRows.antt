@@ -47,11 +47,11 @@ slot_there (g ∷ fs) (t ∷ ss) (suc i) f s same less within is at =
     let others : slots_view ss ≡ slots_made (field_views fs) = cc in
     slot_there fs ss i f s others (omega (arith, less)) (omega (arith, within)) is at
 
-view-SlotGroup : (k : Vec ℕ Global) (ss : Vec CodeSlot Global) (o : Option (Vec ℕ Global)) → slot_view (SlotGroup k ss o) ≡ group_slot k.items (slots_view ss.items) (option_map vec_items o)
+view-SlotGroup : (k : List ℕ) (ss : Vec CodeSlot Global) (o : Option (Vec ℕ Global)) → slot_view (SlotGroup k ss o) ≡ group_slot k (slots_view ss.items) (option_map vec_items o)
 view-SlotGroup k ss o = search (rules, of_slots)
 
 -- what stands at the fields of a group
-pub group_slots : (f : CodeField) (n : String Global) (r : Repetition) (a : Option GroupAnnotation) (fs : Vec CodeField Global) (s : CodeSlot) (k : Vec ℕ Global) (ss : Vec CodeSlot Global) (o : Option (Vec ℕ Global)) → f ≡ Group n r a fs → s ≡ SlotGroup k ss o
+pub group_slots : (f : CodeField) (n : String Global) (r : Repetition) (a : Option GroupAnnotation) (fs : Vec CodeField Global) (s : CodeSlot) (k : List ℕ) (ss : Vec CodeSlot Global) (o : Option (Vec ℕ Global)) → f ≡ Group n r a fs → s ≡ SlotGroup k ss o
     → slot_view s ≡ slot_of (field_view f) → (slots_view ss.items ≡ slots_made (field_views fs.items)) × (option_map vec_items o ≡ order_of (field_views fs.items))
 group_slots f n r a fs s k ss o is at same =
     let here = sym (view-SlotGroup k ss o) ∙ ap slot_view (sym at) ∙ same ∙ ap (λ x. slot_of x) (ap field_view is ∙ view-Group n r a fs) in

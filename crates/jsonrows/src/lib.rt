@@ -12,6 +12,7 @@ mod hex_digits;
 mod hex_pairs;
 mod integers;
 mod json_text;
+mod key;
 mod lanes;
 mod laws;
 mod line;

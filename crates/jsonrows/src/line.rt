@@ -1,12 +1,14 @@
 //! A text in a buffer that is kept: room for a value is made once, and its bytes are then stored with no further test.
 
-ghost use Rattle.std.specs.Prelude.{◌≡◌, ◌+◌, ◌*◌, ◌<◌, ◌≤◌, [], ◌∷◌, ◌++◌, length, take, OnOk, slice_set, decimal};
+ghost use Rattle.std.specs.Prelude.{◌≡◌, ◌+◌, ◌-◌, ◌*◌, ◌<◌, ◌≤◌, [], ◌∷◌, ◌++◌, length, take, drop, OnOk, slice_set, decimal};
 ghost use Rattle.std.specs.Bool.{OnTrue};
 ghost use Rattle.hex.specs.Hex.{encode_lower};
 ghost use Rattle.json.specs.Print.{escape};
 
 use crate::hex_pairs::place_digits;
-use crate::place::{place_byte, place_natural, place_text};
+use crate::place::{
+    MOVED, cut_out, place_byte, place_few, place_natural, place_padded, place_slowly, place_text,
+};
 use crate::plain_text::place_plain;
 use std::alloc::{AllocError, Global};
 use std::marker::Model;
@@ -61,6 +63,14 @@ impl Line {
         &self.bytes.as_slice()[..self.len]
     }
 
+    /// Whether there is room for so many more bytes.
+    #[inline(always)]
+    pub fn has_room(&self, more: usize) -> bool
+        ensures { OnTrue result (more ≤ self.now.ready) }
+    {
+        more <= self.bytes.len() - self.len
+    }
+
     /// Makes room for so many more bytes.
     #[inline(always)]
     pub fn reserve(&mut self, more: usize) -> Result<(), AllocError>
@@ -95,6 +105,17 @@ impl Line {
         ensures ready { self.old.ready ≡ self.new.ready + length bytes.now }
     {
         self.len = place_text(self.bytes.as_mut_slice(), self.len, bytes);
+    }
+
+    /// Appends the first `len` bytes of a text of at least 16, where there is room for 16.
+    #[inline(always)]
+    pub fn place_padded(&mut self, text: &[u8], len: usize)
+        requires padded { (len ≤ 16) × (16 ≤ length text.now) }
+        requires room { 16 ≤ self.old.ready }
+        ensures items { self.new.items ≡ self.old.items ++ take len text.now }
+        ensures ready { self.old.ready ≡ self.new.ready + len }
+    {
+        self.len = place_padded(self.bytes.as_mut_slice(), self.len, text, len);
     }
 
     /// Appends a text that there is room for, and returns whether it stands in a JSON string as it is: where it is
@@ -158,6 +179,32 @@ impl Line {
         self.reserve(1)?;
         self.place_byte(byte);
         Ok(())
+    }
+
+    /// Appends bytes of the text itself, from one index up to another.
+    #[inline(always)]
+    pub fn extend_within(&mut self, from: usize, to: usize) -> Result<(), AllocError>
+        requires { (from ≤ to) × (to ≤ length self.old.items) }
+        ensures items { OnOk result (self.new.items ≡ self.old.items ++ take (to - from) (drop from self.old.items)) }
+    {
+        let count = to - from;
+        if count <= MOVED {
+            self.reserve(MOVED)?;
+            self.len = place_few::<MOVED>(self.bytes.as_mut_slice(), self.len, from, count);
+            return Ok(());
+        }
+        self.reserve(count)?;
+        self.len = place_slowly(self.bytes.as_mut_slice(), self.len, from, count);
+        Ok(())
+    }
+
+    /// Removes the bytes from one index up to another.
+    #[inline(always)]
+    pub fn cut_out(&mut self, from: usize, to: usize)
+        requires { (from ≤ to) × (to ≤ length self.old.items) }
+        ensures items { self.new.items ≡ take from self.old.items ++ drop to self.old.items }
+    {
+        self.len = cut_out(self.bytes.as_mut_slice(), from, to, self.len);
     }
 
     /// Cuts the text off.

@@ -1,6 +1,7 @@
 //! The text of an object: its members in the order of their names, and its braces.
 
-ghost use Rattle.std.specs.Prelude.{◌≡◌, ◌≤◌, ◌+◌, ◌++◌, ◌∷◌, [], drop, OnOk, flat_map, take};
+ghost use Rattle.std.specs.Prelude.{◌≡◌, ◌≤◌, ◌+◌, ◌++◌, ◌∷◌, [], ℕ, List, length, drop, IfSome, IfOk, OnOk, flat_map, take};
+ghost use Rattle.std.specs.Bool.{OnTrue};
 ghost use Rattle.jsonrows.specs.inner.Levels.{between, piece, braced_at};
 
 use crate::line::Line;
@@ -57,8 +58,63 @@ fn put_pieces(
     Ok(())
 }
 
-/// Puts the members of an object in this order. Its text begins at `from`, the first of `starts` is that of its
-/// first member, and `spare` is room.
+/// Where the member at an index begins and ends, by where the members begin in a text of `len` bytes; none where it does
+/// not stand in the text.
+#[inline(always)]
+fn span_of(starts: &[usize], index: usize, len: usize) -> Option<(usize, usize)>
+    ensures within { IfSome result (λ span. (span.0 ≤ span.1) × (span.1 ≤ len)) }
+    ensures piece { (text : List ℕ) → len ≡ length text → IfSome result (λ span. piece text starts.now index ≡ between text span.0 span.1) }
+{
+    let rest = starts.get(index..)?;
+    let (start, later) = rest.split_first()?;
+    let end = match later.first() {
+        None => len,
+        Some(end) => *end,
+    };
+    if *start <= end && end <= len {
+        Some((*start, end))
+    } else {
+        None
+    }
+}
+
+/// Appends the members of an object in this order to the text that they stand in, and returns whether they stand in it:
+/// where it returns false, some of them were appended.
+#[inline(always)]
+fn append_pieces(order: &[usize], starts: &[usize], text: &mut Line) -> Result<bool, AllocError>
+    ensures pieces { IfOk result (λ all. OnTrue all (text.new.items ≡ text.old.items ++ flat_map (piece text.old.items starts.now) order.now)) }
+    ensures before { OnOk result (take (length text.old.items) text.new.items ≡ text.old.items) }
+{
+    let len = text.len();
+    for index in order {
+        let Some((start, end)) = span_of(starts, *index, len) else {
+            return Ok(false);
+        };
+        text.extend_within(start, end)?;
+    }
+    Ok(true)
+}
+
+/// Puts the members of an object in this order, as [`sort`] does.
+#[cold]
+#[inline(never)]
+fn sort_slowly(
+    order: &[usize],
+    from: usize,
+    starts: &[usize],
+    text: &mut Line,
+    spare: &mut Line,
+) -> Result<(), AllocError>
+    ensures { OnOk result (text.new.items ≡ take from text.old.items ++ flat_map (piece text.old.items starts.now) order.now) }
+{
+    spare.clear();
+    put_pieces(text.as_slice(), starts, order, spare)?;
+    text.truncate(from);
+    text.extend_from_slice(spare.as_slice())
+}
+
+/// Puts the members of an object in this order: they are appended in it, and then moved to where they begin. The text of
+/// the object begins at `from`, the first of `starts` is that of its first member, and `spare` is room.
 #[inline(never)]
 pub fn sort(
     order: &[usize],
@@ -71,10 +127,16 @@ pub fn sort(
     ensures { OnOk result (text.new.items ≡ take from text.old.items ++ flat_map (piece text.old.items (drop first starts.now)) order.now) }
 {
     let starts = starts.get(first..).unwrap_or(&[]);
-    spare.clear();
-    put_pieces(text.as_slice(), starts, order, spare)?;
-    text.truncate(from);
-    text.extend_from_slice(spare.as_slice())
+    let len = text.len();
+    if from > len {
+        return sort_slowly(order, from, starts, text, spare);
+    }
+    if !append_pieces(order, starts, text)? {
+        text.truncate(len);
+        return sort_slowly(order, from, starts, text, spare);
+    }
+    text.cut_out(from, len);
+    Ok(())
 }
 
 /// Puts a brace where a text begins, in place of the comma before its first member.
@@ -99,5 +161,17 @@ pub fn put_braces(from: usize, text: &mut Line) -> Result<(), AllocError>
     text.reserve(2)?;
     put_brace(from, text);
     text.place_byte(b'}');
+    Ok(())
+}
+
+/// Puts the braces of an object whose text begins at `from`, and a line feed after it.
+#[inline(always)]
+pub fn put_line_end(from: usize, text: &mut Line) -> Result<(), AllocError>
+    ensures { OnOk result (text.new.items ≡ (braced_at from text.old.items ++ 125 ∷ []) ++ 10 ∷ []) }
+{
+    text.reserve(3)?;
+    put_brace(from, text);
+    text.place_byte(b'}');
+    text.place_byte(b'\n');
     Ok(())
 }

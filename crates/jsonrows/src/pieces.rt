@@ -43,7 +43,7 @@ fn show_digits<K: RowSink>(
     make_room(buffer, count)?;
     let bytes = &mut buffer.as_mut_slice()[..count];
     decode_digits(digits.as_bytes(), bytes);
-    sink.value(ValueRef::Bytes(bytes))
+    sink.bytes(bytes)
 }
 
 /// Shows a sink the bytes for which the content of a string stands, which are put into a buffer.
@@ -55,7 +55,7 @@ fn show_escaped<K: RowSink>(
     ensures shown { OnOk result (Adds (K.shows sink.old) (K.shows sink.new) (single (bytes (unescape content.now)) ∷ [])) }
 {
     unescape(content.as_bytes(), buffer)?;
-    sink.value(ValueRef::Bytes(buffer.as_slice()))
+    sink.bytes(buffer.as_slice())
 }
 
 /// Shows a sink a piece.
@@ -69,8 +69,8 @@ fn show_piece<K: RowSink>(
     match piece {
         Piece::Null => sink.value(ValueRef::Null),
         Piece::Bool(boolean) => sink.value(ValueRef::Bool(boolean)),
-        Piece::Int(number) => sink.value(ValueRef::Int(number)),
-        Piece::Text(text) => sink.value(ValueRef::Bytes(text.as_bytes())),
+        Piece::Int(number) => sink.int(number),
+        Piece::Text(text) => sink.bytes(text.as_bytes()),
         Piece::Escaped(content) => show_escaped(content, buffer, sink),
         Piece::Digits(digits) => show_digits(digits, buffer, sink),
         Piece::GroupBegins => sink.begin_group(),

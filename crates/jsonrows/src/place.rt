@@ -8,6 +8,15 @@ use std::simd::Simd;
 /// The most digits of a number of 64 bits.
 const MOST_DIGITS: usize = 20;
 
+/// How many bytes are moved at once.
+pub const MOVED: usize = 32;
+
+/// How many bytes are moved at once where others are removed.
+const CUT: usize = 64;
+
+/// How many bytes of a padded text are placed at once.
+pub const PADDED: usize = 16;
+
 /// Writes a byte, and returns where it ends.
 #[inline(always)]
 pub fn place_byte(buffer: &mut [u8], at: usize, byte: u8) -> usize
@@ -51,14 +60,58 @@ pub fn place_natural(buffer: &mut [u8], at: usize, number: u64) -> usize
 {
     let end = at + MOST_DIGITS;
     let from = itoa::write_digits(number, buffer, end);
-    move_back::<32>(buffer, from, at);
+    copy_at::<MOVED>(buffer, from, at);
     at + (end - from)
 }
 
-/// Writes N bytes of a buffer once more, at a place before them, by one load and one store.
+/// Writes bytes of a buffer once more, and returns where they end: at most N of them by one load and one store of N,
+/// where there is room for those.
 #[inline(always)]
-fn move_back<const N: usize>(buffer: &mut [u8], from: usize, at: usize)
-    requires { (from + N ≤ length buffer.old) × (at ≤ from) }
+fn place_again<const N: usize>(buffer: &mut [u8], at: usize, from: usize, count: usize) -> usize
+    requires { (from + count ≤ length buffer.old) × (at + count ≤ length buffer.old) }
+    ensures { Placed buffer.old buffer.new at (take count (drop from buffer.old)) result }
+{
+    if count > N || buffer.len() - from < N || buffer.len() - at < N {
+        return place_slowly(buffer, at, from, count);
+    }
+    place_few::<N>(buffer, at, from, count)
+}
+
+/// Writes at most N bytes of a buffer once more, by one load and one store of N, and returns where they end.
+#[inline(always)]
+pub fn place_few<const N: usize>(buffer: &mut [u8], at: usize, from: usize, count: usize) -> usize
+    requires few { count ≤ N }
+    requires fits { (from + N ≤ length buffer.old) × (at + N ≤ length buffer.old) }
+    ensures { Placed buffer.old buffer.new at (take count (drop from buffer.old)) result }
+{
+    copy_at::<N>(buffer, from, at);
+    at + count
+}
+
+/// Writes bytes of a buffer once more, however many, and returns where they end.
+#[inline(never)]
+pub fn place_slowly(buffer: &mut [u8], at: usize, from: usize, count: usize) -> usize
+    requires { (from + count ≤ length buffer.old) × (at + count ≤ length buffer.old) }
+    ensures { Placed buffer.old buffer.new at (take count (drop from buffer.old)) result }
+{
+    buffer.copy_within(from..from + count, at);
+    at + count
+}
+
+/// Removes the bytes from one index up to another of the first `len`, and returns where those after them end.
+#[inline(always)]
+pub fn cut_out(buffer: &mut [u8], from: usize, to: usize, len: usize) -> usize
+    requires { (from ≤ to) × ((to ≤ len) × (len ≤ length buffer.old)) }
+    ensures rest { take result buffer.new ≡ take from (take len buffer.old) ++ drop to (take len buffer.old) }
+    ensures within { result ≤ length buffer.old }
+{
+    place_again::<CUT>(buffer, from, to, len - to)
+}
+
+/// Writes N bytes of a buffer once more, at another place, by one load and one store.
+#[inline(always)]
+fn copy_at<const N: usize>(buffer: &mut [u8], from: usize, at: usize)
+    requires { (from + N ≤ length buffer.old) × (at + N ≤ length buffer.old) }
     ensures { take (at + N) buffer.new ≡ take at buffer.old ++ take N (drop from buffer.old) }
 {
     let bytes = Simd::<u8, N>::from_slice(&buffer[from..]);
@@ -73,6 +126,17 @@ fn place_front<const N: usize>(buffer: &mut [u8], at: usize, text: &[u8]) -> usi
 {
     Simd::<u8, N>::from_slice(text).copy_to_slice(&mut buffer[at..]);
     at + N
+}
+
+/// Writes the first `len` bytes of a text of at least 16, by one load and one store of 16, and returns where they end.
+#[inline(always)]
+pub fn place_padded(buffer: &mut [u8], at: usize, text: &[u8], len: usize) -> usize
+    requires padded { (len ≤ 16) × (16 ≤ length text.now) }
+    requires fits { at + 16 ≤ length buffer.old }
+    ensures { Placed buffer.old buffer.new at (take len text.now) result }
+{
+    place_front::<PADDED>(buffer, at, text);
+    at + len
 }
 
 /// Writes a text of N to 2N bytes.

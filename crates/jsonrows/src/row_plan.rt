@@ -7,6 +7,7 @@ ghost use Rattle.schema.specs.Views.{field_view, field_views};
 ghost use Rattle.jsonrows.specs.inner.Slots.{Slots, slot_view, slots_view, slots_made, slot_of, key_of, indices_of, put_index, ordered, entries_view, is_counting, is_in_order, order_of, vec_items, order_view, key_in};
 ghost use Rattle.jsonrows.specs.Rows.{plan_schema, IsReady};
 
+use crate::key::Key;
 use crate::line::Line;
 use crate::scalars::{Numbers, numbers_of};
 use crate::strings::put_string;
@@ -19,13 +20,13 @@ use std::collections::BTreeMap;
 #[derive(Drop)]
 pub enum Slot {
     Leaf {
-        key: Vec<u8>,
+        key: Key,
         numbers: Numbers,
         is_text: bool,
     },
     /// The fields of a group, and their indices in the byte order of their names; none where they stand so.
     Group {
-        key: Vec<u8>,
+        key: Key,
         slots: Vec<Slot>,
         order: Option<Vec<usize>>,
     },
@@ -39,6 +40,17 @@ impl Slot {
         match self {
             Slot::Leaf { key, .. } => key.as_slice(),
             Slot::Group { key, .. } => key.as_slice(),
+        }
+    }
+
+    /// The same, as it is appended.
+    #[inline(always)]
+    pub fn padded_key(&self) -> &Key
+        ensures { result.now ≡ key_in (slot_view self.now) }
+    {
+        match self {
+            Slot::Leaf { key, .. } => key,
+            Slot::Group { key, .. } => key,
         }
     }
 }
@@ -87,14 +99,14 @@ impl<'a> RowPlan<'a> {
 }
 
 /// A name as it is printed, between a comma and a colon.
-fn key_of(alloc: Global, name: &str) -> Result<Vec<u8>, AllocError>
-    ensures { IfOk result (λ key. key.items ≡ key_of name.now) }
+fn key_of(alloc: Global, name: &str) -> Result<Key, AllocError>
+    ensures { IfOk result (λ key. key ≡ key_of name.now) }
 {
     let mut key = Line::new(alloc);
     key.push(b',')?;
     put_string(name.as_bytes(), &mut key)?;
     key.push(b':')?;
-    Vec::from_slice(alloc, key.as_slice())
+    Key::new(alloc, key.as_slice())
 }
 
 /// What stands at a field.

@@ -1,6 +1,6 @@
 //! Numbers, booleans and null as JSON text.
 
-ghost use Rattle.std.specs.Prelude.{◌≡◌, ◌≤◌, ◌++◌};
+ghost use Rattle.std.specs.Prelude.{◌≡◌, ◌≤◌, ◌++◌, OnOk};
 ghost use Rattle.std.specs.Fmt.{signed_decimal};
 ghost use Rattle.serde_json.specs.Data as json;
 ghost use Rattle.serde_json.specs.Written.{compact_text, number_text};
@@ -10,6 +10,7 @@ ghost use Rattle.jsonrows.specs.inner.Scalars.{number_shown, numbers_of};
 
 use crate::line::Line;
 use schema::{Kind, LeafType, Order};
+use std::alloc::AllocError;
 
 /// How many numbers have 32 bits.
 const NUMBERS_OF_INT32: u64 = 4_294_967_296;
@@ -59,6 +60,16 @@ pub fn put_number(numbers: Numbers, number: i64, out: &mut Line)
         Numbers::Unsigned32 => out.place_natural(number.cast_unsigned() % NUMBERS_OF_INT32),
         Numbers::Unsigned64 => out.place_natural(number.cast_unsigned()),
     }
+}
+
+/// Appends a number of a leaf, as [`put_number`] does: a call that ends the caller, which then has no registers to save.
+#[inline(never)]
+pub fn end_with_number(numbers: Numbers, number: i64, out: &mut Line) -> Result<(), AllocError>
+    requires { 53 ≤ out.old.ready }
+    ensures { OnOk result (out.new.items ≡ out.old.items ++ number_text (number_shown numbers number)) }
+{
+    put_number(numbers, number, out);
+    Ok(())
 }
 
 /// Appends a boolean.

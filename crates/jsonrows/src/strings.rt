@@ -1,10 +1,11 @@
 //! JSON strings, escaped where they have to be, and the hexadecimal digits of bytes.
 
-ghost use Rattle.std.specs.Prelude.{◌≡◌, ◌++◌, ◌<◌, OnOk, slice_index};
+ghost use Rattle.std.specs.Prelude.{◌≡◌, ◌++◌, ◌+◌, ◌*◌, ◌<◌, ◌≤◌, length, OnOk, slice_index};
 ghost use Rattle.hex.specs.Hex.{encode_lower, lower_digits};
 ghost use Rattle.json.specs.Print.{escape_letter, escape_byte, escape, quoted};
 
 use crate::line::Line;
+use crate::plain_front::plain_front;
 use std::alloc::AllocError;
 
 /// The digits of hexadecimal numbers.
@@ -18,8 +19,17 @@ const MOST_BYTES: usize = 4_611_686_018_427_387_904;
 pub fn put_string(bytes: &[u8], out: &mut Line) -> Result<(), AllocError>
     ensures { OnOk result (out.new.items ≡ out.old.items ++ quoted bytes.now) }
 {
-    let len = out.len();
     out.reserve(bytes.len() + 2)?;
+    place_string(bytes, out)
+}
+
+/// Appends a string in quotes, where there is room for it as it is.
+#[inline(always)]
+pub fn place_string(bytes: &[u8], out: &mut Line) -> Result<(), AllocError>
+    requires { length bytes.now + 2 ≤ out.old.ready }
+    ensures { OnOk result (out.new.items ≡ out.old.items ++ quoted bytes.now) }
+{
+    let len = out.len();
     out.place_byte(b'"');
     if !out.place_plain(bytes) {
         out.truncate(len);
@@ -38,6 +48,16 @@ pub fn put_digits(bytes: &[u8], out: &mut Line) -> Result<(), AllocError>
         return Err(AllocError);
     }
     out.reserve(bytes.len() * 2 + 2)?;
+    end_with_digits(bytes, out)
+}
+
+/// Appends the hexadecimal digits of bytes, in quotes, where there is room for them: a call that ends the caller, which
+/// then has no registers to save.
+#[inline(never)]
+pub fn end_with_digits(bytes: &[u8], out: &mut Line) -> Result<(), AllocError>
+    requires { 2 * length bytes.now + 2 ≤ out.old.ready }
+    ensures { OnOk result (out.new.items ≡ out.old.items ++ quoted (encode_lower bytes.now)) }
+{
     out.place_byte(b'"');
     out.place_digits(bytes);
     out.place_byte(b'"');
@@ -74,7 +94,9 @@ fn put_byte(byte: u8, out: &mut Line) -> Result<(), AllocError>
 {
     let letter = escape_letter(byte);
     if letter > 0 {
-        out.extend_from_slice(&[b'\\', letter])?;
+        out.reserve(2)?;
+        out.place_byte(b'\\');
+        out.place_byte(letter);
         return Ok(());
     }
     if byte < 32 {
@@ -85,17 +107,24 @@ fn put_byte(byte: u8, out: &mut Line) -> Result<(), AllocError>
     Ok(())
 }
 
-/// Appends the bytes of a string, escaped.
+/// Appends the bytes of a string, escaped: those between two that have to be are appended at once.
 fn put_escaped(bytes: &[u8], out: &mut Line) -> Result<(), AllocError>
     ensures { OnOk result (out.new.items ≡ out.old.items ++ escape bytes.now) }
 {
-    for byte in bytes {
+    let mut rest = bytes;
+    'rest: loop {
+        let count = plain_front(rest);
+        out.extend_from_slice(&rest[..count])?;
+        rest = &rest[count..];
+        let Some((byte, later)) = rest.split_first() else {
+            return Ok(());
+        };
         put_byte(*byte, out)?;
+        rest = later;
     }
-    Ok(())
 }
 
-/// Appends a string in quotes, byte by byte.
+/// Appends a string in quotes that has bytes to be escaped.
 #[cold]
 #[inline(never)]
 fn put_slowly(bytes: &[u8], out: &mut Line) -> Result<(), AllocError>

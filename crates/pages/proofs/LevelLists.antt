@@ -9,7 +9,7 @@ use Rattle.schema.specs.Values.{ValueTree}
 use Rattle.schema.specs.Stripe.{Entry}
 use Rattle.pages.specs.declared.page_values.PageValues.{PageValues}
 use Rattle.pages.specs.Left.{entry_by, values_after, entries_by, value_where, values_left, value_taken, TakesWhere, Shows}
-use Rattle.pages.specs.Flat.{flat}
+use Rattle.plain.specs.Flat.{flat_entry, flat_entries}
 
 -- ---- a level at an index
 
@@ -101,14 +101,14 @@ takes_entry g rs ds old new i r d o first second taken =
 -- ---- entries without levels
 
 -- where all levels are 0, and there is one for each value, the entries are those of the values
-flat_entries : (vs : List ValueTree) → entries_by 0 (replicate (length vs) 0) (replicate (length vs) 0) vs ≡ map flat vs
-flat_entries [] = refl
-flat_entries (v ∷ vs) = ap (λ (es : List Entry). flat v ∷ es) (flat_entries vs)
+flat_by_levels : (vs : List ValueTree) → entries_by 0 (replicate (length vs) 0) (replicate (length vs) 0) vs ≡ flat_entries vs
+flat_by_levels [] = refl
+flat_by_levels (v ∷ vs) = ap (λ (es : List Entry). flat_entry v ∷ es) (flat_by_levels vs)
 
-pub made_flat : (g n : ℕ) (rs ds : List ℕ) (plain vs : List ValueTree) → g ≡ 0 → rs ≡ replicate n 0 → ds ≡ replicate n 0 → n ≡ length plain → plain ≡ vs → map flat plain ≡ entries_by g rs ds vs
+pub made_flat : (g n : ℕ) (rs ds : List ℕ) (plain vs : List ValueTree) → g ≡ 0 → rs ≡ replicate n 0 → ds ≡ replicate n 0 → n ≡ length plain → plain ≡ vs → flat_entries plain ≡ entries_by g rs ds vs
 made_flat g n rs ds plain vs least first second size same =
     let zeros : (xs : List ℕ) → xs ≡ replicate n 0 → replicate (length plain) 0 ≡ xs = λ xs is. ap (λ (k : ℕ). replicate k 0) (sym size) ∙ sym is in
-    sym (flat_entries plain) ∙ ap (λ (xs : List ℕ). entries_by 0 xs (replicate (length plain) 0) plain) (zeros rs first) ∙ ap (λ (xs : List ℕ). entries_by 0 rs xs plain) (zeros ds second)
+    sym (flat_by_levels plain) ∙ ap (λ (xs : List ℕ). entries_by 0 xs (replicate (length plain) 0) plain) (zeros rs first) ∙ ap (λ (xs : List ℕ). entries_by 0 rs xs plain) (zeros ds second)
     ∙ ap (λ (k : ℕ). entries_by k rs ds plain) (sym least) ∙ ap (λ (ws : List ValueTree). entries_by g rs ds ws) same
 
 -- ---- how many levels are one

@@ -13,6 +13,7 @@ pub mod WrittenPages
 pub mod WrittenDictionaries
 pub mod WrittenPlain
 pub mod FullEntries
+pub mod CopiedPages
 pub mod OneList
 pub mod Sections
 pub mod LookUps

@@ -25,7 +25,7 @@ use Rattle.pages.specs.Headers.{data_header, section, rows_in, nulls_in, AreLeve
 use Rattle.pages.specs.Page.{repetitions, definitions, values}
 use Rattle.pages.specs.Writing.{page_weight}
 use Rattle.pages.specs.WrittenValues.{AreWritten, AreValuesIn}
-use Rattle.pages.specs.inner.Put.{before, most_of_values, IsPlainDataPage, IsOfPlainWriting}
+use Rattle.pages.specs.inner.Put.{before, most_of_values, IsDataPage, IsPlainDataPage, IsOfPlainWriting}
 use Rattle.pages.proofs.WrittenValues.{plain_put, plain_light}
 use Rattle.pages.proofs.WrittenParts.{data_page}
 use Rattle.pages.proofs.WrittenPages.{fills, entries_written}
@@ -38,6 +38,19 @@ no_section : (version : PageVersion) (g : ℕ) → g ≡ 0 → section version g
 no_section V1 g none = rw none refl
 no_section V2 g none = refl
 
+-- the header, and the bytes of the values after it
+pub page_of_text : (leaf : Leaf) (head : DataPageHead) (text : List ℕ) (size : ℕ) (old mid new : List ℕ) → leaf.greatest_repetition ≡ 0 → leaf.greatest_definition ≡ 0
+    → ((h : PageHeader) → has_own_header h ≡ true → page_header (page_header_fields h) ≡ Some h) → size ≡ length text → size ≤ most_of_page → head.entries ≤ most_of_page
+    → Appends (λ bytes. IsThrift bytes (page_header_fields (data_header head.version head.encoding head.entries head.nulls head.rows size 0 0))) 128 old mid
+    → new ≡ mid ++ text → IsDataPage leaf head [] [] text old new
+page_of_text leaf head text size old mid new r d again long small few p after =
+    let whole : size ≡ length text + (before head.version leaf.greatest_repetition + before head.version leaf.greatest_definition) = omega (arith, long, none_before head.version leaf.greatest_repetition r, none_before head.version leaf.greatest_definition d) in
+    let a = no_section head.version leaf.greatest_repetition r in
+    let b = no_section head.version leaf.greatest_definition d in
+    let joined : new ≡ ((mid ++ section head.version leaf.greatest_repetition []) ++ section head.version leaf.greatest_definition []) ++ text
+    = rw (a, b) (rw (append-nil mid, append-nil mid) after) in
+    data_page leaf head text (record { repetitions = 0; definitions = 0 }) size old mid new again whole small few p joined [] [] text (record { joined = refl; first = refl; second = refl })
+
 -- the header, and the values after it
 pub plain_page : (leaf : Leaf) (head : DataPageHead) (vs : List ValueTree) (size : ℕ) (old mid new : List ℕ) → leaf.greatest_repetition ≡ 0 → leaf.greatest_definition ≡ 0
     → ((h : PageHeader) → has_own_header h ≡ true → page_header (page_header_fields h) ≡ Some h) → All (IsOfKind leaf.leaf_type.kind) vs
@@ -48,18 +61,12 @@ pub plain_page : (leaf : Leaf) (head : DataPageHead) (vs : List ValueTree) (size
 plain_page leaf head vs size old mid new r d again are sized small few p q z total =
     let kind = leaf.leaf_type.kind in
     let values = plain_put kind vs mid new are q z in
-    let text = values.text in
-    let long : size ≡ length text = omega (arith, sized, small, total, ap length values.joined, length-append mid text) in
-    let whole : size ≡ length text + (before head.version leaf.greatest_repetition + before head.version leaf.greatest_definition) = omega (arith, long, none_before head.version leaf.greatest_repetition r, none_before head.version leaf.greatest_definition d) in
-    let a = no_section head.version leaf.greatest_repetition r in
-    let b = no_section head.version leaf.greatest_definition d in
-    let joined : new ≡ ((mid ++ section head.version leaf.greatest_repetition []) ++ section head.version leaf.greatest_definition []) ++ text
-    = rw (a, b) (rw (append-nil mid, append-nil mid) values.joined) in
+    let long : size ≡ length values.text = omega (arith, sized, small, total, ap length values.joined, length-append mid values.text) in
     record {
-      text = text;
+      text = values.text;
       spelled = fills (AreWritten kind Plain vs) (most_of_values vs) mid new values;
       short = values.short;
-      page = data_page leaf head text (record { repetitions = 0; definitions = 0 }) size old mid new again whole small few p joined [] [] text (record { joined = refl; first = refl; second = refl });
+      page = page_of_text leaf head values.text size old mid new r d again long small few p values.joined;
     }
 
 pub plain_too_much : (kind : Kind) (vs : List ValueTree) (size n : ℕ) → All (IsOfKind kind) vs → size ≡ min (plain_size kind vs) (2 ^ 64 - 1) → (most_of_page < size) ⊎ (most_of_page < n) → Any IsTooLong vs ⊎ (most_of_page < most_of_values vs) ⊎ (most_of_page < n)

@@ -16,7 +16,7 @@ use Rattle.pages.specs.declared.page_values.ListedValues.{ListedValues}
 use Rattle.pages.specs.declared.levelled_page.LevelledPage.{LevelledPage}
 use Rattle.pages.specs.declared.data_page.DataPage.{DataPage}
 use Rattle.pages.specs.declared.data_page.DataPage.TheVariants.{Flat, Levelled}
-use Rattle.pages.specs.Flat.{flat}
+use Rattle.plain.specs.Flat.{flat_entry, flat_entries}
 
 -- the levels, one for each entry
 abbrev pub levels_of : LevelList → List ℕ
@@ -77,7 +77,7 @@ levelled_left page = entries_by page.greatest (drop page.index (levels_of page.r
 
 -- the entries that are not taken yet
 abbrev pub entries_left : DataPage → List Entry
-entries_left (Flat values) = map flat (plain_values_left values)
+entries_left (Flat values) = flat_entries (plain_values_left values)
 entries_left (Levelled page) = levelled_left page
 
 -- the value of the entry that was taken last, where it has one
@@ -91,7 +91,7 @@ levelled_taken page = record { repetition = page.repetition; definition = page.d
 
 -- the entry that was taken last
 abbrev pub entry_taken : DataPage → Entry
-entry_taken (Flat values) = flat (last_plain_taken values)
+entry_taken (Flat values) = flat_entry (last_plain_taken values)
 entry_taken (Levelled page) = levelled_taken page
 
 -- the first of the entries has these levels
@@ -119,5 +119,5 @@ IsFlat (Levelled page) = ⊥
 
 -- the first of the entries is taken, which has both levels 0 and this value; or none is, and a flat page has none left
 abbrev pub TakesPlain : DataPage → DataPage → Option ValueRef → Type 0
-TakesPlain old new (Some v) = entries_left old ≡ flat (value_ref_view v) ∷ entries_left new
+TakesPlain old new (Some v) = entries_left old ≡ flat_entry (value_ref_view v) ∷ entries_left new
 TakesPlain old new None = (entries_left new ≡ entries_left old) × (IsFlat old → entries_left old ≡ [])

@@ -5,10 +5,10 @@ pub mod Limits
 pub mod ShortPages
 pub mod Left
 pub mod Views
-pub mod Flat
 pub mod Apart
 pub mod Greatest
 pub mod Writing
+pub mod PlainBytes
 pub mod WrittenValues
 pub mod Headers
 pub mod Worked

@@ -48,4 +48,5 @@ pub use page::PageRef;
 pub use page_reading::{read_page, read_page_again};
 pub use page_version::PageVersion;
 pub use page_writing::write_page;
+pub use plain_page_writing::write_plain_page;
 pub use written_entries::{count_values, values_of};

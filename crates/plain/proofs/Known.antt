@@ -20,7 +20,7 @@ use Rattle.plain.proofs.Spelled.{of_byte_array, spelling_size, spelled_within, a
 -- ---- what stands is there
 
 -- how far the value after this one stands
-spelled_size : (kind : Kind) (at : ℕ) (body : List ℕ) (v : ValueTree) (used : ℕ) → IsSpelled kind (drop at body) v used → size_at kind at body ≡ used
+pub spelled_size : (kind : Kind) (at : ℕ) (body : List ℕ) (v : ValueTree) (used : ℕ) → IsSpelled kind (drop at body) v used → size_at kind at body ≡ used
 spelled_size Boolean at body v used p = absurd p.has
 spelled_size Int32 at body v used p = sym (p.ends ∙ spelling_size Int32 4 v refl p.has)
 spelled_size Int64 at body v used p = sym (p.ends ∙ spelling_size Int64 8 v refl p.has)
@@ -33,7 +33,7 @@ spelled_size ByteArray at body v used p =
     omega (arith, says, ends, length-append number x.0, length-bytes_low_first 0 4 (length x.0))
 spelled_size (FixedLenByteArray k) at body v used p = sym (p.ends ∙ spelling_size (FixedLenByteArray k) k v refl p.has)
 
-turned_end : (kind : Kind) (values : List ValueTree) (at used : ℕ) (body : List ℕ) → InTurn (IsSpelled kind) (drop at body) values used → end_from kind (length values) at body ≡ at + used
+pub turned_end : (kind : Kind) (values : List ValueTree) (at used : ℕ) (body : List ℕ) → InTurn (IsSpelled kind) (drop at body) values used → end_from kind (length values) at body ≡ at + used
 turned_end kind [] at used body p = omega (arith, p)
 turned_end kind (v ∷ values) at used body p =
     let rest : InTurn (IsSpelled kind) (drop (at + p.0) body) values p.1 = subst (λ (t : List ℕ). InTurn (IsSpelled kind) t values p.1) (drop-drop p.0 at body) p.3 in
@@ -63,7 +63,7 @@ known_there kind n body small stood =
 
 -- ---- what is there stands
 
-arrays_stand : (n at : ℕ) (body : List ℕ) → ((i : ℕ) → Fits w8 (get_or body i 0)) → end_from ByteArray n at body ≤ length body → (used : ℕ) × InTurn (IsSpelled ByteArray) (drop at body) (values_from ByteArray n at body) used
+pub arrays_stand : (n at : ℕ) (body : List ℕ) → ((i : ℕ) → Fits w8 (get_or body i 0)) → end_from ByteArray n at body ≤ length body → (used : ℕ) × InTurn (IsSpelled ByteArray) (drop at body) (values_from ByteArray n at body) used
 arrays_stand zero at body below there = (0, refl)
 arrays_stand (suc n) at body below there =
     let size = size_at ByteArray at body in

@@ -26,7 +26,7 @@ count_from kind (suc n) at body = ap suc (count_from kind n (at + size_at kind a
 
 -- ---- the first one
 
-end_after : (kind : Kind) (n at : ℕ) (body : List ℕ) → at ≤ end_from kind n at body
+pub end_after : (kind : Kind) (n at : ℕ) (body : List ℕ) → at ≤ end_from kind n at body
 end_after kind zero at body = omega arith
 end_after kind (suc n) at body = omega (arith, end_after kind n (at + size_at kind at body) body)
 

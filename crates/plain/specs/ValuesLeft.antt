@@ -1,8 +1,11 @@
 -- The values that a cursor still gives.
-use Rattle.std.specs.Prelude.{◌≡◌, Bool, true, false, List, [], ◌∷◌, Option, None, Some}
+use Rattle.std.specs.Prelude.{◌≡◌, ℕ, Bool, true, false, List, [], ◌∷◌, ◌++◌, length, min, Option, None, Some}
+use Rattle.std.specs.List.{Any}
+use Rattle.schema.specs.declared.value.Kind.{Kind}
 use Rattle.schema.specs.Values.{ValueTree}
 use Rattle.schema.specs.declared.borrowed.ValueRef.{ValueRef}
 use Rattle.schema.specs.Borrowed.{value_ref_view}
+use Rattle.plain.specs.Plain.{IsPlain, IsTooLong}
 use Rattle.plain.specs.ValuesFrom.{values_from}
 use Rattle.plain.specs.declared.cursor.Values.{Values}
 
@@ -23,3 +26,16 @@ Gives old new None = (values_left old ≡ []) × (new ≡ old)
 abbrev pub Advances : Values → Values → Bool → Type 0
 Advances old new true = values_left old ≡ last_taken new ∷ values_left new
 Advances old new false = (values_left old ≡ []) × (values_left new ≡ []) × (last_taken new ≡ last_taken old)
+
+-- the physical type of the values
+abbrev pub kind_of : Values → Kind
+kind_of c = c.kind
+
+-- the next values, `n` or all where there are fewer, are taken; the bytes are theirs in PLAIN, no more, and none of them is too long
+pub record TakesBytes (n : ℕ) (old new : Values) (text : List ℕ) : Type 0 where
+  pub taken : List ValueTree
+  pub joined : values_left old ≡ taken ++ values_left new
+  pub count : length taken ≡ min n (length (values_left old))
+  pub spelled : IsPlain (kind_of old) (length taken) text taken (length text)
+  pub short : Any IsTooLong taken → ⊥
+  pub same_kind : kind_of new ≡ kind_of old

@@ -1,3 +1,4 @@
 -- Definitions for private functions only.
 pub mod Sized
 pub mod Placed
+pub mod First

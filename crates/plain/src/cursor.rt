@@ -1,11 +1,13 @@
 //! Values one by one, where they lie.
 
-ghost use Rattle.std.specs.Prelude.{◌≡◌, ◌≤◌, ◌<◌, ◌+◌, ◌^◌, ◌⊎◌, ℕ, All, length, IfOk, IfErr};
-ghost use Rattle.bits.specs.Refusals.{OnFault, LimitJustWhere};
+ghost use Rattle.std.specs.Prelude.{◌≡◌, ◌≢◌, ◌≤◌, ◌<◌, ◌+◌, ◌^◌, ◌⊎◌, ℕ, All, length, IfOk, IfErr, OnOk, OnErr, Err};
+ghost use Rattle.std.specs.List.{Any};
+ghost use Rattle.bits.specs.Refusals.{OnFault, LimitJustWhere, RefusedOnly};
 ghost use Rattle.bits.specs.Codec.{NothingStands};
 ghost use Rattle.schema.specs.Borrowed.{value_ref_view};
-ghost use Rattle.plain.specs.Plain.{IsOfKind, IsPlain, IsReadOver};
-ghost use Rattle.plain.specs.ValuesFrom.{value_at, size_at, end_from, greatest_end};
+ghost use Rattle.plain.specs.Plain.{IsOfKind, IsPlain, IsReadOver, IsTooLong};
+ghost use Rattle.plain.specs.ValuesFrom.{value_at, size_at, values_from, end_from, greatest_end};
+ghost use Rattle.plain.specs.inner.First.{AreFirst};
 
 use crate::measuring::size_of_values;
 use bits::{R, Refusal};
@@ -27,7 +29,7 @@ pub struct Values<'a> {
 }
 
 impl<'a> Values<'a> {
-    ghost use Rattle.plain.specs.ValuesLeft.{values_left, last_taken, Gives, Advances};
+    ghost use Rattle.plain.specs.ValuesLeft.{values_left, last_taken, kind_of, Gives, Advances, TakesBytes};
 
     /// The first `n` values of the type, none of which is taken, and how many bytes they take. Bytes
     /// after them are ignored. (parquet-format, Encodings.md, "Plain".)
@@ -65,6 +67,7 @@ impl<'a> Values<'a> {
         ensures stands { (used : ℕ) × IsPlain kind n bytes.now (values_left result) used }
         ensures count { length (values_left result) ≡ n }
         ensures of_kind { All (IsOfKind kind) (values_left result) }
+        ensures kind { kind_of result ≡ kind }
     {
         Values {
             kind,
@@ -81,6 +84,34 @@ impl<'a> Values<'a> {
         ensures { result ≡ length (values_left self.now) }
     {
         self.left
+    }
+
+    /// The physical type of the values.
+    #[inline(always)]
+    pub fn kind(&self) -> Kind
+        ensures { result ≡ kind_of self.now }
+    {
+        self.kind
+    }
+
+    /// Takes the next `n` values, or all where fewer are left, and returns the bytes that they stand in, and no
+    /// others. [`value`](Values::value) stays as it is.
+    ///
+    /// Refused Limit only where one of the values has more than 16 MiB; then none is taken. Takes one pass over the
+    /// lengths of BYTE_ARRAY values, and constant time for the other types.
+    pub fn take_bytes(&mut self, n: usize) -> R<&'a [u8]>
+        requires whole_bytes { kind_of self.old ≢ Kind.Boolean }
+        ensures takes { IfOk result (λ text. TakesBytes n self.old self.new text.now) }
+        ensures limit { result ≡ Err Refusal.Limit → Any IsTooLong (values_left self.old) }
+        ensures which { RefusedOnly (λ e. e ≡ Refusal.Limit) result }
+        ensures unchanged { OnErr result (self.new ≡ self.old) }
+    {
+        let count = n.min(self.left);
+        let size = size_of_next(self.kind, self.bytes, self.at, self.left, count)?;
+        let text = self.bytes.split_at(self.at).1.split_at(size).0;
+        self.at += size;
+        self.left -= count;
+        Ok(text)
     }
 
     /// Takes the next value and returns it, or none at the end. Its bytes are those that the values stand
@@ -121,6 +152,19 @@ impl<'a> Values<'a> {
     {
         self.taken
     }
+}
+
+/// How many bytes the first `count` of the values take that are there from the index on.
+fn size_of_next(kind: Kind, bytes: &[u8], at: usize, left: usize, count: usize) -> R<usize>
+    requires there { end_from kind left at bytes.now ≤ greatest_end kind bytes.now }
+    requires whole_bytes { kind ≢ Kind.Boolean }
+    requires few { count ≤ left }
+    ensures first { IfOk result (λ used. AreFirst kind count left at bytes.now used) }
+    ensures short { OnOk result (Any IsTooLong (values_from kind count at bytes.now) → ⊥) }
+    ensures long { OnErr result (Any IsTooLong (values_from kind left at bytes.now)) }
+    ensures which { IfErr result (λ e. e ≡ Refusal.Limit) }
+{
+    size_of_values(kind, bytes.split_at(at).1, count)
 }
 
 /// The value at the index, and how far from it the next one stands.

@@ -21,6 +21,6 @@ pub use held::Holds;
 pub use laws::{one_list, what_is_of_a_kind_fits_it};
 pub use lent::Lends;
 pub use measuring::size_of_byte_array;
-pub use placing::place_text;
+pub use placing::{place_byte_array, place_int32, place_int64, place_text};
 pub use reading::{MOST_BYTES_OF_VALUE, decode, decode_to};
 pub use writing::{encode, encode_fitting, encoded_size, fitting_size};

@@ -1,6 +1,6 @@
 //! Values written at a place of a buffer that has room. A short text is two copies of a fixed size that overlap.
 
-ghost use Rattle.std.specs.Prelude.{◌≡◌, ◌+◌, ◌≤◌, All, map, length, take};
+ghost use Rattle.std.specs.Prelude.{◌≡◌, ◌+◌, ◌^◌, ◌<◌, ◌≤◌, All, map, length, take};
 ghost use Rattle.std.specs.List.{flat_map};
 ghost use Rattle.schema.specs.Borrowed.{value_ref_view};
 ghost use Rattle.schema.specs.Values.{integer, bytes as spelled};
@@ -69,18 +69,32 @@ fn place_number(kind: Kind, number: i64, at: usize, room: &mut [u8]) -> usize
     ensures { Placed room.old room.new at (spelling kind (integer number)) result }
 {
     match kind {
-        Kind::Int32 => {
-            let mut field = [0; 4];
-            LittleEndian::write_i32(&mut field, number as i32);
-            place_front::<4>(room, at, &field)
-        }
-        Kind::Int64 => {
-            let mut field = [0; 8];
-            LittleEndian::write_i64(&mut field, number);
-            place_front::<8>(room, at, &field)
-        }
+        Kind::Int32 => place_int32(number as i32, at, room),
+        Kind::Int64 => place_int64(number, at, room),
         _ => at,
     }
+}
+
+/// Writes an INT32 in PLAIN into a buffer, from the index `at` on, and returns where it ends. Bytes before `at` stay.
+#[inline(always)]
+pub fn place_int32(number: i32, at: usize, room: &mut [u8]) -> usize
+    requires { at + 4 ≤ length room.old }
+    ensures { Placed room.old room.new at (spelling Kind.Int32 (integer number)) result }
+{
+    let mut field = [0; 4];
+    LittleEndian::write_i32(&mut field, number);
+    place_front::<4>(room, at, &field)
+}
+
+/// Writes an INT64 in PLAIN into a buffer, from the index `at` on, and returns where it ends. Bytes before `at` stay.
+#[inline(always)]
+pub fn place_int64(number: i64, at: usize, room: &mut [u8]) -> usize
+    requires { at + 8 ≤ length room.old }
+    ensures { Placed room.old room.new at (spelling Kind.Int64 (integer number)) result }
+{
+    let mut field = [0; 8];
+    LittleEndian::write_i64(&mut field, number);
+    place_front::<8>(room, at, &field)
 }
 
 /// Writes the spelling of bytes, and returns where it ends.
@@ -91,15 +105,24 @@ fn place_bytes(kind: Kind, text: &[u8], at: usize, room: &mut [u8]) -> usize
     ensures { Placed room.old room.new at (spelling kind (spelled text.now)) result }
 {
     match kind {
-        Kind::ByteArray => {
-            let mut length = [0; 4];
-            LittleEndian::write_u32(&mut length, text.len() as u32);
-            let begin = place_front::<4>(room, at, &length);
-            place_text(room, begin, text)
-        }
+        Kind::ByteArray => place_byte_array(text, at, room),
         Kind::FixedLenByteArray(_) => place_text(room, at, text),
         _ => at,
     }
+}
+
+/// Writes a BYTE_ARRAY in PLAIN into a buffer, from the index `at` on: its length in four bytes, and then its bytes.
+/// Returns where it ends. Bytes before `at` stay.
+#[inline(always)]
+pub fn place_byte_array(text: &[u8], at: usize, room: &mut [u8]) -> usize
+    requires short { length text.now < 2 ^ 32 }
+    requires fits { at + 4 + length text.now ≤ length room.old }
+    ensures { Placed room.old room.new at (spelling Kind.ByteArray (spelled text.now)) result }
+{
+    let mut length = [0; 4];
+    LittleEndian::write_u32(&mut length, text.len() as u32);
+    let begin = place_front::<4>(room, at, &length);
+    place_text(room, begin, text)
 }
 
 /// Writes the first N bytes of a text by one load and one store.

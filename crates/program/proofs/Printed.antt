@@ -1,21 +1,25 @@
 -- Rows whose lines are gathered one by one, and written now and then.
-use Rattle.std.proofs.Common.{◌≡◌, ℕ, List, [], ◌∷◌, ◌++◌, Option, refl, sym, ap, subst, ◌∙◌, append_assoc}
-use Rattle.std.specs.Prelude.{true, false, IsTrue, Result, Ok, Err, OnOk}
+use Rattle.std.proofs.Common.{◌≡◌, ℕ, zero, suc, arith, List, [], ◌∷◌, ◌++◌, Option, refl, sym, ap, subst, ◌∙◌, append_assoc}
+use Rattle.std.specs.Result.{IsErrAnd}
+use Rattle.std.specs.Prelude.{Bool, true, false, IsTrue, Result, Ok, Err, OnOk}
 use Rattle.std.specs.Io.KnownBytes.{Appends}
 use Rattle.std.proofs.KnownBytes.{Appends-trans, Appends-nil}
 use Rattle.std.proofs.lemmas.List.{append-nil}
 use Rattle.std.proofs.lemmas.List.Concat.{flat_map-cons}
+use Rattle.bits.specs.Faults.{refusal_of}
+use Rattle.bits.specs.declared.fault.Fault.{Fault}
 use Rattle.bits.specs.declared.refusal.Refusal.{Refusal}
+use Rattle.bits.specs.declared.refusal.Refusal.TheVariants.{Memory}
 use Rattle.schema.specs.Values.{ValueTrees}
 use Rattle.schema.specs.Shape.{Fields}
 use Rattle.schema.specs.Fits.{fits_each, RowsFit}
-use Rattle.footer.specs.Left.{TakesRowTo}
+use Rattle.footer.specs.Left.{TakesRowTo, with_refusal}
 use Rattle.jsonrows.specs.declared.row_text.RowText.{RowText}
 use Rattle.jsonrows.specs.Json.{row_text}
 use Rattle.jsonrows.specs.Rows.{text_shows, BeginsLine, ShowsLine}
 use Rattle.jsonrows.specs.inner.Opening.{opening, lines_token}
 use Rattle.program.specs.Program.{lines_of}
-use Rattle.program.specs.inner.Gathered.{AppendsLines, GathersFirst, GathersLine, WritesPart}
+use Rattle.program.specs.inner.Gathered.{AppendsLines, GathersFirst, GathersLine, AreGathered, GathersLines, WritesPart}
 
 -- a row that was shown and ended
 pub line_gathered : (fs : Fields) (S T : List ValueTrees → Type 0) (from shown to : RowText) (lines : List ℕ) → BeginsLine from fs lines → TakesRowTo S T (text_shows from) (text_shows shown) (Ok true)
@@ -29,19 +33,16 @@ line_gathered fs S T from shown to lines begins takes ended = λ rows s fit.
 -- no row was left
 pub none_gathered : (fs : Fields) (S T : List ValueTrees → Type 0) (from shown : RowText) (lines : List ℕ) → BeginsLine from fs lines → shown ≡ from → TakesRowTo S T (text_shows from) (text_shows shown) (Ok false)
     → GathersLine fs S T (BeginsLine shown fs) lines (Ok false)
-none_gathered fs S T from shown lines begins same takes = λ rows s. ((takes rows s).0, subst (λ (text : RowText). BeginsLine text fs lines) (sym same) begins)
+none_gathered fs S T from shown lines begins same takes = λ rows s. let t = takes rows s in (t.0, (t.1, subst (λ (text : RowText). BeginsLine text fs lines) (sym same) begins))
 
--- what was written, what is gathered, and the lines of the rows that are left are the lines of all rows
-pub record AreGathered (fs : Fields) (S : List ValueTrees → Type 0) (Gathers : List ℕ → Type 0) (all : List ValueTrees) (old new : Option (List ℕ)) : Type 0 where
-  pub left : List ValueTrees
-  pub stands : S left
-  pub fit : RowsFit fs left
-  pub gathered : List ℕ
-  pub gathers : Gathers gathered
-  pub printed : List ℕ
-  pub written : Appends old new printed
-  pub joined : lines_of fs all ≡ printed ++ (gathered ++ lines_of fs left)
+-- a fault that is passed on
+pub passes_fault : (fs : Fields) (S T : List ValueTrees → Type 0) (Gathers : List ℕ → Type 0) (lines : List ℕ) (r : Result Bool Fault) (f : Fault) → IsErrAnd r (λ g. g ≡ f) → ((rows : List ValueTrees) → S rows → refusal_of f ≡ Memory)
+    → GathersLine fs S T Gathers lines (with_refusal r)
+passes_fault fs S T Gathers lines (Ok true) f is p = absurd is
+passes_fault fs S T Gathers lines (Ok false) f is p = absurd is
+passes_fault fs S T Gathers lines (Err g) f is p = λ rows s. ap refusal_of is ∙ p rows s
 
+-- what is gathered of rows
 pub none_yet : (fs : Fields) (S : List ValueTrees → Type 0) (Gathers : List ℕ → Type 0) (all : List ValueTrees) (old : Option (List ℕ)) → S all → RowsFit fs all → Gathers [] → AreGathered fs S Gathers all old old
 none_yet fs S Gathers all old stands fit gathers = record { left = all; stands = stands; fit = fit; gathered = []; gathers = gathers; printed = []; written = Appends-nil old; joined = refl }
 
@@ -53,6 +54,45 @@ line_more fs S T Gathers Again all old new p g =
     let both : p.gathered ++ lines_of fs p.left ≡ (p.gathered ++ line) ++ lines_of fs g.rest = ap (λ (t : List ℕ). p.gathered ++ t) lines ∙ sym (append_assoc p.gathered line (lines_of fs g.rest)) in
     let fits : RowsFit fs (g.first ∷ g.rest) = subst (RowsFit fs) g.split p.fit in
     record { left = g.rest; stands = g.stands; fit = fits.1; gathered = p.gathered ++ line; gathers = g.gathers; printed = p.printed; written = p.written; joined = p.joined ∙ ap (λ (t : List ℕ). p.printed ++ t) both }
+
+-- no row was left
+pub line_none : (fs : Fields) (S T : List ValueTrees → Type 0) (Gathers Again : List ℕ → Type 0) (all : List ValueTrees) (old new : Option (List ℕ)) (p : AreGathered fs S Gathers all old new) → (p.left ≡ []) × (T [] × Again p.gathered)
+    → (q : AreGathered fs T Again all old new) × (q.left ≡ [])
+line_none fs S T Gathers Again all old new p h =
+    let q : AreGathered fs T Again all old new = record {
+      left = [];
+      stands = h.1.0;
+      fit = tt;
+      gathered = p.gathered;
+      gathers = h.1.1;
+      printed = p.printed;
+      written = p.written;
+      joined = p.joined ∙ ap (λ (t : List ValueTrees). p.printed ++ (p.gathered ++ lines_of fs t)) h.0;
+    } in
+    (q, refl)
+
+module _ (fs : Fields) (S : List ValueTrees → Type 0) (Gathers : List ℕ → Type 0) (all : List ValueTrees) (old new : Option (List ℕ)) where
+  -- by how many rows were taken
+  pub lines_ended : (n : ℕ) → (p : AreGathered fs S Gathers all old new) × (p.left ≡ []) → GathersLines fs S Gathers all old new (Ok n)
+  lines_ended zero h = h
+  lines_ended (suc n) h = h.0
+
+  pub lines_more : (n : ℕ) → (n ≡ 0 → ⊥) → AreGathered fs S Gathers all old new → GathersLines fs S Gathers all old new (Ok n)
+  lines_more zero some h = absurd (some refl)
+  lines_more (suc n) some h = h
+
+  pub lines_fail : (r : Result ℕ Fault) (f : Fault) → IsErrAnd r (λ g. g ≡ f) → refusal_of f ≡ Memory → GathersLines fs S Gathers all old new r
+  lines_fail (Ok zero) f is p = absurd is
+  lines_fail (Ok (suc n)) f is p = absurd is
+  lines_fail (Err g) f is p = ap refusal_of is ∙ p
+
+  pub none_left : (n : ℕ) → n ≡ 0 → GathersLines fs S Gathers all old new (Ok n) → (p : AreGathered fs S Gathers all old new) × (p.left ≡ [])
+  none_left zero e h = h
+  none_left (suc n) e h = absurd (omega (arith, e))
+
+  pub some_gathered : (n : ℕ) → (n ≡ 0 → ⊥) → GathersLines fs S Gathers all old new (Ok n) → AreGathered fs S Gathers all old new
+  some_gathered zero some h = absurd (some refl)
+  some_gathered (suc n) some h = h
 
 pub part_written : (fs : Fields) (S : List ValueTrees → Type 0) (Gathers Again : List ℕ → Type 0) (all : List ValueTrees) (old mid new : Option (List ℕ)) (p : AreGathered fs S Gathers all old mid) → WritesPart mid new Again p.gathered
     → AreGathered fs S Again all old new

@@ -1,6 +1,6 @@
 //! Files to lines.
 
-ghost use Rattle.std.specs.Prelude.{◌≡◌, ◌≢◌, ◌⊎◌, ℕ, List, false, IfErr, OnOk};
+ghost use Rattle.std.specs.Prelude.{◌≡◌, ◌≢◌, ◌⊎◌, ℕ, List, Option, false, IfErr, OnOk};
 ghost use Rattle.bits.specs.Refusals.{IsFault, RefusedOnly};
 ghost use Rattle.bits.specs.declared.refusal.Refusal.TheVariants.{Memory, Device};
 ghost use Rattle.schema.specs.Values.{ValueTrees};
@@ -8,19 +8,22 @@ ghost use Rattle.schema.specs.Shape.{Fields};
 ghost use Rattle.schema.specs.Fits.{RowsFit};
 ghost use Rattle.footer.specs.File.{FileMeans};
 ghost use Rattle.footer.specs.Faults.{HasFault};
-ghost use Rattle.footer.specs.Left.{rows_stand};
+ghost use Rattle.footer.specs.Left.{rows_stand, with_refusal};
 ghost use Rattle.jsonrows.specs.Rows.{BeginsLine};
 ghost use Rattle.program.specs.Program.{WritesRowsOf, MeansRows};
-ghost use Rattle.program.specs.inner.Gathered.{AppendsLines, GathersLine, WritesPart};
+ghost use Rattle.program.specs.inner.Gathered.{AppendsLines, GathersLine, AreGathered, GathersLines, WritesPart};
 
 use crate::host::{OUTPUT_BUFFER_BYTES, write_text, write_whole};
 use crate::progress::Progress;
-use bits::{R, Refusal};
+use bits::{Fault, R, Refusal};
 use footer::{FileReader, Rows, read_footer};
 use jsonrows::{RowPlan, RowText};
 use schema::Schema;
 use std::alloc::Global;
 use std::io::Write;
+
+/// How many rows are taken at most before progress is counted.
+const ROWS_AT_ONCE: usize = 1_024;
 
 /// Writes the rows that the bytes of a file mean, each as a line of JSON. Refused as [`FileReader::new`] is,
 /// and then nothing is written; Device where a line cannot be written. Once the file was accepted, lines
@@ -52,15 +55,37 @@ pub fn decode<W: Write, E: Write>(
 }
 
 /// Takes the next row, and gathers its line; false after the last row. It fails only when out of memory.
-fn put_line(rows: &mut Rows<'_>, text: &mut RowText<'_>) -> R<bool>
+// Each row comes through here: what is returned fits a register.
+#[inline(always)]
+fn put_line(rows: &mut Rows<'_>, text: &mut RowText<'_>) -> Result<bool, Fault>
     ensures puts { (fs : Fields) (lines : List ℕ) → BeginsLine text.old fs lines
-        → GathersLine fs (rows_stand rows.old) (rows_stand rows.new) (BeginsLine text.new fs) lines result }
+        → GathersLine fs (rows_stand rows.old) (rows_stand rows.new) (BeginsLine text.new fs) lines (with_refusal result) }
 {
-    if !rows.next_to(text)? {
+    if !rows.show_next(text)? {
         return Ok(false);
     }
-    text.end_row()?;
-    Ok(true)
+    match text.end_row() {
+        Ok(()) => Ok(true),
+        Err(_) => Err(Fault::Memory),
+    }
+}
+
+/// Takes rows and gathers their lines, until these are enough to be written or [`ROWS_AT_ONCE`] rows were taken.
+/// Returns how many, and 0 only after the last row. It fails only when out of memory.
+fn put_lines(rows: &mut Rows<'_>, text: &mut RowText<'_>) -> Result<usize, Fault>
+    ensures puts { (fs : Fields) (all : List ValueTrees) (old new : Option (List ℕ))
+        → AreGathered fs (rows_stand rows.old) (BeginsLine text.old fs) all old new
+        → GathersLines fs (rows_stand rows.new) (BeginsLine text.new fs) all old new result }
+{
+    for count in 0..ROWS_AT_ONCE {
+        if !put_line(rows, text)? {
+            return Ok(count);
+        }
+        if text.lines().len() >= OUTPUT_BUFFER_BYTES {
+            return Ok(count + 1);
+        }
+    }
+    Ok(ROWS_AT_ONCE)
 }
 
 /// Writes the lines that were gathered once they are enough. Refused Device where they cannot be written.
@@ -77,7 +102,7 @@ fn write_full<W: Write>(text: &mut RowText<'_>, out: &mut W) -> R<()>
     Ok(())
 }
 
-/// Takes the rows one by one, writes each as a line, and counts it. Refused Device where one cannot be written.
+/// Takes the rows, writes each as a line, and counts them. Refused Device where one cannot be written.
 fn write_rows<W: Write, E: Write>(
     alloc: Global,
     schema: &Schema,
@@ -94,12 +119,13 @@ fn write_rows<W: Write, E: Write>(
 {
     let plan = RowPlan::new(alloc, schema)?;
     let mut text = RowText::new(alloc, &plan);
-    'row: for _ in 0..u64::MAX {
-        if !put_line(rows, &mut text)? {
+    'more: for _ in 0..u64::MAX {
+        let count = put_lines(rows, &mut text)?;
+        if count == 0 {
             return write_whole(text.lines(), out);
         }
         write_full(&mut text, out)?;
-        progress.count_row(err);
+        progress.count_rows(count as u64, err);
     }
     // Never reached: no file has as many rows.
     Err(Refusal::Memory)

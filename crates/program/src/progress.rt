@@ -72,36 +72,48 @@ impl Progress {
         }
     }
 
-    /// The line, which begins at the begin of the terminal's.
+    /// The line, which begins at the begin of the terminal's. The rows are rounded down to a multiple of
+    /// [`ROWS_BETWEEN`].
     fn line(&self) -> Result<String, AllocError> {
-        let (verb, rows) = (self.verb, with_commas(self.alloc, self.rows)?);
-        match self.all.and_then(|all| percent_of(self.rows, all)) {
-            Some(percent) => format!(in self.alloc; "\r{verb} {rows} rows, {percent}%"),
-            None => format!(in self.alloc; "\r{verb} {rows} rows"),
+        let rows = self.rows - self.rows % ROWS_BETWEEN;
+        let (verb, number) = (self.verb, with_commas(self.alloc, rows)?);
+        match self.all.and_then(|all| percent_of(rows, all)) {
+            Some(percent) => format!(in self.alloc; "\r{verb} {number} rows, {percent}%"),
+            None => format!(in self.alloc; "\r{verb} {number} rows"),
         }
     }
 
-    /// Counts one more row, and shows after each [`ROWS_BETWEEN`] how many there are. Where that cannot be written,
-    /// or there is no memory for it, nothing is shown.
+    /// Counts one more row, as [`count_rows`](Progress::count_rows).
     // One test for each row where nothing is shown.
     #[inline(always)]
     pub fn count_row<E: Write>(&mut self, err: &mut E)
         ensures quiet { self.old.is_shown ≡ false → E.contents err.new ≡ E.contents err.old }
         ensures same { self.new.is_shown ≡ self.old.is_shown }
     {
+        self.count_rows(1, err);
+    }
+
+    /// Counts more rows, and shows after each [`ROWS_BETWEEN`] how many there are. Where that cannot be written,
+    /// or there is no memory for it, nothing is shown.
+    #[inline(always)]
+    pub fn count_rows<E: Write>(&mut self, count: u64, err: &mut E)
+        ensures quiet { self.old.is_shown ≡ false → E.contents err.new ≡ E.contents err.old }
+        ensures same { self.new.is_shown ≡ self.old.is_shown }
+    {
         if self.is_shown {
-            self.count_shown(err);
+            self.count_shown(count, err);
         }
     }
 
-    /// Counts a row where that is shown.
+    /// Counts rows where that is shown.
     #[cold]
     #[inline(never)]
-    fn count_shown<E: Write>(&mut self, err: &mut E)
+    fn count_shown<E: Write>(&mut self, count: u64, err: &mut E)
         ensures same { self.new.is_shown ≡ self.old.is_shown }
     {
-        self.rows = self.rows.saturating_add(1);
-        if self.rows % ROWS_BETWEEN != 0 {
+        let shown = self.rows / ROWS_BETWEEN;
+        self.rows = self.rows.saturating_add(count);
+        if self.rows / ROWS_BETWEEN == shown {
             return;
         }
         if let Ok(line) = self.line() {

@@ -28,3 +28,4 @@ pub mod ChunkPut
 pub mod WantedChunks
 pub mod WantedRows
 pub mod BufferedColumns
+pub mod CopiedPages

@@ -3,9 +3,6 @@ use Rattle.std.proofs.Common.{◌≡◌, ◌-◌, ◌<◌, List, [], ◌∷◌, 
 use Rattle.bits.specs.Faults.{refusal_of}
 use Rattle.bits.specs.declared.fault.Fault.{Fault}
 use Rattle.bits.specs.declared.fault.Fault.TheVariants as fault
-use Rattle.bits.specs.Faults.{refusal_of}
-use Rattle.bits.specs.declared.fault.Fault.{Fault}
-use Rattle.bits.specs.declared.fault.Fault.TheVariants as fault
 use Rattle.bits.specs.declared.refusal.Refusal.TheVariants.{Memory}
 use Rattle.schema.specs.declared.row.Row.{Row}
 use Rattle.schema.specs.Values.{ValueTrees}
@@ -14,6 +11,7 @@ use Rattle.schema.specs.Law.{IsSchema}
 use Rattle.schema.specs.Views.{row_view}
 use Rattle.assemble.specs.Sinks.{Token, Visits, tokens_each}
 use Rattle.assemble.specs.RowsOf.{StandForRows, IsNextRow}
+use Rattle.assemble.specs.Flat.{is_flat, OfFlatRows, ShowsFirst as ShowsFlat}
 use Rattle.row_group.specs.declared.chunk_reader.ChunkReader.{ChunkReader}
 use Rattle.row_group.specs.declared.rows.Rows.{Rows}
 use Rattle.row_group.specs.Left.{chunk_stands, RowsStand, rows_stand, TakesRow, TakesRowTo}
@@ -25,6 +23,21 @@ pub record IsNext (old new : Rows) (later : List ChunkReader) : Type 0 where
   pub readers : new.readers.items ≡ later
   pub left : new.left ≡ old.left - 1
   pub whole : new.is_broken ≡ old.is_broken
+  pub flat : new.is_flat ≡ old.is_flat
+
+-- the other rows stand
+others_stand : (old new : Rows) (later : List ChunkReader) → (old.left ≡ 0 → ⊥) → IsNext old new later → (row : ValueTrees) (rows rest : List ValueTrees) → rows_stand old rows → rows ≡ row ∷ rest → StandForRows chunk_stands later old.schema.now rest → rows_stand new rest
+others_stand old new later some is row rows rest s split columns =
+    let size = s.count in
+    let more : length rows ≡ length (row ∷ rest) = ap (λ (r : List ValueTrees). length r) split in
+    let left = is.left in
+    record {
+      whole = is.whole ∙ s.whole;
+      schema = subst IsSchema (sym is.schema) s.schema;
+      flat = is.flat ∙ s.flat ∙ ap is_flat (sym is.schema);
+      count = omega (arith, size, more, left, some);
+      columns = subst (λ (fs : Fields). StandForRows chunk_stands new.readers.items fs rest) (sym is.schema) (subst (λ (rs : List ChunkReader). StandForRows chunk_stands rs old.schema.now rest) (sym is.readers) columns);
+    }
 
 -- the row that was shown is the first of those that stood
 pub takes_to : (from to : List Token → Type 0) (old new : Rows) (mid later : List ChunkReader) → (old.left ≡ 0 → ⊥) → mid ≡ old.readers.items → IsNext old new later
@@ -34,20 +47,16 @@ takes_to from to old new mid later some same is next = λ rows s.
     let size = s.count in
     let row = next.0 in
     let t = row_taken old.schema.now s.schema mid later row rows (omega (arith, size, some)) next.1.0 stood in
-    let more : length rows ≡ length (row ∷ t.0) = ap (λ (r : List ValueTrees). length r) t.1 in
-    let left = is.left in
-    record {
-      first = row;
-      rest = t.0;
-      split = t.1;
-      stands = record {
-        whole = is.whole ∙ s.whole;
-        schema = subst IsSchema (sym is.schema) s.schema;
-        count = omega (arith, size, more, left);
-        columns = subst (λ (fs : Fields). StandForRows chunk_stands new.readers.items fs t.0) (sym is.schema) (subst (λ (rs : List ChunkReader). StandForRows chunk_stands rs old.schema.now t.0) (sym is.readers) t.2);
-      };
-      shown = next.1.1;
-    }
+    record { first = row; rest = t.0; split = t.1; stands = others_stand old new later some is row rows t.0 s t.1 t.2; shown = next.1.1 }
+
+-- so it is of a flat schema
+pub takes_flat : (from to : List Token → Type 0) (old new : Rows) (mid later : List ChunkReader) → (old.left ≡ 0 → ⊥) → old.is_flat ≡ true → mid ≡ old.readers.items → IsNext old new later
+    → OfFlatRows chunk_stands mid (ShowsFlat chunk_stands later from to) → TakesRowTo (rows_stand old) (rows_stand new) from to (Ok true)
+takes_flat from to old new mid later some flat same is next = λ rows s.
+    let stood = subst (λ (rs : List ChunkReader). StandForRows chunk_stands rs old.schema.now rows) (sym same) s.columns in
+    let size = s.count in
+    let t = next old.schema.now rows (sym s.flat ∙ flat) stood (omega (arith, size, some)) in
+    record { first = t.first; rest = t.rest; split = t.split; stands = others_stand old new later some is t.first rows t.rest s t.split t.stand; shown = t.shown }
 
 -- a row is left, so that only memory is refused
 pub only_memory : (old : Rows) (mid : List ChunkReader) (f : Fault) → (old.left ≡ 0 → ⊥) → mid ≡ old.readers.items
@@ -55,6 +64,12 @@ pub only_memory : (old : Rows) (mid : List ChunkReader) (f : Fault) → (old.lef
 only_memory old mid f some same known rows s =
     let size = s.count in
     ap refusal_of (known rows (subst (λ (rs : List ChunkReader). StandForRows chunk_stands rs old.schema.now rows) (sym same) s.columns) (omega (arith, size, some)))
+
+pub only_memory_flat : (old : Rows) (mid : List ChunkReader) (f : Fault) → (old.left ≡ 0 → ⊥) → old.is_flat ≡ true → mid ≡ old.readers.items
+    → OfFlatRows chunk_stands mid (λ _ _. f ≡ fault.Memory) → (rows : List ValueTrees) → rows_stand old rows → refusal_of f ≡ Memory
+only_memory_flat old mid f some flat same known rows s =
+    let size = s.count in
+    ap refusal_of (known old.schema.now rows (sym s.flat ∙ flat) (subst (λ (rs : List ChunkReader). StandForRows chunk_stands rs old.schema.now rows) (sym same) s.columns) (omega (arith, size, some)))
 
 -- where no row is left
 pub takes_none : (from to : List Token → Type 0) (r : Rows) → r.left ≡ 0 → TakesRowTo (rows_stand r) (rows_stand r) from to (Ok false)

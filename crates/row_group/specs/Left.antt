@@ -14,6 +14,7 @@ use Rattle.schema.specs.Views.{leaf_view, row_view}
 use Rattle.metadata.specs.Records.{ColumnMeta}
 use Rattle.assemble.specs.Sinks.{Token, tokens_each, Adds}
 use Rattle.assemble.specs.RowsOf.{StandForRows}
+use Rattle.assemble.specs.Flat.{is_flat}
 use Rattle.row_group.specs.declared.chunk_reader.ChunkReader.{ChunkReader}
 use Rattle.row_group.specs.declared.rows.Rows.{Rows}
 use Rattle.row_group.specs.Chunks.{ChunkMeans}
@@ -51,10 +52,11 @@ chunk_checked r t = (v : ValueTree) → fits_leaf (leaf_view r.pages.leaf.now).l
 abbrev pub StandsForChunk : ColumnMeta → Leaf → List ℕ → ChunkReader → Type 0
 StandsForChunk m leaf bytes r = (es : List Entry) → chunk_stands r es ↔ (((used : ℕ) × ChunkMeans m leaf bytes es used) × (IsChunkOver m leaf bytes → ⊥))
 
--- the rows that are still to come: as many as are counted, which fit, and for whose columns the readers stand
+-- the rows that are still to come: as many as are counted, which fit, and for whose columns the readers stand; whether the schema is flat is known
 pub record RowsStand (r : Rows) (rows : List ValueTrees) : Type 0 where
   pub whole : r.is_broken ≡ false
   pub schema : IsSchema r.schema.now
+  pub flat : r.is_flat ≡ is_flat r.schema.now
   pub count : length rows ≡ r.left
   pub columns : StandForRows chunk_stands r.readers.items r.schema.now rows
 

@@ -5,3 +5,4 @@ pub mod Columns
 pub mod Parts
 pub mod Counts
 pub mod WantedChunks
+pub mod Copied

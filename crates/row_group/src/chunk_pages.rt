@@ -6,20 +6,23 @@ ghost use Rattle.bits.specs.Refusals.{OnFault, RefusedOnly};
 ghost use Rattle.schema.specs.Borrowed.{entry_ref_view};
 ghost use Rattle.schema.specs.Law.{IsEntryOf};
 ghost use Rattle.schema.specs.Views.{leaf_view};
+ghost use Rattle.plain.specs.Flat.{flat_entries};
+ghost use Rattle.plain.specs.ValuesLeft.{values_left, kind_of};
 ghost use Rattle.dictionary.specs.Entries.{IsIndexed, entries_of, indexes_of};
 ghost use Rattle.pages.specs.Page.{values as values_in};
 ghost use Rattle.pages.specs.Writing.{AreShort, IsOfEntries};
 ghost use Rattle.row_group.specs.Styles.{HasDictionary};
 ghost use Rattle.row_group.specs.Writing.{IsChunkTooMuch};
+ghost use Rattle.row_group.specs.inner.Copied.{IsCopied};
 ghost use Rattle.row_group.specs.inner.Parts.{AppendsPages};
 
 use crate::chunk_styles::{dictionary_of, encoding_of, numbers_of, numbers_with_levels};
 use crate::options::ChunkOptions;
-use crate::pages_in_turn::{PageValues, put_pages};
+use crate::pages_in_turn::{PageValues, put_pages, put_plain_pages};
 use bits::{R, Refusal};
 use dictionary::Dictionary;
 use pages::{Encoding, write_dictionary_page};
-use plain::what_is_of_a_kind_fits_it;
+use plain::{Values, what_is_of_a_kind_fits_it};
 use schema::{EntryRef, Leaf};
 use std::alloc::Global;
 
@@ -83,6 +86,35 @@ fn put_value_pages(
         entries,
         out,
     )?;
+    Ok(ChunkPages {
+        encodings,
+        dictionary_page_offset: None,
+        data_page_offset: start as i64,
+    })
+}
+
+/// Writes the pages of a chunk from values that wait in PLAIN, as [`put_chunk_pages`] does from their entries. After
+/// a refusal some of them may stand after what was there.
+pub(crate) fn put_copied_pages(
+    alloc: Global,
+    leaf: &Leaf,
+    options: ChunkOptions,
+    values: Values<'_>,
+    out: &mut Vec<u8>,
+) -> R<ChunkPages>
+    requires rows { 0 < options.page_rows }
+    requires copied { IsCopied (leaf_view leaf.now) options.style (kind_of values) }
+    ensures stands { let es = flat_entries (values_left values.entry) in AllByRecursion (IsEntryOf (leaf_view leaf.now)) es
+        → IfOk result (λ pages. AppendsPages (leaf_view leaf.now) options out.old.items out.new.items pages es) }
+    ensures within_limits { OnOk result (AreShort (flat_entries (values_left values.entry))) }
+    ensures limit { let es = flat_entries (values_left values.entry) in result ≡ Err Refusal.Limit → AllByRecursion (IsEntryOf (leaf_view leaf.now)) es
+        → IsChunkTooMuch (length out.old.items) options.page_rows es }
+    ensures which { RefusedOnly (λ e. e ≡ Refusal.Limit) result }
+    ensures front { take (length out.old.items) out.new.items ≡ out.old.items }
+{
+    let encodings = numbers_with_levels(alloc, Encoding::Plain)?;
+    let start = out.len();
+    put_plain_pages(alloc, leaf, options, values, out)?;
     Ok(ChunkPages {
         encodings,
         dictionary_page_offset: None,

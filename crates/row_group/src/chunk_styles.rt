@@ -1,10 +1,11 @@
 //! Which encodings a chunk is written in.
 
-ghost use Rattle.std.specs.Prelude.{◌≡◌, ◌≢◌, ◌↔◌, ◌<◌, map, length, pos, IsTrue, IfOk, IfSome, IfNone};
+ghost use Rattle.std.specs.Prelude.{◌≡◌, ◌≢◌, ◌↔◌, ◌<◌, List, map, length, pos, true, IsTrue, IfOk, IfSome, IfNone};
 ghost use Rattle.std.specs.List.{AllByRecursion};
 ghost use Rattle.bits.specs.Refusals.{OnFault, RefusedOnly, RefusedMemoryOnly};
 ghost use Rattle.schema.specs.Borrowed.{entry_ref_view};
 ghost use Rattle.schema.specs.Law.{IsEntryOf};
+ghost use Rattle.schema.specs.Stripe.{Entry};
 ghost use Rattle.schema.specs.Views.{leaf_view};
 ghost use Rattle.dictionary.specs.Entries.{IsIndexed, entries_of, indexes_of};
 ghost use Rattle.pages.specs.Headers.{number_of};
@@ -91,6 +92,17 @@ fn allows_dictionary(style: Style, kind: Kind) -> bool
     match (style, kind) {
         (_, Kind::Boolean) => false,
         (Style::Dictionary, _) => true,
+        _ => false,
+    }
+}
+
+/// Whether chunks of a type are PLAIN and have no dictionary under a style, whatever their values are.
+pub(crate) fn is_plain(style: Style, kind: Kind) -> bool
+    ensures encoding { result ≡ true → encoding_of style kind ≡ Encoding.Plain }
+    ensures dictionary { result ≡ true → (es : List Entry) → HasDictionary style kind es → ⊥ }
+{
+    match encoding_of(style, kind) {
+        Encoding::Plain => !allows_dictionary(style, kind),
         _ => false,
     }
 }

@@ -1,25 +1,31 @@
 //! From entries to chunks.
 
-ghost use Rattle.std.specs.Prelude.{◌≡◌, ◌<◌, ◌≤◌, ◌<ℤ◌, pos, map, length, take, IfOk, OnOk, OnErr, Err};
+ghost use Rattle.std.specs.Prelude.{◌≡◌, ◌<◌, ◌≤◌, ◌<ℤ◌, ◌^◌, pos, map, length, take, Some, IfOk, OnOk, OnErr, Err};
 ghost use Rattle.std.specs.Rc.{rc_str_bytes};
 ghost use Rattle.std.specs.List.{AllByRecursion};
 ghost use Rattle.bits.specs.Refusals.{OnFault, RefusedOnly, RefusedMemoryOnly};
 ghost use Rattle.schema.specs.Borrowed.{entry_ref_view};
 ghost use Rattle.schema.specs.Law.{IsEntryOf};
 ghost use Rattle.schema.specs.Views.{leaf_view};
-ghost use Rattle.metadata.specs.Views.{column_meta_view};
+ghost use Rattle.metadata.specs.Views.{column_meta_view, statistics_view};
+ghost use Rattle.plain.specs.Flat.{flat_entries};
+ghost use Rattle.plain.specs.ValuesLeft.{values_left, kind_of};
 ghost use Rattle.pages.specs.Writing.{AreShort, IsOfEntries};
+ghost use Rattle.row_group.specs.Chunks.{IsChunkOf};
 ghost use Rattle.row_group.specs.Greatest.{most_entries};
 ghost use Rattle.row_group.specs.Writing.{AppendsChunk, IsChunkTooMuch};
+ghost use Rattle.row_group.specs.inner.Copied.{IsCopied};
+ghost use Rattle.row_group.specs.inner.Parts.{SaysOfPages};
 
-use crate::chunk_pages::put_chunk_pages;
+use crate::chunk_pages::{ChunkPages, put_chunk_pages, put_copied_pages};
 use crate::chunk_record::UNCOMPRESSED;
-use crate::chunk_statistics::statistics_of;
+use crate::chunk_statistics::{statistics_of, statistics_of_values};
 use crate::limits::MOST_ENTRIES_OF_CHUNK;
 use crate::options::ChunkOptions;
 use bits::{R, Refusal};
-use metadata::ColumnMeta;
+use metadata::{ColumnMeta, Statistics};
 use pages::{one_page, short_pages_are_within_limits};
+use plain::Values;
 use schema::{EntryRef, Leaf};
 use std::alloc::Global;
 use std::rc::RcStr;
@@ -62,6 +68,41 @@ pub fn write_chunk(
     done
 }
 
+/// Writes the values at the end of a file's bytes, as a chunk of a leaf without levels, as [`write_chunk`] writes their
+/// entries; and returns its record. Their PLAIN bytes are copied as they are, and nothing is checked of them.
+///
+/// Refused Value only where an entry is none of the leaf's, and Limit as `write_chunk` is. After a refusal `out` is as
+/// it was.
+pub(crate) fn write_plain_chunk(
+    alloc: Global,
+    leaf: &Leaf,
+    options: ChunkOptions,
+    values: Values<'_>,
+    out: &mut Vec<u8>,
+) -> R<ColumnMeta>
+    requires copied { IsCopied (leaf_view leaf.now) options.style (kind_of values) }
+    ensures stands { let es = flat_entries (values_left values.entry) in AllByRecursion (IsEntryOf (leaf_view leaf.now)) es
+        → IfOk result (λ m. AppendsChunk (leaf_view leaf.now) options out.old.items out.new.items (column_meta_view m) es) }
+    ensures within_limits { OnOk result (AreShort (flat_entries (values_left values.entry))) }
+    ensures entries_within_limits { OnOk result (most_entries <ℤ pos (length (flat_entries (values_left values.entry))) → ⊥) }
+    ensures only { OnFault result (AllByRecursion (IsEntryOf (leaf_view leaf.now)) (flat_entries (values_left values.entry)) → ⊥) }
+    ensures limit { let es = flat_entries (values_left values.entry) in result ≡ Err Refusal.Limit → AllByRecursion (IsEntryOf (leaf_view leaf.now)) es
+        → IsChunkTooMuch (length out.old.items) options.page_rows es }
+    ensures which { RefusedOnly IsOfEntries result }
+    ensures front { take (length out.old.items) out.new.items ≡ out.old.items }
+    ensures unchanged { OnErr result (out.new.items ≡ out.old.items) }
+{
+    if options.page_rows == 0 || out.is_empty() || values.len() > MOST_ENTRIES_OF_CHUNK as usize {
+        return Err(Refusal::Limit);
+    }
+    let kept = out.len();
+    let done = put_plain_chunk(alloc, leaf, options, values, out);
+    if done.is_err() {
+        out.truncate(kept);
+    }
+    done
+}
+
 /// Writes the chunk; after a refusal some of it may stand after what was there.
 fn put_chunk(
     alloc: Global,
@@ -87,19 +128,72 @@ fn put_chunk(
     let path_in_schema = bytes_of_names(alloc, leaf.path.as_slice())?;
     let start = out.len();
     let pages = put_chunk_pages(alloc, leaf, options, entries, out)?;
-    let size = (out.len() - start) as i64;
-    Ok(ColumnMeta {
+    let size = out.len() - start;
+    Ok(record_of(leaf, path_in_schema, entries.len(), size, pages, statistics))
+}
+
+/// Writes the chunk of the values; after a refusal some of it may stand after what was there.
+fn put_plain_chunk(
+    alloc: Global,
+    leaf: &Leaf,
+    options: ChunkOptions,
+    values: Values<'_>,
+    out: &mut Vec<u8>,
+) -> R<ColumnMeta>
+    requires rows { 0 < options.page_rows }
+    requires few { length (values_left values) ≤ 16777216 }
+    requires copied { IsCopied (leaf_view leaf.now) options.style (kind_of values) }
+    ensures stands { let es = flat_entries (values_left values.entry) in AllByRecursion (IsEntryOf (leaf_view leaf.now)) es
+        → IfOk result (λ m. AppendsChunk (leaf_view leaf.now) options out.old.items out.new.items (column_meta_view m) es) }
+    ensures within_limits { OnOk result (AreShort (flat_entries (values_left values.entry))) }
+    ensures only { OnFault result (AllByRecursion (IsEntryOf (leaf_view leaf.now)) (flat_entries (values_left values.entry)) → ⊥) }
+    ensures limit { let es = flat_entries (values_left values.entry) in result ≡ Err Refusal.Limit → AllByRecursion (IsEntryOf (leaf_view leaf.now)) es
+        → IsChunkTooMuch (length out.old.items) options.page_rows es }
+    ensures which { RefusedOnly IsOfEntries result }
+    ensures front { take (length out.old.items) out.new.items ≡ out.old.items }
+{
+    one_page();
+    short_pages_are_within_limits();
+    let statistics = statistics_of_values(alloc, leaf, values)?;
+    let path_in_schema = bytes_of_names(alloc, leaf.path.as_slice())?;
+    let start = out.len();
+    let pages = put_copied_pages(alloc, leaf, options, values, out)?;
+    let size = out.len() - start;
+    Ok(record_of(leaf, path_in_schema, values.len(), size, pages, statistics))
+}
+
+/// The record of a chunk of the leaf with this many entries and bytes.
+fn record_of(
+    leaf: &Leaf,
+    path_in_schema: Vec<Vec<u8>>,
+    count: usize,
+    size: usize,
+    pages: ChunkPages,
+    statistics: Statistics,
+) -> ColumnMeta
+    requires path { map (λ s. s.items) path_in_schema.items ≡ map rc_str_bytes leaf.now.path.items }
+    requires few { count ≤ 16777216 }
+    requires size { size < 2 ^ 63 }
+    ensures of_leaf { IsChunkOf (column_meta_view result) (leaf_view leaf.now) }
+    ensures count { (column_meta_view result).num_values ≡ pos count }
+    ensures pages { SaysOfPages (column_meta_view result) pages }
+    ensures size { (column_meta_view result).total_compressed_size ≡ Some (pos size) }
+    ensures plain_size { (column_meta_view result).total_uncompressed_size ≡ Some (pos size) }
+    ensures statistics { (column_meta_view result).statistics ≡ Some (statistics_view statistics) }
+{
+    let size = Some(size as i64);
+    ColumnMeta {
         kind: leaf.leaf_type.kind.number(),
         encodings: Some(pages.encodings),
         path_in_schema,
         codec: UNCOMPRESSED,
-        num_values: entries.len() as i64,
-        total_uncompressed_size: Some(size),
-        total_compressed_size: Some(size),
+        num_values: count as i64,
+        total_uncompressed_size: size,
+        total_compressed_size: size,
         data_page_offset: pages.data_page_offset,
         dictionary_page_offset: pages.dictionary_page_offset,
         statistics: Some(statistics),
-    })
+    }
 }
 
 /// The bytes of each of the names.

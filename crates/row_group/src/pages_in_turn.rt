@@ -8,15 +8,19 @@ ghost use Rattle.schema.specs.Values.{ValueTree};
 ghost use Rattle.schema.specs.Borrowed.{entry_ref_view};
 ghost use Rattle.schema.specs.Law.{IsEntryOf};
 ghost use Rattle.schema.specs.Views.{leaf_view};
+ghost use Rattle.plain.specs.Flat.{flat_entries};
+ghost use Rattle.plain.specs.ValuesLeft.{values_left, kind_of};
 ghost use Rattle.pages.specs.Page.{values as values_in};
-ghost use Rattle.pages.specs.Writing.{IsPageTooMuch, IsOfEntries};
+ghost use Rattle.pages.specs.Writing.{AreShort, IsPageTooMuch, IsOfEntries};
+ghost use Rattle.row_group.specs.inner.Copied.{IsCopied};
 ghost use Rattle.row_group.specs.inner.Parts.{IsFirstPage, IsPart, part_weight, AreShortIn, AreForKind, HaveIndexes, AppendsParts, ArePartsTooMuch};
 
 use crate::limits::MOST_BYTES_BEFORE_CHUNK;
 use crate::options::ChunkOptions;
 use bits::{R, Refusal};
 use dictionary::Dictionary;
-use pages::{Encoding, PageVersion, count_values, write_index_page, write_page};
+use pages::{Encoding, PageVersion, count_values, write_index_page, write_page, write_plain_page};
+use plain::Values;
 use schema::{EntryRef, Leaf};
 use std::alloc::Global;
 
@@ -71,6 +75,38 @@ pub(crate) fn put_pages(
             out,
         )?;
         at += size;
+    }
+    Ok(())
+}
+
+/// Writes the values of a leaf without levels as pages of `page_rows` values each, the last with the rest, as
+/// [`put_pages`] writes their entries in PLAIN. The bytes of the values are copied as they are, and nothing is checked
+/// of them. Refused Limit as `put_pages` is; after a refusal whole pages may stand after what was there.
+pub(crate) fn put_plain_pages(
+    alloc: Global,
+    leaf: &Leaf,
+    options: ChunkOptions,
+    values: Values<'_>,
+    out: &mut Vec<u8>,
+) -> R<()>
+    requires rows { 0 < options.page_rows }
+    requires copied { IsCopied (leaf_view leaf.now) options.style (kind_of values) }
+    ensures stands { let es = flat_entries (values_left values.entry) in AllByRecursion (IsEntryOf (leaf_view leaf.now)) es
+        → OnOk result (AppendsParts (leaf_view leaf.now) options (PageValues.Encoded Encoding.Plain) es out.old.items out.new.items) }
+    ensures within_limits { OnOk result (AreShort (flat_entries (values_left values.entry))) }
+    ensures limit { let es = flat_entries (values_left values.entry) in result ≡ Err Refusal.Limit → AllByRecursion (IsEntryOf (leaf_view leaf.now)) es
+        → ArePartsTooMuch (length out.old.items) options.page_rows (PageValues.Encoded Encoding.Plain) es }
+    ensures which { RefusedOnly (λ e. e ≡ Refusal.Limit) result }
+    ensures front { take (length out.old.items) out.new.items ≡ out.old.items }
+{
+    let mut left = values;
+    while left.len() > 0 {
+        if out.len() > MOST_BYTES_BEFORE_CHUNK {
+            return Err(Refusal::Limit);
+        }
+        let count = left.len().min(options.page_rows as usize);
+        let text = left.take_bytes(count)?;
+        write_plain_page(alloc, leaf, options.page_version, count, text, out)?;
     }
     Ok(())
 }

@@ -1,6 +1,6 @@
 //! The rows of a group, one by one.
 
-ghost use Rattle.std.specs.Prelude.{◌≡◌, ◌↔◌, IsTrue, List, true, false, map, IfOk, OnOk, IfErr, Ok, Err};
+ghost use Rattle.std.specs.Prelude.{◌≡◌, ◌≢◌, ◌↔◌, IsTrue, List, true, false, map, IfOk, OnOk, IfErr, Ok, Err};
 ghost use Rattle.bits.specs.Refusals.{OnFault, RefusedOnly, RefusedMemoryOnly};
 ghost use Rattle.schema.specs.Values.{ValueTrees};
 ghost use Rattle.schema.specs.Views.{rows_view};
@@ -17,7 +17,8 @@ use crate::group_chunks::{check_chunks, readers_of};
 use crate::laws::one_meaning;
 use crate::limits::MOST_ROWS_OF_GROUP;
 use assemble::{
-    RowBuilder, RowSink, count_rows, flat_columns_have_rows, is_flat, next_known_row_to,
+    RowBuilder, RowSink, count_rows, flat_columns_have_rows, is_flat, next_flat_row_to,
+    next_known_row_to,
 };
 use bits::{Fault, R, Refusal};
 use metadata::GroupMeta;
@@ -37,6 +38,8 @@ pub struct Rows<'a> {
     pub(crate) left: usize,
     /// Whether memory was refused, perhaps within a row.
     pub(crate) is_broken: bool,
+    /// Whether the schema is flat: then rows are read without a look at it.
+    pub(crate) is_flat: bool,
 }
 
 impl<'a> Rows<'a> {
@@ -77,6 +80,7 @@ impl<'a> Rows<'a> {
             readers,
             left,
             is_broken: false,
+            is_flat: is_flat(schema),
         })
     }
 
@@ -97,6 +101,7 @@ impl<'a> Rows<'a> {
             readers,
             left,
             is_broken: false,
+            is_flat: is_flat(schema),
         })
     }
 
@@ -135,6 +140,42 @@ impl<'a> Rows<'a> {
         if self.left == 0 {
             return Ok(false);
         }
+        if self.is_flat {
+            return self.show_flat(sink);
+        }
+        self.show_nested(sink)
+    }
+
+    /// Shows a sink the values of the next row, where one is left and the schema is flat.
+    #[inline(always)]
+    fn show_flat<K: RowSink>(&mut self, sink: &mut K) -> Result<bool, Fault>
+        requires some { self.old.left ≢ 0 }
+        requires flat { self.old.is_flat ≡ true }
+        ensures takes { TakesRowTo (rows_stand self.old) (rows_stand self.new) (K.shows sink.old) (K.shows sink.new) (with_refusal result) }
+        ensures unshown { result ≡ Ok false → sink.new ≡ sink.old }
+        ensures breaks { IfErr result (λ _. is_broken self.new ≡ true) }
+    {
+        match next_flat_row_to(self.readers.as_mut_slice(), sink) {
+            Ok(()) => {
+                self.left -= 1;
+                Ok(true)
+            }
+            Err(fault) => {
+                self.is_broken = true;
+                Err(fault)
+            }
+        }
+    }
+
+    /// Shows a sink the values of the next row, where one is left.
+    // Apart from the path of flat schemas, whose locals stay in registers so.
+    #[inline(never)]
+    fn show_nested<K: RowSink>(&mut self, sink: &mut K) -> Result<bool, Fault>
+        requires some { self.old.left ≢ 0 }
+        ensures takes { TakesRowTo (rows_stand self.old) (rows_stand self.new) (K.shows sink.old) (K.shows sink.new) (with_refusal result) }
+        ensures unshown { result ≡ Ok false → sink.new ≡ sink.old }
+        ensures breaks { IfErr result (λ _. is_broken self.new ≡ true) }
+    {
         match next_known_row_to(self.schema, self.readers.as_mut_slice(), sink) {
             Ok(()) => {
                 self.left -= 1;

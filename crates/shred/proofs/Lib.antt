@@ -1,6 +1,7 @@
 pub mod Growing
 pub mod Turns
 pub mod Slotted
+pub mod InPlain
 pub mod OneByOne
 pub mod Openings
 pub mod ShownSteps

@@ -1,14 +1,17 @@
 -- What columns show that own the bytes of their values.
-use Rattle.std.specs.Prelude.{List, take}
+use Rattle.std.specs.Prelude.{List, ◌++◌, take}
 use Rattle.schema.specs.Stripe.{Entry}
+use Rattle.plain.specs.Flat.{flat_entries}
 use Rattle.shred.specs.declared.kept_column.KeptColumn.{KeptColumn}
 use Rattle.shred.specs.Slots.{entries_in}
+use Rattle.shred.specs.Waiting.{waiting, waiting_marked}
 use Rattle.shred.specs.inner.Roomy.{list_of}
 use Rattle.shred.specs.inner.Packed.{unpacked_each}
 
+-- first the values in PLAIN, then the other entries
 abbrev pub kept_view : KeptColumn → List Entry
-kept_view c = entries_in (list_of c.bytes) (unpacked_each (list_of c.entries))
+kept_view c = flat_entries (waiting c.plain) ++ entries_in (list_of c.bytes) (unpacked_each (list_of c.entries))
 
 -- what it showed when it was marked
 abbrev pub marked_view : KeptColumn → List Entry
-marked_view c = entries_in (take c.marked_bytes (list_of c.bytes)) (take c.marked (unpacked_each (list_of c.entries)))
+marked_view c = flat_entries (waiting_marked c.plain) ++ entries_in (take c.marked_bytes (list_of c.bytes)) (take c.marked (unpacked_each (list_of c.entries)))

@@ -4,3 +4,4 @@ pub mod Filling
 pub mod Opening
 pub mod Roomy
 pub mod Packed
+pub mod Spelled

@@ -1,11 +1,13 @@
 //! Columns that are filled with the values of rows as these are shown, one after another.
 
-ghost use Rattle.std.specs.Prelude.{◌≡◌, ◌++◌, ◌∷◌, [], suc, length, map, get_or, IfOk, OnOk, option_map};
+ghost use Rattle.std.specs.Prelude.{◌≡◌, ◌≢◌, ◌++◌, ◌∷◌, [], suc, length, map, get_or, IfOk, IfSome, OnOk, option_map};
 ghost use Rattle.bits.specs.Refusals.{RefusedMemoryOnly};
 ghost use Rattle.schema.specs.Borrowed.{value_ref_view, entry_ref_view};
 ghost use Rattle.schema.specs.Stripe.{entry};
-ghost use Rattle.schema.specs.Values.{view, views};
+ghost use Rattle.schema.specs.Values.{integer, bytes, view, views};
 ghost use Rattle.schema.specs.Views.{field_view, field_views};
+ghost use Rattle.plain.specs.Flat.{flat_entries};
+ghost use Rattle.plain.specs.ValuesLeft.{values_left, kind_of};
 ghost use Rattle.assemble.specs.Sinks.{single, group_begins, group_ends, list_begins, list_ends, tokens, tokens_each};
 ghost use Rattle.shred.specs.Kept.{kept_view, marked_view};
 ghost use Rattle.shred.specs.inner.Growing.{grown, nils, levels_at, absences, absences_each};
@@ -13,8 +15,10 @@ ghost use Rattle.shred.specs.inner.Filling.{item_levels, deeper, next, inside, i
 
 use crate::field::Levels;
 use crate::kept_column::KeptColumn;
+use crate::single::Single;
 use bits::R;
-use schema::{EntryRef, Field, Repetition, Value, ValueRef};
+use plain::Values;
+use schema::{EntryRef, Field, Kind, Leaf, Repetition, Value, ValueRef};
 use std::alloc::{AllocError, Global};
 
 /// Where values are shown.
@@ -131,15 +135,15 @@ fn items<'a>(next: Option<Next<'a>>, start: usize) -> Level<'a>
 /// Puts an entry after those of a column, if there is one at this index. It fails only when out of memory, and
 /// then leaves the columns as they are.
 #[inline(always)]
-fn put_entry(
+fn put_entry<V: Single>(
     columns: &mut [KeptColumn],
     at: usize,
     repetition: u32,
     definition: u32,
-    value: Option<ValueRef<'_>>,
+    value: Option<V>,
 ) -> Result<(), AllocError>
     ensures grown { OnOk result (map kept_view columns.new ≡ grown (map kept_view columns.old)
-        (nils at ++ entry repetition definition (option_map value_ref_view value.entry) ∷ [])) }
+        (nils at ++ entry repetition definition (option_map V.meant value) ∷ [])) }
     ensures marked { map marked_view columns.new ≡ map marked_view columns.old }
 {
     if at < columns.len() {
@@ -171,14 +175,14 @@ impl<'a> Level<'a> {
 }
 
 impl<'a> Filling<'a> {
-    /// As many columns without entries, for rows of these fields.
-    pub(crate) fn new(alloc: Global, count: usize, fields: &'a [Field]) -> R<Filling<'a>>
-        ensures empty { IfOk result (λ filling. state_of filling ≡ root (field_views fields.now) (nils count)) }
+    /// A column without entries for each of the leaves, for rows of these fields.
+    pub(crate) fn new(alloc: Global, leaves: &[Leaf], fields: &'a [Field]) -> R<Filling<'a>>
+        ensures empty { IfOk result (λ filling. state_of filling ≡ root (field_views fields.now) (nils (length leaves.now))) }
         ensures which { RefusedMemoryOnly result }
     {
-        let mut columns = Vec::with_capacity(alloc, count)?;
-        for _ in 0..count {
-            columns.push(KeptColumn::new(alloc))?;
+        let mut columns = Vec::with_capacity(alloc, leaves.len())?;
+        for leaf in leaves {
+            columns.push(KeptColumn::new(alloc, leaf))?;
         }
         Ok(Filling {
             columns,
@@ -217,6 +221,17 @@ impl<'a> Filling<'a> {
         ensures empty { (state_of self.new).columns ≡ nils (length self.old.columns.items) }
     {
         clear_each(self.columns.as_mut_slice());
+    }
+
+    /// The values of a column, where they wait in PLAIN and no other entries wait.
+    pub(crate) fn plain_values(&self, leaf: usize) -> Option<Values<'_>>
+        ensures stands { IfSome result (λ values. get_or (state_of self.now).columns leaf [] ≡ flat_entries (values_left values)) }
+        ensures whole_bytes { IfSome result (λ values. kind_of values ≢ Kind.Boolean) }
+    {
+        match self.columns.get(leaf) {
+            None => None,
+            Some(column) => column.plain_values(),
+        }
     }
 
     /// Puts the entries of a column, their values borrowed, after others. It fails only when out of memory.
@@ -269,13 +284,13 @@ impl<'a> Filling<'a> {
 
     /// Puts an entry into the next column.
     #[inline(always)]
-    fn put(
+    fn put<V: Single>(
         &mut self,
         repetition: u32,
         definition: u32,
-        value: Option<ValueRef<'_>>,
+        value: Option<V>,
     ) -> Result<(), AllocError>
-        ensures given { OnOk result (state_of self.new ≡ given (state_of self.old) (entry repetition definition (option_map value_ref_view value.entry) ∷ [])) }
+        ensures given { OnOk result (state_of self.new ≡ given (state_of self.old) (entry repetition definition (option_map V.meant value) ∷ [])) }
         ensures marked { marked_of self.new ≡ marked_of self.old }
     {
         let Some(next) = self.at.checked_add(1) else {
@@ -300,7 +315,11 @@ impl<'a> Filling<'a> {
         ensures marked { marked_of self.new ≡ marked_of self.old }
     {
         match field {
-            Field::Leaf { .. } => self.put(levels.repetition, levels.definition, None),
+            Field::Leaf { .. } => self.put::<ValueRef<'_>>(
+                levels.repetition,
+                levels.definition,
+                None,
+            ),
             Field::Group { fields, .. } => self.put_absent_each(fields.as_slice(), levels),
         }
     }
@@ -317,6 +336,27 @@ impl<'a> Filling<'a> {
         Ok(())
     }
 
+    /// The same, with the levels one by one: a record of them would be written to memory on each path to this call.
+    #[inline(never)]
+    fn put_absent_below(
+        &mut self,
+        fields: &[Field],
+        repetition: u32,
+        definition: u32,
+        repeated: u32,
+    ) -> Result<(), AllocError>
+        ensures given { OnOk result (state_of self.new ≡ given (state_of self.old)
+            (absences_each 0 (field_views fields.now) (levels_at repetition definition repeated))) }
+        ensures marked { marked_of self.new ≡ marked_of self.old }
+    {
+        let levels = Levels {
+            repetition,
+            definition,
+            repeated,
+        };
+        self.put_absent_each(fields, levels)
+    }
+
     /// Puts what a value gives that is no group and no list: an entry without value where it is absent.
     #[inline(always)]
     fn put_single(&mut self, next: Next<'_>, value: ValueRef<'_>) -> Result<(), AllocError>
@@ -326,16 +366,61 @@ impl<'a> Filling<'a> {
     {
         let levels = next.levels;
         if let Field::Group { fields, .. } = next.field {
-            return self.put_absent_each(fields.as_slice(), levels);
+            return self.put_absent_below(
+                fields.as_slice(),
+                levels.repetition,
+                levels.definition,
+                levels.repeated,
+            );
         }
         // One after the other: a pair of both would be written to memory and read back.
         if let Repetition::Optional = next.repetition {
             if let ValueRef::Null = value {
-                return self.put(levels.repetition, levels.definition, None);
+                return self.put::<ValueRef<'_>>(levels.repetition, levels.definition, None);
             }
         }
         let own = deeper(next.repetition, levels)?;
         self.put(own.repetition, own.definition, Some(value))
+    }
+
+    /// Puts what a number gives.
+    #[inline(always)]
+    fn put_int(&mut self, next: Next<'_>, number: i64) -> Result<(), AllocError>
+        ensures given { OnOk result (state_of self.new ≡ given (state_of self.old)
+            (single_stripes (field_view next.entry.field.now) next.entry.repetition next.entry.levels (integer number))) }
+        ensures marked { marked_of self.new ≡ marked_of self.old }
+    {
+        let levels = next.levels;
+        if let Field::Group { fields, .. } = next.field {
+            return self.put_absent_below(
+                fields.as_slice(),
+                levels.repetition,
+                levels.definition,
+                levels.repeated,
+            );
+        }
+        let own = deeper(next.repetition, levels)?;
+        self.put(own.repetition, own.definition, Some(number))
+    }
+
+    /// Puts what bytes give.
+    #[inline(always)]
+    fn put_bytes(&mut self, next: Next<'_>, text: &[u8]) -> Result<(), AllocError>
+        ensures given { OnOk result (state_of self.new ≡ given (state_of self.old)
+            (single_stripes (field_view next.entry.field.now) next.entry.repetition next.entry.levels (bytes text.now))) }
+        ensures marked { marked_of self.new ≡ marked_of self.old }
+    {
+        let levels = next.levels;
+        if let Field::Group { fields, .. } = next.field {
+            return self.put_absent_below(
+                fields.as_slice(),
+                levels.repetition,
+                levels.definition,
+                levels.repeated,
+            );
+        }
+        let own = deeper(next.repetition, levels)?;
+        self.put(own.repetition, own.definition, Some(text))
     }
 
     /// Goes back to the group or list around this one.
@@ -378,6 +463,30 @@ impl<'a> Filling<'a> {
         match self.begin_value()? {
             None => Ok(()),
             Some(next) => self.put_single(next, value),
+        }
+    }
+
+    /// Is shown a number.
+    #[inline(always)]
+    pub(crate) fn int(&mut self, number: i64) -> Result<(), AllocError>
+        ensures shown { OnOk result (state_of self.new ≡ step (state_of self.old) (single (integer number))) }
+        ensures marked { marked_of self.new ≡ marked_of self.old }
+    {
+        match self.begin_value()? {
+            None => Ok(()),
+            Some(next) => self.put_int(next, number),
+        }
+    }
+
+    /// Is shown bytes.
+    #[inline(always)]
+    pub(crate) fn bytes(&mut self, text: &[u8]) -> Result<(), AllocError>
+        ensures shown { OnOk result (state_of self.new ≡ step (state_of self.old) (single (bytes text.now))) }
+        ensures marked { marked_of self.new ≡ marked_of self.old }
+    {
+        match self.begin_value()? {
+            None => Ok(()),
+            Some(next) => self.put_bytes(next, text),
         }
     }
 

@@ -8,9 +8,11 @@ mod column;
 mod field;
 mod filling;
 mod kept_column;
+mod plain_values;
 mod roomy_list;
 mod row_buffer;
 mod rows;
+mod single;
 mod slot;
 
 pub use column::{ColumnRef, to_columns};

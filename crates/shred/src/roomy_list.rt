@@ -1,8 +1,12 @@
 //! Lists with room made ahead.
 
-ghost use Rattle.std.specs.Prelude.{◌≡◌, ◌≤◌, ◌+◌, ◌++◌, ◌∷◌, [], length, take, OnOk, OnErr};
+ghost use Rattle.std.specs.Prelude.{◌≡◌, ◌<◌, ◌≤◌, ◌+◌, ◌^◌, ◌++◌, ◌∷◌, [], length, take, OnOk, OnErr};
+ghost use Rattle.schema.specs.Values.{integer, bytes};
+ghost use Rattle.plain.specs.Plain.{spelling};
 
-use plain::place_text;
+use crate::slot::PackedEntry;
+use plain::{place_byte_array, place_int32, place_int64, place_text};
+use schema::Kind;
 use std::alloc::{AllocError, Global};
 
 /// For how many more items room is made at a time, at least.
@@ -45,20 +49,6 @@ impl<T: Copy> RoomyList<T> {
         self.items.as_slice().split_at(self.count).0
     }
 
-    /// Puts an item after the others. It fails only when out of memory, and then leaves the list as it is.
-    #[inline(always)]
-    pub(crate) fn push(&mut self, item: T) -> Result<(), AllocError>
-        ensures items { OnOk result (list_of self.new ≡ list_of self.old ++ item ∷ []) }
-        ensures unchanged { OnErr result (list_of self.new ≡ list_of self.old) }
-    {
-        if self.count == self.items.len() {
-            self.make_room(1, item)?;
-        }
-        self.items[self.count] = item;
-        self.count += 1;
-        Ok(())
-    }
-
     /// Keeps the first items.
     pub(crate) fn truncate(&mut self, count: usize)
         ensures items { list_of self.new ≡ take count (list_of self.old) }
@@ -90,6 +80,29 @@ impl<T: Copy> RoomyList<T> {
     }
 }
 
+impl RoomyList<PackedEntry> {
+    ghost use Rattle.shred.specs.inner.Roomy.{list_of};
+
+    /// Puts an entry after the others. It fails only when out of memory, and then leaves the list as it is.
+    #[inline(always)]
+    pub(crate) fn push(&mut self, entry: PackedEntry) -> Result<(), AllocError>
+        ensures items { OnOk result (list_of self.new ≡ list_of self.old ++ entry ∷ []) }
+        ensures unchanged { OnErr result (list_of self.new ≡ list_of self.old) }
+    {
+        if self.count == self.items.len() {
+            // A constant, so that the entry need not be written to memory for the call.
+            let filler = PackedEntry::Missing {
+                repetition: 0,
+                definition: 0,
+            };
+            self.make_room(1, filler)?;
+        }
+        self.items[self.count] = entry;
+        self.count += 1;
+        Ok(())
+    }
+}
+
 impl RoomyList<u8> {
     ghost use Rattle.shred.specs.inner.Roomy.{list_of};
 
@@ -103,6 +116,58 @@ impl RoomyList<u8> {
             self.make_room(text.len(), 0)?;
         }
         self.count = place_text(self.items.as_mut_slice(), self.count, text);
+        Ok(())
+    }
+
+    /// The same as a call.
+    // With many copies of a text in them, the functions that put a value would be too large to be inlined.
+    #[inline(never)]
+    pub(crate) fn append_apart(&mut self, text: &[u8]) -> Result<(), AllocError>
+        ensures items { OnOk result (list_of self.new ≡ list_of self.old ++ text.now) }
+        ensures unchanged { OnErr result (list_of self.new ≡ list_of self.old) }
+    {
+        self.append(text)
+    }
+
+    /// Puts an INT32 in PLAIN after the other bytes. It fails only when out of memory, and then leaves the list as it
+    /// is.
+    #[inline(always)]
+    pub(crate) fn put_int32(&mut self, number: i32) -> Result<(), AllocError>
+        ensures items { OnOk result (list_of self.new ≡ list_of self.old ++ spelling Kind.Int32 (integer number)) }
+        ensures unchanged { OnErr result (list_of self.new ≡ list_of self.old) }
+    {
+        if 4 > self.items.len() - self.count {
+            self.make_room(4, 0)?;
+        }
+        self.count = place_int32(number, self.count, self.items.as_mut_slice());
+        Ok(())
+    }
+
+    /// The same for an INT64.
+    #[inline(always)]
+    pub(crate) fn put_int64(&mut self, number: i64) -> Result<(), AllocError>
+        ensures items { OnOk result (list_of self.new ≡ list_of self.old ++ spelling Kind.Int64 (integer number)) }
+        ensures unchanged { OnErr result (list_of self.new ≡ list_of self.old) }
+    {
+        if 8 > self.items.len() - self.count {
+            self.make_room(8, 0)?;
+        }
+        self.count = place_int64(number, self.count, self.items.as_mut_slice());
+        Ok(())
+    }
+
+    /// The same for a BYTE_ARRAY.
+    #[inline(always)]
+    pub(crate) fn put_byte_array(&mut self, text: &[u8]) -> Result<(), AllocError>
+        requires { length text.now < 2 ^ 32 }
+        ensures items { OnOk result (list_of self.new ≡ list_of self.old ++ spelling Kind.ByteArray (bytes text.now)) }
+        ensures unchanged { OnErr result (list_of self.new ≡ list_of self.old) }
+    {
+        let size = 4 + text.len();
+        if size > self.items.len() - self.count {
+            self.make_room(size, 0)?;
+        }
+        self.count = place_byte_array(text, self.count, self.items.as_mut_slice());
         Ok(())
     }
 }

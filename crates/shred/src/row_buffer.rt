@@ -1,18 +1,21 @@
 //! Rows that wait, kept as the columns that they shred to.
 
-ghost use Rattle.std.specs.Prelude.{◌≡◌, ◌++◌, ◌∷◌, [], List, true, false, length, map, get_or, IfOk, OnOk, OnErr, Err};
+ghost use Rattle.std.specs.Prelude.{◌≡◌, ◌≢◌, ◌++◌, ◌∷◌, [], List, true, false, length, map, get_or, IfOk, IfSome, OnOk, OnErr, Err};
 ghost use Rattle.bits.specs.Refusals.{RefusedOnly, RefusedMemoryOnly};
 ghost use Rattle.schema.specs.Fits.{fits_each};
 ghost use Rattle.schema.specs.Shape.{Fields};
 ghost use Rattle.schema.specs.Values.{ValueTrees};
 ghost use Rattle.schema.specs.Views.{row_view};
 ghost use Rattle.schema.specs.Borrowed.{entry_ref_view};
+ghost use Rattle.plain.specs.Flat.{flat_entries};
+ghost use Rattle.plain.specs.ValuesLeft.{values_left, kind_of};
 ghost use Rattle.schema.specs.Stripe.{columns, leaves_of};
 
 use crate::filling::Filling;
 use assemble::RowSink;
 use bits::{R, Refusal};
-use schema::{EntryRef, Row, Schema, ValueRef};
+use plain::Values;
+use schema::{EntryRef, Kind, Row, Schema, ValueRef};
 use std::alloc::{AllocError, Global};
 
 /// The most rows that a buffer takes: more than there can be.
@@ -42,7 +45,7 @@ impl<'a> RowBuffer<'a> {
         ensures of { IfOk result (λ buffer. schema_of buffer ≡ schema.now) }
         ensures which { RefusedMemoryOnly result }
     {
-        let filling = Filling::new(alloc, schema.leaves().len(), schema.fields())?;
+        let filling = Filling::new(alloc, schema.leaves(), schema.fields())?;
         Ok(RowBuffer {
             schema,
             count: 0,
@@ -115,6 +118,17 @@ impl<'a> RowBuffer<'a> {
         Ok(())
     }
 
+    /// The values of a leaf, given by its index among the leaves of the schema, where they wait in PLAIN: each is that
+    /// of an entry with both levels 0, and no other entries wait. None where the column waits as entries. Takes
+    /// constant time.
+    pub fn plain_values(&self, leaf: usize) -> Option<Values<'_>>
+        ensures stands { IfSome result (λ values. (rows : List ValueTrees) → holds self.now rows
+            → get_or (columns (schema_of self.now) rows) leaf [] ≡ flat_entries (values_left values)) }
+        ensures whole_bytes { IfSome result (λ values. kind_of values ≢ Kind.Boolean) }
+    {
+        self.filling.plain_values(leaf)
+    }
+
     /// The entries of a leaf, given by its place among the leaves of the schema, in place of what was in
     /// `entries`. It fails only when out of memory; the time is linear in the entries.
     pub fn entries<'b>(&'b self, leaf: usize, entries: &mut Vec<EntryRef<'b>>) -> R<()>
@@ -145,6 +159,16 @@ impl<'a> RowSink for RowBuffer<'a> {
     #[inline(always)]
     fn value(&mut self, value: ValueRef<'_>) -> Result<(), AllocError> {
         self.filling.value(value)
+    }
+
+    #[inline(always)]
+    fn int(&mut self, number: i64) -> Result<(), AllocError> {
+        self.filling.int(number)
+    }
+
+    #[inline(always)]
+    fn bytes(&mut self, text: &[u8]) -> Result<(), AllocError> {
+        self.filling.bytes(text)
     }
 
     fn begin_group(&mut self) -> Result<(), AllocError> {

@@ -8,6 +8,7 @@ ghost use Rattle.shred.specs.inner.Put.{IsPut};
 ghost use Rattle.shred.specs.inner.Roomy.{list_of};
 
 use crate::roomy_list::RoomyList;
+use crate::single::Single;
 use schema::ValueRef;
 use std::alloc::AllocError;
 
@@ -167,24 +168,16 @@ fn kept_entry(repetition: u8, definition: u8, slot: Slot) -> KeptEntry
 /// Puts the bytes of a leaf's value, if it has any, after the bytes of others, and returns its slot.
 /// It fails only when out of memory, and then leaves the bytes as they are.
 #[inline(always)]
-pub(crate) fn put_value(
-    value: Option<ValueRef<'_>>,
+pub(crate) fn put_value<V: Single>(
+    value: Option<V>,
     bytes: &mut RoomyList<u8>,
 ) -> Result<Slot, AllocError>
-    ensures stands { IfOk result (λ slot. IsPut slot (option_map value_ref_view value.entry) (list_of bytes.old) (list_of bytes.new)) }
+    ensures stands { IfOk result (λ slot. IsPut slot (option_map V.meant value) (list_of bytes.old) (list_of bytes.new)) }
     ensures unchanged { OnErr result (list_of bytes.new ≡ list_of bytes.old) }
 {
     match value {
         None => Ok(Slot::Missing),
-        Some(ValueRef::Null) => Ok(Slot::Null),
-        Some(ValueRef::Bool(b)) => Ok(Slot::Bool(b)),
-        Some(ValueRef::Int(n)) => Ok(Slot::Int(n)),
-        Some(ValueRef::Bytes(own)) => {
-            bytes.append(own)?;
-            Ok(Slot::Bytes(own.len()))
-        }
-        // Never reached: a leaf has no such value.
-        Some(ValueRef::Group(_) | ValueRef::List(_)) => Err(AllocError),
+        Some(value) => value.put_bytes(bytes),
     }
 }
 

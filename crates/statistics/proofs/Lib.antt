@@ -3,3 +3,4 @@ pub mod Bounded
 pub mod OneBound
 pub mod ShortBounds
 pub mod Fronts
+pub mod ShortFronts

@@ -1,3 +1,4 @@
 -- Definitions for private functions only.
+pub mod Cursors
 pub mod Extremes
 pub mod Fronts

@@ -5,6 +5,7 @@
 #![tactic(auto)]
 
 mod bytes;
+mod cursor;
 mod entry;
 mod extremes;
 mod stats;
@@ -12,5 +13,5 @@ mod text;
 
 pub use bytes::{BoundBytes, kept_bounds_are_short, one_bound};
 pub use entry::HasValue;
-pub use extremes::{bounds, bounds_of};
+pub use extremes::{bounds, bounds_of, bounds_of_values};
 pub use stats::{GroupStats, Stats};

@@ -1,6 +1,6 @@
 //! Bytes that are compared by their first eight, and by all of them only where those are the same.
 
-ghost use Rattle.std.specs.Prelude.{◌≡◌, ◌<◌, length};
+ghost use Rattle.std.specs.Prelude.{◌≡◌, ◌<◌, ◌≤◌, length};
 ghost use Rattle.std.specs.Ordering.{is_lt, is_gt, nat_cmp};
 ghost use Rattle.std.specs.Cmp.Lexicographic.{slice_cmp};
 ghost use Rattle.byteorder.specs.Endian.{big_number};
@@ -38,7 +38,7 @@ pub(crate) fn is_before(text: Text<'_>, other: Text<'_>) -> bool
     if text.front != other.front {
         return text.front < other.front;
     }
-    match text.bytes.cmp(other.bytes) {
+    match compared(text.bytes, other.bytes) {
         Ordering::Less => true,
         _ => false,
     }
@@ -52,10 +52,48 @@ pub(crate) fn is_behind(text: Text<'_>, other: Text<'_>) -> bool
     if text.front != other.front {
         return text.front > other.front;
     }
-    match text.bytes.cmp(other.bytes) {
+    match compared(text.bytes, other.bytes) {
         Ordering::Greater => true,
         _ => false,
     }
+}
+
+/// The order of bytes, eight at a time.
+// Out of line, so that the loops that call it keep their values in registers.
+#[cold]
+#[inline(never)]
+fn compared(bytes: &[u8], other: &[u8]) -> Ordering
+    ensures { result ≡ slice_cmp nat_cmp bytes.now other.now }
+{
+    let mut at: usize = 0;
+    'words: while bytes.len() - at > 8 && other.len() - at > 8 {
+        let (_, rest) = bytes.split_at(at);
+        let (_, other_rest) = other.split_at(at);
+        let number = BigEndian::read_u64(rest);
+        let other_number = BigEndian::read_u64(other_rest);
+        if number != other_number {
+            return number.cmp(&other_number);
+        }
+        at += 8;
+    }
+    let (_, rest) = bytes.split_at(at);
+    let (_, other_rest) = other.split_at(at);
+    compared_ends(rest, other_rest)
+}
+
+/// The same where one of the two has at most eight bytes.
+#[inline(always)]
+fn compared_ends(bytes: &[u8], other: &[u8]) -> Ordering
+    requires { 8 < length bytes.now → length other.now ≤ 8 }
+    ensures { result ≡ slice_cmp nat_cmp bytes.now other.now }
+{
+    let number = front_of(bytes);
+    let other_number = front_of(other);
+    if number != other_number {
+        return number.cmp(&other_number);
+    }
+    // For the same number, they differ at most by zeros at the end.
+    bytes.len().cmp(&other.len())
 }
 
 /// The number that the first eight bytes make, the highest first; those that are not there are zeros.
@@ -63,18 +101,55 @@ pub(crate) fn is_behind(text: Text<'_>, other: Text<'_>) -> bool
 fn front_of(bytes: &[u8]) -> u64
     ensures { result ≡ big_number 8 bytes.now }
 {
-    if bytes.len() < 8 {
-        return short_front(bytes);
+    if bytes.len() >= 8 {
+        return BigEndian::read_u64(bytes);
     }
-    BigEndian::read_u64(bytes)
+    if bytes.len() >= 4 {
+        return front_of_fours(bytes);
+    }
+    front_of_three(bytes)
 }
 
-/// The same of fewer than eight bytes.
-fn short_front(bytes: &[u8]) -> u64
-    requires { length bytes.now < 8 }
+/// The same of four to seven bytes.
+#[inline(always)]
+fn front_of_fours(bytes: &[u8]) -> u64
+    requires least { 4 ≤ length bytes.now }
+    requires most { length bytes.now < 8 }
     ensures { result ≡ big_number 8 bytes.now }
 {
-    let mut field = [0; 8];
-    field[..bytes.len()].copy_from_slice(bytes);
-    BigEndian::read_u64(&field)
+    let (_, last) = bytes.split_at(bytes.len() - 4);
+    let first = u64::from(BigEndian::read_u32(bytes));
+    let last = u64::from(BigEndian::read_u32(last));
+    // The second load without the bytes that are in the first too.
+    let rest = (last << (64 - 8 * bytes.len())) & 0xffff_ffff;
+    (first << 32) + rest
+}
+
+/// The same of at most three bytes.
+#[inline(always)]
+fn front_of_three(bytes: &[u8]) -> u64
+    requires { length bytes.now < 4 }
+    ensures { result ≡ big_number 8 bytes.now }
+{
+    if bytes.len() >= 2 {
+        return front_of_twos(bytes) << 32;
+    }
+    match bytes.first() {
+        Some(byte) => u64::from(*byte) << 56,
+        None => 0,
+    }
+}
+
+/// The number of two or three bytes and of zeros up to four.
+#[inline(always)]
+fn front_of_twos(bytes: &[u8]) -> u64
+    requires least { 2 ≤ length bytes.now }
+    requires most { length bytes.now < 4 }
+    ensures { result ≡ big_number 4 bytes.now }
+{
+    let (_, last) = bytes.split_at(bytes.len() - 2);
+    let first = u64::from(BigEndian::read_u16(bytes));
+    let last = u64::from(BigEndian::read_u16(last));
+    let rest = (last << (32 - 8 * bytes.len())) & 0xffff;
+    (first << 16) + rest
 }

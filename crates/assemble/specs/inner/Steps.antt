@@ -1,5 +1,5 @@
 -- One entry off a column.
-use Rattle.std.specs.Prelude.{◌≡◌, ℕ, zero, suc, ◌+◌, ◌<◌, ◌≤◌, ◌⊎◌, Bool, true, false, List, [], ◌∷◌, length, Option, Some, None}
+use Rattle.std.specs.Prelude.{◌≡◌, ℕ, zero, suc, ◌+◌, ◌<◌, ◌≤◌, ◌⊎◌, Bool, true, false, List, [], ◌∷◌, length, Option, Some, None, MatchOption}
 use Rattle.std.specs.List.{AllByRecursion}
 use Rattle.bits.specs.declared.refusal.Refusal.{Refusal}
 use Rattle.schema.specs.Annotations.{LeafType}
@@ -97,3 +97,8 @@ abbrev pub Filled : Columns → Type 0
 Filled [] = ⊥
 Filled ([] ∷ cs) = Filled cs
 Filled ((e ∷ c) ∷ cs) = Unit {0}
+
+-- the first entry has both levels 0, and a value
+abbrev pub BeginsWithValue : List Entry → Type 0
+BeginsWithValue [] = ⊥
+BeginsWithValue (e ∷ es) = (e.repetition ≡ 0) × ((e.definition ≡ 0) × MatchOption e.value ⊥ (λ _. Unit {0}))

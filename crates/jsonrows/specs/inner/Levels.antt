@@ -12,7 +12,7 @@ use Rattle.jsonrows.specs.declared.scalars.Numbers.{Numbers}
 use Rattle.jsonrows.specs.declared.row_plan.Slot.{Slot as CodeSlot}
 use Rattle.jsonrows.specs.declared.row_plan.RowPlan.{RowPlan}
 use Rattle.jsonrows.specs.declared.row_text.Level.{Level as CodeLevel}
-use Rattle.jsonrows.specs.declared.row_text.Level.TheVariants.{Object, List as ListOf}
+use Rattle.jsonrows.specs.declared.row_text.Level.TheVariants.{Row, Object, List as ListOf}
 use Rattle.jsonrows.specs.declared.row_text.Outer.{Outer as CodeOuter}
 use Rattle.jsonrows.specs.declared.row_text.RowText.{RowText}
 use Rattle.jsonrows.specs.inner.Scalars.{number_shown}
@@ -173,17 +173,18 @@ root lines fs = held lines [] (object (slots_made fs) (order_of fs) (length line
 abbrev pub seen : Bor CodeSlot → Slot
 seen s = slot_view s.now
 
--- a level of which so many values were shown
-abbrev pub level_at : CodeLevel → ℕ → Level
-level_at (Object ss o f n) shown = object (slots_view (drop shown ss.now)) (order_view o) f n
-level_at (ListOf s) shown = items (option_map seen s) (nat_lt 0 shown)
+-- a level of which so many values were shown; a row's fields are those of the plan, and stand in the order of their names
+abbrev pub level_at : RowPlan → CodeLevel → ℕ → Level
+level_at p (Row f) shown = object (slots_view (drop shown p.slots.items)) None f 0
+level_at p (Object ss o f n) shown = object (slots_view (drop shown ss.now)) (order_view o) f n
+level_at p (ListOf s) shown = items (option_map seen s) (nat_lt 0 shown)
 
-abbrev pub outer_view : CodeOuter → Level
-outer_view o = level_at o.level o.shown
+abbrev pub outer_view : RowPlan → CodeOuter → Level
+outer_view p o = level_at p o.level o.shown
 
 -- the level of a row, whose text begins here
 abbrev pub top_of : RowPlan → ℕ → Level
 top_of p from = object (slots_view p.slots.items) (option_map vec_items p.order) from 0
 
 abbrev pub state_of : RowText → State
-state_of r = held r.text.items r.starts.items (level_at r.here r.shown) (reverse (map outer_view r.outer.items))
+state_of r = held r.text.items r.starts.items (level_at r.plan.now r.here r.shown) (reverse (map (outer_view r.plan.now) r.outer.items))

@@ -35,8 +35,8 @@ order_view o = option_map (λ (x : Bor (List ℕ)). x.now) o
 
 -- one level, with each slot inside already seen
 abbrev pub slot_step : Slot-F Slot → Slot
-slot_step (Slot-F.Leaf k n t) = leaf_slot k.items n t
-slot_step (Slot-F.Group k ss o) = group_slot k.items (slots_from ss.items) (option_map vec_items o)
+slot_step (Slot-F.Leaf k n t) = leaf_slot k n t
+slot_step (Slot-F.Group k ss o) = group_slot k (slots_from ss.items) (option_map vec_items o)
 
 abbrev pub slot_view : CodeSlot → Slot
 slot_view = fold-Slot Slot slot_step

@@ -1,6 +1,8 @@
 -- Lines that are gathered before they are written.
-use Rattle.std.specs.Prelude.{◌≡◌, ℕ, Bool, true, false, List, [], ◌∷◌, ◌++◌, Option, Result, Ok, Err}
+use Rattle.std.specs.Prelude.{◌≡◌, ℕ, zero, suc, Bool, true, false, List, [], ◌∷◌, ◌++◌, Option, Result, Ok, Err}
 use Rattle.std.specs.Io.KnownBytes.{Appends}
+use Rattle.bits.specs.Faults.{refusal_of}
+use Rattle.bits.specs.declared.fault.Fault.{Fault}
 use Rattle.bits.specs.declared.refusal.Refusal.{Refusal}
 use Rattle.bits.specs.declared.refusal.Refusal.TheVariants.{Memory}
 use Rattle.schema.specs.Values.{ValueTrees}
@@ -24,8 +26,25 @@ pub record GathersFirst (fs : Fields) (T : List ValueTrees → Type 0) (Gathers 
 -- the line of the first of the rows that stood, or none; out of memory aside, nothing is refused where rows stood
 abbrev pub GathersLine : Fields → (List ValueTrees → Type 0) → (List ValueTrees → Type 0) → (List ℕ → Type 0) → List ℕ → Result Bool Refusal → Type 0
 GathersLine fs S T Gathers lines (Ok true) = (rows : List ValueTrees) → S rows → RowsFit fs rows → GathersFirst fs T Gathers lines rows
-GathersLine fs S T Gathers lines (Ok false) = (rows : List ValueTrees) → S rows → (rows ≡ []) × Gathers lines
+GathersLine fs S T Gathers lines (Ok false) = (rows : List ValueTrees) → S rows → (rows ≡ []) × (T [] × Gathers lines)
 GathersLine fs S T Gathers lines (Err e) = (rows : List ValueTrees) → S rows → e ≡ Memory
+
+-- what was written, what is gathered, and the lines of the rows that are left are the lines of all rows
+pub record AreGathered (fs : Fields) (S : List ValueTrees → Type 0) (Gathers : List ℕ → Type 0) (all : List ValueTrees) (old new : Option (List ℕ)) : Type 0 where
+  pub left : List ValueTrees
+  pub stands : S left
+  pub fit : RowsFit fs left
+  pub gathered : List ℕ
+  pub gathers : Gathers gathered
+  pub printed : List ℕ
+  pub written : Appends old new printed
+  pub joined : lines_of fs all ≡ printed ++ (gathered ++ lines_of fs left)
+
+-- more rows are gathered, and some, unless none is left; it fails only when out of memory
+abbrev pub GathersLines : Fields → (List ValueTrees → Type 0) → (List ℕ → Type 0) → List ValueTrees → Option (List ℕ) → Option (List ℕ) → Result ℕ Fault → Type 0
+GathersLines fs S Gathers all old new (Ok zero) = (p : AreGathered fs S Gathers all old new) × (p.left ≡ [])
+GathersLines fs S Gathers all old new (Ok (suc count)) = AreGathered fs S Gathers all old new
+GathersLines fs S Gathers all old new (Err fault) = refusal_of fault ≡ Memory
 
 -- a prefix of these lines is written, and the rest is still gathered
 pub record WritesPart (old new : Option (List ℕ)) (Gathers : List ℕ → Type 0) (lines : List ℕ) : Type 0 where

@@ -1,6 +1,9 @@
-use Rattle.std.proofs.Common.{◌≡◌, ◌++◌, drop}
+use Rattle.std.proofs.Common.{◌≡◌, ◌++◌, length}
 use Rattle.json.specs.Print.{escape}
 use Rattle.jsonrows.proofs.strings.put_escaped.Given as goal
 
-abbrev pub invariant-loop-byte : goal.invariant-loop-byte
-invariant-loop-byte l = l.out.items ++ escape (drop l.byte-index l.bytes) ≡ l.fn.out.items ++ escape l.bytes
+abbrev pub invariant-rest : goal.invariant-rest
+invariant-rest l = l.out.items ++ escape l.rest ≡ l.fn.out.items ++ escape l.bytes
+
+abbrev pub decreases-rest : goal.decreases-rest
+decreases-rest l = length l.rest

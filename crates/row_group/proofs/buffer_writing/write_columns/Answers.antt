@@ -34,7 +34,7 @@ returns-in_err-chunk-clause-limit c = λ limit all held.
     let here = place_here c.entries_are_of_leaves.ensures fs all ls i c.index-leaves-i.result held.fit leaves (omega arith) c.index-leaves-i.is in
     too_much c.args.options (leaves_of fs) (columns fs all) i (get_or (columns fs all) i []) c.args.out.now.items c.loop-i.out.items (map chunk_meta_view c.loop-i.chunks.items)
     here.of_columns here.column_is (c.loop-i.invariant.stands all held)
-    (c.in_err-chunk.ensures.limit (passed c.from_residual-in_err-chunk.result c.in_err-chunk.field-0.0 _ c.from_residual-in_err-chunk.ensures.1 limit) all held)
+    (c.in_err-chunk.ensures.limit (passed c.from_residual-in_err-chunk.result c.in_err-chunk.field-0.0 _ c.from_residual-in_err-chunk.ensures.1 limit) all held here.entries)
 
 pub loop-i-preserved : goal.loop-i-preserved
 loop-i-preserved c =
@@ -53,7 +53,7 @@ loop-i-preserved c =
     record {
       stands = λ all held.
           let here = place_here c.entries_are_of_leaves.ensures fs all ls i c.index-leaves-i.result held.fit leaves (omega arith) c.index-leaves-i.is in
-          let p = c.in_ok-chunk.ensures.stands all held in
+          let p = c.in_ok-chunk.ensures.stands all held here.entries in
           subst (AppendsChunks c.args.options (take (i + 1) (leaves_of fs)) (take (i + 1) (columns fs all)) old new) (sym pushed)
           (chunk_more c.args.options (leaves_of fs) (columns fs all) i leaf (get_or (columns fs all) i []) old mid new before chunk
           here.of_leaves here.of_columns here.leaf_is here.column_is p.own p.values_short p.few p.chunk (c.loop-i.invariant.stands all held));

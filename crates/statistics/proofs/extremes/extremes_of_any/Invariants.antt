@@ -1,4 +1,4 @@
-use Rattle.std.proofs.Common.{◌≡◌, ◌≤◌, ◌+◌, ◌&&◌, drop, map, None}
+use Rattle.std.proofs.Common.{◌≡◌, ◌≤◌, ◌<◌, ◌+◌, ◌^◌, ◌&&◌, length, None}
 use Rattle.std.specs.Prelude.{option_map}
 use Rattle.std.specs.List.{list_all}
 use Rattle.schema.specs.Orders.{is_compared}
@@ -8,11 +8,17 @@ use Rattle.statistics.specs.inner.Extremes.{lesser, greater, pick_from}
 use Rattle.statistics.proofs.extremes.extremes_of_any.Given as goal
 
 -- what is found so far, taken on over the entries that remain, is what all entries give
-abbrev pub invariant-loop-entry : goal.invariant-loop-entry
-invariant-loop-entry g l = record {
-  least : pick_from (lesser l.order) (option_map value_ref_view l.least) (values (map g.E.HasValue.shown (drop l.entry-index l.entries))) ≡ pick_from (lesser l.order) None (values (map g.E.HasValue.shown l.entries));
-  greatest : pick_from (greater l.order) (option_map value_ref_view l.greatest) (values (map g.E.HasValue.shown (drop l.entry-index l.entries))) ≡ pick_from (greater l.order) None (values (map g.E.HasValue.shown l.entries));
-  all_compared : (l.all_compared && list_all (is_compared l.order) (values (map g.E.HasValue.shown (drop l.entry-index l.entries)))) ≡ list_all (is_compared l.order) (values (map g.E.HasValue.shown l.entries));
-  nulls : l.nulls + null_count (map g.E.HasValue.shown (drop l.entry-index l.entries)) ≡ null_count (map g.E.HasValue.shown l.entries);
-  few : l.nulls ≤ l.entry-index;
-}
+abbrev pub invariant-entries : goal.invariant-entries
+invariant-entries g l =
+    let left = g.C.EntryCursor.left in
+    record {
+      least : pick_from (lesser l.order) (option_map value_ref_view l.least) (values (left l.cursor)) ≡ pick_from (lesser l.order) None (values (left l.fn.cursor));
+      greatest : pick_from (greater l.order) (option_map value_ref_view l.greatest) (values (left l.cursor)) ≡ pick_from (greater l.order) None (values (left l.fn.cursor));
+      all_compared : (l.all_compared && list_all (is_compared l.order) (values (left l.cursor))) ≡ list_all (is_compared l.order) (values (left l.fn.cursor));
+      nulls : l.nulls + null_count (left l.cursor) ≡ null_count (left l.fn.cursor);
+      few : l.nulls + length (left l.cursor) ≤ length (left l.fn.cursor);
+      all_few : length (left l.fn.cursor) < 2 ^ 64;
+    }
+
+abbrev pub decreases-entries : goal.decreases-entries
+decreases-entries g l = length (g.C.EntryCursor.left l.cursor)

@@ -1,23 +1,5 @@
-use Rattle.std.proofs.Common.{List}
-use Rattle.std.specs.Prelude.{false, Ok}
-use Rattle.bits.specs.Faults.{refusal_of}
-use Rattle.schema.specs.Values.{ValueTrees}
-use Rattle.footer.specs.Left.{rows_stand, others_hold, BeginsGroup}
-use Rattle.footer.proofs.Taken.{passes_shown}
+use Rattle.std.proofs.Common.{◌∙◌}
 use Rattle.footer.proofs.rows.Rows.next_to.Goals as goal
 
-pub returns-in_err-begin_group-clause-takes : goal.returns-in_err-begin_group-clause-takes
-returns-in_err-begin_group-clause-takes g c =
-    passes_shown (rows_stand c.args.self.now) (rows_stand c.begin_group.new.self) (g.K.RowSink.shows c.args.sink.now) (g.K.RowSink.shows c.loop-self.sink) c.from_residual-in_err-begin_group.result c.in_err-begin_group.field-0.0
-    c.from_residual-in_err-begin_group.ensures.1 (λ rows s. c.in_err-begin_group.ensures.begins rows (c.loop-self.invariant.held rows s))
-
-pub returns-in_err-next_of_group-2-clause-takes : goal.returns-in_err-next_of_group-2-clause-takes
-returns-in_err-next_of_group-2-clause-takes g c =
-    let begins : (rows : List ValueTrees) → others_hold c.loop-self.self rows → rows_stand c.begin_group.new.self rows = rw c.if-branch-2.true at c.in_ok-begin_group.ensures.begins in
-    passes_shown (rows_stand c.args.self.now) (rows_stand c.next_of_group-in-loop-self.new.self) (g.K.RowSink.shows c.args.sink.now) (g.K.RowSink.shows c.next_of_group-in-loop-self.new.sink) c.from_residual-in_err-next_of_group-2.result (refusal_of c.in_err-next_of_group-2.field-0.0)
-    c.from_residual-in_err-next_of_group-2.ensures.1 (λ rows s. c.in_err-next_of_group-2.ensures.takes rows (begins rows (c.loop-self.invariant.held rows s)))
-
-pub returns-clause-takes : goal.returns-clause-takes
-returns-clause-takes g c =
-    let begins : BeginsGroup c.loop-self.self c.begin_group.new.self (Ok false) = rw c.if-branch-2.false at c.in_ok-begin_group.ensures.begins in
-    λ rows s. begins rows (c.loop-self.invariant.held rows s)
+pub returns-in-Err-clause-takes : goal.returns-in-Err-clause-takes
+returns-in-Err-clause-takes g c = λ rows s. c.from.ensures ∙ c.in-Err.ensures.takes rows s

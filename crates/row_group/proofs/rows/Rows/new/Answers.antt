@@ -45,4 +45,4 @@ returns-clause-stands c = λ rows r.
     let number : g.num_rows ≡ pos n = omega (arith, ints) in
     let h = has_rows front fs g n rows number r in
     let k = rows_of_group front fs g n number rows r.means in
-    record { whole = refl; schema = c.in_ok-readers.ensures.valid; count = k.count; columns = stand_for front fs g n c.in_ok-readers.readers.items c.in_ok-readers.ensures.stands h rows k }
+    record { whole = refl; schema = c.in_ok-readers.ensures.valid; flat = c.is_flat.ensures; count = k.count; columns = stand_for front fs g n c.in_ok-readers.readers.items c.in_ok-readers.ensures.stands h rows k }

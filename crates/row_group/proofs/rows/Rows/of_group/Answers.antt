@@ -49,7 +49,7 @@ returns-clause-stands c =
     let h = c.in_ok-check_rows.ensures.stands in
     let m = means front fs g n number h in
     let k = rows_of_group front fs g n number h.rows m in
-    (h.rows, m, record { whole = refl; schema = c.in_ok-readers.ensures.valid; count = h.count; columns = stand_for front fs g n c.in_ok-readers.readers.items c.in_ok-readers.ensures.stands h h.rows k })
+    (h.rows, m, record { whole = refl; schema = c.in_ok-readers.ensures.valid; flat = c.is_flat.ensures; count = h.count; columns = stand_for front fs g n c.in_ok-readers.readers.items c.in_ok-readers.ensures.stands h h.rows k })
 
 pub returns-clause-alone : goal.returns-clause-alone
 returns-clause-alone c = λ rows m.
@@ -61,7 +61,7 @@ returns-clause-alone c = λ rows m.
     let number : g.num_rows ≡ pos n = omega (arith, ints) in
     let h = c.in_ok-check_rows.ensures.stands in
     let k = rows_of_group front fs g n number rows m in
-    record { whole = refl; schema = c.in_ok-readers.ensures.valid; count = k.count; columns = stand_for front fs g n c.in_ok-readers.readers.items c.in_ok-readers.ensures.stands h rows k }
+    record { whole = refl; schema = c.in_ok-readers.ensures.valid; flat = c.is_flat.ensures; count = k.count; columns = stand_for front fs g n c.in_ok-readers.readers.items c.in_ok-readers.ensures.stands h rows k }
 
 pub returns-clause-one_list : goal.returns-clause-one_list
 returns-clause-one_list c = λ rows others p q.

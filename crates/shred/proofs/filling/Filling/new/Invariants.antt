@@ -3,5 +3,5 @@ use Rattle.shred.specs.Kept.{kept_view}
 use Rattle.shred.specs.inner.Growing.{nils}
 use Rattle.shred.proofs.filling.Filling.new.Given as goal
 
-abbrev pub invariant-loop : goal.invariant-loop
-invariant-loop l = map kept_view l.columns.items ≡ nils l.counter
+abbrev pub invariant-loop-leaf : goal.invariant-loop-leaf
+invariant-loop-leaf l = map kept_view l.columns.items ≡ nils l.leaf-index
