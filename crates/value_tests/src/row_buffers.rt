@@ -217,3 +217,49 @@ fn rows_that_are_shown_have_their_entries(rt: HostRuntime) -> Result<(), Fail> {
     assert!(rt; is_item(&items, 0, (0, 0), None) && is_item(&items, 6, (1, 1), Some(3)));
     Ok(())
 }
+
+#[test]
+fn values_of_a_leaf_without_levels_wait_in_plain(rt: HostRuntime) -> Result<(), Fail> {
+    let alloc = rt.alloc();
+    let schema = of_all_kinds(alloc)?;
+    let mut buffer = RowBuffer::new(alloc, &schema)?;
+    fill(alloc, &mut buffer, 4)?;
+    for leaf in [0, 1, 3, 4] {
+        assert!(rt; buffer.plain_values(leaf).is_none());
+    }
+    let first = [0, 0, 0, 0, 1, 0, 0, 0, 1, 2, 0, 0, 0, 2, 2];
+    match buffer.plain_values(2) {
+        None => assert!(rt; false),
+        Some(mut values) => {
+            assert_eq!(rt; values.len(), 4);
+            assert!(rt; values.take_bytes(3)? == first.as_slice());
+            assert!(rt; values.take_bytes(3)? == [3, 0, 0, 0, 3, 3, 3].as_slice());
+            assert!(rt; values.take_bytes(3)?.is_empty());
+            assert!(rt; values.next().is_none());
+        }
+    }
+    buffer.clear();
+    assert!(rt; matches!(buffer.plain_values(2), Some(values) if values.len() == 0));
+    Ok(())
+}
+
+#[test]
+fn a_value_of_another_type_waits_as_it_is(rt: HostRuntime) -> Result<(), Fail> {
+    let alloc = rt.alloc();
+    let schema = of_all_kinds(alloc)?;
+    let mut buffer = RowBuffer::new(alloc, &schema)?;
+    fill(alloc, &mut buffer, 2)?;
+    let mut odd = row(alloc, 2)?;
+    assert!(rt; odd.values.len() > 2);
+    odd.values[2] = Value::Int(7);
+    show_row(&odd, &mut buffer)?;
+    buffer.end_row()?;
+    assert!(rt; buffer.plain_values(2).is_none());
+    show_row(&row(alloc, 3)?, &mut buffer)?;
+    buffer.end_row()?;
+    let entries = entries_of(alloc, &buffer, 2)?;
+    assert_eq!(rt; entries.len(), 4);
+    assert!(rt; is_bytes(&entries[0], 0) && is_bytes(&entries[1], 1) && is_bytes(&entries[3], 3));
+    assert!(rt; is_item(&entries, 2, (0, 0), Some(7)));
+    Ok(())
+}

@@ -1,6 +1,7 @@
 use bits::{R, Refusal};
-use schema::{Column, Element, Entry, EntryRef, Kind, Schema, Value, ValueRef};
-use statistics::{Stats, bounds, bounds_of};
+use plain::{Values, encode};
+use schema::{Column, Element, Entry, EntryRef, Kind, Leaf, Schema, Value, ValueRef};
+use statistics::{Stats, bounds, bounds_of, bounds_of_values};
 use std::alloc::Global;
 use std::test::*;
 
@@ -10,6 +11,31 @@ const UINT_32: i32 = 13;
 const UTF8: i32 = 0;
 
 const INTERVAL: i32 = 21;
+
+/// Texts of 0 to 9 bytes: each comes before the next, byte by byte.
+const RISING: [&str; 21] = [
+    "",
+    "\0",
+    "\0\0",
+    "a",
+    "a\0",
+    "ab",
+    "abc",
+    "abc\0",
+    "abcd",
+    "abcde",
+    "abcdef",
+    "abcdefg",
+    "abcdefg\0",
+    "abcdefgh",
+    "abcdefgh\0",
+    "abcdefghi",
+    "abcdefi",
+    "abcdeg",
+    "abd",
+    "b",
+    "é",
+];
 
 /// A schema with one REQUIRED leaf.
 fn schema_of(alloc: Global, kind: i32, length: Option<i32>, converted: Option<i32>) -> R<Schema> {
@@ -177,5 +203,41 @@ fn entries_may_borrow_their_values(rt: HostRuntime) -> Result<(), Fail> {
     let bytes = found.to_bytes(alloc, Kind::ByteArray)?;
     assert!(rt; has_bytes(&bytes.min, b"apple".as_slice()));
     assert!(rt; has_bytes(&bytes.max, b"plum".as_slice()));
+    Ok(())
+}
+
+/// Whether the bounds of a page of the first text and the second are the least and the greatest.
+fn bounds_are(
+    alloc: Global,
+    leaf: &Leaf,
+    first: &str,
+    second: &str,
+    least: &str,
+    greatest: &str,
+) -> R<bool> {
+    let values = [
+        ValueRef::Bytes(first.as_bytes()),
+        ValueRef::Bytes(second.as_bytes()),
+    ];
+    let mut page = Vec::new(alloc);
+    encode(Kind::ByteArray, &values, &mut page)?;
+    let (cursor, _) = Values::new(Kind::ByteArray, page.as_slice(), 2)?;
+    let found = bounds_of_values(alloc, leaf, cursor)?;
+    let bytes = found.to_bytes(alloc, Kind::ByteArray)?;
+    Ok(has_bytes(&bytes.min, least.as_bytes()) && has_bytes(&bytes.max, greatest.as_bytes()))
+}
+
+#[test]
+fn short_texts_are_bounded_byte_by_byte(rt: HostRuntime) -> Result<(), Fail> {
+    let alloc = rt.alloc();
+    let schema = schema_of(alloc, 6, None, Some(UTF8))?;
+    let leaves = schema.leaves();
+    assert_eq!(rt; leaves.len(), 1);
+    for (i, greatest) in RISING.iter().enumerate() {
+        for least in RISING.iter().take(i + 1) {
+            assert!(rt; bounds_are(alloc, &leaves[0], greatest, least, least, greatest)?);
+            assert!(rt; bounds_are(alloc, &leaves[0], least, greatest, least, greatest)?);
+        }
+    }
     Ok(())
 }
