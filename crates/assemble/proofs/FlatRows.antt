@@ -18,7 +18,7 @@ use Rattle.assemble.specs.Flat.{is_flat, HaveEntries, FlatColumnsHaveRows}
 abbrev an_entry : ℕ → ℕ → Option ValueTree → Entry
 an_entry r d o = record { repetition = r; definition = d; value = o }
 
-abbrev of_value : ValueTree → Entry
+abbrev pub of_value : ValueTree → Entry
 of_value v = an_entry 0 0 (Some v)
 
 value_of : (t : LeafType) (e : Entry) → IsEntry 0 0 t e → (v : ValueTree) × ((e ≡ of_value v) × (fits_leaf t v ≡ true))
@@ -71,7 +71,7 @@ beside_fit n t fs [] rows p q = tt
 beside_fit n t fs (v ∷ vs) [] p q = tt
 beside_fit n t fs (v ∷ vs) (row ∷ rows) p q = (both n t fs v row p.0 q.0, beside_fit n t fs vs rows p.1 q.1)
 
-abbrev at : ℕ → List Step
+abbrev pub at : ℕ → List Step
 at i = record { place = i; repetition = Required } ∷ []
 
 first_column : (vs : List ValueTree) (rows : List ValueTrees) → length vs ≡ length rows → column (beside vs rows) (at 0) ≡ map of_value vs
@@ -86,7 +86,7 @@ later_column i (v ∷ vs) [] e = absurd (omega (arith, e))
 later_column i (v ∷ vs) (row ∷ rows) e = ap (λ (es : List Entry). column (row ∷ []) (at i) ++ es) (later_column i vs rows (omega (arith, e)))
 
 -- the columns of some fields, the first of which has this place
-abbrev columns_from : ℕ → Fields → List ValueTrees → Columns
+abbrev pub columns_from : ℕ → Fields → List ValueTrees → Columns
 columns_from i fs rows = map (λ (l : Leaf). column rows l.steps) (leaves_from i fs)
 
 later_columns : (i : ℕ) (fs : Fields) (vs : List ValueTree) (rows : List ValueTrees) → is_flat fs ≡ true → length vs ≡ length rows → columns_from (suc i) fs (beside vs rows) ≡ columns_from i fs rows

@@ -16,7 +16,7 @@ use Rattle.schema.specs.Borrowed.{value_ref_view, entry_ref_view}
 use Rattle.schema.specs.Values.{ValueTree, null, boolean, integer, bytes, group, list, ValueTrees, no_values, value as item, member_at}
 use Rattle.schema.specs.Shape.{leaf, fields, Fields, no_fields, field}
 use Rattle.schema.specs.Fits.{fits_kind, fits_leaf, fits_each}
-use Rattle.schema.specs.Stripe.{Leaf, Step, Entry, entry, leaves_from, leaves_of, column, columns}
+use Rattle.schema.specs.Stripe.{Leaf, Entry, leaves_from, leaves_of, column, columns}
 use Rattle.assemble.specs.Sources.{Stands, Precede}
 use Rattle.assemble.specs.Sinks.{Token, single, Adds, Visits, tokens, tokens_each}
 use Rattle.assemble.specs.Columns.{Columns, Fronts}
@@ -26,12 +26,13 @@ use Rattle.assemble.specs.Flat.{is_flat, ShowsFirst}
 use Rattle.assemble.specs.inner.Steps.{BeginsWithValue}
 use Rattle.assemble.proofs.Standing.{At, set_on, stand_get, stand_length}
 use Rattle.assemble.proofs.Showing.{adds_then, adds_none}
+use Rattle.assemble.proofs.FlatRows.{of_value, at, columns_from}
 
 -- ---- a value off each of the first columns
 
 -- what a value gives to its column
 abbrev pub front_of : ValueTree → List Entry
-front_of v = entry 0 0 (Some v)
+front_of v = of_value v ∷ []
 
 abbrev entry_of : ℕ → ℕ → Option ValueRef → Entry
 entry_of r d o = record { repetition = r; definition = d; value = option_map value_ref_view o }
@@ -65,13 +66,6 @@ singles_more [] v = refl
 singles_more (u ∷ vs) v = ap (λ (ts : List Token). single u ∷ ts) (singles_more vs v)
 
 -- ---- rows of a flat schema
-
-abbrev at : ℕ → List Step
-at i = record { place = i; repetition = Required } ∷ []
-
--- the columns of some fields, the first of which has this place
-abbrev columns_from : ℕ → Fields → List ValueTrees → Columns
-columns_from i fs rows = map (λ (l : Leaf). column rows l.steps) (leaves_from i fs)
 
 begins_each : (k : ℕ) (fs : Fields) (row : ValueTrees) (rows : List ValueTrees) (i : ℕ) → is_flat fs ≡ true → i < length (columns_from k fs (row ∷ rows)) → BeginsWithValue (get_or (columns_from k fs (row ∷ rows)) i [])
 begins_each k no_fields row rows i flat lt = absurd (omega (arith, lt))
@@ -108,13 +102,10 @@ one_token t (bytes s) h = refl
 one_token t (group vs) h = absurd (no_group t.kind vs (both_true _ _ h).0)
 one_token t (list vs) h = absurd (no_list t.kind vs (both_true _ _ h).0)
 
-abbrev entry_with : ValueTree → Entry
-entry_with v = record { repetition = 0; definition = 0; value = Some v }
-
 -- a column that begins with a value, by two accounts
 same_value : (u v : ValueTree) (c d : List Entry) → front_of v ++ c ≡ front_of u ++ d → (u ≡ v) × (d ≡ c)
 same_value u v c d h =
-    let first : entry_with v ≡ entry_with u = cc in
+    let first : of_value v ≡ of_value u = cc in
     let values : Some v ≡ Some u = ap (λ (e : Entry). e.value) first in
     let value : v ≡ u = cc in
     let later : c ≡ d = cc in
@@ -169,13 +160,13 @@ module _ {A : Type 0} (S : A → List Entry → Type 0) where
       (vs ++ v ∷ [], (length-append vs (v ∷ []) ∙ ap (λ (n : ℕ). n + 1) size, (next, added)))
 
   -- once each did
-  pub shows_row : (old new : List A) (from to : List Token → Type 0) (n : ℕ) → n ≡ length old → Shown n old new from to → (fs : Fields) (rows : List ValueTrees) → is_flat fs ≡ true → StandForRows S old fs rows → 0 < length rows → ShowsFirst S new from to fs rows
+  pub shows_row : (old new : List A) (from to : List Token → Type 0) (n : ℕ) → n ≡ length old → Shown n old new from to → (fs : Fields) (rows : List ValueTrees) → is_flat fs ≡ true → StandForRows S old fs rows → 0 < length rows → ShowsFirst (StandForRows S new fs) from to rows
   shows_row old new from to n all h fs [] flat s more = absurd (omega (arith, more))
   shows_row old new from to n all h fs (row ∷ rest) flat s more =
       let w = h.1.1.0 (columns fs (row ∷ rest)) s.stand in
       let size : length h.0 ≡ length (leaves_of fs) = h.1.0 ∙ all ∙ stand_length S old (columns fs (row ∷ rest)) s.stand ∙ length-map (leaves_of fs) (λ (l : Leaf). column (row ∷ rest) l.steps) in
       let r = row_from 0 fs row row rest h.0 w.0 flat (no_index row) s.fit.0 size w.1.1 in
-      record { first = row; rest = rest; split = refl; stand = record { fit = s.fit.1; stand = subst (AllStand S new) r.0 w.1.0 }; shown = subst (Adds from to) r.1 h.1.1.1 }
+      record { first = row; rest = rest; split = refl; stands = record { fit = s.fit.1; stand = subst (AllStand S new) r.0 w.1.0 }; shown = subst (Adds from to) r.1 h.1.1.1 }
 
   -- the next source is to give a value
   pub only_memory : (i : ℕ) (old xs : List A) (x : A) (from mid : List Token → Type 0) (f : Fault) → i < length old → length xs ≡ length old → Shown i old xs from mid → ((es : List Entry) → S (get_or xs i x) es → BeginsWithValue es → f ≡ fault.Memory)

@@ -34,10 +34,10 @@ FlatColumnsHaveRows = (fs : Fields) (n : ℕ) (cs : Columns) → is_flat fs ≡ 
 abbrev pub OfFlatRows : {A : Type 0} → (A → List Entry → Type 0) → List A → (Fields → List ValueTrees → Type 0) → Type 0
 OfFlatRows S xs P = (fs : Fields) (rows : List ValueTrees) → is_flat fs ≡ true → StandForRows S xs fs rows → 0 < length rows → P fs rows
 
--- the first of these rows was shown, and the sources stand for the others
-pub record ShowsFirst {A : Type 0} (S : A → List Entry → Type 0) (new : List A) (from to : List Token → Type 0) (fs : Fields) (rows : List ValueTrees) : Type 0 where
+-- the first of these rows was shown, and T holds of the others
+pub record ShowsFirst (T : List ValueTrees → Type 0) (from to : List Token → Type 0) (rows : List ValueTrees) : Type 0 where
   pub first : ValueTrees
   pub rest : List ValueTrees
   pub split : rows ≡ first ∷ rest
-  pub stand : StandForRows S new fs rest
+  pub stands : T rest
   pub shown : Adds from to (tokens_each first)

@@ -6,6 +6,7 @@ ghost use Rattle.schema.specs.Stripe.{Entry, entry};
 ghost use Rattle.schema.specs.Views.{field_view};
 ghost use Rattle.assemble.specs.Sources.{Precede};
 ghost use Rattle.assemble.specs.Sinks.{Visits, single};
+ghost use Rattle.assemble.specs.RowsOf.{StandForRows};
 ghost use Rattle.assemble.specs.Flat.{is_required_leaf, is_flat, FlatColumnsHaveRows, OfFlatRows, ShowsFirst};
 ghost use Rattle.assemble.specs.inner.Steps.{BeginsWithValue};
 
@@ -59,7 +60,7 @@ pub fn next_flat_row_to<S: EntrySource, K: RowSink>(
     sources: &mut [S],
     sink: &mut K,
 ) -> Result<(), Fault>
-    ensures row { OnOk result (OfFlatRows S.stands sources.old (ShowsFirst S.stands sources.new (K.shows sink.old) (K.shows sink.new))) }
+    ensures row { OnOk result (OfFlatRows S.stands sources.old (λ fs. ShowsFirst (StandForRows S.stands sources.new fs) (K.shows sink.old) (K.shows sink.new))) }
     ensures known { IfErr result (λ f. OfFlatRows S.stands sources.old (λ _ _. f ≡ Fault.Memory)) }
 {
     for i in 0..sources.len() {

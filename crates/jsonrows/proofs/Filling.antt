@@ -19,13 +19,10 @@ use Rattle.schema.specs.Shape.{Field, leaf, fields, Fields, no_fields, field, na
 use Rattle.schema.specs.Views.{field_view, field_views}
 use Rattle.jsonrows.specs.Reading.{value_before, read_as, without, field_read, members_read}
 use Rattle.jsonrows.specs.inner.Fill.{IsCalled, absent_as, absent_each, is_filled_as, are_filled, IsValueOf, AreValuesOf}
+use Rattle.jsonrows.proofs.Both.{and_true}
 use Rattle.jsonrows.proofs.JsonTexts.{IsBefore, AreInOrder}
 use Rattle.jsonrows.proofs.RowJson.{before_further}
 use Rattle.jsonrows.proofs.Joined.{joined, joined-none, joined-push}
-
-and_true : (a b : Bool) → (a && b) ≡ true → (a ≡ true) × (b ≡ true)
-and_true true b h = (refl, h)
-and_true false b h = absurd (true≢false (sym h))
 
 -- ---- members of other names
 

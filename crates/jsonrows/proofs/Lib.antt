@@ -1,3 +1,4 @@
+pub mod Both
 pub mod Forms
 pub mod Joined
 pub mod Taken

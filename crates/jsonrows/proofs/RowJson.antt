@@ -1,5 +1,5 @@
 -- The JSON value of a row can be printed and read again: its numbers are exact, its names rise, and it nests no deeper than the fields.
-use Rattle.std.proofs.Common.{◌≡◌, ℕ, suc, ◌*◌, ◌≤◌, max, ℤ, List, Bool, true, false, ◌&&◌, Option, Some, None, Ordering, Less, Equal, Greater, nat_cmp, refl, ap, ◌∙◌, arith}
+use Rattle.std.proofs.Common.{◌≡◌, ℕ, suc, ◌*◌, ◌≤◌, max, ℤ, List, Bool, true, Option, Some, None, Ordering, Less, Equal, Greater, nat_cmp, refl, ap, ◌∙◌, arith}
 use Rattle.std.specs.Prelude.{IsTrue}
 use Rattle.std.specs.Cmp.Lexicographic.{slice_cmp}
 use Rattle.std.specs.Ordering.{match_ordering, ordering_reverse}
@@ -17,12 +17,9 @@ use Rattle.schema.specs.Shape.{Field, leaf, fields, Fields, no_fields, field, na
 use Rattle.schema.specs.Fits.{fits_kind, fits_leaf, fits_as, is_group, fits, fits_each}
 use Rattle.schema.specs.Reading.{tall, tallest}
 use Rattle.jsonrows.specs.Json.{number_json, leaf_json, items_json, json_as, object_json, field_json, members_json}
+use Rattle.jsonrows.proofs.Both.{and_true}
 use Rattle.jsonrows.proofs.JsonTexts.{IsExact, IsBefore, AreInOrder, IsReadable, AreReadable, HaveReadable}
 use Rattle.jsonrows.proofs.Numbers.{integer_exact, bits_exact}
-
-and_true : (a b : Bool) → (a && b) ≡ true → (a ≡ true) × (b ≡ true)
-and_true true b h = (refl, h)
-and_true false b h = cc
 
 -- ---- names that rise
 

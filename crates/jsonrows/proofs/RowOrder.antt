@@ -1,5 +1,5 @@
 -- The pieces of an object, by where they begin, in the order of the members' names.
-use Rattle.std.proofs.Common.{◌≡◌, ℕ, zero, suc, ◌+◌, ◌-◌, Bool, true, false, true≢false, ◌&&◌, ◌==◌, List, [], ◌∷◌, ◌++◌, length, take, map, flat_map, Some, None, Ordering, Less, Equal, Greater, nat_cmp, refl, ap, ap₂, sym, ◌∙◌, arith, append_assoc, append-nil}
+use Rattle.std.proofs.Common.{◌≡◌, ℕ, zero, suc, ◌+◌, ◌-◌, Bool, true, false, true≢false, ◌==◌, List, [], ◌∷◌, ◌++◌, length, take, map, flat_map, Some, None, Ordering, Less, Equal, Greater, nat_cmp, refl, ap, ap₂, sym, ◌∙◌, arith, append_assoc, append-nil}
 use Rattle.std.specs.Prelude.{if◌then◌else◌}
 use Rattle.std.specs.Cmp.Lexicographic.{slice_cmp}
 use Rattle.std.specs.List.{AllByRecursion}
@@ -19,10 +19,7 @@ use Rattle.jsonrows.specs.Json.{field_json, members_json}
 use Rattle.jsonrows.specs.inner.Slots.{slot_of, key_in, key_of, put_index, ordered, second, indices_of, is_counting, is_in_order, order_of}
 use Rattle.jsonrows.specs.inner.Lines.{keyed, open_text}
 use Rattle.jsonrows.specs.inner.Levels.{between, first_or, piece, sorted, braced, braced_at}
-
-pub and_true : (a b : Bool) → (a && b) ≡ true → (a ≡ true) × (b ≡ true)
-and_true true b h = (refl, h)
-and_true false b h = absurd (true≢false (sym h))
+use Rattle.jsonrows.proofs.Both.{and_true}
 
 -- ---- pieces, by where they begin
 

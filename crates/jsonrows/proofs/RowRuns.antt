@@ -24,7 +24,8 @@ use Rattle.jsonrows.specs.inner.Slots.{Slot, leaf_slot, group_slot, no_slots, sl
 use Rattle.jsonrows.specs.inner.Levels.{State, Level, object, items, held, next_slot, begun, more, entered, left, inside, with_starts, sorted, braced_at, kept_starts, closed, run, root, text_at}
 use Rattle.jsonrows.proofs.SameNumbers.{same_number}
 use Rattle.jsonrows.proofs.RowSteps.{run_append}
-use Rattle.jsonrows.proofs.RowOrder.{and_true, joined, starts_of, pieces, object_text}
+use Rattle.jsonrows.proofs.Both.{and_true}
+use Rattle.jsonrows.proofs.RowOrder.{joined, starts_of, pieces, object_text}
 
 -- values that pass are printed, in a slot, as what is shown of them
 abbrev pub IsPrinted : Slot → (ValueTree → Bool) → (ValueTree → Data) → Type 0

@@ -1,5 +1,5 @@
 -- What is found in the object of a leaf, and of a group, is what it says.
-use Rattle.std.proofs.Common.{◌≡◌, ◌⊎◌, inl, inr, ℕ, ◌^◌, nat_lt, ℤ, pos, Bool, true, false, ◌&&◌, true≢false, codes, List, Option, Some, None, option_and_then, refl, sym, ap, subst, ◌∙◌}
+use Rattle.std.proofs.Common.{◌≡◌, ◌⊎◌, inl, inr, ℕ, ◌^◌, nat_lt, ℤ, pos, true, false, ◌&&◌, codes, List, Option, Some, None, option_and_then, refl, sym, ap, subst, ◌∙◌}
 use Rattle.std.specs.Prelude.{◌↔◌, IsSome}
 use Rattle.std.proofs.lemmas.Bool.Decides.{Decides-ltb}
 use Rattle.serde_json.specs.Data.{array, object, Items, Members}
@@ -15,6 +15,7 @@ use Rattle.schema.specs.Listing.{typed}
 use Rattle.jsonrows.specs.declared.schema_reading.Numbers.{Numbers}
 use Rattle.jsonrows.specs.SchemaJson.{repetitions, types, group_notes, leaf_members, group_members, are_called, is_known, IsText, IsWord, IsInt32, Has, Lacks, MayHave, IsUnnamed, IsNote, IsLeaf, IsGroup}
 use Rattle.jsonrows.specs.inner.SchemaReading.{word_of, int32_of, optional, length_of, numbers_of, kind_of, is_unnamed, Note, note, note_of, Said, said_of_leaf, said_of_group, leaf_said, group_said, HasStruct, IsElementOf}
+use Rattle.jsonrows.proofs.Both.{and_true}
 use Rattle.jsonrows.proofs.Said.{same_value}
 use Rattle.jsonrows.proofs.SchemaMembers.{and_then_gave, if_gave, word_found, word_there, int_found, int_there, has_found, has_there, may_found, may_there, length_found, length_there}
 use Rattle.jsonrows.proofs.SchemaNotes.{none_kept, unnamed_found, unnamed_there, note_found, note_there}
@@ -113,10 +114,6 @@ leaf_there ms e h =
     (s, says, record { same = h.element; kept = t.2; unnamed = unnamed })
 
 -- ---- groups
-
-and_true : (a b : Bool) → (a && b) ≡ true → (a ≡ true) × (b ≡ true)
-and_true true b h = (refl, h)
-and_true false b h = absurd (true≢false (sym h))
 
 pub group_found : (ms : Members) (name : List ℕ) (r : ℤ) (below : Items) (s : Said) (e : Element) → Has IsText (codes "name") ms name → Has (IsWord repetitions) (codes "rep") ms r → get_member (codes "fields") ms ≡ Some (array below)
     → group_said name r (object ms) (items_len below) ≡ Some s → IsElementOf s e → IsGroup e below ms

@@ -18,6 +18,7 @@ use Rattle.schema.specs.Views.{leaf_type_view, field_view, field_views}
 use Rattle.schema.proofs.Seen.{view-Leaf, view-Group}
 use Rattle.jsonrows.specs.SchemaPrinted.{MayBe, with_member, those_there, leaf_json, group_json, Spells, IsOfShort, AreOfShort}
 use Rattle.jsonrows.specs.inner.SchemaPrinting.{AreStructBytes, put_maybe, put_each, HasShortLeaf, HasShortNumbers, HaveShortNumbers, IsPrintedField, ArePrintedFields}
+use Rattle.jsonrows.proofs.Both.{and_true}
 
 -- ---- members that are put from the last one on
 
@@ -34,10 +35,6 @@ stands_before k (m ∷ ms) = is_less (slice_cmp nat_cmp k m.0) && stands_before 
 abbrev are_sorted : List MayBe → Bool
 are_sorted [] = true
 are_sorted (m ∷ ms) = stands_before m.0 ms && are_sorted ms
-
-and_true : (a b : Bool) → (a && b) ≡ true → (a ≡ true) × (b ≡ true)
-and_true true b h = (refl, h)
-and_true false b h = absurd (true≢false (sym h))
 
 put_at : (o : Ordering) (a b c : Members) → is_less o ≡ true → match_ordering o a b c ≡ a
 put_at Less a b c h = refl

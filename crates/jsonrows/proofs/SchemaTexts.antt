@@ -31,6 +31,7 @@ use Rattle.schema.proofs.Again.{a_schema_is_its_elements}
 use Rattle.jsonrows.specs.Reading.{bytes_of_digits}
 use Rattle.jsonrows.specs.SchemaJson.{number_of, repetitions, types, notes, group_notes, leaf_members, group_members, is_one_of, are_called, is_known, IsWord, IsInt32, MayHave, IsUnnamed, IsNote, IsLeaf, IsGroup, SaysField, SaysFields}
 use Rattle.jsonrows.specs.SchemaPrinted.{repetition_word, type_word, note_word, group_note_word, MayBe, with_member, those_there, integer_json, length_json, note_json, converted_json, logical_json, leaf_json, group_json, Spells, PrintsField, PrintsFields, IsShort, IsOfShort, AreOfShort, SchemasReadBack}
+use Rattle.jsonrows.proofs.Both.{and_true}
 use Rattle.jsonrows.proofs.Said.{same_value}
 
 -- ---- members that may be there
@@ -63,10 +64,6 @@ found_there k (m ∷ ms) = found-with k m.0 m.1 (those_there ms) (found_among k 
 abbrev all_called : List (List ℕ) → List MayBe → Bool
 all_called ns [] = true
 all_called ns (m ∷ ms) = is_one_of ns m.0 && all_called ns ms
-
-and_true : (a b : Bool) → (a && b) ≡ true → (a ≡ true) × (b ≡ true)
-and_true true b h = (refl, h)
-and_true false b h = absurd (true≢false (sym h))
 
 called-with : (ns : List (List ℕ)) (k : List ℕ) (o : Option Data) (ms : Members) → is_one_of ns k ≡ true → are_called ns ms ≡ true → are_called ns (with_member k o ms) ≡ true
 called-with ns k None ms p q = q

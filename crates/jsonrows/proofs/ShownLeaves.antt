@@ -13,7 +13,7 @@ use Rattle.schema.specs.Values.{ValueTree, bytes}
 use Rattle.schema.specs.Fits.{fits_kind, is_valid_text, fits_leaf}
 use Rattle.jsonrows.specs.Json.{leaf_json}
 use Rattle.jsonrows.specs.Reading.{bytes_of_digits, bytes_read, leaf_read}
-use Rattle.jsonrows.proofs.RowOrder.{and_true}
+use Rattle.jsonrows.proofs.Both.{and_true}
 
 pub signed_text : (z : ℤ) → signed_decimal z ≡ number_text (of_integer z)
 signed_text (pos n) = refl

@@ -32,7 +32,8 @@ use Rattle.assemble.specs.Sinks.{Token, single, group_begins, group_ends, list_b
 use Rattle.assemble.specs.inner.Building.{snoc}
 use Rattle.assemble.proofs.Each.{join, join_snoc, join_none}
 use Rattle.assemble.proofs.Showing.{tokens_snoc}
-use Rattle.jsonrows.proofs.RowOrder.{and_true, pieces, starts_of, sorted_by, object_braced}
+use Rattle.jsonrows.proofs.Both.{and_true}
+use Rattle.jsonrows.proofs.RowOrder.{pieces, starts_of, sorted_by, object_braced}
 use Rattle.jsonrows.proofs.RowOrder as order
 
 -- ---- slots

@@ -1,6 +1,6 @@
 -- Bytes that are the spellings of values, and bytes that are cut off them.
 use Rattle.std.proofs.Common.{Fits, w8, ◌≡◌, ℕ, zero, suc, ◌+◌, ◌-◌, ◌^◌, ◌<◌, ◌≤◌, List, [], ◌∷◌, ◌++◌, length, get_or, take, drop, refl, sym, ap, subst, ◌∙◌, arith, append_assoc, length-append, take_at, drop_at, inl, inr}
-use Rattle.std.specs.Prelude.{◌⊎◌, Result, Ok, Err, IfOk, IfErr, OnOk, OnErr}
+use Rattle.std.specs.Prelude.{◌⊎◌, min, Result, Ok, Err, IfOk, IfErr, OnOk, OnErr}
 use Rattle.std.specs.List.{Any, flat_map, AllByRecursion}
 use Rattle.std.specs.Int.{w32, w64, byte_at, bytes_low_first, cast_unsigned, cast_signed}
 use Rattle.std.proofs.Math.Facts.{Fits-of_lt}
@@ -177,6 +177,15 @@ plain_in_turn Int64 n body values used not p = p
 plain_in_turn ByteArray n body values used not p = p
 plain_in_turn (FixedLenByteArray k) n body values used not p = p
 
+-- and these are the first of the values
+pub first_values : (kind : Kind) (n m left at : ℕ) (body : List ℕ) → m ≡ min n left → take n (values_from kind left at body) ≡ values_from kind m at body
+first_values kind zero zero left at body is = refl
+first_values kind zero (suc m) left at body is = absurd (omega (arith, is))
+first_values kind (suc n) zero zero at body is = refl
+first_values kind (suc n) (suc m) zero at body is = absurd (omega (arith, is))
+first_values kind (suc n) zero (suc left) at body is = absurd (omega (arith, is))
+first_values kind (suc n) (suc m) (suc left) at body is = ap (λ (vs : List ValueTree). value_at kind at body ∷ vs) (first_values kind n m left (at + size_at kind at body) body (omega (arith, is)))
+
 -- ---- values that are taken
 
 pub first_taken : (kind : Kind) (m left at : ℕ) (body : List ℕ) (values : List ValueTree) (used : ℕ) → (kind ≡ Boolean → ⊥) → ((i : ℕ) → Fits w8 (get_or body i 0)) → m ≤ left
@@ -276,21 +285,26 @@ never_short kind m left at body e not below few there only (inl short) =
 
 -- one of them is too long, where it is refused
 pub refused_long : (kind : Kind) (m left at : ℕ) (body : List ℕ) → (kind ≡ Boolean → ⊥) → ((i : ℕ) → Fits w8 (get_or body i 0)) → m ≤ left → end_from kind left at body ≤ greatest_end kind body
-    → IsReadOver kind (drop at body) m → Any IsTooLong (values_from kind left at body)
+    → IsReadOver kind (drop at body) m → Any IsTooLong (values_from kind m at body)
 refused_long kind m left at body not below few there over =
-    let u = there_in_turn kind left at body not below (omega (arith, there, whole_end kind body not)) in
-    over_is_long kind over.before (values_from kind left at body) (drop at body) over.at u.0 over.stand u.1 (omega (arith, over.few, few, count_from kind left at body)) over.much
+    let u = there_in_turn kind m at body not below (first_within kind m left at body not few there) in
+    over_is_long kind over.before (values_from kind m at body) (drop at body) over.at u.0 over.stand u.1 (omega (arith, over.few, count_from kind m at body)) over.much
 
 -- and none of those that are taken
 pub taken_short : (kind : Kind) (m at used : ℕ) (body : List ℕ) → InTurn (IsSpelled kind) (drop at body) (values_from kind m at body) used → (IsReadOver kind (drop at body) m → ⊥) → Any IsTooLong (values_from kind m at body) → ⊥
 taken_short kind m at used body stand none any =
     none (subst (λ (n : ℕ). IsReadOver kind (drop at body) n) (count_from kind m at body) (long_is_over kind (values_from kind m at body) (drop at body) used any.0 any.1 stand any.2 any.3 any.4))
 
+-- what holds, whatever is returned
+pub when_refused : {A E : Type 0} (P : Type 0) (r : Result A E) → P → OnErr r P
+when_refused P (Ok x) p = tt
+when_refused P (Err e) p = p
+
 -- what measuring the first values says
 pub record Measured (kind : Kind) (m left at : ℕ) (body : List ℕ) (r : Result ℕ Refusal) : Type 0 where
   pub first : IfOk r (λ used. AreFirst kind m left at body used)
   pub short : OnOk r (Any IsTooLong (values_from kind m at body) → ⊥)
-  pub long : OnErr r (Any IsTooLong (values_from kind left at body))
+  pub long : OnErr r (Any IsTooLong (values_from kind m at body))
   pub which : IfErr r (λ e. e ≡ Limit)
 
 pub measured : (kind : Kind) (m left at : ℕ) (body : List ℕ) → (kind ≡ Boolean → ⊥) → ((i : ℕ) → Fits w8 (get_or body i 0)) → m ≤ left → end_from kind left at body ≤ greatest_end kind body

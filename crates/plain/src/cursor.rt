@@ -1,8 +1,8 @@
 //! Values one by one, where they lie.
 
-ghost use Rattle.std.specs.Prelude.{◌≡◌, ◌≢◌, ◌≤◌, ◌<◌, ◌+◌, ◌^◌, ◌⊎◌, ℕ, All, length, IfOk, IfErr, OnOk, OnErr, Err};
+ghost use Rattle.std.specs.Prelude.{◌≡◌, ◌≢◌, ◌≤◌, ◌<◌, ◌+◌, ◌^◌, ◌⊎◌, ℕ, All, length, take, IfOk, IfErr, OnOk, OnErr};
 ghost use Rattle.std.specs.List.{Any};
-ghost use Rattle.bits.specs.Refusals.{OnFault, LimitJustWhere, RefusedOnly};
+ghost use Rattle.bits.specs.Refusals.{OnFault, LimitJustWhere};
 ghost use Rattle.bits.specs.Codec.{NothingStands};
 ghost use Rattle.schema.specs.Borrowed.{value_ref_view};
 ghost use Rattle.plain.specs.Plain.{IsOfKind, IsPlain, IsReadOver, IsTooLong};
@@ -97,13 +97,13 @@ impl<'a> Values<'a> {
     /// Takes the next `n` values, or all where fewer are left, and returns the bytes that they stand in, and no
     /// others. [`value`](Values::value) stays as it is.
     ///
-    /// Refused Limit only where one of the values has more than 16 MiB; then none is taken. Takes one pass over the
-    /// lengths of BYTE_ARRAY values, and constant time for the other types.
+    /// Refused Limit exactly when one of these values has more than 16 MiB; then none is taken. Takes no memory; one
+    /// pass over the lengths of BYTE_ARRAY values, and constant time for the other types.
     pub fn take_bytes(&mut self, n: usize) -> R<&'a [u8]>
         requires whole_bytes { kind_of self.old ≢ Kind.Boolean }
         ensures takes { IfOk result (λ text. TakesBytes n self.old self.new text.now) }
-        ensures limit { result ≡ Err Refusal.Limit → Any IsTooLong (values_left self.old) }
-        ensures which { RefusedOnly (λ e. e ≡ Refusal.Limit) result }
+        ensures limit { OnErr result (Any IsTooLong (take n (values_left self.old))) }
+        ensures which { IfErr result (λ e. e ≡ Refusal.Limit) }
         ensures unchanged { OnErr result (self.new ≡ self.old) }
     {
         let count = n.min(self.left);
@@ -118,7 +118,8 @@ impl<'a> Values<'a> {
     /// in. [`value`](Values::value) stays as it is.
     #[inline(always)]
     pub fn next(&mut self) -> Option<ValueRef<'a>>
-        ensures { Gives self.old self.new result }
+        ensures gives { Gives self.old self.new result }
+        ensures kind { kind_of self.new ≡ kind_of self.old }
     {
         if self.left == 0 {
             return None;
@@ -133,7 +134,8 @@ impl<'a> Values<'a> {
     /// [`value`](Values::value).
     #[inline(always)]
     pub fn advance(&mut self) -> bool
-        ensures { Advances self.old self.new result }
+        ensures advances { Advances self.old self.new result }
+        ensures kind { kind_of self.new ≡ kind_of self.old }
     {
         match self.next() {
             None => false,
@@ -161,7 +163,7 @@ fn size_of_next(kind: Kind, bytes: &[u8], at: usize, left: usize, count: usize) 
     requires few { count ≤ left }
     ensures first { IfOk result (λ used. AreFirst kind count left at bytes.now used) }
     ensures short { OnOk result (Any IsTooLong (values_from kind count at bytes.now) → ⊥) }
-    ensures long { OnErr result (Any IsTooLong (values_from kind left at bytes.now)) }
+    ensures long { OnErr result (Any IsTooLong (values_from kind count at bytes.now)) }
     ensures which { IfErr result (λ e. e ≡ Refusal.Limit) }
 {
     size_of_values(kind, bytes.split_at(at).1, count)

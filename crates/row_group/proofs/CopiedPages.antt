@@ -2,7 +2,7 @@
 use Rattle.std.proofs.Common.{◌≡◌, ◌≢◌, ℕ, suc, ◌+◌, ◌<◌, ◌≤◌, List, [], ◌∷◌, ◌++◌, length, take, drop, refl, sym, ap, subst, ◌∙◌, arith, append_assoc}
 use Rattle.std.specs.Prelude.{min}
 use Rattle.std.specs.List.{Any, AllByRecursion}
-use Rattle.std.proofs.lemmas.List.{append-nil, length-append, length-map, length-take, map-append, take_all, take_at, take-take, drop_at}
+use Rattle.std.proofs.lemmas.List.{append-nil, length-append, length-map, length-take, map-append, take_all, take_at, take-take, take-append-drop, drop_at}
 use Rattle.bits.specs.Codec.{Appends}
 use Rattle.schema.specs.declared.value.Kind.{Kind}
 use Rattle.schema.specs.declared.value.Kind.TheVariants.{Boolean}
@@ -25,7 +25,7 @@ use Rattle.row_group.specs.Greatest.{most_bytes_before}
 use Rattle.row_group.specs.Paged.{BeginsRow}
 use Rattle.row_group.specs.inner.Parts.{IsFirstPage, IsPart, part_weight, AreShortIn, AppendsParts, ArePartsTooMuch}
 use Rattle.row_group.specs.inner.Parts as parts_of
-use Rattle.row_group.proofs.PartsPut.{PartsPut, none_put, one_put, all_put, too_heavy, page_too_much, value_part, all_in_page, all_both, any_back}
+use Rattle.row_group.proofs.PartsPut.{PartsPut, none_put, one_put, all_put, too_heavy, page_too_much, value_part, all_in_page, all_both, any_front, any_back}
 
 -- ---- the entries of values
 
@@ -149,8 +149,10 @@ pub copied_too_heavy : (leaf : Leaf) (o : ChunkOptions) (vs left : List ValueTre
     → ArePartsTooMuch (length old) o.page_rows (Encoded Plain) (flat_entries vs)
 copied_too_heavy leaf o vs left old new large past p all = too_heavy leaf o (Encoded Plain) (flat_entries vs) old new (length p.done) large past (p.put all)
 
-pub copied_too_long : (leaf : Leaf) (o : ChunkOptions) (vs left : List ValueTree) (old new : List ℕ) (before : ℕ) → Any IsTooLong left → Copied leaf o vs left old new → ArePartsTooMuch before o.page_rows (Encoded Plain) (flat_entries vs)
-copied_too_long leaf o vs left old new before any p = parts_of.long (subst (Any IsTooLong) (sym p.split ∙ sym (flat_values vs)) (any_back IsTooLong p.done left any))
+pub copied_too_long : (leaf : Leaf) (o : ChunkOptions) (vs left : List ValueTree) (old new : List ℕ) (before n : ℕ) → Any IsTooLong (take n left) → Copied leaf o vs left old new → ArePartsTooMuch before o.page_rows (Encoded Plain) (flat_entries vs)
+copied_too_long leaf o vs left old new before n any p =
+    let one = subst (Any IsTooLong) (take-append-drop n left) (any_front IsTooLong (take n left) (drop n left) any) in
+    parts_of.long (subst (Any IsTooLong) (sym p.split ∙ sym (flat_values vs)) (any_back IsTooLong p.done left one))
 
 pub copied_page_too_much : (leaf : Leaf) (o : ChunkOptions) (vs left taken rest : List ValueTree) (old new : List ℕ) (before : ℕ) → left ≡ taken ++ rest → Copied leaf o vs left old new
     → (AllByRecursion (IsEntryOf leaf) (flat_entries taken) → IsPageTooMuch (flat_entries taken)) → AllByRecursion (IsEntryOf leaf) (flat_entries vs) → ArePartsTooMuch before o.page_rows (Encoded Plain) (flat_entries vs)

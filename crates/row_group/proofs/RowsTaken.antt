@@ -11,7 +11,7 @@ use Rattle.schema.specs.Law.{IsSchema}
 use Rattle.schema.specs.Views.{row_view}
 use Rattle.assemble.specs.Sinks.{Token, Visits, tokens_each}
 use Rattle.assemble.specs.RowsOf.{StandForRows, IsNextRow}
-use Rattle.assemble.specs.Flat.{is_flat, OfFlatRows, ShowsFirst as ShowsFlat}
+use Rattle.assemble.specs.Flat.{is_flat, OfFlatRows, ShowsFirst}
 use Rattle.row_group.specs.declared.chunk_reader.ChunkReader.{ChunkReader}
 use Rattle.row_group.specs.declared.rows.Rows.{Rows}
 use Rattle.row_group.specs.Left.{chunk_stands, RowsStand, rows_stand, TakesRow, TakesRowTo}
@@ -51,12 +51,12 @@ takes_to from to old new mid later some same is next = λ rows s.
 
 -- so it is of a flat schema
 pub takes_flat : (from to : List Token → Type 0) (old new : Rows) (mid later : List ChunkReader) → (old.left ≡ 0 → ⊥) → old.is_flat ≡ true → mid ≡ old.readers.items → IsNext old new later
-    → OfFlatRows chunk_stands mid (ShowsFlat chunk_stands later from to) → TakesRowTo (rows_stand old) (rows_stand new) from to (Ok true)
+    → OfFlatRows chunk_stands mid (λ fs. ShowsFirst (StandForRows chunk_stands later fs) from to) → TakesRowTo (rows_stand old) (rows_stand new) from to (Ok true)
 takes_flat from to old new mid later some flat same is next = λ rows s.
     let stood = subst (λ (rs : List ChunkReader). StandForRows chunk_stands rs old.schema.now rows) (sym same) s.columns in
     let size = s.count in
     let t = next old.schema.now rows (sym s.flat ∙ flat) stood (omega (arith, size, some)) in
-    record { first = t.first; rest = t.rest; split = t.split; stands = others_stand old new later some is t.first rows t.rest s t.split t.stand; shown = t.shown }
+    record { first = t.first; rest = t.rest; split = t.split; stands = others_stand old new later some is t.first rows t.rest s t.split t.stands; shown = t.shown }
 
 -- a row is left, so that only memory is refused
 pub only_memory : (old : Rows) (mid : List ChunkReader) (f : Fault) → (old.left ≡ 0 → ⊥) → mid ≡ old.readers.items
@@ -64,12 +64,6 @@ pub only_memory : (old : Rows) (mid : List ChunkReader) (f : Fault) → (old.lef
 only_memory old mid f some same known rows s =
     let size = s.count in
     ap refusal_of (known rows (subst (λ (rs : List ChunkReader). StandForRows chunk_stands rs old.schema.now rows) (sym same) s.columns) (omega (arith, size, some)))
-
-pub only_memory_flat : (old : Rows) (mid : List ChunkReader) (f : Fault) → (old.left ≡ 0 → ⊥) → old.is_flat ≡ true → mid ≡ old.readers.items
-    → OfFlatRows chunk_stands mid (λ _ _. f ≡ fault.Memory) → (rows : List ValueTrees) → rows_stand old rows → refusal_of f ≡ Memory
-only_memory_flat old mid f some flat same known rows s =
-    let size = s.count in
-    ap refusal_of (known old.schema.now rows (sym s.flat ∙ flat) (subst (λ (rs : List ChunkReader). StandForRows chunk_stands rs old.schema.now rows) (sym same) s.columns) (omega (arith, size, some)))
 
 -- where no row is left
 pub takes_none : (from to : List Token → Type 0) (r : Rows) → r.left ≡ 0 → TakesRowTo (rows_stand r) (rows_stand r) from to (Ok false)

@@ -12,9 +12,10 @@ use Rattle.schema.specs.Stripe.{Leaf, Entry}
 use Rattle.schema.specs.Law.{IsSchema}
 use Rattle.schema.specs.Views.{leaf_view, row_view}
 use Rattle.metadata.specs.Records.{ColumnMeta}
-use Rattle.assemble.specs.Sinks.{Token, tokens_each, Adds}
+use Rattle.assemble.specs.Sinks.{Token}
 use Rattle.assemble.specs.RowsOf.{StandForRows}
 use Rattle.assemble.specs.Flat.{is_flat}
+pub use Rattle.assemble.specs.Flat.{ShowsFirst}
 use Rattle.row_group.specs.declared.chunk_reader.ChunkReader.{ChunkReader}
 use Rattle.row_group.specs.declared.rows.Rows.{Rows}
 use Rattle.row_group.specs.Chunks.{ChunkMeans}
@@ -72,14 +73,6 @@ abbrev pub TakesRow : (List ValueTrees → Type 0) → (List ValueTrees → Type
 TakesRow S T (Ok (Some row)) = (rows : List ValueTrees) → S rows → (rest : List ValueTrees) × (rows ≡ row_view row ∷ rest) × T rest
 TakesRow S T (Ok None) = (rows : List ValueTrees) → S rows → (rows ≡ []) × T []
 TakesRow S T (Err e) = (rows : List ValueTrees) → S rows → e ≡ Memory
-
--- the first of these rows was shown, and the others stand
-pub record ShowsFirst (T : List ValueTrees → Type 0) (from to : List Token → Type 0) (rows : List ValueTrees) : Type 0 where
-  pub first : ValueTrees
-  pub rest : List ValueTrees
-  pub split : rows ≡ first ∷ rest
-  pub stands : T rest
-  pub shown : Adds from to (tokens_each first)
 
 -- as TakesRow, by what a sink was shown before and after
 abbrev pub TakesRowTo : (List ValueTrees → Type 0) → (List ValueTrees → Type 0) → (List Token → Type 0) → (List Token → Type 0) → Result Bool Refusal → Type 0

@@ -1,5 +1,5 @@
 -- The values that wait in PLAIN.
-use Rattle.std.specs.Prelude.{◌≡◌, Bool, true, false, List, [], ◌∷◌, ◌++◌, take, Option, None, Some}
+use Rattle.std.specs.Prelude.{List, [], take, Option, None, Some}
 use Rattle.schema.specs.Values.{ValueTree}
 use Rattle.plain.specs.ValuesFrom.{values_from}
 use Rattle.shred.specs.declared.plain_values.PlainValues.{PlainValues}
@@ -20,8 +20,3 @@ waiting (Some p) = plain_view p
 abbrev pub waiting_marked : Option PlainValues → List ValueTree
 waiting_marked None = []
 waiting_marked (Some p) = plain_marked p
-
--- a value is put after the others, or it is not
-abbrev pub IsPutIf : Bool → List ValueTree → ValueTree → List ValueTree → Type 0
-IsPutIf true old v new = new ≡ old ++ v ∷ []
-IsPutIf false old v new = new ≡ old

@@ -35,7 +35,7 @@ pub(crate) struct KeptColumn {
 
 impl KeptColumn {
     ghost use Rattle.shred.specs.Kept.{kept_view, marked_view};
-    ghost use Rattle.shred.specs.inner.Put.{IsEntryPutIf};
+    ghost use Rattle.shred.specs.inner.Put.{AppendsIf};
 
     /// A column of the leaf without entries.
     pub(crate) fn new(alloc: Global, leaf: &Leaf) -> KeptColumn
@@ -75,7 +75,7 @@ impl KeptColumn {
         definition: u32,
         value: Option<V>,
     ) -> Result<bool, AllocError>
-        ensures put { IfOk result (λ put. IsEntryPutIf put (kept_view self.old) (entry repetition definition (option_map V.meant value)) (kept_view self.new)) }
+        ensures put { IfOk result (λ put. AppendsIf put (kept_view self.old) (entry repetition definition (option_map V.meant value)) (kept_view self.new)) }
         ensures marked { marked_view self.new ≡ marked_view self.old }
     {
         let Some(value) = value else {

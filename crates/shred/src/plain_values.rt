@@ -1,6 +1,6 @@
 //! Values that wait in PLAIN.
 
-ghost use Rattle.std.specs.Prelude.{◌≡◌, ◌≢◌, ◌++◌, [], map, IfOk, OnOk, OnErr};
+ghost use Rattle.std.specs.Prelude.{◌≡◌, ◌≢◌, ◌++◌, ◌∷◌, [], map, IfOk, OnOk, OnErr};
 ghost use Rattle.bits.specs.Refusals.{RefusedMemoryOnly};
 ghost use Rattle.schema.specs.Borrowed.{entry_ref_view};
 ghost use Rattle.plain.specs.Flat.{flat_entries};
@@ -29,7 +29,8 @@ pub(crate) struct PlainValues {
 }
 
 impl PlainValues {
-    ghost use Rattle.shred.specs.Waiting.{plain_view, plain_marked, waiting, IsPutIf};
+    ghost use Rattle.shred.specs.Waiting.{plain_view, plain_marked, waiting};
+    ghost use Rattle.shred.specs.inner.Put.{AppendsIf};
 
     /// No values yet of a leaf. None where they do not wait in PLAIN: the leaf has levels, or is BOOLEAN.
     pub(crate) fn of_leaf(alloc: Global, leaf: &Leaf) -> Option<PlainValues>
@@ -54,7 +55,7 @@ impl PlainValues {
     /// out of memory, and then leaves them as they are.
     #[inline(always)]
     pub(crate) fn put<V: Single>(&mut self, value: V) -> Result<bool, AllocError>
-        ensures put { IfOk result (λ put. IsPutIf put (plain_view self.old) (V.meant value) (plain_view self.new)) }
+        ensures put { IfOk result (λ put. AppendsIf put (plain_view self.old) (V.meant value ∷ []) (plain_view self.new)) }
         ensures unchanged { OnErr result (plain_view self.new ≡ plain_view self.old) }
         ensures marked { plain_marked self.new ≡ plain_marked self.old }
     {

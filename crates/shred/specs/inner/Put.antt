@@ -1,7 +1,6 @@
 -- A value that is put after the bytes of others.
 use Rattle.std.specs.Prelude.{◌≡◌, ℕ, Bool, true, false, List, ◌++◌, length, Option}
 use Rattle.schema.specs.Values.{ValueTree}
-use Rattle.schema.specs.Stripe.{Entry}
 use Rattle.shred.specs.declared.slot.Slot.{Slot}
 use Rattle.shred.specs.Slots.{slot_size, slot_value}
 
@@ -12,7 +11,7 @@ pub record IsPut (slot : Slot) (value : Option ValueTree) (old new : List ℕ) :
   pub size : slot_size slot ≡ length own
   pub shows : slot_value slot own ≡ value
 
--- entries are put after the others, or they are not
-abbrev pub IsEntryPutIf : Bool → List Entry → List Entry → List Entry → Type 0
-IsEntryPutIf true old es new = new ≡ old ++ es
-IsEntryPutIf false old es new = new ≡ old
+-- these are put after the others, or they are not
+abbrev pub AppendsIf : {X : Type 0} → Bool → List X → List X → List X → Type 0
+AppendsIf true old xs new = new ≡ old ++ xs
+AppendsIf false old xs new = new ≡ old

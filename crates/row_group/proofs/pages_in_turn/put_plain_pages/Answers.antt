@@ -19,7 +19,7 @@ returns-then-len-gt-MOST_BYTES_BEFORE_CHUNK-clause-limit c = λ limit all.
 pub returns-in_err-text-clause-limit : goal.returns-in_err-text-clause-limit
 returns-in_err-text-clause-limit c = λ limit all.
     copied_too_long (leaf_view c.args.leaf.now) c.args.options (values_left c.args.values) (values_left c.loop-left.left) c.args.out.now.items c.loop-left.out.items (length c.args.out.now.items)
-    (c.in_err-text.ensures.limit (passed c.from_residual.result c.in_err-text.field-0.0 _ c.from_residual.ensures.1 limit)) c.loop-left.invariant.copied
+    c.min-count.result c.in_err-text.ensures.limit c.loop-left.invariant.copied
 
 pub returns-in_err-write_plain_page-clause-limit : goal.returns-in_err-write_plain_page-clause-limit
 returns-in_err-write_plain_page-clause-limit c = λ limit all.

@@ -1,9 +1,15 @@
 use Rattle.std.proofs.Common.{◌≡◌, ◌+◌, ◌-◌, ℕ, List, length, take, drop, refl, sym, ap, subst, ◌∙◌, arith}
-use Rattle.plain.specs.Plain.{IsPlain}
+use Rattle.std.specs.List.{Any}
+use Rattle.plain.specs.Plain.{IsPlain, IsTooLong}
 use Rattle.plain.specs.ValuesFrom.{values_from}
 use Rattle.plain.proofs.Places.{count_from}
-use Rattle.plain.proofs.Whole.{turned_cut}
+use Rattle.plain.proofs.Whole.{first_values, when_refused, turned_cut}
 use Rattle.plain.proofs.cursor.Values.take_bytes.Goals as goal
+
+pub returns-in_err-size-clause-limit : goal.returns-in_err-size-clause-limit
+returns-in_err-size-clause-limit c =
+    let s = c.args.self.now in
+    when_refused _ c.from_residual.result (subst (Any IsTooLong) (sym (first_values s.kind c.args.n c.min-count.result s.left s.at s.bytes.now (omega (arith, c.min-count.ensures)))) c.in_err-size.ensures.long)
 
 pub returns-clause-takes : goal.returns-clause-takes
 returns-clause-takes c =
