@@ -15,9 +15,9 @@ use Rattle.schema.specs.Stripe.{Entry, entry, Leaf, leaves, leaves_of, stripe, s
 use Rattle.assemble.specs.Sinks.{group_ends, list_ends, tokens, tokens_each}
 use Rattle.shred.specs.declared.field.Levels.{Levels}
 use Rattle.shred.specs.inner.Growing.{Columns, grown, nils, levels_at, stripes, stripes_inside, stripes_items, stripes_later, stripes_each, absences}
-use Rattle.shred.specs.inner.Filling.{State, Level, in_group, in_list, held, next, of_field, item_levels, begun, given, deeper, leaf_entry, single_stripes, single_given, entered, left, inside, items, step, run, root}
+use Rattle.shred.specs.inner.Filling.{State, Level, in_group, in_list, held, next, of_field, item_levels, begun, given, deeper, single_stripes, single_given, entered, left, inside, items, step, run, root}
 use Rattle.shred.proofs.Growing.{leaves_split}
-use Rattle.shred.proofs.ShownSteps.{run_append, same_held, given_none, given_twice, grown_again, grown_nothing}
+use Rattle.shred.proofs.ShownSteps.{run_append, same_held, given_none, given_twice, grown_again, grown_nothing, there_given}
 
 and_true : (a b : Bool) → (a && b) ≡ true → (a ≡ true) × (b ≡ true)
 and_true true b h = (refl, h)
@@ -63,26 +63,11 @@ no_list Int64 vs h = true≢false (sym h)
 no_list ByteArray vs h = true≢false (sym h)
 no_list (FixedLenByteArray n) vs h = true≢false (sym h)
 
-there_boolean : (q : Repetition) (x : Levels) (b : Bool) → leaf_entry q x (boolean b) ≡ entry (deeper q x).repetition (deeper q x).definition (Some (boolean b))
-there_boolean Required x b = refl
-there_boolean Optional x b = refl
-there_boolean Repeated x b = refl
-
-there_integer : (q : Repetition) (x : Levels) (z : ℤ) → leaf_entry q x (integer z) ≡ entry (deeper q x).repetition (deeper q x).definition (Some (integer z))
-there_integer Required x z = refl
-there_integer Optional x z = refl
-there_integer Repeated x z = refl
-
-there_bytes : (q : Repetition) (x : Levels) (b : List ℕ) → leaf_entry q x (bytes b) ≡ entry (deeper q x).repetition (deeper q x).definition (Some (bytes b))
-there_bytes Required x b = refl
-there_bytes Optional x b = refl
-there_bytes Repeated x b = refl
-
 leaf_given : (n : List ℕ) (r : Repetition) (t : LeafType) (q : Repetition) → IsGivenAs (leaf n r t) q (fits_leaf t)
 leaf_given n r t q null h s x e = absurd (no_null t.kind (and_true (fits_kind t.kind null) _ h).0)
-leaf_given n r t q (boolean b) h s x e = ap (λ o. single_given o (begun s) (boolean b)) e ∙ ap (λ (c : List Entry). given (begun s) (c ∷ [])) (there_boolean q x b)
-leaf_given n r t q (integer z) h s x e = ap (λ o. single_given o (begun s) (integer z)) e ∙ ap (λ (c : List Entry). given (begun s) (c ∷ [])) (there_integer q x z)
-leaf_given n r t q (bytes b) h s x e = ap (λ o. single_given o (begun s) (bytes b)) e ∙ ap (λ (c : List Entry). given (begun s) (c ∷ [])) (there_bytes q x b)
+leaf_given n r t q (boolean b) h s x e = ap (λ o. single_given o (begun s) (boolean b)) e ∙ ap (λ (c : List Entry). given (begun s) (c ∷ [])) (there_given q x (boolean b) (λ n. cc))
+leaf_given n r t q (integer z) h s x e = ap (λ o. single_given o (begun s) (integer z)) e ∙ ap (λ (c : List Entry). given (begun s) (c ∷ [])) (there_given q x (integer z) (λ n. cc))
+leaf_given n r t q (bytes b) h s x e = ap (λ o. single_given o (begun s) (bytes b)) e ∙ ap (λ (c : List Entry). given (begun s) (c ∷ [])) (there_given q x (bytes b) (λ n. cc))
 leaf_given n r t q (group vs) h s x e = absurd (no_group t.kind vs (and_true (fits_kind t.kind (group vs)) _ h).0)
 leaf_given n r t q (list vs) h s x e = absurd (no_list t.kind vs (and_true (fits_kind t.kind (list vs)) _ h).0)
 

@@ -1,10 +1,14 @@
 -- What columns hold, step by step, as values are shown.
-use Rattle.std.proofs.Common.{◌≡◌, ℕ, zero, suc, ◌+◌, List, [], ◌∷◌, ◌++◌, map, length, refl, ap₂, arith, length-append}
+use Rattle.std.proofs.Common.{◌≡◌, ◌≢◌, ℕ, zero, suc, ◌+◌, List, [], ◌∷◌, ◌++◌, map, length, Some, refl, ap₂, arith, length-append}
 use Rattle.std.proofs.lemmas.List.{append-nil}
-use Rattle.schema.specs.Stripe.{Entry, Leaf}
+use Rattle.schema.specs.declared.value.Repetition.{Repetition}
+use Rattle.schema.specs.declared.value.Repetition.TheVariants.{Required, Optional, Repeated}
+use Rattle.schema.specs.Values.{ValueTree, null, boolean, integer, bytes, group, list}
+use Rattle.schema.specs.Stripe.{Entry, entry, Leaf}
 use Rattle.assemble.specs.Sinks.{Token}
+use Rattle.shred.specs.declared.field.Levels.{Levels}
 use Rattle.shred.specs.inner.Growing.{Columns, grown, nils}
-use Rattle.shred.specs.inner.Filling.{Level, State, held, given, step, run}
+use Rattle.shred.specs.inner.Filling.{Level, State, held, given, deeper, leaf_entry, step, run}
 use Rattle.shred.proofs.Growing.{grown_whole, grown_next, grown_twice, grown_same}
 
 pub run_append : (s : State) (ts us : List Token) → run s (ts ++ us) ≡ run (run s ts) us
@@ -23,6 +27,17 @@ pub given_twice : (s : State) (xs ys : Columns) → given (given s xs) ys ≡ gi
 given_twice s xs ys =
     same_held _ _ _ _ s.here s.outer (grown_next s.at (s.at + length xs) xs ys s.columns refl)
     (let more = length-append xs ys in omega (arith, more))
+
+-- what a value gives that is no null
+pub there_given : (q : Repetition) (x : Levels) (v : ValueTree) → v ≢ null → leaf_entry q x v ≡ entry (deeper q x).repetition (deeper q x).definition (Some v)
+there_given Required x v there = refl
+there_given Repeated x v there = refl
+there_given Optional x null there = absurd (there refl)
+there_given Optional x (boolean b) there = refl
+there_given Optional x (integer z) there = refl
+there_given Optional x (bytes b) there = refl
+there_given Optional x (group vs) there = refl
+there_given Optional x (list vs) there = refl
 
 -- two stripes of each column from a place on, one after the other
 pub grown_again : (u : ℕ) (f g : Leaf → List Entry) (ls : List Leaf) (cs : Columns) → grown (grown cs (nils u ++ map f ls)) (nils u ++ map g ls) ≡ grown cs (nils u ++ map (λ (l : Leaf). f l ++ g l) ls)

@@ -1,51 +1,26 @@
 //! Columns that are filled with the values of rows as these are shown, one after another.
 
-ghost use Rattle.std.specs.Prelude.{◌≡◌, ◌≢◌, ◌++◌, ◌∷◌, [], suc, length, map, get_or, IfOk, IfSome, OnOk, option_map};
+ghost use Rattle.std.specs.Prelude.{◌≡◌, ◌≢◌, ◌++◌, ◌∷◌, [], length, map, get_or, IfOk, IfSome, OnOk, option_map};
 ghost use Rattle.bits.specs.Refusals.{RefusedMemoryOnly};
 ghost use Rattle.schema.specs.Borrowed.{value_ref_view, entry_ref_view};
 ghost use Rattle.schema.specs.Stripe.{entry};
-ghost use Rattle.schema.specs.Values.{integer, bytes, view, views};
+ghost use Rattle.schema.specs.Values.{null, integer, bytes};
 ghost use Rattle.schema.specs.Views.{field_view, field_views};
 ghost use Rattle.plain.specs.Flat.{flat_entries};
 ghost use Rattle.plain.specs.ValuesLeft.{values_left, kind_of};
-ghost use Rattle.assemble.specs.Sinks.{single, group_begins, group_ends, list_begins, list_ends, tokens, tokens_each};
-ghost use Rattle.shred.specs.Kept.{kept_view, marked_view};
-ghost use Rattle.shred.specs.inner.Growing.{grown, nils, levels_at, absences, absences_each};
-ghost use Rattle.shred.specs.inner.Filling.{item_levels, deeper, next, inside, items, nothing, in_group, level_view, next_view, state_of, marked_of, begun, given, single_stripes, left, closed_at, step, run, root};
+ghost use Rattle.assemble.specs.Sinks.{single, group_begins, group_ends, list_begins, list_ends};
+ghost use Rattle.shred.specs.inner.Growing.{nils, levels_at, absences, absences_each};
+ghost use Rattle.shred.specs.inner.Filling.{next, next_view, state_of, marked_of, begun, given, single_stripes, left, closed_at, step, root};
 
 use crate::field::Levels;
 use crate::kept_column::KeptColumn;
+use crate::kept_columns::{clear_each, cut_each, mark_each, put_entry};
+use crate::level::{Level, Next, deeper, inside, item_levels, items};
 use crate::single::Single;
 use bits::R;
 use plain::Values;
-use schema::{EntryRef, Field, Kind, Leaf, Repetition, Value, ValueRef};
+use schema::{EntryRef, Field, Kind, Leaf, Repetition, ValueRef};
 use std::alloc::{AllocError, Global};
-
-/// Where values are shown.
-#[derive(Clone, Copy)]
-pub(crate) enum Level<'a> {
-    /// In a group: the fields whose values are still to come, and the levels of these values.
-    Group {
-        fields: &'a [Field],
-        levels: Levels,
-    },
-    /// In a list: the field whose items these are, its first column, the levels of the list, and whether there
-    /// was an item.
-    List {
-        field: &'a Field,
-        start: usize,
-        levels: Levels,
-        later: bool,
-    },
-}
-
-/// What the next value is of: its field, how often that stands there, and the levels of the value.
-#[derive(Clone, Copy)]
-pub(crate) struct Next<'a> {
-    field: &'a Field,
-    repetition: Repetition,
-    levels: Levels,
-}
 
 /// Columns, and where the value stands that is shown next.
 #[derive(Drop)]
@@ -56,122 +31,6 @@ pub(crate) struct Filling<'a> {
     here: Level<'a>,
     /// The groups and lists around it, the outermost first.
     outer: Vec<Level<'a>>,
-}
-
-/// A level one deeper. A level that has no next one is never reached: no schema nests so deep.
-#[inline(always)]
-fn one_deeper(level: u32) -> Result<u32, AllocError>
-    ensures { IfOk result (λ deeper. deeper ≡ suc level) }
-{
-    match level.checked_add(1) {
-        Some(deeper) => Ok(deeper),
-        None => Err(AllocError),
-    }
-}
-
-/// The levels of an item of a list with these levels.
-#[inline(always)]
-fn item_levels(later: bool, levels: Levels) -> Result<Levels, AllocError>
-    ensures { IfOk result (λ own. own ≡ item_levels later levels) }
-{
-    let definition = one_deeper(levels.definition)?;
-    let repeated = one_deeper(levels.repeated)?;
-    Ok(Levels {
-        repetition: if later { repeated } else { levels.repetition },
-        definition,
-        repeated,
-    })
-}
-
-/// The levels of what is there, where it may be absent.
-#[inline(always)]
-fn deeper(repetition: Repetition, levels: Levels) -> Result<Levels, AllocError>
-    ensures { IfOk result (λ own. own ≡ deeper repetition levels) }
-{
-    match repetition {
-        Repetition::Optional => {
-            let definition = one_deeper(levels.definition)?;
-            Ok(Levels {
-                definition,
-                ..levels
-            })
-        }
-        _ => Ok(levels),
-    }
-}
-
-/// The level inside a group that begins.
-fn inside<'a>(next: Option<Next<'a>>) -> Result<Level<'a>, AllocError>
-    ensures { IfOk result (λ level. level_view level ≡ inside (option_map next_view next.entry)) }
-{
-    let Some(next) = next else {
-        return Ok(Level::nothing());
-    };
-    let levels = deeper(next.repetition, next.levels)?;
-    Ok(match next.field {
-        Field::Leaf { .. } => Level::nothing(),
-        Field::Group { fields, .. } => Level::Group {
-            fields: fields.as_slice(),
-            levels,
-        },
-    })
-}
-
-/// The level of the items of a list that begins at a column.
-fn items<'a>(next: Option<Next<'a>>, start: usize) -> Level<'a>
-    ensures { level_view result ≡ items (option_map next_view next.entry) start }
-{
-    match next {
-        None => Level::nothing(),
-        Some(next) => Level::List {
-            field: next.field,
-            start,
-            levels: next.levels,
-            later: false,
-        },
-    }
-}
-
-/// Puts an entry after those of a column, if there is one at this index. It fails only when out of memory, and
-/// then leaves the columns as they are.
-#[inline(always)]
-fn put_entry<V: Single>(
-    columns: &mut [KeptColumn],
-    at: usize,
-    repetition: u32,
-    definition: u32,
-    value: Option<V>,
-) -> Result<(), AllocError>
-    ensures grown { OnOk result (map kept_view columns.new ≡ grown (map kept_view columns.old)
-        (nils at ++ entry repetition definition (option_map V.meant value) ∷ [])) }
-    ensures marked { map marked_view columns.new ≡ map marked_view columns.old }
-{
-    if at < columns.len() {
-        columns[at].put(repetition, definition, value)?;
-    }
-    Ok(())
-}
-
-impl<'a> Level<'a> {
-    /// No field has a value there.
-    fn nothing() -> Level<'a>
-        ensures { level_view result ≡ nothing }
-    {
-        Level::Group {
-            fields: &[],
-            levels: Levels::of_row(),
-        }
-    }
-
-    /// The top-level fields of a row.
-    fn of_row(fields: &'a [Field]) -> Level<'a>
-        ensures { level_view result ≡ in_group (field_views fields.now) (levels_at 0 0 0) }
-    {
-        Level::Group {
-            fields,
-            levels: Levels::of_row(),
-        }
-    }
 }
 
 impl<'a> Filling<'a> {
@@ -383,11 +242,12 @@ impl<'a> Filling<'a> {
         self.put(own.repetition, own.definition, Some(value))
     }
 
-    /// Puts what a number gives.
+    /// Puts what a value gives that is no null.
     #[inline(always)]
-    fn put_int(&mut self, next: Next<'_>, number: i64) -> Result<(), AllocError>
+    fn put_there<V: Single>(&mut self, next: Next<'_>, value: V) -> Result<(), AllocError>
+        requires { V.meant value ≢ null }
         ensures given { OnOk result (state_of self.new ≡ given (state_of self.old)
-            (single_stripes (field_view next.entry.field.now) next.entry.repetition next.entry.levels (integer number))) }
+            (single_stripes (field_view next.entry.field.now) next.entry.repetition next.entry.levels (V.meant value))) }
         ensures marked { marked_of self.new ≡ marked_of self.old }
     {
         let levels = next.levels;
@@ -400,27 +260,7 @@ impl<'a> Filling<'a> {
             );
         }
         let own = deeper(next.repetition, levels)?;
-        self.put(own.repetition, own.definition, Some(number))
-    }
-
-    /// Puts what bytes give.
-    #[inline(always)]
-    fn put_bytes(&mut self, next: Next<'_>, text: &[u8]) -> Result<(), AllocError>
-        ensures given { OnOk result (state_of self.new ≡ given (state_of self.old)
-            (single_stripes (field_view next.entry.field.now) next.entry.repetition next.entry.levels (bytes text.now))) }
-        ensures marked { marked_of self.new ≡ marked_of self.old }
-    {
-        let levels = next.levels;
-        if let Field::Group { fields, .. } = next.field {
-            return self.put_absent_below(
-                fields.as_slice(),
-                levels.repetition,
-                levels.definition,
-                levels.repeated,
-            );
-        }
-        let own = deeper(next.repetition, levels)?;
-        self.put(own.repetition, own.definition, Some(text))
+        self.put(own.repetition, own.definition, Some(value))
     }
 
     /// Goes back to the group or list around this one.
@@ -474,7 +314,7 @@ impl<'a> Filling<'a> {
     {
         match self.begin_value()? {
             None => Ok(()),
-            Some(next) => self.put_int(next, number),
+            Some(next) => self.put_there(next, number),
         }
     }
 
@@ -486,7 +326,7 @@ impl<'a> Filling<'a> {
     {
         match self.begin_value()? {
             None => Ok(()),
-            Some(next) => self.put_bytes(next, text),
+            Some(next) => self.put_there(next, text),
         }
     }
 
@@ -525,67 +365,5 @@ impl<'a> Filling<'a> {
         self.close()?;
         self.leave();
         Ok(())
-    }
-
-    /// Is shown a value.
-    #[cycle(show)]
-    fn show(&mut self, value: &Value) -> Result<(), AllocError>
-        ensures shown { OnOk result (state_of self.new ≡ run (state_of self.old) (tokens (view value.now))) }
-        ensures marked { marked_of self.new ≡ marked_of self.old }
-    {
-        match value {
-            Value::Group(values) => {
-                self.begin_group()?;
-                self.show_each(values.as_slice())?;
-                self.end_group();
-                Ok(())
-            }
-            Value::List(values) => {
-                self.begin_list()?;
-                self.show_each(values.as_slice())?;
-                self.end_list()
-            }
-            _ => self.value(ValueRef::of(value)),
-        }
-    }
-
-    /// Is shown values, one after another.
-    #[cycle(show)]
-    pub(crate) fn show_each(&mut self, values: &[Value]) -> Result<(), AllocError>
-        ensures shown { OnOk result (state_of self.new ≡ run (state_of self.old) (tokens_each (views values.now))) }
-        ensures marked { marked_of self.new ≡ marked_of self.old }
-    {
-        for value in values {
-            self.show(value)?;
-        }
-        Ok(())
-    }
-}
-
-/// Marks what each column holds.
-fn mark_each(columns: &mut [KeptColumn])
-    ensures marked { map marked_view columns.new ≡ map kept_view columns.old }
-    ensures same { map kept_view columns.new ≡ map kept_view columns.old }
-{
-    for i in 0..columns.len() {
-        columns[i].mark();
-    }
-}
-
-/// Removes what was put into each column since it was marked.
-fn cut_each(columns: &mut [KeptColumn])
-    ensures cut { map kept_view columns.new ≡ map marked_view columns.old }
-{
-    for i in 0..columns.len() {
-        columns[i].cut();
-    }
-}
-
-/// Removes the entries of each column.
-fn clear_each(columns: &mut [KeptColumn])
-    ensures empty { map kept_view columns.new ≡ nils (length columns.old) }
-{
-    for i in 0..columns.len() {
-        columns[i].clear();
     }
 }

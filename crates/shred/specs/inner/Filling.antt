@@ -8,9 +8,9 @@ use Rattle.schema.specs.Stripe.{Entry, entry}
 use Rattle.schema.specs.Views.{field_view, field_views}
 use Rattle.assemble.specs.Sinks.{Token, single, group_begins, group_ends, list_begins, list_ends}
 use Rattle.shred.specs.declared.field.Levels.{Levels}
-use Rattle.shred.specs.declared.filling.Level.{Level as CodeLevel}
-use Rattle.shred.specs.declared.filling.Level.TheVariants.{Group, List as ListOf}
-use Rattle.shred.specs.declared.filling.Next.{Next as CodeNext}
+use Rattle.shred.specs.declared.level.Level.{Level as CodeLevel}
+use Rattle.shred.specs.declared.level.Level.TheVariants.{Group, List as ListOf}
+use Rattle.shred.specs.declared.level.Next.{Next as CodeNext}
 use Rattle.shred.specs.declared.filling.Filling.{Filling}
 use Rattle.shred.specs.Kept.{kept_view, marked_view}
 use Rattle.shred.specs.inner.Growing.{Columns, grown, nils, levels_at, absences, absences_each}

@@ -1,7 +1,7 @@
 use Rattle.std.proofs.Common.{arith}
 use Rattle.shred.specs.Kept.{kept_view, marked_view}
 use Rattle.shred.proofs.OneByOne.{one_changed, all_changed}
-use Rattle.shred.proofs.filling.mark_each.Goals as goal
+use Rattle.shred.proofs.kept_columns.mark_each.Goals as goal
 
 pub loop-i-preserved : goal.loop-i-preserved
 loop-i-preserved c =

@@ -2,7 +2,7 @@ use Rattle.std.proofs.Common.{arith, map}
 use Rattle.std.proofs.lemmas.List.{length-map}
 use Rattle.shred.specs.Kept.{kept_view, marked_view}
 use Rattle.shred.proofs.Growing.{grown_at, grown_beyond, same_at}
-use Rattle.shred.proofs.filling.put_entry.Goals as goal
+use Rattle.shred.proofs.kept_columns.put_entry.Goals as goal
 
 pub returns-in_err-put-clause-marked : goal.returns-in_err-put-clause-marked
 returns-in_err-put-clause-marked g c = same_at marked_view c.index-columns-at.result c.put.new.self c.args.columns.now c.args.at (omega arith) c.in_err-put.ensures.marked

@@ -1,6 +1,6 @@
 use Rattle.shred.specs.Kept.{kept_view, marked_view}
 use Rattle.shred.proofs.OneByOne.{IsChanged}
-use Rattle.shred.proofs.filling.cut_each.Given as goal
+use Rattle.shred.proofs.kept_columns.cut_each.Given as goal
 
 abbrev pub invariant-loop-i : goal.invariant-loop-i
 invariant-loop-i l = IsChanged kept_view marked_view l.fn.columns l.columns l.i

@@ -4,7 +4,7 @@ use Rattle.shred.specs.inner.Growing.{nils}
 use Rattle.shred.specs.declared.kept_column.KeptColumn.{KeptColumn}
 use Rattle.shred.specs.Kept.{kept_view}
 use Rattle.shred.proofs.OneByOne.{one_changed, all_changed}
-use Rattle.shred.proofs.filling.clear_each.Goals as goal
+use Rattle.shred.proofs.kept_columns.clear_each.Goals as goal
 
 pub loop-i-preserved : goal.loop-i-preserved
 loop-i-preserved c = one_changed kept_view (λ (x : KeptColumn). []) c.args.columns.now c.loop-i.columns c.loop-i.i c.index-columns-i.result c.clear.new.self (omega arith) c.clear.ensures.empty c.loop-i.invariant

@@ -1,6 +1,6 @@
 use Rattle.shred.specs.Kept.{kept_view, marked_view}
 use Rattle.shred.proofs.OneByOne.{IsChanged}
-use Rattle.shred.proofs.filling.mark_each.Given as goal
+use Rattle.shred.proofs.kept_columns.mark_each.Given as goal
 
 abbrev pub invariant-loop-i : goal.invariant-loop-i
 invariant-loop-i l = record {
