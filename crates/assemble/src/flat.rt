@@ -60,7 +60,8 @@ pub fn next_flat_row_to<S: EntrySource, K: RowSink>(
     sources: &mut [S],
     sink: &mut K,
 ) -> Result<(), Fault>
-    ensures row { OnOk result (OfFlatRows S.stands sources.old (λ fs. ShowsFirst (StandForRows S.stands sources.new fs) (K.shows sink.old) (K.shows sink.new))) }
+    ensures row { OnOk result (OfFlatRows S.stands sources.old
+        (λ fs. ShowsFirst (StandForRows S.stands sources.new fs) (K.shows sink.old) (K.shows sink.new))) }
     ensures known { IfErr result (λ f. OfFlatRows S.stands sources.old (λ _ _. f ≡ Fault.Memory)) }
 {
     for i in 0..sources.len() {

@@ -8,6 +8,8 @@
 mod cursor;
 mod fits;
 mod flat;
+mod missing;
+mod place;
 mod reading;
 mod row_builder;
 mod row_showing;

@@ -1,44 +1,26 @@
 //! Values off the fronts of columns: each leaf's column begins with the stripe of the value, and a sink is
 //! shown the value.
 
-ghost use Rattle.std.specs.Prelude.{◌≡◌, ◌==◌, ◌&&◌, ◌+◌, ◌<◌, ◌≤◌, ◌^◌, [], ◌∷◌, length, map, true, None, IfOk, OnOk, IfErr};
+ghost use Rattle.std.specs.Prelude.{◌≡◌, ◌+◌, ◌<◌, ◌≤◌, ◌^◌, [], ◌∷◌, length, map, true, IfOk, OnOk, IfErr};
 ghost use Rattle.bits.specs.Faults.{refusal_of};
 ghost use Rattle.schema.specs.Borrowed.{value_ref_view};
 ghost use Rattle.schema.specs.Views.{leaf_type_view, field_view, field_views};
 ghost use Rattle.schema.specs.Law.{IsValid, AreValid};
-ghost use Rattle.schema.specs.Stripe.{entry};
 ghost use Rattle.schema.specs.Reading.{tall, tallest, count_leaves, count_leaves_each};
-ghost use Rattle.assemble.specs.Sources.{Precede};
 ghost use Rattle.assemble.specs.Sinks.{Adds, Visits, single, tokens, tokens_each};
-ghost use Rattle.assemble.specs.Columns.{Columns, Fronts};
-ghost use Rattle.assemble.specs.Standing.{AllStand, AllSame, Onward, Backward, IsRefusedFor};
-ghost use Rattle.assemble.specs.inner.Fronts.{nones};
+ghost use Rattle.assemble.specs.Columns.{Columns};
+ghost use Rattle.assemble.specs.Standing.{AllStand, AllSame, IsRefusedFor};
 ghost use Rattle.assemble.specs.inner.ReadValues.{ReadsField, ReadsInside, ReadsItems, ReadsEach, IsFieldFaulty, IsInsideFaulty, AreItemsFaulty, AreEachFaulty};
-ghost use Rattle.assemble.specs.inner.Steps.{IsMemory, ReadsLeaf, ReadsOptional, is_single, missing_value, IsSourceRefusedFor, IsLeafFaulty, IsOptionalFaulty, IsAbsentFaulty, IsSkipFaulty, IsMissing, NoneLeft, HasItem, first_of};
+ghost use Rattle.assemble.specs.inner.Steps.{IsMemory, ReadsLeaf, ReadsOptional, is_single, IsSourceRefusedFor, IsLeafFaulty, IsOptionalFaulty, HasItem, first_of};
 
 use crate::fits::fits;
+use crate::missing::{count_leaves, is_missing, show_missing, skip};
+use crate::place::Place;
 use crate::sink::RowSink;
 use crate::source::EntrySource;
 use bits::{Fault, R, Refusal};
-use schema::{EntryRef, Field, LeafType, Repetition, ValueRef};
+use schema::{Field, LeafType, Repetition, ValueRef};
 use std::alloc::AllocError;
-
-/// Where a value stands: the levels of its first entry, and the number of REPEATED fields passed.
-#[derive(Debug, Clone, Copy)]
-pub struct Place {
-    pub repetition: u32,
-    pub definition: u32,
-    pub own: u32,
-}
-
-impl Place {
-    /// Whether an entry has these levels.
-    fn is_of(self, entry: &EntryRef<'_>) -> bool
-        ensures { result ≡ (entry.now.repetition == self.repetition && entry.now.definition == self.definition) }
-    {
-        self.repetition == entry.repetition && self.definition == entry.definition
-    }
-}
 
 /// Whether another item follows, of the list whose own level this is.
 // Each row begins here: only what is asked of the levels is loaded.
@@ -231,74 +213,6 @@ fn show_kind<K: RowSink>(value: ValueRef<'_>, sink: &mut K) -> Result<(), AllocE
     }
 }
 
-/// Takes the next entry, which has these levels and no value.
-fn read_absent<S: EntrySource>(place: Place, source: &mut S) -> R<()>
-    ensures first { IfOk result (λ _. Precede (entry place.repetition place.definition None) (S.stands source.old) (S.stands source.new)) }
-    ensures refused { IfErr result (IsSourceRefusedFor S.stands S.refused source.old source.new (IsAbsentFaulty place.repetition place.definition)) }
-    ensures kept { OnOk result (S.refused source.new ≡ S.refused source.old) }
-{
-    match source.next()? {
-        Some(entry) if place.is_of(&entry) => match entry.value {
-            None => Ok(()),
-            Some(_) => Err(Refusal::Value),
-        },
-        _ => Err(Refusal::Levels),
-    }
-}
-
-/// How many leaves are at and below a field.
-#[cycle(count)]
-fn count_leaves(field: &Field) -> usize
-    requires { count_leaves (field_view field.now) < 2 ^ 64 }
-    ensures { result ≡ count_leaves (field_view field.now) }
-{
-    match field {
-        Field::Leaf { .. } => 1,
-        Field::Group { fields, .. } => count_leaves_each(fields.as_slice()),
-    }
-}
-
-#[cycle(count)]
-fn count_leaves_each(fields: &[Field]) -> usize
-    requires { count_leaves_each (field_views fields.now) < 2 ^ 64 }
-    ensures { result ≡ count_leaves_each (field_views fields.now) }
-{
-    let mut count = 0;
-    for field in fields {
-        count += count_leaves(field);
-    }
-    count
-}
-
-/// Takes an entry without a value off each of the first columns.
-fn skip<S: EntrySource>(count: usize, place: Place, sources: &mut [S]) -> R<()>
-    requires { count ≤ length sources.old }
-    ensures onward { IfOk result (λ _. Onward S.stands sources.old sources.new (Fronts (nones place.repetition place.definition count))) }
-    ensures backward { IfOk result (λ _. Backward S.stands sources.old sources.new (Fronts (nones place.repetition place.definition count))) }
-    ensures refused { IfErr result (IsRefusedFor S.stands S.refused sources.old sources.new (IsSkipFaulty place.repetition place.definition count)) }
-    ensures kept { OnOk result (map S.refused sources.new ≡ map S.refused sources.old) }
-{
-    for i in 0..count {
-        read_absent(place, &mut sources[i])?;
-    }
-    Ok(())
-}
-
-/// Whether the value of an OPTIONAL or REPEATED field is missing at this definition level.
-#[inline(always)]
-fn is_missing<S: EntrySource>(definition: u32, sources: &mut [S]) -> R<bool>
-    requires { 0 < length sources.old }
-    ensures missing { IfOk result (λ b. (cs : Columns) → AllStand S.stands sources.old cs → IsMissing definition (first_of cs) b) }
-    ensures refused { IfErr result (IsRefusedFor S.stands S.refused sources.old sources.new (λ cs. NoneLeft (first_of cs))) }
-    ensures kept { OnOk result (map S.refused sources.new ≡ map S.refused sources.old) }
-    ensures same { AllSame S.stands sources.old sources.new }
-{
-    match sources[0].peek()? {
-        None => Err(Refusal::Levels),
-        Some((_, level)) => Ok(level <= definition),
-    }
-}
-
 /// Shows what the value of a field is, its repetition aside, and returns how many leaves the field has.
 #[cycle(read)]
 fn read_inside<S: EntrySource, K: RowSink>(
@@ -311,7 +225,8 @@ fn read_inside<S: EntrySource, K: RowSink>(
     requires room { count_leaves (field_view field.now) ≤ length sources.old }
     requires deep { place.definition + tall (field_view field.now) ≤ 2 ^ 32 }
     requires own { place.own ≤ place.definition }
-    ensures reads { OnOk result (Visits (K.shows sink.old) (K.shows sink.new) tokens (ReadsInside S.stands (field_view field.now) place sources.old sources.new)) }
+    ensures reads { OnOk result (Visits (K.shows sink.old) (K.shows sink.new) tokens
+        (ReadsInside S.stands (field_view field.now) place sources.old sources.new)) }
     ensures refused { IfErr result (IsRefusedFor S.stands S.refused sources.old sources.new (IsInsideFaulty (field_view field.now) place)) }
     ensures kept { OnOk result (map S.refused sources.new ≡ map S.refused sources.old) }
     ensures used { IfOk result (λ used. used ≡ count_leaves (field_view field.now)) }
@@ -383,7 +298,8 @@ fn read_field<S: EntrySource, K: RowSink>(
     requires room { count_leaves (field_view field.now) ≤ length sources.old }
     requires deep { place.definition + tall (field_view field.now) < 2 ^ 32 }
     requires own { place.own ≤ place.definition }
-    ensures reads { OnOk result (Visits (K.shows sink.old) (K.shows sink.new) tokens (ReadsField S.stands (field_view field.now) place sources.old sources.new)) }
+    ensures reads { OnOk result (Visits (K.shows sink.old) (K.shows sink.new) tokens
+        (ReadsField S.stands (field_view field.now) place sources.old sources.new)) }
     ensures refused { IfErr result (IsRefusedFor S.stands S.refused sources.old sources.new (IsFieldFaulty (field_view field.now) place)) }
     ensures kept { OnOk result (map S.refused sources.new ≡ map S.refused sources.old) }
     ensures used { IfOk result (λ used. used ≡ count_leaves (field_view field.now)) }
@@ -410,17 +326,4 @@ fn read_field<S: EntrySource, K: RowSink>(
         own: place.own,
     };
     read_inside(field, there, sources, sink)
-}
-
-/// Shows the value of an OPTIONAL or REPEATED field that is missing.
-fn show_missing<K: RowSink>(repetition: Repetition, sink: &mut K) -> Result<(), AllocError>
-    ensures shown { OnOk result (Adds (K.shows sink.old) (K.shows sink.new) (tokens (missing_value repetition))) }
-{
-    match repetition {
-        Repetition::Repeated => {
-            sink.begin_list()?;
-            sink.end_list()
-        }
-        _ => sink.value(ValueRef::Null),
-    }
 }

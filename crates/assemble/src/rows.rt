@@ -11,7 +11,8 @@ ghost use Rattle.assemble.specs.RowsOf.{AreRowsOf, StandForRows, HasFault, IsNex
 ghost use Rattle.assemble.specs.inner.Steps.{Ended, Filled};
 
 use crate::cursor::Cursor;
-use crate::reading::{Place, has_item, read_fields};
+use crate::place::Place;
+use crate::reading::{has_item, read_fields};
 use crate::row_builder::RowBuilder;
 use crate::sink::{Discard, RowSink};
 use crate::source::EntrySource;

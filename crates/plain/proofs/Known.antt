@@ -1,6 +1,5 @@
 -- Values that are known to stand.
 use Rattle.std.proofs.Common.{Fits, w8, ◌≡◌, ℕ, zero, suc, ◌+◌, ◌*◌, ◌^◌, ◌<◌, ◌≤◌, List, [], ◌∷◌, ◌++◌, length, get_or, take, drop, refl, sym, ap, subst, ◌∙◌, arith, append_assoc, inl, inr}
-use Rattle.std.specs.Prelude.{map}
 use Rattle.std.specs.Int.{from_bool}
 use Rattle.std.proofs.lemmas.Bool.{cases_lt}
 use Rattle.std.proofs.lemmas.List.{length-append, length-map, length-drop, drop-drop, get_or-drop}
@@ -12,7 +11,7 @@ use Rattle.bits.proofs.Turns.{turn_within}
 use Rattle.schema.specs.declared.value.Kind.{Kind}
 use Rattle.schema.specs.declared.value.Kind.TheVariants.{Boolean, Int32, Int64, ByteArray, FixedLenByteArray}
 use Rattle.schema.specs.Values.{ValueTree}
-use Rattle.plain.specs.Plain.{AreBytes, IsSpelled, IsPlain, spelling}
+use Rattle.plain.specs.Plain.{IsSpelled, IsPlain, spelling}
 use Rattle.plain.specs.ValuesFrom.{value_at, size_at, values_from, end_from, greatest_end}
 use Rattle.plain.proofs.Places.{count_from, first_there, boolean_end, booleans_stand, sized_end, sized_in_turn}
 use Rattle.plain.proofs.Spelled.{of_byte_array, spelling_size, spelled_within, are_bytes, byte_array_front}

@@ -31,7 +31,8 @@ pub fn readers_of<'a>(
     schema: &'a Schema,
     is_accepted: bool,
 ) -> R<Vec<ChunkReader<'a>>>
-    requires accepted { is_accepted ≡ true → (columns : List (List Entry)) × AreSound front.now (group_meta_view meta.now).columns (leaves_of schema.now) columns }
+    requires accepted { is_accepted ≡ true → (columns : List (List Entry))
+        × AreSound front.now (group_meta_view meta.now).columns (leaves_of schema.now) columns }
     ensures valid { OnOk result (IsSchema schema.now) }
     ensures stands { IfOk result (λ rs. AreReaders front.now (group_meta_view meta.now).columns (leaves_of schema.now) rs.items) }
     ensures only { OnFault result ((columns : List (List Entry)) → AreChunks front.now (group_meta_view meta.now).columns (leaves_of schema.now) columns → ⊥) }

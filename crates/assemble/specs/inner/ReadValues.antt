@@ -4,7 +4,7 @@ use Rattle.bits.specs.declared.refusal.Refusal.{Refusal}
 use Rattle.schema.specs.Values.{ValueTree, ValueTrees}
 use Rattle.schema.specs.Shape.{Field, Fields}
 use Rattle.schema.specs.Stripe.{Entry}
-use Rattle.assemble.specs.declared.reading.Place.{Place}
+use Rattle.assemble.specs.declared.place.Place.{Place}
 use Rattle.assemble.specs.Columns.{Columns, Fronts, AreAlike, Want, AllSuit, Tells}
 use Rattle.assemble.specs.Standing.{Onward, Backward}
 use Rattle.assemble.specs.inner.Fronts.{AreEnds, stripes, stripes_inside, stripes_items, stripes_each, wants, wants_inside, wants_each, Fit, FitInside, FitItems, FitEach}

@@ -2,7 +2,7 @@ use Rattle.std.proofs.Common.{◌≡◌, map, length}
 use Rattle.assemble.specs.Columns.{Fronts}
 use Rattle.assemble.specs.Standing.{Onward, Backward}
 use Rattle.assemble.specs.inner.Fronts.{nones}
-use Rattle.assemble.proofs.reading.skip.Given as goal
+use Rattle.assemble.proofs.missing.skip.Given as goal
 
 abbrev pub invariant-loop-i : goal.invariant-loop-i
 invariant-loop-i g l = record {

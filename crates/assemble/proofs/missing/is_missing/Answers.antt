@@ -1,6 +1,6 @@
 use Rattle.std.proofs.Common.{arith}
 use Rattle.assemble.proofs.Standing.{same_set}
-use Rattle.assemble.proofs.reading.is_missing.Goals as goal
+use Rattle.assemble.proofs.missing.is_missing.Goals as goal
 
 pub returns-in_err-peek-clause-same : goal.returns-in_err-peek-clause-same
 returns-in_err-peek-clause-same g c = same_set g.S.EntrySource.stands c.args.sources.now 0 c.index-sources-0.result c.peek.new.self (omega (arith, c.requires)) c.in_err-peek.ensures.stays.0

@@ -3,7 +3,7 @@ use Rattle.schema.specs.Stripe.{entry}
 use Rattle.assemble.specs.inner.Steps.{IsAbsentFaulty, IsSkipFaulty}
 use Rattle.assemble.proofs.Skipping.{skip_step, skip_faulty}
 use Rattle.assemble.proofs.Standing.{set_on, set_back, kept_at, stand_get, stand_length, refused_at, refused_ok}
-use Rattle.assemble.proofs.reading.skip.Goals as goal
+use Rattle.assemble.proofs.missing.skip.Goals as goal
 
 pub returns-in_err-read_absent-clause-refused : goal.returns-in_err-read_absent-clause-refused
 returns-in_err-read_absent-clause-refused g c =
