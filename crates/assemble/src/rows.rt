@@ -6,7 +6,7 @@ ghost use Rattle.schema.specs.Values.{ValueTrees};
 ghost use Rattle.schema.specs.Views.{rows_view, columns_view};
 ghost use Rattle.assemble.specs.Columns.{Tells};
 ghost use Rattle.assemble.specs.Sinks.{Visits, tokens_each};
-ghost use Rattle.assemble.specs.Standing.{AllStand, AllSame, NoneStand, IsRefusedFor};
+ghost use Rattle.assemble.specs.Standing.{AllSame, IsRefusedFor};
 ghost use Rattle.assemble.specs.RowsOf.{AreRowsOf, StandForRows, HasFault, IsNextRow, NextRowTo, NextRow, IsTooLong, IsRefusedAs};
 ghost use Rattle.assemble.specs.inner.Steps.{Ended, Filled};
 

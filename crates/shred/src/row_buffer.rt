@@ -37,7 +37,7 @@ pub struct RowBuffer<'a> {
 }
 
 impl<'a> RowBuffer<'a> {
-    ghost use Rattle.shred.specs.Buffer.{schema_of, holds, BeginsRow, ShowsRow};
+    ghost use Rattle.shred.specs.Buffer.{schema_of, holds, ShowsRow};
 
     /// A buffer without rows. It fails only when out of memory.
     pub fn new(alloc: Global, schema: &'a Schema) -> R<RowBuffer<'a>>
