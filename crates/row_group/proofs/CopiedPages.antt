@@ -23,7 +23,7 @@ use Rattle.row_group.specs.declared.options.ChunkOptions.{ChunkOptions}
 use Rattle.row_group.specs.declared.pages_in_turn.PageValues.TheVariants.{Encoded}
 use Rattle.row_group.specs.Greatest.{most_bytes_before}
 use Rattle.row_group.specs.Paged.{BeginsRow}
-use Rattle.row_group.specs.inner.Parts.{IsFirstPage, IsPart, part_weight, AreShortIn, AppendsParts, ArePartsTooMuch}
+use Rattle.row_group.specs.inner.Parts.{IsFirstPage, IsPart, AppendsParts, ArePartsTooMuch}
 use Rattle.row_group.specs.inner.Parts as parts_of
 use Rattle.row_group.proofs.PartsPut.{PartsPut, none_put, one_put, all_put, too_heavy, page_too_much, value_part, all_in_page, all_both, any_front, any_back}
 
