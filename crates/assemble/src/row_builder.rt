@@ -1,23 +1,26 @@
 //! Rows of owned values, made of what a sink is shown.
 
 ghost use Rattle.std.specs.Prelude.{◌≡◌, [], IfOk, OnOk, option_map};
-ghost use Rattle.schema.specs.Values.{ValueTrees, views};
+ghost use Rattle.schema.specs.Values.{ValueTrees, view, views};
 ghost use Rattle.schema.specs.Views.{row_view};
 ghost use Rattle.assemble.specs.Sinks.{tokens_each};
-ghost use Rattle.assemble.specs.inner.Building.{builder_shows, frames_of, begun, IsEnded};
+ghost use Rattle.assemble.specs.inner.Building.{builder_shows, begun, Turns, Gains, TakesOff};
 
 use crate::sink::RowSink;
 use schema::{Row, Value, ValueRef};
 use std::alloc::{AllocError, Global};
 use std::mem;
 
-/// A sink that makes a row of what it is shown. The bytes of each value are copied once.
+/// A sink that makes a row of what it is shown. The bytes of each value are copied once, and a group or a list gets
+/// exactly the room for its values when it ends. It can make one row after another, and keeps its own room.
 #[derive(Debug, Drop)]
 pub struct RowBuilder {
     alloc: Global,
     values: Vec<Value>,
-    /// Those of the groups and lists that have begun, the outermost first.
-    enclosing: Vec<Vec<Value>>,
+    /// The values of the groups and lists that have begun, those of the outermost first.
+    inner: Vec<Value>,
+    /// Where those of each begin.
+    begun: Vec<usize>,
 }
 
 impl RowBuilder {
@@ -28,8 +31,29 @@ impl RowBuilder {
         Ok(RowBuilder {
             alloc,
             values: Vec::with_capacity(alloc, fields)?,
-            enclosing: Vec::new(alloc),
+            inner: Vec::new(alloc),
+            begun: Vec::new(alloc),
         })
+    }
+
+    /// Forgets what it was shown, and makes room for this many fields. It fails only when out of memory.
+    pub fn begin_row(&mut self, fields: usize) -> Result<(), AllocError>
+        ensures empty { OnOk result (builder_shows self.new []) }
+    {
+        self.begun.clear();
+        self.inner.clear();
+        self.values = Vec::with_capacity(self.alloc, fields)?;
+        Ok(())
+    }
+
+    /// The row whose values were shown, each group and list of them to its end. It was shown nothing then.
+    pub fn take_row(&mut self) -> Row
+        ensures row { (values : ValueTrees) → builder_shows self.old (tokens_each values) → row_view result ≡ values }
+        ensures again { (values : ValueTrees) → builder_shows self.old (tokens_each values) → builder_shows self.new [] }
+    {
+        Row {
+            values: mem::replace(&mut self.values, Vec::new(self.alloc)),
+        }
     }
 
     /// The row whose values were shown, each group and list of them to its end.
@@ -41,22 +65,35 @@ impl RowBuilder {
         }
     }
 
+    /// Adds a value to the innermost group or list that has begun, or to the row.
+    fn push(&mut self, value: Value) -> Result<(), AllocError>
+        ensures gains { OnOk result (Gains (view value) self.old self.new) }
+    {
+        if self.begun.is_empty() {
+            self.values.push(value)?;
+        } else {
+            self.inner.push(value)?;
+        }
+        Ok(())
+    }
+
     /// Begins a group or a list.
     fn begin(&mut self) -> Result<(), AllocError>
-        ensures begun { OnOk result (frames_of self.new ≡ begun (frames_of self.old)) }
+        ensures begins { OnOk result (Turns begun self.old self.new) }
     {
-        let outer = mem::replace(&mut self.values, Vec::new(self.alloc));
-        self.enclosing.push(outer)?;
+        self.begun.push(self.inner.len())?;
         Ok(())
     }
 
     /// Ends a group or a list, and returns what was shown since it began; nothing where none has begun.
-    fn end(&mut self) -> Option<Vec<Value>>
-        ensures ended { IsEnded (frames_of self.old) (frames_of self.new) (option_map (λ values. views values.items) result) }
+    fn end(&mut self) -> Result<Option<Vec<Value>>, AllocError>
+        ensures ended { IfOk result (λ ended. TakesOff self.old self.new (option_map (λ values. views values.items) ended)) }
     {
-        match self.enclosing.pop() {
-            None => None,
-            Some(outer) => Some(mem::replace(&mut self.values, outer)),
+        match self.begun.pop() {
+            None => Ok(None),
+            // For the proof: it begins within them.
+            Some(from) if from > self.inner.len() => Ok(None),
+            Some(from) => Ok(Some(self.inner.split_off(from)?)),
         }
     }
 }
@@ -66,12 +103,17 @@ impl RowSink for RowBuilder {
 
     fn value(&mut self, value: ValueRef<'_>) -> Result<(), AllocError> {
         match value.to_value(self.alloc) {
-            Ok(owned) => {
-                self.values.push(owned)?;
-                Ok(())
-            }
+            Ok(owned) => self.push(owned),
             Err(_) => Err(AllocError),
         }
+    }
+
+    fn int(&mut self, number: i64) -> Result<(), AllocError> {
+        self.push(Value::Int(number))
+    }
+
+    fn bytes(&mut self, text: &[u8]) -> Result<(), AllocError> {
+        self.push(Value::Bytes(Vec::from_slice(self.alloc, text)?))
     }
 
     fn begin_group(&mut self) -> Result<(), AllocError> {
@@ -79,10 +121,10 @@ impl RowSink for RowBuilder {
     }
 
     fn end_group(&mut self) -> Result<(), AllocError> {
-        if let Some(values) = self.end() {
-            self.values.push(Value::Group(values))?;
+        match self.end()? {
+            Some(values) => self.push(Value::Group(values)),
+            None => Ok(()),
         }
-        Ok(())
     }
 
     fn begin_list(&mut self) -> Result<(), AllocError> {
@@ -90,9 +132,9 @@ impl RowSink for RowBuilder {
     }
 
     fn end_list(&mut self) -> Result<(), AllocError> {
-        if let Some(items) = self.end() {
-            self.values.push(Value::List(items))?;
+        match self.end()? {
+            Some(items) => self.push(Value::List(items)),
+            None => Ok(()),
         }
-        Ok(())
     }
 }

@@ -1,6 +1,5 @@
 -- What a row's builder holds of what it was shown.
-use Rattle.std.specs.Prelude.{◌≡◌, List, [], ◌∷◌, map, reverse, Option, Some, None}
-use Rattle.std.specs.Global.{Vec}
+use Rattle.std.specs.Prelude.{◌≡◌, ℕ, ◌≤◌, List, [], ◌∷◌, drop, length, reverse, Option, Some, None, take}
 use Rattle.schema.specs.declared.value.Value.{Value}
 use Rattle.schema.specs.Values.{ValueTree, ValueTrees, no_values, value as item, group, list, views}
 use Rattle.assemble.specs.declared.row_builder.RowBuilder.{RowBuilder}
@@ -46,11 +45,39 @@ abbrev pub IsEnded : Frames → Frames → Option ValueTrees → Type 0
 IsEnded f g None = (f.outer ≡ []) × (g ≡ f)
 IsEnded f g (Some vs) = (vs ≡ f.here) × (f.outer ≡ g.here ∷ g.outer)
 
-abbrev pub vec_views : Vec Value → ValueTrees
-vec_views vs = views vs.items
+-- n values hold those of groups and lists that begin there, innermost first
+abbrev pub AreBegun : List ℕ → ℕ → Type 0
+AreBegun [] n = Unit {0}
+AreBegun (m ∷ ms) n = (m ≤ n) × AreBegun ms m
+
+-- the values of the innermost of them, or those of the row, and those around it
+abbrev pub here_in : ValueTrees → List Value → List ℕ → ValueTrees
+here_in row inner [] = row
+here_in row inner (m ∷ ms) = views (drop m inner)
+
+abbrev pub outer_in : ValueTrees → List Value → List ℕ → List ValueTrees
+outer_in row inner [] = []
+outer_in row inner (m ∷ ms) = here_in row (take m inner) ms ∷ outer_in row (take m inner) ms
+
+abbrev pub frames_in : ValueTrees → List Value → List ℕ → Frames
+frames_in row inner ms = record { here = here_in row inner ms; outer = outer_in row inner ms }
 
 abbrev pub frames_of : RowBuilder → Frames
-frames_of b = record { here = views b.values.items; outer = reverse (map vec_views b.enclosing.items) }
+frames_of b = frames_in (views b.values.items) b.inner.items (reverse b.begun.items)
+
+abbrev pub IsInOrder : RowBuilder → Type 0
+IsInOrder b = AreBegun (reverse b.begun.items) (length b.inner.items)
+
+-- what it holds changes by f
+abbrev pub Turns : (Frames → Frames) → RowBuilder → RowBuilder → Type 0
+Turns f old new = IsInOrder old → IsInOrder new × (frames_of new ≡ f (frames_of old))
+
+abbrev pub Gains : ValueTree → RowBuilder → RowBuilder → Type 0
+Gains v = Turns (λ f. more f v)
+
+-- the innermost is taken off, if there is one
+abbrev pub TakesOff : RowBuilder → RowBuilder → Option ValueTrees → Type 0
+TakesOff old new ended = IsInOrder old → IsInOrder new × IsEnded (frames_of old) (frames_of new) ended
 
 abbrev pub builder_shows : RowBuilder → List Token → Type 0
-builder_shows b ts = frames_of b ≡ run no_frames ts
+builder_shows b ts = IsInOrder b × (frames_of b ≡ run no_frames ts)

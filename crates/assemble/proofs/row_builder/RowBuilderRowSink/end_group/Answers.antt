@@ -1,21 +1,20 @@
-use Rattle.std.proofs.Common.{◌∙◌, ap, sym}
-use Rattle.schema.specs.Values.{group}
-use Rattle.assemble.specs.Sinks.{group_ends}
-use Rattle.assemble.specs.inner.Building.{frames_of}
+use Rattle.std.proofs.Common.{Option, option_map, subst}
+use Rattle.std.proofs.lemmas.Result.{on_ok_weaker}
+use Rattle.std.specs.Global.{Vec}
+use Rattle.schema.specs.declared.value.Value.{Value}
+use Rattle.schema.specs.Values.{group, views}
 use Rattle.schema.proofs.OneLevel.{view_group}
-use Rattle.assemble.proofs.Showing.{one_step, ended_some, ended_none, group_closed, group_unopened, pushed}
+use Rattle.assemble.specs.Sinks.{group_ends}
+use Rattle.assemble.specs.inner.Building.{TakesOff}
+use Rattle.assemble.proofs.BuiltRows.{shown, closes, closes_none}
 use Rattle.assemble.proofs.row_builder.RowBuilderRowSink.end_group.Goals as goal
 
-pub returns-in_ok-push : goal.returns-in_ok-push
-returns-in_ok-push c =
-    let old = frames_of c.args.self.now in
-    let mid = frames_of c.end.new.self in
-    let is = ended_some old mid c.end.result c.in-Some.values c.in-Some.is c.end.ensures.ended in
-    record { shown = one_step old _ group_ends (pushed c.end.new.self.values.items c.push.new.self.items _ mid.outer (group old.here) c.in_ok-push.ensures.items (view_group c.in-Some.values ∙ ap group is.0) ∙ sym (group_closed old mid is.1)) }
+pub returns-in-Some : goal.returns-in-Some
+returns-in-Some c =
+    let ended = subst (λ (o : Option (Vec Value)). TakesOff c.args.self.now c.end.new.self (option_map (λ (vs : Vec Value). views vs.items) o)) c.in-Some.is c.in_ok-values.ensures.ended in
+    record { shown = on_ok_weaker c.push.result (λ gains. shown c.args.self.now c.push.new.self group_ends (closes group c.args.self.now c.end.new.self c.push.new.self _ _ (view_group c.in-Some.values) ended gains)) c.push.ensures.gains }
 
-pub returns-in_default : goal.returns-in_default
-returns-in_default c =
-    let old = frames_of c.args.self.now in
-    let mid = frames_of c.end.new.self in
-    let is = ended_none old mid c.end.result c.in_default.not-Some c.end.ensures.ended in
-    record { shown = one_step old mid group_ends (is.1 ∙ sym (group_unopened old is.0)) }
+pub returns-in-None : goal.returns-in-None
+returns-in-None c =
+    let ended = subst (λ (o : Option (Vec Value)). TakesOff c.args.self.now c.end.new.self (option_map (λ (vs : Vec Value). views vs.items) o)) c.in-None.is c.in_ok-values.ensures.ended in
+    record { shown = shown c.args.self.now c.end.new.self group_ends (closes_none group c.args.self.now c.end.new.self ended) }

@@ -1,21 +1,20 @@
-use Rattle.std.proofs.Common.{◌∙◌, ap, sym}
-use Rattle.schema.specs.Values.{list}
-use Rattle.assemble.specs.Sinks.{list_ends}
-use Rattle.assemble.specs.inner.Building.{frames_of}
+use Rattle.std.proofs.Common.{Option, option_map, subst}
+use Rattle.std.proofs.lemmas.Result.{on_ok_weaker}
+use Rattle.std.specs.Global.{Vec}
+use Rattle.schema.specs.declared.value.Value.{Value}
+use Rattle.schema.specs.Values.{list, views}
 use Rattle.schema.proofs.OneLevel.{view_list}
-use Rattle.assemble.proofs.Showing.{one_step, ended_some, ended_none, list_closed, list_unopened, pushed}
+use Rattle.assemble.specs.Sinks.{list_ends}
+use Rattle.assemble.specs.inner.Building.{TakesOff}
+use Rattle.assemble.proofs.BuiltRows.{shown, closes, closes_none}
 use Rattle.assemble.proofs.row_builder.RowBuilderRowSink.end_list.Goals as goal
 
-pub returns-in_ok-push : goal.returns-in_ok-push
-returns-in_ok-push c =
-    let old = frames_of c.args.self.now in
-    let mid = frames_of c.end.new.self in
-    let is = ended_some old mid c.end.result c.in-Some.items c.in-Some.is c.end.ensures.ended in
-    record { shown = one_step old _ list_ends (pushed c.end.new.self.values.items c.push.new.self.items _ mid.outer (list old.here) c.in_ok-push.ensures.items (view_list c.in-Some.items ∙ ap list is.0) ∙ sym (list_closed old mid is.1)) }
+pub returns-in-Some : goal.returns-in-Some
+returns-in-Some c =
+    let ended = subst (λ (o : Option (Vec Value)). TakesOff c.args.self.now c.end.new.self (option_map (λ (vs : Vec Value). views vs.items) o)) c.in-Some.is c.in_ok-items.ensures.ended in
+    record { shown = on_ok_weaker c.push.result (λ gains. shown c.args.self.now c.push.new.self list_ends (closes list c.args.self.now c.end.new.self c.push.new.self _ _ (view_list c.in-Some.items) ended gains)) c.push.ensures.gains }
 
-pub returns-in_default : goal.returns-in_default
-returns-in_default c =
-    let old = frames_of c.args.self.now in
-    let mid = frames_of c.end.new.self in
-    let is = ended_none old mid c.end.result c.in_default.not-Some c.end.ensures.ended in
-    record { shown = one_step old mid list_ends (is.1 ∙ sym (list_unopened old is.0)) }
+pub returns-in-None : goal.returns-in-None
+returns-in-None c =
+    let ended = subst (λ (o : Option (Vec Value)). TakesOff c.args.self.now c.end.new.self (option_map (λ (vs : Vec Value). views vs.items) o)) c.in-None.is c.in_ok-items.ensures.ended in
+    record { shown = shown c.args.self.now c.end.new.self list_ends (closes_none list c.args.self.now c.end.new.self ended) }
