@@ -1,5 +1,5 @@
 -- What a row's builder makes of what it is shown.
-use Rattle.std.proofs.Common.{◌≡◌, ℕ, ℤ, zero, suc, ◌+◌, ◌≤◌, ◌==◌, true, false, List, [], ◌∷◌, ◌++◌, length, take, drop, reverse, Option, Some, None, option_map, refl, ap, sym, subst, ◌∙◌, arith}
+use Rattle.std.proofs.Common.{◌≡◌, ℕ, ℤ, ◌+◌, ◌≤◌, List, [], ◌∷◌, ◌++◌, length, take, drop, reverse, Some, None, refl, ap, sym, subst, ◌∙◌, arith}
 use Rattle.std.proofs.lemmas.List.{length-append, reverse-reverse, take-append-le, drop-append-le}
 use Rattle.std.specs.Global.{Vec}
 use Rattle.schema.specs.declared.value.Value.{Value, Int as value_int, Bytes as value_bytes}
@@ -8,8 +8,8 @@ use Rattle.schema.specs.declared.value.Value.TheOpen.{Value-F}
 use Rattle.schema.specs.declared.value.Value.TheFolds.{fold-roll-Value}
 use Rattle.schema.specs.Values.{ValueTree, null, boolean, integer, bytes, group, list, ValueTrees, no_values, value as item, view, views, view_step}
 use Rattle.assemble.specs.declared.row_builder.RowBuilder.{RowBuilder}
-use Rattle.assemble.specs.Sinks.{Token, single, group_begins, group_ends, list_begins, list_ends, tokens, tokens_each, Adds}
-use Rattle.assemble.specs.inner.Building.{snoc, Frames, no_frames, more, closed, step, run, AreBegun, here_in, outer_in, frames_in, frames_of, IsInOrder, Turns, Gains, TakesOff, builder_shows}
+use Rattle.assemble.specs.Sinks.{Token, single, group_ends, list_ends, tokens, tokens_each, Adds}
+use Rattle.assemble.specs.inner.Building.{snoc, Frames, no_frames, more, closed, step, run, AreBegun, here_in, outer_in, frames_in, frames_of, Turns, Gains, TakesOff, builder_shows}
 use Rattle.assemble.proofs.Items.{views-push}
 use Rattle.assemble.proofs.Each.{join, join_snoc, join_none}
 

@@ -66,6 +66,7 @@ impl RowBuilder {
     }
 
     /// Adds a value to the innermost group or list that has begun, or to the row.
+    #[inline(always)]
     fn push(&mut self, value: Value) -> Result<(), AllocError>
         ensures gains { OnOk result (Gains (view value) self.old self.new) }
     {
@@ -78,6 +79,7 @@ impl RowBuilder {
     }
 
     /// Begins a group or a list.
+    #[inline(always)]
     fn begin(&mut self) -> Result<(), AllocError>
         ensures begins { OnOk result (Turns begun self.old self.new) }
     {
@@ -86,6 +88,7 @@ impl RowBuilder {
     }
 
     /// Ends a group or a list, and returns what was shown since it began; nothing where none has begun.
+    #[inline(always)]
     fn end(&mut self) -> Result<Option<Vec<Value>>, AllocError>
         ensures ended { IfOk result (λ ended. TakesOff self.old self.new (option_map (λ values. views values.items) ended)) }
     {
@@ -108,14 +111,17 @@ impl RowSink for RowBuilder {
         }
     }
 
+    #[inline(always)]
     fn int(&mut self, number: i64) -> Result<(), AllocError> {
         self.push(Value::Int(number))
     }
 
+    #[inline(always)]
     fn bytes(&mut self, text: &[u8]) -> Result<(), AllocError> {
         self.push(Value::Bytes(Vec::from_slice(self.alloc, text)?))
     }
 
+    #[inline(always)]
     fn begin_group(&mut self) -> Result<(), AllocError> {
         self.begin()
     }
@@ -127,6 +133,7 @@ impl RowSink for RowBuilder {
         }
     }
 
+    #[inline(always)]
     fn begin_list(&mut self) -> Result<(), AllocError> {
         self.begin()
     }

@@ -29,8 +29,8 @@ use std::alloc::{AllocError, Global};
 /// How deep the members of a row nest at most.
 const DEEPEST: usize = 126;
 
-/// Reads rows of a schema, one after another. Names are sorted once, and the room for a text and for the bytes of a
-/// value is kept from row to row.
+/// Reads rows of a schema, one after another. Names are sorted once, and the room for a text, for the bytes of a value,
+/// and for the values of groups and lists that have not ended, is kept from row to row.
 #[derive(Drop)]
 pub struct Reader<'a> {
     alloc: Global,
@@ -39,6 +39,8 @@ pub struct Reader<'a> {
     scratch: Scratch,
     /// Where bytes are made that do not stand in the text as they are.
     buffer: Vec<u8>,
+    /// Makes the rows that are kept.
+    builder: RowBuilder,
     /// How many pieces the row had that was read at once last.
     room: usize,
 }
@@ -68,18 +70,18 @@ fn values_of_tokens(
     }
 }
 
-/// The row that is made of pieces.
+/// The row of this many fields that is made of pieces.
 fn row_of_pieces(
-    alloc: Global,
     fields: usize,
     pieces: &[Piece<'_>],
     buffer: &mut Vec<u8>,
+    builder: &mut RowBuilder,
 ) -> Result<Row, AllocError>
     ensures { IfOk result (λ row. (values : ValueTrees) → tokens_of pieces.now ≡ tokens_each values → row_view row ≡ values) }
 {
-    let mut builder = RowBuilder::new(alloc, fields)?;
-    show_pieces(pieces, buffer, &mut builder)?;
-    Ok(builder.into_row())
+    builder.begin_row(fields)?;
+    show_pieces(pieces, buffer, builder)?;
+    Ok(builder.take_row())
 }
 
 /// The row that a text is, where it is the text of a row as it is printed. `room` is how many pieces the row had that
@@ -90,6 +92,7 @@ fn row_printed(
     text: &str,
     room: &mut usize,
     buffer: &mut Vec<u8>,
+    builder: &mut RowBuilder,
 ) -> Result<Row, Unread>
     ensures { IfOk result (λ row. IsRowOf plan.now text.now (row_view row)) }
 {
@@ -98,7 +101,7 @@ fn row_printed(
     plan.put_pieces(alloc, text, &mut pieces)?;
     *room = pieces.len();
     let fields = plan.schema().fields().len();
-    let row = row_of_pieces(alloc, fields, pieces.as_slice(), buffer)?;
+    let row = row_of_pieces(fields, pieces.as_slice(), buffer, builder)?;
     Ok(row)
 }
 
@@ -117,6 +120,7 @@ impl<'a> Reader<'a> {
             names,
             scratch: Scratch::new(alloc),
             buffer: Vec::new(alloc),
+            builder: RowBuilder::new(alloc, 0)?,
             room: 0,
         })
     }
@@ -155,6 +159,7 @@ impl<'a> Reader<'a> {
             text,
             &mut self.room,
             &mut self.buffer,
+            &mut self.builder,
         ) {
             Ok(row) => Ok(row),
             Err(Unread::OutOfMemory) => Err(Refusal::Memory),

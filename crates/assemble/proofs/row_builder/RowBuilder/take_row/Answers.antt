@@ -1,4 +1,4 @@
-use Rattle.std.proofs.Common.{reverse, sym, ap, ◌∙◌}
+use Rattle.std.proofs.Common.{reverse, ap, ◌∙◌}
 use Rattle.std.specs.Global.{Vec}
 use Rattle.schema.specs.declared.value.Value.{Value}
 use Rattle.schema.specs.Values.{views}
