@@ -1,3 +1,4 @@
+pub mod Levels
 pub mod Both
 pub mod Forms
 pub mod Joined

@@ -1,7 +1,7 @@
 //! The text of an object: its members in the order of their names, and its braces.
 
 ghost use Rattle.std.specs.Prelude.{◌≡◌, ◌≤◌, ◌+◌, ◌++◌, ◌∷◌, [], ℕ, List, length, drop, IfSome, IfOk, OnOk, flat_map, take};
-ghost use Rattle.std.specs.Bool.{OnTrue};
+ghost use Rattle.std.specs.Bool.{OnTrue, OnFalse};
 ghost use Rattle.jsonrows.specs.inner.Levels.{between, piece, braced_at};
 
 use crate::line::Line;
@@ -114,9 +114,27 @@ fn sort_slowly(
     text.extend_from_slice(spare.as_slice())
 }
 
-/// Puts the members of an object in this order: they are appended in it, and then moved to where they begin. The text of
-/// the object begins at `from`, the first of `starts` is that of its first member, and `spare` is room.
-#[inline(never)]
+/// Puts the two members of an object in the other order, where these are all of them, and returns whether they are: the
+/// first is appended once more, and then removed from where it stood. Else it does nothing.
+#[inline(always)]
+fn swap(order: &[usize], from: usize, starts: &[usize], text: &mut Line) -> Result<bool, AllocError>
+    ensures swapped { IfOk result (λ all. OnTrue all (text.new.items ≡ take from text.old.items ++ flat_map (piece text.old.items starts.now) order.now)) }
+    ensures same { IfOk result (λ all. OnFalse all (text.new.items ≡ text.old.items)) }
+{
+    let ([1, 0], [start, middle]) = (order, starts) else {
+        return Ok(false);
+    };
+    if *start != from || *start > *middle || *middle > text.len() {
+        return Ok(false);
+    }
+    text.extend_within(*start, *middle)?;
+    text.cut_out(*start, *middle);
+    Ok(true)
+}
+
+/// Puts the members of an object in this order. The text of the object begins at `from`; of `starts`, those from `first`
+/// on are where its members begin; `spare` is room.
+#[inline(always)]
 pub fn sort(
     order: &[usize],
     from: usize,
@@ -128,6 +146,23 @@ pub fn sort(
     ensures { OnOk result (text.new.items ≡ take from text.old.items ++ flat_map (piece text.old.items (drop first starts.now)) order.now) }
 {
     let starts = starts.get(first..).unwrap_or(&[]);
+    if swap(order, from, starts, text)? {
+        return Ok(());
+    }
+    sort_all(order, from, starts, text, spare)
+}
+
+/// So of members that begin at `starts`: they are appended in this order, and then moved to where they begin.
+#[inline(never)]
+fn sort_all(
+    order: &[usize],
+    from: usize,
+    starts: &[usize],
+    text: &mut Line,
+    spare: &mut Line,
+) -> Result<(), AllocError>
+    ensures { OnOk result (text.new.items ≡ take from text.old.items ++ flat_map (piece text.old.items starts.now) order.now) }
+{
     let len = text.len();
     if from > len {
         return sort_slowly(order, from, starts, text, spare);

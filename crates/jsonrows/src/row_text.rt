@@ -4,59 +4,23 @@ ghost use Rattle.std.specs.Prelude.{◌≡◌, ◌≤◌, ℕ, ◌+◌, ◌++◌
 ghost use Rattle.schema.specs.Borrowed.{value_ref_view};
 ghost use Rattle.schema.specs.Fits.{fits_each};
 ghost use Rattle.schema.specs.Shape.{Fields};
-ghost use Rattle.schema.specs.Values.{ValueTrees, integer, bytes};
+ghost use Rattle.schema.specs.Values.{ValueTrees};
 ghost use Rattle.assemble.specs.Sinks.{Adds, single};
 ghost use Rattle.jsonrows.specs.Json.{row_text};
 ghost use Rattle.jsonrows.specs.Rows.{plan_schema, IsReady, text_shows, BeginsRow, ShowsRow, BeginsLine, ShowsLine};
-ghost use Rattle.jsonrows.specs.declared.row_plan.RowPlan.{RowPlan as CodePlan};
-ghost use Rattle.jsonrows.specs.inner.Slots.{leaf_slot, slot, slot_view, slots_view};
-ghost use Rattle.jsonrows.specs.inner.Levels.{top_of, state_of, begun, more, next_slot, left, closed, level_at, entered, inside, bytes_text, value_text, text_at, seen, held, from_of};
+ghost use Rattle.jsonrows.specs.inner.Slots.{leaf_slot, order_view};
+ghost use Rattle.jsonrows.specs.inner.Levels.{top_of, state_of, begun, next_slot, left, closed, level_at, entered, seen, held, from_of, braced_at, sorted, kept_starts};
 
-use crate::key::Key;
+use crate::leaf_text::put_single;
+use crate::level::{
+    Leaf, Level, Outer, leaf_of, order_in, short_leaf_at, short_leaf_in, slot_at, slot_in,
+};
 use crate::line::Line;
 use crate::object_text::{put_braces, put_line_end, rest, sort};
 use crate::row_plan::{RowPlan, Slot};
-use crate::scalars::{NUMBER_ROOM, Numbers, end_with_number, put_boolean, put_null, put_number};
-use crate::strings::{end_with_digits, place_string, put_digits, put_string};
-use assemble::RowSink;
+use crate::scalars::NUMBER_ROOM;
 use schema::ValueRef;
 use std::alloc::{AllocError, Global};
-
-/// Where the values stand that are shown.
-#[derive(Clone, Copy)]
-pub enum Level<'a> {
-    /// In a row whose fields, those of the plan, stand in the order of their names: where its text begins.
-    Row {
-        from: usize,
-    },
-    /// In another object: its fields, their order, where the text of the object begins, and how many pieces begin
-    /// before it.
-    Object {
-        slots: &'a [Slot],
-        order: Option<&'a [usize]>,
-        from: usize,
-        first: usize,
-    },
-    /// In a list: what its items are.
-    List {
-        slot: Option<&'a Slot>,
-    },
-}
-
-/// What stands at a leaf.
-#[derive(Clone, Copy)]
-struct Leaf<'a> {
-    key: &'a Key,
-    numbers: Numbers,
-    is_text: bool,
-}
-
-/// A level around another, and how many of its values were shown.
-#[derive(Clone, Copy)]
-pub struct Outer<'a> {
-    level: Level<'a>,
-    shown: usize,
-}
 
 /// Prints the rows that it is shown. The bytes of each value are copied into one buffer, which is kept from row
 /// to row; where the fields of an object do not stand in the order of their names, its members are copied once
@@ -66,10 +30,10 @@ pub struct Outer<'a> {
 pub struct RowText<'a> {
     plan: &'a RowPlan<'a>,
     /// The lines of earlier rows, and the text so far of the row that is being shown.
-    text: Line,
+    pub(crate) text: Line,
     /// Where each member begins, before its comma, of the objects that have begun and whose fields do not stand
     /// in the order of their names.
-    starts: Vec<usize>,
+    pub(crate) starts: Vec<usize>,
     here: Level<'a>,
     /// How many values of this level were shown; of a list, whether there was one.
     shown: usize,
@@ -81,184 +45,6 @@ pub struct RowText<'a> {
 
 /// Room for a short name, and for a number or a short string in quotes.
 const LEAF_ROOM: usize = 69;
-
-/// The most bytes of a short string.
-const SHORT: usize = 32;
-
-/// The most bytes whose digits take no more room.
-const FEW: usize = 16;
-
-/// Appends bytes of a leaf: text as a string, and all else by its digits.
-#[inline(always)]
-fn put_bytes(is_text: bool, bytes: &[u8], out: &mut Line) -> Result<(), AllocError>
-    ensures { OnOk result (out.new.items ≡ out.old.items ++ bytes_text is_text bytes.now) }
-{
-    if is_text {
-        put_string(bytes, out)
-    } else {
-        put_digits(bytes, out)
-    }
-}
-
-/// Appends a few bytes of a leaf, where there is room for them as a string.
-#[inline(always)]
-fn place_bytes(is_text: bool, bytes: &[u8], out: &mut Line) -> Result<(), AllocError>
-    requires string { length bytes.now + 2 ≤ out.old.ready }
-    requires digits { 34 ≤ out.old.ready }
-    ensures { OnOk result (out.new.items ≡ out.old.items ++ bytes_text is_text bytes.now) }
-{
-    if !is_text {
-        if bytes.len() > FEW {
-            return put_digits(bytes, out);
-        }
-        return end_with_digits(bytes, out);
-    }
-    place_string(bytes, out)
-}
-
-/// Appends a value of a leaf, its repetition aside, where there is room for a number.
-#[inline(always)]
-fn put_value(
-    numbers: Numbers,
-    is_text: bool,
-    value: ValueRef<'_>,
-    out: &mut Line,
-) -> Result<(), AllocError>
-    requires { 53 ≤ out.old.ready }
-    ensures { OnOk result (out.new.items ≡ out.old.items ++ value_text numbers is_text (value_ref_view value.entry)) }
-{
-    match value {
-        ValueRef::Bool(boolean) => put_boolean(boolean, out),
-        ValueRef::Int(number) => put_number(numbers, number, out),
-        ValueRef::Bytes(bytes) => return put_bytes(is_text, bytes, out),
-        ValueRef::Null | ValueRef::Group(_) | ValueRef::List(_) => put_null(out),
-    }
-    Ok(())
-}
-
-/// Appends a value that is no group and no list, where there is room for a number: null where it is not of a leaf.
-#[inline(always)]
-fn put_single(slot: Option<&Slot>, value: ValueRef<'_>, out: &mut Line) -> Result<(), AllocError>
-    requires { 53 ≤ out.old.ready }
-    ensures { OnOk result (out.new.items ≡ out.old.items ++ text_at (option_map seen slot.entry) (value_ref_view value.entry)) }
-{
-    match slot {
-        Some(
-            Slot::Leaf {
-                numbers,
-                is_text,
-                ..
-            },
-        ) => put_value(*numbers, *is_text, value, out),
-        _ => {
-            put_null(out);
-            Ok(())
-        }
-    }
-}
-
-/// The level inside a group, whose text begins here.
-#[inline(always)]
-fn inside(slot: Option<&Slot>, from: usize, first: usize) -> Level<'_>
-    ensures { (plan : CodePlan) → level_at plan result 0 ≡ inside (option_map seen slot.entry) from first }
-{
-    match slot {
-        Some(Slot::Group { slots, order, .. }) => Level::Object {
-            slots: slots.as_slice(),
-            order: match order {
-                None => None,
-                Some(order) => Some(order.as_slice()),
-            },
-            from,
-            first,
-        },
-        _ => Level::Object {
-            slots: &[],
-            order: None,
-            from,
-            first,
-        },
-    }
-}
-
-/// The slot at an index, and the index after it.
-#[inline(always)]
-fn slot_at(slots: &[Slot], index: usize) -> Option<(&Slot, usize)>
-    ensures some { IfSome result (λ r. drop index slots.now ≡ r.0.now ∷ drop (index + 1) slots.now) }
-    ensures next { IfSome result (λ r. r.1 ≡ index + 1) }
-    ensures none { IfNone result (drop index slots.now ≡ []) }
-{
-    match slots.get(index) {
-        None => None,
-        Some(slot) => Some((slot, index + 1)),
-    }
-}
-
-/// The leaf that a slot is, if it is one.
-#[inline(always)]
-fn leaf_of(slot: Option<&Slot>) -> Option<Leaf<'_>>
-    ensures { IfSome result (λ leaf. option_map seen slot.entry ≡ Some (leaf_slot leaf.key.now leaf.numbers leaf.is_text)) }
-{
-    match slot {
-        Some(
-            Slot::Leaf {
-                key,
-                numbers,
-                is_text,
-            },
-        ) => Some(Leaf {
-            key,
-            numbers: *numbers,
-            is_text: *is_text,
-        }),
-        _ => None,
-    }
-}
-
-/// The leaf with a short name at an index, and the index after it.
-#[inline(always)]
-fn short_leaf_at(slots: &[Slot], index: usize) -> Option<(Leaf<'_>, usize)>
-    ensures short { IfSome result (λ r. length r.0.key.now ≤ 16) }
-    ensures some { IfSome result (λ r. slots_view (drop index slots.now)
-        ≡ slot (leaf_slot r.0.key.now r.0.numbers r.0.is_text) (slots_view (drop r.1 slots.now))) }
-{
-    match slot_at(slots, index) {
-        Some(
-            (
-                Slot::Leaf {
-                    key,
-                    numbers,
-                    is_text,
-                },
-                next,
-            ),
-        ) if key.is_short() => {
-            let leaf = Leaf {
-                key,
-                numbers: *numbers,
-                is_text: *is_text,
-            };
-            Some((leaf, next))
-        }
-        _ => None,
-    }
-}
-
-/// Shows a number as a value: a function of its own, so that the usual path takes no memory for the value.
-#[inline(never)]
-fn show_int(number: i64, text: &mut RowText<'_>) -> Result<(), AllocError>
-    ensures { OnOk result (Adds (text_shows text.old) (text_shows text.new) (single (integer number) ∷ [])) }
-{
-    text.show(ValueRef::Int(number))
-}
-
-/// Shows bytes as a value.
-#[inline(never)]
-fn show_bytes(shown: &[u8], text: &mut RowText<'_>) -> Result<(), AllocError>
-    ensures { OnOk result (Adds (text_shows text.old) (text_shows text.new) (single (bytes shown.now) ∷ [])) }
-{
-    text.show(ValueRef::Bytes(shown))
-}
 
 impl<'a> RowText<'a> {
     /// Nothing is shown yet.
@@ -284,19 +70,14 @@ impl<'a> RowText<'a> {
     {
         match plan.order() {
             None => Level::Row { from },
-            Some(order) => Level::Object {
-                slots: plan.slots(),
-                order: Some(order),
-                from,
-                first: 0,
-            },
+            Some(_) => Level::SortedRow { from },
         }
     }
 
     /// Begins the next value as [`begin_value`](RowText::begin_value) does, where it is of a leaf with a short name and
     /// there is room, and returns what stands there.
     #[inline(always)]
-    fn take_leaf(&mut self) -> Option<Leaf<'a>>
+    pub(crate) fn take_leaf(&mut self) -> Option<Leaf<'a>>
         ensures room { OnSome result (53 ≤ self.new.text.ready) }
         ensures slot { IfSome result (λ leaf. next_slot (state_of self.old).here ≡ Some (leaf_slot leaf.key.now leaf.numbers leaf.is_text)) }
         ensures begun { OnSome result (state_of self.new ≡ begun (state_of self.old)) }
@@ -328,9 +109,21 @@ impl<'a> RowText<'a> {
             return None;
         }
         match self.here {
-            Level::Object { slots, order, .. } => {
-                let (leaf, shown) = short_leaf_at(slots, self.shown)?;
-                if order.is_some() {
+            Level::Group { slot, .. } => {
+                let (leaf, shown) = short_leaf_in(slot, self.shown)?;
+                if order_in(slot).is_some() {
+                    if self.starts.len() >= self.starts.capacity() {
+                        return None;
+                    }
+                    self.starts.push_reserved(self.text.len());
+                }
+                self.shown = shown;
+                leaf.key.place(&mut self.text);
+                Some(leaf)
+            }
+            Level::SortedRow { .. } => {
+                let (leaf, shown) = short_leaf_at(self.plan.slots(), self.shown)?;
+                if self.plan.order().is_some() {
                     if self.starts.len() >= self.starts.capacity() {
                         return None;
                     }
@@ -348,13 +141,13 @@ impl<'a> RowText<'a> {
                 self.shown = 1;
                 Some(leaf)
             }
-            Level::Row { .. } => None,
+            Level::Row { .. } | Level::Unknown { .. } => None,
         }
     }
 
     /// Prints what stands before a value, with room after it for a number or a word, and returns what the value is of.
     #[inline(always)]
-    fn begin_value(&mut self) -> Result<Option<&'a Slot>, AllocError>
+    pub(crate) fn begin_value(&mut self) -> Result<Option<&'a Slot>, AllocError>
         ensures room { OnOk result (53 ≤ self.new.text.ready) }
         ensures slot { IfOk result (λ slot. option_map seen slot ≡ next_slot (state_of self.old).here) }
         ensures begun { OnOk result (state_of self.new ≡ begun (state_of self.old)) }
@@ -370,17 +163,33 @@ impl<'a> RowText<'a> {
                 slot.padded_key().put(&mut self.text)?;
                 Ok(Some(slot))
             }
-            Level::Object { slots, order, .. } => {
-                let Some((slot, shown)) = slot_at(slots, self.shown) else {
+            Level::SortedRow { .. } => {
+                let Some((slot, shown)) = slot_at(self.plan.slots(), self.shown) else {
                     self.text.reserve(NUMBER_ROOM)?;
                     return Ok(None);
                 };
                 self.shown = shown;
-                if order.is_some() {
+                if self.plan.order().is_some() {
                     self.starts.push(self.text.len())?;
                 }
                 slot.padded_key().put(&mut self.text)?;
                 Ok(Some(slot))
+            }
+            Level::Group { slot, .. } => {
+                let Some((inner, shown)) = slot_in(slot, self.shown) else {
+                    self.text.reserve(NUMBER_ROOM)?;
+                    return Ok(None);
+                };
+                self.shown = shown;
+                if order_in(slot).is_some() {
+                    self.starts.push(self.text.len())?;
+                }
+                inner.padded_key().put(&mut self.text)?;
+                Ok(Some(inner))
+            }
+            Level::Unknown { .. } => {
+                self.text.reserve(NUMBER_ROOM)?;
+                Ok(None)
             }
             Level::List { slot } => {
                 self.text.reserve(1 + NUMBER_ROOM)?;
@@ -395,7 +204,7 @@ impl<'a> RowText<'a> {
 
     /// Shows any null or value of a leaf: a function of its own, so that the usual paths save no registers for it.
     #[inline(never)]
-    fn show(&mut self, value: ValueRef<'_>) -> Result<(), AllocError>
+    pub(crate) fn show(&mut self, value: ValueRef<'_>) -> Result<(), AllocError>
         ensures shown { OnOk result (Adds (text_shows self.old) (text_shows self.new) (single (value_ref_view value.entry) ∷ [])) }
     {
         let slot = self.begin_value()?;
@@ -404,7 +213,7 @@ impl<'a> RowText<'a> {
 
     /// Goes into a level of which no value was shown yet.
     #[inline(always)]
-    fn enter(&mut self, level: Level<'a>) -> Result<(), AllocError>
+    pub(crate) fn enter(&mut self, level: Level<'a>) -> Result<(), AllocError>
         ensures entered { OnOk result (state_of self.new ≡ entered (state_of self.old) (level_at self.old.plan.now level.entry 0)) }
         ensures same { self.new.plan.now ≡ self.old.plan.now }
     {
@@ -419,7 +228,7 @@ impl<'a> RowText<'a> {
 
     /// Goes back to the level around this one.
     #[inline(always)]
-    fn leave(&mut self)
+    pub(crate) fn leave(&mut self)
         ensures left { state_of self.new ≡ left (state_of self.old) }
         ensures same { self.new.plan.now ≡ self.old.plan.now }
     {
@@ -431,33 +240,37 @@ impl<'a> RowText<'a> {
 
     /// Ends the text of the object that began last.
     #[inline(always)]
-    fn close(&mut self) -> Result<(), AllocError>
+    pub(crate) fn close(&mut self) -> Result<(), AllocError>
         ensures closed { OnOk result (state_of self.new ≡ closed (state_of self.old)) }
         ensures same { self.new.plan.now ≡ self.old.plan.now }
     {
         match self.here {
-            Level::Row { from } => put_braces(from, &mut self.text),
-            Level::Object {
-                order,
-                from,
-                first,
-                ..
-            } => {
-                if let Some(order) = order {
-                    sort(
-                        order,
-                        from,
-                        first,
-                        self.starts.as_slice(),
-                        &mut self.text,
-                        &mut self.spare,
-                    )?;
-                    self.starts.truncate(first);
-                }
-                put_braces(from, &mut self.text)
-            }
+            Level::Row { from } | Level::Unknown { from, .. } => put_braces(from, &mut self.text),
+            Level::SortedRow { from } => self.close_in(self.plan.order(), from, 0),
+            Level::Group { slot, from, first } => self.close_in(order_in(slot), from, first),
             Level::List { .. } => Ok(()),
         }
+    }
+
+    /// So of an object whose members come in this order, whose text begins at `from`, and before which so many
+    /// pieces begin.
+    #[inline(always)]
+    fn close_in(
+        &mut self,
+        order: Option<&[usize]>,
+        from: usize,
+        first: usize,
+    ) -> Result<(), AllocError>
+        ensures text { OnOk result (self.new.text.items ≡ braced_at from (sorted self.old.text.items (drop first self.old.starts.items) from (order_view order.entry)) ++ 125 ∷ []) }
+        ensures starts { OnOk result (self.new.starts.items ≡ kept_starts (order_view order.entry) first self.old.starts.items) }
+        ensures same { (self.new.plan ≡ self.old.plan) × ((self.new.here ≡ self.old.here) × ((self.new.shown ≡ self.old.shown) × (self.new.outer ≡ self.old.outer))) }
+    {
+        if let Some(order) = order {
+            let starts = self.starts.as_slice();
+            sort(order, from, first, starts, &mut self.text, &mut self.spare)?;
+            self.starts.truncate(first);
+        }
+        put_braces(from, &mut self.text)
     }
 
     /// Where the text of the object begins of which values are shown.
@@ -466,7 +279,10 @@ impl<'a> RowText<'a> {
         ensures { result ≡ from_of (state_of self.now).here }
     {
         match self.here {
-            Level::Row { from } | Level::Object { from, .. } => from,
+            Level::Row { from }
+            | Level::SortedRow { from }
+            | Level::Group { from, .. }
+            | Level::Unknown { from, .. } => from,
             Level::List { .. } => 0,
         }
     }
@@ -544,70 +360,6 @@ impl<'a> RowText<'a> {
         out.extend_from_slice(rest(self.text.as_slice(), from))?;
         self.text.truncate(from);
         self.begin_row();
-        Ok(())
-    }
-}
-
-impl<'a> RowSink for RowText<'a> {
-    ghost shows = { text_shows };
-
-    // Inlined, this and the two after it would keep the loops that read the values from being inlined.
-    #[inline(never)]
-    fn value(&mut self, value: ValueRef<'_>) -> Result<(), AllocError> {
-        match value {
-            ValueRef::Null | ValueRef::Bool(_) => match self.take_leaf() {
-                None => self.show(value),
-                Some(leaf) => { put_value(leaf.numbers, leaf.is_text, value, &mut self.text) }
-            },
-            _ => self.show(value),
-        }
-    }
-
-    #[inline(never)]
-    fn int(&mut self, number: i64) -> Result<(), AllocError> {
-        match self.take_leaf() {
-            None => show_int(number, self),
-            Some(leaf) => { end_with_number(leaf.numbers, number, &mut self.text) }
-        }
-    }
-
-    #[inline(never)]
-    fn bytes(&mut self, text: &[u8]) -> Result<(), AllocError> {
-        if text.len() > SHORT {
-            return show_bytes(text, self);
-        }
-        match self.take_leaf() {
-            None => show_bytes(text, self),
-            Some(leaf) => { place_bytes(leaf.is_text, text, &mut self.text) }
-        }
-    }
-
-    #[inline(always)]
-    fn begin_group(&mut self) -> Result<(), AllocError> {
-        let slot = self.begin_value()?;
-        let level = inside(slot, self.text.len(), self.starts.len());
-        self.enter(level)
-    }
-
-    #[inline(always)]
-    fn end_group(&mut self) -> Result<(), AllocError> {
-        self.close()?;
-        self.leave();
-        Ok(())
-    }
-
-    #[inline(always)]
-    fn begin_list(&mut self) -> Result<(), AllocError> {
-        let slot = self.begin_value()?;
-        self.enter(Level::List { slot })?;
-        self.text.push(b'[')?;
-        Ok(())
-    }
-
-    #[inline(always)]
-    fn end_list(&mut self) -> Result<(), AllocError> {
-        self.text.push(b']')?;
-        self.leave();
         Ok(())
     }
 }

@@ -1,5 +1,5 @@
 -- What a sink holds of the values that it was shown, as text.
-use Rattle.std.specs.Prelude.{ℕ, ◌-◌, Bool, true, false, List, [], ◌∷◌, ◌++◌, map, reverse, length, take, drop, flat_map, Option, Some, None, option_map, nat_lt, if◌then◌else◌}
+use Rattle.std.specs.Prelude.{ℕ, zero, suc, ◌-◌, Bool, true, false, List, [], ◌∷◌, ◌++◌, map, reverse, length, take, drop, flat_map, Option, Some, None, option_map, nat_lt, if◌then◌else◌}
 use Rattle.std.specs.Borrow.{Bor}
 use Rattle.json.specs.Print.{quoted}
 use Rattle.serde_json.specs.Data as json
@@ -11,12 +11,12 @@ use Rattle.assemble.specs.Sinks.{Token, single, group_begins, group_ends, list_b
 use Rattle.jsonrows.specs.declared.scalars.Numbers.{Numbers}
 use Rattle.jsonrows.specs.declared.row_plan.Slot.{Slot as CodeSlot}
 use Rattle.jsonrows.specs.declared.row_plan.RowPlan.{RowPlan}
-use Rattle.jsonrows.specs.declared.row_text.Level.{Level as CodeLevel}
-use Rattle.jsonrows.specs.declared.row_text.Level.TheVariants.{Row, Object, List as ListOf}
-use Rattle.jsonrows.specs.declared.row_text.Outer.{Outer as CodeOuter}
+use Rattle.jsonrows.specs.declared.level.Level.{Level as CodeLevel}
+use Rattle.jsonrows.specs.declared.level.Level.TheVariants.{Row, SortedRow, Group, Unknown, List as ListOf}
+use Rattle.jsonrows.specs.declared.level.Outer.{Outer as CodeOuter}
 use Rattle.jsonrows.specs.declared.row_text.RowText.{RowText}
 use Rattle.jsonrows.specs.inner.Scalars.{number_shown}
-use Rattle.jsonrows.specs.inner.Slots.{Slot, leaf_slot, group_slot, Slots, no_slots, slot, slot_view, slots_view, key_in, slots_made, order_of, vec_items, order_view}
+use Rattle.jsonrows.specs.inner.Slots.{Slot, leaf_slot, group_slot, Slots, no_slots, slot, slot_view, slots_view, key_in, slots_made, order_of, vec_items}
 
 -- ---- the text of a value of a leaf
 
@@ -173,10 +173,27 @@ root lines fs = held lines [] (object (slots_made fs) (order_of fs) (length line
 abbrev pub seen : Bor CodeSlot → Slot
 seen s = slot_view s.now
 
+-- what stands at the fields of a group, and their order
+abbrev pub slots_in : Slot → Slots
+slots_in (group_slot k ss o) = ss
+slots_in (leaf_slot k n t) = no_slots
+
+abbrev pub order_in : Slot → Option (List ℕ)
+order_in (group_slot k ss o) = o
+order_in (leaf_slot k n t) = None
+
+-- the slots from an index on
+abbrev pub slots_after : ℕ → Slots → Slots
+slots_after zero ss = ss
+slots_after (suc i) no_slots = no_slots
+slots_after (suc i) (slot s ss) = slots_after i ss
+
 -- a level of which so many values were shown; a row's fields are those of the plan, and stand in the order of their names
 abbrev pub level_at : RowPlan → CodeLevel → ℕ → Level
 level_at p (Row f) shown = object (slots_view (drop shown p.slots.items)) None f 0
-level_at p (Object ss o f n) shown = object (slots_view (drop shown ss.now)) (order_view o) f n
+level_at p (SortedRow f) shown = object (slots_view (drop shown p.slots.items)) (option_map vec_items p.order) f 0
+level_at p (Group s f n) shown = object (slots_after shown (slots_in (seen s))) (order_in (seen s)) f n
+level_at p (Unknown f n) shown = object no_slots None f n
 level_at p (ListOf s) shown = items (option_map seen s) (nat_lt 0 shown)
 
 abbrev pub outer_view : RowPlan → CodeOuter → Level

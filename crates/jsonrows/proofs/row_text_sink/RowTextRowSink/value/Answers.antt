@@ -4,7 +4,7 @@ use Rattle.schema.specs.Borrowed.{value_ref_view}
 use Rattle.assemble.specs.Sinks.{single}
 use Rattle.jsonrows.specs.inner.Levels.{held, state_of, begun, text_at}
 use Rattle.jsonrows.proofs.RowSteps.{one_step, printed_more}
-use Rattle.jsonrows.proofs.row_text.RowTextRowSink.value.Goals as goal
+use Rattle.jsonrows.proofs.row_text_sink.RowTextRowSink.value.Goals as goal
 
 pub returns-in-Some : goal.returns-in-Some
 returns-in-Some c =

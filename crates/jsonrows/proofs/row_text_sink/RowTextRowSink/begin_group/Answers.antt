@@ -3,7 +3,7 @@ use Rattle.std.proofs.lemmas.Result.{on_ok_weaker}
 use Rattle.assemble.specs.Sinks.{group_begins}
 use Rattle.jsonrows.specs.inner.Levels.{state_of, begun, entered, next_slot, inside}
 use Rattle.jsonrows.proofs.RowSteps.{one_step}
-use Rattle.jsonrows.proofs.row_text.RowTextRowSink.begin_group.Goals as goal
+use Rattle.jsonrows.proofs.row_text_sink.RowTextRowSink.begin_group.Goals as goal
 
 pub returns : goal.returns
 returns c =

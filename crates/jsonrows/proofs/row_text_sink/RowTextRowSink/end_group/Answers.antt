@@ -2,7 +2,7 @@ use Rattle.std.proofs.Common.{ap, ◌∙◌}
 use Rattle.assemble.specs.Sinks.{group_ends}
 use Rattle.jsonrows.specs.inner.Levels.{state_of, left}
 use Rattle.jsonrows.proofs.RowSteps.{one_step}
-use Rattle.jsonrows.proofs.row_text.RowTextRowSink.end_group.Goals as goal
+use Rattle.jsonrows.proofs.row_text_sink.RowTextRowSink.end_group.Goals as goal
 
 pub returns : goal.returns
 returns c =

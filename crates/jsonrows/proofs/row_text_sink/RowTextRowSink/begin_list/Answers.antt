@@ -2,7 +2,7 @@ use Rattle.std.proofs.Common.{◌≡◌, ap, ap₂, refl, ◌∷◌, [], false, 
 use Rattle.assemble.specs.Sinks.{list_begins}
 use Rattle.jsonrows.specs.inner.Levels.{entered, items, state_of, begun, next_slot}
 use Rattle.jsonrows.proofs.RowSteps.{one_step, printed_more}
-use Rattle.jsonrows.proofs.row_text.RowTextRowSink.begin_list.Goals as goal
+use Rattle.jsonrows.proofs.row_text_sink.RowTextRowSink.begin_list.Goals as goal
 
 pub returns : goal.returns
 returns c =

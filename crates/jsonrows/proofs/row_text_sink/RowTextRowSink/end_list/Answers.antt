@@ -2,7 +2,7 @@ use Rattle.std.proofs.Common.{ap, refl, ◌∙◌, ◌∷◌, []}
 use Rattle.assemble.specs.Sinks.{list_ends}
 use Rattle.jsonrows.specs.inner.Levels.{state_of, left}
 use Rattle.jsonrows.proofs.RowSteps.{one_step, printed_more}
-use Rattle.jsonrows.proofs.row_text.RowTextRowSink.end_list.Goals as goal
+use Rattle.jsonrows.proofs.row_text_sink.RowTextRowSink.end_list.Goals as goal
 
 pub returns : goal.returns
 returns c =
