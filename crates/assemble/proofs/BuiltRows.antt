@@ -72,11 +72,11 @@ gained_inner row old new v [] some is h = absurd (some refl)
 gained_inner row old new v (m ∷ ms) some is h =
     let outside = λ (us : List Value). here_in row us ms ∷ outer_in row us ms in
     let there = ap (drop m) is ∙ drop-append-le m old (v ∷ []) h.0 in
-    let kept = ap (take m) is ∙ take-append-le m old (v ∷ []) h.0 in
-    ( (longer m (length old) (length new) h.0 (ap length is ∙ length-append old (v ∷ [])), h.1)
-    , ap (λ us. frames (views us) (outside (take m new))) there
-      ∙ ap (λ us. frames us (outside (take m new))) (views-push (drop m old) v)
-      ∙ ap (λ us. frames (snoc (views (drop m old)) (view v)) (outside us)) kept
+    let kept = ap (take m) is ∙ take-append-le m old (v ∷ []) h.0 in (
+      (longer m (length old) (length new) h.0 (ap length is ∙ length-append old (v ∷ [])), h.1),
+      ap (λ us. frames (views us) (outside (take m new))) there
+          ∙ ap (λ us. frames us (outside (take m new))) (views-push (drop m old) v)
+          ∙ ap (λ us. frames (snoc (views (drop m old)) (view v)) (outside us)) kept,
     )
 
 pub none_reversed : (ms : List ℕ) → length ms ≡ 0 → reverse ms ≡ []
