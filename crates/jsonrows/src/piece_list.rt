@@ -90,7 +90,7 @@ impl<'t> Pieces<'t> {
     }
 
     /// Adds a piece where there is no place left among the few.
-    #[inline(never)]
+    #[inline(always)]
     fn push_beyond(&mut self, piece: Piece<'t>) -> Result<(), AllocError>
         ensures { OnOk result (self.new.items ≡ self.old.items ++ piece.entry ∷ []) }
     {
