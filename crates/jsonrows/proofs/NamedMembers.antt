@@ -2,8 +2,8 @@
 use Rattle.std.proofs.Common.{◌≡◌, ℕ, zero, suc, ◌+◌, ◌-◌, ◌<◌, ◌≤◌, Bool, true, false, true≢false, List, [], ◌∷◌, ◌++◌, length, take, drop, map, flat_map, get_or, Option, Some, None, refl, sym, ap, ap₂, subst, ◌∙◌, arith, append_assoc, append-nil}
 use Rattle.std.specs.Prelude.{slice_range, slice_set, replicate}
 use Rattle.std.specs.List.{AllByRecursion}
-use Rattle.std.proofs.Math.Seq.{drop-append_seam}
-use Rattle.std.proofs.lemmas.List.{length-append, length-map, take-append-le, drop-append-le, take_all, take_more, length-drop}
+use Rattle.std.proofs.Math.Seq.{drop-append_seam, take-append_seam}
+use Rattle.std.proofs.lemmas.List.{length-append, length-map, map-append, take-append-le, drop-append-le, take_all, take_more, length-drop}
 use Rattle.std.proofs.lemmas.Grind.{flat_map-append}
 use Rattle.serde_json.specs.Written.{compact_text}
 use Rattle.schema.specs.declared.field.Field.{Field as CodeField}
@@ -18,6 +18,7 @@ use Rattle.jsonrows.specs.declared.spans.Span.{Span}
 use Rattle.jsonrows.specs.declared.cursor.Cursor.{Cursor}
 use Rattle.jsonrows.specs.inner.Lines.{rest_of, with_comma, open_text}
 use Rattle.jsonrows.specs.inner.Pieces.{token_of, tokens_of, Grows, IsRead, AreRead}
+use Rattle.jsonrows.specs.inner.PieceLists.{exchanged}
 use Rattle.jsonrows.specs.inner.Slots.{slot_of, key_in, indices_of}
 use Rattle.jsonrows.specs.inner.Spans.{span_tokens, IsSpan, fits_at, member_text, IsNoted, IsMemberRead}
 use Rattle.jsonrows.proofs.RowOrder.{nth, pieces, flat_same, pieces_ordered}
@@ -244,3 +245,68 @@ names_end fs first js rest is_first read spans ks bs so later is added =
     let said : flat_map (text_in fs os) js ≡ open_text (members_json fs vs) = flat_same (text_in fs os) (nth (pieces fs vs)) w.1.1.1 js ∙ ap (flat_map (nth (pieces fs vs))) is ∙ pieces_ordered fs vs w.1.0 in
     let end : with_comma is_first rest ≡ rest = ap (λ b. with_comma b rest) later in
     (vs, (w.1.0, (so.1.1.0 ∙ ap₂ (λ (a b : List ℕ). a ++ b) said end, added.1 ∙ ap (λ x. tokens_of ks ++ x) w.1.1.0)))
+
+-- ---- two members of which the second stands first
+
+pub longer : (ks bs : List Piece) (ts : List Token) → Grows ks bs ts → length ks ≤ length bs
+longer ks bs ts grown =
+    let k = length-map ks token_of in
+    let b = length-map bs token_of in
+    let both : length (tokens_of bs) ≡ length (tokens_of ks) + length ts = ap length grown ∙ length-append (tokens_of ks) ts in
+    omega (arith, k, b, both)
+
+module _ (p q r : List Piece) (ts us : List Token) (first : Grows p q ts) (second : Grows q r us) where
+  front_kept : tokens_of (take (length p) r) ≡ tokens_of p
+  front_kept =
+      let n : length p ≡ length (tokens_of p) = sym (length-map p token_of) in
+      let whole : tokens_of r ≡ tokens_of p ++ (ts ++ us) = second ∙ ap (λ x. x ++ us) first ∙ append_assoc (tokens_of p) ts us in
+      mapped_take (length p) r ∙ ap₂ (λ (k : ℕ) (x : List Token). take k x) n whole ∙ take-append_seam (tokens_of p) (ts ++ us)
+
+  exchange_grows : (s t : Span) → s.from ≡ length q → s.to ≡ length r → t.from ≡ length p → t.to ≡ length q → Grows p (exchanged (length p) (length q) r) (flat_map (span_tokens r) (Some s ∷ Some t ∷ []))
+  exchange_grows s t sf st tf to =
+      let later = drop (length q) r in
+      let earlier = slice_range r (length p) (length q) in
+      let long : length later ≤ length r - length q = let e = length-drop (length q) r in omega (arith, e) in
+      let all : slice_range r s.from s.to ≡ later = ap₂ (slice_range r) sf st ∙ take_all (length r - length q) later long in
+      let same : slice_range r t.from t.to ≡ earlier = ap₂ (slice_range r) tf to in
+      let parts : tokens_of (later ++ earlier) ≡ tokens_of later ++ tokens_of earlier = map-append token_of later earlier in
+      let split : tokens_of (exchanged (length p) (length q) r) ≡ tokens_of (take (length p) r) ++ tokens_of (later ++ earlier) = map-append token_of (take (length p) r) (later ++ earlier) in
+      split ∙ ap₂ (λ (x y : List Token). x ++ y) front_kept (parts ∙ sym (ap₂ (λ (x y : List Token). x ++ y) (ap tokens_of all) (append-nil (tokens_of (slice_range r t.from t.to)) ∙ ap tokens_of same)))
+
+two_read : (a b : CodeField) (first : List ℕ) (c d e f : Cursor) (p q r : List Piece) → indices_of (field_views (a ∷ b ∷ [])) ≡ 1 ∷ 0 ∷ []
+    → with_comma true first ≡ key_in (slot_of (field_view b)) ++ rest_of c → IsRead (fits (field_view b)) (field_json (field_view b)) c d p q
+    → with_comma false (rest_of d) ≡ key_in (slot_of (field_view a)) ++ rest_of e → IsRead (fits (field_view a)) (field_json (field_view a)) e f q r
+    → AreRead (fits_each (field_views (a ∷ b ∷ []))) (λ vs. open_text (members_json (field_views (a ∷ b ∷ [])) vs)) (44 ∷ first) (rest_of f) p (exchanged (length p) (length q) r)
+two_read a b first c d e f p q r order named_b read_b named_a read_a =
+    let fs = a ∷ b ∷ [] in
+    let views = field_views fs in
+    let s : Span = record { from = length q; to = length r } in
+    let t : Span = record { from = length p; to = length q } in
+    let none : List (Option Span) = None ∷ None ∷ [] in
+    let one : List (Option Span) = None ∷ Some t ∷ [] in
+    let two : List (Option Span) = Some s ∷ Some t ∷ [] in
+    let begun : NamesGo views first [] true first p none = names_begin fs first p none refl in
+    let noted_b : IsNoted none 1 t one = (omega arith, (refl, refl)) in
+    let noted_a : IsNoted one 0 s two = (omega arith, (refl, refl)) in
+    let turn_b : IsMemberRead views 1 true first (rest_of d) p q none one = member_read fs 1 b true first (key_in (slot_of (field_view b))) c d p q none one (length p) (length q) (omega arith) refl refl named_b read_b refl refl noted_b in
+    let turn_a : IsMemberRead views 0 false (rest_of d) (rest_of f) q r one two = member_read fs 0 a false (rest_of d) (key_in (slot_of (field_view a))) e f q r one two (length q) (length r) (omega arith) refl refl named_a read_a refl refl noted_a in
+    let known : NamesGo views first (1 ∷ 0 ∷ []) false (rest_of f) r two =
+    names_turn views first (1 ∷ []) 0 false (rest_of d) (rest_of f) q r one two (names_turn views first [] 1 true first (rest_of d) p q none one begun turn_b) turn_a in
+    let grown : Grows p (exchanged (length p) (length q) r) (flat_map (span_tokens r) two) =
+    exchange_grows p q r (tokens read_b.0) (tokens read_a.0) read_b.1.1 read_a.1.1 s t refl refl refl refl in
+    names_end views first (1 ∷ 0 ∷ []) (rest_of f) false r two p (exchanged (length p) (length q) r) known refl (sym order) ((tt, (tt, tt)), grown)
+
+pub two_exchanged : (fs : List CodeField) (a b : CodeField) (first k l : List ℕ) (c d e f : Cursor) (p q r o : List Piece) → fs ≡ a ∷ b ∷ [] → indices_of (field_views fs) ≡ 1 ∷ 0 ∷ [] → l ≡ key_in (slot_of (field_view b)) → k ≡ key_in (slot_of (field_view a))
+    → with_comma true first ≡ l ++ rest_of c → IsRead (fits (field_view b)) (field_json (field_view b)) c d p q
+    → with_comma false (rest_of d) ≡ k ++ rest_of e → IsRead (fits (field_view a)) (field_json (field_view a)) e f q r
+    → o ≡ exchanged (length p) (length q) r
+    → AreRead (fits_each (field_views fs)) (λ vs. open_text (members_json (field_views fs) vs)) (44 ∷ first) (rest_of f) p o
+two_exchanged fs a b first k l c d e f p q r o is order right left named_b read_b named_a read_a put =
+    let said = two_read a b first c d e f p q r (subst (λ xs. indices_of (field_views xs) ≡ 1 ∷ 0 ∷ []) is order) (named_b ∙ ap (λ x. x ++ rest_of c) right) read_b (named_a ∙ ap (λ x. x ++ rest_of e) left) read_a in
+    subst (λ xs. AreRead (fits_each (field_views xs)) (λ vs. open_text (members_json (field_views xs) vs)) (44 ∷ first) (rest_of f) p o) (sym is) (subst (λ x. AreRead (fits_each (field_views (a ∷ b ∷ []))) (λ vs. open_text (members_json (field_views (a ∷ b ∷ [])) vs)) (44 ∷ first) (rest_of f) p x) (sym put) said)
+
+pub pair_of : (fs : List CodeField) (a b : CodeField) → length fs ≡ 2 → a ≡ get_or fs 0 a → b ≡ get_or fs 1 b → fs ≡ a ∷ b ∷ []
+pair_of [] a b n p q = absurd (omega (arith, n))
+pair_of (f ∷ []) a b n p q = absurd (omega (arith, n))
+pair_of (f ∷ g ∷ []) a b n p q = ap₂ (λ (x y : CodeField). x ∷ y ∷ []) (sym p) (sym q)
+pair_of (f ∷ g ∷ h ∷ fs) a b n p q = absurd (omega (arith, n))

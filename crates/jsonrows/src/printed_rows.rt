@@ -1,6 +1,6 @@
 //! Values of fields from a line in the form in which rows are printed.
 
-ghost use Rattle.std.specs.Prelude.{◌≡◌, ◌<◌, ◌∷◌, ◌++◌, false, length, IfOk, OnOk, IsTrue, option_map, slice_index_or};
+ghost use Rattle.std.specs.Prelude.{◌≡◌, ◌<◌, [], ◌∷◌, ◌++◌, false, length, IfOk, OnOk, IsTrue, option_map, slice_index_or};
 ghost use Rattle.serde_json.specs.Written.{comma_if, items_text};
 ghost use Rattle.schema.specs.Fits.{fits, fits_inside, fits_each};
 ghost use Rattle.schema.specs.Values.{each};
@@ -283,6 +283,37 @@ fn by_name<'t>(
     put_spans(read.as_slice(), spans.as_slice(), pieces)
 }
 
+/// Reads the values of two fields of which the second stands first, after the brace, and exchanges their pieces.
+#[cycle(printed)]
+fn exchanged<'t>(
+    alloc: Global,
+    fields: &[Field],
+    slots: &[Slot],
+    line: &mut Cursor<'t>,
+    pieces: &mut Pieces<'t>,
+) -> Result<(), Unread>
+    requires slots { slots_view slots.now ≡ slots_made (field_views fields.now) }
+    requires order { indices_of (field_views fields.now) ≡ 1 ∷ 0 ∷ [] }
+    ensures { OnOk result (AreRead (fits_each (field_views fields.now)) (λ vs. open_text (members_json (field_views fields.now) vs))
+        (44 ∷ rest_of line.old) (rest_of line.new) pieces.old.items pieces.new.items) }
+{
+    let ([left, right], [left_slot, right_slot]) = (fields, slots) else {
+        return Err(Unread::Unknown);
+    };
+    let from = pieces.len();
+    if !skip_key(right_slot, true, line) {
+        return Err(Unread::Unknown);
+    }
+    field_printed(alloc, right, right_slot, line, pieces)?;
+    let middle = pieces.len();
+    if !skip_key(left_slot, false, line) {
+        return Err(Unread::Unknown);
+    }
+    field_printed(alloc, left, left_slot, line, pieces)?;
+    pieces.exchange(from, middle);
+    Ok(())
+}
+
 /// Reads the values of fields by the members of an object, after its brace.
 #[cycle(printed)]
 fn ordered_printed<'t>(
@@ -300,6 +331,7 @@ fn ordered_printed<'t>(
 {
     match order {
         None => in_order(alloc, fields, slots, line, pieces),
+        Some([1, 0]) => exchanged(alloc, fields, slots, line, pieces),
         Some(order) => by_name(alloc, fields, slots, order, line, pieces),
     }
 }

@@ -35,6 +35,9 @@ decreases-member_printed l = 4 * sizes (field_views l.fields.now) + 3
 abbrev pub decreases-by_name : goal.decreases-by_name
 decreases-by_name l = 4 * sizes (field_views l.fields.now) + 4
 
+abbrev pub decreases-exchanged : goal.decreases-exchanged
+decreases-exchanged l = 4 * sizes (field_views l.fields.now) + 3
+
 abbrev pub decreases-ordered_printed : goal.decreases-ordered_printed
 decreases-ordered_printed l = 4 * sizes (field_views l.fields.now) + 5
 
