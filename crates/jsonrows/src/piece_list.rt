@@ -45,12 +45,16 @@ impl<'t> Pieces<'t> {
         }
     }
 
-    /// Makes room for this many, where they are more than a few.
+    /// Makes room for this many, where they are more than a few: where there are none yet, all are put there.
     #[inline(always)]
     pub fn reserve(&mut self, count: usize) -> Result<(), AllocError>
         ensures { OnOk result (self.new.items ≡ self.old.items) }
     {
         if count > FEW {
+            if self.count == 0 {
+                self.many.clear();
+                self.count = BEYOND;
+            }
             self.many.reserve(count)?;
         }
         Ok(())
