@@ -106,7 +106,7 @@ page_taken unread s t new p used (Ok (Some given)) some here e h = (
   h.3,
   ap (values_fit new.leaf.leaf_type) h.2 ∙ subst (λ (l : Leaf). values_fit l.leaf_type (entries_of p) ≡ true) (sym (h.1.leaf ∙ ap (λ (x : ChunkLeft). x.leaf) e)) (page_fits s.leaf (dictionary_of s.known) s.bytes p used here.stands),
 )
-page_taken unread s t new p used (Ok None) some here e h = subst (Passes s new) h.2 (passes_to unread s t new p used some here e h.0 h.1)
+page_taken unread s t new p used (Ok None) some here e h = (subst (Passes s new) h.2 (passes_to unread s t new p used some here e h.0 h.1), (p, used, here.stands, h.1.bytes ∙ ap (λ (x : ChunkLeft). x.bytes) e))
 page_taken unread s t new p used (Err f) some here e h =
     subst (λ (g : Fault). IsRefusedAt s new (refusal_of g)) (sym h.0)
     (tt, nothing_after unread s p used some here (λ may. h.1 (subst (λ (k : Known). MayCome k p) (sym (ap (λ (x : ChunkLeft). x.known) e)) may)))

@@ -8,7 +8,7 @@ use Rattle.bits.specs.declared.refusal.Refusal.{Refusal}
 use Rattle.bits.specs.declared.refusal.Refusal.TheVariants.{Memory, Limit}
 use Rattle.schema.specs.Stripe.{Entry}
 use Rattle.pages.specs.declared.data_page.DataPage.{DataPage}
-use Rattle.pages.specs.Page.{Page, skipped, dictionary, entries}
+use Rattle.pages.specs.Page.{Page, skipped, dictionary, entries, IsPage}
 use Rattle.pages.specs.Chunk.{entries_of}
 use Rattle.pages.specs.Left.{entries_left}
 use Rattle.pages.specs.Limits.{IsOfPages}
@@ -46,10 +46,14 @@ IsRefusedAt old new Memory = Passes old new []
 IsRefusedAt old new Limit = HasRestOver old
 IsRefusedAt old new e = IsOfPages e × NothingStands (HoldsRest old)
 
+-- a page stood next, and what is left are the bytes after it
+abbrev pub PassesPage : ChunkLeft → ChunkLeft → Type 0
+PassesPage old new = (page : Page) × (used : ℕ) × IsPage old.leaf (dictionary_of old.known) old.bytes page used × (new.bytes ≡ drop used old.bytes)
+
 -- one page is read: one with entries, whose values are the leaf's, or one that has none
 abbrev pub ReadsPage : ChunkLeft → ChunkLeft → Result (Option DataPage) Fault → Type 0
 ReadsPage old new (Ok (Some page)) = Passes old new (entries_left page) × (0 < length (entries_left page)) × (values_fit new.leaf.leaf_type (entries_left page) ≡ true)
-ReadsPage old new (Ok None) = Passes old new []
+ReadsPage old new (Ok None) = Passes old new [] × PassesPage old new
 ReadsPage old new (Err f) = IsRefusedAt old new (refusal_of f)
 
 -- the next page with entries, whose values are the leaf's, or none where no entries are lacking

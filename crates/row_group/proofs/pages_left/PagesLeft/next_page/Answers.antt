@@ -37,4 +37,4 @@ pages-preserved c =
     let t = pages_view c.pages.self in
     let u = pages_view c.read_page.new.self in
     let read = subst (λ (o : Option DataPage). ReadsPage t u (Ok o)) c.in_default.is c.in_ok-page.ensures in
-    passes_then s t u [] [] c.pages.invariant read
+    passes_then s t u [] [] c.pages.invariant read.0
