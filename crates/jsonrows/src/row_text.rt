@@ -261,9 +261,11 @@ impl<'a> RowText<'a> {
         from: usize,
         first: usize,
     ) -> Result<(), AllocError>
-        ensures text { OnOk result (self.new.text.items ≡ braced_at from (sorted self.old.text.items (drop first self.old.starts.items) from (order_view order.entry)) ++ 125 ∷ []) }
+        ensures text { OnOk result (self.new.text.items
+            ≡ braced_at from (sorted self.old.text.items (drop first self.old.starts.items) from (order_view order.entry)) ++ 125 ∷ []) }
         ensures starts { OnOk result (self.new.starts.items ≡ kept_starts (order_view order.entry) first self.old.starts.items) }
-        ensures same { (self.new.plan ≡ self.old.plan) × ((self.new.here ≡ self.old.here) × ((self.new.shown ≡ self.old.shown) × (self.new.outer ≡ self.old.outer))) }
+        ensures same { (self.new.plan ≡ self.old.plan) × ((self.new.here ≡ self.old.here)
+            × ((self.new.shown ≡ self.old.shown) × (self.new.outer ≡ self.old.outer))) }
     {
         if let Some(order) = order {
             let starts = self.starts.as_slice();
