@@ -304,9 +304,3 @@ pub two_exchanged : (fs : List CodeField) (a b : CodeField) (first k l : List �
 two_exchanged fs a b first k l c d e f p q r o is order right left named_b read_b named_a read_a put =
     let said = two_read a b first c d e f p q r (subst (λ xs. indices_of (field_views xs) ≡ 1 ∷ 0 ∷ []) is order) (named_b ∙ ap (λ x. x ++ rest_of c) right) read_b (named_a ∙ ap (λ x. x ++ rest_of e) left) read_a in
     subst (λ xs. AreRead (fits_each (field_views xs)) (λ vs. open_text (members_json (field_views xs) vs)) (44 ∷ first) (rest_of f) p o) (sym is) (subst (λ x. AreRead (fits_each (field_views (a ∷ b ∷ []))) (λ vs. open_text (members_json (field_views (a ∷ b ∷ [])) vs)) (44 ∷ first) (rest_of f) p x) (sym put) said)
-
-pub pair_of : (fs : List CodeField) (a b : CodeField) → length fs ≡ 2 → a ≡ get_or fs 0 a → b ≡ get_or fs 1 b → fs ≡ a ∷ b ∷ []
-pair_of [] a b n p q = absurd (omega (arith, n))
-pair_of (f ∷ []) a b n p q = absurd (omega (arith, n))
-pair_of (f ∷ g ∷ []) a b n p q = ap₂ (λ (x y : CodeField). x ∷ y ∷ []) (sym p) (sym q)
-pair_of (f ∷ g ∷ h ∷ fs) a b n p q = absurd (omega (arith, n))

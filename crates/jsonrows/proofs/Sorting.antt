@@ -29,11 +29,11 @@ member_added P now new x all i rest left first member put so =
 -- ---- two members in the other order
 
 -- a list of two
-pub pair : (xs : List ℕ) → length xs ≡ 2 → xs ≡ slice_index_or xs 0 0 ∷ slice_index_or xs 1 0 ∷ []
-pair [] len = absurd (omega (arith, len))
-pair (x ∷ []) len = absurd (omega (arith, len))
-pair (x ∷ y ∷ []) len = refl
-pair (x ∷ y ∷ z ∷ xs) len = absurd (omega (arith, len))
+pub pair : {X : Type 0} (xs : List X) (d e : X) → length xs ≡ 2 → xs ≡ slice_index_or xs 0 d ∷ slice_index_or xs 1 e ∷ []
+pair [] d e len = absurd (omega (arith, len))
+pair (x ∷ []) d e len = absurd (omega (arith, len))
+pair (x ∷ y ∷ []) d e len = refl
+pair (x ∷ y ∷ z ∷ xs) d e len = absurd (omega (arith, len))
 
 -- the first is appended once more, and then removed
 pub swapped : (t mid new order starts : List ℕ) (from a m : ℕ) → order ≡ 1 ∷ 0 ∷ [] → starts ≡ a ∷ m ∷ [] → a ≡ from → a ≤ m → m ≤ length t

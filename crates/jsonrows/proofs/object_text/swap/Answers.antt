@@ -15,4 +15,4 @@ returns-clause-swapped c =
     let here : a ≡ c.args.from = search rules in
     let forward : a ≤ m = omega (arith, c.if-start-middle.false) in
     let within : m ≤ length c.args.text.now.items = omega (arith, c.if-middle-len.false, c.len.ensures) in
-    swapped c.args.text.now.items c.extend_within.new.self.items c.cut_out.new.self.items order starts c.args.from a m (pair order two ∙ ap₂ (λ (x y : ℕ). x ∷ y ∷ []) first second) (pair starts both) here forward within c.in_ok-extend_within.ensures.items c.cut_out.ensures.items
+    swapped c.args.text.now.items c.extend_within.new.self.items c.cut_out.new.self.items order starts c.args.from a m (pair order 0 0 two ∙ ap₂ (λ (x y : ℕ). x ∷ y ∷ []) first second) (pair starts 0 0 both) here forward within c.in_ok-extend_within.ensures.items c.cut_out.ensures.items

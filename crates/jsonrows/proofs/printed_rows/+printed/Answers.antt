@@ -1,4 +1,4 @@
-use Rattle.std.proofs.Common.{rules, ◌≡◌, ℕ, ap₂, ◌+◌, ◌<◌, ◌==◌, ◌∷◌, length, take, drop, get_or, true, false, refl, sym, ap, subst, ◌∙◌, arith}
+use Rattle.std.proofs.Common.{rules, ◌≡◌, ℕ, ap₂, ◌+◌, ◌<◌, ◌==◌, [], ◌∷◌, length, take, drop, get_or, true, false, refl, sym, ap, subst, ◌∙◌, arith}
 use Rattle.std.proofs.lemmas.Bool.{ne_eqb}
 use Rattle.std.proofs.lemmas.Bool.Decides.{nat_tests}
 use Rattle.std.proofs.lemmas.Result.{on_ok_weaker}
@@ -11,7 +11,8 @@ use Rattle.jsonrows.specs.inner.Lines.{rest_of}
 use Rattle.jsonrows.specs.inner.PieceLists.{exchanged}
 use Rattle.jsonrows.specs.inner.Slots.{slot_view, slots_view, slot_of, slots_made, key_in, order_of, order_view}
 use Rattle.jsonrows.proofs.ShownRows.{slot_there, group_slots, group_shown, null_read, list_read, items_begin, items_turn, items_end, members_begin, members_turn, members_end, order_read, object_read}
-use Rattle.jsonrows.proofs.NamedMembers.{NamesGo, names_begin, names_turn, names_end, member_read, pair_of, two_exchanged}
+use Rattle.jsonrows.proofs.NamedMembers.{NamesGo, names_begin, names_turn, names_end, member_read, two_exchanged}
+use Rattle.jsonrows.proofs.Sorting.{pair}
 use Rattle.jsonrows.proofs.Sizes.{size_there, size_group}
 use Rattle.jsonrows.proofs.printed_rows.+printed.Goals as goal
 
@@ -155,6 +156,6 @@ exchanged-returns t c =
     let held : c.skip_key.result ≡ true = grind (arith, c.if-not-skip_key.false) in
     let held_left : c.skip_key-2.result ≡ true = grind (arith, c.if-not-skip_key-2.false) in
     two_exchanged fs a b (rest_of c.args.line.now) (key_in (slot_view k)) (key_in (slot_view l)) c.skip_key.new.line c.field_printed.new.line c.skip_key-2.new.line c.field_printed-2.new.line
-    c.args.pieces.now.items c.field_printed.new.pieces.items c.field_printed-2.new.pieces.items c.exchange.new.self.items (pair_of fs a b two c.left-item.is c.right-item.is) c.requires.order (ap key_in right) (ap key_in left)
+    c.args.pieces.now.items c.field_printed.new.pieces.items c.field_printed-2.new.pieces.items c.exchange.new.self.items (pair fs a b two ∙ ap₂ (λ x y. x ∷ y ∷ []) (sym c.left-item.is) (sym c.right-item.is)) c.requires.order (ap key_in right) (ap key_in left)
     (c.skip_key.ensures held) c.in_ok-field_printed.ensures (c.skip_key-2.ensures held_left) c.in_ok-field_printed-2.ensures
     (c.exchange.ensures ∙ ap₂ (λ (m n : ℕ). exchanged m n c.field_printed-2.new.pieces.items) c.len-from.ensures c.len-middle.ensures)
