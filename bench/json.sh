@@ -1,8 +1,9 @@
 #!/bin/sh
 # Measures how many rows a second are printed as JSON text and read from it, flat ones of 2 and 20 columns and nested
-# ones: by a `RowText` and a `Reader` made once (its `read` keeps the rows, as C does, and its `read_to` shows them to
-# a sink that keeps nothing), by `row_to` and `row_from`, as JSON values by the kit's `serde_json`, and by the
-# hand-written C program bench/json_lines.c. Then the rows a second in percent of those of serde_json and of C.
+# ones: by a `RowText` and a `Reader` made once (`RowText` prints rows that are kept, as C does; `RowSink` is the same
+# `RowText`, which is shown their values one by one; the reader's `read` keeps the rows, as C does, and its `read_to`
+# shows them to a sink that keeps nothing), by `row_to` and `row_from`, as JSON values by the kit's `serde_json`, and by
+# the hand-written C program bench/json_lines.c. Then the rows a second in percent of those of serde_json and of C.
 #
 #     bench/json.sh
 #

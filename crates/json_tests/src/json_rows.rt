@@ -263,19 +263,17 @@ fn printed(alloc: Global, schema: &str, line: &str) -> R<Vec<u8>> {
     Ok(out)
 }
 
-/// What is held of it when it is shown twice, after the lines before were forgotten.
+/// What is held of it when it is shown, and then printed at once, after the lines before were forgotten.
 fn lines_of(alloc: Global, schema: &str, line: &str) -> R<Vec<u8>> {
     let schema = schema_from(alloc, schema)?;
     let row = row_from(alloc, &schema, line)?;
     let plan = RowPlan::new(alloc, &schema)?;
     let mut sink = RowText::new(alloc, &plan);
+    sink.put_line(&row)?;
+    sink.clear_lines();
     show(row.values.as_slice(), &mut sink)?;
     sink.end_row()?;
-    sink.clear_lines();
-    for _ in 0..2 {
-        show(row.values.as_slice(), &mut sink)?;
-        sink.end_row()?;
-    }
+    sink.put_line(&row)?;
     Ok(Vec::from_slice(alloc, sink.lines())?)
 }
 
@@ -449,9 +447,12 @@ const LINES_OUT_OF_ORDER: [&str; 3] = [
 
 #[test]
 fn rows_are_shown_to_a_sink_as_they_are_read(rt: HostRuntime) -> Result<(), Fail> {
+    let alloc = rt.alloc();
     for line in LINES_OUT_OF_ORDER {
-        let text = shown_to_a_sink(rt.alloc(), OUT_OF_ORDER, line)?;
+        let text = shown_to_a_sink(alloc, OUT_OF_ORDER, line)?;
         assert!(rt; text.as_str() == line);
+        let twice = format!(in alloc; "{line}\n{line}\n")?;
+        assert!(rt; lines_of(alloc, OUT_OF_ORDER, line)?.as_slice() == twice.as_bytes());
     }
     Ok(())
 }

@@ -33,8 +33,9 @@ pub mod Filling
 pub mod Turns
 pub mod RowSteps
 pub mod RowOrder
+pub mod KeptTexts
+pub mod KeptSteps
 pub mod RowRuns
-pub mod Showing
 pub mod RowPlans
 pub mod Openings
 pub mod TextLeaves

@@ -1,6 +1,6 @@
 -- Digits that are written in room, and moved to where it begins.
 use Rattle.std.proofs.Common.{◌≡◌, ℕ, ◌+◌, ◌-◌, ◌≤◌, List, ◌++◌, length, take, drop, sym, ap, ap₂, ◌∙◌, arith, length-take-le}
-use Rattle.std.proofs.Math.Seq.{take-append_seam, take-append-add}
+use Rattle.std.proofs.Math.Seq.{take-add, take-append_seam, take-append-add}
 use Rattle.std.proofs.lemmas.List.{drop-take, take-take}
 use Rattle.json.specs.Filled.{Placed}
 
@@ -15,6 +15,11 @@ digits_moved old mid new digits rest at from n before few within same written mo
     let first : take at mid ≡ take at old = sym (take-take at from mid before) ∙ ap (take at) same ∙ take-take at from old before in
     let last : take k (take n (drop from mid)) ≡ digits = take-take k n (drop from mid) few ∙ ap (take k) written ∙ take-append_seam digits rest in
     cut ∙ ap (take (at + k)) moved ∙ seam ∙ ap₂ (λ (a b : List ℕ). a ++ b) first last
+
+-- digits that were written where they stand
+pub digits_written : (old new digits rest : List ℕ) (at : ℕ) → at ≤ length new → take at new ≡ take at old → drop at new ≡ digits ++ rest → take (at + length digits) new ≡ take at old ++ digits
+digits_written old new digits rest at within same written =
+    take-add at (length digits) new ∙ ap₂ (λ (a b : List ℕ). a ++ b) same (ap (take (length digits)) written ∙ take-append_seam digits rest)
 
 -- the front of a text of which more is placed
 pub front_placed : (old new text : List ℕ) (at len n end : ℕ) → at ≤ length old → len ≤ n → n ≤ length text → Placed old new at (take n text) end → Placed old new at (take len text) (at + len)

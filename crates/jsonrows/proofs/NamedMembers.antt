@@ -16,12 +16,13 @@ use Rattle.jsonrows.specs.Json.{field_json, members_json}
 use Rattle.jsonrows.specs.declared.pieces.Piece.{Piece}
 use Rattle.jsonrows.specs.declared.spans.Span.{Span}
 use Rattle.jsonrows.specs.declared.cursor.Cursor.{Cursor}
+use Rattle.jsonrows.specs.inner.Kept.{nth}
 use Rattle.jsonrows.specs.inner.Lines.{rest_of, with_comma, open_text}
 use Rattle.jsonrows.specs.inner.Pieces.{token_of, tokens_of, Grows, IsRead, AreRead}
 use Rattle.jsonrows.specs.inner.PieceLists.{exchanged}
 use Rattle.jsonrows.specs.inner.Slots.{slot_of, key_in, indices_of}
 use Rattle.jsonrows.specs.inner.Spans.{span_tokens, IsSpan, fits_at, member_text, IsNoted, IsMemberRead}
-use Rattle.jsonrows.proofs.RowOrder.{nth, pieces, flat_same, pieces_ordered}
+use Rattle.jsonrows.proofs.RowOrder.{pieces, flat_same, pieces_ordered}
 use Rattle.jsonrows.proofs.ShownRows.{both, grows_then}
 
 -- ---- parts

@@ -17,25 +17,17 @@ use Rattle.schema.specs.Shape.{Field, leaf, fields, Fields, no_fields, field, na
 use Rattle.schema.specs.Fits.{fits, fits_each}
 use Rattle.jsonrows.specs.Json.{field_json, members_json}
 use Rattle.jsonrows.specs.inner.Slots.{slot_of, key_in, key_of, put_index, ordered, second, indices_of, is_counting, is_in_order, order_of}
+use Rattle.jsonrows.specs.inner.Kept.{joined, nth, in_order, kept_object}
 use Rattle.jsonrows.specs.inner.Lines.{keyed, open_text}
 use Rattle.jsonrows.specs.inner.Levels.{between, first_or, piece, sorted, braced, braced_at}
 use Rattle.jsonrows.proofs.Both.{and_true}
 
 -- ---- pieces, by where they begin
 
-abbrev pub joined : List (List ℕ) → List ℕ
-joined [] = []
-joined (p ∷ ps) = p ++ joined ps
-
 -- where pieces begin, the first of which begins at n
 abbrev pub starts_of : ℕ → List (List ℕ) → List ℕ
 starts_of n [] = []
 starts_of n (p ∷ ps) = n ∷ starts_of (n + length p) ps
-
-abbrev pub nth : List (List ℕ) → ℕ → List ℕ
-nth [] i = []
-nth (p ∷ ps) zero = p
-nth (p ∷ ps) (suc i) = nth ps i
 
 cut_first : (pre p rest : List ℕ) → between (pre ++ (p ++ rest)) (length pre) (length pre + length p) ≡ p
 cut_first pre p rest =
@@ -166,14 +158,23 @@ pub flat_same : (f g : ℕ → List ℕ) → ((i : ℕ) → f i ≡ g i) → (os
 flat_same f g h [] = refl
 flat_same f g h (o ∷ os) = ap₂ (λ (a r : List ℕ). a ++ r) (h o) (flat_same f g h os)
 
-pub sorted_by : (fs : Fields) (vs : ValueTrees) (pre : List ℕ) → fits_each fs vs ≡ true → (b : Bool) → is_in_order (indices_of fs) (count fs) ≡ b
-    → sorted (pre ++ joined (pieces fs vs)) (starts_of (length pre) (pieces fs vs)) (length pre) (if b then None else Some (indices_of fs)) ≡ pre ++ open_text (members_json fs vs)
-sorted_by fs vs pre h true is =
+-- the pieces in the order that the fields have
+pub ordered_by : (fs : Fields) (vs : ValueTrees) → fits_each fs vs ≡ true → (b : Bool) → is_in_order (indices_of fs) (count fs) ≡ b → in_order (pieces fs vs) (if b then None else Some (indices_of fs)) ≡ open_text (members_json fs vs)
+ordered_by fs vs h true is =
     let ps = pieces fs vs in
     let os = indices_of fs in
     let t = and_true (is_counting 0 os) (length os == count fs) is in
     let same : length os ≡ count fs = grind (arith, nat_tests, t.1) in
-    ap (λ (s : List ℕ). pre ++ s) (sym (counted os ps 0 (nth ps) t.0 (same ∙ sym (count_pieces fs vs h)) (from_first (nth ps))) ∙ pieces_ordered fs vs h)
+    sym (counted os ps 0 (nth ps) t.0 (same ∙ sym (count_pieces fs vs h)) (from_first (nth ps))) ∙ pieces_ordered fs vs h
+ordered_by fs vs h false is = pieces_ordered fs vs h
+
+-- the object that they are
+pub object_ordered : (fs : Fields) (vs : ValueTrees) → fits_each fs vs ≡ true → kept_object (pieces fs vs) (order_of fs) ≡ compact_text (json.object (members_json fs vs))
+object_ordered fs vs h = ap (λ (s : List ℕ). braced s ++ 125 ∷ []) (ordered_by fs vs h (is_in_order (indices_of fs) (count fs)) refl) ∙ object_braced (members_json fs vs)
+
+pub sorted_by : (fs : Fields) (vs : ValueTrees) (pre : List ℕ) → fits_each fs vs ≡ true → (b : Bool) → is_in_order (indices_of fs) (count fs) ≡ b
+    → sorted (pre ++ joined (pieces fs vs)) (starts_of (length pre) (pieces fs vs)) (length pre) (if b then None else Some (indices_of fs)) ≡ pre ++ open_text (members_json fs vs)
+sorted_by fs vs pre h true is = ap (λ (s : List ℕ). pre ++ s) (ordered_by fs vs h true is)
 sorted_by fs vs pre h false is =
     let ps = pieces fs vs in
     ap₂ (λ (a r : List ℕ). a ++ r) (take-append_seam pre (joined ps)) (flat_same (piece (pre ++ joined ps) (starts_of (length pre) ps)) (nth ps) (cut ps pre) (indices_of fs) ∙ pieces_ordered fs vs h)

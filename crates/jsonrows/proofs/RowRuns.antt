@@ -1,31 +1,26 @@
 -- What is held after the values of a row that fits.
-use Rattle.std.proofs.Common.{◌≡◌, ℕ, ◌+◌, Bool, true, false, true≢false, ◌&&◌, List, [], ◌∷◌, ◌++◌, length, drop, Option, Some, None, refl, ap, ap₂, sym, ◌∙◌, append_assoc, append-nil}
-use Rattle.std.specs.Prelude.{IsTrue, if◌then◌else◌}
-use Rattle.std.specs.Str.{is_utf8}
+use Rattle.std.proofs.Common.{◌≡◌, ℕ, ◌+◌, Bool, true, false, true≢false, List, [], ◌∷◌, ◌++◌, length, drop, Option, Some, None, refl, ap, ap₂, sym, ◌∙◌, append_assoc, append-nil}
+use Rattle.std.specs.Prelude.{IsTrue}
 use Rattle.std.proofs.Math.Seq.{take-append_seam, drop-append_seam}
 use Rattle.std.proofs.lemmas.List.{length-append}
-use Rattle.json.specs.Print.{quoted}
 use Rattle.serde_json.specs.Data.{Data, Items, no_items, item, Members}
 use Rattle.serde_json.specs.Data as json
-use Rattle.serde_json.specs.Written.{compact_text, number_text, comma_if, items_text}
-use Rattle.hex.specs.Hex.{encode_lower}
+use Rattle.serde_json.specs.Written.{compact_text, comma_if, items_text}
 use Rattle.schema.specs.declared.value.Repetition.{Repetition}
 use Rattle.schema.specs.declared.value.Repetition.TheVariants.{Required, Optional, Repeated}
-use Rattle.schema.specs.declared.value.Kind.{Kind}
-use Rattle.schema.specs.declared.value.Kind.TheVariants.{Boolean, Int32, Int64, ByteArray, FixedLenByteArray}
-use Rattle.schema.specs.Annotations.{LeafType, is_text, order_of as leaf_order}
+use Rattle.schema.specs.Annotations.{LeafType}
 use Rattle.schema.specs.Values.{ValueTree, null, boolean, integer, bytes, group, list, ValueTrees, no_values, value, each}
 use Rattle.schema.specs.Shape.{Field, leaf, fields, Fields, no_fields, field}
 use Rattle.schema.specs.Fits.{fits_kind, fits_leaf, fits_as, is_group, fits, fits_each}
 use Rattle.assemble.specs.Sinks.{single, group_ends, list_ends, tokens, tokens_each}
 use Rattle.jsonrows.specs.Json.{leaf_json, items_json, json_as, object_json, field_json, members_json, row_text}
-use Rattle.jsonrows.specs.inner.Scalars.{numbers_of}
-use Rattle.jsonrows.specs.inner.Slots.{Slot, leaf_slot, group_slot, no_slots, slot_of, slots_made, key_of, key_in, order_of}
+use Rattle.jsonrows.specs.inner.Slots.{Slot, no_slots, slot_of, slots_made, key_of, key_in, order_of}
 use Rattle.jsonrows.specs.inner.Levels.{State, Level, object, items, held, next_slot, begun, more, entered, left, inside, with_starts, sorted, braced_at, kept_starts, closed, run, root, text_at}
-use Rattle.jsonrows.proofs.SameNumbers.{same_number}
+use Rattle.jsonrows.proofs.KeptTexts.{no_group, no_list, leaf_of, group_of, leaf_kept}
 use Rattle.jsonrows.proofs.RowSteps.{run_append}
 use Rattle.jsonrows.proofs.Both.{and_true}
-use Rattle.jsonrows.proofs.RowOrder.{joined, starts_of, pieces, object_text}
+use Rattle.jsonrows.specs.inner.Kept.{joined}
+use Rattle.jsonrows.proofs.RowOrder.{starts_of, pieces, object_text}
 
 -- values that pass are printed, in a slot, as what is shown of them
 abbrev pub IsPrinted : Slot → (ValueTree → Bool) → (ValueTree → Data) → Type 0
@@ -33,36 +28,11 @@ IsPrinted slot p shown = (v : ValueTree) → p v ≡ true → (s : State) → ne
 
 -- ---- leaves
 
-no_group : (k : Kind) (vs : ValueTrees) → fits_kind k (group vs) ≡ true → ⊥
-no_group Boolean vs h = true≢false (sym h)
-no_group Int32 vs h = true≢false (sym h)
-no_group Int64 vs h = true≢false (sym h)
-no_group ByteArray vs h = true≢false (sym h)
-no_group (FixedLenByteArray n) vs h = true≢false (sym h)
-
-no_list : (k : Kind) (vs : ValueTrees) → fits_kind k (list vs) ≡ true → ⊥
-no_list Boolean vs h = true≢false (sym h)
-no_list Int32 vs h = true≢false (sym h)
-no_list Int64 vs h = true≢false (sym h)
-no_list ByteArray vs h = true≢false (sym h)
-no_list (FixedLenByteArray n) vs h = true≢false (sym h)
-
--- text that fits is UTF-8
-text_is : (t u : Bool) (a b : List ℕ) → (if t then u else true) ≡ true → (if t then a else b) ≡ (if t && u then a else b)
-text_is true true a b h = refl
-text_is true false a b h = absurd (true≢false (sym h))
-text_is false u a b h = refl
-
-abbrev leaf_of : LeafType → List ℕ → Slot
-leaf_of t k = leaf_slot k (numbers_of t.kind (leaf_order t)) (is_text t.kind t.annotation)
-
 leaf_printed : (t : LeafType) (k : List ℕ) → IsPrinted (leaf_of t k) (fits_leaf t) (leaf_json t)
 leaf_printed t k null h s next = ap (λ o. more (begun s) (text_at o null)) next
 leaf_printed t k (boolean b) h s next = ap (λ o. more (begun s) (text_at o (boolean b))) next
-leaf_printed t k (integer z) h s next = ap (λ o. more (begun s) (text_at o (integer z))) next ∙ ap (λ n. more (begun s) (number_text n)) (same_number t.kind (leaf_order t) z)
-leaf_printed t k (bytes x) h s next =
-    ap (λ o. more (begun s) (text_at o (bytes x))) next
-    ∙ ap (λ (r : List ℕ). more (begun s) (quoted r)) (text_is (is_text t.kind t.annotation) (is_utf8 x) x (encode_lower x) (and_true (fits_kind t.kind (bytes x)) _ h).1)
+leaf_printed t k (integer z) h s next = ap (λ o. more (begun s) (text_at o (integer z))) next ∙ ap (more (begun s)) (leaf_kept t k (integer z) h)
+leaf_printed t k (bytes x) h s next = ap (λ o. more (begun s) (text_at o (bytes x))) next ∙ ap (more (begun s)) (leaf_kept t k (bytes x) h)
 leaf_printed t k (group vs) h s next = absurd (no_group t.kind vs (and_true (fits_kind t.kind (group vs)) _ h).0)
 leaf_printed t k (list vs) h s next = absurd (no_list t.kind vs (and_true (fits_kind t.kind (list vs)) _ h).0)
 
@@ -140,9 +110,6 @@ object_closed fs vs h text starts outer =
     ap₂ (λ (a b : List ℕ). held (braced_at (length text) a ++ 125 ∷ []) b l outer)
     (sorted_started (order_of fs) (text ++ joined ps) starts (starts_of (length text) ps) (length text)) (started_before (order_of fs) starts (starts_of (length text) ps))
     ∙ ap (λ (a : List ℕ). held a starts l outer) (object_text fs vs text h)
-
-abbrev group_of : Fields → List ℕ → Slot
-group_of fs k = group_slot k (slots_made fs) (order_of fs)
 
 group_printed : (fs : Fields) (k : List ℕ) → ArePrinted fs → IsPrinted (group_of fs k) (is_group (fits_each fs)) (object_json (members_json fs))
 group_printed fs k all null h s next = absurd (true≢false (sym h))

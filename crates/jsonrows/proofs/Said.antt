@@ -8,7 +8,7 @@ use Rattle.serde_json.specs.Find.{get, as_str, as_array}
 use Rattle.serde_json.specs.Events.{items_len}
 use Rattle.schema.specs.declared.element.Element.{Element as CodeElement}
 use Rattle.schema.specs.Elements.{Element, element_view, elements_view}
-use Rattle.jsonrows.specs.declared.schema_reading.Said.{Said as CodeSaid}
+use Rattle.jsonrows.specs.declared.schema_elements.Said.{Said as CodeSaid}
 use Rattle.jsonrows.specs.SchemaJson.{repetitions}
 use Rattle.jsonrows.specs.inner.SchemaReading.{Said, word_of, group_said, said_of_group, said_by, field_said, fields_said, said_below, all_said}
 use Rattle.jsonrows.specs.inner.SchemaViews.{said_view, saids, Says}

@@ -27,14 +27,14 @@ use Rattle.jsonrows.specs.declared.pieces.Piece.{Piece}
 use Rattle.jsonrows.specs.inner.Lines.{rest_of, Takes, IsShown, with_comma, members_shown, open_text}
 use Rattle.jsonrows.specs.inner.Pieces.{token_of, tokens_of, Grows, IsAdded, IsRead, AreRead}
 use Rattle.jsonrows.specs.inner.Slots.{group_slot, slot_view, slots_view, slot_of, slots_made, key_in, indices_of, is_in_order, order_of, vec_items}
-use Rattle.jsonrows.specs.inner.Levels.{sorted, braced}
+use Rattle.jsonrows.specs.inner.Kept.{joined, in_order as put_in_order}
+use Rattle.jsonrows.specs.inner.Levels.{braced}
 use Rattle.assemble.specs.Sinks.{Token, single, group_begins, group_ends, list_begins, list_ends, tokens, tokens_each}
 use Rattle.assemble.specs.inner.Building.{snoc}
 use Rattle.assemble.proofs.Each.{join, join_snoc, join_none}
 use Rattle.assemble.proofs.Showing.{tokens_snoc}
 use Rattle.jsonrows.proofs.Both.{and_true}
-use Rattle.jsonrows.proofs.RowOrder.{pieces, starts_of, sorted_by, object_braced}
-use Rattle.jsonrows.proofs.RowOrder as order
+use Rattle.jsonrows.proofs.RowOrder.{pieces, ordered_by, object_braced}
 
 -- ---- slots
 
@@ -275,7 +275,7 @@ members_end fs first left i rest ks bs so none some =
 
 -- ---- objects
 
-as_pieces : (fs : Fields) (vs : ValueTrees) → members_shown fs vs ≡ order.joined (pieces fs vs)
+as_pieces : (fs : Fields) (vs : ValueTrees) → members_shown fs vs ≡ joined (pieces fs vs)
 as_pieces no_fields no_values = refl
 as_pieces no_fields (value v vs) = refl
 as_pieces (field f fs) no_values = refl
@@ -288,9 +288,7 @@ braced_instead (x ∷ o) mid new h = let same : mid ≡ o ++ 125 ∷ new = cc in
 
 -- fields in the order of their names
 pub in_order : (fs : Fields) (vs : ValueTrees) → order_of fs ≡ None → fits_each fs vs ≡ true → members_shown fs vs ≡ open_text (members_json fs vs)
-in_order fs vs none fit =
-    let ps = pieces fs vs in
-    as_pieces fs vs ∙ sym (ap (sorted (order.joined ps) (starts_of 0 ps) 0) none) ∙ sorted_by fs vs [] fit (is_in_order (indices_of fs) (count fs)) refl
+in_order fs vs none fit = as_pieces fs vs ∙ sym (ap (put_in_order (pieces fs vs)) none) ∙ ordered_by fs vs fit (is_in_order (indices_of fs) (count fs)) refl
 
 pub order_read : (fs : Fields) (old new : List ℕ) (ks bs : List Piece) → order_of fs ≡ None → AreRead (fits_each fs) (members_shown fs) old new ks bs → AreRead (fits_each fs) (λ vs. open_text (members_json fs vs)) old new ks bs
 order_read fs old new ks bs none h = (h.0, (h.1.0, (h.1.1.0 ∙ ap (λ s. s ++ new) (in_order fs h.0 none h.1.0), h.1.1.1)))

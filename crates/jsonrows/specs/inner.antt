@@ -15,3 +15,4 @@ pub mod LowerDigits
 pub mod Escapes
 pub mod FirstLane
 pub mod SpanLists
+pub mod Kept

@@ -26,6 +26,14 @@ fn put_bytes(is_text: bool, bytes: &[u8], out: &mut Line) -> Result<(), AllocErr
     }
 }
 
+/// Appends bytes of a leaf, as [`put_bytes`] does: a call that ends the caller, which then has no registers to save.
+#[inline(never)]
+pub fn end_with_bytes(is_text: bool, bytes: &[u8], out: &mut Line) -> Result<(), AllocError>
+    ensures { OnOk result (out.new.items ≡ out.old.items ++ bytes_text is_text bytes.now) }
+{
+    put_bytes(is_text, bytes, out)
+}
+
 /// Appends a few bytes of a leaf, where there is room for them as a string.
 #[inline(always)]
 pub fn place_bytes(is_text: bool, bytes: &[u8], out: &mut Line) -> Result<(), AllocError>

@@ -65,7 +65,7 @@ pub fn inside(slot: Option<&Slot>, from: usize, first: usize) -> Level<'_>
 
 /// What stands at the fields of a group.
 #[inline(always)]
-fn slots_in(slot: &Slot) -> &[Slot]
+pub fn slots_in(slot: &Slot) -> &[Slot]
     ensures { slots_view result.now ≡ slots_in (slot_view slot.now) }
 {
     match slot {

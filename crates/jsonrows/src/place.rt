@@ -1,6 +1,6 @@
 //! Bytes written at a place of a buffer that has room. A short text is two copies of a fixed size that overlap.
 
-ghost use Rattle.std.specs.Prelude.{◌≡◌, ◌+◌, ◌<◌, ◌≤◌, [], ◌∷◌, ◌++◌, length, take, drop, decimal};
+ghost use Rattle.std.specs.Prelude.{◌≡◌, ◌+◌, ◌^◌, ◌<◌, ◌≤◌, [], ◌∷◌, ◌++◌, length, take, drop, decimal};
 ghost use Rattle.json.specs.Filled.{Placed};
 
 use std::simd::Simd;
@@ -51,17 +51,41 @@ pub fn place_text(buffer: &mut [u8], at: usize, text: &[u8]) -> usize
     }
 }
 
-/// Writes the decimal digits of a number, and returns where they end. They are written at the end of the room of the
-/// longest number, and then moved at once, so that they need not be counted first.
+/// Writes the decimal digits of a number, and returns where they end. Those of a number that has more than eight are
+/// written at the end of the room of the longest one, and then moved at once, so that they need not be counted first.
 #[inline(always)]
 pub fn place_natural(buffer: &mut [u8], at: usize, number: u64) -> usize
     requires { at + 52 ≤ length buffer.old }
     ensures { Placed buffer.old buffer.new at (decimal number) result }
 {
-    let end = at + MOST_DIGITS;
+    if number < 10 {
+        return place_byte(buffer, at, b'0' + number as u8);
+    }
+    let end = at + room_of(number);
     let from = itoa::write_digits(number, buffer, end);
+    if from == at {
+        return end;
+    }
     copy_at::<MOVED>(buffer, from, at);
     at + (end - from)
+}
+
+/// How many bytes the digits of a number need at most: just as many as there are, of two to eight.
+#[inline(always)]
+fn room_of(number: u64) -> usize
+    ensures { (0 < result) × ((result ≤ 20) × (number < 10 ^ result)) }
+{
+    if number >= 100_000_000 {
+        MOST_DIGITS
+    } else if number >= 1_000_000 {
+        if number >= 10_000_000 { 8 } else { 7 }
+    } else if number >= 10_000 {
+        if number >= 100_000 { 6 } else { 5 }
+    } else if number >= 100 {
+        if number >= 1_000 { 4 } else { 3 }
+    } else {
+        2
+    }
 }
 
 /// Writes bytes of a buffer once more, and returns where they end: at most N of them by one load and one store of N,

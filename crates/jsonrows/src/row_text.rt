@@ -5,12 +5,14 @@ ghost use Rattle.schema.specs.Borrowed.{value_ref_view};
 ghost use Rattle.schema.specs.Fits.{fits_each};
 ghost use Rattle.schema.specs.Shape.{Fields};
 ghost use Rattle.schema.specs.Values.{ValueTrees};
+ghost use Rattle.schema.specs.Views.{row_view};
 ghost use Rattle.assemble.specs.Sinks.{Adds, single};
 ghost use Rattle.jsonrows.specs.Json.{row_text};
 ghost use Rattle.jsonrows.specs.Rows.{plan_schema, IsReady, text_shows, BeginsRow, ShowsRow, BeginsLine, ShowsLine};
 ghost use Rattle.jsonrows.specs.inner.Slots.{leaf_slot, order_view};
 ghost use Rattle.jsonrows.specs.inner.Levels.{top_of, state_of, begun, next_slot, left, closed, level_at, entered, seen, held, from_of, braced_at, sorted, kept_starts};
 
+use crate::kept_rows::put_object;
 use crate::leaf_text::put_single;
 use crate::level::{
     Leaf, Level, Outer, leaf_of, order_in, short_leaf_at, short_leaf_in, slot_at, slot_in,
@@ -19,7 +21,7 @@ use crate::line::Line;
 use crate::object_text::{put_braces, put_line_end, rest, sort};
 use crate::row_plan::{RowPlan, Slot};
 use crate::scalars::NUMBER_ROOM;
-use schema::ValueRef;
+use schema::{Row, ValueRef};
 use std::alloc::{AllocError, Global};
 
 /// Prints the rows that it is shown. The bytes of each value are copied into one buffer, which is kept from row
@@ -329,6 +331,26 @@ impl<'a> RowText<'a> {
         self.text.push(b'\n')?;
         self.here = RowText::top(self.plan, self.text.len());
         self.shown = 0;
+        Ok(())
+    }
+
+    /// Prints a row that is kept, and a line feed, after the lines of the rows before it, as when its values are shown
+    /// one after another and the row is ended, but in less time: the members of an object are printed in the order of
+    /// their names at once. The row must fit the schema, and none may have begun. It fails only when out of memory;
+    /// all rows that it holds are then lost, and the caller makes a new `RowText`.
+    pub fn put_line(&mut self, row: &Row) -> Result<(), AllocError>
+        ensures stands { (fs : Fields) (lines : List ℕ) → BeginsLine self.old fs lines → IsTrue (fits_each fs (row_view row.now))
+            → OnOk result (BeginsLine self.new fs (lines ++ (row_text fs (row_view row.now) ++ 10 ∷ []))) }
+    {
+        let text = &mut self.text;
+        put_object(
+            self.plan.slots(),
+            self.plan.order(),
+            row.values.as_slice(),
+            text,
+        )?;
+        text.push(b'\n')?;
+        self.begin_row();
         Ok(())
     }
 

@@ -3,25 +3,23 @@
 ghost use Rattle.std.specs.Prelude.{◌≡◌, ◌∷◌, [], pos, nat_abs, ◌≤ℤ◌, List, length, map, option_map, Some, None, true, IfOk, IfErr};
 ghost use Rattle.bits.specs.Refusals.{OnFault, RefusedOnly};
 ghost use Rattle.bits.specs.declared.refusal.Refusal.TheVariants.{Script};
-ghost use Rattle.thrift_compact.specs.Tree.{Fields as Struct};
-ghost use Rattle.thrift_compact.specs.Compact.{IsThrift};
-ghost use Rattle.thrift_compact.specs.View.{tree_view};
 ghost use Rattle.serde_json.specs.View.{view, items_view};
 ghost use Rattle.schema.specs.Shape.{Fields};
 ghost use Rattle.schema.specs.Elements.{Element as Listed, element_view, elements_view};
 ghost use Rattle.jsonrows.specs.SchemaJson.{IsSchemaText, IsRefusedSchema};
-ghost use Rattle.jsonrows.specs.inner.SchemaReading.{has_only, kind_of, is_unnamed, length_of, numbers_of, leaf_said, said_of_group, group_said, field_said, fields_said, said_below, all_said, IsElementOf, AreElementsOf};
+ghost use Rattle.jsonrows.specs.inner.SchemaReading.{has_only, length_of, numbers_of, leaf_said, said_of_group, group_said, field_said, fields_said, said_below, all_said};
 ghost use Rattle.jsonrows.specs.inner.SchemaViews.{said_view, saids, Says};
 
 use crate::json_text::json_of;
+use crate::schema_elements::{Said, elements_of, kind_of};
 use crate::schema_notes::{
     int32_of, is_one_of, note_of, optional_int32, optional_word, text_of, word_of,
 };
 use bits::{R, Refusal};
-use schema::{Annotation, Element, Kind, Schema};
+use schema::{Element, Schema};
 use serde_json::Value as Json;
 use std::alloc::{AllocError, Global};
-use thrift_compact::{Tree, one_struct, read_struct};
+use thrift_compact::one_struct;
 
 /// How deep fields may nest in a text: deeper than the JSON reader goes, and than a schema may.
 const DEEPEST: u32 = 64;
@@ -60,13 +58,6 @@ const LEAF_MEMBERS: [&str; 9] = [
 ];
 
 const GROUP_MEMBERS: [&str; 4] = ["name", "rep", "fields", "note"];
-
-/// What the object of a field says: its element, and the bytes of the struct of its logicalType.
-#[derive(Drop)]
-struct Said {
-    element: Element,
-    logical: Option<Vec<u8>>,
-}
 
 /// The numbers of a leaf.
 #[derive(Clone, Copy)]
@@ -127,23 +118,6 @@ fn length_of(kind: i32, member: Option<&Json>) -> Option<Option<i32>>
     match member {
         Some(_) => None,
         None => Some(None),
-    }
-}
-
-/// The physical type by the numbers of an element, where there is one of ours.
-fn kind_of(number: Option<i32>, length: Option<i32>) -> Option<Kind>
-    ensures { result ≡ kind_of number length }
-{
-    match number? {
-        0 => Some(Kind::Boolean),
-        1 => Some(Kind::Int32),
-        2 => Some(Kind::Int64),
-        6 => Some(Kind::ByteArray),
-        7 => match length {
-            Some(length) if length > 0 => Some(Kind::FixedLenByteArray(length as u32)),
-            _ => None,
-        },
-        _ => None,
     }
 }
 
@@ -312,77 +286,6 @@ fn say_fields(
         }
     }
     Ok(true)
-}
-
-/// The struct that bytes are. Refused Script where they are none, or not all of them are one.
-fn struct_of(alloc: Global, bytes: &[u8]) -> R<Tree>
-    ensures stands { IfOk result (λ t. IsThrift bytes.now (tree_view t) (length bytes.now)) }
-    ensures only { OnFault result ((t : Struct) → IsThrift bytes.now t (length bytes.now) → ⊥) }
-    ensures which { RefusedOnly (λ e. e ≡ Script) result }
-{
-    one_struct();
-    match read_struct(alloc, bytes) {
-        Ok((tree, used)) => {
-            if used == bytes.len() {
-                Ok(tree)
-            } else {
-                Err(Refusal::Script)
-            }
-        }
-        Err(Refusal::Memory) => Err(Refusal::Memory),
-        Err(_) => Err(Refusal::Script),
-    }
-}
-
-/// The struct that bytes are, which has no name over the type of its leaf. Refused Script where they are
-/// none, or where it has one.
-fn unnamed_struct(alloc: Global, kind: Option<Kind>, bytes: &[u8]) -> R<Tree>
-    ensures stands { IfOk result (λ t. IsThrift bytes.now (tree_view t) (length bytes.now)) }
-    ensures unnamed { IfOk result (λ t. is_unnamed kind None (Some (tree_view t)) ≡ true) }
-    ensures only { OnFault result ((t : Struct) → IsThrift bytes.now t (length bytes.now) → is_unnamed kind None (Some t) ≡ true → ⊥) }
-    ensures which { RefusedOnly (λ e. e ≡ Script) result }
-{
-    one_struct();
-    let tree = struct_of(alloc, bytes)?;
-    let Some(kind) = kind else {
-        return Ok(tree);
-    };
-    match Annotation::of_element(kind, None, Some(tree)) {
-        Annotation::OtherLogical(tree) => Ok(tree),
-        _ => Err(Refusal::Script),
-    }
-}
-
-/// The element of what an object says. Refused Script where the bytes of its logicalType are no struct, or
-/// where it has a name over the type.
-fn element_of(alloc: Global, said: Said) -> R<Element>
-    ensures stands { IfOk result (λ e. IsElementOf (said_view said) (element_view e)) }
-    ensures only { OnFault result ((e : Listed) → IsElementOf (said_view said) e → ⊥) }
-    ensures which { RefusedOnly (λ e. e ≡ Script) result }
-{
-    let Said { element, logical } = said;
-    let kind = kind_of(element.kind, element.type_length);
-    let logical_type = match logical {
-        Some(bytes) => Some(unnamed_struct(alloc, kind, bytes.as_slice())?),
-        None => None,
-    };
-    Ok(Element {
-        logical_type,
-        ..element
-    })
-}
-
-/// The elements of what objects say. Refused Script where one of them says no element.
-fn elements_of(alloc: Global, all: Vec<Said>) -> R<Vec<Element>>
-    ensures stands { IfOk result (λ es. AreElementsOf (saids all.items) (elements_view es.items)) }
-    ensures only { OnFault result ((es : List Listed) → AreElementsOf (saids all.items) es → ⊥) }
-    ensures which { RefusedOnly (λ e. e ≡ Script) result }
-{
-    let mut elements = Vec::with_capacity(alloc, all.len())?;
-    for said in all {
-        elements.push(element_of(alloc, said)?)?;
-    }
-    Ok(elements)
 }
 
 /// What an array of fields says, after the root; none where it is not of the form.

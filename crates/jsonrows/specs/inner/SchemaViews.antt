@@ -2,7 +2,7 @@
 use Rattle.std.specs.Prelude.{◌≡◌, Bool, true, false, List, map, ◌++◌, Option, Some, None, option_map}
 use Rattle.schema.specs.Elements.{element_view}
 use Rattle.jsonrows.specs.declared.schema_notes.Note.{Note as CodeNote}
-use Rattle.jsonrows.specs.declared.schema_reading.Said.{Said as CodeSaid}
+use Rattle.jsonrows.specs.declared.schema_elements.Said.{Said as CodeSaid}
 use Rattle.jsonrows.specs.inner.SchemaReading.{Note, Said}
 
 abbrev pub note_view : CodeNote → Note

@@ -1,17 +1,18 @@
-use Rattle.std.proofs.Common.{◌++◌, List, ℕ, [], ◌∷◌, sym, ap, subst, ◌∙◌}
-use Rattle.schema.specs.declared.value.Value.{Value}
-use Rattle.schema.specs.Values.{views}
+use Rattle.std.proofs.Common.{◌++◌, List, ℕ, sym, ap, ◌∙◌}
 use Rattle.schema.specs.Views.{row_view}
 use Rattle.jsonrows.specs.Json.{row_text}
-use Rattle.jsonrows.specs.Rows.{BeginsRow, ShowsRow}
-use Rattle.jsonrows.specs.inner.Opening.{opening, lines_token}
+use Rattle.jsonrows.specs.inner.Slots.{slots_view, slots_made, order_of, order_view, vec_items}
+use Rattle.std.specs.Prelude.{option_map}
+use Rattle.jsonrows.proofs.KeptTexts.{row_printed}
 use Rattle.jsonrows.proofs.row_printing.row_to.Goals as goal
 
 pub returns-clause-stands : goal.returns-clause-stands
 returns-clause-stands c =
     let fs = c.args.schema.now in
-    let row = row_view c.args.row.now in
-    let begins = subst (BeginsRow c.new-sink.result) c.in_ok-plan.ensures.prints (c.new-sink.ensures.begins c.in_ok-plan.ensures.ready) in
-    let shown = subst (λ (vs : List Value). ShowsRow c.show_each.new.sink fs (views vs)) c.as_slice.ensures.value (begins.0, c.in_ok-show_each.ensures.shown (opening fs ∷ lines_token begins.0 ∷ []) begins.1) in
-    let line = c.in_ok-put_row.ensures.stands fs row shown (sym c.fits.ensures ∙ c.if-not-fits.false) in
-    c.in_ok-text_from.ensures ∙ line ∙ ap (λ (s : List ℕ). s ++ row_text fs row) c.new-line.ensures.items
+    let plan = c.in_ok-plan.plan in
+    let ready = c.in_ok-plan.ensures.ready in
+    let same = c.in_ok-plan.ensures.prints in
+    let row = c.args.row.now in
+    let printed = row_printed fs (slots_view c.slots.result.now) (slots_view plan.slots.items) (order_view c.order.result) (option_map vec_items plan.order) c.as_slice.result.now row.values.items c.new-text.result.items c.put_object.new.out.items
+    c.in_ok-put_object.ensures (ap slots_view c.slots.ensures) (ready.0 ∙ ap slots_made same) c.order.ensures (ready.1 ∙ ap order_of same) c.as_slice.ensures.value (sym c.fits.ensures ∙ c.if-not-fits.false) in
+    c.in_ok-text_from.ensures ∙ c.in_ok-from_slice.ensures.items ∙ c.as_slice-2.ensures.value ∙ printed ∙ ap (λ (s : List ℕ). s ++ row_text fs (row_view row)) c.new-text.ensures

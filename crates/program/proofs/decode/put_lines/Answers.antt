@@ -1,4 +1,4 @@
-use Rattle.std.proofs.Common.{◌+◌, Bool, true, false, Ok, subst, arith}
+use Rattle.std.proofs.Common.{◌+◌, Bool, Ok, subst, arith}
 use Rattle.footer.specs.Left.{rows_stand}
 use Rattle.jsonrows.specs.Rows.{BeginsLine}
 use Rattle.program.specs.inner.Gathered.{GathersLine}

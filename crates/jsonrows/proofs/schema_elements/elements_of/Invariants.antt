@@ -3,7 +3,7 @@ use Rattle.std.specs.Vec.Iter.{into_iter_items, into_iter_len}
 use Rattle.schema.specs.Elements.{Element, elements_view}
 use Rattle.jsonrows.specs.inner.SchemaReading.{AreElementsOf}
 use Rattle.jsonrows.specs.inner.SchemaViews.{saids}
-use Rattle.jsonrows.proofs.schema_reading.elements_of.Given as goal
+use Rattle.jsonrows.proofs.schema_elements.elements_of.Given as goal
 
 -- the elements so far, and those of what is left, are all; where all have elements, so has what is left
 abbrev pub invariant-loop-said : goal.invariant-loop-said
