@@ -2,10 +2,10 @@
 use Rattle.std.proofs.Common.{◌≡◌, ℕ, zero, suc, ◌+◌, ◌≤◌, Bool, true, false, List, [], ◌∷◌, ◌++◌, length, drop, refl, ap, ap₂, sym, ◌∙◌, arith, append_assoc, append-nil}
 use Rattle.serde_json.specs.Written.{comma_if}
 use Rattle.schema.specs.declared.value.Value.{Value}
-use Rattle.schema.specs.Values.{ValueTrees, no_values, value, view, views}
+use Rattle.schema.specs.Values.{list, ValueTrees, no_values, value, view, views}
 use Rattle.jsonrows.specs.declared.row_plan.Slot.{Slot as CodeSlot}
 use Rattle.jsonrows.specs.inner.Slots.{Slot, Slots, no_slots, slot, slot_view, slots_view, key_in}
-use Rattle.jsonrows.specs.inner.Kept.{joined, nth, kept_text, kept_items, kept_list, kept_pieces}
+use Rattle.jsonrows.specs.inner.Kept.{joined, nth, kept_text, kept_items, kept_pieces}
 
 -- ---- members
 
@@ -70,7 +70,7 @@ item_put s vs i v us later now mid new all split so comma put =
 
 -- the end of a list
 pub list_put : (s : Slot) (vs : List Value) (i : ℕ) (later : Bool) (old first now new : List ℕ) → first ≡ old ++ 91 ∷ [] → drop i vs ≡ [] → now ++ kept_items later s (views (drop i vs)) ≡ first ++ kept_items false s (views vs)
-    → new ≡ now ++ 93 ∷ [] → new ≡ old ++ kept_list s (views vs)
+    → new ≡ now ++ 93 ∷ [] → new ≡ old ++ kept_text s (list (views vs))
 list_put s vs i later old first now new opened none so closed =
     let items = kept_items false s (views vs) in
     let all : now ≡ first ++ items = sym (append-nil now) ∙ ap (λ (xs : List Value). now ++ kept_items later s (views xs)) (sym none) ∙ so in

@@ -2,8 +2,8 @@
 
 ghost use Rattle.std.specs.Prelude.{◌≡◌, ◌≤◌, ◌+◌, ◌++◌, ◌∷◌, [], drop, IfSome, IfNone, OnOk, flat_map};
 ghost use Rattle.serde_json.specs.Written.{comma_if};
-ghost use Rattle.schema.specs.Values.{group, view, views};
-ghost use Rattle.jsonrows.specs.inner.Kept.{joined, nth, kept_text, kept_list, kept_pieces, kept_object};
+ghost use Rattle.schema.specs.Values.{group, list, view, views};
+ghost use Rattle.jsonrows.specs.inner.Kept.{joined, nth, kept_text, kept_pieces, kept_object};
 ghost use Rattle.jsonrows.specs.inner.Slots.{slot_view, slots_view, order_view};
 
 use crate::leaf_text::end_with_bytes;
@@ -133,7 +133,7 @@ fn put_kept(slot: &Slot, value: &Value, out: &mut Line) -> Result<(), AllocError
 #[cycle(keeping)]
 #[inline(never)]
 fn put_list(slot: &Slot, items: &[Value], out: &mut Line) -> Result<(), AllocError>
-    ensures { OnOk result (out.new.items ≡ out.old.items ++ kept_list (slot_view slot.now) (views items.now)) }
+    ensures { OnOk result (out.new.items ≡ out.old.items ++ kept_text (slot_view slot.now) (list (views items.now))) }
 {
     out.push(b'[')?;
     let mut later = false;

@@ -36,6 +36,3 @@ abbrev mutual
   pub kept_pieces : Slots → ValueTrees → List (List ℕ)
   kept_pieces (slot s ss) (value v vs) = (key_in s ++ kept_text s v) ∷ kept_pieces ss vs
   kept_pieces _ _ = []
-
-abbrev pub kept_list : Slot → ValueTrees → List ℕ
-kept_list s vs = 91 ∷ (kept_items false s vs ++ 93 ∷ [])
