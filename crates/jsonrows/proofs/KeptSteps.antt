@@ -1,11 +1,12 @@
 -- What is printed of kept values, step by step.
 use Rattle.std.proofs.Common.{◌≡◌, ℕ, zero, suc, ◌+◌, ◌≤◌, Bool, true, false, List, [], ◌∷◌, ◌++◌, length, drop, refl, ap, ap₂, sym, ◌∙◌, arith, append_assoc, append-nil}
+use Rattle.std.specs.List.{concat}
 use Rattle.serde_json.specs.Written.{comma_if}
 use Rattle.schema.specs.declared.value.Value.{Value}
 use Rattle.schema.specs.Values.{list, ValueTrees, no_values, value, view, views}
 use Rattle.jsonrows.specs.declared.row_plan.Slot.{Slot as CodeSlot}
 use Rattle.jsonrows.specs.inner.Slots.{Slot, Slots, no_slots, slot, slot_view, slots_view, key_in}
-use Rattle.jsonrows.specs.inner.Kept.{joined, nth, kept_text, kept_items, kept_pieces}
+use Rattle.jsonrows.specs.inner.Kept.{nth, kept_text, kept_items, kept_pieces}
 
 -- ---- members
 
@@ -30,27 +31,27 @@ nth_no_value (slot s ss) [] i p = refl
 nth_no_value (slot s ss) (v ∷ vs) zero p = absurd (cc)
 nth_no_value (slot s ss) (v ∷ vs) (suc i) p = nth_no_value ss vs i p
 
-none_joined : (i : ℕ) → joined (drop i []) ≡ []
-none_joined zero = refl
-none_joined (suc i) = refl
+none_concat : (i : ℕ) → concat (drop i []) ≡ []
+none_concat zero = refl
+none_concat (suc i) = refl
 
 -- a name and a value
 pub member_there : (old mid new key named text piece : List ℕ) → mid ≡ old ++ key → key ≡ named → new ≡ mid ++ text → piece ≡ named ++ text → new ≡ old ++ piece
 member_there old mid new key named text piece first same then is = then ∙ ap (λ (s : List ℕ). s ++ text) (first ∙ ap (λ (s : List ℕ). old ++ s) same) ∙ append_assoc old named text ∙ ap (λ (s : List ℕ). old ++ s) (sym is)
 
-joined_more : (ps : List (List ℕ)) (i : ℕ) → joined (drop i ps) ≡ nth ps i ++ joined (drop (i + 1) ps)
-joined_more [] i = none_joined i ∙ sym (none_joined (i + 1))
-joined_more (p ∷ ps) zero = refl
-joined_more (p ∷ ps) (suc i) =
+concat_more : (ps : List (List ℕ)) (i : ℕ) → concat (drop i ps) ≡ nth ps i ++ concat (drop (i + 1) ps)
+concat_more [] i = none_concat i ∙ sym (none_concat (i + 1))
+concat_more (p ∷ ps) zero = refl
+concat_more (p ∷ ps) (suc i) =
     let next : suc (i + 1) ≡ suc i + 1 = omega arith in
-    joined_more ps i ∙ ap (λ n. nth ps i ++ joined (drop n (p ∷ ps))) next
+    concat_more ps i ∙ ap (λ n. nth ps i ++ concat (drop n (p ∷ ps))) next
 
 -- one member more, in the order of the fields
-pub member_put : (ps : List (List ℕ)) (i : ℕ) (now new all : List ℕ) → now ++ joined (drop i ps) ≡ all → new ≡ now ++ nth ps i → new ++ joined (drop (i + 1) ps) ≡ all
-member_put ps i now new all so put = ap (λ (s : List ℕ). s ++ joined (drop (i + 1) ps)) put ∙ append_assoc now (nth ps i) (joined (drop (i + 1) ps)) ∙ ap (λ (s : List ℕ). now ++ s) (sym (joined_more ps i)) ∙ so
+pub member_put : (ps : List (List ℕ)) (i : ℕ) (now new all : List ℕ) → now ++ concat (drop i ps) ≡ all → new ≡ now ++ nth ps i → new ++ concat (drop (i + 1) ps) ≡ all
+member_put ps i now new all so put = ap (λ (s : List ℕ). s ++ concat (drop (i + 1) ps)) put ∙ append_assoc now (nth ps i) (concat (drop (i + 1) ps)) ∙ ap (λ (s : List ℕ). now ++ s) (sym (concat_more ps i)) ∙ so
 
 -- after all fields there is none
-pub none_left : (ss : List CodeSlot) (vs : ValueTrees) (i : ℕ) → length ss ≤ i → joined (drop i (kept_pieces (slots_view ss) vs)) ≡ []
+pub none_left : (ss : List CodeSlot) (vs : ValueTrees) (i : ℕ) → length ss ≤ i → concat (drop i (kept_pieces (slots_view ss) vs)) ≡ []
 none_left [] vs zero h = refl
 none_left [] vs (suc i) h = refl
 none_left (s ∷ ss) vs zero h = absurd (omega (arith, h))

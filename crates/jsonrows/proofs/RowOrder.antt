@@ -1,5 +1,6 @@
 -- The pieces of an object, by where they begin, in the order of the members' names.
 use Rattle.std.proofs.Common.{◌≡◌, ℕ, zero, suc, ◌+◌, ◌-◌, Bool, true, false, true≢false, ◌==◌, List, [], ◌∷◌, ◌++◌, length, take, map, flat_map, Some, None, Ordering, Less, Equal, Greater, nat_cmp, refl, ap, ap₂, sym, ◌∙◌, arith, append_assoc, append-nil}
+use Rattle.std.specs.List.{concat}
 use Rattle.std.specs.Prelude.{if◌then◌else◌}
 use Rattle.std.specs.Cmp.Lexicographic.{slice_cmp}
 use Rattle.std.specs.List.{AllByRecursion}
@@ -17,7 +18,7 @@ use Rattle.schema.specs.Shape.{Field, leaf, fields, Fields, no_fields, field, na
 use Rattle.schema.specs.Fits.{fits, fits_each}
 use Rattle.jsonrows.specs.Json.{field_json, members_json}
 use Rattle.jsonrows.specs.inner.Slots.{slot_of, key_in, key_of, put_index, ordered, second, indices_of, is_counting, is_in_order, order_of}
-use Rattle.jsonrows.specs.inner.Kept.{joined, nth, in_order, kept_object}
+use Rattle.jsonrows.specs.inner.Kept.{nth, in_order, kept_object}
 use Rattle.jsonrows.specs.inner.Lines.{keyed, open_text}
 use Rattle.jsonrows.specs.inner.Levels.{between, first_or, piece, sorted, braced, braced_at}
 use Rattle.jsonrows.proofs.Both.{and_true}
@@ -34,19 +35,19 @@ cut_first pre p rest =
     let n : (length pre + length p) - length pre ≡ length p = omega arith in
     ap₂ (λ (k : ℕ) (s : List ℕ). take k s) n (drop-append_seam pre (p ++ rest)) ∙ take-append_seam p rest
 
-cut_at : (pre p : List ℕ) (ps : List (List ℕ)) → between (pre ++ (p ++ joined ps)) (length pre) (first_or (length (pre ++ (p ++ joined ps))) (starts_of (length pre + length p) ps)) ≡ p
+cut_at : (pre p : List ℕ) (ps : List (List ℕ)) → between (pre ++ (p ++ concat ps)) (length pre) (first_or (length (pre ++ (p ++ concat ps))) (starts_of (length pre + length p) ps)) ≡ p
 cut_at pre p [] =
     let e : length (pre ++ (p ++ [])) ≡ length pre + length p = length-append pre (p ++ []) ∙ ap (λ s. length pre + length s) (append-nil p) in
     ap (between (pre ++ (p ++ [])) (length pre)) e ∙ cut_first pre p []
-cut_at pre p (q ∷ qs) = cut_first pre p (q ++ joined qs)
+cut_at pre p (q ∷ qs) = cut_first pre p (q ++ concat qs)
 
 -- what is cut out at an index is the piece
-pub cut : (ps : List (List ℕ)) (pre : List ℕ) (i : ℕ) → piece (pre ++ joined ps) (starts_of (length pre) ps) i ≡ nth ps i
+pub cut : (ps : List (List ℕ)) (pre : List ℕ) (i : ℕ) → piece (pre ++ concat ps) (starts_of (length pre) ps) i ≡ nth ps i
 cut [] pre zero = refl
 cut [] pre (suc i) = refl
 cut (p ∷ ps) pre zero = cut_at pre p ps
 cut (p ∷ ps) pre (suc i) =
-    ap₂ (λ (s : List ℕ) (n : ℕ). piece s (starts_of n ps) i) (sym (append_assoc pre p (joined ps))) (sym (length-append pre p)) ∙ cut ps (pre ++ p) i
+    ap₂ (λ (s : List ℕ) (n : ℕ). piece s (starts_of n ps) i) (sym (append_assoc pre p (concat ps))) (sym (length-append pre p)) ∙ cut ps (pre ++ p) i
 
 -- ---- members with their commas
 
@@ -144,7 +145,7 @@ count_pieces (field f fs) no_values h = absurd (true≢false (sym h))
 count_pieces (field f fs) (value v vs) h = ap suc (count_pieces fs vs (and_true (fits f v) (fits_each fs vs) h).1)
 
 -- where the order is that of the fields, the pieces are as they stand
-counted : (os : List ℕ) (ps : List (List ℕ)) (i : ℕ) (text : ℕ → List ℕ) → is_counting i os ≡ true → length os ≡ length ps → ((j : ℕ) → text (i + j) ≡ nth ps j) → flat_map text os ≡ joined ps
+counted : (os : List ℕ) (ps : List (List ℕ)) (i : ℕ) (text : ℕ → List ℕ) → is_counting i os ≡ true → length os ≡ length ps → ((j : ℕ) → text (i + j) ≡ nth ps j) → flat_map text os ≡ concat ps
 counted [] [] i text c n p = refl
 counted [] (q ∷ qs) i text c n p = absurd (omega (arith, n))
 counted (o ∷ os) [] i text c n p = absurd (omega (arith, n))
@@ -173,15 +174,15 @@ pub object_ordered : (fs : Fields) (vs : ValueTrees) → fits_each fs vs ≡ tru
 object_ordered fs vs h = ap (λ (s : List ℕ). braced s ++ 125 ∷ []) (ordered_by fs vs h (is_in_order (indices_of fs) (count fs)) refl) ∙ object_braced (members_json fs vs)
 
 pub sorted_by : (fs : Fields) (vs : ValueTrees) (pre : List ℕ) → fits_each fs vs ≡ true → (b : Bool) → is_in_order (indices_of fs) (count fs) ≡ b
-    → sorted (pre ++ joined (pieces fs vs)) (starts_of (length pre) (pieces fs vs)) (length pre) (if b then None else Some (indices_of fs)) ≡ pre ++ open_text (members_json fs vs)
+    → sorted (pre ++ concat (pieces fs vs)) (starts_of (length pre) (pieces fs vs)) (length pre) (if b then None else Some (indices_of fs)) ≡ pre ++ open_text (members_json fs vs)
 sorted_by fs vs pre h true is = ap (λ (s : List ℕ). pre ++ s) (ordered_by fs vs h true is)
 sorted_by fs vs pre h false is =
     let ps = pieces fs vs in
-    ap₂ (λ (a r : List ℕ). a ++ r) (take-append_seam pre (joined ps)) (flat_same (piece (pre ++ joined ps) (starts_of (length pre) ps)) (nth ps) (cut ps pre) (indices_of fs) ∙ pieces_ordered fs vs h)
+    ap₂ (λ (a r : List ℕ). a ++ r) (take-append_seam pre (concat ps)) (flat_same (piece (pre ++ concat ps) (starts_of (length pre) ps)) (nth ps) (cut ps pre) (indices_of fs) ∙ pieces_ordered fs vs h)
 
 -- the pieces of an object after a text, put in order and braced
 pub object_text : (fs : Fields) (vs : ValueTrees) (pre : List ℕ) → fits_each fs vs ≡ true
-    → braced_at (length pre) (sorted (pre ++ joined (pieces fs vs)) (starts_of (length pre) (pieces fs vs)) (length pre) (order_of fs)) ++ 125 ∷ [] ≡ pre ++ compact_text (json.object (members_json fs vs))
+    → braced_at (length pre) (sorted (pre ++ concat (pieces fs vs)) (starts_of (length pre) (pieces fs vs)) (length pre) (order_of fs)) ++ 125 ∷ [] ≡ pre ++ compact_text (json.object (members_json fs vs))
 object_text fs vs pre h =
     let ms = members_json fs vs in
     let all = sorted_by fs vs pre h (is_in_order (indices_of fs) (count fs)) refl in

@@ -1,5 +1,6 @@
 -- What is held after the values of a row that fits.
 use Rattle.std.proofs.Common.{◌≡◌, ℕ, ◌+◌, Bool, true, false, true≢false, List, [], ◌∷◌, ◌++◌, length, drop, Option, Some, None, refl, ap, ap₂, sym, ◌∙◌, append_assoc, append-nil}
+use Rattle.std.specs.List.{concat}
 use Rattle.std.specs.Prelude.{IsTrue}
 use Rattle.std.proofs.Math.Seq.{take-append_seam, drop-append_seam}
 use Rattle.std.proofs.lemmas.List.{length-append}
@@ -19,7 +20,6 @@ use Rattle.jsonrows.specs.inner.Levels.{State, Level, object, items, held, next_
 use Rattle.jsonrows.proofs.KeptTexts.{no_group, no_list, leaf_of, group_of, leaf_kept}
 use Rattle.jsonrows.proofs.RowSteps.{run_append}
 use Rattle.jsonrows.proofs.Both.{and_true}
-use Rattle.jsonrows.specs.inner.Kept.{joined}
 use Rattle.jsonrows.proofs.RowOrder.{starts_of, pieces, object_text}
 
 -- values that pass are printed, in a slot, as what is shown of them
@@ -81,7 +81,7 @@ abbrev ArePrinted : Fields → Type 0
 ArePrinted fs =
     (vs : ValueTrees) → fits_each fs vs ≡ true → (text starts : List ℕ) (o : Option (List ℕ)) (f n : ℕ) (outer : List Level)
     → run (held text starts (object (slots_made fs) o f n) outer) (tokens_each vs)
-    ≡ held (text ++ joined (pieces fs vs)) (with_starts o starts (starts_of (length text) (pieces fs vs))) (object no_slots o f n) outer
+    ≡ held (text ++ concat (pieces fs vs)) (with_starts o starts (starts_of (length text) (pieces fs vs))) (object no_slots o f n) outer
 
 -- where the order stays, starts are not needed
 started_none : (o : Option (List ℕ)) (starts : List ℕ) → starts ≡ with_starts o starts []
@@ -102,13 +102,13 @@ started_before (Some order) starts added = take-append_seam starts added
 
 -- an object that is closed
 object_closed : (fs : Fields) (vs : ValueTrees) → fits_each fs vs ≡ true → (text starts : List ℕ) (outer : List Level)
-    → closed (held (text ++ joined (pieces fs vs)) (with_starts (order_of fs) starts (starts_of (length text) (pieces fs vs))) (object no_slots (order_of fs) (length text) (length starts)) outer)
+    → closed (held (text ++ concat (pieces fs vs)) (with_starts (order_of fs) starts (starts_of (length text) (pieces fs vs))) (object no_slots (order_of fs) (length text) (length starts)) outer)
     ≡ held (text ++ compact_text (json.object (members_json fs vs))) starts (object no_slots (order_of fs) (length text) (length starts)) outer
 object_closed fs vs h text starts outer =
     let ps = pieces fs vs in
     let l = object no_slots (order_of fs) (length text) (length starts) in
     ap₂ (λ (a b : List ℕ). held (braced_at (length text) a ++ 125 ∷ []) b l outer)
-    (sorted_started (order_of fs) (text ++ joined ps) starts (starts_of (length text) ps) (length text)) (started_before (order_of fs) starts (starts_of (length text) ps))
+    (sorted_started (order_of fs) (text ++ concat ps) starts (starts_of (length text) ps) (length text)) (started_before (order_of fs) starts (starts_of (length text) ps))
     ∙ ap (λ (a : List ℕ). held a starts l outer) (object_text fs vs text h)
 
 group_printed : (fs : Fields) (k : List ℕ) → ArePrinted fs → IsPrinted (group_of fs k) (is_group (fits_each fs)) (object_json (members_json fs))
@@ -147,7 +147,7 @@ mutual
       let at : length ((text ++ key) ++ c) ≡ length text + length (key ++ c) = ap length (append_assoc text key c) ∙ length-append text (key ++ c) in
       run_append s (tokens v) (tokens_each vs) ∙ ap (λ x. run x (tokens_each vs)) (field_printed d v q.0 s refl)
       ∙ fields_printed fs vs q.1 ((text ++ key) ++ c) (with_starts o starts (length text ∷ [])) o f n outer
-      ∙ ap₂ (λ (a b : List ℕ). held a b (object no_slots o f n) outer) (ap (λ (x : List ℕ). x ++ joined ps) (append_assoc text key c) ∙ append_assoc text (key ++ c) (joined ps))
+      ∙ ap₂ (λ (a b : List ℕ). held a b (object no_slots o f n) outer) (ap (λ (x : List ℕ). x ++ concat ps) (append_assoc text key c) ∙ append_assoc text (key ++ c) (concat ps))
       (started_more o starts (length text) _ ∙ ap (λ m. with_starts o starts (length text ∷ starts_of m ps)) at)
 
 -- after the values of a row that fits, its object is closed to the row's text

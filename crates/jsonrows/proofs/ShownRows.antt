@@ -1,5 +1,6 @@
 -- The values of fields that were read as they are shown, and their pieces.
 use Rattle.std.proofs.Common.{◌≡◌, ℕ, zero, suc, ◌+◌, ◌<◌, Bool, true, false, true≢false, ◌&&◌, ◌==◌, List, [], ◌∷◌, ◌++◌, length, get_or, Option, None, option_map, String, Vec, Global, refl, sym, ap, ap₂, subst, ◌∙◌, arith, append_assoc, append-nil, rules}
+use Rattle.std.specs.List.{concat}
 use Rattle.std.proofs.lemmas.Bool.{ne_eqb}
 use Rattle.std.proofs.lemmas.List.{map-append}
 use Rattle.json.specs.Print.{quoted}
@@ -27,7 +28,7 @@ use Rattle.jsonrows.specs.declared.pieces.Piece.{Piece}
 use Rattle.jsonrows.specs.inner.Lines.{rest_of, Takes, IsShown, with_comma, members_shown, open_text}
 use Rattle.jsonrows.specs.inner.Pieces.{token_of, tokens_of, Grows, IsAdded, IsRead, AreRead}
 use Rattle.jsonrows.specs.inner.Slots.{group_slot, slot_view, slots_view, slot_of, slots_made, key_in, indices_of, is_in_order, order_of, vec_items}
-use Rattle.jsonrows.specs.inner.Kept.{joined, in_order as put_in_order}
+use Rattle.jsonrows.specs.inner.Kept.{in_order as put_in_order}
 use Rattle.jsonrows.specs.inner.Levels.{braced}
 use Rattle.assemble.specs.Sinks.{Token, single, group_begins, group_ends, list_begins, list_ends, tokens, tokens_each}
 use Rattle.assemble.specs.inner.Building.{snoc}
@@ -275,7 +276,7 @@ members_end fs first left i rest ks bs so none some =
 
 -- ---- objects
 
-as_pieces : (fs : Fields) (vs : ValueTrees) → members_shown fs vs ≡ joined (pieces fs vs)
+as_pieces : (fs : Fields) (vs : ValueTrees) → members_shown fs vs ≡ concat (pieces fs vs)
 as_pieces no_fields no_values = refl
 as_pieces no_fields (value v vs) = refl
 as_pieces (field f fs) no_values = refl

@@ -1,9 +1,10 @@
 //! The text of values that are kept: the members of an object are printed in the order of their names at once.
 
 ghost use Rattle.std.specs.Prelude.{◌≡◌, ◌≤◌, ◌+◌, ◌++◌, ◌∷◌, [], drop, IfSome, IfNone, OnOk, flat_map};
+ghost use Rattle.std.specs.List.{concat};
 ghost use Rattle.serde_json.specs.Written.{comma_if};
 ghost use Rattle.schema.specs.Values.{group, list, view, views};
-ghost use Rattle.jsonrows.specs.inner.Kept.{joined, nth, kept_text, kept_pieces, kept_object};
+ghost use Rattle.jsonrows.specs.inner.Kept.{nth, kept_text, kept_pieces, kept_object};
 ghost use Rattle.jsonrows.specs.inner.Slots.{slot_view, slots_view, order_view};
 
 use crate::leaf_text::end_with_bytes;
@@ -49,7 +50,7 @@ fn put_group(slot: &Slot, values: &[Value], out: &mut Line) -> Result<(), AllocE
 #[cycle(keeping)]
 #[inline(never)]
 fn put_members(slots: &[Slot], values: &[Value], out: &mut Line) -> Result<(), AllocError>
-    ensures { OnOk result (out.new.items ≡ out.old.items ++ joined (kept_pieces (slots_view slots.now) (views values.now))) }
+    ensures { OnOk result (out.new.items ≡ out.old.items ++ concat (kept_pieces (slots_view slots.now) (views values.now))) }
 {
     for i in 0..slots.len() {
         put_member(slots, values, i, out)?;

@@ -63,6 +63,15 @@ impl Line {
         &self.bytes.as_slice()[..self.len]
     }
 
+    /// The text; the room after it stays with it.
+    pub fn into_vec(self) -> Vec<u8>
+        ensures { result.items ≡ self.items }
+    {
+        let Line { mut bytes, len } = self;
+        bytes.truncate(len);
+        bytes
+    }
+
     /// Whether there is room for so many more bytes.
     #[inline(always)]
     pub fn has_room(&self, more: usize) -> bool

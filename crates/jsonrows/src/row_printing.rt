@@ -27,7 +27,7 @@ pub fn row_to(alloc: Global, schema: &Schema, row: &Row) -> R<String>
     let plan = RowPlan::new(alloc, schema)?;
     let mut text = Line::new(alloc);
     put_object(plan.slots(), plan.order(), row.values.as_slice(), &mut text)?;
-    Ok(text_from(Vec::from_slice(alloc, text.as_slice())?)?)
+    Ok(text_from(text.into_vec())?)
 }
 
 /// The text of bytes that are UTF-8. It is tested, since no proof says so of what was printed.

@@ -1,22 +1,18 @@
 -- The text of values that are kept, by the slots of their fields.
-use Rattle.std.specs.Prelude.{ℕ, zero, suc, Bool, true, false, List, [], ◌∷◌, ◌++◌, flat_map, Option, Some, None}
+use Rattle.std.specs.Prelude.{ℕ, get_or, Bool, true, false, List, [], ◌∷◌, ◌++◌, flat_map, Option, Some, None}
+use Rattle.std.specs.List.{concat}
 use Rattle.serde_json.specs.Written.{comma_if}
 use Rattle.schema.specs.Values.{ValueTree, group, list, ValueTrees, no_values, value}
 use Rattle.jsonrows.specs.inner.Slots.{Slot, Slots, slot, key_in}
 use Rattle.jsonrows.specs.inner.Levels.{text_at, slots_in, order_in, braced}
 
-abbrev pub joined : List (List ℕ) → List ℕ
-joined [] = []
-joined (p ∷ ps) = p ++ joined ps
-
+-- the text at an index, nothing where there is none
 abbrev pub nth : List (List ℕ) → ℕ → List ℕ
-nth [] i = []
-nth (p ∷ ps) zero = p
-nth (p ∷ ps) (suc i) = nth ps i
+nth ps i = get_or ps i []
 
 -- the members of an object in this order, each with a comma before it; none is the order in which they stand
 abbrev pub in_order : List (List ℕ) → Option (List ℕ) → List ℕ
-in_order ps None = joined ps
+in_order ps None = concat ps
 in_order ps (Some order) = flat_map (nth ps) order
 
 abbrev pub kept_object : List (List ℕ) → Option (List ℕ) → List ℕ

@@ -1,10 +1,11 @@
 use Rattle.std.proofs.Common.{◌≡◌, ◌+◌, ◌++◌, ◌∷◌, drop, false, sym, ap, ◌∙◌, arith, append-nil}
+use Rattle.std.specs.List.{concat}
 use Rattle.std.proofs.lemmas.List.{drop_more, drop_all}
 use Rattle.std.proofs.lemmas.Result.{on_ok_weaker}
 use Rattle.serde_json.specs.Written.{comma_if}
 use Rattle.schema.specs.Values.{view, views}
 use Rattle.jsonrows.specs.inner.Slots.{slot_view, slots_view, key_in}
-use Rattle.jsonrows.specs.inner.Kept.{joined, nth, kept_text, kept_items, kept_pieces}
+use Rattle.jsonrows.specs.inner.Kept.{nth, kept_text, kept_items, kept_pieces}
 use Rattle.jsonrows.proofs.Sizes.{value_there, group_size, list_size}
 use Rattle.jsonrows.proofs.KeptSteps.{nth_there, nth_no_slot, nth_no_value, member_there, member_put, none_left, item_put, list_put}
 use Rattle.jsonrows.proofs.kept_rows.+keeping.Goals as goal
@@ -80,7 +81,7 @@ put_members-put_member-requires t c = (omega arith, tt)
 pub put_members-loop-i-preserved : goal.put_members-loop-i-preserved
 put_members-loop-i-preserved t c =
     let ps = kept_pieces (slots_view c.args.slots.now) (views c.args.values.now) in
-    member_put ps c.loop-i.i c.loop-i.out.items c.put_member.new.out.items (c.args.out.now.items ++ joined ps) c.loop-i.invariant c.in_ok-put_member.ensures
+    member_put ps c.loop-i.i c.loop-i.out.items c.put_member.new.out.items (c.args.out.now.items ++ concat ps) c.loop-i.invariant c.in_ok-put_member.ensures
 
 pub put_members-returns : goal.put_members-returns
 put_members-returns t c =

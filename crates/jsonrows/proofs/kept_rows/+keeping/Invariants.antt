@@ -1,7 +1,8 @@
 use Rattle.std.proofs.Common.{◌≡◌, ◌+◌, ◌*◌, ◌++◌, drop, flat_map, false}
+use Rattle.std.specs.List.{concat}
 use Rattle.schema.specs.Values.{view, views}
 use Rattle.jsonrows.specs.inner.Slots.{slot_view, slots_view}
-use Rattle.jsonrows.specs.inner.Kept.{joined, nth, kept_items, kept_pieces}
+use Rattle.jsonrows.specs.inner.Kept.{nth, kept_items, kept_pieces}
 use Rattle.jsonrows.proofs.Sizes.{value_size, value_sizes}
 use Rattle.jsonrows.proofs.kept_rows.+keeping.Given as goal
 
@@ -11,7 +12,7 @@ invariant-put_list-loop-item l = l.out.items ++ kept_items l.later (slot_view l.
 abbrev pub invariant-put_members-loop-i : goal.invariant-put_members-loop-i
 invariant-put_members-loop-i l =
     let ps = kept_pieces (slots_view l.slots) (views l.values) in
-    l.out.items ++ joined (drop l.i ps) ≡ l.initial.out.items ++ joined ps
+    l.out.items ++ concat (drop l.i ps) ≡ l.initial.out.items ++ concat ps
 
 abbrev pub invariant-put_ordered-loop-index : goal.invariant-put_ordered-loop-index
 invariant-put_ordered-loop-index l =
