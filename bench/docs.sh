@@ -22,7 +22,7 @@ only_program = "--program" in words
 named = [it for it in words if it != "--program"]
 LONG = {"rt ci", ".ci/run", "bench/gate.sh", "bench/edits.sh", "bench/docs.sh"}
 CALL = re.compile(r"`((?:\./pqds|rt|bench/\w+\.sh|\.ci/run|\(cd crates/\w+ && rt)(?: [^`]*|\w[^`]*)?)`(?: prints `([^`]*)`)?")
-HELP = re.compile(r"## `pqds ?(\w*)`$")
+HELP = re.compile(r"## `pqds ?([\w-]*)`$")
 failed = 0
 done = set()
 

@@ -23,9 +23,9 @@ no_fault fs rows refusal.Levels t h fit = absurd (faultless fs (columns fs rows)
 no_fault fs rows refusal.Value t h fit = absurd (faultless fs (columns fs rows) refusal.Value h tt rows (record { fit = fit; have = refl }))
 no_fault fs rows _ t h fit = absurd t
 
-module _ {A : Type 0} (S : A → List Entry → Type 0) (R : A → Option Refusal) where
+module _ {A : Type 0} (S : A → List Entry → Type 0) (R : A → Option Refusal) (C : A → Refusal → Type 0) where
   -- what the reader of a row is refused for
-  pub only_memory : (fs : Fields) → 0 < length (leaves_of fs) → (old new : List A) (e : Refusal) → IsRefusedFor S R old new (IsFaulty (FitEach fs) (stripes_each fs 0 0 0) 0 (wants_each fs 0)) e
+  pub only_memory : (fs : Fields) → 0 < length (leaves_of fs) → (old new : List A) (e : Refusal) → IsRefusedFor S R C old new (IsFaulty (FitEach fs) (stripes_each fs 0 0 0) 0 (wants_each fs 0)) e
       → (rows : List ValueTrees) → StandForRows S old fs rows → 0 < length rows → e ≡ refusal.Memory
   only_memory fs some old new e refused [] stand more = absurd (omega (arith, more))
   only_memory fs some old new e (inl h) (row ∷ rows) stand more = absurd (h.1 (columns fs (row ∷ rows)) stand.stand)

@@ -244,11 +244,11 @@ pub other_number : (fs : Fields) (rows : List ValueTrees) (cs : Columns) → Are
 other_number fs rows cs h = sym (length-map (leaves_of fs) (λ (l : Leaf). column rows l.steps)) ∙ alike_length (columns fs rows) cs h
 
 -- results
-module _ {A : Type 0} (S : A → List Entry → Type 0) (R : A → Option Refusal) where
-  pub next_to_err : {K : Type 0} (shows : K → List Token → Type 0) (fs : Fields) (old new : List A) (from to : K) (r : Result Bool Refusal) (e : Refusal) → IsErrAnd r (λ f. f ≡ e) → IsRefusedFor S R old new (HasFault fs) e → NextRowTo S R shows fs old new from to r
+module _ {A : Type 0} (S : A → List Entry → Type 0) (R : A → Option Refusal) (C : A → Refusal → Type 0) where
+  pub next_to_err : {K : Type 0} (shows : K → List Token → Type 0) (fs : Fields) (old new : List A) (from to : K) (r : Result Bool Refusal) (e : Refusal) → IsErrAnd r (λ f. f ≡ e) → IsRefusedFor S R C old new (HasFault fs) e → NextRowTo S R C shows fs old new from to r
   next_to_err shows fs old new from to (Ok x) e is h = absurd is
-  next_to_err shows fs old new from to (Err f) e is h = subst (IsRefusedFor S R old new (HasFault fs)) (sym is) h
+  next_to_err shows fs old new from to (Err f) e is h = subst (IsRefusedFor S R C old new (HasFault fs)) (sym is) h
 
-  pub next_err : (fs : Fields) (old new : List A) (r : Result (Option Row) Refusal) (e : Refusal) → IsErrAnd r (λ f. f ≡ e) → IsRefusedFor S R old new (HasFault fs) e → NextRow S R fs old new r
+  pub next_err : (fs : Fields) (old new : List A) (r : Result (Option Row) Refusal) (e : Refusal) → IsErrAnd r (λ f. f ≡ e) → IsRefusedFor S R C old new (HasFault fs) e → NextRow S R C fs old new r
   next_err fs old new (Ok x) e is h = absurd is
-  next_err fs old new (Err f) e is h = subst (IsRefusedFor S R old new (HasFault fs)) (sym is) h
+  next_err fs old new (Err f) e is h = subst (IsRefusedFor S R C old new (HasFault fs)) (sym is) h

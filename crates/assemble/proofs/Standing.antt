@@ -7,9 +7,9 @@ use borrow.Rule.Slice.PartMut.{put_mid, mid_of}
 use Rattle.bits.specs.declared.refusal.Refusal.{Refusal}
 use Rattle.bits.specs.declared.refusal.Refusal.TheVariants as refusal
 use Rattle.schema.specs.Stripe.{Entry}
-use Rattle.assemble.specs.Sources.{Same, Precede, NothingStands, Refuses, Keeps}
+use Rattle.assemble.specs.Sources.{Same, Precede, NothingStands, Refuses, Keeps, CausesStay}
 use Rattle.assemble.specs.Columns.{Columns, IsAmong, Tells}
-use Rattle.assemble.specs.Standing.{AllStand, AllSame, IsRefusedFor}
+use Rattle.assemble.specs.Standing.{AllStand, AllSame, HaveCause, IsRefusedFor}
 use Rattle.assemble.specs.inner.Steps.{IsSourceRefusedFor}
 use Rattle.schema.proofs.Slices.{tail_is, tail_put}
 use Rattle.assemble.proofs.Told.{tells_more}
@@ -40,6 +40,38 @@ map_joined f (x ∷ xs) ys = ap (λ t. f x ∷ t) (map_joined f xs ys)
 
 pub among_put : {A : Type 0} (f : A → Option Refusal) (a : ℕ) (xs ys : List A) (e : Refusal) → a ≤ length xs → IsAmong e (map f ys) → IsAmong e (map f (put_mid a (length xs - a) xs ys))
 among_put f a xs ys e le h = subst (λ zs. IsAmong e (map f zs)) (sym (tail_put a xs ys le)) (subst (IsAmong e) (sym (map_joined f (take a xs) ys)) (among_later e (map f (take a xs)) (map f ys) h))
+
+-- causes of some sources, after one or the last of them have changed
+module _ {A : Type 0} (C : A → Refusal → Type 0) where
+  pub cause_at : (xs : List A) (i : ℕ) (x : A) (e : Refusal) → i < length xs → C (get_or xs i x) e → HaveCause C xs e
+  cause_at [] i x e lt h = absurd (omega (arith, lt))
+  cause_at (z ∷ xs) zero x e lt h = inl h
+  cause_at (z ∷ xs) (suc i) x e lt h = inr (cause_at xs i x e (omega (arith, lt)) h)
+
+  pub causes_set : (xs : List A) (i : ℕ) (x y : A) → i < length xs → CausesStay C (get_or xs i x) y → CausesStay (HaveCause C) xs (set xs i y)
+  causes_set [] i x y lt h e m = absurd (omega (arith, lt))
+  causes_set (z ∷ xs) zero x y lt h e (inl m) = inl (h e m)
+  causes_set (z ∷ xs) zero x y lt h e (inr m) = inr m
+  causes_set (z ∷ xs) (suc i) x y lt h e (inl m) = inl m
+  causes_set (z ∷ xs) (suc i) x y lt h e (inr m) = inr (causes_set xs i x y (omega (arith, lt)) h e m)
+
+  cause_later : (a : ℕ) (xs : List A) (e : Refusal) → HaveCause C (drop a xs) e → HaveCause C xs e
+  cause_later zero xs e h = h
+  cause_later (suc a) [] e h = absurd h
+  cause_later (suc a) (x ∷ xs) e h = inr (cause_later a xs e h)
+
+  cause_joined : (a : ℕ) (xs ys : List A) (e : Refusal) → (HaveCause C ys e → HaveCause C (drop a xs) e) → HaveCause C (take a xs ++ ys) e → HaveCause C xs e
+  cause_joined zero xs ys e up h = up h
+  cause_joined (suc a) [] ys e up h = absurd (up h)
+  cause_joined (suc a) (x ∷ xs) ys e up (inl h) = inl h
+  cause_joined (suc a) (x ∷ xs) ys e up (inr h) = inr (cause_joined a xs ys e up h)
+
+  pub causes_part : (a : ℕ) (xs : List A) → a ≤ length xs → CausesStay (HaveCause C) xs (mid_of a (length xs - a) xs)
+  causes_part a xs le e h = cause_later a xs e (subst (λ ys. HaveCause C ys e) (tail_is a xs le) h)
+
+  pub causes_put : (a : ℕ) (xs ys : List A) → a ≤ length xs → CausesStay (HaveCause C) (mid_of a (length xs - a) xs) ys → CausesStay (HaveCause C) xs (put_mid a (length xs - a) xs ys)
+  causes_put a xs ys le h e m =
+      cause_joined a xs ys e (λ k. subst (λ zs. HaveCause C zs e) (tail_is a xs le) (h e k)) (subst (λ zs. HaveCause C zs e) (tail_put a xs ys le) m)
 
 module _ {A : Type 0} (S : A → List Entry → Type 0) where
   pub same_self : (xs : List A) → AllSame S xs xs
@@ -168,23 +200,24 @@ module _ {A : Type 0} (S : A → List Entry → Type 0) where
       let first = subst (λ n. AllStand S (take a xs) (take n cs)) (length-take-le a xs le) (stand_first (take a xs) ys cs (subst (λ zs. AllStand S zs cs) (tail_put a xs ys le) s)) in
       subst (λ zs. AllStand S zs (take a cs ++ ds)) (take_drop a xs) (stand_join (take a xs) (drop a xs) (take a cs) ds first (subst (λ ys. AllStand S ys ds) (tail_is a xs le) t))
 
-  module _ (R : A → Option Refusal) where
+  module _ (R : A → Option Refusal) (C : A → Refusal → Type 0) where
     -- what is refused of what stood later is refused of what stood before
     pub refused_up : (old new mid last : List A) (F G : Columns → Refusal → Type 0) (e : Refusal)
-        → (IsAmong e (map R last) → IsAmong e (map R new)) → (map R last ≡ map R mid → map R new ≡ map R old)
-        → ((cs : Columns) → AllStand S old cs → (ds : Columns) × (AllStand S mid ds × (F ds e → G cs e))) → IsRefusedFor S R mid last F e → IsRefusedFor S R old new G e
-    refused_up old new mid last F G e among kept up (inl h) = inl (among h.0, λ cs s. let w = up cs s in h.1 w.0 w.1.0)
-    refused_up old new mid last F G e among kept up (inr h) = inr (kept h.0, (h.1.0, λ cs s. let w = up cs s in w.1.1 (h.1.1 w.0 w.1.0)))
+        → (IsAmong e (map R last) → IsAmong e (map R new)) → (map R last ≡ map R mid → map R new ≡ map R old) → CausesStay (HaveCause C) old mid
+        → ((cs : Columns) → AllStand S old cs → (ds : Columns) × (AllStand S mid ds × (F ds e → G cs e))) → IsRefusedFor S R C mid last F e → IsRefusedFor S R C old new G e
+    refused_up old new mid last F G e among kept stay up (inl h) = inl (among h.0, λ cs s. let w = up cs s in h.1 w.0 w.1.0, stay e h.2)
+    refused_up old new mid last F G e among kept stay up (inr h) = inr (kept h.0, (h.1.0, λ cs s. let w = up cs s in w.1.1 (h.1.1 w.0 w.1.0)))
 
     -- the same columns stood
-    pub refused_same : (old mid new : List A) (F G : Columns → Refusal → Type 0) (e : Refusal) → AllSame S old mid → map R mid ≡ map R old → ((cs : Columns) → AllStand S old cs → F cs e → G cs e) → IsRefusedFor S R mid new F e → IsRefusedFor S R old new G e
-    refused_same old mid new F G e same kept up = refused_up old new mid new F G e (λ h. h) (λ k. k ∙ kept) (λ cs s. (cs, (stand_on old mid cs same s, up cs s)))
+    pub refused_same : (old mid new : List A) (F G : Columns → Refusal → Type 0) (e : Refusal) → AllSame S old mid → map R mid ≡ map R old → CausesStay (HaveCause C) old mid → ((cs : Columns) → AllStand S old cs → F cs e → G cs e)
+        → IsRefusedFor S R C mid new F e → IsRefusedFor S R C old new G e
+    refused_same old mid new F G e same kept stay up = refused_up old new mid new F G e (λ h. h) (λ k. k ∙ kept) stay (λ cs s. (cs, (stand_on old mid cs same s, up cs s)))
 
     -- one source is refused
-    pub refused_at : (old xs : List A) (i : ℕ) (x y : A) (F : List Entry → Refusal → Type 0) (G : Columns → Refusal → Type 0) (e : Refusal) → i < length xs → map R xs ≡ map R old
-        → ((cs : Columns) → AllStand S old cs → (es : List Entry) × (S (get_or xs i x) es × (F es e → G cs e))) → IsSourceRefusedFor S R (get_or xs i x) y F e → IsRefusedFor S R old (set xs i y) G e
-    refused_at old xs i x y F G e lt kept up (inl h) = inl (among_set R xs i y e lt h.0, λ cs s. let w = up cs s in h.1 w.0 w.1.0)
-    refused_at old xs i x y F G e lt kept up (inr h) = inr (kept_at R xs i x y lt h.0 ∙ kept, (h.1.0, λ cs s. let w = up cs s in w.1.1 (h.1.1 w.0 w.1.0)))
+    pub refused_at : (old xs : List A) (i : ℕ) (x y : A) (F : List Entry → Refusal → Type 0) (G : Columns → Refusal → Type 0) (e : Refusal) → i < length xs → map R xs ≡ map R old → CausesStay (HaveCause C) old xs
+        → ((cs : Columns) → AllStand S old cs → (es : List Entry) × (S (get_or xs i x) es × (F es e → G cs e))) → IsSourceRefusedFor S R C (get_or xs i x) y F e → IsRefusedFor S R C old (set xs i y) G e
+    refused_at old xs i x y F G e lt kept stay up (inl h) = inl (among_set R xs i y e lt h.0, λ cs s. let w = up cs s in h.1 w.0 w.1.0, stay e (cause_at C xs i x e lt h.2))
+    refused_at old xs i x y F G e lt kept stay up (inr h) = inr (kept_at R xs i x y lt h.0 ∙ kept, (h.1.0, λ cs s. let w = up cs s in w.1.1 (h.1.1 w.0 w.1.0)))
 
 -- a refusal for which P holds where the result is Err
 pub refused_ok : {X : Type 0} (P : Refusal → Type 0) (r : Result X Refusal) (e : Refusal) → IsErrAnd r (λ f. f ≡ e) → P e → IfErr r P
@@ -200,9 +233,10 @@ is_memory S old new refusal.Memory h k = inr (k, tt)
 is_memory S old new _ h k = inl (k, h.0)
 
 -- a look at one source is refused
-pub peek_refused : {A : Type 0} (S : A → List Entry → Type 0) (R : A → Option Refusal) (old xs : List A) (i : ℕ) (x y : A) (G : Columns → Refusal → Type 0) (e : Refusal) → i < length xs → map R xs ≡ map R old
-    → ((cs : Columns) → AllStand S old cs → AllStand S xs cs) → ((cs : Columns) → Tells ⊥ ⊥ e → G cs e) → Refuses (S (get_or xs i x)) (R (get_or xs i x)) e → Keeps (R (get_or xs i x)) (R y) e → IsRefusedFor S R old (set xs i y) G e
-peek_refused S R old xs i x y G e lt kept on up h k = elim (is_memory (S (get_or xs i x)) (R (get_or xs i x)) (R y) e h k) [
-  | inl is ↦ inl (among_set R xs i y e lt is.0, λ cs s. is.1 (get_or cs i []) (stand_get S xs cs i x lt (on cs s)))
+pub peek_refused : {A : Type 0} (S : A → List Entry → Type 0) (R : A → Option Refusal) (C : A → Refusal → Type 0) (old xs : List A) (i : ℕ) (x y : A) (G : Columns → Refusal → Type 0) (e : Refusal)
+    → i < length xs → map R xs ≡ map R old → CausesStay (HaveCause C) old xs → ((cs : Columns) → AllStand S old cs → AllStand S xs cs) → ((cs : Columns) → Tells ⊥ ⊥ e → G cs e)
+    → Refuses (S (get_or xs i x)) (R (get_or xs i x)) e → Keeps (R (get_or xs i x)) (R y) e → C (get_or xs i x) e → IsRefusedFor S R C old (set xs i y) G e
+peek_refused S R C old xs i x y G e lt kept stay on up h k cause = elim (is_memory (S (get_or xs i x)) (R (get_or xs i x)) (R y) e h k) [
+  | inl is ↦ inl (among_set R xs i y e lt is.0, λ cs s. is.1 (get_or cs i []) (stand_get S xs cs i x lt (on cs s)), stay e (cause_at C xs i x e lt cause))
   | inr memory ↦ inr (kept_at R xs i x y lt memory.0 ∙ kept, (tells_more ⊥ ⊥ (Unit {0}) (Unit {0}) (λ n. absurd n) (λ n. absurd n) e memory.1, λ cs s. up cs memory.1))
 ]

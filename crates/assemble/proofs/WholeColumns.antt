@@ -53,9 +53,9 @@ faultless fs cs refusal.Memory h f rows are = f
 faultless fs cs _ h f rows are = h
 
 -- where a fault is refused, there are no rows
-pub only_faults : {A : Type 0} (S : A → List Entry → Type 0) (R : A → Option Refusal) (old new : List A) (fs : Fields) (e : Refusal) → IsRefusedFor S R old new (HasFault fs) e → IsFault e → (rows : List ValueTrees) → StandForRows S old fs rows → ⊥
-only_faults S R old new fs e (inl h) fault rows stand = h.1 (columns fs rows) stand.stand
-only_faults S R old new fs e (inr h) fault rows stand = faultless fs (columns fs rows) e (h.1.1 (columns fs rows) stand.stand) fault rows (record { fit = stand.fit; have = refl })
+pub only_faults : {A : Type 0} (S : A → List Entry → Type 0) (R : A → Option Refusal) (C : A → Refusal → Type 0) (old new : List A) (fs : Fields) (e : Refusal) → IsRefusedFor S R C old new (HasFault fs) e → IsFault e → (rows : List ValueTrees) → StandForRows S old fs rows → ⊥
+only_faults S R C old new fs e (inl h) fault rows stand = h.1 (columns fs rows) stand.stand
+only_faults S R C old new fs e (inr h) fault rows stand = faultless fs (columns fs rows) e (h.1.1 (columns fs rows) stand.stand) fault rows (record { fit = stand.fit; have = refl })
 
 pub refused_as : (fs : Fields) (cs : Columns) (e : Refusal) → HasFault fs cs e → IsRefusedAs fs cs e
 refused_as fs cs refusal.Limit h = absurd h

@@ -43,16 +43,16 @@ abbrev pub IsNextRow : {A : Type 0} → (A → List Entry → Type 0) → Fields
 IsNextRow S fs old new row = RowsFit fs (row ∷ []) × (Onward S old new (IsFirstRow fs row) × Backward S old new (Fronts (columns fs (row ∷ []))))
 
 -- the next row is shown, or there is none: the sources stand for the columns of no rows, and nothing is shown
-abbrev pub NextRowTo : {A K : Type 0} → (A → List Entry → Type 0) → (A → Option Refusal) → (K → List Token → Type 0) → Fields → List A → List A → K → K → Result Bool Refusal → Type 0
-NextRowTo S refused shows fs old new from to (Ok false) = (map refused new ≡ map refused old) × (AllStand S old (columns fs []) × (AllSame S old new × (to ≡ from)))
-NextRowTo S refused shows fs old new from to (Ok true) = (map refused new ≡ map refused old) × Visits (shows from) (shows to) tokens_each (IsNextRow S fs old new)
-NextRowTo S refused shows fs old new from to (Err e) = IsRefusedFor S refused old new (HasFault fs) e
+abbrev pub NextRowTo : {A K : Type 0} → (A → List Entry → Type 0) → (A → Option Refusal) → (A → Refusal → Type 0) → (K → List Token → Type 0) → Fields → List A → List A → K → K → Result Bool Refusal → Type 0
+NextRowTo S refused cause shows fs old new from to (Ok false) = (map refused new ≡ map refused old) × (AllStand S old (columns fs []) × (AllSame S old new × (to ≡ from)))
+NextRowTo S refused cause shows fs old new from to (Ok true) = (map refused new ≡ map refused old) × Visits (shows from) (shows to) tokens_each (IsNextRow S fs old new)
+NextRowTo S refused cause shows fs old new from to (Err e) = IsRefusedFor S refused cause old new (HasFault fs) e
 
 -- the next row, or none where the sources stand for the columns of no rows
-abbrev pub NextRow : {A : Type 0} → (A → List Entry → Type 0) → (A → Option Refusal) → Fields → List A → List A → Result (Option Row) Refusal → Type 0
-NextRow S refused fs old new (Ok None) = (map refused new ≡ map refused old) × (AllStand S old (columns fs []) × AllSame S old new)
-NextRow S refused fs old new (Ok (Some row)) = (map refused new ≡ map refused old) × IsNextRow S fs old new (row_view row)
-NextRow S refused fs old new (Err e) = IsRefusedFor S refused old new (HasFault fs) e
+abbrev pub NextRow : {A : Type 0} → (A → List Entry → Type 0) → (A → Option Refusal) → (A → Refusal → Type 0) → Fields → List A → List A → Result (Option Row) Refusal → Type 0
+NextRow S refused cause fs old new (Ok None) = (map refused new ≡ map refused old) × (AllStand S old (columns fs []) × AllSame S old new)
+NextRow S refused cause fs old new (Ok (Some row)) = (map refused new ≡ map refused old) × IsNextRow S fs old new (row_view row)
+NextRow S refused cause fs old new (Err e) = IsRefusedFor S refused cause old new (HasFault fs) e
 
 -- a column has more entries than it may have
 abbrev pub IsTooLong : Columns → Type 0

@@ -58,6 +58,10 @@ abbrev pub Keeps : Option Refusal → Option Refusal → Refusal → Type 0
 Keeps old new Memory = new ≡ old
 Keeps old new e = new ≡ Some e
 
+-- a cause later was one before
+abbrev pub CausesStay : {A : Type 0} → (A → Refusal → Type 0) → A → A → Type 0
+CausesStay cause old new = (e : Refusal) → cause new e → cause old e
+
 -- what is shown of the next entry
 abbrev pub Shows : Stands → Option Refusal → Result (Option (ℕ × ℕ)) Refusal → Type 0
 Shows S r (Ok (Some levels)) = (r ≡ None) × ((es : List Entry) → S es → Begins es levels.0 levels.1)

@@ -29,8 +29,13 @@ Onward S old new R = (before : Columns) → AllStand S old before → (after : C
 abbrev pub Backward : {A : Type 0} → (A → List Entry → Type 0) → List A → List A → (Columns → Columns → Type 0) → Type 0
 Backward S old new R = (after : Columns) → AllStand S new after → (before : Columns) × (AllStand S old before × R before after)
 
--- a refusal is a source's own, where no columns stood; or no source was refused, it is Levels, Value or Memory, and P holds of the columns that stood
-abbrev pub IsRefusedFor : {A : Type 0} → (A → List Entry → Type 0) → (A → Option Refusal) → List A → List A → (Columns → Refusal → Type 0) → Refusal → Type 0
-IsRefusedFor S refused old new P e =
-    (IsAmong e (map refused new) × NoneStand S old)
+-- one of the sources has a cause for this refusal
+abbrev pub HaveCause : {A : Type 0} → (A → Refusal → Type 0) → List A → Refusal → Type 0
+HaveCause cause [] e = ⊥
+HaveCause cause (x ∷ xs) e = cause x e ⊎ HaveCause cause xs e
+
+-- a refusal is a source's own, where no columns stood and a source had a cause for it; or no source was refused, it is Levels, Value or Memory, and P holds of the columns that stood
+abbrev pub IsRefusedFor : {A : Type 0} → (A → List Entry → Type 0) → (A → Option Refusal) → (A → Refusal → Type 0) → List A → List A → (Columns → Refusal → Type 0) → Refusal → Type 0
+IsRefusedFor S refused cause old new P e =
+    (IsAmong e (map refused new) × NoneStand S old × HaveCause cause old e)
     ⊎ ((map refused new ≡ map refused old) × (Tells (Unit {0}) (Unit {0}) e × ((cs : Columns) → AllStand S old cs → P cs e)))

@@ -4,8 +4,9 @@ ghost use Rattle.std.specs.Prelude.{◌≡◌, List, [], ◌∷◌, Some, OnOk, 
 ghost use Rattle.schema.specs.Values.{ValueTree};
 ghost use Rattle.schema.specs.Stripe.{Entry, entry};
 ghost use Rattle.schema.specs.Views.{field_view};
-ghost use Rattle.assemble.specs.Sources.{Precede};
+ghost use Rattle.assemble.specs.Sources.{Precede, CausesStay};
 ghost use Rattle.assemble.specs.Sinks.{Visits, single};
+ghost use Rattle.assemble.specs.Standing.{HaveCause};
 ghost use Rattle.assemble.specs.RowsOf.{StandForRows};
 ghost use Rattle.assemble.specs.Flat.{is_required_leaf, is_flat, FlatColumnsHaveRows, OfFlatRows, ShowsFirst};
 ghost use Rattle.assemble.specs.inner.Steps.{BeginsWithValue};
@@ -63,6 +64,7 @@ pub fn next_flat_row_to<S: EntrySource, K: RowSink>(
     ensures row { OnOk result (OfFlatRows S.stands sources.old
         (λ fs. ShowsFirst (StandForRows S.stands sources.new fs) (K.shows sink.old) (K.shows sink.new))) }
     ensures known { IfErr result (λ f. OfFlatRows S.stands sources.old (λ _ _. f ≡ Fault.Memory)) }
+    ensures causes_stay { CausesStay (HaveCause S.cause) sources.old sources.new }
 {
     for i in 0..sources.len() {
         show_first(&mut sources[i], sink)?;
@@ -76,6 +78,7 @@ fn show_first<S: EntrySource, K: RowSink>(source: &mut S, sink: &mut K) -> Resul
     ensures shows { OnOk result (Visits (K.shows sink.old) (K.shows sink.new) (λ (v : ValueTree). single v ∷ [])
         (λ v. Precede (entry 0 0 (Some v)) (S.stands source.old) (S.stands source.new))) }
     ensures known { IfErr result (λ f. (es : List Entry) → S.stands source.old es → BeginsWithValue es → f ≡ Fault.Memory) }
+    ensures causes_stay { CausesStay S.cause source.old source.new }
 {
     if let Some(value) = source.next_value() {
         return show(value, sink);
@@ -89,6 +92,7 @@ fn show_first_entry<S: EntrySource, K: RowSink>(source: &mut S, sink: &mut K) ->
     ensures shows { OnOk result (Visits (K.shows sink.old) (K.shows sink.new) (λ (v : ValueTree). single v ∷ [])
         (λ v. Precede (entry 0 0 (Some v)) (S.stands source.old) (S.stands source.new))) }
     ensures known { IfErr result (λ f. (es : List Entry) → S.stands source.old es → BeginsWithValue es → f ≡ Fault.Memory) }
+    ensures causes_stay { CausesStay S.cause source.old source.new }
 {
     match source.next()? {
         Some(entry) if entry.repetition == 0 && entry.definition == 0 => match &entry.value {

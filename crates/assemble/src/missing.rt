@@ -4,10 +4,10 @@ ghost use Rattle.std.specs.Prelude.{◌≡◌, ◌<◌, ◌≤◌, ◌^◌, leng
 ghost use Rattle.schema.specs.Views.{field_view, field_views};
 ghost use Rattle.schema.specs.Stripe.{entry};
 ghost use Rattle.schema.specs.Reading.{count_leaves, count_leaves_each};
-ghost use Rattle.assemble.specs.Sources.{Precede};
+ghost use Rattle.assemble.specs.Sources.{Precede, CausesStay};
 ghost use Rattle.assemble.specs.Sinks.{Adds, tokens};
 ghost use Rattle.assemble.specs.Columns.{Columns, Fronts};
-ghost use Rattle.assemble.specs.Standing.{AllStand, AllSame, Onward, Backward, IsRefusedFor};
+ghost use Rattle.assemble.specs.Standing.{AllStand, AllSame, HaveCause, Onward, Backward, IsRefusedFor};
 ghost use Rattle.assemble.specs.inner.Fronts.{nones};
 ghost use Rattle.assemble.specs.inner.Steps.{missing_value, IsSourceRefusedFor, IsAbsentFaulty, IsSkipFaulty, IsMissing, NoneLeft, first_of};
 
@@ -23,8 +23,9 @@ use std::alloc::AllocError;
 pub fn is_missing<S: EntrySource>(definition: u32, sources: &mut [S]) -> R<bool>
     requires { 0 < length sources.old }
     ensures missing { IfOk result (λ b. (cs : Columns) → AllStand S.stands sources.old cs → IsMissing definition (first_of cs) b) }
-    ensures refused { IfErr result (IsRefusedFor S.stands S.refused sources.old sources.new (λ cs. NoneLeft (first_of cs))) }
+    ensures refused { IfErr result (IsRefusedFor S.stands S.refused S.cause sources.old sources.new (λ cs. NoneLeft (first_of cs))) }
     ensures kept { OnOk result (map S.refused sources.new ≡ map S.refused sources.old) }
+    ensures causes_stay { CausesStay (HaveCause S.cause) sources.old sources.new }
     ensures same { AllSame S.stands sources.old sources.new }
 {
     match sources[0].peek()? {
@@ -38,8 +39,9 @@ pub fn skip<S: EntrySource>(count: usize, place: Place, sources: &mut [S]) -> R<
     requires { count ≤ length sources.old }
     ensures onward { IfOk result (λ _. Onward S.stands sources.old sources.new (Fronts (nones place.repetition place.definition count))) }
     ensures backward { IfOk result (λ _. Backward S.stands sources.old sources.new (Fronts (nones place.repetition place.definition count))) }
-    ensures refused { IfErr result (IsRefusedFor S.stands S.refused sources.old sources.new (IsSkipFaulty place.repetition place.definition count)) }
+    ensures refused { IfErr result (IsRefusedFor S.stands S.refused S.cause sources.old sources.new (IsSkipFaulty place.repetition place.definition count)) }
     ensures kept { OnOk result (map S.refused sources.new ≡ map S.refused sources.old) }
+    ensures causes_stay { CausesStay (HaveCause S.cause) sources.old sources.new }
 {
     for i in 0..count {
         read_absent(place, &mut sources[i])?;
@@ -50,8 +52,9 @@ pub fn skip<S: EntrySource>(count: usize, place: Place, sources: &mut [S]) -> R<
 /// Takes the next entry, which has these levels and no value.
 fn read_absent<S: EntrySource>(place: Place, source: &mut S) -> R<()>
     ensures first { IfOk result (λ _. Precede (entry place.repetition place.definition None) (S.stands source.old) (S.stands source.new)) }
-    ensures refused { IfErr result (IsSourceRefusedFor S.stands S.refused source.old source.new (IsAbsentFaulty place.repetition place.definition)) }
+    ensures refused { IfErr result (IsSourceRefusedFor S.stands S.refused S.cause source.old source.new (IsAbsentFaulty place.repetition place.definition)) }
     ensures kept { OnOk result (S.refused source.new ≡ S.refused source.old) }
+    ensures causes_stay { CausesStay S.cause source.old source.new }
 {
     match source.next()? {
         Some(entry) if place.is_of(&entry) => match entry.value {

@@ -7,9 +7,10 @@ ghost use Rattle.schema.specs.Borrowed.{value_ref_view};
 ghost use Rattle.schema.specs.Views.{leaf_type_view, field_view, field_views};
 ghost use Rattle.schema.specs.Law.{IsValid, AreValid};
 ghost use Rattle.schema.specs.Reading.{tall, tallest, count_leaves, count_leaves_each};
+ghost use Rattle.assemble.specs.Sources.{CausesStay};
 ghost use Rattle.assemble.specs.Sinks.{Adds, Visits, single, tokens, tokens_each};
 ghost use Rattle.assemble.specs.Columns.{Columns};
-ghost use Rattle.assemble.specs.Standing.{AllStand, AllSame, IsRefusedFor};
+ghost use Rattle.assemble.specs.Standing.{AllStand, AllSame, HaveCause, IsRefusedFor};
 ghost use Rattle.assemble.specs.inner.ReadValues.{ReadsField, ReadsInside, ReadsItems, ReadsEach, IsFieldFaulty, IsInsideFaulty, AreItemsFaulty, AreEachFaulty};
 ghost use Rattle.assemble.specs.inner.Steps.{IsMemory, ReadsLeaf, ReadsOptional, is_single, IsSourceRefusedFor, IsLeafFaulty, IsOptionalFaulty, HasItem, first_of};
 
@@ -28,8 +29,9 @@ use std::alloc::AllocError;
 pub fn has_item<S: EntrySource>(own: u32, sources: &mut [S]) -> R<bool>
     requires { 0 < length sources.old }
     ensures item { IfOk result (λ b. (cs : Columns) → AllStand S.stands sources.old cs → HasItem own (first_of cs) b) }
-    ensures refused { IfErr result (IsRefusedFor S.stands S.refused sources.old sources.new (λ _. IsMemory)) }
+    ensures refused { IfErr result (IsRefusedFor S.stands S.refused S.cause sources.old sources.new (λ _. IsMemory)) }
     ensures kept { OnOk result (map S.refused sources.new ≡ map S.refused sources.old) }
+    ensures causes_stay { CausesStay (HaveCause S.cause) sources.old sources.new }
     ensures same { AllSame S.stands sources.old sources.new }
 {
     match sources[0].peek()? {
@@ -53,8 +55,9 @@ pub fn read_fields<S: EntrySource, K: RowSink>(
     requires own { place.own ≤ place.definition }
     ensures reads { OnOk result (Visits (K.shows sink.old) (K.shows sink.new) tokens_each
         (ReadsEach S.stands (field_views fields.now) place sources.old sources.new)) }
-    ensures refused { IfErr result (IsRefusedFor S.stands S.refused sources.old sources.new (AreEachFaulty (field_views fields.now) place)) }
+    ensures refused { IfErr result (IsRefusedFor S.stands S.refused S.cause sources.old sources.new (AreEachFaulty (field_views fields.now) place)) }
     ensures kept { OnOk result (map S.refused sources.new ≡ map S.refused sources.old) }
+    ensures causes_stay { CausesStay (HaveCause S.cause) sources.old sources.new }
     ensures used { IfOk result (λ used. used ≡ count_leaves_each (field_views fields.now)) }
 {
     let mut used = 0;
@@ -81,9 +84,10 @@ fn read_leaf<S: EntrySource, K: RowSink>(
 ) -> Result<(), Fault>
     ensures reads { OnOk result (Visits (K.shows sink.old) (K.shows sink.new) tokens
         (ReadsLeaf (leaf_type_view leaf_type.now) place.repetition place.definition (S.stands source.old) (S.stands source.new))) }
-    ensures refused { IfErr result (λ f. IsSourceRefusedFor S.stands S.refused source.old source.new
+    ensures refused { IfErr result (λ f. IsSourceRefusedFor S.stands S.refused S.cause source.old source.new
         (IsLeafFaulty place.repetition place.definition (leaf_type_view leaf_type.now)) (refusal_of f)) }
     ensures kept { OnOk result (S.refused source.new ≡ S.refused source.old) }
+    ensures causes_stay { CausesStay S.cause source.old source.new }
 {
     if place.repetition == 0 && place.definition == 0 && source.has_checked(leaf_type) {
         if let Some(value) = source.next_value() {
@@ -102,9 +106,10 @@ fn read_leaf_entry<S: EntrySource, K: RowSink>(
 ) -> Result<(), Fault>
     ensures reads { OnOk result (Visits (K.shows sink.old) (K.shows sink.new) tokens
         (ReadsLeaf (leaf_type_view leaf_type.now) place.repetition place.definition (S.stands source.old) (S.stands source.new))) }
-    ensures refused { IfErr result (λ f. IsSourceRefusedFor S.stands S.refused source.old source.new
+    ensures refused { IfErr result (λ f. IsSourceRefusedFor S.stands S.refused S.cause source.old source.new
         (IsLeafFaulty place.repetition place.definition (leaf_type_view leaf_type.now)) (refusal_of f)) }
     ensures kept { OnOk result (S.refused source.new ≡ S.refused source.old) }
+    ensures causes_stay { CausesStay S.cause source.old source.new }
 {
     let is_checked = source.has_checked(leaf_type);
     match source.next()? {
@@ -127,9 +132,10 @@ fn read_optional<S: EntrySource, K: RowSink>(
     requires { place.definition + 1 < 2 ^ 32 }
     ensures reads { OnOk result (Visits (K.shows sink.old) (K.shows sink.new) tokens
         (ReadsOptional (leaf_type_view leaf_type.now) place.repetition place.definition (S.stands source.old) (S.stands source.new))) }
-    ensures refused { IfErr result (λ f. IsSourceRefusedFor S.stands S.refused source.old source.new
+    ensures refused { IfErr result (λ f. IsSourceRefusedFor S.stands S.refused S.cause source.old source.new
         (IsOptionalFaulty place.repetition place.definition (leaf_type_view leaf_type.now)) (refusal_of f)) }
     ensures kept { OnOk result (S.refused source.new ≡ S.refused source.old) }
+    ensures causes_stay { CausesStay S.cause source.old source.new }
 {
     let there = Place {
         repetition: place.repetition,
@@ -176,8 +182,9 @@ fn read_single<S: EntrySource, K: RowSink>(
     requires deep { place.definition + 1 < 2 ^ 32 }
     ensures reads { OnOk result (Visits (K.shows sink.old) (K.shows sink.new) tokens
         (ReadsField S.stands (field_view field.now) place sources.old sources.new)) }
-    ensures refused { IfErr result (λ f. IsRefusedFor S.stands S.refused sources.old sources.new (IsFieldFaulty (field_view field.now) place) (refusal_of f)) }
+    ensures refused { IfErr result (λ f. IsRefusedFor S.stands S.refused S.cause sources.old sources.new (IsFieldFaulty (field_view field.now) place) (refusal_of f)) }
     ensures kept { OnOk result (map S.refused sources.new ≡ map S.refused sources.old) }
+    ensures causes_stay { CausesStay (HaveCause S.cause) sources.old sources.new }
 {
     if let Field::Leaf { leaf_type, .. } = field {
         match field.repetition() {
@@ -227,8 +234,9 @@ fn read_inside<S: EntrySource, K: RowSink>(
     requires own { place.own ≤ place.definition }
     ensures reads { OnOk result (Visits (K.shows sink.old) (K.shows sink.new) tokens
         (ReadsInside S.stands (field_view field.now) place sources.old sources.new)) }
-    ensures refused { IfErr result (IsRefusedFor S.stands S.refused sources.old sources.new (IsInsideFaulty (field_view field.now) place)) }
+    ensures refused { IfErr result (IsRefusedFor S.stands S.refused S.cause sources.old sources.new (IsInsideFaulty (field_view field.now) place)) }
     ensures kept { OnOk result (map S.refused sources.new ≡ map S.refused sources.old) }
+    ensures causes_stay { CausesStay (HaveCause S.cause) sources.old sources.new }
     ensures used { IfOk result (λ used. used ≡ count_leaves (field_view field.now)) }
 {
     match field {
@@ -259,8 +267,9 @@ fn read_items<S: EntrySource, K: RowSink>(
     requires own { place.own ≤ place.definition }
     ensures reads { OnOk result (Visits (K.shows sink.old) (K.shows sink.new) tokens_each
         (ReadsItems S.stands (field_view field.now) place sources.old sources.new)) }
-    ensures refused { IfErr result (IsRefusedFor S.stands S.refused sources.old sources.new (AreItemsFaulty (field_view field.now) place)) }
+    ensures refused { IfErr result (IsRefusedFor S.stands S.refused S.cause sources.old sources.new (AreItemsFaulty (field_view field.now) place)) }
     ensures kept { OnOk result (map S.refused sources.new ≡ map S.refused sources.old) }
+    ensures causes_stay { CausesStay (HaveCause S.cause) sources.old sources.new }
     ensures used { IfOk result (λ used. used ≡ count_leaves (field_view field.now)) }
 {
     let definition = place.definition + 1;
@@ -300,8 +309,9 @@ fn read_field<S: EntrySource, K: RowSink>(
     requires own { place.own ≤ place.definition }
     ensures reads { OnOk result (Visits (K.shows sink.old) (K.shows sink.new) tokens
         (ReadsField S.stands (field_view field.now) place sources.old sources.new)) }
-    ensures refused { IfErr result (IsRefusedFor S.stands S.refused sources.old sources.new (IsFieldFaulty (field_view field.now) place)) }
+    ensures refused { IfErr result (IsRefusedFor S.stands S.refused S.cause sources.old sources.new (IsFieldFaulty (field_view field.now) place)) }
     ensures kept { OnOk result (map S.refused sources.new ≡ map S.refused sources.old) }
+    ensures causes_stay { CausesStay (HaveCause S.cause) sources.old sources.new }
     ensures used { IfOk result (λ used. used ≡ count_leaves (field_view field.now)) }
 {
     let repetition = field.repetition();

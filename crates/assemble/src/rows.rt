@@ -4,9 +4,10 @@ ghost use Rattle.std.specs.Prelude.{◌≡◌, ◌<◌, List, length, map, IfOk,
 ghost use Rattle.bits.specs.Refusals.{OnFault, LimitJustWhere};
 ghost use Rattle.schema.specs.Values.{ValueTrees};
 ghost use Rattle.schema.specs.Views.{rows_view, columns_view};
+ghost use Rattle.assemble.specs.Sources.{CausesStay};
 ghost use Rattle.assemble.specs.Columns.{Tells};
 ghost use Rattle.assemble.specs.Sinks.{Visits, tokens_each};
-ghost use Rattle.assemble.specs.Standing.{AllSame, IsRefusedFor};
+ghost use Rattle.assemble.specs.Standing.{AllSame, HaveCause, IsRefusedFor};
 ghost use Rattle.assemble.specs.RowsOf.{AreRowsOf, StandForRows, HasFault, IsNextRow, NextRowTo, NextRow, IsTooLong, IsRefusedAs};
 ghost use Rattle.assemble.specs.inner.Steps.{Ended, Filled};
 
@@ -32,7 +33,8 @@ pub fn next_row_to<S: EntrySource, K: RowSink>(
     sources: &mut [S],
     sink: &mut K,
 ) -> R<bool>
-    ensures row { NextRowTo S.stands S.refused K.shows schema.now sources.old sources.new sink.old sink.new result }
+    ensures row { NextRowTo S.stands S.refused S.cause K.shows schema.now sources.old sources.new sink.old sink.new result }
+    ensures causes_stay { CausesStay (HaveCause S.cause) sources.old sources.new }
 {
     let leaves = schema.leaves();
     if sources.len() != leaves.len() || sources.is_empty() {
@@ -65,6 +67,7 @@ pub fn next_known_row_to<S: EntrySource, K: RowSink>(
 ) -> Result<(), Fault>
     ensures row { OnOk result (Visits (K.shows sink.old) (K.shows sink.new) tokens_each (IsNextRow S.stands schema.now sources.old sources.new)) }
     ensures known { IfErr result (λ f. (rows : List ValueTrees) → StandForRows S.stands sources.old schema.now rows → 0 < length rows → f ≡ Fault.Memory) }
+    ensures causes_stay { CausesStay (HaveCause S.cause) sources.old sources.new }
 {
     if sources.len() != schema.leaves().len() {
         return Err(Fault::Levels);
@@ -97,7 +100,8 @@ fn fault_for(refusal: &Refusal) -> Fault
 /// for; Value where an entry lacks its value, has one below the greatest definition level, or one that
 /// does not fit the leaf. After a refusal, Memory too, the sources may stand within a row.
 pub fn next_row<S: EntrySource>(alloc: Global, schema: &Schema, sources: &mut [S]) -> R<Option<Row>>
-    ensures row { NextRow S.stands S.refused schema.now sources.old sources.new result }
+    ensures row { NextRow S.stands S.refused S.cause schema.now sources.old sources.new result }
+    ensures causes_stay { CausesStay (HaveCause S.cause) sources.old sources.new }
 {
     let mut builder = RowBuilder::new(alloc, schema.fields().len())?;
     if next_row_to(schema, sources, &mut builder)? {
@@ -114,7 +118,8 @@ pub fn next_row<S: EntrySource>(alloc: Global, schema: &Schema, sources: &mut [S
 pub fn count_rows<S: EntrySource>(schema: &Schema, sources: &mut [S]) -> R<u64>
     ensures stands { IfOk result (λ count. (rows : List ValueTrees) × ((length rows ≡ count) × StandForRows S.stands sources.old schema.now rows)) }
     ensures only { OnFault result ((rows : List ValueTrees) → StandForRows S.stands sources.old schema.now rows → ⊥) }
-    ensures which { IfErr result (IsRefusedFor S.stands S.refused sources.old sources.new (HasFault schema.now)) }
+    ensures which { IfErr result (IsRefusedFor S.stands S.refused S.cause sources.old sources.new (HasFault schema.now)) }
+    ensures causes_stay { CausesStay (HaveCause S.cause) sources.old sources.new }
 {
     for count in 0..u64::MAX {
         if !next_row_to(schema, sources, &mut Discard)? {
@@ -135,7 +140,8 @@ pub fn assemble_from<S: EntrySource>(
 ) -> R<Vec<Row>>
     ensures stands { IfOk result (λ rows. StandForRows S.stands sources.old schema.now (rows_view rows.items)) }
     ensures only { OnFault result ((rows : List ValueTrees) → StandForRows S.stands sources.old schema.now rows → ⊥) }
-    ensures which { IfErr result (IsRefusedFor S.stands S.refused sources.old sources.new (HasFault schema.now)) }
+    ensures which { IfErr result (IsRefusedFor S.stands S.refused S.cause sources.old sources.new (HasFault schema.now)) }
+    ensures causes_stay { CausesStay (HaveCause S.cause) sources.old sources.new }
 {
     let mut rows = Vec::new(alloc);
     'more: for _ in 0..u64::MAX {
@@ -171,8 +177,9 @@ pub fn assemble(alloc: Global, schema: &Schema, columns: &[Column]) -> R<Vec<Row
 /// Refused Levels where one of the sources has an entry left.
 fn check_ended<S: EntrySource>(sources: &mut [S]) -> R<()>
     ensures ended { OnOk result (Ended S.stands (length sources.old) sources.old) }
-    ensures refused { IfErr result (IsRefusedFor S.stands S.refused sources.old sources.new (λ cs. Tells (Filled cs) ⊥)) }
+    ensures refused { IfErr result (IsRefusedFor S.stands S.refused S.cause sources.old sources.new (λ cs. Tells (Filled cs) ⊥)) }
     ensures kept { OnOk result (map S.refused sources.new ≡ map S.refused sources.old) }
+    ensures causes_stay { CausesStay (HaveCause S.cause) sources.old sources.new }
     ensures same { AllSame S.stands sources.old sources.new }
 {
     let count = sources.len();

@@ -1,12 +1,13 @@
 //! What gives the entries of a column one by one.
 
-ghost use Rattle.std.specs.Prelude.{◌≡◌, List, Option, IsTrue};
+ghost use Rattle.std.specs.Prelude.{◌≡◌, List, Option, IsTrue, IfErr};
 ghost use Rattle.std.specs.Borrow.{sem};
+ghost use Rattle.bits.specs.Faults.{refusal_of};
 ghost use Rattle.bits.specs.declared.refusal.Refusal.{Refusal};
 ghost use Rattle.schema.specs.Annotations.{LeafType};
 ghost use Rattle.schema.specs.Stripe.{Entry};
 ghost use Rattle.schema.specs.Views.{leaf_type_view};
-ghost use Rattle.assemble.specs.Sources.{Rests, Shows, Stays, Gives, Takes, Suited, GivesValue, TakesValue, SuitedValue};
+ghost use Rattle.assemble.specs.Sources.{Rests, CausesStay, Shows, Stays, Gives, Takes, Suited, GivesValue, TakesValue, SuitedValue};
 
 use bits::{Fault, R};
 use schema::{EntryRef, LeafType, ValueRef};
@@ -23,6 +24,10 @@ pub trait EntrySource {
     /// The refusal that it returns from now on.
     ghost refused: { Self → Option Refusal };
 
+    /// What has to be so for it to be refused with this refusal. A cause after a call was one before it. A
+    /// source that says nothing of its causes leaves this out.
+    ghost cause: { Self → Refusal → Type 0 } = { λ _ _. Unit {0} };
+
     /// Whether the values that it gives fit this leaf type.
     ghost checked: { Self → LeafType → Type 0 } = { λ _ _. ⊥ };
 
@@ -37,13 +42,16 @@ pub trait EntrySource {
     /// The levels of the next entry, repetition first, or none at the end. No entry is taken.
     fn peek(&mut self) -> R<Option<(u32, u32)>>
         ensures shows { Shows (stands self.old) (refused self.old) result }
-        ensures stays { Stays (stands self.old) (stands self.new) (refused self.old) (refused self.new) result };
+        ensures stays { Stays (stands self.old) (stands self.new) (refused self.old) (refused self.new) result }
+        ensures caused { IfErr result (λ e. cause self.old e) }
+        ensures causes_stay { CausesStay cause self.old self.new };
 
     /// The next entry, which is taken, or none at the end.
     fn next(&mut self) -> Result<Option<EntryRef<'_>>, Fault>
         ensures gives { Gives (stands self.old) (refused self.old) result }
         ensures suited { Suited (checked self.old) result }
-        ensures* takes { sem 𝓛 (Rests Self.row self.entry (λ new. Takes (stands self.old) (stands new) (refused self.old) (refused new) result)) };
+        ensures caused { IfErr result (λ f. cause self.old (refusal_of f)) }
+        ensures* takes { sem 𝓛 (Rests Self.row self.entry (λ new. Takes (stands self.old) (stands new) (refused self.old) (refused new) result × CausesStay cause self.old new)) };
 
     /// The value of the next entry, which is taken, where that entry has both levels 0 and its value is at
     /// hand. None says nothing of the next entry, and takes nothing. A source with no such short way leaves
@@ -51,7 +59,7 @@ pub trait EntrySource {
     fn next_value(&mut self) -> Option<ValueRef<'_>>
         ensures gives { GivesValue (refused self.old) result }
         ensures suited { SuitedValue (checked self.old) result }
-        ensures* takes { sem 𝓛 (Rests Self.row self.entry (λ new. TakesValue (stands self.old) (stands new) (refused self.old) (refused new) result)) }
+        ensures* takes { sem 𝓛 (Rests Self.row self.entry (λ new. TakesValue (stands self.old) (stands new) (refused self.old) (refused new) result × CausesStay cause self.old new)) }
     {
         None
     }

@@ -42,7 +42,7 @@ short_text (bytes t) short = elim (cases_lt 16777216 (length t)) [
 short_text (group vs) short = omega arith
 short_text (list vs) short = omega arith
 
-size_of : (vs : List ValueTree) → length (concat (map text_of vs)) ≡ text_size vs
+pub size_of : (vs : List ValueTree) → length (concat (map text_of vs)) ≡ text_size vs
 size_of [] = refl
 size_of (null ∷ vs) = size_of vs
 size_of (boolean b ∷ vs) = size_of vs

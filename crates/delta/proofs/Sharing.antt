@@ -58,7 +58,7 @@ shortest_size before (bytes t ∷ vs) = omega (arith, length-drop (shared_size b
 shortest_size before (group ws ∷ vs) = omega (arith, length-drop {A = ℕ} (shared_size before []) [], shortest_size [] vs)
 shortest_size before (list ws ∷ vs) = omega (arith, length-drop {A = ℕ} (shared_size before []) [], shortest_size [] vs)
 
-same_bytes : (ss ts : List (List ℕ)) → map bytes ss ≡ map bytes ts → ss ≡ ts
+pub same_bytes : (ss ts : List (List ℕ)) → map bytes ss ≡ map bytes ts → ss ≡ ts
 same_bytes [] [] same = refl
 same_bytes [] (t ∷ ts) same = cc
 same_bytes (s ∷ ss) [] same = cc

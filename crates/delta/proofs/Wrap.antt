@@ -18,9 +18,13 @@ narrow_step_is a z b fits lt is =
     ∙ ap (λ (y : ℤ). int_wrap w32 (a +ℤ y)) is ∙ int_wrap-add_right w32 a z
 
 -- an unsigned number read as signed
-signed_is : (x : ℕ) → x < 2 ^ 64 → cast_signed w64 x ≡ int_wrap w64 (pos x)
+pub signed_is : (x : ℕ) → x < 2 ^ 64 → cast_signed w64 x ≡ int_wrap w64 (pos x)
 unfolding int_wrap
 signed_is x lt = ap (cast_signed w64) (let e : x ≡ x % 2 ^ 64 = omega arith in e)
+
+pub narrow_signed_is : (x : ℕ) → x < 2 ^ 32 → cast_signed w32 x ≡ int_wrap w32 (pos x)
+unfolding int_wrap
+narrow_signed_is x lt = ap (cast_signed w32) (let e : x ≡ x % 2 ^ 32 = omega arith in e)
 
 -- the sum in 64 bits
 pub wide_sum : (a least : ℤ) (x : ℕ) (cast : ℤ) → FitsSigned w64 a → FitsSigned w64 least → x < 2 ^ 64 → cast ≡ cast_signed w64 x

@@ -1,5 +1,6 @@
 -- The bytes and values of worked examples: parquet-format, Encodings.md, "Delta Encoding", "Delta-length byte array" and "Delta Strings".
-use Rattle.std.specs.Prelude.{ℕ, List, [], ◌∷◌, ℤ, pos}
+use Rattle.std.specs.Prelude.{ℕ, List, [], ◌∷◌, ◌++◌, map, ℤ, pos}
+use Rattle.std.specs.List.{range_with_len}
 
 -- 7, 5, 3, 1, 2, 3, 4, 5
 abbrev pub down_and_up_bytes : List ℕ
@@ -12,6 +13,15 @@ down_and_up_values = pos 7 ∷ pos 5 ∷ pos 3 ∷ pos 1 ∷ pos 2 ∷ pos 3 ∷
 -- the least and the greatest number of 64 bits
 abbrev pub extreme_bytes : List ℕ
 extreme_bytes = 128 ∷ 1 ∷ 4 ∷ 2 ∷ 255 ∷ 255 ∷ 255 ∷ 255 ∷ 255 ∷ 255 ∷ 255 ∷ 255 ∷ 255 ∷ 1 ∷ 1 ∷ 0 ∷ 0 ∷ 0 ∷ 0 ∷ []
+
+-- 0 to 128, 131, 130: a block of 128 deltas of 1, whose numbers have no bits, and one of the deltas 3 and -1, whose least is -1
+abbrev pub two_blocks_bytes : List ℕ
+two_blocks_bytes =
+    128 ∷ 1 ∷ 4 ∷ 131 ∷ 1 ∷ 0 ∷ 2 ∷ 0 ∷ 0 ∷ 0 ∷ 0 ∷ 1 ∷ 3 ∷ 0 ∷ 0 ∷ 0 ∷ 4 ∷ 0 ∷ 0 ∷ 0 ∷ 0 ∷ 0 ∷ 0 ∷ 0 ∷ 0 ∷ 0 ∷ 0 ∷ 0 ∷ []
+
+-- their numbers
+abbrev pub two_blocks_values : List ℤ
+two_blocks_values = map pos (range_with_len 0 129) ++ pos 131 ∷ pos 130 ∷ []
 
 -- a, bb and the empty value, by their lengths
 abbrev pub three_lengths_bytes : List ℕ

@@ -1,6 +1,6 @@
 //! What numbers lie in.
 
-ghost use Rattle.std.specs.Prelude.{◌≡◌, ◌*◌, ◌^◌, ◌<◌, ℤ, pos, ◌+ℤ◌, ◌-ℤ◌};
+ghost use Rattle.std.specs.Prelude.{◌≡◌, ◌*◌, ◌^◌, ◌<◌, ℤ, pos, ◌+ℤ◌, ◌-ℤ◌, ◌≤ℤ◌};
 ghost use Rattle.std.specs.Int.{Width, w32, w64, int_wrap, byte_len};
 
 /// A signed number of 32 or 64 bits, whose sums wrap: an `i32` or an `i64`. So one reader serves
@@ -26,12 +26,15 @@ pub trait Integer: Copy + Drop {
         ensures fits { int_wrap width (seen self) ≡ seen self };
 
     /// The difference to the next number, in these bits.
-    fn delta(self, next: Self) -> i64;
+    fn delta(self, next: Self) -> i64
+        ensures { result ≡ int_wrap width (seen next -ℤ seen self) };
 
-    /// The packed number by which, with a least delta, the number leads to the next one in these bits.
+    /// The packed number by which, with a least delta, the number leads to the next one in these bits:
+    /// how far the difference is above the least one, if it is.
     fn gap(self, next: Self, least: i64) -> u64
         ensures leads { int_wrap width (seen self +ℤ (least +ℤ pos result)) ≡ seen next }
-        ensures narrow { result < 2 ^ (8 * byte_len width) };
+        ensures narrow { result < 2 ^ (8 * byte_len width) }
+        ensures exact { let delta = int_wrap width (seen next -ℤ seen self) in int_wrap width least ≡ least → least ≤ℤ delta → least +ℤ pos result ≡ delta };
 }
 
 impl Integer for i64 {

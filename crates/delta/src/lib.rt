@@ -3,7 +3,8 @@
 //! Strings"), from bytes and to bytes.
 //!
 //! `specs/Delta.antt` and `specs/ByteDeltas.antt` carry the contracts: which bytes stand for which
-//! values. `specs/ValuesLeft.antt` says what a reader of shared prefixes still gives.
+//! values; `specs/Written.antt` and `specs/WrittenBytes.antt`: which of them are written.
+//! `specs/ValuesLeft.antt` says what a reader of shared prefixes still gives.
 #![tactic(auto)]
 
 mod blocks;
@@ -20,7 +21,7 @@ mod writing;
 
 pub use codec::{Delta, DeltaLengths};
 pub use integer::Integer;
-pub use laws::{one_byte_list, one_list, one_prefixed_list, worked_examples};
+pub use laws::{one_byte_list, one_list, one_prefixed_list, one_text, worked_examples};
 pub use lengths::decode_lengths;
 pub use prefixes::{Prefixed, decode_prefixes};
 pub use put_lengths::encode_lengths;

@@ -4,6 +4,7 @@ ghost use Rattle.std.specs.Prelude.{◌≡◌, ℕ, ◌+◌, ◌*◌, ◌≤◌,
 ghost use Rattle.bits.specs.Refusals.{OnFault, RefusedOnly, RefusedMemoryOnly, LimitJustWhere};
 ghost use Rattle.bits.specs.Codec.{Appends};
 ghost use Rattle.plain.specs.Plain.{AreBytes, IsOfKind, IsTooLong, IsWriteOver, text_size};
+ghost use Rattle.delta.specs.WrittenBytes.{AppendsWrittenLengths};
 ghost use Rattle.delta.specs.ByteDeltas.{sizes, AppendsByLengths, NoLengthsOf};
 ghost use Rattle.delta.specs.inner.Put.{Extends, text_of};
 
@@ -21,6 +22,7 @@ use std::alloc::Global;
 /// more than 16 MiB. On a refusal `out` is unchanged. Looks at each value three times.
 pub fn encode_lengths<V: Lends>(values: &[V], out: &mut Vec<u8>) -> R<()>
     ensures stands { OnOk result (AppendsByLengths (map V.lent values.now) out.old.items out.new.items) }
+    ensures written { OnOk result (AppendsWrittenLengths (map V.lent values.now) out.old.items out.new.items) }
     ensures of_kind { OnOk result (All (IsOfKind Kind.ByteArray) (map V.lent values.now)) }
     ensures only { OnFault result (NoLengthsOf (map V.lent values.now)) }
     ensures unfit { OnFault result (All (IsOfKind Kind.ByteArray) (map V.lent values.now) → ⊥) }
@@ -67,6 +69,7 @@ fn put_lengths<V: Lends>(lengths: &[i32], values: &[V], out: &mut Vec<u8>) -> R<
     requires kind { All (IsOfKind Kind.ByteArray) (map V.lent values.now) }
     requires lengths { lengths.now ≡ sizes (map text_of (map V.lent values.now)) }
     ensures stands { OnOk result (AppendsByLengths (map V.lent values.now) out.old.items out.new.items) }
+    ensures written { OnOk result (AppendsWrittenLengths (map V.lent values.now) out.old.items out.new.items) }
     ensures front { Extends out.old.items out.new.items }
 {
     encode_i32(lengths, out)?;

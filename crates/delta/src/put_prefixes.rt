@@ -7,6 +7,7 @@ ghost use Rattle.bits.specs.Codec.{Appends};
 ghost use Rattle.schema.specs.Values.{bytes};
 ghost use Rattle.schema.specs.Borrowed.{value_ref_view};
 ghost use Rattle.plain.specs.Plain.{AreBytes, IsOfKind, IsTooLong, IsWriteOver, text_size};
+ghost use Rattle.delta.specs.WrittenBytes.{AppendsWrittenPrefixes};
 ghost use Rattle.delta.specs.ByteDeltas.{AppendsByPrefixes, IsShortByPrefixes, NoPrefixesOf, shared_size, longest_prefixes, shortest_suffixes};
 ghost use Rattle.delta.specs.inner.Put.{Extends, ArePut, text_of, before_at};
 
@@ -27,6 +28,7 @@ use std::alloc::Global;
 /// more than 16 MiB. On a refusal `out` is unchanged.
 pub fn encode_prefixes<V: Lends>(values: &[V], out: &mut Vec<u8>) -> R<()>
     ensures stands { OnOk result (AppendsByPrefixes (map V.lent values.now) out.old.items out.new.items) }
+    ensures written { OnOk result (AppendsWrittenPrefixes (map V.lent values.now) out.old.items out.new.items) }
     ensures short { OnOk result (IsShortByPrefixes (map V.lent values.now) out.old.items out.new.items) }
     ensures of_kind { OnOk result (All (IsOfKind Kind.ByteArray) (map V.lent values.now)) }
     ensures only { OnFault result (NoPrefixesOf (map V.lent values.now)) }

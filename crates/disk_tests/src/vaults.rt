@@ -6,7 +6,7 @@ use disk::{Disk, Kind};
 use mem_disk::MemDisk;
 use std::alloc::Global;
 use std::test::Fail;
-use vault::{Vault, open_root};
+use vault::Vault;
 
 // An empty disk.
 fn empty(alloc: Global) -> Vault<MemDisk> {
@@ -21,9 +21,9 @@ fn size(vault: &mut Vault<MemDisk>, alloc: Global, path: &str) -> R<usize> {
 #[test]
 fn an_opening_of_an_empty_disk_finds_no_root(rt: HostRuntime) -> Result<(), Fail> {
     let mut vault = empty(rt.alloc());
-    let opened = open_root(&mut vault, rt.alloc())?;
-    assert!(rt; opened.root.is_none());
-    assert!(rt; opened.clean);
+    vault.settle()?;
+    assert!(rt; vault.root(rt.alloc())?.is_none());
+    vault.forget_next()?;
     Ok(())
 }
 
@@ -48,13 +48,13 @@ fn an_opening_removes_the_next_root_and_nothing_else(rt: HostRuntime) -> Result<
     vault.swap_root(b"root")?;
     vault.disk.create("_metadata.new")?;
     vault.disk.create("notes.txt")?;
-    let opened = open_root(&mut vault, rt.alloc())?;
-    assert!(rt; opened.clean);
+    vault.settle()?;
     assert!(rt;
-        opened
-            .root
+        vault
+            .root(rt.alloc())?
             .is_some_and(|bytes| bytes.as_slice() == b"root".as_slice())
     );
+    vault.forget_next()?;
     let names = vault.list(rt.alloc(), "")?;
     assert_eq!(rt; names.len(), 2);
     for entry in names.iter() {
@@ -65,21 +65,21 @@ fn an_opening_removes_the_next_root_and_nothing_else(rt: HostRuntime) -> Result<
 }
 
 #[test]
-fn an_opening_that_cannot_remove_the_next_root_is_not_clean(rt: HostRuntime) -> Result<(), Fail> {
+fn a_next_root_that_cannot_be_removed_is_refused(rt: HostRuntime) -> Result<(), Fail> {
     let mut vault = empty(rt.alloc());
     vault.swap_root(b"root")?;
     vault.disk.create("_metadata.new")?;
     // the folder's sync and the read pass, the removal fails
     vault.disk.fail_once(2, 0);
-    let opened = open_root(&mut vault, rt.alloc())?;
-    assert!(rt; !opened.clean);
+    vault.settle()?;
     assert!(rt;
-        opened
-            .root
+        vault
+            .root(rt.alloc())?
             .is_some_and(|bytes| bytes.as_slice() == b"root".as_slice())
     );
+    assert!(rt; matches!(vault.forget_next(), Err(Refusal::Device)));
     assert_eq!(rt; vault.disk().failures(), 1);
-    assert!(rt; open_root(&mut vault, rt.alloc())?.clean);
+    vault.forget_next()?;
     Ok(())
 }
 

@@ -45,7 +45,7 @@ const PAGE_IN_DELTA_BYTE_ARRAY: &[Piece] = &[From(0, 14), New(&[0x0E]), From(15,
 const FOOTER: &[Piece] = &[From(37, 108)];
 
 /// The parts of a file before its footer, those of the footer, and the answer to the file.
-const FILES: [(&[Piece], &[Piece], &str); 20] = [
+const FILES: [(&[Piece], &[Piece], &str); 19] = [
     (PAGE, FOOTER, "1;300;"),
     // A group without chunks, and one with two chunks for its one leaf.
     (
@@ -105,16 +105,11 @@ const FILES: [(&[Piece], &[Piece], &str); 20] = [
         FOOTER,
         "11 Value",
     ),
-    // INT64 in RLE, in DELTA_BYTE_ARRAY, in BIT_PACKED, in BYTE_STREAM_SPLIT, and in number 10.
+    // INT64 in RLE, in DELTA_BYTE_ARRAY, in BIT_PACKED, and in number 10.
     (PAGE_IN_RLE, FOOTER, "8 Encoding"),
     (PAGE_IN_DELTA_BYTE_ARRAY, FOOTER, "8 Encoding"),
     (
         &[From(0, 14), New(&[0x08]), From(15, 37)],
-        FOOTER,
-        "8 Encoding",
-    ),
-    (
-        &[From(0, 14), New(&[0x12]), From(15, 37)],
         FOOTER,
         "8 Encoding",
     ),

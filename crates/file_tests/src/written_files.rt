@@ -320,7 +320,7 @@ fn options_out_of_range_are_refused_limit(rt: HostRuntime) -> Result<(), Fail> {
     let alloc = rt.alloc();
     for (group_rows, page_rows, page_version) in [
         (0, 20_000, 1),
-        (1_048_577, 20_000, 1),
+        (16_777_217, 20_000, 1),
         (131_072, 0, 1),
         (131_072, 20_000, 0),
         (131_072, 20_000, 3),
@@ -340,7 +340,7 @@ fn options_out_of_range_are_refused_limit(rt: HostRuntime) -> Result<(), Fail> {
 #[test]
 fn options_at_their_bounds_are_taken(rt: HostRuntime) -> Result<(), Fail> {
     let alloc = rt.alloc();
-    for (group_rows, page_rows) in [(1, 1), (2, 2), (1_048_576, u32::MAX)] {
+    for (group_rows, page_rows) in [(1, 1), (2, 2), (16_777_216, u32::MAX)] {
         let options = WriteOptions {
             group_rows,
             page_rows,

@@ -7,21 +7,22 @@ use schema::{Row, Schema, Value};
 use std::alloc::Global;
 use std::test::*;
 
-const STYLES: [Style; 4] = [
+const STYLES: [Style; 5] = [
     Style::Plain,
     Style::Dictionary,
     Style::Delta,
     Style::Lengths,
+    Style::Split,
 ];
 
 /// The types as `parquet.thrift` numbers them, and the encodings of a column of a type in each style, as it numbers
-/// these: PLAIN 0, RLE 3, DELTA_BINARY_PACKED 5, DELTA_LENGTH_BYTE_ARRAY 6, DELTA_BYTE_ARRAY 7, RLE_DICTIONARY 8.
-const ENCODINGS: [(i32, [&str; 4]); 5] = [
-    (0, ["[0, 3]", "[0, 3]", "[3]", "[3]"]),
-    (1, ["[0, 3]", "[0, 3, 8]", "[3, 5]", "[3, 5]"]),
-    (2, ["[0, 3]", "[0, 3, 8]", "[3, 5]", "[3, 5]"]),
-    (6, ["[0, 3]", "[0, 3, 8]", "[3, 7]", "[3, 6]"]),
-    (7, ["[0, 3]", "[0, 3, 8]", "[3, 7]", "[0, 3]"]),
+/// these: PLAIN 0, RLE 3, DELTA_BINARY_PACKED 5, DELTA_LENGTH_BYTE_ARRAY 6, DELTA_BYTE_ARRAY 7, RLE_DICTIONARY 8, BYTE_STREAM_SPLIT 9.
+const ENCODINGS: [(i32, [&str; 5]); 5] = [
+    (0, ["[0, 3]", "[0, 3]", "[3]", "[3]", "[3]"]),
+    (1, ["[0, 3]", "[0, 3, 8]", "[3, 5]", "[3, 5]", "[3, 9]"]),
+    (2, ["[0, 3]", "[0, 3, 8]", "[3, 5]", "[3, 5]", "[3, 9]"]),
+    (6, ["[0, 3]", "[0, 3, 8]", "[3, 7]", "[3, 6]", "[0, 3]"]),
+    (7, ["[0, 3]", "[0, 3, 8]", "[3, 7]", "[0, 3]", "[3, 9]"]),
 ];
 
 /// How many random schemas there are.
@@ -130,11 +131,12 @@ fn a_dictionary_has_at_most_65536_entries(rt: HostRuntime) -> Result<(), Fail> {
 
 /// A random style.
 fn random_style(random: &mut Random) -> Style {
-    match random.below(4) {
+    match random.below(5) {
         0 => Style::Plain,
         1 => Style::Dictionary,
         2 => Style::Delta,
-        _ => Style::Lengths,
+        3 => Style::Lengths,
+        _ => Style::Split,
     }
 }
 

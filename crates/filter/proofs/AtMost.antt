@@ -12,8 +12,8 @@ use Rattle.filter.specs.declared.term.Op.{Op}
 use Rattle.filter.specs.declared.term.Op.TheVariants as op
 use Rattle.filter.proofs.Same.{same_is}
 use Rattle.filter.proofs.Tests.{not_true, either, both_true}
-use Rattle.filter.specs.inner.Same.{same, one_passes, is_listed}
-use Rattle.filter.specs.inner.Tests.{passes}
+use Rattle.filter.specs.Same.{same, one_passes, is_listed}
+use Rattle.filter.specs.Deciding.{passes}
 use Rattle.filter.specs.inner.Excluded.{bound_is, is_outside, are_outside, is_only, excludes}
 
 -- ---- what bounds exclude

@@ -11,7 +11,7 @@ use Rattle.schema.specs.Stripe.{Step, Leaf, Entry, leaves, leaves_from, leaves_o
 use Rattle.schema.specs.Law.{IsValid, AreValid, IsSchema, AllDiffer, names}
 use Rattle.schema.specs.Cutting.{is_among, cut_to, cut_values, cut_rows, wanted_of, at_places, Shown, shown, CutRowsHaveColumns, CutHasLeaves}
 use Rattle.filter.specs.Test.{Test, is_single, steps_of, value_at, value_of}
-use Rattle.filter.specs.inner.Tests.{is_null, passes, holds, satisfies}
+use Rattle.filter.specs.Deciding.{is_null, passes, holds, satisfies}
 use Rattle.filter.specs.Terms.{Term, test_of, then_rest, each_of, tests_of}
 use Rattle.filter.specs.Law.{CutFiltersAgree}
 use Rattle.filter.proofs.Relations.{satisfies_is}

@@ -10,3 +10,5 @@ pub mod TermTests
 pub mod CutTests
 pub mod Made
 pub mod Places
+pub mod LeafValues
+pub mod Completing

@@ -16,9 +16,9 @@ use Rattle.filter.specs.declared.term.Op.TheVariants.{Equal, NotEqual, Less, Les
 use Rattle.filter.specs.declared.test.Test.{Test as CodeTest}
 use Rattle.filter.specs.Test.{Test, ands_view, value_of}
 use Rattle.filter.specs.Satisfies.{AnyOf, IsOneOf, IsIn, Compares, Holds, Satisfies}
-use Rattle.filter.specs.RuledOut.{HasBound, IsOutside, EachOutside, AreOutside, Excludes, nothing_known, key_at, statistics_at, IsOutBy, IsOut, RuledOut}
-use Rattle.filter.specs.inner.Same.{same, one_passes, is_listed}
-use Rattle.filter.specs.inner.Tests.{is_null, passes, holds, satisfies}
+use Rattle.filter.specs.RuledOut.{HasBound, IsOutside, EachOutside, AreOutside, Excludes, key_at, statistics_at, IsOutBy, IsOut, RuledOut}
+use Rattle.filter.specs.Same.{same, one_passes, is_listed}
+use Rattle.filter.specs.Deciding.{is_null, passes, holds, satisfies}
 use Rattle.filter.specs.inner.Excluded.{bound_is, is_outside, are_outside, is_only, excludes, is_out_by, is_out, ruled_out}
 use Rattle.filter.proofs.Same.{same_is, same_from}
 
@@ -162,10 +162,9 @@ excludes_is o GreaterOrEqual s w = bound_is_there is_lt (λ m. IsBelow o m w) o 
 excludes_is o In s w = are_outside_is o s w
 excludes_is o NotIn s w = only_listed s.min s.max w
 
-out_by_is : (k : Option ValueTree) (s : Option Statistics) (rows : ℕ) (t : Test) → Is (is_out_by k s rows t) (IsOutBy k s rows t)
+out_by_is : (k : Option ValueTree) (s : Statistics) (rows : ℕ) (t : Test) → Is (is_out_by k s rows t) (IsOutBy k s rows t)
 out_by_is (Some v) s rows t = not_is (holds t v) (Holds t v) (holds_is t v)
-out_by_is None None rows t = excludes_is t.order t.op nothing_known t.operand
-out_by_is None (Some s) rows t = or_is (s.nulls == rows) (excludes t.order t.op s t.operand) (s.nulls ≡ rows) (Excludes t.order t.op s t.operand)
+out_by_is None s rows t = or_is (s.nulls == rows) (excludes t.order t.op s t.operand) (s.nulls ≡ rows) (Excludes t.order t.op s t.operand)
     (eqb-true s.nulls rows, eq-eqb s.nulls rows) (excludes_is t.order t.op s t.operand)
 
 out_is : (places : List ℕ) (key : List ValueTree) (known : Known) (t : Test) → Is (is_out places key known t) (IsOut places key known t)

@@ -6,7 +6,7 @@ use Rattle.std.specs.Cmp.Lexicographic.{bytes_decides}
 use Rattle.std.proofs.lemmas.Bool.{false≢true, and_parts}
 use mathlib.Core.Bool.{beq}
 use Rattle.schema.specs.Values.{ValueTree, null, boolean, integer, bytes, group, list, ValueTrees, no_values, value as item}
-use Rattle.filter.specs.inner.Same.{same, same_each}
+use Rattle.filter.specs.Same.{same, same_each}
 use Rattle.filter.proofs.Tests.{not_true}
 
 same_booleans : (a b : Bool) → beq a b ≡ true → a ≡ b

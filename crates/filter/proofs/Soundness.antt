@@ -9,8 +9,7 @@ use Rattle.schema.specs.declared.order.Order.{Order}
 use Rattle.statistics.specs.Bounds.{Statistics, Known, Bounds}
 use Rattle.schema.specs.Orders.{IsAtMost}
 use Rattle.filter.specs.Test.{Test, is_single, steps_of, value_of}
-use Rattle.filter.specs.inner.Tests.{holds, satisfies}
-use Rattle.filter.specs.RuledOut.{nothing_known}
+use Rattle.filter.specs.Deciding.{holds, satisfies}
 use Rattle.filter.specs.inner.Excluded.{excludes, is_out_by, is_out, ruled_out}
 use Rattle.filter.specs.Law.{Describes, RuledOutHoldsNoRow}
 use Rattle.filter.proofs.AtMost.{IsWithin, excluded}
@@ -46,14 +45,12 @@ within o s vs low high = all_zip _ _ (IsWithin o s) (λ v a b. record { above = 
     highs None h = all_each _ (λ v. tt) vs
     highs (Some m) h = h
 
-out_by : (k : Option ValueTree) (s : Option Statistics) (n : ℕ) (t : Test) (rows : List ValueTrees) → AllByRecursion (λ s. IsTrue (is_single s)) (steps_of t) → n ≡ length rows
-    → IfSome k (λ v. AllByRecursion (λ row. value_of t row ≡ v) rows) → (k ≡ None → IfSome s (λ x. Bounds t.order x (column rows (steps_of t))))
+out_by : (k : Option ValueTree) (s : Statistics) (n : ℕ) (t : Test) (rows : List ValueTrees) → AllByRecursion (λ s. IsTrue (is_single s)) (steps_of t) → n ≡ length rows
+    → IfSome k (λ v. AllByRecursion (λ row. value_of t row ≡ v) rows) → (k ≡ None → Bounds t.order s (column rows (steps_of t)))
     → is_out_by k s n t ≡ true → AllByRecursion (IsFalseOf t) rows
 out_by (Some v) s n t rows single counted keyed bounded out =
     all_map _ (IsFalseOf t) (λ row is. ap (holds t) is ∙ not_so (holds t v) out) rows keyed
-out_by None None n t rows single counted keyed bounded out =
-    all_each (IsFalseOf t) (λ row. and_false _ _ (excluded t.order t.op nothing_known (value_of t row) t.operand (record { above = tt; below = tt }) out)) rows
-out_by None (Some s) n t rows single counted keyed given out = let bounded = given refl in elim (either (s.nulls == n) (excludes t.order t.op s t.operand) out) [
+out_by None s n t rows single counted keyed given out = let bounded = given refl in elim (either (s.nulls == n) (excludes t.order t.op s t.operand) out) [
   | inl as_many ↦ all_map _ (IsFalseOf t) (λ row is. null_false t _ is) rows (all_null (steps_of t) single rows (sym bounded.nulls ∙ eqb-true s.nulls n as_many ∙ counted))
   | inr apart ↦ all_map (AtRow (IsWithin t.order s) (steps_of t)) (IsFalseOf t) (λ row at. elim at [
     | inl is ↦ null_false t _ is

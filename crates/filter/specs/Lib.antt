@@ -1,5 +1,7 @@
 pub mod Test
 pub mod Satisfies
+pub mod Same
+pub mod Deciding
 pub mod Terms
 pub mod RuledOut
 pub mod Law

@@ -5,6 +5,7 @@ use Rattle.schema.specs.declared.order.Order.{Order}
 use Rattle.schema.specs.Values.{ValueTree, list, ValueTrees, no_values, value as item}
 use Rattle.schema.specs.Orders.{IsAtMost, IsBelow}
 use Rattle.statistics.specs.Bounds.{Statistics, Known}
+use Rattle.statistics.specs.Absent.{absent_statistics}
 use Rattle.filter.specs.declared.term.Op.{Op}
 use Rattle.filter.specs.declared.term.Op.TheVariants.{Equal, NotEqual, Less, LessOrEqual, Greater, GreaterOrEqual, In, NotIn}
 use Rattle.filter.specs.Test.{Test}
@@ -47,20 +48,23 @@ abbrev pub key_at : List ℕ → List ValueTree → ℕ → Option ValueTree
 key_at (a ∷ places) (v ∷ key) place = if a == place then Some v else key_at places key place
 key_at _ _ place = None
 
--- the statistics of a term's leaf, in a list that leaves the key columns out
-abbrev pub statistics_at : List ℕ → Known → Test → Option Statistics
-statistics_at places known t = slice_get known.leaves (t.leaf - count_by (λ a. nat_lt a t.first.place) places)
+-- the statistics of a leaf, or those of one that the file lacks
+abbrev pub given_or_absent : ℕ → Option Statistics → Statistics
+given_or_absent rows (Some s) = s
+given_or_absent rows None = absent_statistics rows
 
--- what is known of a leaf that has no statistics
-abbrev pub nothing_known : Statistics
-nothing_known = record { min = None; max = None; nulls = 0 }
+-- the statistics of a term's leaf, in a list that leaves the key columns out; past its end are the leaves that the file lacks
+abbrev pub listed_at : List ℕ → Known → Test → Option Statistics
+listed_at places known t = slice_get known.leaves (t.leaf - count_by (λ a. nat_lt a t.first.place) places)
+
+abbrev pub statistics_at : List ℕ → Known → Test → Statistics
+statistics_at places known t = given_or_absent known.rows (listed_at places known t)
 
 -- A term on a key column is out where the key's value makes it false. Another is out where the null count is the number of
--- rows, or where the bounds exclude it. (With no statistics only `in` of an empty list is out.)
-abbrev pub IsOutBy : Option ValueTree → Option Statistics → ℕ → Test → Type 0
+-- rows, or where the bounds exclude it.
+abbrev pub IsOutBy : Option ValueTree → Statistics → ℕ → Test → Type 0
 IsOutBy (Some v) s rows t = Holds t v → ⊥
-IsOutBy None None rows t = Excludes t.order t.op nothing_known t.operand
-IsOutBy None (Some s) rows t = (s.nulls ≡ rows) ⊎ Excludes t.order t.op s t.operand
+IsOutBy None s rows t = (s.nulls ≡ rows) ⊎ Excludes t.order t.op s t.operand
 
 abbrev pub IsOut : List ℕ → List ValueTree → Known → Test → Type 0
 IsOut places key known t = IsOutBy (key_at places key t.first.place) (statistics_at places known t) known.rows t

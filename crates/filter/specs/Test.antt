@@ -1,11 +1,12 @@
 -- A filter as contracts see it: an OR of ANDs of terms, each at its leaf (fastparquet, "filters").
-use Rattle.std.specs.Prelude.{ℕ, Bool, true, false, not, List, [], ◌∷◌, map, Option, Vec}
+use Rattle.std.specs.Prelude.{◌≡◌, ◌==◌, ℕ, Bool, true, false, not, List, [], ◌∷◌, map, Option, Vec}
+use Rattle.std.specs.List.{list_any, AllByRecursion}
 use Rattle.std.specs.declared.alloc.Global.{Global}
 use Rattle.schema.specs.declared.order.Order.{Order}
 use Rattle.schema.specs.declared.value.Repetition.{Repetition}
 use Rattle.schema.specs.declared.value.Repetition.TheVariants.{Required, Optional, Repeated}
 use Rattle.schema.specs.declared.field.Step.{Step as CodeStep}
-use Rattle.schema.specs.Values.{ValueTree, group, ValueTrees, member, view}
+use Rattle.schema.specs.Values.{ValueTree, group, ValueTrees, member, member_at, view}
 use Rattle.schema.specs.Stripe.{Step}
 use Rattle.schema.specs.Views.{step_view}
 use Rattle.filter.specs.declared.term.Op.{Op}
@@ -53,3 +54,14 @@ steps_of t = t.first ∷ t.rest
 
 abbrev pub value_of : Test → ValueTrees → ValueTree
 value_of t row = value_at (steps_of t) (group row)
+
+-- a term is at the leaf with this index; one of some terms is
+abbrev pub is_at : ℕ → Test → Bool
+is_at n t = t.leaf == n
+
+abbrev pub looks_at : List (List Test) → ℕ → Bool
+looks_at ands n = list_any (λ terms. list_any (is_at n) terms) ands
+
+-- at the leaf of each term there is the value that the row has there
+abbrev pub AreLeafValues : List (List Test) → ValueTrees → ValueTrees → Type 0
+AreLeafValues ands leaves row = AllByRecursion (AllByRecursion (λ t. member_at t.leaf leaves ≡ value_of t row)) ands

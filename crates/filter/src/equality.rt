@@ -2,7 +2,7 @@
 
 ghost use Rattle.std.specs.Prelude.{◌≡◌};
 ghost use Rattle.schema.specs.Values.{view};
-ghost use Rattle.filter.specs.inner.Same.{same, is_listed};
+ghost use Rattle.filter.specs.Same.{same, is_listed};
 
 use schema::Value;
 

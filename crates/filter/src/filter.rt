@@ -4,20 +4,22 @@ ghost use Rattle.std.specs.Prelude.{◌≡◌, ◌↔◌, Ok, Err, IfOk, IsTrue}
 ghost use Rattle.bits.specs.Refusals.{RefusedOnly};
 ghost use Rattle.schema.specs.Keys.{places_of, key_columns_view};
 ghost use Rattle.schema.specs.Stripe.{leaves_of};
+ghost use Rattle.schema.specs.Values.{ValueTrees, views};
 ghost use Rattle.schema.specs.Views.{row_view, key_view};
 ghost use Rattle.statistics.specs.Bounds.{known_of};
 ghost use Rattle.filter.specs.RuledOut.{RuledOut};
 ghost use Rattle.filter.specs.Satisfies.{Satisfies};
 ghost use Rattle.filter.specs.Terms.{terms_view, tests_of};
-ghost use Rattle.filter.specs.Test.{tests_in};
+ghost use Rattle.filter.specs.Test.{tests_in, looks_at, AreLeafValues};
 
-use crate::holding::some_holds;
+use crate::holding::{some_holds, some_holds_at};
+use crate::looking::some_looks_at;
 use crate::making::all_ands;
 use crate::pruning::all_out;
 use crate::term::Term;
 use crate::test::Test;
 use bits::R;
-use schema::{Key, KeyColumn, Row, Schema};
+use schema::{Key, KeyColumn, Row, Schema, Value};
 use statistics::GroupStats;
 use std::alloc::Global;
 
@@ -57,10 +59,28 @@ impl Filter {
         self.ands.is_empty() || some_holds(self.ands.as_slice(), row.values.as_slice())
     }
 
+    /// Whether a row satisfies the filter, by the values of its leaves: each at the leaf's index in
+    /// [`leaves`](Schema::leaves), null where the row has none. Only leaves that the filter looks at
+    /// ([`looks_at`](Filter::looks_at)) need their values; another one may have any. Otherwise as
+    /// [`satisfies`](Filter::satisfies).
+    pub fn satisfied_by(&self, leaves: &[Value]) -> bool
+        ensures { (row : ValueTrees) → AreLeafValues (tests_in self.now) (views leaves.now) row → IsTrue result ↔ Satisfies (tests_in self.now) row }
+    {
+        self.ands.is_empty() || some_holds_at(self.ands.as_slice(), leaves)
+    }
+
+    /// Whether a term is at the leaf with this index. Takes no memory; the time is linear in the terms.
+    pub fn looks_at(&self, leaf: usize) -> bool
+        ensures { result ≡ looks_at (tests_in self.now) leaf }
+    {
+        some_looks_at(self.ands.as_slice(), leaf)
+    }
+
     /// Whether the key and the statistics of a group rule out that one of its rows satisfies the filter (the
     /// law is [`ruled_out_holds_no_row`]). That they are of the filter's table is the caller's duty: `keys`
     /// are the table's key columns, `key` is the group's key, and `known` has the leaves of the group's file,
-    /// which has no key columns.
+    /// which has no key columns, nor those that were added to the table after it was written: of such a leaf
+    /// each row has a null.
     ///
     /// Takes no memory. The time is linear in the terms and the values of their lists, and for each term in
     /// the key columns.

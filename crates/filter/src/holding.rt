@@ -4,7 +4,7 @@ ghost use Rattle.std.specs.Prelude.{◌≡◌, map, MatchOption};
 ghost use Rattle.std.specs.List.{list_any, list_all};
 ghost use Rattle.schema.specs.Values.{null, view, views, member, member_at};
 ghost use Rattle.filter.specs.Test.{way_view, test_view, ands_view, value_at, value_of};
-ghost use Rattle.filter.specs.inner.Tests.{passes, holds};
+ghost use Rattle.filter.specs.Deciding.{passes, holds};
 
 use crate::equality::same;
 use crate::term::Op;
@@ -35,7 +35,41 @@ fn all_hold(terms: &[Test], row: &[Value]) -> bool
     true
 }
 
+/// Whether one of the ANDs has all its terms true of the values of a row's leaves.
+pub fn some_holds_at(ands: &[Vec<Test>], leaves: &[Value]) -> bool
+    ensures { result ≡ list_any (λ terms. list_all (λ t. holds t (member_at t.leaf (views leaves.now))) terms) (ands_view ands.now) }
+{
+    for terms in ands {
+        if all_hold_at(terms.as_slice(), leaves) {
+            return true;
+        }
+    }
+    false
+}
+
+/// Whether all terms are true of the values of a row's leaves.
+fn all_hold_at(terms: &[Test], leaves: &[Value]) -> bool
+    ensures { result ≡ list_all (λ t. holds t (member_at t.leaf (views leaves.now))) (map test_view terms.now) }
+{
+    for term in terms {
+        if !term.holds_at(leaves) {
+            return false;
+        }
+    }
+    true
+}
+
 impl Test {
+    /// Whether the term is true of the value of its leaf.
+    fn holds_at(&self, leaves: &[Value]) -> bool
+        ensures { result ≡ holds (test_view self.now) (member_at (test_view self.now).leaf (views leaves.now)) }
+    {
+        match member_at(leaves, self.leaf) {
+            Some(value) => self.holds(value),
+            None => false,
+        }
+    }
+
     /// Whether the term is true of a row.
     fn holds_of(&self, row: &[Value]) -> bool
         ensures { result ≡ holds (test_view self.now) (value_of (test_view self.now) (views row.now)) }

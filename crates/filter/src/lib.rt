@@ -10,6 +10,7 @@ mod filter;
 mod holding;
 mod laws;
 mod listed;
+mod looking;
 mod making;
 mod operand;
 mod pruning;
@@ -17,5 +18,5 @@ mod term;
 mod test;
 
 pub use filter::Filter;
-pub use laws::{cut_filters_agree, ruled_out_holds_no_row};
+pub use laws::{completed_is_the_same, cut_filters_agree, ruled_out_holds_no_row, tests_decide};
 pub use term::{Op, Term};

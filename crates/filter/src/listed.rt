@@ -6,7 +6,7 @@ ghost use Rattle.std.specs.List.{list_any};
 ghost use Rattle.std.specs.Str.{bytes_eq};
 ghost use Rattle.bits.specs.Refusals.{RefusedMemoryOnly};
 ghost use Rattle.schema.specs.Values.{view, integer, bytes};
-ghost use Rattle.filter.specs.inner.Same.{same};
+ghost use Rattle.filter.specs.Same.{same};
 ghost use Rattle.filter.specs.inner.Sets.{HasNumbers, HasTexts, same_text};
 
 use bits::R;

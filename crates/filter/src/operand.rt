@@ -4,7 +4,7 @@ ghost use Rattle.std.specs.Prelude.{◌≡◌, Vec, IfOk};
 ghost use Rattle.std.specs.HashSet.{contains};
 ghost use Rattle.bits.specs.Refusals.{RefusedMemoryOnly};
 ghost use Rattle.schema.specs.Values.{view};
-ghost use Rattle.filter.specs.inner.Same.{is_listed};
+ghost use Rattle.filter.specs.Same.{is_listed};
 ghost use Rattle.filter.specs.inner.Sets.{HasNumbers, HasTexts};
 
 use crate::equality::is_among;

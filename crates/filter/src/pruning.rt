@@ -6,7 +6,7 @@ ghost use Rattle.schema.specs.Keys.{places_of, key_columns_view};
 ghost use Rattle.schema.specs.Orders.{compared};
 ghost use Rattle.schema.specs.Values.{view};
 ghost use Rattle.statistics.specs.Bounds.{statistics_of, known_of};
-ghost use Rattle.filter.specs.RuledOut.{key_at, statistics_at, nothing_known};
+ghost use Rattle.filter.specs.RuledOut.{key_at, listed_at};
 ghost use Rattle.filter.specs.Test.{test_view, ands_view};
 ghost use Rattle.filter.specs.inner.Excluded.{is_outside, are_outside, excludes, is_out_by, is_out};
 
@@ -52,28 +52,17 @@ impl Test {
             Some(value) => !self.holds(value),
             None => match statistics_at(keys, known, self) {
                 Some(stats) => self.is_out_by(stats, known.rows),
-                None => self.is_out_anyway(),
+                // Each row has a null there.
+                None => true,
             },
         }
     }
 
     /// Whether the statistics put the term out.
     fn is_out_by(&self, stats: &Stats, rows: u64) -> bool
-        ensures { result ≡ is_out_by None (Some (statistics_of stats.now)) rows (test_view self.now) }
+        ensures { result ≡ is_out_by None (statistics_of stats.now) rows (test_view self.now) }
     {
         stats.nulls == rows || self.excludes(stats)
-    }
-
-    /// Whether the term is out although nothing is known of its leaf.
-    fn is_out_anyway(&self) -> bool
-        ensures { result ≡ excludes (test_view self.now).order (test_view self.now).op nothing_known (test_view self.now).operand }
-    {
-        let nothing = Stats {
-            min: None,
-            max: None,
-            nulls: 0,
-        };
-        self.excludes(&nothing)
     }
 
     /// Whether the bounds leave no value of which the term is true.
@@ -153,9 +142,9 @@ fn key_at<'a>(keys: &[KeyColumn], key: &'a [Value], place: usize) -> Option<&'a 
     None
 }
 
-/// The statistics of a term's leaf, where there are some.
+/// The statistics of a term's leaf, where the file has it.
 fn statistics_at<'a>(keys: &[KeyColumn], known: &'a GroupStats, term: &Test) -> Option<&'a Stats>
-    ensures { option_map (λ s. statistics_of s.now) result ≡ statistics_at (places_of (key_columns_view keys.now)) (known_of known.now) (test_view term.now) }
+    ensures { option_map (λ s. statistics_of s.now) result ≡ listed_at (places_of (key_columns_view keys.now)) (known_of known.now) (test_view term.now) }
 {
     let place = term
         .leaf

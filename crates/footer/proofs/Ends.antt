@@ -1,10 +1,10 @@
 -- The end of a file that is written: the footer, its length, and the magic.
-use Rattle.std.proofs.Common.{◌≡◌, ℕ, ◌-◌, ◌<◌, ◌^◌, List, [], ◌++◌, length, drop, sym, ap, subst, ◌∙◌, arith, append_assoc, length-append}
+use Rattle.std.proofs.Common.{◌≡◌, ℕ, ◌+◌, ◌-◌, ◌<◌, ◌≤◌, ◌^◌, List, [], ◌++◌, length, drop, sym, ap, subst, ◌∙◌, arith, append_assoc, length-append}
 use Rattle.std.proofs.lemmas.List.{append-nil, drop_at}
 use Rattle.thrift_compact.specs.Compact.{IsThrift}
 use Rattle.byteorder.specs.Endian.{little_bytes, little_number}
 use Rattle.byteorder.specs.Numbers.{little_number-reads_back}
-use Rattle.std.specs.Prelude.{Result, Ok, Err, Some}
+use Rattle.std.specs.Prelude.{Result, Ok, Err, Some, OnOk}
 use Rattle.bits.specs.declared.refusal.Refusal.{Refusal}
 use Rattle.bits.specs.declared.refusal.Refusal.TheVariants.{Memory}
 use Rattle.bits.specs.Refusals.{RefusedOnly}
@@ -36,13 +36,23 @@ ends front mid new meta most size again p is small joined = λ chunks begins.
       bare = bare;
     }
 
--- the length of the footer, however the file is parted, is the one that stands at its end
-pub footer_is : (mid new before footer : List ℕ) (size : ℕ) → size < 2 ^ 32 → new ≡ mid ++ little_bytes 4 size ++ magic → IsFramed new before footer → length footer ≡ size
-footer_is mid new before footer size small joined p =
+-- the length that stands before the last magic
+pub size_at : (mid new : List ℕ) (size : ℕ) → size < 2 ^ 32 → new ≡ mid ++ little_bytes 4 size ++ magic → (length new ≡ length mid + 8) × (size ≡ little_number 4 (drop (length new - 8) new))
+size_at mid new size small joined =
     let whole : new ≡ mid ++ (little_bytes 4 size ++ magic) = joined ∙ append_assoc mid (little_bytes 4 size) magic in
     let at : length mid ≡ length new - 8 = omega (arith, ap length whole, length-append mid (little_bytes 4 size ++ magic)) in
     let tail : drop (length new - 8) new ≡ little_bytes 4 size ++ magic = ap (λ (t : List ℕ). drop (length new - 8) t) whole ∙ drop_at mid (little_bytes 4 size ++ magic) (length new - 8) at in
-    sym (announced new before footer p) ∙ ap (little_number 4) tail ∙ little_number-reads_back 4 size magic (omega (arith, small))
+    (omega (arith, ap length whole, length-append mid (little_bytes 4 size ++ magic)), sym (ap (little_number 4) tail ∙ little_number-reads_back 4 size magic (omega (arith, small))))
+
+-- the length of the footer, however the file is parted, is the one that stands at its end
+pub footer_is : (mid new before footer : List ℕ) (size : ℕ) → size < 2 ^ 32 → new ≡ mid ++ little_bytes 4 size ++ magic → IsFramed new before footer → length footer ≡ size
+footer_is mid new before footer size small joined p =
+    sym (announced new before footer p) ∙ sym (size_at mid new size small joined).1
+
+-- what is appended is no longer than it may be
+pub appends_at_most : {X : Type 0} (r : Result X Refusal) (Stands : List ℕ → ℕ → Type 0) (most : ℕ) (old new : List ℕ) → OnOk r (Appends Stands most old new) → OnOk r (length new ≤ length old + most)
+appends_at_most (Ok x) Stands most old new p = let short = p.short in omega (arith, ap length p.joined, length-append old p.text, short)
+appends_at_most (Err e) Stands most old new p = tt
 
 -- refusals that come only where P does not hold do not come where it does
 pub never : {X : Type 0} (Cause : Refusal → Type 0) (P : Type 0) (r : Result X Refusal) → P → RefusedOnly (λ e. Cause e × (P → ⊥)) r → RefusedOnly (λ _. ⊥) r

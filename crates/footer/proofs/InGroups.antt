@@ -74,17 +74,17 @@ joined size rows some = joined_from (parts_of (length rows) size) size rows (eno
 
 pub record AreInRange (o : WriteOptions) : Type 0 where
   pub some : 1 ≤ o.group_rows
-  pub few : o.group_rows ≤ 1048576
+  pub few : o.group_rows ≤ 16777216
   pub pages : 1 ≤ o.page_rows
 
 pub in_range : (o : WriteOptions) → (IsOutOfRange o → ⊥) → AreInRange o
-in_range o within = record { some = some (cases_lt 0 o.group_rows); few = few (cases_lt 1048576 o.group_rows); pages = pages (cases_lt 0 o.page_rows) }
+in_range o within = record { some = some (cases_lt 0 o.group_rows); few = few (cases_lt 16777216 o.group_rows); pages = pages (cases_lt 0 o.page_rows) }
   where
     some : (0 < o.group_rows) ⊎ (o.group_rows ≤ 0) → 1 ≤ o.group_rows
     some (inl h) = omega (arith, h)
     some (inr h) = absurd (within (empty_groups (omega (arith, h))))
 
-    few : (1048576 < o.group_rows) ⊎ (o.group_rows ≤ 1048576) → o.group_rows ≤ 1048576
+    few : (16777216 < o.group_rows) ⊎ (o.group_rows ≤ 16777216) → o.group_rows ≤ 16777216
     few (inl h) = absurd (within (large_groups h))
     few (inr h) = h
 
@@ -101,7 +101,7 @@ pub goes_on : (fs : Fields) (o : WriteOptions) (rows rest : List ValueTrees) (ou
 goes_on fs o rows rest out new metas g some there so p taken =
     let size = o.group_rows in
     let next = next_group size rest some there in
-    let weight = group_weight fs o.page_rows in
+    let weight = group_weight fs (chunk_options o) in
     let longer : length new ≡ length out + length p.text = ap length p.joined ∙ length-append out p.text in
     record {
       before = so.before ++ take size rest;
@@ -120,16 +120,16 @@ goes_on fs o rows rest out new metas g some there so p taken =
 
 -- the next group is too much, and so are the rows
 pub too_much : (fs : Fields) (o : WriteOptions) (rows rest : List ValueTrees) (out : List ℕ) (metas : List GroupMeta) → AreInRange o → 0 < length rest
-    → IsBegun fs o rows rest out metas → IsGroupTooMuch (length out) o.page_rows fs (take o.group_rows rest) → IsTooMuch fs o rows
+    → IsBegun fs o rows rest out metas → IsGroupTooMuch fs (chunk_options o) (length out) (take o.group_rows rest) → IsTooMuch fs o rows
 too_much fs o rows rest out metas range there so (group_limit.empty_pages h) = let some = range.pages in absurd (omega (arith, some, h))
-too_much fs o rows rest out metas range there so (group_limit.at_the_front h) = let some = so.there in absurd (omega (arith, some, h))
+too_much fs o rows rest out metas range there so (group_limit.at_the_front h begins) = let some = so.there in absurd (omega (arith, some, h))
 too_much fs o rows rest out metas range there so (group_limit.many_rows h) = let few = range.few in absurd (omega (ints, arith, few, h, length-take o.group_rows rest))
 too_much fs o rows rest out metas range there so (group_limit.many_entries h) =
     many_entries (so.large (subst (HasLargeColumn fs) (sym (next_group o.group_rows rest range.some there)) (0, take o.group_rows rest, omega arith, refl, h)))
 too_much fs o rows rest out metas range there so (group_limit.long_value h) =
     long_value (long_within fs so.before (take o.group_rows rest) (drop o.group_rows rest) rows (so.split ∙ ap (λ (t : List ValueTrees). so.before ++ t) (sym (take-append-drop o.group_rows rest))) h)
 too_much fs o rows rest out metas range there so (group_limit.heavy h) =
-    let weight = group_weight fs o.page_rows in
+    let weight = group_weight fs (chunk_options o) in
     let sum = ap (λ (gs : List (List ValueTrees)). sum_by weight gs) (next_group o.group_rows rest range.some there) ∙ sum_by-cons weight (take o.group_rows rest) (groups_of o.group_rows (drop o.group_rows rest)) in
     let was = so.weighs in
     heavy_file (omega (arith, sum, was, h))

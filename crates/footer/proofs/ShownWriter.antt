@@ -12,7 +12,7 @@ use Rattle.shred.specs.Buffer.{Holds, holds, buffer_shows}
 use Rattle.shred.specs.inner.Opening.{schema_token, rows_token, rows_said}
 use Rattle.shred.proofs.Openings.{one_schema, rows_back}
 use Rattle.row_group.specs.declared.options.Style.{Style}
-use Rattle.row_group.specs.declared.options.Style.TheVariants.{Plain, Dictionary, Delta, Lengths}
+use Rattle.row_group.specs.declared.options.Style.TheVariants.{Plain, Dictionary, Delta, Lengths, Split}
 use Rattle.footer.specs.declared.options.WriteOptions.{WriteOptions}
 use Rattle.footer.specs.declared.file_writer.FileWriter.{FileWriter}
 use Rattle.footer.specs.Writer.{schema_of, options_of, has_rows, AreGiven, style_number, options_token, IsShown, writer_shows, BeginsRow, ShowsRow}
@@ -25,7 +25,8 @@ abbrev style_said : ℕ → Style
 style_said zero = Plain
 style_said (suc zero) = Dictionary
 style_said (suc (suc zero)) = Delta
-style_said (suc (suc (suc n))) = Lengths
+style_said (suc (suc (suc zero))) = Lengths
+style_said (suc (suc (suc (suc n)))) = Split
 
 abbrev some_options : ℕ → ℕ → ℕ → Style → WriteOptions
 some_options g p v s = record { group_rows = g; page_rows = p; page_version = v; style = s }
@@ -39,6 +40,7 @@ style_back Plain = refl
 style_back Dictionary = refl
 style_back Delta = refl
 style_back Lengths = refl
+style_back Split = refl
 
 options_back : (o : WriteOptions) → options_said (options_token o) ≡ o
 options_back o = ap (some_options o.group_rows o.page_rows o.page_version) (style_back o.style)

@@ -31,7 +31,7 @@ mutual
   few_below (leaf n r t) = omega arith
   few_below (fields n r a fs) = let rest = few_from 0 fs in omega (arith, rest)
 
-  few_from : (i : ℕ) (fs : Fields) → length (leaves_from i fs) ≤ length (listings fs)
+  pub few_from : (i : ℕ) (fs : Fields) → length (leaves_from i fs) ≤ length (listings fs)
   few_from i no_fields = omega arith
   few_from i (field f fs) =
       let one = few_below f in

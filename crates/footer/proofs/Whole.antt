@@ -65,14 +65,14 @@ taken_file size fs rows (Err e) within taken short small = tt
 
 -- groups take no more bytes than they weigh
 at_most : (fs : Fields) (o : ChunkOptions) (old new : List ℕ) (gs : List GroupMeta) (groups : List (List ValueTrees)) → AppendsGroups fs o old new gs groups
-    → length new ≤ length old + sum_by (group_weight fs o.page_rows) groups
+    → length new ≤ length old + sum_by (group_weight fs o) groups
 at_most fs o old new [] [] p = omega (arith, ap length p)
 at_most fs o old new [] (rows ∷ others) p = absurd p
 at_most fs o old new (g ∷ gs) [] p = absurd p
 at_most fs o old new (g ∷ gs) (rows ∷ others) p =
     let short = p.1.short in
     let rest = at_most fs o p.0 new gs others p.2 in
-    omega (arith, short, rest, ap length p.1.joined, length-append old p.1.text, sum_by-cons (group_weight fs o.page_rows) rows others)
+    omega (arith, short, rest, ap length p.1.joined, length-append old p.1.text, sum_by-cons (group_weight fs o) rows others)
 
 -- its footer, or the file, is too long only where it weighs too much
 pub is_heavy : (fs : Fields) (o : WriteOptions) (n : ℕ) (rows : List ValueTrees) (front : List ℕ) (gs : List GroupMeta) (meta : FileMeta) → meta ≡ own_record fs n gs → AreWritten fs o rows front gs → IsWithinLimits fs

@@ -70,11 +70,11 @@ one_written fs o rows part later out new metas g next begun written taken =
 
 -- it is too much, and so are the rows
 pub one_too_much : (fs : Fields) (o : WriteOptions) (rows part later : List ValueTrees) (out : List ℕ) (metas : List GroupMeta) → IsNext o part later
-    → IsBegun fs o rows (part ++ later) out metas → IsGroupTooMuch (length out) o.page_rows fs part → IsTooMuch fs o rows
+    → IsBegun fs o rows (part ++ later) out metas → IsGroupTooMuch fs (chunk_options o) (length out) part → IsTooMuch fs o rows
 one_too_much fs o rows part later out metas next begun much =
     let some = next.some in
     let there : 0 < length (part ++ later) = omega (arith, some, length-append part later) in
-    too_much fs o rows (part ++ later) out metas (in_range o next.in_range) there begun (subst (IsGroupTooMuch (length out) o.page_rows fs) (sym (first_ones o.group_rows part later next.few next.ends)) much)
+    too_much fs o rows (part ++ later) out metas (in_range o next.in_range) there begun (subst (IsGroupTooMuch fs (chunk_options o) (length out)) (sym (first_ones o.group_rows part later next.few next.ends)) much)
 
 -- ---- rows that were given
 
@@ -164,7 +164,7 @@ group_written fs o out new metas g waiting rows later some written taken next =
     one_written fs o rows waiting later out new metas g (next_of fs o out metas waiting rows later some next) next.begun written taken
 
 pub group_too_much : (fs : Fields) (o : WriteOptions) (out : List ℕ) (metas : List GroupMeta) (waiting : List ValueTrees) (rows later : List ValueTrees) → 0 < length waiting
-    → IsGroupTooMuch (length out) o.page_rows fs waiting → IsNextGroupOf fs o out metas waiting rows later → IsTooMuch fs o rows
+    → IsGroupTooMuch fs (chunk_options o) (length out) waiting → IsNextGroupOf fs o out metas waiting rows later → IsTooMuch fs o rows
 group_too_much fs o out metas waiting rows later some much next =
     one_too_much fs o rows waiting later out metas (next_of fs o out metas waiting rows later some next) next.begun much
 

@@ -10,7 +10,7 @@ use Rattle.shred.specs.Buffer.{Holds, holds}
 use Rattle.shred.specs.Buffer as buffer
 use Rattle.shred.specs.inner.Opening.{schema_token, rows_token, rows_said}
 use Rattle.row_group.specs.declared.options.Style.{Style}
-use Rattle.row_group.specs.declared.options.Style.TheVariants.{Plain, Dictionary, Delta, Lengths}
+use Rattle.row_group.specs.declared.options.Style.TheVariants.{Plain, Dictionary, Delta, Lengths, Split}
 use Rattle.row_group.specs.Paged.{group_weight}
 use Rattle.row_group.specs.Writing.{AreTaken}
 use Rattle.footer.specs.declared.options.WriteOptions.{WriteOptions}
@@ -28,7 +28,7 @@ pub record IsBegun (fs : Fields) (o : WriteOptions) (rows rest : List ValueTrees
   pub stands : (new : List ℕ) (gs : List GroupMeta) → AppendsGroups fs (chunk_options o) out new gs (groups_of o.group_rows rest)
       → AppendsGroups fs (chunk_options o) magic new (metas ++ gs) (groups_of o.group_rows rows)
   pub taken : AllByRecursion (AreTaken fs) (groups_of o.group_rows rest) → AllByRecursion (AreTaken fs) (groups_of o.group_rows rows)
-  pub weighs : length out + sum_by (group_weight fs o.page_rows) (groups_of o.group_rows rest) ≤ 4 + sum_by (group_weight fs o.page_rows) (groups_of o.group_rows rows)
+  pub weighs : length out + sum_by (group_weight fs (chunk_options o)) (groups_of o.group_rows rest) ≤ 4 + sum_by (group_weight fs (chunk_options o)) (groups_of o.group_rows rows)
   pub large : HasLargeColumn fs (groups_of o.group_rows rest) → HasLargeColumn fs (groups_of o.group_rows rows)
 
 -- the schema of the rows, and how they are written
@@ -67,6 +67,7 @@ style_number Plain = 0
 style_number Dictionary = 1
 style_number Delta = 2
 style_number Lengths = 3
+style_number Split = 4
 
 -- the token that says the options
 abbrev pub options_token : WriteOptions → Token

@@ -18,10 +18,10 @@ use Rattle.footer.specs.Greatest.{most_of_file, most_of_footer}
 use Rattle.footer.specs.declared.options.WriteOptions.{WriteOptions}
 use Rattle.footer.specs.File.{IsFramed}
 
--- options that are refused for good: no group of 1 to 1,048,576 rows, no page of a row or more, no version 1 or 2
+-- options that are refused for good: no group of 1 to 16,777,216 rows, no page of a row or more, no version 1 or 2
 pub data IsOutOfRange (o : WriteOptions) : Type 0 where
   empty_groups : o.group_rows ≡ 0 → IsOutOfRange o
-  large_groups : 1048576 < o.group_rows → IsOutOfRange o
+  large_groups : 16777216 < o.group_rows → IsOutOfRange o
   empty_pages : o.page_rows ≡ 0 → IsOutOfRange o
   other_version : o.page_version ≢ 1 → o.page_version ≢ 2 → IsOutOfRange o
 
@@ -42,9 +42,9 @@ groups_of size rows = groups_from (parts_of (length rows) size) size rows
 abbrev pub footer_weight : Fields → ℕ → ℕ
 footer_weight fs groups = 1024 + sum_by element_weight (elements_of fs) + groups * (64 + sum_by (λ (l : Leaf). 512 + sum_by (λ n. length n) l.path) (leaves_of fs))
 
--- a file: 1,024, its footer, and its chunks
+-- a file: 1,024, its footer, and its chunks, each 1,024 a page and once more for a dictionary, 64 an entry, and the bytes of its byte values
 abbrev pub file_weight : Fields → WriteOptions → List (List ValueTrees) → ℕ
-file_weight fs o groups = 1024 + footer_weight fs (length groups) + sum_by (group_weight fs o.page_rows) groups
+file_weight fs o groups = 1024 + footer_weight fs (length groups) + sum_by (group_weight fs (chunk_options o)) groups
 
 -- one of the groups has a column of too many entries
 abbrev pub HasLargeColumn : Fields → List (List ValueTrees) → Type 0

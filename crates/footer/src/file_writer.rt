@@ -15,7 +15,7 @@ ghost use Rattle.footer.specs.Writing.{IsOutOfRange, IsTooMuch, IsTaken};
 
 use crate::file_writing::is_out_of_range;
 use crate::footer_record::record_of;
-use crate::footer_writing::ended;
+use crate::footer_writing::with_footer;
 use crate::limits::MAGIC;
 use crate::options::WriteOptions;
 use assemble::RowSink;
@@ -56,7 +56,7 @@ impl<'a> FileWriter<'a> {
     ghost use Rattle.footer.specs.inner.Waiting.{IsNextGroup, HasRoom, HoldsSame};
 
     /// A writer of a file of this schema, without rows. Refused Limit for options out of range: a number of rows
-    /// in a group outside 1 to 1,048,576, pages of no rows, a version other than 1 and 2.
+    /// in a group outside 1 to 16,777,216, pages of no rows, a version other than 1 and 2.
     pub fn new(alloc: Global, schema: &'a Schema, options: &WriteOptions) -> R<FileWriter<'a>>
         ensures begins { IfOk result (λ writer. has_rows writer []) }
         ensures of { IfOk result (λ writer. (schema_of writer ≡ schema.now) × (options_of writer ≡ options.now)) }
@@ -151,7 +151,7 @@ impl<'a> FileWriter<'a> {
         a_list_means_one_schema();
         self.write_waiting()?;
         let record = record_of(self.alloc, self.waiting.schema(), self.written, self.groups)?;
-        ended(self.alloc, self.bytes, &record)
+        with_footer(self.alloc, self.bytes, &record)
     }
 
     /// Writes the rows that wait where they are a full group. After a refusal they still wait.

@@ -14,7 +14,7 @@ ghost use Rattle.footer.specs.Own.{AppendsGroups, IsLaidOut};
 ghost use Rattle.footer.specs.Writing.{chunk_options, groups_of, IsOutOfRange, IsTooMuch, IsTaken};
 
 use crate::footer_record::record_of;
-use crate::footer_writing::ended;
+use crate::footer_writing::with_footer;
 use crate::limits::MAGIC;
 use crate::options::WriteOptions;
 use bits::{R, Refusal};
@@ -24,7 +24,7 @@ use schema::{Row, Schema, a_list_means_one_schema};
 use std::alloc::Global;
 
 /// The most rows that a written group may have.
-const MOST_GROUP_ROWS: u32 = 1_048_576;
+const MOST_GROUP_ROWS: u32 = 16_777_216;
 
 /// Whether the options are refused, whatever the rows.
 pub(crate) fn is_out_of_range(options: &WriteOptions) -> bool
@@ -46,7 +46,7 @@ pub(crate) fn is_out_of_range(options: &WriteOptions) -> bool
 /// type's.
 ///
 /// Refused RowShape only where a row does not fit the schema. Refused Limit only for options out of range (a
-/// number of rows in a group outside 1 to 1,048,576, pages of no rows, a version other than 1 and 2), for a
+/// number of rows in a group outside 1 to 16,777,216, pages of no rows, a version other than 1 and 2), for a
 /// value of more than 16 MiB, for more than 16,777,216 entries in a column of a group, and where the footer is
 /// longer than 16 MiB, or the file than 2^31 - 1 bytes, which comes only where it weighs more. Where several
 /// are so, any of them may come.
@@ -78,7 +78,7 @@ pub fn write_file(
     let mut front = Vec::from_slice(alloc, MAGIC)?;
     let groups = write_groups(alloc, schema, options, rows, &mut front)?;
     let record = record_of(alloc, schema, rows.len(), groups)?;
-    ended(alloc, front, &record)
+    with_footer(alloc, front, &record)
 }
 
 /// Writes the rows after the magic, in groups of as many as the options say, and returns the groups' records.

@@ -1,8 +1,8 @@
 //! The end of a file that is written: the footer, its length, and the magic.
 
-ghost use Rattle.std.specs.Prelude.{◌≡◌, ◌⊎◌, ◌+◌, ◌<◌, ◌≤◌, ◌++◌, [], List, ℕ, length, IfOk, OnOk, Err};
+ghost use Rattle.std.specs.Prelude.{◌≡◌, ◌⊎◌, ◌+◌, ◌<◌, ◌≤◌, ◌++◌, List, ℕ, length, IfOk, OnOk, Err};
 ghost use Rattle.bits.specs.Codec.{Appends};
-ghost use Rattle.bits.specs.Refusals.{RefusedOnly};
+ghost use Rattle.bits.specs.Refusals.{RefusedOnly, RefusedMemoryOnly};
 ghost use Rattle.byteorder.specs.Endian.{little_bytes};
 ghost use Rattle.thrift_compact.specs.Compact.{IsThrift};
 ghost use Rattle.thrift_compact.specs.Length.{size_struct};
@@ -11,6 +11,7 @@ ghost use Rattle.metadata.specs.Views.{file_meta_view};
 ghost use Rattle.metadata.specs.Kept.{EachKeepsWritten};
 ghost use Rattle.metadata.specs.Weight.{IsOfTheWriter, footer_weight};
 ghost use Rattle.footer.specs.Greatest.{most_of_file, most_of_footer};
+ghost use Rattle.footer.specs.Faults.{IsLong};
 ghost use Rattle.footer.specs.File.{magic, IsFramed};
 ghost use Rattle.footer.specs.Own.{EndsWith};
 
@@ -20,14 +21,24 @@ use byteorder::{ByteOrder, LittleEndian};
 use metadata::{FileMeta, footer_again};
 use std::alloc::Global;
 
-/// The file of these bytes before its footer, and of this record.
-pub fn ended(alloc: Global, front: Vec<u8>, meta: &FileMeta) -> R<Vec<u8>>
+/// The file of these bytes before its footer, `PAR1` and chunks, and of this record: the bytes, the footer, its length
+/// in four bytes, and `PAR1` (parquet-format, README.md, "File format"). A file without chunks has [`MAGIC`] alone
+/// before its footer.
+///
+/// The structs that the schema's elements keep have to be ones that can be written, as those of a
+/// [`Schema`](schema::Schema) can. Refused Limit only where the footer is longer than 16 MiB, or the file than
+/// 2^31 - 1 bytes; where the record is one of the store's own, that comes only where its weight says so, with the weight
+/// of the keys that it keeps as pairs. The time is linear in the record.
+pub fn with_footer(alloc: Global, front: Vec<u8>, meta: &FileMeta) -> R<Vec<u8>>
     requires { EachKeepsWritten (file_meta_view meta.now) }
     ensures stands { IfOk result (λ file. EndsWith front.items (file_meta_view meta.now) file.items) }
     ensures size { IfOk result (λ file. length file.items ≤ most_of_file) }
     ensures footer_size { IfOk result (λ file. (before footer : List ℕ) → IsFramed file.items before footer → length footer ≤ most_of_footer) }
-    ensures limit { let seen = file_meta_view meta.now in result ≡ Err Refusal.Limit → IsOfTheWriter [] seen
-        → (most_of_footer < footer_weight [] seen) ⊎ (most_of_file < length front.items + 8 + footer_weight [] seen) }
+    ensures within_limits { IfOk result (λ file. IsLong file.items → ⊥) }
+    ensures too_long { let size = size_struct (file_meta_fields (file_meta_view meta.now)) in result ≡ Err Refusal.Limit
+        → (most_of_footer < size) ⊎ (most_of_file < length front.items + 8 + size) }
+    ensures limit { let seen = file_meta_view meta.now in result ≡ Err Refusal.Limit → (keys : List (List ℕ)) → IsOfTheWriter keys seen
+        → (most_of_footer < footer_weight keys seen) ⊎ (most_of_file < length front.items + 8 + footer_weight keys seen) }
     ensures which { RefusedOnly (λ e. e ≡ Refusal.Limit) result }
 {
     footer_again();
@@ -42,14 +53,15 @@ pub fn ended(alloc: Global, front: Vec<u8>, meta: &FileMeta) -> R<Vec<u8>>
     Ok(out)
 }
 
-/// Writes the record at the end of `out`. Refused only Memory.
+/// Writes the record at the end of `out`. It fails only when out of memory.
 fn write_record(alloc: Global, meta: &FileMeta, out: &mut Vec<u8>) -> R<()>
     requires { EachKeepsWritten (file_meta_view meta.now) }
     ensures stands { let fields = file_meta_fields (file_meta_view meta.now) in
         OnOk result (Appends (λ bytes used. IsThrift bytes fields used) (size_struct fields) out.old.items out.new.items) }
+    ensures size { OnOk result (length out.new.items ≤ length out.old.items + size_struct (file_meta_fields (file_meta_view meta.now))) }
     ensures weight { let seen = file_meta_view meta.now in
         (keys : List (List ℕ)) → IsOfTheWriter keys seen → OnOk result (length out.new.items ≤ length out.old.items + footer_weight keys seen) }
-    ensures which { RefusedOnly (λ _. ⊥) result }
+    ensures which { RefusedMemoryOnly result }
 {
     meta.write(alloc, out)
 }
@@ -57,7 +69,7 @@ fn write_record(alloc: Global, meta: &FileMeta, out: &mut Vec<u8>) -> R<()>
 /// Writes the length of the footer and the magic at the end of `out`.
 fn write_length(out: &mut Vec<u8>, size: u32) -> R<()>
     ensures stands { OnOk result (out.new.items ≡ out.old.items ++ little_bytes 4 size ++ magic) }
-    ensures which { RefusedOnly (λ _. ⊥) result }
+    ensures which { RefusedMemoryOnly result }
 {
     let mut length = [0; 4];
     LittleEndian::write_u32(&mut length, size);

@@ -10,7 +10,7 @@ use row_group::{ChunkOptions, Style};
 /// How a file is written.
 #[derive(Debug, Clone, Copy, PartialEq, Eq)]
 pub struct WriteOptions {
-    /// How many rows a row group has, the last one fewer: 1 to 1,048,576.
+    /// How many rows a row group has, the last one fewer: 1 to 16,777,216.
     pub group_rows: u32,
     /// How many rows a page has, the last one of a group fewer: at least 1.
     pub page_rows: u32,

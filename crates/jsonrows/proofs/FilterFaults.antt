@@ -13,26 +13,26 @@ use Rattle.schema.specs.Values as value
 use Rattle.schema.specs.Stripe.{Leaf}
 use Rattle.filter.specs.Terms.{Term, with_first, then_rest, each_of}
 use Rattle.jsonrows.specs.Filters.{listed, ◌>>=◌, or_fault, name_of, column_of, operators, operator_named, operator_of, leaf_named, is_of_kind, by_kind, single_value, list_value, value_of, values_of, term_by, term_in, term_of, and_of, is_triple, only_and, filter_in, filter_of, IsRefusedFilter}
-use Rattle.jsonrows.specs.Reading.{leaf_read}
+use Rattle.rowtext.specs.Reading.{leaf_read}
 
-abbrev IsOfForm : Refusal → Type 0
+abbrev pub IsOfForm : Refusal → Type 0
 IsOfForm Script = Unit {0}
 IsOfForm RowShape = Unit {0}
 IsOfForm _ = ⊥
 
 -- a fault is one of these two
-abbrev AreOfForm : {A : Type 0} → Result A Refusal → Type 0
+abbrev pub AreOfForm : {A : Type 0} → Result A Refusal → Type 0
 AreOfForm r = IfErr r IsOfForm
 
-then_form : {A B : Type 0} (r : Result A Refusal) (f : A → Result B Refusal) → AreOfForm r → ((a : A) → AreOfForm (f a)) → AreOfForm (r >>= f)
+pub then_form : {A B : Type 0} (r : Result A Refusal) (f : A → Result B Refusal) → AreOfForm r → ((a : A) → AreOfForm (f a)) → AreOfForm (r >>= f)
 then_form (Ok a) f h k = k a
 then_form (Err e) f h k = h
 
-script_form : {A : Type 0} (o : Option A) → AreOfForm (or_fault Script o)
+pub script_form : {A : Type 0} (o : Option A) → AreOfForm (or_fault Script o)
 script_form None = tt
 script_form (Some a) = tt
 
-shape_form : {A : Type 0} (o : Option A) → AreOfForm (or_fault RowShape o)
+pub shape_form : {A : Type 0} (o : Option A) → AreOfForm (or_fault RowShape o)
 shape_form None = tt
 shape_form (Some a) = tt
 
@@ -44,15 +44,15 @@ rest_form : {Y : Type 0} (r : Result Y Refusal) (rs : Result (List Y) Refusal) �
 rest_form (Ok y) rs h k = first_form y rs k
 rest_form (Err e) rs h k = h
 
-each_form : {X Y : Type 0} (f : X → Result Y Refusal) (xs : List X) → ((x : X) → AreOfForm (f x)) → AreOfForm (each_of f xs)
+pub each_form : {X Y : Type 0} (f : X → Result Y Refusal) (xs : List X) → ((x : X) → AreOfForm (f x)) → AreOfForm (each_of f xs)
 each_form f [] h = tt
 each_form f (x ∷ xs) h = rest_form (f x) (each_of f xs) (h x) (each_form f xs h)
 
-either_form : {A : Type 0} (b : Bool) (r s : Result A Refusal) → AreOfForm r → AreOfForm s → AreOfForm (if b then r else s)
+pub either_form : {A : Type 0} (b : Bool) (r s : Result A Refusal) → AreOfForm r → AreOfForm s → AreOfForm (if b then r else s)
 either_form true r s h k = h
 either_form false r s h k = k
 
-name_form : (d : Data) → AreOfForm (name_of d)
+pub name_form : (d : Data) → AreOfForm (name_of d)
 name_form null = tt
 name_form (boolean b) = tt
 name_form (number n) = tt
@@ -142,7 +142,7 @@ filter_form_in leaves (d ∷ ds) =
     either_form (is_triple d) (only_and (each_of (term_of leaves) (d ∷ ds))) (each_of (and_of leaves) (d ∷ ds)) (only_form (each_of (term_of leaves) (d ∷ ds)) (each_form (term_of leaves) (d ∷ ds) (term_form leaves)))
     (each_form (and_of leaves) (d ∷ ds) (and_form leaves))
 
-filter_form : (leaves : List Leaf) (d : Data) → AreOfForm (filter_of leaves d)
+pub filter_form : (leaves : List Leaf) (d : Data) → AreOfForm (filter_of leaves d)
 filter_form leaves null = tt
 filter_form leaves (boolean b) = tt
 filter_form leaves (number n) = tt
@@ -150,7 +150,7 @@ filter_form leaves (string s) = tt
 filter_form leaves (array ds) = filter_form_in leaves (listed ds)
 filter_form leaves (object ms) = tt
 
-some_same : {A : Type 0} (x y : A) → Some x ≡ Some y → x ≡ y
+pub some_same : {A : Type 0} (x y : A) → Some x ≡ Some y → x ≡ y
 some_same x y e = cc
 
 refused_at : (leaves : List Leaf) (text : List ℕ) (d : Data) (e : Refusal) → read text ≡ Some d → HasCause (λ x. filter_of leaves d ≡ Err x) e → IsRefusedFilter leaves text e

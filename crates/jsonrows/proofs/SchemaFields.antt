@@ -41,10 +41,10 @@ split_elements (x ∷ xs) ys (e ∷ es) h =
     let p = split_elements xs ys es h.1 in
     record { first = e ∷ p.first; rest = p.rest; joined = ap (λ l. e ∷ l) p.joined; are = (h.0, p.are); others = p.others }
 
-abbrev Found : (Items → Option (List Said)) → Type 0
+abbrev pub Found : (Items → Option (List Said)) → Type 0
 Found below = (ds : Items) (said : List Said) (es : List Element) → below ds ≡ Some said → AreElementsOf said es → (bs : Branches) × SaysFields bs ds × (es ≡ depth_first_each bs)
 
-abbrev FieldFound : Data → List Element → Type 0
+abbrev pub FieldFound : Data → List Element → Type 0
 FieldFound d es = (b : Branch) × SaysField b d × (es ≡ depth_first b)
 
 leaf_alone : (ms : Members) (name : List ℕ) (r : ℤ) (said : List Said) (es : List Element) → Has IsText (codes "name") ms name → Has (IsWord repetitions) (codes "rep") ms r → Lacks (codes "fields") ms
@@ -71,7 +71,7 @@ group_and_below below found ms name r ds said es called repeats has h are =
         let k = found ds all rest has_below p.1 in
         (branch e k.0, (ms, refl, inr (ds, group_found ms name r ds s e called repeats has is p.0, k.1)), ap (λ l. e ∷ l) k.2)
 
-field_found : (below : Items → Option (List Said)) → Found below → (d : Data) (said : List Said) (es : List Element) → field_said below d ≡ Some said → AreElementsOf said es → FieldFound d es
+pub field_found : (below : Items → Option (List Said)) → Found below → (d : Data) (said : List Said) (es : List Element) → field_said below d ≡ Some said → AreElementsOf said es → FieldFound d es
 field_found below found null said es h are = none_is said h
 field_found below found (boolean b) said es h are = none_is said h
 field_found below found (number n) said es h are = none_is said h
@@ -102,7 +102,7 @@ fields_found below found (item d ds) said es h are =
     let m = fields_found below found ds b.0 p.rest b.1 p.others in
     (branches k.0 m.0, (k.1, m.1), p.joined ∙ ap₂ (λ x y. x ++ y) k.2 m.2)
 
-below_found : (deep : ℕ) → Found (said_below deep)
+pub below_found : (deep : ℕ) → Found (said_below deep)
 below_found zero ds said es h are = none_is said h
 below_found (suc deep) ds said es h are = fields_found (said_below deep) (below_found deep) ds said es h are
 
@@ -145,7 +145,7 @@ below_right : (x n m : ℕ) → x ≤ m → x ≤ max n m
 below_right x n m h = omega (arith, le-max_right n m)
 
 -- a member nests no deeper than all of them
-member_depth : (k : List ℕ) (ms : Members) (x : Data) → get_member k ms ≡ Some x → depth x ≤ members_depth ms
+pub member_depth : (k : List ℕ) (ms : Members) (x : Data) → get_member k ms ≡ Some x → depth x ≤ members_depth ms
 member_depth k no_members x h = none_is x h
 member_depth k (member l e ms) x h = by (member_depth k ms x) (slice_cmp nat_cmp k l) h
   where
@@ -154,7 +154,7 @@ member_depth k (member l e ms) x h = by (member_depth k ms x) (slice_cmp nat_cmp
     by later Equal g = subst (λ y. depth y ≤ max (depth e) (members_depth ms)) (same_value e x g) (le-max_left (depth e) (members_depth ms))
     by later Greater g = below_right (depth x) (depth e) (members_depth ms) (later g)
 
-abbrev FieldThere : (Items → Option (List Said)) → Data → List Element → Type 0
+abbrev pub FieldThere : (Items → Option (List Said)) → Data → List Element → Type 0
 FieldThere below d es = (said : List Said) × (field_said below d ≡ Some said) × AreElementsOf said es
 
 abbrev FieldsThere : (Items → Option (List Said)) → Items → List Element → Type 0
@@ -193,7 +193,7 @@ at_field deep e bs d h low below = subst (λ x. FieldThere (said_below deep) x (
     by ms l (inr p) = nested deep e bs ms p.0 p.1 p.2 l (λ less m. below less p.0 p.2 m)
 
 mutual
-  field_there : (deep : ℕ) (b : Branch) (d : Data) → SaysField b d → depth d ≤ 2 * deep + 1 → FieldThere (said_below deep) d (depth_first b)
+  pub field_there : (deep : ℕ) (b : Branch) (d : Data) → SaysField b d → depth d ≤ 2 * deep + 1 → FieldThere (said_below deep) d (depth_first b)
   field_there deep (branch e bs) d h low = at_field deep e bs d h low (λ less ds q m. fields_there less bs ds q m)
 
   fields_there : (deep : ℕ) (bs : Branches) (ds : Items) → SaysFields bs ds → items_depth ds ≤ 2 * deep + 1 → FieldsThere (said_below deep) ds (depth_first_each bs)

@@ -15,7 +15,7 @@ use Rattle.schema.specs.Listing.{typed}
 use Rattle.jsonrows.specs.declared.schema_reading.Numbers.{Numbers}
 use Rattle.jsonrows.specs.SchemaJson.{repetitions, types, group_notes, leaf_members, group_members, are_called, is_known, IsText, IsWord, IsInt32, Has, Lacks, MayHave, IsUnnamed, IsNote, IsLeaf, IsGroup}
 use Rattle.jsonrows.specs.inner.SchemaReading.{word_of, int32_of, optional, length_of, numbers_of, kind_of, is_unnamed, Note, note, note_of, Said, said_of_leaf, said_of_group, leaf_said, group_said, HasStruct, IsElementOf}
-use Rattle.jsonrows.proofs.Both.{and_true}
+use Rattle.rowtext.proofs.Both.{and_true}
 use Rattle.jsonrows.proofs.Said.{same_value}
 use Rattle.jsonrows.proofs.SchemaMembers.{and_then_gave, if_gave, word_found, word_there, int_found, int_there, has_found, has_there, may_found, may_there, length_found, length_there}
 use Rattle.jsonrows.proofs.SchemaNotes.{none_kept, unnamed_found, unnamed_there, note_found, note_there}

@@ -10,7 +10,7 @@ use Rattle.schema.specs.declared.building.Typed.{Typed}
 use Rattle.schema.specs.declared.building.Typed.TheVariants.{Stored, Floating, Int96}
 use Rattle.schema.specs.Annotations.{annotation_of}
 use Rattle.schema.specs.Listing.{typed}
-use Rattle.jsonrows.specs.Reading.{bytes_of_digits}
+use Rattle.rowtext.specs.Reading.{bytes_of_digits}
 use Rattle.jsonrows.specs.SchemaJson.{number_of, notes, is_known, IsText, IsNote}
 use Rattle.jsonrows.specs.inner.SchemaReading.{int32_of, optional, stored_kind, kind_of, is_unnamed, Note, note, other_of, named_of, note_by, note_of, HasStruct}
 use Rattle.jsonrows.proofs.Said.{same_value}

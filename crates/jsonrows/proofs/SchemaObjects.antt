@@ -18,7 +18,7 @@ use Rattle.schema.specs.Views.{leaf_type_view, field_view, field_views}
 use Rattle.schema.proofs.Seen.{view-Leaf, view-Group}
 use Rattle.jsonrows.specs.SchemaPrinted.{MayBe, with_member, those_there, leaf_json, group_json, Spells, IsOfShort, AreOfShort}
 use Rattle.jsonrows.specs.inner.SchemaPrinting.{AreStructBytes, put_maybe, put_each, HasShortLeaf, HasShortNumbers, HaveShortNumbers, IsPrintedField, ArePrintedFields}
-use Rattle.jsonrows.proofs.Both.{and_true}
+use Rattle.rowtext.proofs.Both.{and_true}
 
 -- ---- members that are put from the last one on
 

@@ -6,9 +6,7 @@ use Rattle.std.specs.declared.cmp.Ordering.{Ordering}
 use Rattle.std.specs.declared.cmp.Ordering.TheVariants.{Less, Equal, Greater}
 use Rattle.std.specs.Cmp.Lexicographic.{slice_cmp}
 use Rattle.std.proofs.lemmas.Bool.Decides.{Decides-ltb}
-use Rattle.std.proofs.lemmas.Slice.Eq.{bytes_eq-Decides}
-use Rattle.hex.specs.Hex.{encode_lower, IsBytes}
-use Rattle.hex.proofs.HexLemmas.{decode_of-encode_lower}
+use Rattle.hex.specs.Hex.{encode_lower}
 use Rattle.serde_json.specs.Data.{Data, string, array, Items, no_items, item, Members}
 use Rattle.serde_json.specs.Find.{as_i64, of_integer, get_member}
 use Rattle.serde_json.specs.Events.{items_len}
@@ -28,10 +26,10 @@ use Rattle.schema.specs.Law.{HasLength, IsLeafType, IsValid, AreValid}
 use Rattle.schema.specs.Listed.{type_number, type_length, repetition_number, group_converted, leaf_element, group_element, listing, listings, root_name, elements_of}
 use Rattle.schema.specs.Listing.{typed, Branch, branch, Branches, no_branches, branches, depth_first, depth_first_each}
 use Rattle.schema.proofs.Again.{a_schema_is_its_elements}
-use Rattle.jsonrows.specs.Reading.{bytes_of_digits}
 use Rattle.jsonrows.specs.SchemaJson.{number_of, repetitions, types, notes, group_notes, leaf_members, group_members, is_one_of, are_called, is_known, IsWord, IsInt32, MayHave, IsUnnamed, IsNote, IsLeaf, IsGroup, SaysField, SaysFields}
 use Rattle.jsonrows.specs.SchemaPrinted.{repetition_word, type_word, note_word, group_note_word, MayBe, with_member, those_there, integer_json, length_json, note_json, converted_json, logical_json, leaf_json, group_json, Spells, PrintsField, PrintsFields, IsShort, IsOfShort, AreOfShort, SchemasReadBack}
-use Rattle.jsonrows.proofs.Both.{and_true}
+use Rattle.rowtext.proofs.Both.{and_true}
+use Rattle.rowtext.proofs.HexTexts.{digits_said}
 use Rattle.jsonrows.proofs.Said.{same_value}
 
 -- ---- members that may be there
@@ -129,9 +127,6 @@ group_note_said ms None e = e
 group_note_said ms (Some Map) e = (string (codes "map"), e, (codes "map", refl, refl))
 group_note_said ms (Some MapKeyValue) e = (string (codes "map_key_value"), e, (codes "map_key_value", refl, refl))
 group_note_said ms (Some ListOfItems) e = (string (codes "list"), e, (codes "list", refl, refl))
-
-pub digits_said : (bytes : List ℕ) → IsBytes bytes → bytes_of_digits (encode_lower bytes) ≡ Some bytes
-digits_said bytes h = rw (decode_of-encode_lower bytes h, (bytes_eq-Decides (encode_lower bytes) (encode_lower bytes)).1 refl) refl
 
 -- ---- leaves
 

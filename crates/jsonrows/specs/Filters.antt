@@ -15,7 +15,7 @@ use Rattle.schema.specs.Stripe.{Leaf}
 use Rattle.filter.specs.declared.term.Op.{Op}
 use Rattle.filter.specs.declared.term.Op.TheVariants as op
 use Rattle.filter.specs.Terms.{Term, then_rest, each_of}
-use Rattle.jsonrows.specs.Reading.{leaf_read}
+use Rattle.rowtext.specs.Reading.{leaf_read}
 
 -- the items of an array
 abbrev pub listed : Items → List Data

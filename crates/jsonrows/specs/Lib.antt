@@ -1,9 +1,7 @@
-pub mod Json
-pub mod Reading
 pub mod SchemaJson
 pub mod SchemaPrinted
 pub mod Filters
-pub mod Rows
-pub mod Reader
-pub mod Law
+pub mod Answers
+pub mod Calls
+pub mod Scripts
 pub mod inner

@@ -1,7 +1,8 @@
 -- Schemas as JSON values (RFC 8259): an array of fields, each an object of one of two forms, and the list of elements (parquet.thrift, SchemaElement) that it says.
+use Rattle.std.specs.Option.{option_map_or}
 use Rattle.std.specs.Prelude.{◌≡◌, ◌⊎◌, ◌↔◌, ℕ, ◌^◌, ◌<◌, ℤ, pos, Bool, true, false, ◌||◌, ◌&&◌, bytes_eq, codes, List, [], ◌∷◌, length, Option, Some, None, IsSome, if◌then◌else◌}
 use Rattle.serde_json.specs.Data.{Data, Num, number, string, array, object, Items, no_items, item, Members, no_members, member}
-use Rattle.serde_json.specs.Find.{as_i64, get_member}
+use Rattle.serde_json.specs.Find.{as_i64, as_object, get_member}
 use Rattle.serde_json.specs.Events.{items_len}
 use Rattle.serde_json.specs.Read.{read}
 use Rattle.bits.specs.declared.refusal.Refusal.{Refusal}
@@ -15,9 +16,9 @@ use Rattle.schema.specs.Shape.{Fields}
 use Rattle.schema.specs.Elements.{Element}
 use Rattle.schema.specs.Fits.{is_within}
 use Rattle.schema.specs.Listed.{root_name, group_element}
-use Rattle.schema.specs.Listing.{typed, Branch, branch, Branches, no_branches, branches, depth_first_each, IsSchemaOf}
+use Rattle.schema.specs.Listing.{typed, Branch, branch, Branches, no_branches, branches, depth_first, depth_first_each, IsSchemaOf}
 use Rattle.schema.specs.Faults.{HasFault}
-use Rattle.jsonrows.specs.Reading.{bytes_of_digits}
+use Rattle.rowtext.specs.Reading.{bytes_of_digits}
 
 -- ---- the words of the form
 
@@ -64,6 +65,10 @@ is_one_of (n ∷ ns) k = bytes_eq n k || is_one_of ns k
 abbrev pub are_called : List (List ℕ) → Members → Bool
 are_called ns no_members = true
 are_called ns (member k d ms) = is_one_of ns k && are_called ns ms
+
+-- an object with no other members
+abbrev pub has_only : List (List ℕ) → Data → Bool
+has_only ns d = option_map_or (are_called ns) (as_object d) false
 
 -- ---- what one member says
 
@@ -150,6 +155,10 @@ abbrev mutual
   SaysFields no_branches no_items = Unit {0}
   SaysFields (branches b bs) (item d ds) = SaysField b d × SaysFields bs ds
   SaysFields _ _ = ⊥
+
+-- the elements of one field
+abbrev pub SaysColumn : Data → List Element → Type 0
+SaysColumn d es = (b : Branch) × SaysField b d × (es ≡ depth_first b)
 
 -- ---- whole texts
 

@@ -9,13 +9,12 @@ ghost use Rattle.schema.specs.Stripe.{leaves_of};
 ghost use Rattle.schema.specs.Values.{view as value_view};
 ghost use Rattle.schema.specs.Views.{leaf_view, leaf_type_view};
 ghost use Rattle.filter.specs.Terms.{names_of, term_view, terms_view, each_of};
-ghost use Rattle.jsonrows.specs.Reading.{leaf_read};
+ghost use Rattle.rowtext.specs.Reading.{leaf_read};
 ghost use Rattle.jsonrows.specs.Filters.{name_of, column_of, operator_named, operator_of, leaf_named, is_of_kind, by_kind, or_fault, single_value, value_of, term_by, term_in, term_of, and_of, are_triple, is_triple, filter_in, filter_of, IsFilterText, IsRefusedFilter};
 
-use crate::json_text::json_of;
-use crate::row_reading::leaf_from;
 use bits::{R, Refusal};
 use filter::{Op, Term};
+use rowtext::{json_of, leaf_from};
 use schema::{Kind, Leaf, LeafType, Schema, Value};
 use serde_json::Value as Json;
 use std::alloc::Global;
@@ -92,7 +91,7 @@ fn name_of(alloc: Global, json: &Json) -> R<String>
 }
 
 /// The names that JSON values are.
-fn names_from(alloc: Global, items: &[Json]) -> R<Vec<String>>
+pub fn names_from(alloc: Global, items: &[Json]) -> R<Vec<String>>
     ensures made { IfOk result (λ names. each_of name_of (map view items.now) ≡ Ok (names_of names.items)) }
     ensures which { RefusedOnly (λ e. each_of name_of (map view items.now) ≡ Err e) result }
 {
@@ -359,7 +358,7 @@ fn filter_in(alloc: Global, leaves: &[Leaf], items: &[Json]) -> R<Vec<Vec<Term>>
 }
 
 /// The filter that a JSON value is.
-fn filter_of(alloc: Global, leaves: &[Leaf], json: &Json) -> R<Vec<Vec<Term>>>
+pub fn filter_of(alloc: Global, leaves: &[Leaf], json: &Json) -> R<Vec<Vec<Term>>>
     ensures made { IfOk result (λ ands. filter_of (map leaf_view leaves.now) (view json.now) ≡ Ok (terms_view ands.items)) }
     ensures which { RefusedOnly (λ e. filter_of (map leaf_view leaves.now) (view json.now) ≡ Err e) result }
 {

@@ -8,7 +8,7 @@ ghost use Rattle.jsonrows.specs.SchemaJson.{number_of, is_one_of, is_known};
 ghost use Rattle.jsonrows.specs.inner.SchemaReading.{word_of, int32_of, optional, other_of, named_of, note_by, note_of, is_unnamed};
 ghost use Rattle.jsonrows.specs.inner.SchemaViews.{note_view};
 
-use crate::row_reading::bytes_of_digits;
+use rowtext::bytes_of_digits;
 use schema::{Annotation, Kind};
 use serde_json::Value as Json;
 use std::alloc::{AllocError, Global};

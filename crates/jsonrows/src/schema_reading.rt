@@ -1,21 +1,22 @@
 //! Schemas from JSON text.
 
-ghost use Rattle.std.specs.Prelude.{◌≡◌, ◌∷◌, [], pos, nat_abs, ◌≤ℤ◌, List, length, map, option_map, Some, None, true, IfOk, IfErr};
+ghost use Rattle.std.specs.Prelude.{◌≡◌, ◌≤◌, ◌∷◌, [], pos, nat_abs, ◌≤ℤ◌, List, length, map, option_map, Some, None, true, IfOk, IfErr};
 ghost use Rattle.bits.specs.Refusals.{OnFault, RefusedOnly};
 ghost use Rattle.bits.specs.declared.refusal.Refusal.TheVariants.{Script};
+ghost use Rattle.serde_json.specs.Data.{depth};
 ghost use Rattle.serde_json.specs.View.{view, items_view};
 ghost use Rattle.schema.specs.Shape.{Fields};
 ghost use Rattle.schema.specs.Elements.{Element as Listed, element_view, elements_view};
-ghost use Rattle.jsonrows.specs.SchemaJson.{IsSchemaText, IsRefusedSchema};
-ghost use Rattle.jsonrows.specs.inner.SchemaReading.{has_only, length_of, numbers_of, leaf_said, said_of_group, group_said, field_said, fields_said, said_below, all_said};
+ghost use Rattle.jsonrows.specs.SchemaJson.{has_only, SaysColumn, IsSchemaText, IsRefusedSchema};
+ghost use Rattle.jsonrows.specs.inner.SchemaReading.{length_of, numbers_of, leaf_said, said_of_group, group_said, field_said, fields_said, said_below, all_said};
 ghost use Rattle.jsonrows.specs.inner.SchemaViews.{said_view, saids, Says};
 
-use crate::json_text::json_of;
 use crate::schema_elements::{Said, elements_of, kind_of};
 use crate::schema_notes::{
     int32_of, is_one_of, note_of, optional_int32, optional_word, text_of, word_of,
 };
 use bits::{R, Refusal};
+use rowtext::json_of;
 use schema::{Element, Schema};
 use serde_json::Value as Json;
 use std::alloc::{AllocError, Global};
@@ -93,8 +94,23 @@ pub fn schema_from(alloc: Global, text: &str) -> R<Schema>
     Schema::new(alloc, elements.as_slice())
 }
 
+/// The elements of one field: a leaf, or a group and the fields below it, depth first. Refused Script where the JSON value
+/// is no field.
+pub fn elements_of_field(alloc: Global, field: &Json) -> R<Vec<Element>>
+    requires { depth (view field.now) ≤ 127 }
+    ensures stands { IfOk result (λ es. SaysColumn (view field.now) (elements_view es.items)) }
+    ensures only { OnFault result ((es : List Listed) → SaysColumn (view field.now) es → ⊥) }
+    ensures which { RefusedOnly (λ e. e ≡ Script) result }
+{
+    let mut all = Vec::new(alloc);
+    if !say_field(alloc, DEEPEST, field, &mut all)? {
+        return Err(Refusal::Script);
+    }
+    elements_of(alloc, all)
+}
+
 /// Whether all members of an object are called by these names.
-fn has_only(json: &Json, names: &[&str]) -> bool
+pub fn has_only(json: &Json, names: &[&str]) -> bool
     ensures { result ≡ has_only (map (λ n. n.now) names.now) (view json.now) }
 {
     let Some(members) = json.as_object() else {

@@ -11,6 +11,7 @@ ghost use Rattle.metadata.specs.Views.{chunk_meta_view};
 ghost use Rattle.metadata.specs.Answers.{IsRecordOf};
 
 use crate::column_meta::ColumnMeta;
+use crate::copies::copied_text;
 use crate::ids::chunk as ids;
 use crate::known::{FromNode, known_as, needed_as};
 use crate::put::{ToElement, ToNode, put, put_given};
@@ -44,6 +45,21 @@ impl ChunkMeta {
     {
         let fields = fields_of_chunk_meta(alloc, self)?;
         Ok(Tree { fields })
+    }
+
+    /// A copy. It fails only when out of memory; time and room are linear in what the record holds. (A caller that gives
+    /// the chunk another path copies `meta_data` alone.)
+    pub fn copied(&self, alloc: Global) -> R<ChunkMeta>
+        ensures copies { IfOk result (λ copy. chunk_meta_view copy ≡ chunk_meta_view self.now) }
+        ensures which { RefusedMemoryOnly result }
+    {
+        let file_path = copied_text(alloc, &self.file_path)?;
+        let meta_data = self.meta_data.copied(alloc)?;
+        Ok(ChunkMeta {
+            file_path,
+            file_offset: self.file_offset,
+            meta_data,
+        })
     }
 }
 

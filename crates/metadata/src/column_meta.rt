@@ -1,15 +1,16 @@
 //! ColumnMeta: the struct, how it is read and how it is written.
 
-ghost use Rattle.std.specs.Prelude.{◌≡◌, IfOk};
+ghost use Rattle.std.specs.Prelude.{◌≡◌, option_map, IfOk};
 ghost use Rattle.bits.specs.Refusals.{RefusedMemoryOnly};
 ghost use Rattle.thrift_compact.specs.View.{field_views, tree_view};
 ghost use Rattle.metadata.specs.FieldValues.{record_by};
 ghost use Rattle.metadata.specs.ToTree.{column_meta_fields, record_as};
 ghost use Rattle.metadata.specs.FromTree.{column_meta};
 ghost use Rattle.metadata.specs.Records.{ColumnMeta as ColumnMetaShown};
-ghost use Rattle.metadata.specs.Views.{column_meta_view};
+ghost use Rattle.metadata.specs.Views.{statistics_view, column_meta_view};
 ghost use Rattle.metadata.specs.Answers.{IsRecordOf};
 
+use crate::copies::{copied_numbers, copied_texts};
 use crate::ids::column as ids;
 use crate::known::{FromNode, known_as, needed_as};
 use crate::put::{ToNode, put, put_given};
@@ -52,6 +53,41 @@ impl ColumnMeta {
     {
         let fields = fields_of_column_meta(alloc, self)?;
         Ok(Tree { fields })
+    }
+
+    /// A copy. It fails only when out of memory; time and room are linear in what the record holds.
+    pub fn copied(&self, alloc: Global) -> R<ColumnMeta>
+        ensures copies { IfOk result (λ copy. column_meta_view copy ≡ column_meta_view self.now) }
+        ensures which { RefusedMemoryOnly result }
+    {
+        let encodings = copied_numbers(alloc, &self.encodings)?;
+        let path_in_schema = copied_texts(alloc, self.path_in_schema.as_slice())?;
+        let statistics = copied_statistics(alloc, &self.statistics)?;
+        Ok(ColumnMeta {
+            kind: self.kind,
+            encodings,
+            path_in_schema,
+            codec: self.codec,
+            num_values: self.num_values,
+            total_uncompressed_size: self.total_uncompressed_size,
+            total_compressed_size: self.total_compressed_size,
+            data_page_offset: self.data_page_offset,
+            dictionary_page_offset: self.dictionary_page_offset,
+            statistics,
+        })
+    }
+}
+
+fn copied_statistics(alloc: Global, statistics: &Option<Statistics>) -> R<Option<Statistics>>
+    ensures copies { IfOk result (λ copy. option_map statistics_view copy ≡ option_map statistics_view statistics.now) }
+    ensures which { RefusedMemoryOnly result }
+{
+    match statistics {
+        Some(statistics) => {
+            let copy = statistics.copied(alloc)?;
+            Ok(Some(copy))
+        }
+        None => Ok(None),
     }
 }
 

@@ -17,6 +17,7 @@
 mod chunk_meta;
 mod column_meta;
 mod column_order;
+mod copies;
 mod data_page_header;
 mod data_page_header_v2;
 mod dictionary_page_header;

@@ -10,6 +10,7 @@ ghost use Rattle.metadata.specs.Records.{Statistics as StatisticsShown};
 ghost use Rattle.metadata.specs.Views.{statistics_view};
 ghost use Rattle.metadata.specs.Answers.{IsRecordOf};
 
+use crate::copies::copied_text;
 use crate::ids::statistics as ids;
 use crate::known::{FromNode, known_as};
 use crate::put::{ToNode, put_given};
@@ -48,6 +49,27 @@ impl Statistics {
     {
         let fields = fields_of_statistics(alloc, self)?;
         Ok(Tree { fields })
+    }
+
+    /// A copy. It fails only when out of memory; time and room are linear in the bounds.
+    pub fn copied(&self, alloc: Global) -> R<Statistics>
+        ensures copies { IfOk result (λ copy. statistics_view copy ≡ statistics_view self.now) }
+        ensures which { RefusedMemoryOnly result }
+    {
+        let max = copied_text(alloc, &self.max)?;
+        let min = copied_text(alloc, &self.min)?;
+        let max_value = copied_text(alloc, &self.max_value)?;
+        let min_value = copied_text(alloc, &self.min_value)?;
+        Ok(Statistics {
+            max,
+            min,
+            null_count: self.null_count,
+            distinct_count: self.distinct_count,
+            max_value,
+            min_value,
+            is_max_value_exact: self.is_max_value_exact,
+            is_min_value_exact: self.is_min_value_exact,
+        })
     }
 }
 

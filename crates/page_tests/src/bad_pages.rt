@@ -151,14 +151,26 @@ fn values_that_are_not_there_are_truncated(rt: HostRuntime) -> Result<(), Fail> 
         answer(alloc, longer.as_slice(), &texts)?.as_str(),
         "13 Limit"
     );
-    // BYTE_STREAM_SPLIT, BIT_PACKED, and a number of no encoding.
-    for encoding in [9, 4, 10] {
+    // BIT_PACKED, and a number of no encoding.
+    for encoding in [4, 10] {
         let other = version_1(alloc, 1, encoding, &[1, 0, 0, 0])?;
         assert_eq!(rt;
             answer(alloc, other.as_slice(), &numbers)?.as_str(),
             "8 Encoding"
         );
     }
+    // In BYTE_STREAM_SPLIT a number is read, byte arrays are not, and there are too few bytes for two numbers.
+    let split = version_1(alloc, 1, 9, &[1, 0, 0, 0])?;
+    assert_eq!(rt; answer(alloc, split.as_slice(), &numbers)?.as_str(), "read");
+    assert_eq!(rt;
+        answer(alloc, split.as_slice(), &texts)?.as_str(),
+        "8 Encoding"
+    );
+    let short = version_1(alloc, 2, 9, &[1, 0, 0, 0, 0, 0, 0])?;
+    assert_eq!(rt;
+        answer(alloc, short.as_slice(), &numbers)?.as_str(),
+        "1 Truncated"
+    );
     Ok(())
 }
 

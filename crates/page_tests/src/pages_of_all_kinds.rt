@@ -324,6 +324,26 @@ fn byte_values_are_read_by_lengths_and_prefixes(rt: HostRuntime) -> Result<(), F
 }
 
 #[test]
+fn split_values_are_read_in_both_versions(rt: HostRuntime) -> Result<(), Fail> {
+    let alloc = rt.alloc();
+    let short = leaf_of(alloc, Kind::Int32, None, (0, 0));
+    let numbers = [1, 0, 0xFF, 0, 1, 0xFF, 0, 0, 0xFF, 0, 0, 0xFF];
+    let shown = [number(0, 0, 1), number(0, 0, 256), number(0, 0, -1)];
+    let first = version_1(alloc, 3, 9, &numbers)?;
+    assert!(rt; holds(alloc, &first, &short, &shown)?);
+    let second = version_2(alloc, 3, 9, (0, 0), &numbers)?;
+    assert!(rt; holds(alloc, &second, &short, &shown)?);
+    let cut = version_2(alloc, 3, 9, (0, 0), &numbers[..11])?;
+    assert!(rt; matches!(refusal_of(alloc, &cut, &short), Some(Refusal::Truncated)));
+    let fixed = leaf_of(alloc, Kind::FixedLenByteArray(3), None, (0, 0));
+    let texts = version_1(alloc, 2, 9, b"adbecf")?;
+    assert!(rt; holds(alloc, &texts, &fixed, &[text(b"abc"), text(b"def")])?);
+    let bytes = leaf_of(alloc, Kind::ByteArray, None, (0, 0));
+    assert!(rt; matches!(refusal_of(alloc, &texts, &bytes), Some(Refusal::Encoding)));
+    Ok(())
+}
+
+#[test]
 fn levels_are_at_most_the_greatest(rt: HostRuntime) -> Result<(), Fail> {
     let alloc = rt.alloc();
     let leaf = leaf_of(alloc, Kind::Int32, None, (0, 2));

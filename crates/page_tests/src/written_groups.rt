@@ -39,6 +39,13 @@ const ONE_PAGE: ChunkOptions = ChunkOptions {
     style: Style::Plain,
 };
 
+/// A dictionary and its indexes, in one page of version 1.
+const ONE_DICTIONARY: ChunkOptions = ChunkOptions {
+    page_rows: 20_000,
+    page_version: PageVersion::V1,
+    style: Style::Dictionary,
+};
+
 /// The record of a group of these rows, after what is in `out`.
 fn written(alloc: Global, schema: &Schema, rows: [Row; 2], out: &mut Vec<u8>) -> R<GroupMeta> {
     let rows = Vec::from_array(alloc, rows)?;
@@ -185,12 +192,24 @@ fn a_row_that_does_not_fit_is_refused_row_shape(rt: HostRuntime) -> Result<(), F
 }
 
 #[test]
-fn a_group_is_not_written_at_the_front_of_a_file(rt: HostRuntime) -> Result<(), Fail> {
+fn a_group_without_dictionaries_is_written_at_the_front(rt: HostRuntime) -> Result<(), Fail> {
     let alloc = rt.alloc();
     let schema = numbers(alloc, 0)?;
     let rows = [row(alloc, 1)?, row(alloc, 300)?];
     let mut out = Vec::new(alloc);
-    let answer = written(alloc, &schema, rows, &mut out);
+    let meta = written(alloc, &schema, rows, &mut out)?;
+    assert!(rt; meta.total_byte_size == Some(33));
+    assert_eq!(rt; out.len(), 33);
+    Ok(())
+}
+
+#[test]
+fn a_dictionary_is_not_written_at_the_front(rt: HostRuntime) -> Result<(), Fail> {
+    let alloc = rt.alloc();
+    let schema = numbers(alloc, 0)?;
+    let rows = [row(alloc, 1)?, row(alloc, 300)?];
+    let mut out = Vec::new(alloc);
+    let answer = write_group(alloc, &schema, ONE_DICTIONARY, &rows, &mut out);
     assert!(rt; matches!(&answer, Err(Refusal::Limit)));
     assert_eq!(rt; out.len(), 0);
     Ok(())

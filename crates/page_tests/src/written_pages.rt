@@ -111,7 +111,7 @@ const UNFIT: [(Kind, Encoding); 9] = [
     (Kind::ByteArray, Encoding::DeltaBinaryPacked),
     (Kind::ByteArray, Encoding::BitPacked),
     (Kind::FixedLenByteArray(2), Encoding::DeltaLengthByteArray),
-    (Kind::Int32, Encoding::ByteStreamSplit),
+    (Kind::ByteArray, Encoding::ByteStreamSplit),
 ];
 
 /// Entries that are none of a leaf whose greatest levels are 1 and 1, and how they are refused.

@@ -18,8 +18,9 @@ use Rattle.schema.specs.declared.value.Kind.{Kind}
 use Rattle.schema.specs.declared.value.Kind.TheVariants.{Boolean, Int32, Int64, ByteArray, FixedLenByteArray}
 use Rattle.schema.specs.Values.{ValueTree, boolean, integer, bytes as byte_value}
 use Rattle.plain.specs.Plain.{IsPlain}
+use Rattle.plain.specs.Split.{IsSplit}
 use Rattle.pages.specs.declared.encoding.Encoding.{Encoding}
-use Rattle.pages.specs.declared.encoding.Encoding.TheVariants.{Plain, PlainDictionary, Rle, DeltaBinaryPacked, DeltaLengthByteArray, DeltaByteArray, RleDictionary}
+use Rattle.pages.specs.declared.encoding.Encoding.TheVariants.{Plain, PlainDictionary, Rle, DeltaBinaryPacked, DeltaLengthByteArray, DeltaByteArray, RleDictionary, ByteStreamSplit}
 use Rattle.pages.specs.Encodings.{IsPrefixed, AreRleBooleans, AreOfDictionary, AreDeltas, AreValues}
 use Rattle.pages.specs.Page.{AreLevels, AreLevelsOrZero, IsSectionV1, IsSectionV2, Spell}
 
@@ -40,6 +41,7 @@ DeltasAreOne = (w : Width) (n : ℕ) → IsFunctional (λ bytes. IsDelta w bytes
 -- what the crates of the encodings prove
 pub record ListsAreOne : Type 0 where
   pub plain : PlainsAreOne
+  pub split : (kind : Kind) (n : ℕ) → IsFunctional (IsSplit kind n)
   pub hybrid : HybridsAreOne
   pub indexed : IndexedAreOne
   pub deltas : DeltasAreOne
@@ -124,6 +126,7 @@ one_values laws d Int64 (Some DeltaBinaryPacked) text vs ws size p q = one_numbe
 one_values laws d ByteArray (Some DeltaLengthByteArray) text vs ws size p q = one_byte_values (λ n bytes. IsByteLengths bytes n) laws.lengths text vs ws p.0 q.0 size p.1 q.1
 one_values laws d ByteArray (Some DeltaByteArray) text vs ws size p q = one_byte_values (λ n bytes. IsSharedPrefixes bytes n) laws.prefixes text vs ws p.0 q.0 size p.1 q.1
 one_values laws d (FixedLenByteArray k) (Some DeltaByteArray) text vs ws size p q = one_byte_values (λ n bytes. IsSharedPrefixes bytes n) laws.prefixes text vs ws p.0 q.0 size p.1 q.1
+one_values laws d kind (Some ByteStreamSplit) text vs ws size p q = one_of_so_many (λ n bytes. IsSplit kind n bytes) (length vs) (length ws) text vs ws p.0 q.0 (laws.split kind (length ws)) size p.1 q.1
 one_values laws d kind e text vs ws size p q = absurd p
 
 none_left : (vs ws : List ValueTree) → length vs ≡ length ws → vs ≡ [] → vs ≡ ws

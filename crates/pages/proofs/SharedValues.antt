@@ -9,12 +9,13 @@ use Rattle.delta.specs.ByteDeltas.{AreCompleted, IsPrefixed, IsLengthsOver, IsPr
 use Rattle.delta.specs.ValuesLeft.{values_left, last_taken, Advances}
 use Rattle.delta.specs.declared.prefixes.Prefixed.{Prefixed}
 use Rattle.schema.specs.declared.value.Kind.{Kind}
-use Rattle.schema.specs.declared.value.Kind.TheVariants.{ByteArray, FixedLenByteArray}
+use Rattle.schema.specs.declared.value.Kind.TheVariants.{Boolean, Int32, Int64, ByteArray, FixedLenByteArray}
 use Rattle.schema.specs.Annotations.{LeafType}
 use Rattle.schema.specs.Fits.{fits_leaf}
 use Rattle.schema.specs.Values.{bytes}
 use Rattle.pages.specs.declared.encoding.Encoding.{Encoding}
-use Rattle.pages.specs.declared.encoding.Encoding.TheVariants.{Plain, DeltaLengthByteArray, DeltaByteArray}
+use Rattle.pages.specs.declared.encoding.Encoding.TheVariants.{Plain, DeltaLengthByteArray, DeltaByteArray, ByteStreamSplit}
+use Rattle.plain.specs.Split.{IsSplitReadOver}
 use Rattle.pages.specs.Limits.{IsValueOver}
 use Rattle.pages.specs.inner.Reading.{AllFit}
 
@@ -56,9 +57,17 @@ no_lengths_over text p = no_end p.lengths (sizes p.over.before) (pos p.over.anno
 no_prefixes_over : (text : List ℕ) → IsPrefixesOver text 0 → ⊥
 no_prefixes_over text p = no_end p.prefixes (map pos p.over.before) (pos p.over.prefix) p.over.later_prefixes (delta_count w32 text 0 p.prefixes p.at p.shared) p.over.prefixes_are
 
+no_split_over : (kind : Kind) (text : List ℕ) (n : ℕ) → n ≡ 0 → IsSplitReadOver kind text n → ⊥
+no_split_over Boolean text n none p = p
+no_split_over Int32 text n none p = p
+no_split_over Int64 text n none p = p
+no_split_over ByteArray text n none p = p
+no_split_over (FixedLenByteArray size) text n none p = omega (arith, p.0, none)
+
 pub nothing_over : (kind : Kind) (e : Option Encoding) (text : List ℕ) (n : ℕ) → n ≡ 0 → IsValueOver kind e text n → ⊥
 nothing_over kind (Some Plain) text n none p = omega (arith, p.few, none)
 nothing_over ByteArray (Some DeltaLengthByteArray) text n none p = no_lengths_over text (subst (IsLengthsOver text) none p)
 nothing_over ByteArray (Some DeltaByteArray) text n none p = no_prefixes_over text (subst (IsPrefixesOver text) none p)
 nothing_over (FixedLenByteArray size) (Some DeltaByteArray) text n none p = no_prefixes_over text (subst (IsPrefixesOver text) none p)
+nothing_over kind (Some ByteStreamSplit) text n none p = no_split_over kind text n none p
 nothing_over kind e text n none p = absurd p

@@ -18,9 +18,10 @@ use Rattle.metadata.specs.Records.{PageHeader, DataPageHeader, DataPageHeaderV2,
 use Rattle.metadata.specs.FromTree.{page_header}
 use Rattle.metadata.specs.Answers.{StandsFor}
 use Rattle.plain.specs.Plain.{IsSpelled, IsPlain, AnnouncesTooMuch, IsReadOver, IsTooLong}
-use Rattle.plain.proofs.Spelled.{one_spelled}
+use Rattle.plain.specs.Split.{IsSplit, IsSplitReadOver}
+use Rattle.plain.proofs.Spelled.{one_spelled, of_fixed}
 use Rattle.pages.specs.declared.encoding.Encoding.{Encoding}
-use Rattle.pages.specs.declared.encoding.Encoding.TheVariants.{Plain, DeltaLengthByteArray, DeltaByteArray}
+use Rattle.pages.specs.declared.encoding.Encoding.TheVariants.{Plain, DeltaLengthByteArray, DeltaByteArray, ByteStreamSplit}
 use Rattle.pages.specs.Encodings.{encoding_of, AreValues}
 use Rattle.pages.specs.Page.{Page, skipped, dictionary, entries, repetitions, definitions, values, Spell, AreLevelsV1, AreLevelsV2, IsBodyV1, IsBodyV2, IsBody}
 use Rattle.pages.specs.Limits.{IsValueOver, full, IsBodyOver, in_version_1, in_version_2, in_dictionary}
@@ -108,6 +109,18 @@ prefixes_short law text vs used p short over =
     completed_short [] [] s.prefixes o.before s.suffixes o.suffixes p.texts o.values o.prefix o.announced o.later_prefixes o.later_lengths s.completed o.completed
     (subst (λ (ws : List ValueTree). AllShort ws) p.are short) (first.0 ∙ o.prefixes_are) (second.0 ∙ o.lengths_are) o.much
 
+-- ---- split values
+
+split_short : (kind : Kind) (text : List ℕ) (vs : List ValueTree) (used n : ℕ) → n ≡ length vs → IsSplit kind (length vs) text vs used → AllShort vs → IsSplitReadOver kind text n → ⊥
+split_short Boolean text vs used n size p short over = over
+split_short Int32 text vs used n size p short over = over
+split_short Int64 text vs used n size p short over = over
+split_short ByteArray text vs used n size p short over = over
+split_short (FixedLenByteArray k) text [] used n size p short over = omega (arith, size, over.0)
+split_short (FixedLenByteArray k) text (v ∷ vs) used n size p short over =
+    let first = of_fixed k v (p.of_kind 0 v (omega arith)) in
+    short.0 (subst IsTooLong (sym first.1) (omega (arith, first.3, over.1)))
+
 -- ---- values in any encoding
 
 values_short : DeltasAreOne → (d : Option (List ValueTree)) (kind : Kind) (e : Option Encoding) (text : List ℕ) (vs : List ValueTree) (n : ℕ) → n ≡ length vs → AreValues d kind e text vs → AllShort vs → IsValueOver kind e text n → ⊥
@@ -115,6 +128,7 @@ values_short law d kind (Some Plain) text vs n size p short over = plain_short k
 values_short law d ByteArray (Some DeltaLengthByteArray) text vs n size p short over = lengths_short law text vs p.0 p.1 short (subst (IsLengthsOver text) size over)
 values_short law d ByteArray (Some DeltaByteArray) text vs n size p short over = prefixes_short law text vs p.0 p.1 short (subst (IsPrefixesOver text) size over)
 values_short law d (FixedLenByteArray k) (Some DeltaByteArray) text vs n size p short over = prefixes_short law text vs p.0 p.1 short (subst (IsPrefixesOver text) size over)
+values_short law d kind (Some ByteStreamSplit) text vs n size p short over = split_short kind text vs p.0 n size p.1 short over
 values_short law d kind e text vs n size p short over = absurd over
 
 spelled_short : DeltasAreOne → (d : Option (List ValueTree)) (kind : Kind) (e : Option Encoding) (text : List ℕ) (vs : List ValueTree) (n : ℕ) → n ≡ length vs → Spell (AreValues d kind e) text vs → AllShort vs → IsValueOver kind e text n → ⊥

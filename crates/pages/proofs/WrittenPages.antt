@@ -107,6 +107,7 @@ values_stand d Int64 DeltaBinaryPacked vs text p = (p.0, length text, p.1, p.2)
 values_stand d ByteArray DeltaLengthByteArray vs text p = (length text, p)
 values_stand d ByteArray DeltaByteArray vs text p = (length text, p)
 values_stand d (FixedLenByteArray n) DeltaByteArray vs text p = (length text, p)
+values_stand d kind ByteStreamSplit vs text p = (length text, p)
 values_stand d kind encoding vs text p = absurd p
 
 -- so do indexes, in a chunk with their dictionary

@@ -11,6 +11,7 @@ use Rattle.schema.specs.declared.value.Kind.{Kind}
 use Rattle.schema.specs.declared.value.Kind.TheVariants.{Boolean, Int32, Int64, ByteArray, FixedLenByteArray}
 use Rattle.schema.specs.Values.{ValueTree, boolean, integer}
 use Rattle.plain.specs.Plain.{IsPlain}
+use Rattle.plain.specs.Split.{IsSplit}
 use Rattle.pages.specs.declared.encoding.Encoding.{Encoding}
 use Rattle.pages.specs.declared.encoding.Encoding.TheVariants.{Plain, PlainDictionary, Rle, BitPacked, DeltaBinaryPacked, DeltaLengthByteArray, DeltaByteArray, RleDictionary, ByteStreamSplit}
 
@@ -64,6 +65,10 @@ AreByLengths text values = (used : ℕ) × StandForBytes (IsByteLengths text (le
 abbrev pub AreByPrefixes : List ℕ → List ValueTree → Type 0
 AreByPrefixes text values = (used : ℕ) × StandForBytes (IsSharedPrefixes text (length values)) values used
 
+-- values whose bytes stand apart, in streams (Encodings.md, "Byte Stream Split")
+abbrev pub AreSplit : Kind → List ℕ → List ValueTree → Type 0
+AreSplit kind text values = (used : ℕ) × IsSplit kind (length values) text values used
+
 -- The table of encodings: the values of a leaf of this type stand in the text, in a chunk that has this dictionary.
 -- What has no line has no values.
 abbrev pub AreValues : Option (List ValueTree) → Kind → Option Encoding → List ℕ → List ValueTree → Type 0
@@ -76,4 +81,5 @@ AreValues dictionary Int64 (Some DeltaBinaryPacked) text values = AreDeltas w64 
 AreValues dictionary ByteArray (Some DeltaLengthByteArray) text values = AreByLengths text values
 AreValues dictionary ByteArray (Some DeltaByteArray) text values = AreByPrefixes text values
 AreValues dictionary (FixedLenByteArray n) (Some DeltaByteArray) text values = AreByPrefixes text values
+AreValues dictionary kind (Some ByteStreamSplit) text values = AreSplit kind text values
 AreValues dictionary kind encoding text values = ⊥

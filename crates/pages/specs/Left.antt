@@ -7,11 +7,12 @@ use Rattle.schema.specs.Stripe.{Entry}
 use Rattle.schema.specs.declared.borrowed.ValueRef.{ValueRef}
 use Rattle.schema.specs.Borrowed.{value_ref_view}
 use Rattle.plain.specs.ValuesLeft.{values_left as plain_values_left, last_taken as last_plain_taken}
+use Rattle.plain.specs.SplitLeft.{values_left as split_values_left, last_taken as last_split_taken}
 use Rattle.delta.specs.ValuesLeft.{values_left as byte_values_left, last_taken}
 use Rattle.pages.specs.declared.level_list.LevelList.{LevelList}
 use Rattle.pages.specs.declared.level_list.LevelList.TheVariants.{Zeros, Listed as ListedLevels}
 use Rattle.pages.specs.declared.page_values.PageValues.{PageValues}
-use Rattle.pages.specs.declared.page_values.PageValues.TheVariants.{Listed, Plain, Shared}
+use Rattle.pages.specs.declared.page_values.PageValues.TheVariants.{Listed, Plain, Shared, Split}
 use Rattle.pages.specs.declared.page_values.ListedValues.{ListedValues}
 use Rattle.pages.specs.declared.levelled_page.LevelledPage.{LevelledPage}
 use Rattle.pages.specs.declared.data_page.DataPage.{DataPage}
@@ -32,12 +33,14 @@ abbrev pub values_left : PageValues → List ValueTree
 values_left (Listed values) = listed_left values
 values_left (Plain values) = plain_values_left values
 values_left (Shared values) = map bytes (byte_values_left values)
+values_left (Split values) = split_values_left values
 
 -- the value that was taken last
 abbrev pub value_taken : PageValues → ValueTree
 value_taken (Listed values) = value_ref_view values.taken
 value_taken (Plain values) = last_plain_taken values
 value_taken (Shared values) = bytes (last_taken values)
+value_taken (Split values) = last_split_taken values
 
 -- one value of a list is taken, or none at the end
 abbrev pub TakesListed : ListedValues → ListedValues → Bool → Type 0

@@ -7,9 +7,10 @@ use Rattle.schema.specs.declared.value.Kind.TheVariants.{ByteArray, FixedLenByte
 use Rattle.schema.specs.Stripe.{Leaf}
 use Rattle.metadata.specs.Records.{PageHeader, DataPageHeader, DictionaryPageHeader, DataPageHeaderV2}
 use Rattle.plain.specs.Plain.{IsReadOver}
+use Rattle.plain.specs.Split.{IsSplitReadOver}
 use Rattle.delta.specs.ByteDeltas.{IsLengthsOver, IsPrefixesOver}
 use Rattle.pages.specs.declared.encoding.Encoding.{Encoding}
-use Rattle.pages.specs.declared.encoding.Encoding.TheVariants.{Plain, DeltaLengthByteArray, DeltaByteArray}
+use Rattle.pages.specs.declared.encoding.Encoding.TheVariants.{Plain, DeltaLengthByteArray, DeltaByteArray, ByteStreamSplit}
 use Rattle.pages.specs.Encodings.{encoding_of}
 use Rattle.pages.specs.Page.{AreLevelsV1, AreLevelsV2, IsEncodingOfDictionary, IsFramed}
 
@@ -19,6 +20,7 @@ IsValueOver kind (Some Plain) text n = IsReadOver kind text n
 IsValueOver ByteArray (Some DeltaLengthByteArray) text n = IsLengthsOver text n
 IsValueOver ByteArray (Some DeltaByteArray) text n = IsPrefixesOver text n
 IsValueOver (FixedLenByteArray size) (Some DeltaByteArray) text n = IsPrefixesOver text n
+IsValueOver kind (Some ByteStreamSplit) text n = IsSplitReadOver kind text n
 IsValueOver kind encoding text n = ⊥
 
 -- how many entries with these definition levels have a value

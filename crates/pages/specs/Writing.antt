@@ -8,9 +8,10 @@ use Rattle.schema.specs.declared.value.Kind.TheVariants.{Boolean, Int32, Int64, 
 use Rattle.schema.specs.Values.{ValueTree}
 use Rattle.schema.specs.Stripe.{Leaf, Entry}
 use Rattle.plain.specs.Plain.{IsTooLong, text_size}
+use Rattle.plain.specs.Split.{CanBeSplit}
 use Rattle.dictionary.specs.Entries.{AreEntriesAt}
 use Rattle.pages.specs.declared.encoding.Encoding.{Encoding}
-use Rattle.pages.specs.declared.encoding.Encoding.TheVariants.{Plain, Rle, DeltaBinaryPacked, DeltaLengthByteArray, DeltaByteArray}
+use Rattle.pages.specs.declared.encoding.Encoding.TheVariants.{Plain, Rle, DeltaBinaryPacked, DeltaLengthByteArray, DeltaByteArray, ByteStreamSplit}
 use Rattle.pages.specs.Greatest.{most_of_page}
 use Rattle.pages.specs.Page.{IsPage, entries, dictionary, values}
 
@@ -23,6 +24,7 @@ IsEncodingFor Int64 DeltaBinaryPacked = Unit {0}
 IsEncodingFor ByteArray DeltaLengthByteArray = Unit {0}
 IsEncodingFor ByteArray DeltaByteArray = Unit {0}
 IsEncodingFor (FixedLenByteArray n) DeltaByteArray = Unit {0}
+IsEncodingFor kind ByteStreamSplit = CanBeSplit kind
 IsEncodingFor kind encoding = ⊥
 
 -- a page of n entries with these values weighs 1,024 bytes, 64 an entry, and the bytes of its byte values

@@ -9,8 +9,9 @@ use Rattle.schema.specs.declared.value.Kind.{Kind}
 use Rattle.schema.specs.declared.value.Kind.TheVariants.{Boolean, Int32, Int64, ByteArray, FixedLenByteArray}
 use Rattle.schema.specs.Values.{ValueTree, boolean, integer}
 use Rattle.plain.specs.Plain.{IsPlain, HasZeroPadding}
+use Rattle.plain.specs.Split.{IsSplit}
 use Rattle.pages.specs.declared.encoding.Encoding.{Encoding}
-use Rattle.pages.specs.declared.encoding.Encoding.TheVariants.{Plain, Rle, DeltaBinaryPacked, DeltaLengthByteArray, DeltaByteArray}
+use Rattle.pages.specs.declared.encoding.Encoding.TheVariants.{Plain, Rle, DeltaBinaryPacked, DeltaLengthByteArray, DeltaByteArray, ByteStreamSplit}
 use Rattle.pages.specs.Encodings.{IsPrefixed}
 
 -- booleans by RLE: a length in four bytes, and that many bytes of the hybrid of width 1, which fills them
@@ -36,6 +37,7 @@ AreWritten Int64 DeltaBinaryPacked values bytes used = AreDeltasIn w64 values by
 AreWritten ByteArray DeltaLengthByteArray values bytes used = StandForBytes (IsByteLengths bytes (length values)) values used
 AreWritten ByteArray DeltaByteArray values bytes used = StandForBytes (IsSharedPrefixes bytes (length values)) values used
 AreWritten (FixedLenByteArray n) DeltaByteArray values bytes used = StandForBytes (IsSharedPrefixes bytes (length values)) values used
+AreWritten kind ByteStreamSplit values bytes used = IsSplit kind (length values) bytes values used
 AreWritten kind encoding values bytes used = ⊥
 
 -- values that fill these bytes

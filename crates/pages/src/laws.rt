@@ -34,6 +34,7 @@ pub fn one_page()
 {
     one_page_header();
     plain::one_list();
+    plain::one_split_list();
     hybrid_rle::one_list();
     one_list_of_values();
     delta::one_list();

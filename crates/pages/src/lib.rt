@@ -32,6 +32,7 @@ mod plain_page_writing;
 mod plain_values;
 mod section_writing;
 mod shared_values;
+mod split_values;
 mod standing;
 mod value_checks;
 mod value_reading;

@@ -4,17 +4,18 @@ ghost use Rattle.std.specs.Prelude.{◌≡◌};
 
 use bits::Fault;
 use delta::Prefixed;
-use plain::Values;
+use plain::{SplitValues, Values};
 use schema::ValueRef;
 
 /// The values of a data page that are not taken yet: a list of them, those in PLAIN, which are read
-/// where they lie, or those that share prefixes. Of the last two only the value that was taken last is
-/// held.
+/// where they lie, those that share prefixes, or split ones. Of PLAIN and shared ones only the value that
+/// was taken last is held; the bytes of split ones lie apart, and are held in one buffer.
 #[derive(Debug, Drop)]
 pub enum PageValues<'a> {
     Listed(ListedValues<'a>),
     Plain(Values<'a>),
     Shared(Prefixed<'a>),
+    Split(SplitValues),
 }
 
 /// Values, the first `index` of which are taken.
@@ -51,6 +52,7 @@ impl<'a> PageValues<'a> {
             PageValues::Listed(values) => Ok(values.advance()),
             PageValues::Plain(values) => Ok(values.advance()),
             PageValues::Shared(values) => values.advance(),
+            PageValues::Split(values) => Ok(values.advance()),
         }
     }
 
@@ -71,6 +73,7 @@ impl<'a> PageValues<'a> {
             PageValues::Listed(values) => values.taken,
             PageValues::Plain(values) => values.value(),
             PageValues::Shared(values) => ValueRef::Bytes(values.value()),
+            PageValues::Split(values) => values.value(),
         }
     }
 }

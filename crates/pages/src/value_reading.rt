@@ -17,6 +17,7 @@ use crate::level_reading::split_prefixed;
 use crate::page_values::PageValues;
 use crate::plain_values::read_plain;
 use crate::shared_values::read_shared;
+use crate::split_values::read_split;
 use crate::standing::Standing;
 use crate::value_checks::check_values;
 use bits::{R, Refusal};
@@ -54,6 +55,7 @@ pub fn read_values<'a>(
         None => Err(Refusal::Encoding),
         Some(Encoding::Plain) => read_plain(leaf_type, bytes, count, standing),
         Some(Encoding::DeltaByteArray) => read_shared(alloc, leaf_type, bytes, count),
+        Some(Encoding::ByteStreamSplit) => read_split(alloc, leaf_type, bytes, count),
         Some(encoding) => {
             let values = read_listed(alloc, encoding, leaf_type, dictionary, bytes, count)?;
             Ok(PageValues::of(values))
@@ -72,6 +74,7 @@ fn read_listed<'a>(
 ) -> R<Vec<ValueRef<'a>>>
     requires not_plain { encoding ≡ Encoding.Plain → ⊥ }
     requires not_shared { encoding ≡ Encoding.DeltaByteArray → ⊥ }
+    requires not_split { encoding ≡ Encoding.ByteStreamSplit → ⊥ }
     ensures stands { let d = dictionary_view dictionary.entry in
         IfOk result (λ vs. AreLeafValues d (leaf_type_view leaf_type.now) (Some encoding) bytes.now count (map value_ref_view vs.items)) }
     ensures within_limits { OnOk result (IsValueOver leaf_type.now.kind (Some encoding) bytes.now count → ⊥) }

@@ -15,6 +15,7 @@ ghost use Rattle.pages.specs.inner.Put.{most_of_values, IsOfValueWriting};
 use crate::encoding::Encoding;
 use crate::limits::MOST_BYTES_OF_PAGE;
 use crate::section_writing::put_length;
+use crate::split_values::put_split;
 use bits::{R, Refusal};
 use delta::{encode_i32, encode_i64, encode_lengths, encode_prefixes};
 use schema::{Kind, ValueRef};
@@ -51,6 +52,7 @@ pub(crate) fn put_values(
         (Encoding::DeltaLengthByteArray, Kind::ByteArray) => encode_lengths(values, out),
         (Encoding::DeltaByteArray, Kind::ByteArray) => encode_prefixes(values, out),
         (Encoding::DeltaByteArray, Kind::FixedLenByteArray(_)) => encode_prefixes(values, out),
+        (Encoding::ByteStreamSplit, _) => put_split(kind, values, out),
         _ => Err(Refusal::Encoding),
     }
 }

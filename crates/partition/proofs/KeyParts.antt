@@ -1,16 +1,15 @@
 -- The key of a row, and the row without it.
-use Rattle.std.proofs.Common.{◌≡◌, ℕ, zero, suc, ◌+◌, ◌<◌, ◌≤◌, Bool, true, false, List, [], ◌∷◌, ◌++◌, length, get_or, set, drop, take, map, refl, ap, sym, subst, ◌∙◌, arith, add-one, append_assoc}
+use Rattle.std.proofs.Common.{◌≡◌, ℕ, zero, suc, ◌+◌, ◌<◌, ◌≤◌, Bool, true, false, List, [], ◌∷◌, ◌++◌, length, get_or, drop, map, refl, ap, sym, subst, ◌∙◌, arith, add-one, append_assoc}
 use Rattle.std.specs.Prelude.{cond}
 use Rattle.std.proofs.lemmas.Bool.{false≢true, and_parts}
-use Rattle.std.proofs.lemmas.List.{append-nil, get_or_default, length-set, take_more_set, take-set-le, drop-set-lt}
+use Rattle.std.proofs.lemmas.List.{append-nil}
 use Rattle.schema.specs.declared.key.KeyColumn.{KeyColumn as CodeKeyColumn}
-use Rattle.schema.specs.declared.value.Value.{Value, Null as value_null}
+use Rattle.schema.specs.declared.value.Value.{Value}
 use Rattle.schema.specs.Values.{ValueTree, ValueTrees, value as item, view, trees_of, member_at}
 use Rattle.schema.specs.Keys.{key_columns_view, key_of_row, values_besides}
 use Rattle.partition.specs.Folders.{is_key_value, is_key}
 use Rattle.partition.specs.inner.Parts.{IsNoKeyValue, besides}
 use Rattle.partition.proofs.Partitioning.{no_member, null_is_no_key}
-use Rattle.partition.proofs.WithKeys.{map_push}
 
 -- ---- the key
 
@@ -58,55 +57,11 @@ besides_trees gone i (v ∷ vs) = by (gone i) (besides_trees gone (suc i) vs)
     by true h = h
     by false h = ap (item v) h
 
--- the values from a place on
-pub besides_from : (gone : ℕ → Bool) (at : ℕ) (values : List Value) (i : ℕ) (d : Value) → i < length values
-    → besides gone at (map view (drop i values)) ≡ cond (gone at) (besides gone (suc at) (map view (drop (suc i) values))) (view (get_or values i d) ∷ besides gone (suc at) (map view (drop (suc i) values)))
-besides_from gone at [] i d h = absurd (omega (arith, h))
-besides_from gone at (v ∷ values) zero d h = refl
-besides_from gone at (v ∷ values) (suc i) d h = besides_from gone at values i d (omega (arith, h))
-
-drop_set : (values : List Value) (i : ℕ) (v : Value) → drop (suc i) (set values i v) ≡ drop (suc i) values
-drop_set [] i v = refl
-drop_set (w ∷ values) zero v = refl
-drop_set (w ∷ values) (suc i) v = drop_set values i v
-
--- the next value is moved
-pub moved_on : (gone : ℕ → Bool) (values : List Value) (at : ℕ) (v w : Value) (done all : List ValueTree) → at < length values → v ≡ get_or values at v → gone at ≡ false
-    → done ++ besides gone at (map view (drop at values)) ≡ all → (done ++ view v ∷ []) ++ besides gone (at + 1) (map view (drop (at + 1) (set values at w))) ≡ all
-moved_on gone values at v w done all h is kept so =
-    let rest = besides gone (suc at) (map view (drop (suc at) values)) in
-    let here : besides gone at (map view (drop at values)) ≡ view v ∷ rest
-    = besides_from gone at values at v h ∙ ap (λ (b : Bool). cond b rest (view (get_or values at v) ∷ rest)) kept ∙ ap (λ (x : Value). view x ∷ rest) (sym is) in
-    rw (add-one at, drop_set values at w) (append_assoc done (view v ∷ []) rest ∙ ap (λ (l : List ValueTree). done ++ l) (sym here) ∙ so)
-
--- the next value is of the key
-pub left_out : (gone : ℕ → Bool) (values : List Value) (at : ℕ) (done all : List ValueTree) → at < length values → gone at ≡ true
-    → done ++ besides gone at (map view (drop at values)) ≡ all → done ++ besides gone (at + 1) (map view (drop (at + 1) values)) ≡ all
-left_out gone values at done all h taken so =
-    let rest = besides gone (suc at) (map view (drop (suc at) values)) in
-    let here : besides gone at (map view (drop at values)) ≡ rest
-    = besides_from gone at values at value_null h ∙ ap (λ (b : Bool). cond b rest (view (get_or values at value_null) ∷ rest)) taken in
-    rw (add-one at) (ap (λ (l : List ValueTree). done ++ l) (sym here) ∙ so)
-
 besides_ends : (gone : ℕ → Bool) (values : List Value) (at i : ℕ) → length values ≤ i → besides gone at (map view (drop i values)) ≡ []
 besides_ends gone [] at zero h = refl
 besides_ends gone [] at (suc i) h = refl
 besides_ends gone (v ∷ values) at zero h = absurd (omega (arith, h))
 besides_ends gone (v ∷ values) at (suc i) h = besides_ends gone values at i (omega (arith, h))
-
--- the next value is kept, after those that were
-pub kept_on : (gone : ℕ → Bool) (values new : List Value) (at kept : ℕ) (all : List ValueTree) → at < length values → kept ≤ at → gone at ≡ false → new ≡ set (set values at (get_or values kept value_null)) kept (get_or values at value_null)
-    → map view (take kept values) ++ besides gone at (map view (drop at values)) ≡ all → map view (take (kept + 1) new) ++ besides gone (at + 1) (map view (drop (at + 1) new)) ≡ all
-kept_on gone values new at kept all h before stays swapped so =
-    let v = get_or values at value_null in
-    let w = get_or values kept value_null in
-    let first = set values at w in
-    let long : kept < length first = subst (λ (n : ℕ). kept < n) (sym (length-set values at w)) (omega (arith, h, before)) in
-    let taken : take (kept + 1) new ≡ take kept values ++ v ∷ []
-    = ap (take (kept + 1)) swapped ∙ take_more_set first kept v long ∙ ap (λ (l : List Value). l ++ v ∷ []) (take-set-le kept values at w before) in
-    let left : drop (at + 1) new ≡ drop (at + 1) first
-    = ap (drop (at + 1)) swapped ∙ drop-set-lt (at + 1) first kept v (omega (arith, before)) in
-    rw (taken, left, map_push view (take kept values) v) (moved_on gone values at v w (map view (take kept values)) all h (get_or_default values at value_null v h) stays so)
 
 pub all_moved : (gone : ℕ → Bool) (values row : List Value) (at : ℕ) (done : List ValueTree) → length values ≤ at → done ++ besides gone at (map view (drop at values)) ≡ besides gone 0 (map view row)
     → trees_of done ≡ values_besides gone 0 (trees_of (map view row))

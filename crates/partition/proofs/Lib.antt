@@ -15,3 +15,4 @@ pub mod Naming
 pub mod PartNaming
 pub mod Roots
 pub mod Ends
+pub mod Nested

@@ -1,4 +1,5 @@
 pub mod Folders
+pub mod Nesting
 pub mod Order
 pub mod Splitting
 pub mod inner

@@ -1,6 +1,7 @@
 //! What holds of the definitions.
 
 ghost use Rattle.partition.specs.Folders.{PathsNameKeys, PartPathsNameParts, PartPathsAreNotRoots, KeysCanPartition};
+ghost use Rattle.partition.specs.Nesting.{FewerCanPartition, FoldersNest, PartNamesArePlain};
 
 /// A path names one key: the paths of different keys differ.
 #[tactic(auto, using(crate::proofs::Naming::paths_name_keys))]
@@ -24,4 +25,19 @@ pub fn part_paths_are_not_roots()
 #[tactic(auto, using(crate::proofs::KeyColumns::keys_can))]
 pub fn schema_keys_can_partition()
     ensures { KeysCanPartition }
+{}
+
+/// A key that can partition can do so by its first columns.
+pub fn fewer_columns_can_partition()
+    ensures { FewerCanPartition }
+{}
+
+/// The folders of a key nest: each is a name in the folder of the columns before it.
+pub fn folders_nest()
+    ensures { FoldersNest }
+{}
+
+/// The name of a part file is not empty, and has no slash.
+pub fn part_names_are_plain()
+    ensures { PartNamesArePlain }
 {}

@@ -1,6 +1,6 @@
 //! The names of part files.
 
-ghost use Rattle.std.specs.Prelude.{◌≡◌, ◌<◌, ◌^◌, ℕ, IfOk, OnOk, MatchOption, string_bytes};
+ghost use Rattle.std.specs.Prelude.{◌≡◌, ◌<◌, ◌^◌, ℕ, IfOk, OnOk, IfSome, MatchOption, string_bytes};
 ghost use Rattle.bits.specs.Refusals.{OnFault, RefusedOnly, RefusedMemoryOnly};
 ghost use Rattle.schema.specs.Views.{key_view};
 ghost use Rattle.schema.specs.Keys.{key_columns_view};
@@ -49,6 +49,7 @@ pub fn part_path(alloc: Global, columns: &[KeyColumn], key: &Key, number: u64) -
 /// other name. Refused only when out of memory.
 pub fn part_number(alloc: Global, name: &str) -> R<Option<u64>>
     ensures stands { IfOk result (λ found. MatchOption found ((n : ℕ) → n < 2 ^ 64 → part_name_of n ≡ name.now → ⊥) (λ n. part_name_of n ≡ name.now)) }
+    ensures fits { IfOk result (λ found. IfSome found (λ n. n < 2 ^ 64)) }
     ensures which { RefusedMemoryOnly result }
 {
     let Some(middle) = middle(name.as_bytes()) else {

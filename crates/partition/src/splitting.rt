@@ -33,26 +33,24 @@ enum Part {
 }
 
 /// The rows of each key, keys ascending, each key's rows in the order given, and without their values in the key columns.
-/// The rows are moved: none of their other values is copied.
+/// The rows are borrowed, and their other values copied, once.
 ///
-/// Refused Key exactly when a row has no key that can partition, out of memory aside. The rows belong to the call: after
-/// a refusal they are gone. A caller that has to keep them asks [`row_can_partition`](crate::row_can_partition) of each
-/// first.
+/// Refused Key exactly when a row has no key that can partition, out of memory aside.
 ///
 /// One pass over the rows, with a look-up in a hash table for each, and one sort of the keys.
-pub fn split_by_key(alloc: Global, columns: &[KeyColumn], rows: Vec<Row>) -> R<Vec<KeyRows>>
-    ensures stands { IfOk result (λ split. IsSplit (key_columns_view columns.now) (rows_view rows.items) (map key_rows_view split.items)) }
-    ensures only { OnFault result (HaveKeys (key_columns_view columns.now) (rows_view rows.items) → ⊥) }
+pub fn split_by_key(alloc: Global, columns: &[KeyColumn], rows: &[Row]) -> R<Vec<KeyRows>>
+    ensures stands { IfOk result (λ split. IsSplit (key_columns_view columns.now) (rows_view rows.now) (map key_rows_view split.items)) }
+    ensures only { OnFault result (HaveKeys (key_columns_view columns.now) (rows_view rows.now) → ⊥) }
     ensures which { RefusedOnly (λ e. e ≡ Refusal.Key) result }
 {
     let mut keys = IndexSet::new(alloc);
     let mut split: Vec<KeyRows> = Vec::new(alloc);
     for row in rows {
-        let Some(parts) = parts_of(alloc, columns, &row)? else {
+        let Some(parts) = parts_of(alloc, columns, row)? else {
             return Err(Refusal::Key);
         };
         let at = place_of(alloc, columns, &mut keys, &mut split, parts)?;
-        let rest = without_keys(columns, row);
+        let rest = without_keys(alloc, columns, row)?;
         push_row(&mut split, at, rest)?;
     }
     split.sort_by(|a, b| compare_keys(&a.key, &b.key))?;
@@ -154,21 +152,20 @@ fn value_of(alloc: Global, part: &Part) -> R<Value>
     }
 }
 
-/// The row without its key columns; its other values are moved, and stay in the row's own vector.
-fn without_keys(columns: &[KeyColumn], row: Row) -> Row
-    ensures { row_view result ≡ row_without_keys (key_columns_view columns.now) (row_view row) }
+/// A copy of the row without its key columns.
+fn without_keys(alloc: Global, columns: &[KeyColumn], row: &Row) -> R<Row>
+    ensures stands { IfOk result (λ rest. row_view rest ≡ row_without_keys (key_columns_view columns.now) (row_view row.now)) }
+    ensures which { RefusedMemoryOnly result }
 {
-    let Row { mut values } = row;
-    let mut kept = 0;
-    for at in 0..values.len() {
+    let mut values = Vec::with_capacity(alloc, row.values.len())?;
+    for (at, value) in row.values.iter().enumerate() {
         if is_key_place(columns, at) {
             continue;
         }
-        values.swap(at, kept);
-        kept += 1;
+        let copy = value.copied(alloc)?;
+        values.push(copy)?;
     }
-    values.truncate(kept);
-    Row { values }
+    Ok(Row { values })
 }
 
 /// Whether a key column is at this place.

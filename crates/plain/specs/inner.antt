@@ -2,3 +2,4 @@
 pub mod Sized
 pub mod Placed
 pub mod First
+pub mod ByColumns

@@ -171,7 +171,7 @@ fn size_of_next(kind: Kind, bytes: &[u8], at: usize, left: usize, count: usize) 
 
 /// The value at the index, and how far from it the next one stands.
 #[inline(always)]
-fn value_at<'a>(kind: Kind, bytes: &'a [u8], at: usize) -> (ValueRef<'a>, usize)
+pub(crate) fn value_at<'a>(kind: Kind, bytes: &'a [u8], at: usize) -> (ValueRef<'a>, usize)
     requires { at + size_at kind at bytes.now ≤ greatest_end kind bytes.now }
     ensures value { value_ref_view result.0 ≡ value_at kind at bytes.now }
     ensures size { result.1 ≡ size_at kind at bytes.now }

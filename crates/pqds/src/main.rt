@@ -2,6 +2,7 @@
 #![tactic(auto)]
 
 use bits::R;
+use commands::Folders;
 use program::{OUTPUT_BUFFER_BYTES, Terminals, refusal_of, refuse, work};
 use std::env;
 use std::io::{BufWriter, IsTerminal};
@@ -19,7 +20,9 @@ fn run(rt: &HostRuntime) -> R<u8> {
         err: rt.stderr().is_terminal(),
     };
     let mut err = rt.stderr();
-    let status = work(rt, alloc, words.as_slice(), &mut out, &mut err, terminals);
+    let datasets = Folders { files: rt };
+    let words = words.as_slice();
+    let status = work(rt, alloc, words, &mut out, &mut err, terminals, &datasets);
     // What could not be written is not tried once more.
     drop(out.into_parts());
     Ok(status)

@@ -14,10 +14,10 @@ use Rattle.schema.specs.Values.{ValueTrees}
 use Rattle.schema.specs.Shape.{Fields}
 use Rattle.schema.specs.Fits.{fits_each, RowsFit}
 use Rattle.footer.specs.Left.{TakesRowTo, with_refusal}
-use Rattle.jsonrows.specs.declared.row_text.RowText.{RowText}
-use Rattle.jsonrows.specs.Json.{row_text}
-use Rattle.jsonrows.specs.Rows.{text_shows, BeginsLine, ShowsLine}
-use Rattle.jsonrows.specs.inner.Opening.{opening, lines_token}
+use Rattle.rowtext.specs.declared.row_text.RowText.{RowText}
+use Rattle.rowtext.specs.Json.{row_text}
+use Rattle.rowtext.specs.Rows.{text_shows, BeginsLine, ShowsLine}
+use Rattle.rowtext.specs.inner.Opening.{opening, lines_token}
 use Rattle.program.specs.Program.{lines_of}
 use Rattle.program.specs.inner.Gathered.{AppendsLines, GathersFirst, GathersLine, AreGathered, GathersLines, WritesPart}
 

@@ -14,7 +14,7 @@ use Rattle.footer.specs.declared.file_writer.FileWriter.{FileWriter}
 use Rattle.assemble.specs.Sinks.{Visits, tokens_each}
 use Rattle.shred.specs.inner.Opening.{schema_token, rows_token}
 use Rattle.footer.specs.Writer.{schema_of, options_of, has_rows, options_token, writer_shows, BeginsRow, ShowsRow}
-use Rattle.jsonrows.specs.Reader.{IsRowOf}
+use Rattle.rowtext.specs.Reader.{IsRowOf}
 use Rattle.footer.specs.File.{FileMeans}
 use Rattle.footer.specs.Own.{IsLaidOut}
 use Rattle.footer.specs.Writing.{IsOutOfRange, IsTooMuch}

@@ -13,8 +13,8 @@ use Rattle.metadata.specs.Records.{FileMeta}
 use Rattle.footer.specs.File.{IsFile, FileMeans}
 use Rattle.footer.specs.Own.{IsLaidOut}
 use Rattle.footer.specs.Writing.{IsOutOfRange, IsTooMuch}
-use Rattle.jsonrows.specs.Json.{row_text}
-use Rattle.jsonrows.specs.Reading.{row_of, line_of, members_read}
+use Rattle.rowtext.specs.Json.{row_text}
+use Rattle.rowtext.specs.Reading.{row_of, line_of, members_read}
 use Rattle.jsonrows.specs.SchemaJson.{IsSchemaText, IsRefusedSchema}
 
 -- the bytes of the greatest file that is read: 2^31 - 1

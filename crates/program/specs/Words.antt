@@ -1,11 +1,11 @@
 -- Calls of the program, by the words that they begin with.
 use Rattle.std.specs.Prelude.{◌≡◌, ℕ, Bool, List, [], ◌∷◌, Option, Some, None, String, string_bytes, codes, bytes_eq, if◌then◌else◌}
 use Rattle.std.specs.List.{list_any}
-use Rattle.row_group.specs.declared.options.Style.{Style}
-use Rattle.row_group.specs.declared.options.Style.TheVariants.{Plain, Dictionary, Delta, Lengths}
 use Rattle.footer.specs.declared.options.WriteOptions.{WriteOptions}
+use Rattle.dataset_words.specs.declared.call.Task.{Task}
+use Rattle.dataset_words.specs.Words.{task_word}
 use Rattle.program.specs.declared.arguments.Call.{Call}
-use Rattle.program.specs.declared.arguments.Call.TheVariants.{Decode, Encode, Inspect, Check}
+use Rattle.program.specs.declared.arguments.Call.TheVariants.{Decode, Encode, Inspect, Check, Dataset}
 use Rattle.program.specs.Program.{WritesRowsOf, HaveFile, WritesCount, WritesReportOf}
 
 -- the first of the words
@@ -23,6 +23,7 @@ word_of (Decode file) = codes "decode"
 word_of (Encode sources file) = codes "encode"
 word_of (Inspect file as_json) = codes "inspect"
 word_of (Check sources) = codes "check"
+word_of (Dataset call) = task_word call.task
 
 -- standard output got the lines of the rows of a file
 abbrev pub Decodes : Option (List ℕ) → Option (List ℕ) → Type 0
@@ -38,15 +39,13 @@ Does (Decode file) old new = Decodes old new
 Does (Encode sources file) old new = (new ≡ old) × HaveFile sources.options
 Does (Inspect file as_json) old new = Inspects old new
 Does (Check sources) old new = WritesCount sources.options old new
+Does (Dataset call) old new = Unit {0}
 
 -- the same, by the first word
 pub data IsDone {A : Type 0} (words : List (String A)) (old new : Option (List ℕ)) : Type 0 where
   decoded : first_word words ≡ Some (codes "decode") → Decodes old new → IsDone words old new
   encoded : first_word words ≡ Some (codes "encode") → new ≡ old → IsDone words old new
   inspected : first_word words ≡ Some (codes "inspect") → Inspects old new → IsDone words old new
+  -- what is printed of a dataset, no clause says
+  on_dataset : (task : Task) → first_word words ≡ Some (task_word task) → IsDone words old new
   checked : (options : WriteOptions) → first_word words ≡ Some (codes "check") → WritesCount options old new → IsDone words old new
-
--- the style that an argument names; PLAIN where there is none
-abbrev pub style_named : Option (List ℕ) → Style
-style_named None = Plain
-style_named (Some s) = if bytes_eq s (codes "dictionary") then Dictionary else if bytes_eq s (codes "delta") then Delta else if bytes_eq s (codes "lengths") then Lengths else Plain

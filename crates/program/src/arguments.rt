@@ -1,16 +1,15 @@
 //! The words that the program knows.
 
-ghost use Rattle.std.specs.Prelude.{◌≡◌, Some, IfSome, IfOk, codes, option_map};
-ghost use Rattle.clap.specs.Matches.{first_value, found_of};
-ghost use Rattle.program.specs.Words.{first_word, word_of, style_named};
+ghost use Rattle.std.specs.Prelude.{◌≡◌, Some, IfSome, IfOk, codes};
+ghost use Rattle.program.specs.Words.{first_word, word_of};
 
 use crate::encode::Sources;
 use crate::help;
 use bits::{R, Refusal};
 use clap::error::ErrorKind;
-use clap::{Arg, ArgAction, ArgMatches, Command, Error, value_parser};
+use clap::{Arg, ArgAction, ArgMatches, Command, Error};
+use dataset_words::{options_in, with_commands, with_options};
 use footer::WriteOptions;
-use row_group::Style;
 use std::alloc::Global;
 
 /// What the words ask for.
@@ -24,10 +23,9 @@ pub enum Call<'a> {
     Inspect { file: &'a str, as_json: bool },
     /// Say whether a file can be made.
     Check { sources: Sources<'a> },
+    /// Do what is asked of a dataset.
+    Dataset { call: dataset_words::Call<'a> },
 }
-
-/// The words for the styles.
-static STYLES: [&str; 4] = ["plain", "dictionary", "delta", "lengths"];
 
 /// What the words ask for, or the text on the program's use, where they ask for nothing that it knows.
 pub fn call_of<'a>(alloc: Global, words: &'a [String]) -> R<Result<Call<'a>, String>>
@@ -41,7 +39,10 @@ pub fn call_of<'a>(alloc: Global, words: &'a [String]) -> R<Result<Call<'a>, Str
         Ok(matches) => matches,
         Err(error) => return Ok(Err(error_text(alloc, &error)?)),
     };
-    match call_in(words, &matches) {
+    if let Some(call) = call_in(words, &matches) {
+        return Ok(Ok(call));
+    }
+    match dataset_call(alloc, words, &matches)? {
         Some(call) => Ok(Ok(call)),
         // The files are required, so that this does not come.
         None => Ok(Err(String::new(alloc))),
@@ -72,40 +73,6 @@ fn decode_command<'a>(alloc: Global) -> Result<Command<'a>, Error> {
         .arg(file_named(alloc, "FILE", "The Parquet file to read"))?
         .arg(quiet_flag(alloc))?;
     Ok(decode)
-}
-
-/// The options of a command that writes files.
-fn with_options<'a>(alloc: Global, command: Command<'a>) -> Result<Command<'a>, Error> {
-    let group_rows = Arg::new(alloc, "group-rows")
-        .long("group-rows")
-        .value_name("N")
-        .value_parser(value_parser!(u32))
-        .default_value("131072")
-        .help("How many rows a row group has at most: 1 to 1048576");
-    let page_rows = Arg::new(alloc, "page-rows")
-        .long("page-rows")
-        .value_name("N")
-        .value_parser(value_parser!(u32))
-        .default_value("20000")
-        .help("How many rows a page has at most: 1 or more");
-    let page_version = Arg::new(alloc, "page-version")
-        .long("page-version")
-        .value_name("N")
-        .value_parser(value_parser!(u8))
-        .default_value("1")
-        .help("The version of the pages: 1 or 2");
-    let style = Arg::new(alloc, "style")
-        .long("style")
-        .value_name("STYLE")
-        .value_parser(STYLES.as_slice())
-        .default_value("plain")
-        .help("The encodings of the values");
-    let command = command
-        .arg(group_rows)?
-        .arg(page_rows)?
-        .arg(page_version)?
-        .arg(style)?;
-    Ok(command)
 }
 
 fn encode_command<'a>(alloc: Global) -> Result<Command<'a>, Error> {
@@ -159,7 +126,7 @@ fn program<'a>(alloc: Global) -> Result<Command<'a>, Error> {
         .subcommand(encode_command(alloc)?)?
         .subcommand(inspect_command(alloc)?)?
         .subcommand(check_command(alloc)?)?;
-    Ok(program)
+    with_commands(alloc, program)
 }
 
 /// The text of an error of the words, or Memory.
@@ -169,34 +136,6 @@ fn error_text(alloc: Global, error: &Error) -> R<String> {
     }
     let text = format!(in alloc; "{error}")?;
     Ok(text)
-}
-
-/// The style that a word of [`STYLES`] says; `plain` where none is said.
-fn style_of(word: Option<&str>) -> Style
-    ensures { result ≡ style_named (option_map (λ text. text.now) word.entry) }
-{
-    match word {
-        Some("dictionary") => Style::Dictionary,
-        Some("delta") => Style::Delta,
-        Some("lengths") => Style::Lengths,
-        _ => Style::Plain,
-    }
-}
-
-/// How files are written, by the words.
-fn options_in(matches: &ArgMatches<'_>) -> WriteOptions
-    ensures { result.style ≡ style_named (first_value (found_of matches.now) (codes "style")) }
-{
-    let standard = WriteOptions::standard();
-    let group_rows = matches.get_one::<u32>("group-rows");
-    let page_rows = matches.get_one::<u32>("page-rows");
-    let page_version = matches.get_one::<u8>("page-version");
-    WriteOptions {
-        group_rows: group_rows.unwrap_or(standard.group_rows),
-        page_rows: page_rows.unwrap_or(standard.page_rows),
-        page_version: page_version.unwrap_or(standard.page_version),
-        style: style_of(matches.get_str("style")),
-    }
 }
 
 fn decode_call<'a>(matches: &ArgMatches<'a>) -> Option<Call<'a>>
@@ -258,5 +197,22 @@ fn call_in<'a>(words: &[String], matches: &ArgMatches<'a>) -> Option<Call<'a>>
         check_call(matches.subcommand_matches("check")?)
     } else {
         None
+    }
+}
+
+/// The call on a dataset that the first word names, by what was found in the words.
+fn dataset_call<'a>(
+    alloc: Global,
+    words: &[String],
+    matches: &ArgMatches<'a>,
+) -> R<Option<Call<'a>>>
+    ensures first { IfOk result (λ said. IfSome said (λ call. first_word words.now ≡ Some (word_of call))) }
+{
+    let Some(word) = words.first() else {
+        return Ok(None);
+    };
+    match dataset_words::call_in(alloc, word.as_str(), matches)? {
+        Some(call) => Ok(Some(Call::Dataset { call })),
+        None => Ok(None),
     }
 }

@@ -12,6 +12,7 @@ use crate::inspect::inspect;
 use crate::one_line::OneLine;
 use crate::progress::Terminals;
 use bits::{R, Refusal};
+use dataset_words::Datasets;
 use std::alloc::Global;
 use std::fmt::Write as _;
 use std::io::Write;
@@ -44,14 +45,16 @@ pub fn refuse<E: Write>(err: &mut E, refusal: &Refusal) -> u8
 /// the program, or ask for help, and `err` has the text on its use.
 ///
 /// `terminals` says which of both are terminals. Where `err` is one, and `--quiet` is not among the arguments, `decode`
-/// and `encode` show on it how many rows they have dealt with, and take that away again at the end.
-pub fn work<F: Files, W: Write, E: Write>(
+/// and `encode` show on it how many rows they have dealt with, and take that away again at the end. `datasets` makes
+/// the calls on datasets.
+pub fn work<F: Files, W: Write, E: Write, M: Datasets<W>>(
     rt: &F,
     alloc: Global,
     words: &[String],
     out: &mut W,
     err: &mut E,
     terminals: Terminals,
+    datasets: &M,
 ) -> u8
     ensures status { result ≤ 2 }
     ensures done { result ≡ 0 → IsDone words.now (W.contents out.old) (W.contents out.new) }
@@ -69,7 +72,7 @@ pub fn work<F: Files, W: Write, E: Write>(
         Err(refusal) => return refuse(err, &refusal),
     };
     let terminals = terminals_for(words, terminals);
-    match make(rt, alloc, &call, out, err, terminals) {
+    match make(rt, alloc, &call, out, err, terminals, datasets) {
         Ok(()) => DONE,
         Err(refusal) => refuse(err, &refusal),
     }
@@ -95,13 +98,14 @@ fn terminals_for(words: &[String], terminals: Terminals) -> Terminals
 }
 
 /// Makes the call. Progress is shown where `err` is a terminal; of lines that go to a terminal too, none.
-fn make<F: Files, W: Write, E: Write>(
+fn make<F: Files, W: Write, E: Write, M: Datasets<W>>(
     rt: &F,
     alloc: Global,
     call: &Call<'_>,
     out: &mut W,
     err: &mut E,
     terminals: Terminals,
+    datasets: &M,
 ) -> R<()>
     ensures done { OnOk result (Does call.now (W.contents out.old) (W.contents out.new)) }
     ensures silent { word_of call.now ≡ codes "encode" → W.contents out.new ≡ W.contents out.old }
@@ -119,5 +123,6 @@ fn make<F: Files, W: Write, E: Write>(
             inspect(alloc, bytes.as_slice(), *as_json, out)
         }
         Call::Check { sources } => check(rt, alloc, sources, out, err),
+        Call::Dataset { call } => datasets.make(alloc, call, out),
     }
 }

@@ -9,7 +9,7 @@ ghost use Rattle.schema.specs.Fits.{RowsFit};
 ghost use Rattle.footer.specs.File.{FileMeans};
 ghost use Rattle.footer.specs.Faults.{HasFault};
 ghost use Rattle.footer.specs.Left.{rows_stand, with_refusal};
-ghost use Rattle.jsonrows.specs.Rows.{BeginsLine};
+ghost use Rattle.rowtext.specs.Rows.{BeginsLine};
 ghost use Rattle.program.specs.Program.{WritesRowsOf, MeansRows};
 ghost use Rattle.program.specs.inner.Gathered.{AppendsLines, GathersLine, AreGathered, GathersLines, WritesPart};
 

@@ -6,7 +6,7 @@ ghost use Rattle.bits.specs.Refusals.{RefusedOnly};
 ghost use Rattle.schema.specs.Values.{ValueTrees};
 ghost use Rattle.assemble.specs.Sinks.{Visits, tokens_each};
 ghost use Rattle.footer.specs.Writer.{has_rows, schema_of, options_of};
-ghost use Rattle.jsonrows.specs.Reader.{schema_of as fields_of, IsRowOf};
+ghost use Rattle.rowtext.specs.Reader.{schema_of as fields_of, IsRowOf};
 ghost use Rattle.program.specs.Program.{IsRefusedLine, AreRowTexts, HasFirstFault, IsFileOf, HaveFile, AreRefusedTexts, AreRefusedFiles};
 ghost use Rattle.program.specs.inner.Lines.{IsFileOfLines, IsLinesRefusal, IsLineRefusal, AreTooMuch, HasLine};
 

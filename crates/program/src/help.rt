@@ -101,7 +101,9 @@ A style is how the values of a column are encoded:
                 more than 65536 different values in a row group
     delta       numbers by their differences, bytes by what each has in common with the one before it, and booleans
                 by runs
-    lengths     as delta, but bytes by their lengths and then all of them, and those of a fixed length plain";
+    lengths     as delta, but bytes by their lengths and then all of them, and those of a fixed length plain
+    split       numbers and bytes of a fixed length by the first byte of each, then the second, and so on; other bytes
+                plain, and booleans by runs";
 
 pub const ENCODE_REFUSALS: &str = "\
 The call is refused, with status 1 and one line on standard error, by the first of these that is found: first what
@@ -110,7 +112,7 @@ others), then with the rows as a whole, and last with OUT.
 
     4 Schema       the columns are no valid tree: two of one name, none at all, a length that cannot be
     6 Float        a column that is noted as FLOAT16, whose path follows
-    13 Limit       an option out of its range (--group-rows 1 to 1048576, --page-rows 1 or more, --page-version 1
+    13 Limit       an option out of its range (--group-rows 1 to 16777216, --page-rows 1 or more, --page-version 1
                    or 2), more than 1024 columns, more than 32 fields on the path of one, a value of more than
                    16 MiB, more than 16777216 entries of a column in a row group, or too much for a file of
                    2147483647 bytes or its footer of 16 MiB

@@ -81,6 +81,8 @@ const DELTA_LENGTH_BYTE_ARRAY: i32 = 6;
 
 const DELTA_BYTE_ARRAY: i32 = 7;
 
+const BYTE_STREAM_SPLIT: i32 = 9;
+
 const RLE_DICTIONARY: i32 = 8;
 
 /// What the header that a page's type names says: the encoding of the values, the entries, and the nulls.
@@ -176,6 +178,7 @@ fn is_read(encoding: i32, kind: Kind) -> bool {
         DELTA_BINARY_PACKED => matches!(kind, Kind::Int32 | Kind::Int64),
         DELTA_LENGTH_BYTE_ARRAY => kind == Kind::ByteArray,
         DELTA_BYTE_ARRAY => matches!(kind, Kind::ByteArray | Kind::FixedLenByteArray(_)),
+        BYTE_STREAM_SPLIT => matches!(kind, Kind::Int32 | Kind::Int64 | Kind::FixedLenByteArray(_)),
         _ => false,
     }
 }

@@ -1,8 +1,10 @@
 //! How the tests call the program, and the files that several of them need.
 
-use bits::R;
+use bits::{R, Refusal};
+use dataset_words::{Call, Datasets};
 use program::{Terminals, work};
 use std::alloc::Global;
+use std::io::Write;
 
 /// A file with the rows 1 and 300 of one REQUIRED INT64 `x`.
 pub const TWO_ROWS: [u8; 140] = [
@@ -44,12 +46,21 @@ pub const NO_TERMINALS: Terminals = Terminals {
     err: false,
 };
 
+/// Nobody makes calls on datasets.
+pub struct NoDatasets;
+
+impl<W: Write> Datasets<W> for NoDatasets {
+    fn make(&self, _alloc: Global, _call: &Call<'_>, _out: &mut W) -> R<()> {
+        Err(Refusal::Device)
+    }
+}
+
 /// What the program says to these words, where these of its outputs are terminals.
 pub fn answer_on(rt: &HostRuntime, words: &[String], terminals: Terminals) -> Said {
     let alloc = rt.alloc();
     let mut out = Vec::new(alloc);
     let mut err = Vec::new(alloc);
-    let status = work(rt, alloc, words, &mut out, &mut err, terminals);
+    let status = work(rt, alloc, words, &mut out, &mut err, terminals, &NoDatasets);
     Said { status, out, err }
 }
 

@@ -1,6 +1,6 @@
 //! `pqds decode`.
 
-use crate::calls::{NO_ROWS, NO_TERMINALS, TWO_ROWS, answer_to, owned};
+use crate::calls::{NO_ROWS, NO_TERMINALS, NoDatasets, TWO_ROWS, answer_to, owned};
 use bits::R;
 use program::work;
 use std::alloc::Global;
@@ -94,9 +94,25 @@ fn an_output_that_cannot_be_written_is_refused(rt: HostRuntime) -> Result<(), Fa
     let words = owned(alloc, &["decode", "rows.parquet"])?;
     let mut err = Vec::new(alloc);
     let words = words.as_slice();
-    let at_once = work(&rt, alloc, words, &mut Closed, &mut err, NO_TERMINALS);
+    let at_once = work(
+        &rt,
+        alloc,
+        words,
+        &mut Closed,
+        &mut err,
+        NO_TERMINALS,
+        &NoDatasets,
+    );
     let mut gathered = BufWriter::new(alloc, Closed)?;
-    let at_last = work(&rt, alloc, words, &mut gathered, &mut err, NO_TERMINALS);
+    let at_last = work(
+        &rt,
+        alloc,
+        words,
+        &mut gathered,
+        &mut err,
+        NO_TERMINALS,
+        &NoDatasets,
+    );
     fs::remove_file(&rt, "rows.parquet")?;
     assert_eq!(rt; (at_once, at_last), (1, 1));
     let wanted = "refused 25 Device\nrefused 25 Device\n";

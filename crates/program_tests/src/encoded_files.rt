@@ -56,20 +56,21 @@ const FAULTS: [(Option<&[u8]>, Option<&[u8]>, &str); 13] = [
 /// Options for the two rows, and the fault that is reported, where there is one.
 const OPTIONS: [(&[&str], &str); 8] = [
     (&["--group-rows", "2", "--page-rows", "2"], ""),
-    (&["--group-rows=1048576", "--page-rows=4294967295"], ""),
+    (&["--group-rows=16777216", "--page-rows=4294967295"], ""),
     (&["--page-version", "1", "--style", "plain"], ""),
     (&["--group-rows", "0"], LIMIT),
-    (&["--group-rows", "1048577"], LIMIT),
+    (&["--group-rows", "16777217"], LIMIT),
     (&["--page-rows", "0"], LIMIT),
     (&["--page-version", "0"], LIMIT),
     (&["--page-version", "3"], LIMIT),
 ];
 
 /// Options, and how long the file of the two rows is with them.
-const LENGTHS: [(&[&str], usize); 3] = [
+const LENGTHS: [(&[&str], usize); 4] = [
     (&[], 140),
     (&["--page-rows", "1"], 157),
     (&["--page-version", "2"], 145),
+    (&["--style", "split"], 140),
 ];
 
 /// A list of optional numbers that is itself optional, in three levels.

@@ -80,8 +80,8 @@ fn what_decode_refuses_is_named(rt: HostRuntime) -> Result<(), Fail> {
             "  column x, group 0: the chunk is of another column than the schema's, or of another type\n",
         ),
         (
-            &[(14, 18)],
-            "  column x, group 0: encoding BYTE_STREAM_SPLIT of the page at 4 is not read for this type\n",
+            &[(14, 12)],
+            "  column x, group 0: encoding DELTA_LENGTH_BYTE_ARRAY of the page at 4 is not read for this type\n",
         ),
         (
             &[(12, 6)],

@@ -152,7 +152,7 @@ begins_first start size some more =
     let b : nat_lt start (start + size) ≡ true = grind (arith, nat_tests) in
     rw (a, b) refl
 
-some_entries : (es : List Entry) → 0 < length (values es) → 0 < length es
+pub some_entries : (es : List Entry) → 0 < length (values es) → 0 < length es
 some_entries es some = omega (arith, some, nulls_and_values es)
 
 -- the page of the dictionary and the pages of indexes are those of a chunk
@@ -201,7 +201,7 @@ index_pages leaf o es vs is pages old mid new parts Each written read begun has 
         data_offset = says.data_offset ∙ data_offset ∙ ap pos after;
         encodings = says.numbers ∙ ap (λ (ns : List ℤ). Some ns) encodings;
       });
-      short = omega (arith, long, d.short, q.short, indexes_weigh parts es cut.joined, with_dictionary es vs is (length parts) indexed);
+      short = omega (arith, long, d.short, q.short, indexes_weigh parts es cut.joined, with_dictionary o.style leaf.leaf_type.kind es vs is (length parts) has indexed);
     }
 
 -- ---- the record

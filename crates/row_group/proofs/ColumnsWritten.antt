@@ -1,25 +1,31 @@
 -- Chunks that are written one after the other.
 use Rattle.std.proofs.Common.{◌≡◌, ℕ, zero, suc, ◌+◌, ◌<◌, ◌≤◌, List, [], ◌∷◌, ◌++◌, map, length, get_or, take, Some, refl, sym, ap, subst, ◌∙◌, arith}
-use Rattle.std.specs.Prelude.{pos, ◌<ℤ◌, sum_by}
+use Rattle.std.specs.Prelude.{pos, ◌<ℤ◌}
 use Rattle.std.specs.List.{AllByRecursion}
-use Rattle.std.proofs.lemmas.List.{take_more, length-append}
-use Rattle.std.proofs.lemmas.List.Sums.{sum_by-cons}
+use Rattle.std.proofs.lemmas.List.{take_more, length-append, append-nil, nil_from_length}
+use Rattle.bits.specs.Codec.{InTurn}
 use Rattle.schema.specs.Values.{ValueTrees}
 use Rattle.schema.specs.Shape.{Fields}
 use Rattle.schema.specs.Fits.{RowsFit}
 use Rattle.schema.specs.Stripe.{Leaf, Entry, column, columns, leaves_of}
 use Rattle.schema.specs.Law.{IsEntryOf, EntriesAreOfLeaves, RowsBeginOnce}
 use Rattle.schema.proofs.Kept.{all_joined}
-use Rattle.metadata.specs.Records.{ChunkMeta, GroupMeta}
+use Rattle.metadata.specs.Records.{ColumnMeta, ChunkMeta, GroupMeta}
+use Rattle.pages.specs.Page.{Page, IsPage}
+use Rattle.pages.specs.Chunk.{IsChunk, all_entries}
+use Rattle.pages.specs.Headers.{rows_in}
 use Rattle.pages.specs.Writing.{AreShort}
+use Rattle.pages.proofs.Framed.{no_page_of_no_bytes}
 use Rattle.row_group.specs.Greatest.{most_entries, most_rows}
 use Rattle.row_group.specs.declared.options.ChunkOptions.{ChunkOptions}
-use Rattle.row_group.specs.Paged.{parts_of, chunk_weight}
+use Rattle.row_group.specs.Paged.{parts_of, chunk_weight, columns_weight}
+use Rattle.row_group.specs.Styles.{HasDictionary}
 use Rattle.row_group.specs.Writing as group_limit
-use Rattle.row_group.specs.Writing.{IsOwnChunk, AppendsChunk, AppendsGroup, IsChunkTooMuch, IsGroupTooMuch}
+use Rattle.row_group.specs.Writing.{IsOwnChunk, AppendsChunk, AppendsEach, AppendsGroup, BeginsWithDictionary, IsChunkTooMuch, IsGroupTooMuch}
 use Rattle.row_group.specs.inner.Columns.{AreColumnsOf, HasRows, AppendsChunks, AreTooMuch}
 use Rattle.row_group.proofs.Laid.{each_short, each_more, each_kept, each_joined}
-use Rattle.row_group.proofs.PageCounts.{few_pages, columns_have_rows}
+use Rattle.row_group.proofs.PageCounts.{some_begun, few_pages, columns_have_rows}
+use Rattle.row_group.proofs.ChunkPut.{some_entries}
 
 -- ---- columns and leaves
 
@@ -73,24 +79,66 @@ at_index P [] i x lt e h = absurd (omega (arith, lt))
 at_index P (y ∷ xs) zero x lt e h = subst P (sym e) h.0
 at_index P (y ∷ xs) (suc i) x lt e h = at_index P xs i x (omega (arith, lt)) e h.1
 
-weights_before : {A : Type 0} (w : A → ℕ) (xs : List A) (i : ℕ) (x : A) → i < length xs → x ≡ get_or xs i x → sum_by w (take i xs) + w x ≤ sum_by w xs
-weights_before w [] i x lt e = absurd (omega (arith, lt))
-weights_before {A} w (y ∷ ys) zero x lt e = let same : w x ≡ w y = ap w e in omega (arith, same, sum_by-cons w y ys)
-weights_before w (y ∷ ys) (suc i) x lt e = let h = weights_before w ys i x (omega (arith, lt)) e in omega (arith, h, sum_by-cons w y ys, sum_by-cons w y (take i ys))
+columns_before : (o : ChunkOptions) (n : ℕ) (leaves : List Leaf) (cols : List (List Entry)) (i : ℕ) (leaf : Leaf) (es : List Entry) → i < length leaves → i < length cols → leaf ≡ get_or leaves i leaf → es ≡ get_or cols i es
+    → columns_weight o n (take i leaves) (take i cols) + chunk_weight o.style leaf.leaf_type.kind (parts_of n o.page_rows) es ≤ columns_weight o n leaves cols
+columns_before o n [] cols i leaf es lt lc e f = absurd (omega (arith, lt))
+columns_before o n (l ∷ leaves) [] i leaf es lt lc e f = absurd (omega (arith, lc))
+columns_before o n (l ∷ leaves) (c ∷ cols) zero leaf es lt lc e f =
+    let weight = λ (x : Leaf) (t : List Entry). chunk_weight o.style x.leaf_type.kind (parts_of n o.page_rows) t in
+    let same : chunk_weight o.style leaf.leaf_type.kind (parts_of n o.page_rows) es ≡ chunk_weight o.style l.leaf_type.kind (parts_of n o.page_rows) c
+    = ap (λ (x : Leaf). weight x es) e ∙ ap (λ (t : List Entry). weight l t) f in
+    omega (arith, same)
+columns_before o n (l ∷ leaves) (c ∷ cols) (suc i) leaf es lt lc e f =
+    let rest = columns_before o n leaves cols i leaf es (omega (arith, lt)) (omega (arith, lc)) e f in
+    omega (arith, rest)
 
-pub too_much : (o : ChunkOptions) (leaves : List Leaf) (cols : List (List Entry)) (i : ℕ) (es : List Entry) (old mid : List ℕ) (cs : List ChunkMeta) → i < length cols → es ≡ get_or cols i es
-    → AppendsChunks o (take i leaves) (take i cols) old mid cs → IsChunkTooMuch (length mid) o.page_rows es → AreTooMuch (length old) o.page_rows cols
-too_much o leaves cols i es old mid cs lt e so_far (IsChunkTooMuch.empty_pages h) = AreTooMuch.empty_pages h
-too_much o leaves cols i es old mid cs lt e so_far (IsChunkTooMuch.at_the_front h) =
-    AreTooMuch.at_the_front (let kept = each_kept o (take i leaves) (take i cols) old mid cs so_far.each in omega (arith, h, kept.1))
-too_much o leaves cols i es old mid cs lt e so_far (IsChunkTooMuch.many_entries h) = AreTooMuch.many_entries (i, es, lt, sym e, h)
-too_much o leaves cols i es old mid cs lt e so_far (IsChunkTooMuch.long_value h) = AreTooMuch.long_value (i, es, lt, sym e, h)
-too_much o leaves cols i es old mid cs lt e so_far (IsChunkTooMuch.heavy parts paged over) =
+-- a chunk of no bytes has no entries
+no_entries : (leaf : Leaf) (o : ChunkOptions) (old new : List ℕ) (m : ColumnMeta) (es : List Entry) → (p : AppendsChunk leaf o old new m es) → length p.text ≡ 0 → es ≡ []
+no_entries leaf o old new m es p none = by chunk.pages spelled chunk.joined
+  where
+    chunk : IsChunk leaf (p.text ++ []) (length es) es (length p.text)
+    chunk = (p.fills []).held
+
+    spelled : InTurn (IsPage leaf chunk.dictionary_values) [] chunk.pages (length p.text)
+    spelled = subst (λ (t : List ℕ). InTurn (IsPage leaf chunk.dictionary_values) t chunk.pages (length p.text)) (append-nil p.text ∙ nil_from_length p.text none) chunk.spelled
+
+    by : (pages : List Page) → InTurn (IsPage leaf chunk.dictionary_values) [] pages (length p.text) → es ≡ all_entries pages → es ≡ []
+    by [] turn joined = joined
+    by (page ∷ pages) turn joined = absurd (no_page_of_no_bytes leaf chunk.dictionary_values page turn.0 turn.2)
+
+-- a chunk with entries, before which nothing stands, is the first one, as each column has as many rows
+first_one : (o : ChunkOptions) (n : ℕ) (leaves : List Leaf) (cols : List (List Entry)) (i : ℕ) (leaf : Leaf) (es : List Entry) (old mid : List ℕ) (cs : List ChunkMeta) → i < length leaves → i < length cols
+    → leaf ≡ get_or leaves i leaf → es ≡ get_or cols i es → AppendsEach o (take i leaves) (take i cols) old mid cs → length mid ≡ 0 → HasDictionary o.style leaf.leaf_type.kind es → AllByRecursion (HasRows n) cols
+    → BeginsWithDictionary o leaves cols
+first_one o n [] cols i leaf es old mid cs lt lc e f p none has rows = absurd (omega (arith, lt))
+first_one o n (l ∷ leaves) [] i leaf es old mid cs lt lc e f p none has rows = absurd (omega (arith, lc))
+first_one o n (l ∷ leaves) (c ∷ cols) zero leaf es old mid cs lt lc e f p none has rows =
+    subst (λ (x : Leaf). HasDictionary o.style x.leaf_type.kind c) e (subst (λ (t : List Entry). HasDictionary o.style leaf.leaf_type.kind t) f has)
+first_one o n (l ∷ leaves) (c ∷ cols) (suc i) leaf es old mid [] lt lc e f p none has rows = absurd p
+first_one o n (l ∷ leaves) (c ∷ cols) (suc i) leaf es old mid (m ∷ cs) lt lc e f p none has rows =
+    let kept = each_kept o (take i leaves) (take i cols) p.0 mid cs p.3 in
+    let nothing : length p.1.text ≡ 0 = omega (arith, kept.1, none, ap length p.1.joined, length-append old p.1.text) in
+    let empty : rows_in c ≡ 0 = ap rows_in (no_entries l o old p.0 m.meta_data c p.1 nothing) in
+    let counted = rows.0.count in
+    let here : HasRows n es = at_index (HasRows n) (c ∷ cols) (suc i) es lc f rows in
+    let count = here.count in
+    let some = some_begun es (here.first (some_entries es has.some)) in
+    absurd (omega (arith, empty, counted, count, some))
+
+pub too_much : (o : ChunkOptions) (leaves : List Leaf) (cols : List (List Entry)) (i : ℕ) (leaf : Leaf) (es : List Entry) (old mid : List ℕ) (cs : List ChunkMeta) → i < length leaves → i < length cols
+    → leaf ≡ get_or leaves i leaf → es ≡ get_or cols i es → AppendsChunks o (take i leaves) (take i cols) old mid cs → IsChunkTooMuch leaf o (length mid) es → AreTooMuch o leaves (length old) cols
+too_much o leaves cols i leaf es old mid cs lt lc e f so_far (IsChunkTooMuch.empty_pages h) = AreTooMuch.empty_pages h
+too_much o leaves cols i leaf es old mid cs lt lc e f so_far (IsChunkTooMuch.at_the_front h has) =
+    let kept = each_kept o (take i leaves) (take i cols) old mid cs so_far.each in
+    AreTooMuch.at_the_front (omega (arith, h, kept.1)) (λ n rows. first_one o n leaves cols i leaf es old mid cs lt lc e f so_far.each h has rows)
+too_much o leaves cols i leaf es old mid cs lt lc e f so_far (IsChunkTooMuch.many_entries h) = AreTooMuch.many_entries (i, es, lc, sym f, h)
+too_much o leaves cols i leaf es old mid cs lt lc e f so_far (IsChunkTooMuch.long_value h) = AreTooMuch.long_value (i, es, lc, sym f, h)
+too_much o leaves cols i leaf es old mid cs lt lc e f so_far (IsChunkTooMuch.heavy parts paged over) =
     AreTooMuch.heavy (λ n h.
-    let w = weights_before (chunk_weight (parts_of n o.page_rows)) cols i es lt e in
+    let w = columns_before o n leaves cols i leaf es lt lc e f in
     let s = each_short o n (take i leaves) (take i cols) old mid cs (all_taken (HasRows n) cols i h) so_far.each in
-    let f = few_pages o.page_rows n es parts (at_index (HasRows n) cols i es lt e h) paged in
-    omega (arith, w, s, f, over))
+    let pages = few_pages o.page_rows n es parts (at_index (HasRows n) cols i es lc f h) paged in
+    omega (arith, w, s, pages, over))
 
 -- ---- the group
 
@@ -112,9 +160,9 @@ group_written law fs o rows old new g size fit filled count few says p =
       short = omega (arith, light, both);
     }
 
-pub group_too_much : RowsBeginOnce → (fs : Fields) (before size : ℕ) (rows : List ValueTrees) → RowsFit fs rows → AreTooMuch before size (columns fs rows) → IsGroupTooMuch before size fs rows
-group_too_much law fs before size rows fit (AreTooMuch.empty_pages h) = group_limit.empty_pages h
-group_too_much law fs before size rows fit (AreTooMuch.at_the_front h) = group_limit.at_the_front h
-group_too_much law fs before size rows fit (AreTooMuch.many_entries h) = group_limit.many_entries h
-group_too_much law fs before size rows fit (AreTooMuch.long_value h) = group_limit.long_value h
-group_too_much law fs before size rows fit (AreTooMuch.heavy h) = group_limit.heavy (h (length rows) (columns_have_rows law fs rows fit))
+pub group_too_much : RowsBeginOnce → (fs : Fields) (o : ChunkOptions) (before : ℕ) (rows : List ValueTrees) → RowsFit fs rows → AreTooMuch o (leaves_of fs) before (columns fs rows) → IsGroupTooMuch fs o before rows
+group_too_much law fs o before rows fit (AreTooMuch.empty_pages h) = group_limit.empty_pages h
+group_too_much law fs o before rows fit (AreTooMuch.at_the_front h begins) = group_limit.at_the_front h (begins (length rows) (columns_have_rows law fs rows fit))
+group_too_much law fs o before rows fit (AreTooMuch.many_entries h) = group_limit.many_entries h
+group_too_much law fs o before rows fit (AreTooMuch.long_value h) = group_limit.long_value h
+group_too_much law fs o before rows fit (AreTooMuch.heavy h) = group_limit.heavy (h (length rows) (columns_have_rows law fs rows fit))

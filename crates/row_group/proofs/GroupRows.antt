@@ -19,6 +19,7 @@ use Rattle.row_group.specs.Greatest.{most_rows}
 use Rattle.row_group.specs.Limits.{IsGroupOver, many_rows, large_chunk, IsOfChunks}
 use Rattle.row_group.specs.Laws.{FilesHoldOneColumn}
 use Rattle.row_group.specs.Left.{chunk_stands}
+use Rattle.row_group.specs.Causes.{reader_cause}
 use Rattle.row_group.specs.inner.Readers.{AreReaders, AreSound, HasRows, AreRowsOfGroup, CountsRows, refusal_kept}
 use Rattle.row_group.proofs.OneMeaning.{one_columns}
 use Rattle.row_group.proofs.InOrder.{sound_chunks, no_column_over}
@@ -70,15 +71,15 @@ same_count law determine front fs g n m schema h rows k =
 -- ---- or refused
 
 pub no_rows : (front : List ℕ) (fs : Fields) (g : GroupMeta) (n : ℕ) (old new : List ChunkReader) (cols : Columns) (e : Refusal) → AreReaders front g.columns (leaves_of fs) old → AreSound front g.columns (leaves_of fs) cols
-    → IsRefusedFor chunk_stands refusal_kept old new (HasFault fs) e → IsFault e → (rows : List ValueTrees) → AreRowsOfGroup front fs g n rows → ⊥
+    → IsRefusedFor chunk_stands refusal_kept reader_cause old new (HasFault fs) e → IsFault e → (rows : List ValueTrees) → AreRowsOfGroup front fs g n rows → ⊥
 no_rows front fs g n old new cols e readers sound refused fault rows k =
-    only_faults chunk_stands refusal_kept old new fs e refused fault rows (record {
+    only_faults chunk_stands refusal_kept reader_cause old new fs e refused fault rows (record {
       fit = k.fit;
       stand = sound_stand front g.columns (leaves_of fs) old (columns fs rows) readers (sound_others front g.columns (leaves_of fs) cols (columns fs rows) sound k.chunks);
     })
 
 pub tells : (front : List ℕ) (fs : Fields) (cs : List ChunkMeta) (ls : List Leaf) (old new : List ChunkReader) (cols : Columns) (e : Refusal) → AreReaders front cs ls old → AreSound front cs ls cols
-    → IsRefusedFor chunk_stands refusal_kept old new (HasFault fs) e → Tells (Unit {0}) (Unit {0}) e
+    → IsRefusedFor chunk_stands refusal_kept reader_cause old new (HasFault fs) e → Tells (Unit {0}) (Unit {0}) e
 tells front fs cs ls old new cols e readers sound (inl h) = absurd (h.1 cols (sound_stand front cs ls old cols readers sound))
 tells front fs cs ls old new cols e readers sound (inr h) = h.1.0
 

@@ -1,16 +1,14 @@
 -- Chunks that lie one after the other: what they leave, and what they mean.
 use Rattle.std.proofs.Common.{◌≡◌, ℕ, ◌+◌, ◌≤◌, List, [], ◌∷◌, ◌++◌, length, take, drop, refl, sym, ap, subst, ◌∙◌, arith, append_assoc}
-use Rattle.std.specs.Prelude.{sum_by}
 use Rattle.std.specs.List.{AllByRecursion}
 use Rattle.std.proofs.lemmas.List.{append-nil, length-append, take_at, drop_at}
-use Rattle.std.proofs.lemmas.List.Sums.{sum_by-cons}
 use Rattle.schema.specs.Values.{ValueTrees}
 use Rattle.schema.specs.Shape.{Fields}
 use Rattle.schema.specs.Stripe.{Leaf, Entry, leaves_of, columns}
 use Rattle.metadata.specs.Records.{ColumnMeta, ChunkMeta, GroupMeta}
 use Rattle.row_group.specs.Chunks.{ChunkMeans, ColumnMeans, AreChunks, GroupMeans}
 use Rattle.row_group.specs.declared.options.ChunkOptions.{ChunkOptions}
-use Rattle.row_group.specs.Paged.{parts_of, chunk_weight}
+use Rattle.row_group.specs.Paged.{columns_weight}
 use Rattle.row_group.specs.inner.Columns.{HasRows}
 use Rattle.row_group.proofs.PageCounts.{few_pages}
 use Rattle.row_group.specs.Writing.{IsOwnChunk, AppendsChunk, AppendsEach, AppendsGroup}
@@ -49,7 +47,7 @@ each_kept o leaves cols old new cs p =
 
 -- they weigh at most what the pages of so many rows do
 pub each_short : (o : ChunkOptions) (n : ℕ) (leaves : List Leaf) (cols : List (List Entry)) (old new : List ℕ) (cs : List ChunkMeta) → AllByRecursion (HasRows n) cols → AppendsEach o leaves cols old new cs
-    → length new ≤ length old + sum_by (chunk_weight (parts_of n o.page_rows)) cols
+    → length new ≤ length old + columns_weight o n leaves cols
 each_short o n [] [] old new [] h p = omega (arith, ap length p)
 each_short o n [] [] old new (c ∷ cs) h p = absurd p
 each_short o n [] (es ∷ cols) old new cs h p = absurd p
@@ -59,7 +57,7 @@ each_short o n (leaf ∷ leaves) (es ∷ cols) old new (c ∷ cs) h p =
     let one = p.1.short in
     let pages = few_pages o.page_rows n es p.1.parts h.0 p.1.paged in
     let rest = each_short o n leaves cols p.0 new cs h.1 p.3 in
-    omega (arith, one, pages, rest, ap length p.1.joined, length-append old p.1.text, sum_by-cons (chunk_weight (parts_of n o.page_rows)) es cols)
+    omega (arith, one, pages, rest, ap length p.1.joined, length-append old p.1.text)
 
 are_chunks : (o : ChunkOptions) (leaves : List Leaf) (cols : List (List Entry)) (old new : List ℕ) (cs : List ChunkMeta) → AppendsEach o leaves cols old new cs → (more : List ℕ) → AreChunks (new ++ more) cs leaves cols
 are_chunks o [] [] old new [] p more = tt

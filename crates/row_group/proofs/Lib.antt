@@ -10,6 +10,7 @@ pub mod NextPages
 pub mod PageSteps
 pub mod Readers
 pub mod WholeChunk
+pub mod Causes
 pub mod FirstRow
 pub mod InOrder
 pub mod ChunkReaders

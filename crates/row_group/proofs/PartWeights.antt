@@ -5,6 +5,8 @@ use Rattle.std.proofs.lemmas.Bool.{cases_lt}
 use Rattle.std.proofs.lemmas.List.{length-append, take_all, take-take}
 use Rattle.std.proofs.lemmas.List.Elements.{filter_map-append}
 use Rattle.std.proofs.lemmas.List.Sums.{sum_by-cons, sum_by_push, sum_by-take-le}
+use Rattle.schema.specs.declared.value.Kind.{Kind}
+use Rattle.schema.specs.declared.value.Kind.TheVariants.{Boolean, Int32, Int64, ByteArray, FixedLenByteArray}
 use Rattle.schema.specs.Values.{ValueTree, null, boolean, integer, bytes, group, list}
 use Rattle.schema.specs.Stripe.{Entry}
 use Rattle.plain.specs.Plain.{text_size}
@@ -13,7 +15,10 @@ use Rattle.dictionary.proofs.Lookups.{value_at, some_is}
 use Rattle.pages.specs.Page.{values}
 use Rattle.pages.specs.Writing.{page_weight, index_weight, dictionary_weight}
 use Rattle.pages.proofs.WrittenPages.{nulls_and_values}
-use Rattle.row_group.specs.Paged.{chunk_weight}
+use Rattle.row_group.specs.declared.options.Style.{Style}
+use Rattle.row_group.specs.declared.options.Style.TheVariants as style
+use Rattle.row_group.specs.Styles.{HasDictionary}
+use Rattle.row_group.specs.Paged.{most_dictionaries, chunk_weight}
 
 -- ---- pages
 
@@ -30,10 +35,10 @@ text_append (group fs ∷ vs) ws = text_append vs ws
 text_append (list fs ∷ vs) ws = text_append vs ws
 
 -- the pages of values weigh as much as the chunk, but for a dictionary
-pub values_weigh : (parts : List (List Entry)) (es : List Entry) → flat_map (λ part. part) parts ≡ es → 1024 + sum_by page_weight parts ≡ chunk_weight (length parts) es
-values_weigh parts es joined = subst (λ (t : List Entry). 1024 + sum_by page_weight parts ≡ chunk_weight (length parts) t) joined (go parts)
+pub values_weigh : (parts : List (List Entry)) (es : List Entry) → flat_map (λ part. part) parts ≡ es → sum_by page_weight parts ≡ 1024 * length parts + 64 * length es + text_size (values es)
+values_weigh parts es joined = subst (λ (t : List Entry). sum_by page_weight parts ≡ 1024 * length parts + 64 * length t + text_size (values t)) joined (go parts)
   where
-    go : (parts : List (List Entry)) → 1024 + sum_by page_weight parts ≡ chunk_weight (length parts) (flat_map (λ part. part) parts)
+    go : (parts : List (List Entry)) → sum_by page_weight parts ≡ 1024 * length parts + 64 * length (flat_map (λ part. part) parts) + text_size (values (flat_map (λ part. part) parts))
     go [] = refl
     go (part ∷ parts) =
         let rest = flat_map (λ (part : List Entry). part) parts in
@@ -133,6 +138,19 @@ fewer_entries vs es is p = omega (arith, lengths_are es, lengths_are vs, lighter
 pub shorter_entries : (vs es : List ValueTree) (is : List ℕ) → IsIndexed vs es is → text_size es ≤ text_size vs
 shorter_entries vs es is p = omega (arith, texts_are es, texts_are vs, lighter size_of vs es is p)
 
--- so a chunk with its dictionary weighs no more than one without
-pub with_dictionary : (es : List Entry) (vs : List ValueTree) (is : List ℕ) (n : ℕ) → IsIndexed (values es) vs is → dictionary_weight vs + (1024 * n + 32 * length es) ≤ chunk_weight n es
-with_dictionary es vs is n p = omega (arith, fewer_entries (values es) vs is p, shorter_entries (values es) vs is p, nulls_and_values es)
+-- a chunk that has a dictionary has one by its weight
+pub one_dictionary : (s : Style) (kind : Kind) (es : List Entry) → HasDictionary s kind es → most_dictionaries s kind (values es) ≡ 1
+one_dictionary s kind es has = subst (λ (t : Style). most_dictionaries t kind (values es) ≡ 1) (sym has.style) (by (values es) kind has.some has.not_boolean)
+  where
+    by : (vs : List ValueTree) (k : Kind) → 0 < length vs → (k ≡ Boolean → ⊥) → most_dictionaries style.Dictionary k vs ≡ 1
+    by [] k some other = absurd (omega (arith, some))
+    by (v ∷ vs) Boolean some other = absurd (other refl)
+    by (v ∷ vs) Int32 some other = refl
+    by (v ∷ vs) Int64 some other = refl
+    by (v ∷ vs) ByteArray some other = refl
+    by (v ∷ vs) (FixedLenByteArray n) some other = refl
+
+-- and its bytes are at most its weight
+pub with_dictionary : (s : Style) (kind : Kind) (es : List Entry) (vs : List ValueTree) (is : List ℕ) (n : ℕ) → HasDictionary s kind es → IsIndexed (values es) vs is
+    → dictionary_weight vs + (1024 * n + 32 * length es) ≤ chunk_weight s kind n es
+with_dictionary s kind es vs is n has p = omega (arith, one_dictionary s kind es has, fewer_entries (values es) vs is p, shorter_entries (values es) vs is p, nulls_and_values es)

@@ -1,6 +1,6 @@
 -- Why the pages of a chunk are refused, and what its dictionary says of all values.
 use Rattle.std.proofs.Common.{◌≡◌, ℕ, zero, suc, ◌+◌, ◌<◌, ◌≤◌, ◌++◌, List, [], ◌∷◌, length, get_or, take, Some, inl, inr, refl, sym, ap, subst, ◌∙◌, arith}
-use Rattle.std.specs.Prelude.{◌↔◌, All, IsTrue, sum_by, slice_get}
+use Rattle.std.specs.Prelude.{◌↔◌, All, IsTrue, flat_map, sum_by, slice_get}
 use Rattle.std.specs.List.{Any, AllByRecursion}
 use Rattle.std.proofs.lemmas.Option.{slice_get_within}
 use Rattle.std.proofs.lemmas.List.{length-append, take-take, take_at}
@@ -16,17 +16,19 @@ use Rattle.dictionary.proofs.Lookups.{get_from_contains, entry_of, some_is}
 use Rattle.dictionary.proofs.Counting.{entry_comes}
 use Rattle.pages.specs.declared.encoding.Encoding.{Encoding}
 use Rattle.pages.specs.Page.{values}
-use Rattle.pages.specs.Writing.{IsEncodingFor, AreShort, IsDictionaryTooMuch, dictionary_weight, index_weight}
+use Rattle.pages.specs.Greatest.{most_of_page}
+use Rattle.pages.specs.Writing.{IsEncodingFor, AreShort, IsDictionaryTooMuch, page_weight, dictionary_weight, index_weight}
 use Rattle.pages.proofs.WrittenPages.{kinds_in, all_short, nulls_and_values}
 use Rattle.row_group.specs.declared.options.Style.{Style}
 use Rattle.row_group.specs.declared.options.Style.TheVariants as style
+use Rattle.row_group.specs.declared.options.ChunkOptions.{ChunkOptions}
 use Rattle.row_group.specs.declared.pages_in_turn.PageValues.{PageValues}
 use Rattle.row_group.specs.declared.pages_in_turn.PageValues.TheVariants.{Encoded}
-use Rattle.row_group.specs.Styles.{encoding_of}
+use Rattle.row_group.specs.Styles.{encoding_of, HasDictionary}
 use Rattle.row_group.specs.Writing.{IsChunkTooMuch, long_value, heavy}
 use Rattle.row_group.specs.inner.Parts.{part_weight, ArePartsTooMuch, long, heavy_page, heavy_parts}
 use Rattle.row_group.proofs.Cuts.{some_cut}
-use Rattle.row_group.proofs.PartWeights.{values_weigh, indexes_weigh, with_dictionary, fewer_entries, shorter_entries}
+use Rattle.row_group.proofs.PartWeights.{values_weigh, indexes_weigh, one_dictionary, with_dictionary, fewer_entries, shorter_entries}
 
 -- the encoding of a style is for the type
 pub encoding_fits : (s : Style) (kind : Kind) → IsEncodingFor kind (encoding_of s kind)
@@ -42,20 +44,35 @@ encoding_fits style.Lengths Int32 = tt
 encoding_fits style.Lengths Int64 = tt
 encoding_fits style.Lengths ByteArray = tt
 encoding_fits style.Lengths (FixedLenByteArray n) = tt
+encoding_fits style.Split Boolean = tt
+encoding_fits style.Split Int32 = tt
+encoding_fits style.Split Int64 = tt
+encoding_fits style.Split ByteArray = tt
+encoding_fits style.Split (FixedLenByteArray n) = tt
 
 -- ---- too much
 
-pub values_much : (before size : ℕ) (encoding : Encoding) (es : List Entry) → 0 < size → ArePartsTooMuch before size (Encoded encoding) es → IsChunkTooMuch before size es
-values_much before size encoding es large (long any) = long_value any
-values_much before size encoding es large (heavy_page h) = let cut = some_cut size es large in heavy cut.0 cut.1 (omega (arith, h))
-values_much before size encoding es large (heavy_parts parts cut h) = heavy parts cut (omega (arith, h, values_weigh parts es cut.joined))
+-- entries that are heavy make a page
+some_parts : (es : List Entry) (parts : List (List Entry)) → flat_map (λ part. part) parts ≡ es → most_of_page < page_weight es → 1 ≤ length parts
+some_parts es [] joined h = let none : most_of_page < page_weight [] = subst (λ (t : List Entry). most_of_page < page_weight t) (sym joined) h in absurd (omega (arith, none))
+some_parts es (part ∷ parts) joined h = omega arith
 
-pub indexes_much : (vs : PageValues) (before mid size : ℕ) (es : List Entry) (ds : List ValueTree) (is : List ℕ) → ((parts : List (List Entry)) → sum_by (part_weight vs) parts ≡ sum_by (λ part. index_weight (length part)) parts)
-    → 0 < size → IsIndexed (values es) ds is → mid ≤ before + dictionary_weight ds → ArePartsTooMuch mid size vs es → IsChunkTooMuch before size es
-indexes_much vs before mid size es ds is weigh large indexed near (long any) = long_value any
-indexes_much vs before mid size es ds is weigh large indexed near (heavy_page h) = let cut = some_cut size es large in heavy cut.0 cut.1 (omega (arith, h))
-indexes_much vs before mid size es ds is weigh large indexed near (heavy_parts parts cut h) =
-    heavy parts cut (omega (arith, h, near, weigh parts, indexes_weigh parts es cut.joined, with_dictionary es ds is (length parts) indexed))
+pub values_much : (leaf : Leaf) (o : ChunkOptions) (before : ℕ) (encoding : Encoding) (es : List Entry) → 0 < o.page_rows → ArePartsTooMuch before o.page_rows (Encoded encoding) es → IsChunkTooMuch leaf o before es
+values_much leaf o before encoding es large (long any) = long_value any
+values_much leaf o before encoding es large (heavy_page h) =
+    let cut = some_cut o.page_rows es large in
+    heavy cut.0 cut.1 (omega (arith, h, some_parts es cut.0 cut.1.joined h))
+values_much leaf o before encoding es large (heavy_parts parts cut h) = heavy parts cut (omega (arith, h, values_weigh parts es cut.joined))
+
+pub indexes_much : (leaf : Leaf) (o : ChunkOptions) (vs : PageValues) (before mid : ℕ) (es : List Entry) (ds : List ValueTree) (is : List ℕ)
+    → ((parts : List (List Entry)) → sum_by (part_weight vs) parts ≡ sum_by (λ part. index_weight (length part)) parts) → 0 < o.page_rows → HasDictionary o.style leaf.leaf_type.kind es → IsIndexed (values es) ds is
+    → mid ≤ before + dictionary_weight ds → ArePartsTooMuch mid o.page_rows vs es → IsChunkTooMuch leaf o before es
+indexes_much leaf o vs before mid es ds is weigh large has indexed near (long any) = long_value any
+indexes_much leaf o vs before mid es ds is weigh large has indexed near (heavy_page h) =
+    let cut = some_cut o.page_rows es large in
+    heavy cut.0 cut.1 (omega (arith, h, one_dictionary o.style leaf.leaf_type.kind es has))
+indexes_much leaf o vs before mid es ds is weigh large has indexed near (heavy_parts parts cut h) =
+    heavy parts cut (omega (arith, h, near, weigh parts, indexes_weigh parts es cut.joined, with_dictionary o.style leaf.leaf_type.kind es ds is (length parts) has indexed))
 
 -- ---- entries and values
 
@@ -75,13 +92,14 @@ any_at P xs i x h p = (i, x, slice_get_within xs i x h, is_at xs i x x h, p)
 at_any : {X : Type 0} (P : X → Type 0) (xs : List X) → (any : Any P xs) → slice_get xs any.0 ≡ Some any.1
 at_any {X} P xs any = got xs any.0 any.1 any.2 ∙ ap (λ (x : X). Some x) any.3
 
-pub dictionary_much : (before size : ℕ) (es : List Entry) (ds : List ValueTree) (is : List ℕ) → 0 < size → IsIndexed (values es) ds is → IsDictionaryTooMuch ds → IsChunkTooMuch before size es
-dictionary_much before size es ds is large indexed (inl any) =
+pub dictionary_much : (leaf : Leaf) (o : ChunkOptions) (before : ℕ) (es : List Entry) (ds : List ValueTree) (is : List ℕ) → 0 < o.page_rows → HasDictionary o.style leaf.leaf_type.kind es → IsIndexed (values es) ds is
+    → IsDictionaryTooMuch ds → IsChunkTooMuch leaf o before es
+dictionary_much leaf o before es ds is large has indexed (inl any) =
     let c = get_from_contains (values es) any.1 (entry_comes (values es) ds is indexed any.0 any.1 (at_any IsTooLong ds any)) in
     long_value (any_at IsTooLong (values es) c.0 any.1 c.1 any.4)
-dictionary_much before size es ds is large indexed (inr h) =
-    let cut = some_cut size es large in
-    heavy cut.0 cut.1 (omega (arith, h, fewer_entries (values es) ds is indexed, shorter_entries (values es) ds is indexed, nulls_and_values es))
+dictionary_much leaf o before es ds is large has indexed (inr h) =
+    let cut = some_cut o.page_rows es large in
+    heavy cut.0 cut.1 (omega (arith, h, one_dictionary o.style leaf.leaf_type.kind es has, fewer_entries (values es) ds is indexed, shorter_entries (values es) ds is indexed, nulls_and_values es))
 
 pub entries_short : (es : List Entry) (ds : List ValueTree) (is : List ℕ) → IsIndexed (values es) ds is → (Any IsTooLong ds → ⊥) → AreShort es
 entries_short es ds is indexed none = all_short (values es) (λ any.

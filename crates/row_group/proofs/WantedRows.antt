@@ -22,6 +22,7 @@ use Rattle.row_group.specs.Limits.{IsOfChunks}
 use Rattle.row_group.specs.Wanted.{CutGroupMeans, IsCutGroupOver}
 use Rattle.row_group.specs.Laws.{FilesHoldOneColumn, CutGroupsHaveCutRows}
 use Rattle.row_group.specs.Left.{chunk_stands}
+use Rattle.row_group.specs.Causes.{reader_cause}
 use Rattle.row_group.specs.inner.Readers.{AreReaders, IsSound, AreSound, refusal_kept}
 use Rattle.row_group.proofs.OneMeaning.{one_columns}
 use Rattle.row_group.proofs.InOrder.{as_many, sound_chunks}
@@ -88,13 +89,13 @@ cut_not_over front places fs g cols few sound (inr over) =
 -- ---- or they are refused
 
 pub no_cut_rows : (front places : List ℕ) (fs : Fields) (g : GroupMeta) (old new : List ChunkReader) (cols : Columns) (e : Refusal) → AreWantedReaders front places fs g old
-    → AreSound front (at_places places g.columns) (at_places places (leaves_of fs)) cols → IsRefusedFor chunk_stands refusal_kept old new (HasFault (cut_to places fs)) e → IsFault e
+    → AreSound front (at_places places g.columns) (at_places places (leaves_of fs)) cols → IsRefusedFor chunk_stands refusal_kept reader_cause old new (HasFault (cut_to places fs)) e → IsFault e
     → (rows : List ValueTrees) → CutGroupMeans front places fs g rows → ⊥
 no_cut_rows front places fs g old new cols e r sound refused fault rows h =
     let cs = at_places places g.columns in
     let ls = at_places places (leaves_of fs) in
     let cut = cut_to places fs in
-    only_faults chunk_stands refusal_kept old new cut e refused fault rows (record {
+    only_faults chunk_stands refusal_kept reader_cause old new cut e refused fault rows (record {
       fit = h.fit;
       stand = sound_stand front cs ls old (columns cut rows) r.readers (sound_others front cs ls cols (columns cut rows) sound h.chunks.hold);
     })
@@ -104,10 +105,10 @@ no_cut_rows front places fs g old new cols e r sound refused fault rows h =
 pub stand_at : {gs hs : Fields} {xs ys : List ChunkReader} (rows : List ValueTrees) → xs ≡ ys → gs ≡ hs → StandForRows chunk_stands xs gs rows → StandForRows chunk_stands ys hs rows
 stand_at {gs} {hs} {xs} {ys} rows e f s = subst (λ (t : Fields). StandForRows chunk_stands ys t rows) f (subst (λ (t : List ChunkReader). StandForRows chunk_stands t gs rows) e s)
 
-pub refused_at : {gs hs : Fields} {xs ys : List ChunkReader} (new : List ChunkReader) (e : Refusal) → xs ≡ ys → gs ≡ hs → IsRefusedFor chunk_stands refusal_kept xs new (HasFault gs) e
-    → IsRefusedFor chunk_stands refusal_kept ys new (HasFault hs) e
+pub refused_at : {gs hs : Fields} {xs ys : List ChunkReader} (new : List ChunkReader) (e : Refusal) → xs ≡ ys → gs ≡ hs → IsRefusedFor chunk_stands refusal_kept reader_cause xs new (HasFault gs) e
+    → IsRefusedFor chunk_stands refusal_kept reader_cause ys new (HasFault hs) e
 refused_at {gs} {hs} {xs} {ys} new e p q s =
-    subst (λ (t : Fields). IsRefusedFor chunk_stands refusal_kept ys new (HasFault t) e) q (subst (λ (t : List ChunkReader). IsRefusedFor chunk_stands refusal_kept t new (HasFault gs) e) p s)
+    subst (λ (t : Fields). IsRefusedFor chunk_stands refusal_kept reader_cause ys new (HasFault t) e) q (subst (λ (t : List ChunkReader). IsRefusedFor chunk_stands refusal_kept reader_cause t new (HasFault gs) e) p s)
 
 pub cut_which : (places : List ℕ) (fs : Fields) (e : Refusal) → IsCutFault places fs e → HasCause IsOfChunks e
 cut_which places fs refusal.Schema h = tt

@@ -1,11 +1,13 @@
 pub mod Chunks
 pub mod Greatest
 pub mod Limits
+pub mod RecordFaults
 pub mod Wanted
 pub mod Rest
 pub mod PageLeft
 pub mod PagesView
 pub mod Left
+pub mod Causes
 pub mod Styles
 pub mod Paged
 pub mod Spelled

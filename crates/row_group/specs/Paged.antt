@@ -1,10 +1,16 @@
 -- How the entries of a chunk are cut into pages, and what the chunk weighs.
-use Rattle.std.specs.Prelude.{◌≡◌, ℕ, ◌+◌, ◌-◌, ◌*◌, ◌/◌, ◌<◌, ◌≤◌, List, [], ◌∷◌, length, flat_map, sum_by}
-use Rattle.schema.specs.Values.{ValueTrees}
+use Rattle.std.specs.Prelude.{◌≡◌, ℕ, ◌+◌, ◌-◌, ◌*◌, ◌/◌, ◌<◌, ◌≤◌, List, [], ◌∷◌, length, flat_map}
+use Rattle.schema.specs.declared.value.Kind.{Kind}
+use Rattle.schema.specs.declared.value.Kind.TheVariants.{Boolean}
+use Rattle.schema.specs.Values.{ValueTree, ValueTrees}
 use Rattle.schema.specs.Shape.{Fields}
-use Rattle.schema.specs.Stripe.{Entry, columns}
+use Rattle.schema.specs.Stripe.{Leaf, Entry, leaves_of, columns}
+use Rattle.plain.specs.Plain.{text_size}
 use Rattle.pages.specs.Headers.{rows_in}
-use Rattle.pages.specs.Writing.{page_weight}
+use Rattle.pages.specs.Page.{values}
+use Rattle.row_group.specs.declared.options.Style.{Style}
+use Rattle.row_group.specs.declared.options.Style.TheVariants as style
+use Rattle.row_group.specs.declared.options.ChunkOptions.{ChunkOptions}
 
 -- the first of the entries begins a row
 abbrev pub BeginsRow : List Entry → Type 0
@@ -27,10 +33,22 @@ pub record ArePagesOf (size : ℕ) (es : List Entry) (parts : List (List Entry))
 abbrev pub parts_of : ℕ → ℕ → ℕ
 parts_of n size = (n + (size - 1)) / size
 
--- a chunk: 1,024 bytes for each of its pages and once more for a dictionary, 64 an entry, and the bytes of its byte values
-abbrev pub chunk_weight : ℕ → List Entry → ℕ
-chunk_weight pages es = 1024 * pages + page_weight es
+-- how many dictionaries a chunk of these values may have: one where its style has them, unless there are no values, or they are BOOLEAN
+abbrev pub most_dictionaries : Style → Kind → List ValueTree → ℕ
+most_dictionaries s kind [] = 0
+most_dictionaries style.Dictionary Boolean (v ∷ vs) = 0
+most_dictionaries style.Dictionary kind (v ∷ vs) = 1
+most_dictionaries s kind (v ∷ vs) = 0
 
--- the chunks of a group, in pages of so many rows
-abbrev pub group_weight : Fields → ℕ → List ValueTrees → ℕ
-group_weight fs page_rows rows = sum_by (chunk_weight (parts_of (length rows) page_rows)) (columns fs rows)
+-- a chunk: 1,024 bytes for each of its pages and once more for a dictionary, 64 an entry, and the bytes of its byte values
+abbrev pub chunk_weight : Style → Kind → ℕ → List Entry → ℕ
+chunk_weight s kind pages es = 1024 * (pages + most_dictionaries s kind (values es)) + 64 * length es + text_size (values es)
+
+-- the chunks of columns, each of its leaf, that begin n rows each
+abbrev pub columns_weight : ChunkOptions → ℕ → List Leaf → List (List Entry) → ℕ
+columns_weight o n (leaf ∷ leaves) (es ∷ cols) = chunk_weight o.style leaf.leaf_type.kind (parts_of n o.page_rows) es + columns_weight o n leaves cols
+columns_weight o n _ _ = 0
+
+-- the chunks of a group
+abbrev pub group_weight : Fields → ChunkOptions → List ValueTrees → ℕ
+group_weight fs o rows = columns_weight o (length rows) (leaves_of fs) (columns fs rows)

@@ -7,7 +7,7 @@ use Rattle.dictionary.specs.Entries.{AreMoreThan}
 use Rattle.pages.specs.Page.{values}
 use Rattle.pages.specs.Headers.{number_of}
 use Rattle.pages.specs.declared.encoding.Encoding.{Encoding}
-use Rattle.pages.specs.declared.encoding.Encoding.TheVariants.{Plain, Rle, DeltaBinaryPacked, DeltaLengthByteArray, DeltaByteArray}
+use Rattle.pages.specs.declared.encoding.Encoding.TheVariants.{Plain, Rle, DeltaBinaryPacked, DeltaLengthByteArray, DeltaByteArray, ByteStreamSplit}
 use Rattle.row_group.specs.declared.options.Style.{Style}
 use Rattle.row_group.specs.declared.options.Style.TheVariants as style
 
@@ -23,6 +23,11 @@ encoding_of style.Lengths Int32 = DeltaBinaryPacked
 encoding_of style.Lengths Int64 = DeltaBinaryPacked
 encoding_of style.Lengths ByteArray = DeltaLengthByteArray
 encoding_of style.Lengths (FixedLenByteArray n) = Plain
+encoding_of style.Split Boolean = Rle
+encoding_of style.Split Int32 = ByteStreamSplit
+encoding_of style.Split Int64 = ByteStreamSplit
+encoding_of style.Split ByteArray = Plain
+encoding_of style.Split (FixedLenByteArray n) = ByteStreamSplit
 encoding_of s kind = Plain
 
 -- The chunk of these entries has a dictionary: its style says so, its values are not BOOLEAN, there are some, and at most 65,536

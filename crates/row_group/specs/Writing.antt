@@ -17,6 +17,7 @@ use Rattle.row_group.specs.Limits.{IsChunkOver}
 use Rattle.row_group.specs.declared.options.ChunkOptions.{ChunkOptions}
 use Rattle.row_group.specs.Paged.{ArePagesOf, chunk_weight, group_weight}
 use Rattle.row_group.specs.Spelled.{HasPages, AreStatisticsOf}
+use Rattle.row_group.specs.Styles.{HasDictionary}
 
 -- The bytes of `new` are those of `old` and a chunk of these entries, which starts right after `old` and whose pages fill
 -- exactly what was written, whatever follows it; so says its record. It goes beyond no limit of a reader. Each page has its rows, as the options say, and is written as
@@ -33,15 +34,17 @@ pub record AppendsChunk (leaf : Leaf) (o : ChunkOptions) (old new : List ℕ) (m
   pub size : m.total_compressed_size ≡ Some (pos (length text))
   pub plain_size : m.total_uncompressed_size ≡ Some (pos (length text))
   pub statistics : AreStatisticsOf leaf es m.statistics
-  pub short : length text ≤ chunk_weight (length parts) es
+  pub short : length text ≤ chunk_weight o.style leaf.leaf_type.kind (length parts) es
 
--- why entries are too much for a chunk with these options after this many bytes
-pub data IsChunkTooMuch (before size : ℕ) (es : List Entry) : Type 0 where
-  empty_pages : size ≡ 0 → IsChunkTooMuch before size es
-  at_the_front : before ≡ 0 → IsChunkTooMuch before size es
-  many_entries : most_entries <ℤ pos (length es) → IsChunkTooMuch before size es
-  long_value : Any IsTooLong (values es) → IsChunkTooMuch before size es
-  heavy : (parts : List (List Entry)) → ArePagesOf size es parts → most_bytes_before < before + chunk_weight (length parts) es → IsChunkTooMuch before size es
+-- Why entries are too much for a chunk with these options after this many bytes. (A dictionary's page at the front of a file has the
+-- offset 0, which says in the record that there is none.)
+pub data IsChunkTooMuch (leaf : Leaf) (o : ChunkOptions) (before : ℕ) (es : List Entry) : Type 0 where
+  empty_pages : o.page_rows ≡ 0 → IsChunkTooMuch leaf o before es
+  at_the_front : before ≡ 0 → HasDictionary o.style leaf.leaf_type.kind es → IsChunkTooMuch leaf o before es
+  many_entries : most_entries <ℤ pos (length es) → IsChunkTooMuch leaf o before es
+  long_value : Any IsTooLong (values es) → IsChunkTooMuch leaf o before es
+  heavy : (parts : List (List Entry)) → ArePagesOf o.page_rows es parts
+      → most_bytes_before < before + chunk_weight o.style leaf.leaf_type.kind (length parts) es → IsChunkTooMuch leaf o before es
 
 -- a chunk of this file: no path is given, and 0 for the offset that parquet.thrift deprecates
 pub record IsOwnChunk (c : ChunkMeta) : Type 0 where
@@ -65,21 +68,26 @@ pub record AppendsGroup (fs : Fields) (o : ChunkOptions) (old new : List ℕ) (g
   pub fit : RowsFit fs rows
   pub chunks : AppendsEach o (leaves_of fs) (columns fs rows) old new g.columns
   pub size : g.total_byte_size ≡ Some (pos (length text))
-  pub short : length text ≤ group_weight fs o.page_rows rows
+  pub short : length text ≤ group_weight fs o rows
 
 -- none of the columns has too many entries, or a value that is longer than a value may be
 pub record AreTaken (fs : Fields) (rows : List ValueTrees) : Type 0 where
   pub few : AllByRecursion (λ es. most_entries <ℤ pos (length es) → ⊥) (columns fs rows)
   pub values_short : AllByRecursion AreShort (columns fs rows)
 
--- why rows are too much for a group, in pages of so many rows, after this many bytes
-pub data IsGroupTooMuch (before size : ℕ) (fs : Fields) (rows : List ValueTrees) : Type 0 where
-  empty_pages : size ≡ 0 → IsGroupTooMuch before size fs rows
-  at_the_front : before ≡ 0 → IsGroupTooMuch before size fs rows
-  many_rows : most_rows <ℤ pos (length rows) → IsGroupTooMuch before size fs rows
-  many_entries : Any (λ es. most_entries <ℤ pos (length es)) (columns fs rows) → IsGroupTooMuch before size fs rows
-  long_value : Any (λ es. Any IsTooLong (values es)) (columns fs rows) → IsGroupTooMuch before size fs rows
-  heavy : most_bytes_before < before + group_weight fs size rows → IsGroupTooMuch before size fs rows
+-- the chunk of the first column has a dictionary
+abbrev pub BeginsWithDictionary : ChunkOptions → List Leaf → List (List Entry) → Type 0
+BeginsWithDictionary o (leaf ∷ leaves) (es ∷ cols) = HasDictionary o.style leaf.leaf_type.kind es
+BeginsWithDictionary o _ _ = ⊥
+
+-- why rows are too much for a group with these options after this many bytes
+pub data IsGroupTooMuch (fs : Fields) (o : ChunkOptions) (before : ℕ) (rows : List ValueTrees) : Type 0 where
+  empty_pages : o.page_rows ≡ 0 → IsGroupTooMuch fs o before rows
+  at_the_front : before ≡ 0 → BeginsWithDictionary o (leaves_of fs) (columns fs rows) → IsGroupTooMuch fs o before rows
+  many_rows : most_rows <ℤ pos (length rows) → IsGroupTooMuch fs o before rows
+  many_entries : Any (λ es. most_entries <ℤ pos (length es)) (columns fs rows) → IsGroupTooMuch fs o before rows
+  long_value : Any (λ es. Any IsTooLong (values es)) (columns fs rows) → IsGroupTooMuch fs o before rows
+  heavy : most_bytes_before < before + group_weight fs o rows → IsGroupTooMuch fs o before rows
 
 -- what rows are refused for that should make a group
 abbrev pub IsOfRows : Refusal → Type 0

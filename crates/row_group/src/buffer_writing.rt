@@ -44,7 +44,7 @@ pub fn write_buffered_group(
     ensures readable { OnOk result ((all : List ValueTrees) → holds rows.now all → AreTaken (schema_of rows.now) all) }
     ensures only { OnFault result ((all : List ValueTrees) → holds rows.now all → ⊥) }
     ensures limit { result ≡ Err Refusal.Limit → (all : List ValueTrees) → holds rows.now all
-        → IsGroupTooMuch (length out.old.items) options.page_rows (schema_of rows.now) all }
+        → IsGroupTooMuch (schema_of rows.now) options (length out.old.items) all }
     ensures which { RefusedOnly IsOfRows result }
     ensures unchanged { OnErr result (out.new.items ≡ out.old.items) }
 {
@@ -79,7 +79,7 @@ fn write_columns(
         (leaves_of (schema_of rows.now)) (columns (schema_of rows.now) all) out.old.items out.new.items (map chunk_meta_view cs.items)) }
     ensures only { OnFault result ((all : List ValueTrees) → holds rows.now all → ⊥) }
     ensures limit { result ≡ Err Refusal.Limit → (all : List ValueTrees) → holds rows.now all
-        → AreTooMuch (length out.old.items) options.page_rows (columns (schema_of rows.now) all) }
+        → AreTooMuch options (leaves_of (schema_of rows.now)) (length out.old.items) (columns (schema_of rows.now) all) }
     ensures which { RefusedOnly IsOfRows result }
     ensures extends { Extends out.old.items out.new.items }
 {
@@ -110,7 +110,7 @@ fn write_column<'b>(
     ensures only { OnFault result ((all : List ValueTrees) → holds rows.now all
         → AllByRecursion (IsEntryOf (leaf_view leaf.now)) (get_or (columns (schema_of rows.now) all) index []) → ⊥) }
     ensures limit { result ≡ Err Refusal.Limit → (all : List ValueTrees) → holds rows.now all → let es = get_or (columns (schema_of rows.now) all) index [] in
-        AllByRecursion (IsEntryOf (leaf_view leaf.now)) es → IsChunkTooMuch (length out.old.items) options.page_rows es }
+        AllByRecursion (IsEntryOf (leaf_view leaf.now)) es → IsChunkTooMuch (leaf_view leaf.now) options (length out.old.items) es }
     ensures which { RefusedOnly IsOfRows result }
     ensures extends { Extends out.old.items out.new.items }
 {
@@ -145,7 +145,7 @@ fn put_column<'b>(
     ensures only { OnFault result ((all : List ValueTrees) → holds rows.now all
         → AllByRecursion (IsEntryOf (leaf_view leaf.now)) (get_or (columns (schema_of rows.now) all) index []) → ⊥) }
     ensures limit { result ≡ Err Refusal.Limit → (all : List ValueTrees) → holds rows.now all → let es = get_or (columns (schema_of rows.now) all) index [] in
-        AllByRecursion (IsEntryOf (leaf_view leaf.now)) es → IsChunkTooMuch (length out.old.items) options.page_rows es }
+        AllByRecursion (IsEntryOf (leaf_view leaf.now)) es → IsChunkTooMuch (leaf_view leaf.now) options (length out.old.items) es }
     ensures extends { Extends out.old.items out.new.items }
 {
     match rows.plain_values(index) {

@@ -44,16 +44,21 @@ pub(crate) fn put_chunk_pages(
     out: &mut Vec<u8>,
 ) -> R<ChunkPages>
     requires rows { 0 < options.page_rows }
-    requires begun { 0 < length out.old.items }
     ensures stands { IfOk result (λ pages. AppendsPages (leaf_view leaf.now) options out.old.items out.new.items pages (map entry_ref_view entries.now)) }
     ensures within_limits { OnOk result (AreShort (map entry_ref_view entries.now)) }
     ensures only { OnFault result (AllByRecursion (IsEntryOf (leaf_view leaf.now)) (map entry_ref_view entries.now) → ⊥) }
-    ensures limit { result ≡ Err Refusal.Limit → IsChunkTooMuch (length out.old.items) options.page_rows (map entry_ref_view entries.now) }
+    ensures limit { result ≡ Err Refusal.Limit → IsChunkTooMuch (leaf_view leaf.now) options (length out.old.items) (map entry_ref_view entries.now) }
     ensures which { RefusedOnly IsOfEntries result }
     ensures front { OnErr result (take (length out.old.items) out.new.items ≡ out.old.items) }
 {
     match dictionary_of(alloc, leaf, options.style, entries)? {
-        Some(dictionary) => put_index_pages(alloc, leaf, options, &dictionary, entries, out),
+        Some(dictionary) => {
+            // The record cannot say that a dictionary's page is at the front of a file: its offset counts only above 0.
+            if out.is_empty() {
+                return Err(Refusal::Limit);
+            }
+            put_index_pages(alloc, leaf, options, &dictionary, entries, out)
+        }
         None => put_value_pages(alloc, leaf, options, entries, out),
     }
 }
@@ -71,7 +76,7 @@ fn put_value_pages(
     ensures stands { IfOk result (λ pages. AppendsPages (leaf_view leaf.now) options out.old.items out.new.items pages (map entry_ref_view entries.now)) }
     ensures within_limits { OnOk result (AreShort (map entry_ref_view entries.now)) }
     ensures only { OnFault result (AllByRecursion (IsEntryOf (leaf_view leaf.now)) (map entry_ref_view entries.now) → ⊥) }
-    ensures limit { result ≡ Err Refusal.Limit → IsChunkTooMuch (length out.old.items) options.page_rows (map entry_ref_view entries.now) }
+    ensures limit { result ≡ Err Refusal.Limit → IsChunkTooMuch (leaf_view leaf.now) options (length out.old.items) (map entry_ref_view entries.now) }
     ensures which { RefusedOnly IsOfEntries result }
     ensures front { OnErr result (take (length out.old.items) out.new.items ≡ out.old.items) }
 {
@@ -108,7 +113,7 @@ pub(crate) fn put_copied_pages(
         → IfOk result (λ pages. AppendsPages (leaf_view leaf.now) options out.old.items out.new.items pages es) }
     ensures within_limits { OnOk result (AreShort (flat_entries (values_left values.entry))) }
     ensures limit { let es = flat_entries (values_left values.entry) in result ≡ Err Refusal.Limit → AllByRecursion (IsEntryOf (leaf_view leaf.now)) es
-        → IsChunkTooMuch (length out.old.items) options.page_rows es }
+        → IsChunkTooMuch (leaf_view leaf.now) options (length out.old.items) es }
     ensures which { RefusedOnly (λ e. e ≡ Refusal.Limit) result }
     ensures front { take (length out.old.items) out.new.items ≡ out.old.items }
 {
@@ -138,7 +143,7 @@ fn put_index_pages(
     ensures stands { IfOk result (λ pages. AppendsPages (leaf_view leaf.now) options out.old.items out.new.items pages (map entry_ref_view entries.now)) }
     ensures within_limits { OnOk result (AreShort (map entry_ref_view entries.now)) }
     ensures only { OnFault result (AllByRecursion (IsEntryOf (leaf_view leaf.now)) (map entry_ref_view entries.now) → ⊥) }
-    ensures limit { result ≡ Err Refusal.Limit → IsChunkTooMuch (length out.old.items) options.page_rows (map entry_ref_view entries.now) }
+    ensures limit { result ≡ Err Refusal.Limit → IsChunkTooMuch (leaf_view leaf.now) options (length out.old.items) (map entry_ref_view entries.now) }
     ensures which { RefusedOnly IsOfEntries result }
     ensures front { OnErr result (take (length out.old.items) out.new.items ≡ out.old.items) }
 {

@@ -1,12 +1,13 @@
 //! The entries of a chunk, one by one.
 
-ghost use Rattle.std.specs.Prelude.{◌≡◌, ◌≢◌, ◌<ℤ◌, ◌&&◌, pos, List, [], length, true, false, IfOk, Err, option_map, is_some};
+ghost use Rattle.std.specs.Prelude.{◌≡◌, ◌≢◌, ◌<ℤ◌, ◌&&◌, pos, List, [], length, true, false, IfOk, IfErr, Err, option_map, is_some};
 ghost use Rattle.bits.specs.Faults.{refusal_of};
 ghost use Rattle.bits.specs.Refusals.{OnFault, RefusedOnly};
 ghost use Rattle.bits.specs.Codec.{NothingStands};
 ghost use Rattle.schema.specs.Borrowed.{entry_ref_view, value_ref_view};
 ghost use Rattle.schema.specs.Views.{leaf_view, leaf_type_view};
 ghost use Rattle.metadata.specs.Views.{column_meta_view};
+ghost use Rattle.bits.specs.declared.refusal.Refusal.{Refusal};
 ghost use Rattle.row_group.specs.Chunks.{ChunkMeans};
 ghost use Rattle.row_group.specs.Greatest.{most_entries};
 ghost use Rattle.row_group.specs.Limits.{IsOfChunks};
@@ -46,6 +47,7 @@ pub struct ChunkReader<'a> {
 }
 
 impl<'a> ChunkReader<'a> {
+    ghost use Rattle.row_group.specs.Causes.{IsCause, IsCaused, IsChunkCause};
     ghost use Rattle.row_group.specs.Left.{reader_view, StandsForChunk};
     ghost use Rattle.row_group.specs.inner.Readers.{Fills, PeeksPage};
 
@@ -62,6 +64,7 @@ impl<'a> ChunkReader<'a> {
         leaf: &'a Leaf,
     ) -> R<ChunkReader<'a>>
         ensures stands { IfOk result (StandsForChunk (column_meta_view meta.now) (leaf_view leaf.now) bytes.now) }
+        ensures causes { IfOk result (λ r. (e : Refusal) → IsCause (reader_view r) e → IsChunkCause (column_meta_view meta.now) (leaf_view leaf.now) bytes.now e) }
         ensures only { OnFault result (NothingStands (ChunkMeans (column_meta_view meta.now) (leaf_view leaf.now) bytes.now)) }
         ensures limit { result ≡ Err Refusal.Limit → most_entries <ℤ (column_meta_view meta.now).num_values }
         ensures codec { result ≡ Err Refusal.Codec → (column_meta_view meta.now).codec ≢ pos 0 }
@@ -89,7 +92,8 @@ impl<'a> ChunkReader<'a> {
     /// that of a page, which is kept unless it is Memory.
     #[inline(always)]
     fn fill(&mut self) -> Result<(), Fault>
-        ensures { Fills (reader_view self.old) (reader_view self.new) result }
+        ensures fills { Fills (reader_view self.old) (reader_view self.new) result }
+        ensures caused { IsCaused (reader_view self.old) (reader_view self.new) result }
     {
         if self.page_len() > 0 {
             return Ok(());
@@ -104,7 +108,8 @@ impl<'a> ChunkReader<'a> {
     #[inline(never)]
     fn read_next_page(&mut self) -> Result<(), Fault>
         requires { page_left self.old.page ≡ [] }
-        ensures { Fills (reader_view self.old) (reader_view self.new) result }
+        ensures fills { Fills (reader_view self.old) (reader_view self.new) result }
+        ensures caused { IsCaused (reader_view self.old) (reader_view self.new) result }
     {
         if let Some(fault) = self.fault {
             return Err(fault);
@@ -156,6 +161,7 @@ fn kept(fault: Fault) -> Option<Fault>
 }
 
 impl<'a> ChunkReader<'a> {
+    ghost use Rattle.row_group.specs.Causes.{CausesStay, IsCaused};
     ghost use Rattle.row_group.specs.Left.{reader_view};
     ghost use Rattle.row_group.specs.inner.Readers.{GivesPlain, AdvancesReader, last_taken};
 
@@ -164,7 +170,8 @@ impl<'a> ChunkReader<'a> {
     // Most values of columns without levels come through here: no more is looked at than for one value.
     #[inline(always)]
     fn next_plain(&mut self) -> Option<ValueRef<'a>>
-        ensures { GivesPlain (reader_view self.old) (reader_view self.new) result }
+        ensures gives { GivesPlain (reader_view self.old) (reader_view self.new) result }
+        ensures caused { CausesStay (reader_view self.old) (reader_view self.new) }
     {
         match &mut self.page {
             Some(page) => page.next_plain(),
@@ -183,7 +190,8 @@ impl<'a> ChunkReader<'a> {
     /// Takes the next entry, if there is one: `entry` is that one from then on. Refused as `fill`.
     #[inline(always)]
     fn advance(&mut self) -> Result<bool, Fault>
-        ensures { AdvancesReader (reader_view self.old) (reader_view self.new) (last_taken self.new) result }
+        ensures advances { AdvancesReader (reader_view self.old) (reader_view self.new) (last_taken self.new) result }
+        ensures caused { IsCaused (reader_view self.old) (reader_view self.new) result }
     {
         self.fill()?;
         match &mut self.page {
@@ -209,11 +217,14 @@ impl<'a> ChunkReader<'a> {
 }
 
 impl<'a> EntrySource for ChunkReader<'a> {
+    ghost use Rattle.row_group.specs.Causes.{reader_cause};
     ghost use Rattle.row_group.specs.Left.{chunk_stands, chunk_checked};
 
     ghost stands = { chunk_stands };
 
     ghost refused = { λ r. option_map refusal_of r.fault };
+
+    ghost cause = { reader_cause };
 
     ghost checked = { chunk_checked };
 

@@ -27,6 +27,8 @@ pub(crate) fn encoding_of(style: Style, kind: Kind) -> Encoding
     match (style, kind) {
         (Style::Plain | Style::Dictionary, _) => Encoding::Plain,
         (_, Kind::Boolean) => Encoding::Rle,
+        (Style::Split, Kind::ByteArray) => Encoding::Plain,
+        (Style::Split, _) => Encoding::ByteStreamSplit,
         (_, Kind::Int32 | Kind::Int64) => Encoding::DeltaBinaryPacked,
         (Style::Delta, Kind::ByteArray | Kind::FixedLenByteArray(_)) => Encoding::DeltaByteArray,
         (Style::Lengths, Kind::ByteArray) => Encoding::DeltaLengthByteArray,

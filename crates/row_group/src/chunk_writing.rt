@@ -38,9 +38,10 @@ use std::rc::RcStr;
 /// no entries there is no page.
 ///
 /// Refused Levels or Value only where an entry is none of the leaf's. Refused Limit only where `page_rows` is
-/// 0, where `out` is empty (a chunk does not begin at the front of a file, where its magic stands), where
-/// there are more than 16,777,216 entries, where a value has more than 16 MiB, or where what was there and
-/// the chunk weigh more than 2^31 - 1 bytes. After a refusal `out` is as it was.
+/// 0, where `out` is empty and the chunk has a dictionary (the offset of its page is then 0, which says in a
+/// record that there is none), where there are more than 16,777,216 entries, where a value has more than
+/// 16 MiB, or where what was there and the chunk weigh more than 2^31 - 1 bytes. After a refusal `out` is as
+/// it was.
 pub fn write_chunk(
     alloc: Global,
     leaf: &Leaf,
@@ -53,11 +54,11 @@ pub fn write_chunk(
     ensures within_limits { OnOk result (AreShort (map entry_ref_view entries.now)) }
     ensures entries_within_limits { OnOk result (most_entries <ℤ pos (length (map entry_ref_view entries.now)) → ⊥) }
     ensures only { OnFault result (AllByRecursion (IsEntryOf (leaf_view leaf.now)) (map entry_ref_view entries.now) → ⊥) }
-    ensures limit { result ≡ Err Refusal.Limit → IsChunkTooMuch (length out.old.items) options.page_rows (map entry_ref_view entries.now) }
+    ensures limit { result ≡ Err Refusal.Limit → IsChunkTooMuch (leaf_view leaf.now) options (length out.old.items) (map entry_ref_view entries.now) }
     ensures which { RefusedOnly IsOfEntries result }
     ensures unchanged { OnErr result (out.new.items ≡ out.old.items) }
 {
-    if options.page_rows == 0 || out.is_empty() || entries.len() > MOST_ENTRIES_OF_CHUNK as usize {
+    if options.page_rows == 0 || entries.len() > MOST_ENTRIES_OF_CHUNK as usize {
         return Err(Refusal::Limit);
     }
     let kept = out.len();
@@ -87,12 +88,12 @@ pub(crate) fn write_plain_chunk(
     ensures entries_within_limits { OnOk result (most_entries <ℤ pos (length (flat_entries (values_left values.entry))) → ⊥) }
     ensures only { OnFault result (AllByRecursion (IsEntryOf (leaf_view leaf.now)) (flat_entries (values_left values.entry)) → ⊥) }
     ensures limit { let es = flat_entries (values_left values.entry) in result ≡ Err Refusal.Limit → AllByRecursion (IsEntryOf (leaf_view leaf.now)) es
-        → IsChunkTooMuch (length out.old.items) options.page_rows es }
+        → IsChunkTooMuch (leaf_view leaf.now) options (length out.old.items) es }
     ensures which { RefusedOnly IsOfEntries result }
     ensures front { take (length out.old.items) out.new.items ≡ out.old.items }
     ensures unchanged { OnErr result (out.new.items ≡ out.old.items) }
 {
-    if options.page_rows == 0 || out.is_empty() || values.len() > MOST_ENTRIES_OF_CHUNK as usize {
+    if options.page_rows == 0 || values.len() > MOST_ENTRIES_OF_CHUNK as usize {
         return Err(Refusal::Limit);
     }
     let kept = out.len();
@@ -112,13 +113,12 @@ fn put_chunk(
     out: &mut Vec<u8>,
 ) -> R<ColumnMeta>
     requires rows { 0 < options.page_rows }
-    requires begun { 0 < length out.old.items }
     requires few { length entries.now ≤ 16777216 }
     ensures stands { IfOk result (λ m.
         AppendsChunk (leaf_view leaf.now) options out.old.items out.new.items (column_meta_view m) (map entry_ref_view entries.now)) }
     ensures within_limits { OnOk result (AreShort (map entry_ref_view entries.now)) }
     ensures only { OnFault result (AllByRecursion (IsEntryOf (leaf_view leaf.now)) (map entry_ref_view entries.now) → ⊥) }
-    ensures limit { result ≡ Err Refusal.Limit → IsChunkTooMuch (length out.old.items) options.page_rows (map entry_ref_view entries.now) }
+    ensures limit { result ≡ Err Refusal.Limit → IsChunkTooMuch (leaf_view leaf.now) options (length out.old.items) (map entry_ref_view entries.now) }
     ensures which { RefusedOnly IsOfEntries result }
     ensures front { OnErr result (take (length out.old.items) out.new.items ≡ out.old.items) }
 {
@@ -148,7 +148,7 @@ fn put_plain_chunk(
     ensures within_limits { OnOk result (AreShort (flat_entries (values_left values.entry))) }
     ensures only { OnFault result (AllByRecursion (IsEntryOf (leaf_view leaf.now)) (flat_entries (values_left values.entry)) → ⊥) }
     ensures limit { let es = flat_entries (values_left values.entry) in result ≡ Err Refusal.Limit → AllByRecursion (IsEntryOf (leaf_view leaf.now)) es
-        → IsChunkTooMuch (length out.old.items) options.page_rows es }
+        → IsChunkTooMuch (leaf_view leaf.now) options (length out.old.items) es }
     ensures which { RefusedOnly IsOfEntries result }
     ensures front { take (length out.old.items) out.new.items ≡ out.old.items }
 {

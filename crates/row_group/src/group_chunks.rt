@@ -1,6 +1,6 @@
 //! The chunks of a group.
 
-ghost use Rattle.std.specs.Prelude.{◌≡◌, ◌≢◌, ℕ, pos, true, List, drop, IfOk, OnOk, Err};
+ghost use Rattle.std.specs.Prelude.{◌≡◌, ◌≢◌, ℕ, pos, true, List, drop, IfOk, OnOk, IfErr, Err};
 ghost use Rattle.bits.specs.Refusals.{OnFault, RefusedOnly};
 ghost use Rattle.schema.specs.Law.{IsSchema};
 ghost use Rattle.schema.specs.Stripe.{Entry, leaves_of};
@@ -105,12 +105,13 @@ pub fn check_column(alloc: Global, front: &[u8], meta: &ColumnMeta, leaf: &Leaf)
 }
 
 /// Where a chunk starts in its file: at its dictionary's page, where the offset of one is given above 0
-/// and before the data page; else at the data page. Refused Page for a negative offset.
-fn start_of(meta: &ColumnMeta) -> R<usize>
+/// and before the data page; else at the data page. Refused Page for a negative offset, and for nothing else.
+pub fn start_of(meta: &ColumnMeta) -> R<usize>
     ensures stands { IfOk result (λ start. StartsAt (column_meta_view meta.now) start) }
     ensures alone { IfOk result (λ start. (other : ℕ) → StartsAt (column_meta_view meta.now) other → other ≡ start) }
     ensures only { OnFault result ((start : ℕ) → StartsAt (column_meta_view meta.now) start → ⊥) }
     ensures limit { result ≡ Err Refusal.Limit → ⊥ }
+    ensures cause { IfErr result (λ e. e ≡ Refusal.Page) }
     ensures which { RefusedOnly IsOfPages result }
 {
     let Some(page) = natural(meta.data_page_offset) else {

@@ -27,9 +27,9 @@ use std::alloc::Global;
 /// its record. (`parquet.thrift`, RowGroup.)
 ///
 /// Refused RowShape only where a row does not fit the schema. Refused Limit only where `page_rows` is 0, where
-/// `out` is empty, where there are more than 16,777,216 rows, or entries in a column, where a value has more
-/// than 16 MiB, or where what was there and the group weigh more than 2^31 - 1 bytes. Where both are so,
-/// either may come. After a refusal `out` is as it was.
+/// `out` is empty and the chunk of the first leaf has a dictionary, where there are more than 16,777,216 rows,
+/// or entries in a column, where a value has more than 16 MiB, or where what was there and the group weigh more
+/// than 2^31 - 1 bytes. Where both are so, either may come. After a refusal `out` is as it was.
 ///
 /// The rows are shredded once, into entries that borrow their values; beside the rows and `out` these stand in
 /// memory. The time is linear in the entries and in the bytes of the values.
@@ -43,7 +43,7 @@ pub fn write_group(
     ensures stands { IfOk result (λ g. AppendsGroup schema.now options out.old.items out.new.items (group_meta_view g) (rows_view rows.now)) }
     ensures readable { OnOk result (AreTaken schema.now (rows_view rows.now)) }
     ensures only { OnFault result (RowsFit schema.now (rows_view rows.now) → ⊥) }
-    ensures limit { result ≡ Err Refusal.Limit → IsGroupTooMuch (length out.old.items) options.page_rows schema.now (rows_view rows.now) }
+    ensures limit { result ≡ Err Refusal.Limit → IsGroupTooMuch schema.now options (length out.old.items) (rows_view rows.now) }
     ensures which { RefusedOnly IsOfRows result }
     ensures unchanged { OnErr result (out.new.items ≡ out.old.items) }
 {
@@ -79,7 +79,7 @@ fn write_columns(
     requires entries { AreColumnsOf (map leaf_view leaves.now) (column_refs_view columns.now) }
     ensures stands { IfOk result (λ cs.
         AppendsChunks options (map leaf_view leaves.now) (column_refs_view columns.now) out.old.items out.new.items (map chunk_meta_view cs.items)) }
-    ensures limit { result ≡ Err Refusal.Limit → AreTooMuch (length out.old.items) options.page_rows (column_refs_view columns.now) }
+    ensures limit { result ≡ Err Refusal.Limit → AreTooMuch options (map leaf_view leaves.now) (length out.old.items) (column_refs_view columns.now) }
     ensures which { RefusedOnly (λ e. e ≡ Refusal.Limit) result }
     ensures front { OnErr result (take (length out.old.items) out.new.items ≡ out.old.items) }
 {
@@ -105,7 +105,7 @@ fn write_column(
     ensures own { IfOk result (λ c. IsOwnChunk (chunk_meta_view c)) }
     ensures within_limits { OnOk result (AreShort (column_ref_view column.now)) }
     ensures entries_within_limits { OnOk result (most_entries <ℤ pos (length (column_ref_view column.now)) → ⊥) }
-    ensures limit { result ≡ Err Refusal.Limit → IsChunkTooMuch (length out.old.items) options.page_rows (column_ref_view column.now) }
+    ensures limit { result ≡ Err Refusal.Limit → IsChunkTooMuch (leaf_view leaf.now) options (length out.old.items) (column_ref_view column.now) }
     ensures which { RefusedOnly (λ e. e ≡ Refusal.Limit) result }
     ensures unchanged { OnErr result (out.new.items ≡ out.old.items) }
 {

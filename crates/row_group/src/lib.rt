@@ -31,7 +31,10 @@ mod wanted_chunks;
 pub use buffer_writing::write_buffered_group;
 pub use chunk_reader::ChunkReader;
 pub use chunk_reading::{check_chunk, read_chunk};
+pub use chunk_record::check_record;
 pub use chunk_writing::write_chunk;
+pub use counts::{count_of, natural};
+pub use group_chunks::start_of;
 pub use group_reading::read_group;
 pub use group_writing::write_group;
 pub use laws::{

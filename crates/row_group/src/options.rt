@@ -14,6 +14,8 @@ pub enum Style {
     Delta,
     /// As `Delta`, with DELTA_LENGTH_BYTE_ARRAY for BYTE_ARRAY, and PLAIN for fixed lengths.
     Lengths,
+    /// BYTE_STREAM_SPLIT for numbers and fixed lengths, PLAIN for BYTE_ARRAY, RLE for BOOLEAN.
+    Split,
 }
 
 /// How the chunks of a group are written.

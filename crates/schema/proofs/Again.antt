@@ -15,24 +15,24 @@ use Rattle.schema.specs.Listing.{Branch, branch, Branches, no_branches, branches
 
 -- the tree that is listed
 abbrev mutual
-  tree_of : Field → Branch
+  pub tree_of : Field → Branch
   tree_of (leaf n r t) = branch (leaf_element n r t) no_branches
   tree_of (fields n r a fs) = branch (group_element n (Some (pos (repetition_number r))) (group_converted a) (count fs)) (trees_of fs)
 
-  trees_of : Fields → Branches
+  pub trees_of : Fields → Branches
   trees_of no_fields = no_branches
   trees_of (field f fs) = branches (tree_of f) (trees_of fs)
 
 mutual
-  is_listed : (f : Field) → listing f ≡ depth_first (tree_of f)
+  pub is_listed : (f : Field) → listing f ≡ depth_first (tree_of f)
   is_listed (leaf n r t) = refl
   is_listed (fields n r a fs) = ap (λ es. group_element n (Some (pos (repetition_number r))) (group_converted a) (count fs) ∷ es) (are_listed fs)
 
-  are_listed : (fs : Fields) → listings fs ≡ depth_first_each (trees_of fs)
+  pub are_listed : (fs : Fields) → listings fs ≡ depth_first_each (trees_of fs)
   are_listed no_fields = refl
   are_listed (field f fs) = ap (λ es. es ++ listings fs) (is_listed f) ∙ ap (λ es. depth_first (tree_of f) ++ es) (are_listed fs)
 
-as_many : (fs : Fields) → count_branches (trees_of fs) ≡ count fs
+pub as_many : (fs : Fields) → count_branches (trees_of fs) ≡ count fs
 as_many no_fields = refl
 as_many (field f fs) = ap suc (as_many fs)
 
@@ -40,15 +40,15 @@ some : (fs : Fields) → IsFilled fs → 1 ≤ count_branches (trees_of fs)
 some no_fields p = absurd p
 some (field f fs) p = omega arith
 
-has_children : (fs : Fields) → IsFilled fs → HasChildren None (Some (pos (count fs))) (count_branches (trees_of fs))
+pub has_children : (fs : Fields) → IsFilled fs → HasChildren None (Some (pos (count fs))) (count_branches (trees_of fs))
 has_children fs p = (some fs p, ap (λ n. Some (pos n)) (sym (as_many fs)))
 
 mutual
-  is_counted : (f : Field) → IsValid f → IsCounted (tree_of f)
+  pub is_counted : (f : Field) → IsValid f → IsCounted (tree_of f)
   is_counted (leaf n r t) p = ((refl, inl refl), tt)
   is_counted (fields n r a fs) p = (has_children fs (p.0).some, are_counted fs p.1)
 
-  are_counted : (fs : Fields) → AreValid fs → AreCounted (trees_of fs)
+  pub are_counted : (fs : Fields) → AreValid fs → AreCounted (trees_of fs)
   are_counted no_fields p = tt
   are_counted (field f fs) p = (is_counted f p.0, are_counted fs p.1)
 
@@ -80,11 +80,11 @@ is_typed n r t p = record {
 }
 
 mutual
-  is_field : (f : Field) → IsValid f → IsField (tree_of f) f
+  pub is_field : (f : Field) → IsValid f → IsField (tree_of f) f
   is_field (leaf n r t) p = (refl, own_repetition r, is_typed n r t p)
   is_field (fields n r a fs) p = (refl, own_repetition r, refl, own_annotation a, are_fields fs p.1)
 
-  are_fields : (fs : Fields) → AreValid fs → AreFields (trees_of fs) fs
+  pub are_fields : (fs : Fields) → AreValid fs → AreFields (trees_of fs) fs
   are_fields no_fields p = tt
   are_fields (field f fs) p = (is_field f p.0, are_fields fs p.1)
 

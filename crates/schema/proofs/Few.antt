@@ -50,7 +50,7 @@ few_fields fs v h = let c = count-views fs in small (length fs) (length (leaves_
 pub few_here : (f : CodeField) (n : String Global) (r : Repetition) (a : Option GroupAnnotation) (v : Vec CodeField Global) → f ≡ Group n r a v → IsFew (field_view f) → length v.items < 2 ^ 31
 few_here f n r a v is h = let k = (subst IsFew (ap field_view is ∙ view-Group n r a v) h).0 in let c = count-views v.items in omega (arith, k, c)
 
-map-both : {A B : Type 0} (f : A → B) (xs ys : List A) → map f (xs ++ ys) ≡ map f xs ++ map f ys
+pub map-both : {A B : Type 0} (f : A → B) (xs ys : List A) → map f (xs ++ ys) ≡ map f xs ++ map f ys
 map-both f [] ys = refl
 map-both f (x ∷ xs) ys = ap (λ t. f x ∷ t) (map-both f xs ys)
 

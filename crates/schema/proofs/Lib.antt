@@ -30,3 +30,13 @@ mod Besides
 pub mod LeafPlaces
 pub mod Slices
 pub mod OneLevel
+pub mod FrontLeaves
+pub mod Padding
+pub mod Grown
+pub mod Relisted
+pub mod FrontElements
+pub mod FrontOrder
+pub mod FieldViews
+pub mod TableFields
+pub mod TableLeaves
+pub mod KeyChecks

@@ -1,11 +1,11 @@
 -- How many leaves a schema has, and how long the ways to them are.
-use Rattle.std.proofs.Common.{ℕ, suc, max, ◌≡◌, ◌+◌, ◌≤◌, List, [], ◌∷◌, ◌++◌, length, map, refl, ap, subst, ◌∙◌, Option, Some, None, ◌<◌, ◌⊎◌, arith, inl, inr}
+use Rattle.std.proofs.Common.{ℕ, suc, max, ◌≡◌, ◌+◌, ◌-◌, ◌≤◌, List, [], ◌∷◌, ◌++◌, length, map, refl, ap, subst, ◌∙◌, Option, Some, None, ◌<◌, ◌⊎◌, arith, inl, inr}
 use Rattle.std.specs.Prelude.{ℤ}
 use Rattle.std.specs.List.{AllByRecursion}
 use Rattle.schema.specs.Elements.{Element}
 use Rattle.schema.specs.Shape.{Field, leaf, fields, Fields, no_fields, field}
 use Rattle.schema.specs.Stripe.{Leaf, leaves, leaves_from, leaves_of, below}
-use Rattle.schema.specs.Law.{IsWithinLimits}
+use Rattle.schema.specs.Law.{IsWithinLimits, IsValid, AreValid}
 use Rattle.schema.specs.Listing.{Branch, branch, Branches, no_branches, branches, count_branches, depth_first, depth_first_each, HasChildren, IsCounted, AreCounted, IsField, AreFields, one_typed, count_typed, height, height_of, IsTreeOf, IsTooLarge, IsSchemaOf}
 use Rattle.schema.specs.Reading.{tall, tallest}
 use Rattle.schema.proofs.Trees.{below_is, forest-listing}
@@ -80,6 +80,41 @@ mutual
       (all-each (below i f) (λ (l : Leaf). length l.steps ≤ max (tall f) (tallest fs)) (leaves f)
       (all-more (λ (l : Leaf). suc (length l.steps) ≤ tall f) (λ (l : Leaf). suc (length l.steps) ≤ max (tall f) (tallest fs)) (leaves f) (λ l h. long (length l.steps) (tallest fs) (tall f) h) (deep_at f)))
       (all-more (λ (l : Leaf). length l.steps ≤ tallest fs) (λ (l : Leaf). length l.steps ≤ max (tall f) (tallest fs)) (leaves_from (suc i) fs) (λ l h. longer (length l.steps) (tallest fs) (tall f) h) (deep_each (suc i) fs))
+
+-- the leaves of valid fields are as deep as the fields
+all-parts : {A : Type 0} (P : A → Type 0) (xs ys : List A) → AllByRecursion P (xs ++ ys) → AllByRecursion P xs × AllByRecursion P ys
+all-parts P [] ys h = (tt, h)
+all-parts P (x ∷ xs) ys h = let parts = all-parts P xs ys h.1 in ((h.0, parts.0), parts.1)
+
+all-under : {A B : Type 0} (f : A → B) (P : B → Type 0) (xs : List A) → AllByRecursion P (map f xs) → AllByRecursion (λ x. P (f x)) xs
+all-under f P [] h = tt
+all-under f P (x ∷ xs) h = (h.0, all-under f P xs h.1)
+
+tall-some : (f : Field) → 1 ≤ tall f
+tall-some (leaf n r t) = omega arith
+tall-some (fields n r a fs) = omega arith
+
+mutual
+  tall_by : (f : Field) (d : ℕ) → IsValid f → AllByRecursion (λ (l : Leaf). suc (length l.steps) ≤ d) (leaves f) → tall f ≤ d
+  tall_by (leaf n r t) d v h = h.0
+  tall_by (fields n r a no_fields) d v h = absurd v.0.some
+  tall_by (fields n r a (field f fs)) d v h =
+      let fewer : ℕ = d - 1 in
+      let low = all-more (λ (l : Leaf). suc (length l.steps) ≤ d) (λ (l : Leaf). length l.steps ≤ fewer) (leaves_from 0 (field f fs)) (λ l k. omega (arith, k)) h in
+      let rest : tallest (field f fs) ≤ fewer = tallest_by 0 (field f fs) fewer v.1 low in
+      let one = tall-some f in
+      omega (arith, rest, one)
+
+  tallest_by : (i : ℕ) (fs : Fields) (d : ℕ) → AreValid fs → AllByRecursion (λ (l : Leaf). length l.steps ≤ d) (leaves_from i fs) → tallest fs ≤ d
+  tallest_by i no_fields d v h = omega arith
+  tallest_by i (field f fs) d v h =
+      let parts = all-parts (λ (l : Leaf). length l.steps ≤ d) (map (below i f) (leaves f)) (leaves_from (suc i) fs) h in
+      let here = tall_by f d v.0 (all-under (below i f) (λ (l : Leaf). length l.steps ≤ d) (leaves f) parts.0) in
+      let rest = tallest_by (suc i) fs d v.1 parts.1 in
+      omega (arith, here, rest)
+
+pub tallest_within : (fs : Fields) → AreValid fs → IsWithinLimits fs → tallest fs ≤ 32
+tallest_within fs v h = tallest_by 0 fs 32 v h.depth
 
 few_leaves : (es : List Element) (fs : Fields) → IsSchemaOf es fs → length (leaves_of fs) ≡ count_typed es
 few_leaves es fs s =

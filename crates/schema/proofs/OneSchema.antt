@@ -15,7 +15,7 @@ one_some o x y p q = cc
 one_stored : (k l : Kind) → Stored k ≡ Stored l → k ≡ l
 one_stored k l h = cc
 
-one_type : (e : Element) (t u : LeafType) → IsTyped e t → IsTyped e u → t ≡ u
+pub one_type : (e : Element) (t u : LeafType) → IsTyped e t → IsTyped e u → t ≡ u
 one_type e t u p q =
     let number : p.number ≡ q.number = one_some e.kind p.number q.number p.there q.there in
     let kinds : t.kind ≡ u.kind = one_stored t.kind u.kind (one_some (typed q.number e.type_length) (Stored t.kind) (Stored u.kind) (subst (λ z. typed z e.type_length ≡ Some (Stored t.kind)) number p.stored) q.stored) in
@@ -25,7 +25,7 @@ typed_or_not : {A : Type 0} (o : Option A) (x : A) → o ≡ Some x → o ≡ No
 typed_or_not o x p q = cc
 
 mutual
-  one_field : (b : Branch) (f g : Field) → IsField b f → IsField b g → f ≡ g
+  pub one_field : (b : Branch) (f g : Field) → IsField b f → IsField b g → f ≡ g
   one_field (branch e bs) (leaf n r t) (leaf m s u) p q =
       ap (λ x. leaf x r t) (p.0 ∙ sym q.0) ∙ ap (λ x. leaf m x t) (one_some _ r s p.1 q.1) ∙ ap (leaf m s) (one_type e t u p.2 q.2)
   one_field (branch e bs) (leaf n r t) (fields m s a gs) p q = absurd (typed_or_not e.kind p.2.number p.2.there q.2)
@@ -33,7 +33,7 @@ mutual
   one_field (branch e bs) (fields n r a fs) (fields m s b gs) p q =
       ap (λ x. fields x r a fs) (p.0 ∙ sym q.0) ∙ ap (λ x. fields m x a fs) (one_some _ r s p.1 q.1) ∙ ap (λ x. fields m s x fs) (p.3 ∙ sym q.3) ∙ ap (fields m s b) (one_list bs fs gs p.4 q.4)
 
-  one_list : (bs : Branches) (fs gs : Fields) → AreFields bs fs → AreFields bs gs → fs ≡ gs
+  pub one_list : (bs : Branches) (fs gs : Fields) → AreFields bs fs → AreFields bs gs → fs ≡ gs
   one_list no_branches no_fields no_fields p q = refl
   one_list no_branches no_fields (field g gs) p q = absurd q
   one_list no_branches (field f fs) gs p q = absurd p

@@ -14,7 +14,7 @@ use Rattle.schema.specs.Faults.{HasFault}
 use Rattle.schema.specs.inner.Reading.{amount, children, children_by, may_have, is_group_count, forest, well_formed, take_branches, drop_branches, AreRead, IsFaultAmong, HasTree}
 use Rattle.schema.proofs.Forest.{count-take, count-drop, well_parts, names-read, fields-read, valid-read, group_of}
 
-abbrev join_branches : Branches → Branches → Branches
+abbrev pub join_branches : Branches → Branches → Branches
 join_branches no_branches cs = cs
 join_branches (branches b bs) cs = branches b (join_branches bs cs)
 
@@ -38,7 +38,7 @@ count-join : (bs cs : Branches) → count_branches bs ≤ count_branches (join_b
 count-join no_branches cs = omega arith
 count-join (branches b bs) cs = let h = count-join bs cs in omega (arith, h)
 
-children_counted : (k c : Option ℤ) (n : ℕ) → HasChildren k c n → children_by k c ≡ n
+pub children_counted : (k c : Option ℤ) (n : ℕ) → HasChildren k c n → children_by k c ≡ n
 children_counted (Some t) c n h = sym h.0
 children_counted None c n h = ap amount h.1
 
@@ -67,7 +67,7 @@ mutual
       ∙ ap (λ t. branches (branch e t) (drop_branches (count_branches bs) (join_branches bs (forest rest)))) (take_all bs (forest rest))
       ∙ ap (branches (branch e bs)) (drop_all bs (forest rest))
 
-  back_each : (bs : Branches) → AreCounted bs → (rest : List Element) → forest (depth_first_each bs ++ rest) ≡ join_branches bs (forest rest)
+  pub back_each : (bs : Branches) → AreCounted bs → (rest : List Element) → forest (depth_first_each bs ++ rest) ≡ join_branches bs (forest rest)
   back_each no_branches c rest = refl
   back_each (branches b bs) c rest = ap forest (append_assoc (depth_first b) (depth_first_each bs) rest) ∙ back_at b c.0 (depth_first_each bs ++ rest) ∙ ap (branches b) (back_each bs c.1 rest)
 
@@ -151,10 +151,10 @@ tree_at root below c g = (g, well-listing (branch root below) c, ap count_branch
 pub only_tree : (es : List Element) (root : Element) (below : Branches) → IsTreeOf es root below → HasTree es
 only_tree es root below t = subst HasTree (sym t.listed) (tree_at root below t.counted t.group)
 
-same_rest : (e f : Element) (xs ys : List Element) → e ∷ xs ≡ f ∷ ys → xs ≡ ys
+pub same_rest : (e f : Element) (xs ys : List Element) → e ∷ xs ≡ f ∷ ys → xs ≡ ys
 same_rest e f xs ys h = cc
 
-same_first : (e f : Element) (xs ys : List Element) → e ∷ xs ≡ f ∷ ys → e ≡ f
+pub same_first : (e f : Element) (xs ys : List Element) → e ∷ xs ≡ f ∷ ys → e ≡ f
 same_first e f xs ys h = cc
 
 -- what is below the root of any tree of the list

@@ -12,6 +12,7 @@ use Rattle.schema.specs.Annotations.{LeafType, Annotation, plain, known}
 use Rattle.schema.specs.Values.{ValueTree, ValueTrees, no_values, value as item, member_at}
 use Rattle.schema.specs.Shape.{Field, leaf, Fields, no_fields, field, count}
 use Rattle.schema.specs.Fits.{fits_each}
+use Rattle.schema.specs.Law.{IsSchema, IsWithinLimits}
 use Rattle.schema.specs.Cutting.{is_among}
 
 -- a key column: its place among the table's top-level fields, its name and its type
@@ -82,6 +83,13 @@ without_keys keys fs = fields_besides (is_among (places_of keys)) 0 fs
 
 abbrev pub row_without_keys : List KeyColumn → ValueTrees → ValueTrees
 row_without_keys keys row = values_besides (is_among (places_of keys)) 0 row
+
+-- the fields of a table with these keys, whose files have these fields
+pub record IsTableOver (keys : List KeyColumn) (stored fs : Fields) : Type 0 where
+  pub schema : IsSchema fs
+  pub within : IsWithinLimits fs
+  pub keyed : AreKeys keys fs
+  pub besides : without_keys keys fs ≡ stored
 
 -- the key of a row: its values in the key columns, in the order of the folders
 abbrev pub key_of_row : List KeyColumn → ValueTrees → List ValueTree

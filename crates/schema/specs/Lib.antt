@@ -14,5 +14,7 @@ pub mod Reading
 pub mod Listed
 pub mod Cutting
 pub mod Keys
+pub mod Fronts
+pub mod Growing
 pub mod Borrowed
 pub mod inner

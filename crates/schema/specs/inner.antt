@@ -3,3 +3,5 @@ pub mod Reading
 pub mod LeafPaths
 pub mod Code
 pub mod Built
+pub mod Grown
+pub mod Keyed

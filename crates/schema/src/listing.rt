@@ -6,7 +6,7 @@ ghost use Rattle.thrift_compact.specs.View.{tree_view};
 ghost use Rattle.schema.specs.Annotations.{converted_number, logical_struct};
 ghost use Rattle.schema.specs.Elements.{element_view, elements_view};
 ghost use Rattle.schema.specs.Law.{HasLength, IsValid, AreValid};
-ghost use Rattle.schema.specs.Listed.{type_length, repetition_number, group_converted, leaf_element, group_element, listing, listings, elements_of, IsFew, AreFew};
+ghost use Rattle.schema.specs.Listed.{type_length, repetition_number, group_converted, leaf_element, group_element, listing, listings, root_name, elements_of, IsFew, AreFew};
 ghost use Rattle.schema.specs.Stripe.{leaves_of};
 ghost use Rattle.schema.specs.Views.{annotation_view, leaf_type_view, field_view, field_views};
 
@@ -29,11 +29,20 @@ pub fn elements_of(alloc: Global, fields: &[Field]) -> R<Vec<Element>>
     ensures elements_are { IfOk result (λ elements. elements_view elements.items ≡ elements_of (field_views fields.now)) }
     ensures which { RefusedMemoryOnly result }
 {
-    let root = group_element(alloc, ROOT, None, None, fields.len())?;
+    let root = root_element(alloc, fields.len())?;
     let mut elements = Vec::new(alloc);
     elements.push(root)?;
     push_listings(alloc, &mut elements, fields)?;
     Ok(elements)
+}
+
+/// The element of a root with this many children.
+pub fn root_element(alloc: Global, children: usize) -> R<Element>
+    requires { children < 2 ^ 31 }
+    ensures element_is { IfOk result (λ e. element_view e ≡ group_element root_name None None children) }
+    ensures which { RefusedMemoryOnly result }
+{
+    group_element(alloc, ROOT, None, None, children)
 }
 
 /// The element of a group with this many children.

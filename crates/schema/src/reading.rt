@@ -21,7 +21,7 @@ use std::alloc::Global;
 use std::collections::BTreeSet;
 
 /// A schema has at most this many leaves.
-const MOST_LEAVES: usize = 1024;
+pub const MOST_LEAVES: usize = 1024;
 
 /// And at most this many fields are on the path to each.
 const FIELDS_ON_A_PATH: u32 = 32;

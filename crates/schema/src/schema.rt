@@ -6,7 +6,7 @@ ghost use Rattle.schema.specs.Elements.{elements_view};
 ghost use Rattle.schema.specs.Shape.{Fields};
 ghost use Rattle.schema.specs.Views.{field_views, row_view, leaf_view};
 ghost use Rattle.schema.specs.Stripe.{leaves_of};
-ghost use Rattle.schema.specs.Listed.{elements_of};
+ghost use Rattle.schema.specs.Listed.{listings, elements_of};
 ghost use Rattle.schema.specs.Fits.{fits_each};
 ghost use Rattle.schema.specs.Law.{IsSchema, IsWithinLimits};
 ghost use Rattle.schema.specs.Listing.{IsSchemaOf, IsTooLarge};
@@ -103,6 +103,16 @@ impl Schema {
         // For the proof: what is known of the schema.
         let _ = &self.fields;
         self.elements.as_slice()
+    }
+
+    /// Its elements without the root's.
+    pub(crate) fn listing(&self) -> &[Element]
+        ensures { elements_view result.now ≡ listings self.now }
+    {
+        match self.elements().split_first() {
+            Some((_, listing)) => listing,
+            None => &[],
+        }
     }
 
     /// Its top-level fields. Takes no memory.

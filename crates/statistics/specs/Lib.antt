@@ -1,3 +1,4 @@
 pub mod Bounds
+pub mod Absent
 pub mod Bytes
 pub mod inner

@@ -21,3 +21,4 @@ pub mod Passed
 pub mod Tested
 pub mod Shapes
 pub mod ShapePasses
+mod SameSizes

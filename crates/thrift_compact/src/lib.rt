@@ -9,6 +9,7 @@ mod heads;
 mod laws;
 mod numbers;
 mod reading;
+mod sameness;
 mod tree;
 mod writable;
 mod writing;

@@ -4,7 +4,8 @@ ghost use Rattle.std.specs.Prelude.{◌≡◌, map, IfOk};
 
 use bits::{R, ValueCodec};
 use delta::DeltaLengths;
-use plain::Plain;
+use dictionary::Indexes;
+use plain::{Plain, Split};
 use schema::{Kind, Value, same};
 use std::alloc::Global;
 use std::test::*;
@@ -20,15 +21,17 @@ fn reread<C: ValueCodec>(codec: &C, alloc: Global, values: &[C::Value]) -> R<Vec
     Ok(read)
 }
 
+/// Whether both lists have the same values, in the same order.
+fn are_same(one: &[Value], other: &[Value]) -> bool {
+    one.len() == other.len() && one.iter().zip(other.iter()).all(|(a, b)| same(a, b))
+}
+
 #[test]
 fn values_come_back_through_a_codec(rt: HostRuntime) -> Result<(), Fail> {
     let values = [Value::Int(0), Value::Int(300), Value::Int(i64::MAX)];
     let plain = Plain { kind: Kind::Int64 };
     let read = reread(&plain, rt.alloc(), values.as_slice())?;
-    assert_eq!(rt; read.len(), 3);
-    for (value, wanted) in read.iter().zip(values.iter()) {
-        assert!(rt; same(value, wanted));
-    }
+    assert!(rt; are_same(read.as_slice(), values.as_slice()));
     Ok(())
 }
 
@@ -37,9 +40,22 @@ fn byte_values_come_back_by_their_lengths(rt: HostRuntime) -> Result<(), Fail> {
     let text = Vec::from_slice(rt.alloc(), b"babyhood".as_slice())?;
     let values = [Value::Bytes(Vec::new(rt.alloc())), Value::Bytes(text)];
     let read = reread(&DeltaLengths, rt.alloc(), values.as_slice())?;
-    assert_eq!(rt; read.len(), 2);
-    for (value, wanted) in read.iter().zip(values.iter()) {
-        assert!(rt; same(value, wanted));
-    }
+    assert!(rt; are_same(read.as_slice(), values.as_slice()));
+    Ok(())
+}
+
+#[test]
+fn split_values_come_back(rt: HostRuntime) -> Result<(), Fail> {
+    let values = [Value::Int(0), Value::Int(300), Value::Int(-1)];
+    let split = Split { kind: Kind::Int32 };
+    let read = reread(&split, rt.alloc(), values.as_slice())?;
+    assert!(rt; are_same(read.as_slice(), values.as_slice()));
+    Ok(())
+}
+
+#[test]
+fn indexes_come_back(rt: HostRuntime) -> Result<(), Fail> {
+    let read = reread(&Indexes { size: 9 }, rt.alloc(), [8, 0, 8].as_slice())?;
+    assert!(rt; matches!(read.as_slice(), [8, 0, 8]));
     Ok(())
 }

@@ -134,15 +134,12 @@ fn thousands_of_rows_have_their_entries(rt: HostRuntime) -> Result<(), Fail> {
     let schema = of_all_kinds(alloc)?;
     let mut buffer = RowBuffer::new(alloc, &schema)?;
     fill(alloc, &mut buffer, 2500)?;
-    assert_eq!(rt; buffer.len(), 2500);
-    assert_eq!(rt; buffer.schema().leaves().len(), 4);
+    assert!(rt; buffer.len() == 2500);
+    assert!(rt; buffer.schema().leaves().len() == 4);
     let flags = entries_of(alloc, &buffer, 0)?;
     let numbers = entries_of(alloc, &buffer, 1)?;
     let texts = entries_of(alloc, &buffer, 2)?;
-    assert_eq!(rt;
-        (flags.len(), numbers.len(), texts.len()),
-        (2500, 2500, 2500)
-    );
+    assert!(rt; flags.len() == 2500 && numbers.len() == 2500 && texts.len() == 2500);
     for i in 0..2500 {
         let n = (i % 250) as u8;
         assert!(rt; is_flag(&flags[i], n) && is_number(&numbers[i], n) && is_bytes(&texts[i], n));
@@ -170,7 +167,7 @@ fn lists_and_empty_lists_have_their_entries(rt: HostRuntime) -> Result<(), Fail>
             at = at.saturating_add(1);
         }
     }
-    assert_eq!(rt; at, entries.len());
+    assert!(rt; at == entries.len());
     assert!(rt; entries_of(alloc, &buffer, 4)?.is_empty());
     Ok(())
 }
@@ -184,15 +181,15 @@ fn a_row_that_does_not_fit_is_refused_when_it_is_given(rt: HostRuntime) -> Resul
     for _ in 0..2 {
         let refused = buffer.push(short_row(alloc)?);
         assert!(rt; matches!(refused, Err(Refusal::RowShape)));
-        assert_eq!(rt; buffer.len(), 5);
+        assert!(rt; buffer.len() == 5);
     }
     fill(alloc, &mut buffer, 3)?;
-    assert_eq!(rt; buffer.len(), 8);
-    assert_eq!(rt; entries_of(alloc, &buffer, 1)?.len(), 8);
+    assert!(rt; buffer.len() == 8);
+    assert!(rt; entries_of(alloc, &buffer, 1)?.len() == 8);
     buffer.clear();
-    assert_eq!(rt; buffer.len(), 0);
+    assert!(rt; buffer.len() == 0);
     fill(alloc, &mut buffer, 3)?;
-    assert_eq!(rt; entries_of(alloc, &buffer, 1)?.len(), 3);
+    assert!(rt; entries_of(alloc, &buffer, 1)?.len() == 3);
     Ok(())
 }
 
@@ -205,15 +202,15 @@ fn rows_that_are_shown_have_their_entries(rt: HostRuntime) -> Result<(), Fail> {
         show_row(&row(alloc, n)?, &mut buffer)?;
         buffer.end_row()?;
     }
-    assert_eq!(rt; buffer.len(), 9);
+    assert!(rt; buffer.len() == 9);
     let numbers = entries_of(alloc, &buffer, 1)?;
     let texts = entries_of(alloc, &buffer, 2)?;
-    assert_eq!(rt; (numbers.len(), texts.len()), (9, 9));
+    assert!(rt; numbers.len() == 9 && texts.len() == 9);
     for i in 0..9 {
         assert!(rt; is_number(&numbers[i], i as u8) && is_bytes(&texts[i], i as u8));
     }
     let items = entries_of(alloc, &buffer, 3)?;
-    assert_eq!(rt; items.len(), 15);
+    assert!(rt; items.len() == 15);
     assert!(rt; is_item(&items, 0, (0, 0), None) && is_item(&items, 6, (1, 1), Some(3)));
     Ok(())
 }
@@ -231,7 +228,7 @@ fn values_of_a_leaf_without_levels_wait_in_plain(rt: HostRuntime) -> Result<(), 
     match buffer.plain_values(2) {
         None => assert!(rt; false),
         Some(mut values) => {
-            assert_eq!(rt; values.len(), 4);
+            assert!(rt; values.len() == 4);
             assert!(rt; values.take_bytes(3)? == first.as_slice());
             assert!(rt; values.take_bytes(3)? == [3, 0, 0, 0, 3, 3, 3].as_slice());
             assert!(rt; values.take_bytes(3)?.is_empty());
@@ -258,7 +255,7 @@ fn a_value_of_another_type_waits_as_it_is(rt: HostRuntime) -> Result<(), Fail> {
     show_row(&row(alloc, 3)?, &mut buffer)?;
     buffer.end_row()?;
     let entries = entries_of(alloc, &buffer, 2)?;
-    assert_eq!(rt; entries.len(), 4);
+    assert!(rt; entries.len() == 4);
     assert!(rt; is_bytes(&entries[0], 0) && is_bytes(&entries[1], 1) && is_bytes(&entries[3], 3));
     assert!(rt; is_item(&entries, 2, (0, 0), Some(7)));
     Ok(())

@@ -9,5 +9,4 @@ pub mod Chained
 pub mod Plurals
 pub mod Puts
 pub mod Committed
-pub mod Openings
 pub mod Slashes

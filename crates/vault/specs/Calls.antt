@@ -89,10 +89,3 @@ pub record Forgets {T : Type 0} (path : List ℕ) (old new : State) (result : Re
   pub clear : LeavesWays old new
   -- a folder stays, and this is no failure of the disk
   pub cause : IsNoFolder old path → OnlyFailed result old new
-
--- An opening: nothing changes at any moment but what stands at the next root's path.
-pub record Opens (old new : State) : Type 0 where
-  pub moments : LeavesAfter (AllBut next_path) old new
-  pub seen : ReadsAs (AllBut next_path) old new
-  pub rooted : IsRooted old → StaysRooted old new
-  pub clear : LeavesWays old new

@@ -69,10 +69,6 @@ bytes_of (Some bytes) = Some bytes.items
 abbrev pub ReadsRoot : State → Option (Vec ℕ Global) → Type 0
 ReadsRoot state root = content state.seen root_path ≡ bytes_of root
 
--- whatever a stop leaves has this root, or none
-abbrev pub HasRoot : State → Option (Vec ℕ Global) → Type 0
-HasRoot state root = (c : Image) → may_leave state c → content c root_path ≡ bytes_of root
-
 -- all paths have what they had
 abbrev pub Same : View → View → Type 0
 Same u v = (q : List ℕ) → v q ≡ u q

@@ -9,10 +9,8 @@
 mod commits;
 mod files;
 mod laws;
-mod opening;
 mod vault;
 
 pub use commits::{NewFile, commit};
 pub use laws::{apart, way_down};
-pub use opening::{Opened, open_root};
 pub use vault::Vault;

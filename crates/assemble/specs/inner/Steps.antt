@@ -37,10 +37,10 @@ abbrev pub missing_value : Repetition → ValueTree
 missing_value Repeated = list no_values
 missing_value _ = null
 
--- a refusal is the source's own, where nothing stood; or the source was not refused, it is Levels, Value or Memory, and P holds of the entries that stood
-abbrev pub IsSourceRefusedFor : {A : Type 0} → (A → List Entry → Type 0) → (A → Option Refusal) → A → A → (List Entry → Refusal → Type 0) → Refusal → Type 0
-IsSourceRefusedFor S refused old new P e =
-    ((refused new ≡ Some e) × NothingStands (S old))
+-- a refusal is the source's own, where nothing stood and there was a cause for it; or the source was not refused, it is Levels, Value or Memory, and P holds of the entries that stood
+abbrev pub IsSourceRefusedFor : {A : Type 0} → (A → List Entry → Type 0) → (A → Option Refusal) → (A → Refusal → Type 0) → A → A → (List Entry → Refusal → Type 0) → Refusal → Type 0
+IsSourceRefusedFor S refused cause old new P e =
+    ((refused new ≡ Some e) × NothingStands (S old) × cause old e)
     ⊎ ((refused new ≡ refused old) × (Tells (Unit {0}) (Unit {0}) e × ((es : List Entry) → S old es → P es e)))
 
 -- Value: it has no value that fits

@@ -1,10 +1,12 @@
 -- What writing blocks gives: parquet-format, Encodings.md, "Delta Encoding".
-use Rattle.std.specs.Prelude.{◌≡◌, ℕ, ◌+◌, ◌-◌, ◌*◌, ◌/◌, min, List, [], ◌∷◌, ◌++◌, length, take, slice_index, slice_index_or, ◌<◌, ◌≤◌, ℤ}
-use Rattle.std.specs.Int.{Width, w32, byte_len}
+use Rattle.std.specs.Prelude.{◌≡◌, ℕ, ◌+◌, ◌-◌, ◌*◌, ◌/◌, min, List, [], ◌∷◌, ◌++◌, length, map, take, replicate, slice_index, slice_index_or, ◌<◌, ◌≤◌, ℤ, pos, ◌+ℤ◌}
+use Rattle.std.specs.Int.{Width, w32, int_wrap, byte_len}
 use Rattle.bits.specs.Codec.{Appends}
 use Rattle.schema.specs.Values.{ValueTree, bytes}
 use Rattle.plain.specs.Plain.{text_size}
 use Rattle.delta.specs.Delta.{IsBlock, IsDelta, AreMiniblocks}
+use Rattle.delta.specs.Written.{deltas_from, IsLeast, IsWrittenBlock, AppendsWrittenDelta}
+use Rattle.delta.specs.WrittenBytes.{AppendsWrittenLengths}
 use Rattle.delta.specs.ByteDeltas.{IsByteLengths, StandForBytes}
 use Rattle.delta.specs.inner.Taken.{Adds, deltas_of}
 
@@ -20,6 +22,11 @@ block_count values at = min (length values - at) 128
 abbrev pub AddsBlock : Width → List ℤ → ℕ → ℤ → List ℕ → Type 0
 AddsBlock w values at least numbers =
     Adds w (deltas_of least (take (block_count values at) numbers)) (take at values) (take (at + block_count values at) values)
+
+-- the packed numbers of a block are what its deltas are above the least one, where it is the least, and zeros after them
+abbrev pub ExceedsLeast : Width → List ℤ → ℕ → ℤ → List ℕ → Type 0
+ExceedsLeast w values at least numbers = let deltas = deltas_from w values (at - 1) in
+    int_wrap w least ≡ least → IsLeast deltas least → map (λ x. least +ℤ pos x) numbers ≡ deltas ++ replicate (128 - length deltas) least
 
 -- each of four widths is at most so many bytes
 abbrev pub AreWithin : ℕ → List ℕ → Type 0
@@ -37,6 +44,10 @@ pub record PutDeltas (w : Width) (values : List ℤ) (at : ℕ) (old new : List 
   pub count : length deltas ≡ 32 * ((block_count values at + 31) / 32)
   pub added : Adds w (take (block_count values at) deltas) (take at values) (take (at + block_count values at) values)
 
+-- the block of the deltas that lead to the values from index `at` on stands at the end
+abbrev pub PutBlock : Width → List ℤ → ℕ → List ℕ → List ℕ → Type 0
+PutBlock w values at old new = Appends (λ bytes. IsWrittenBlock w bytes (deltas_from w values (at - 1))) (14 + 32 * byte_len w * ((block_count values at + 31) / 32)) old new
+
 -- the bytes of a byte value
 abbrev pub text_of : ValueTree → List ℕ
 text_of (bytes text) = text
@@ -50,4 +61,6 @@ before_at texts i = slice_index_or ([] ∷ texts) i []
 pub record ArePut (prefixes : List ℤ) (suffixes : List ValueTree) (old new : List ℕ) : Type 0 where
   pub mid : List ℕ
   pub first : Appends (λ bytes. IsDelta w32 bytes (length prefixes) prefixes) (170 + 5 * length prefixes) old mid
+  pub first_written : AppendsWrittenDelta w32 prefixes old mid
+  pub second_written : AppendsWrittenLengths suffixes mid new
   pub second : Appends (λ bytes. StandForBytes (IsByteLengths bytes (length suffixes)) suffixes) (170 + 5 * length suffixes + text_size suffixes) mid new

@@ -10,9 +10,9 @@ use Rattle.statistics.specs.Bounds.{Statistics, Known}
 use Rattle.filter.specs.declared.term.Op.{Op}
 use Rattle.filter.specs.declared.term.Op.TheVariants.{Equal, NotEqual, Less, LessOrEqual, Greater, GreaterOrEqual, In, NotIn}
 use Rattle.filter.specs.Test.{Test}
-use Rattle.filter.specs.RuledOut.{key_at, statistics_at, nothing_known}
-use Rattle.filter.specs.inner.Same.{same, is_listed}
-use Rattle.filter.specs.inner.Tests.{holds}
+use Rattle.filter.specs.RuledOut.{key_at, statistics_at}
+use Rattle.filter.specs.Same.{same, is_listed}
+use Rattle.filter.specs.Deciding.{holds}
 
 -- a bound is there and compares so with a value; what is said of an absent bound is false
 abbrev pub bound_is : (Ordering → Bool) → Option Order → Option ValueTree → ValueTree → Bool
@@ -45,10 +45,9 @@ excludes order In s w = are_outside order s w
 excludes order NotIn s w = is_only (λ m. is_listed m w) s.min s.max
 
 -- a term is out: by the key, or by the null count or the bounds
-abbrev pub is_out_by : Option ValueTree → Option Statistics → ℕ → Test → Bool
+abbrev pub is_out_by : Option ValueTree → Statistics → ℕ → Test → Bool
 is_out_by (Some v) s rows t = not (holds t v)
-is_out_by None None rows t = excludes t.order t.op nothing_known t.operand
-is_out_by None (Some s) rows t = s.nulls == rows || excludes t.order t.op s t.operand
+is_out_by None s rows t = s.nulls == rows || excludes t.order t.op s t.operand
 
 unfoldable pub is_out : List ℕ → List ValueTree → Known → Test → Bool
 is_out places key known t = is_out_by (key_at places key t.first.place) (statistics_at places known t) known.rows t

@@ -5,7 +5,7 @@ use Rattle.std.specs.List.{list_any}
 use Rattle.std.specs.Ordering.{int_eq}
 use Rattle.std.specs.Str.{bytes_eq}
 use Rattle.schema.specs.Values.{ValueTree, integer, bytes}
-use Rattle.filter.specs.inner.Same.{is_listed}
+use Rattle.filter.specs.Same.{is_listed}
 
 -- the keys of a set are the numbers in a list
 abbrev pub HasNumbers : List ℤ → ValueTree → Type 0

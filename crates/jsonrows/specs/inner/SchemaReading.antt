@@ -1,9 +1,8 @@
 -- What each of the functions that read a schema's text finds, member by member.
-use Rattle.std.specs.Prelude.{◌≡◌, ℕ, zero, suc, ◌^◌, ℤ, pos, Bool, true, false, not, ◌&&◌, nat_lt, bytes_eq, codes, List, [], ◌∷◌, ◌++◌, length, Option, Some, None, option_map, option_and_then, if◌then◌else◌}
-use Rattle.std.specs.Option.{option_map_or}
+use Rattle.std.specs.Prelude.{◌≡◌, ℕ, zero, suc, ◌^◌, ℤ, pos, Bool, true, not, ◌&&◌, nat_lt, bytes_eq, codes, List, [], ◌∷◌, ◌++◌, length, Option, Some, None, option_map, option_and_then, if◌then◌else◌}
 use Rattle.std.specs.Ordering.{int_eq}
 use Rattle.serde_json.specs.Data.{Data, Items, no_items, item}
-use Rattle.serde_json.specs.Find.{get, as_str, as_number, as_i64, as_array, as_object}
+use Rattle.serde_json.specs.Find.{get, as_str, as_number, as_i64, as_array}
 use Rattle.serde_json.specs.Events.{items_len}
 use Rattle.serde_json.specs.Read.{read}
 use Rattle.thrift_compact.specs.Tree.{Fields as Struct}
@@ -16,16 +15,13 @@ use Rattle.schema.specs.declared.building.Typed.TheVariants.{Stored}
 use Rattle.schema.specs.Annotations.{annotation_of}
 use Rattle.schema.specs.Listing.{typed}
 use Rattle.jsonrows.specs.declared.schema_reading.Numbers.{Numbers}
-use Rattle.jsonrows.specs.Reading.{bytes_of_digits}
-use Rattle.jsonrows.specs.SchemaJson.{Word, number_of, repetitions, types, notes, group_notes, leaf_members, group_members, are_called, is_known}
+use Rattle.rowtext.specs.Reading.{bytes_of_digits}
+use Rattle.jsonrows.specs.SchemaJson.{Word, number_of, repetitions, types, notes, group_notes, leaf_members, group_members, has_only, is_known}
 
 -- the second step, where the first gave a value
 infixl 10 ◌>>=◌
 abbrev pub ◌>>=◌ : {A B : Type 0} → Option A → (A → Option B) → Option B
 o >>= f = option_and_then f o
-
-abbrev pub has_only : List (List ℕ) → Data → Bool
-has_only ns d = option_map_or (are_called ns) (as_object d) false
 
 -- one of the words
 abbrev pub word_of : List Word → Data → Option ℤ

@@ -8,7 +8,7 @@ use Rattle.bits.specs.declared.refusal.Refusal.TheVariants.{Memory}
 use Rattle.schema.specs.Values.{ValueTrees}
 use Rattle.schema.specs.Shape.{Fields}
 use Rattle.schema.specs.Fits.{RowsFit}
-use Rattle.jsonrows.specs.Json.{row_text}
+use Rattle.rowtext.specs.Json.{row_text}
 use Rattle.program.specs.Program.{lines_of}
 
 -- after what a writer held, where that is known, stand the lines of these rows

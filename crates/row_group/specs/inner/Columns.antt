@@ -1,5 +1,5 @@
 -- Words of the functions that write the columns of a group one by one.
-use Rattle.std.specs.Prelude.{◌≡◌, ℕ, ◌+◌, ◌<◌, ◌<ℤ◌, pos, List, [], ◌∷◌, ◌++◌, length, sum_by}
+use Rattle.std.specs.Prelude.{◌≡◌, ℕ, ◌+◌, ◌<◌, ◌<ℤ◌, pos, List, [], ◌∷◌, ◌++◌, length}
 use Rattle.std.specs.List.{Any, AllByRecursion}
 use Rattle.schema.specs.Stripe.{Leaf, Entry}
 use Rattle.schema.specs.Law.{IsEntryOf}
@@ -10,8 +10,8 @@ use Rattle.pages.specs.Headers.{rows_in}
 use Rattle.pages.specs.Writing.{AreShort}
 use Rattle.row_group.specs.Greatest.{most_entries, most_bytes_before}
 use Rattle.row_group.specs.declared.options.ChunkOptions.{ChunkOptions}
-use Rattle.row_group.specs.Paged.{BeginsRow, parts_of, chunk_weight}
-use Rattle.row_group.specs.Writing.{AppendsChunk, IsOwnChunk, AppendsEach}
+use Rattle.row_group.specs.Paged.{BeginsRow, columns_weight}
+use Rattle.row_group.specs.Writing.{AppendsChunk, IsOwnChunk, AppendsEach, BeginsWithDictionary}
 
 -- for each leaf, a column of its entries
 abbrev pub AreColumnsOf : List Leaf → List (List Entry) → Type 0
@@ -30,13 +30,13 @@ pub record AppendsChunks (o : ChunkOptions) (leaves : List Leaf) (cols : List (L
   pub few : AllByRecursion (λ es. most_entries <ℤ pos (length es) → ⊥) cols
   pub values_short : AllByRecursion AreShort cols
 
--- why columns are too much for a group, in pages of so many rows, after this many bytes
-pub data AreTooMuch (before size : ℕ) (cols : List (List Entry)) : Type 0 where
-  empty_pages : size ≡ 0 → AreTooMuch before size cols
-  at_the_front : before ≡ 0 → AreTooMuch before size cols
-  many_entries : Any (λ es. most_entries <ℤ pos (length es)) cols → AreTooMuch before size cols
-  long_value : Any (λ es. Any IsTooLong (values es)) cols → AreTooMuch before size cols
-  heavy : ((n : ℕ) → AllByRecursion (HasRows n) cols → most_bytes_before < before + sum_by (chunk_weight (parts_of n size)) cols) → AreTooMuch before size cols
+-- why columns are too much for a group with these options after this many bytes, where they have as many rows
+pub data AreTooMuch (o : ChunkOptions) (leaves : List Leaf) (before : ℕ) (cols : List (List Entry)) : Type 0 where
+  empty_pages : o.page_rows ≡ 0 → AreTooMuch o leaves before cols
+  at_the_front : before ≡ 0 → ((n : ℕ) → AllByRecursion (HasRows n) cols → BeginsWithDictionary o leaves cols) → AreTooMuch o leaves before cols
+  many_entries : Any (λ es. most_entries <ℤ pos (length es)) cols → AreTooMuch o leaves before cols
+  long_value : Any (λ es. Any IsTooLong (values es)) cols → AreTooMuch o leaves before cols
+  heavy : ((n : ℕ) → AllByRecursion (HasRows n) cols → most_bytes_before < before + columns_weight o n leaves cols) → AreTooMuch o leaves before cols
 
 -- what was there stands before what is new
 abbrev pub Extends : List ℕ → List ℕ → Type 0

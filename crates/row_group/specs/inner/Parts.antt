@@ -99,4 +99,4 @@ pub record AppendsPages (leaf : Leaf) (o : ChunkOptions) (old new : List ℕ) (p
   pub held : (more : List ℕ) → IsShortChunk leaf (text ++ more) es (length text)
   pub starts : (m : ColumnMeta) → SaysOfPages m pages → StartsAt m (length old)
   pub spelled : (m : ColumnMeta) → SaysOfPages m pages → (more : List ℕ) → HasPages leaf o es parts m (length old) (text ++ more) (length text)
-  pub short : length text ≤ chunk_weight (length parts) es
+  pub short : length text ≤ chunk_weight o.style leaf.leaf_type.kind (length parts) es

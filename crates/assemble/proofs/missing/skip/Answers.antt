@@ -2,7 +2,7 @@ use Rattle.std.proofs.Common.{rules, ◌∙◌, ◌<◌, [], length, get_or, ari
 use Rattle.schema.specs.Stripe.{entry}
 use Rattle.assemble.specs.inner.Steps.{IsAbsentFaulty, IsSkipFaulty}
 use Rattle.assemble.proofs.Skipping.{skip_step, skip_faulty}
-use Rattle.assemble.proofs.Standing.{set_on, set_back, kept_at, stand_get, stand_length, refused_at, refused_ok}
+use Rattle.assemble.proofs.Standing.{set_on, set_back, kept_at, causes_set, stand_get, stand_length, refused_at, refused_ok}
 use Rattle.assemble.proofs.missing.skip.Goals as goal
 
 pub returns-in_err-read_absent-clause-refused : goal.returns-in_err-read_absent-clause-refused
@@ -20,12 +20,19 @@ returns-in_err-read_absent-clause-refused g c =
     let e = c.in_err-read_absent.field-0.0 in
     let here : i < length xs = omega arith in
     refused_ok _ c.from_residual.result e c.from_residual.ensures.1
-    (refused_at S R old xs i x y (IsAbsentFaulty r d) (IsSkipFaulty r d n) e here c.loop-i.invariant.kept
+    (refused_at S R g.S.EntrySource.cause old xs i x y (IsAbsentFaulty r d) (IsSkipFaulty r d n) e here c.loop-i.invariant.kept c.loop-i.invariant.stay
     (λ cs s.
     let w = c.loop-i.invariant.onward cs s in
     let size = stand_length S xs w.0 w.1.0 in
     (get_or w.0 i [], (stand_get S xs w.0 i x here w.1.0, skip_faulty r d i n cs w.0 e (omega arith) (omega (arith, size, here)) w.1.1)))
     c.in_err-read_absent.ensures.refused)
+
+pub returns-in_err-read_absent-clause-causes_stay : goal.returns-in_err-read_absent-clause-causes_stay
+returns-in_err-read_absent-clause-causes_stay g c =
+    let xs = c.loop-i.sources in
+    let i = c.loop-i.i in
+    let here : i < length xs = omega arith in
+    λ e h. c.loop-i.invariant.stay e (causes_set g.S.EntrySource.cause xs i c.index-sources-i.result c.read_absent.new.source here c.read_absent.ensures.causes_stay e h)
 
 pub loop-i-preserved : goal.loop-i-preserved
 loop-i-preserved g c =
@@ -40,6 +47,7 @@ loop-i-preserved g c =
     let taken = c.in_ok-read_absent.ensures.first in
     record {
       kept = kept_at g.S.EntrySource.refused xs i x y here c.in_ok-read_absent.ensures.kept ∙ c.loop-i.invariant.kept;
+      stay = λ e h. c.loop-i.invariant.stay e (causes_set g.S.EntrySource.cause xs i x y here c.read_absent.ensures.causes_stay e h);
       size = search rules;
       onward = λ cs s.
           let w = c.loop-i.invariant.onward cs s in
@@ -52,4 +60,4 @@ loop-i-preserved g c =
     }
 
 pub loop-i-init : goal.loop-i-init
-loop-i-init g c = record { kept = refl; size = search rules; onward = λ cs s. (cs, (s, refl)); backward = λ cs s. (cs, (s, refl)) }
+loop-i-init g c = record { kept = refl; stay = λ _ h. h; size = search rules; onward = λ cs s. (cs, (s, refl)); backward = λ cs s. (cs, (s, refl)) }

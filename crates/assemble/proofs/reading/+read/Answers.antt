@@ -22,7 +22,7 @@ use Rattle.assemble.specs.inner.Steps.{is_single, missing_value, IsSkipFaulty, I
 use Rattle.assemble.proofs.Starting.{has_leaf}
 use Rattle.schema.proofs.CutSteps.{count_is}
 use Rattle.assemble.proofs.Readings.{faulty_required, faulty_present, faulty_list, faulty_missing, faulty_nothing, optional_is}
-use Rattle.assemble.proofs.Standing.{same_self, stand_on, part_stands, among_put, refused_up, refused_same, refused_ok, none_ok}
+use Rattle.assemble.proofs.Standing.{same_self, stand_on, part_stands, among_put, causes_part, causes_put, refused_up, refused_same, refused_ok, none_ok}
 use Rattle.assemble.proofs.Groups.{faulty_group}
 use Rattle.assemble.proofs.Items as items
 use Rattle.assemble.proofs.Items.{one_more}
@@ -57,7 +57,7 @@ read_field-returns-in-Required-clause-refused g t c =
     let d = c.args.place.definition in
     let k = c.args.place.own in
     IfErr-weaker c.read_inside.result _ _
-    (λ e h. refused_same S g.S.EntrySource.refused old old c.read_inside.new.sources (IsFaulty (FitInside f) (stripes_inside f r d k) k (wants_inside f d)) (IsFaulty (Fit f) (stripes f r d k) k (wants f d)) e (same_self S old) refl (λ cs s. faulty_required f (sym c.repetition-repetition.ensures ∙ c.in-Required.is) r d k cs e) h) c.read_inside.ensures.refused
+    (λ e h. refused_same S g.S.EntrySource.refused g.S.EntrySource.cause old old c.read_inside.new.sources (IsFaulty (FitInside f) (stripes_inside f r d k) k (wants_inside f d)) (IsFaulty (Fit f) (stripes f r d k) k (wants f d)) e (same_self S old) refl (λ _ h. h) (λ cs s. faulty_required f (sym c.repetition-repetition.ensures ∙ c.in-Required.is) r d k cs e) h) c.read_inside.ensures.refused
 
 pub read_field-is_missing-requires : goal.read_field-is_missing-requires
 read_field-is_missing-requires g t c = some_source (field_view c.args.field.now) (length c.args.sources.now) c.requires.valid c.requires.room
@@ -73,9 +73,10 @@ read_field-returns-in_err-is_missing g t c =
     let e = c.in_err-is_missing.field-0.0 in
     record {
       reads = none_ok _ c.from_residual.result e c.from_residual.ensures.1;
-      refused = refused_ok _ c.from_residual.result e c.from_residual.ensures.1 (refused_same S g.S.EntrySource.refused old old c.is_missing.new.sources (λ cs. NoneLeft (first_of cs)) (IsFaulty (Fit f) (stripes f r d k) k (wants f d)) e (same_self S old) refl (λ cs s. faulty_nothing f c.requires.valid r d k cs e) c.in_err-is_missing.ensures.refused);
+      refused = refused_ok _ c.from_residual.result e c.from_residual.ensures.1 (refused_same S g.S.EntrySource.refused g.S.EntrySource.cause old old c.is_missing.new.sources (λ cs. NoneLeft (first_of cs)) (IsFaulty (Fit f) (stripes f r d k) k (wants f d)) e (same_self S old) refl (λ _ h. h) (λ cs s. faulty_nothing f c.requires.valid r d k cs e) c.in_err-is_missing.ensures.refused);
       used = none_ok _ c.from_residual.result e c.from_residual.ensures.1;
       kept = none_ok _ c.from_residual.result e c.from_residual.ensures.1;
+      causes_stay = c.is_missing.ensures.causes_stay;
     }
 
 pub read_field-returns-in_err-skip : goal.read_field-returns-in_err-skip
@@ -92,10 +93,11 @@ read_field-returns-in_err-skip g t c =
     record {
       reads = none_ok _ c.from_residual-in_err-skip.result e c.from_residual-in_err-skip.ensures.1;
       refused = refused_ok _ c.from_residual-in_err-skip.result e c.from_residual-in_err-skip.ensures.1
-          (refused_same S g.S.EntrySource.refused old c.is_missing.new.sources c.skip.new.sources (IsSkipFaulty r d c.count_leaves-count.result) (IsFaulty (Fit f) (stripes f r d k) k (wants f d)) e c.is_missing.ensures.same c.in_ok-is_missing.ensures.kept
+          (refused_same S g.S.EntrySource.refused g.S.EntrySource.cause old c.is_missing.new.sources c.skip.new.sources (IsSkipFaulty r d c.count_leaves-count.result) (IsFaulty (Fit f) (stripes f r d k) k (wants f d)) e c.is_missing.ensures.same c.in_ok-is_missing.ensures.kept c.is_missing.ensures.causes_stay
           (λ cs s h. faulty_missing f x (sym c.repetition-repetition.ensures) c.in_default.not-Required c.requires.valid r d k cs e (missing cs s) (subst (λ n. IsSkipFaulty r d n cs e) c.count_leaves-count.ensures h)) c.in_err-skip.ensures.refused);
       used = none_ok _ c.from_residual-in_err-skip.result e c.from_residual-in_err-skip.ensures.1;
       kept = none_ok _ c.from_residual-in_err-skip.result e c.from_residual-in_err-skip.ensures.1;
+      causes_stay = λ e h. c.is_missing.ensures.causes_stay e (c.skip.ensures.causes_stay e h);
     }
 
 pub read_field-returns-then-branch : goal.read_field-returns-then-branch
@@ -120,6 +122,7 @@ read_field-returns-then-branch g t c =
       refused = tt;
       used = c.count_leaves-count.ensures;
       kept = c.in_ok-skip.ensures.kept ∙ c.in_ok-is_missing.ensures.kept;
+      causes_stay = λ e h. c.is_missing.ensures.causes_stay e (c.skip.ensures.causes_stay e h);
     }
 
 pub read_field-returns-in_err-used : goal.read_field-returns-in_err-used
@@ -135,10 +138,11 @@ read_field-returns-in_err-used g t c =
     record {
       reads = none_ok _ c.from_residual-in_err-used.result e c.from_residual-in_err-used.ensures.1;
       refused = refused_ok _ c.from_residual-in_err-used.result e c.from_residual-in_err-used.ensures.1
-          (refused_same S g.S.EntrySource.refused old c.is_missing.new.sources c.read_items.new.sources (IsFaulty (FitItems f) (stripes_items f r d k) k (wants_inside f (d + 1))) (IsFaulty (Fit f) (stripes f r d k) k (wants f d)) e c.is_missing.ensures.same c.in_ok-is_missing.ensures.kept
+          (refused_same S g.S.EntrySource.refused g.S.EntrySource.cause old c.is_missing.new.sources c.read_items.new.sources (IsFaulty (FitItems f) (stripes_items f r d k) k (wants_inside f (d + 1))) (IsFaulty (Fit f) (stripes f r d k) k (wants f d)) e c.is_missing.ensures.same c.in_ok-is_missing.ensures.kept c.is_missing.ensures.causes_stay
           (λ cs s h. faulty_list f (sym c.repetition-repetition.ensures ∙ c.in-Repeated.is) c.requires.valid r d k cs e (there cs s) h) c.in_err-used.ensures.refused);
       used = none_ok _ c.from_residual-in_err-used.result e c.from_residual-in_err-used.ensures.1;
       kept = none_ok _ c.from_residual-in_err-used.result e c.from_residual-in_err-used.ensures.1;
+      causes_stay = λ e h. c.is_missing.ensures.causes_stay e (c.read_items.ensures.causes_stay e h);
     }
 
 pub read_field-returns-in-Repeated : goal.read_field-returns-in-Repeated
@@ -156,6 +160,7 @@ read_field-returns-in-Repeated g t c =
       refused = tt;
       used = c.in_ok-used.ensures.used;
       kept = c.in_ok-used.ensures.kept ∙ c.in_ok-is_missing.ensures.kept;
+      causes_stay = λ e h. c.is_missing.ensures.causes_stay e (c.read_items.ensures.causes_stay e h);
     }
 
 pub read_field-returns : goal.read_field-returns
@@ -175,9 +180,10 @@ read_field-returns g t c =
       reads = on_ok_weaker res
           (visits_up (g.K.RowSink.shows c.args.sink.now) (g.K.RowSink.shows c.read_inside-2.new.sink) tokens (Reads S (FitInside f) (stripes_inside f r (d + 1) k) k mid new) (Reads S (Fit f) (stripes f r d k) k old new) (λ v h. reads_present S f is c.requires.valid r d k old mid new v c.is_missing.ensures.same there h)) c.read_inside-2.ensures.reads;
       refused = IfErr-weaker res _ _
-          (λ e h. refused_same S g.S.EntrySource.refused old mid new (IsFaulty (FitInside f) (stripes_inside f r (d + 1) k) k (wants_inside f (d + 1))) (IsFaulty (Fit f) (stripes f r d k) k (wants f d)) e c.is_missing.ensures.same c.in_ok-is_missing.ensures.kept (λ cs s i. faulty_present f is c.requires.valid r d k cs e (there cs s) i) h) c.read_inside-2.ensures.refused;
+          (λ e h. refused_same S g.S.EntrySource.refused g.S.EntrySource.cause old mid new (IsFaulty (FitInside f) (stripes_inside f r (d + 1) k) k (wants_inside f (d + 1))) (IsFaulty (Fit f) (stripes f r d k) k (wants f d)) e c.is_missing.ensures.same c.in_ok-is_missing.ensures.kept c.is_missing.ensures.causes_stay (λ cs s i. faulty_present f is c.requires.valid r d k cs e (there cs s) i) h) c.read_inside-2.ensures.refused;
       used = c.read_inside-2.ensures.used;
       kept = IfOk-weaker res _ _ (λ x h. h ∙ c.in_ok-is_missing.ensures.kept) c.read_inside-2.ensures.kept;
+      causes_stay = λ e h. c.is_missing.ensures.causes_stay e (c.read_inside-2.ensures.causes_stay e h);
     }
 
 pub read_fields-loop-field-init : goal.read_fields-loop-field-init
@@ -192,6 +198,7 @@ read_fields-loop-field-init g t c =
       valid = c.requires.valid;
       deep = c.requires.deep;
       kept = refl;
+      stay = λ _ h. h;
       size = refl;
     }
 
@@ -218,8 +225,8 @@ read_fields-returns-in_err-read_single-clause-refused g t c =
     let room : used ≤ length xs = omega (arith, counts, fits, size) in
     let place = field_place fs i f (omega arith) c.field-item.is in
     refused_ok _ c.from_residual.result e c.from_residual.ensures.1
-    (refused_up S R old (put_mid used (length xs - used) xs ys) (mid_of used (length xs - used) xs) ys (IsFaulty (Fit (field_view f)) (stripes (field_view f) r d k) k (wants (field_view f) d)) (IsFaulty (FitEach (field_views fs)) (stripes_each (field_views fs) r d k) k (wants_each (field_views fs) d)) e
-    (among_put R used xs ys e room) (λ k. map_kept R used xs ys room k ∙ c.loop-field.invariant.kept)
+    (refused_up S R g.S.EntrySource.cause old (put_mid used (length xs - used) xs ys) (mid_of used (length xs - used) xs) ys (IsFaulty (Fit (field_view f)) (stripes (field_view f) r d k) k (wants (field_view f) d)) (IsFaulty (FitEach (field_views fs)) (stripes_each (field_views fs) r d k) k (wants_each (field_views fs) d)) e
+    (among_put R used xs ys e room) (λ k. map_kept R used xs ys room k ∙ c.loop-field.invariant.kept) (λ e h. c.loop-field.invariant.stay e (causes_part g.S.EntrySource.cause used xs room e h))
     (λ cs s.
     let w = seen.1.1.0 cs s in
     let so = subst (λ gs. each.SoFar (field_views fs) gs r d k cs w.0 used vs) place w.1.1 in
@@ -249,13 +256,33 @@ read_fields-returns-in_err-used-clause-refused g t c =
     let room : used ≤ length xs = omega (arith, counts, fits, size) in
     let place = field_place fs i f (omega arith) c.field-item.is in
     refused_ok _ c.from_residual-in_err-used.result e c.from_residual-in_err-used.ensures.1
-    (refused_up S R old (put_mid used (length xs - used) xs ys) (mid_of used (length xs - used) xs) ys (IsFaulty (Fit (field_view f)) (stripes (field_view f) r d k) k (wants (field_view f) d)) (IsFaulty (FitEach (field_views fs)) (stripes_each (field_views fs) r d k) k (wants_each (field_views fs) d)) e
-    (among_put R used xs ys e room) (λ k. map_kept R used xs ys room k ∙ c.loop-field.invariant.kept)
+    (refused_up S R g.S.EntrySource.cause old (put_mid used (length xs - used) xs ys) (mid_of used (length xs - used) xs) ys (IsFaulty (Fit (field_view f)) (stripes (field_view f) r d k) k (wants (field_view f) d)) (IsFaulty (FitEach (field_views fs)) (stripes_each (field_views fs) r d k) k (wants_each (field_views fs) d)) e
+    (among_put R used xs ys e room) (λ k. map_kept R used xs ys room k ∙ c.loop-field.invariant.kept) (λ e h. c.loop-field.invariant.stay e (causes_part g.S.EntrySource.cause used xs room e h))
     (λ cs s.
     let w = seen.1.1.0 cs s in
     let so = subst (λ gs. each.SoFar (field_views fs) gs r d k cs w.0 used vs) place w.1.1 in
     (drop used w.0, (part_stands S used xs w.0 room w.1.0, each.faulty (field_views fs) (field_view f) (field_views (drop (i + 1) fs)) r d k cs w.0 used vs e so)))
     c.in_err-used.ensures.refused)
+
+pub read_fields-returns-in_err-read_single-clause-causes_stay : goal.read_fields-returns-in_err-read_single-clause-causes_stay
+read_fields-returns-in_err-read_single-clause-causes_stay g t c =
+    let xs = c.loop-field.sources in
+    let used = c.loop-field.used in
+    let counts = c.loop-field.invariant.counts in
+    let fits = c.requires.room in
+    let size = c.loop-field.invariant.size in
+    let room : used ≤ length xs = omega (arith, counts, fits, size) in
+    λ e h. c.loop-field.invariant.stay e (causes_put g.S.EntrySource.cause used xs c.read_single.new.sources room c.read_single.ensures.causes_stay e h)
+
+pub read_fields-returns-in_err-used-clause-causes_stay : goal.read_fields-returns-in_err-used-clause-causes_stay
+read_fields-returns-in_err-used-clause-causes_stay g t c =
+    let xs = c.loop-field.sources in
+    let used = c.loop-field.used in
+    let counts = c.loop-field.invariant.counts in
+    let fits = c.requires.room in
+    let size = c.loop-field.invariant.size in
+    let room : used ≤ length xs = omega (arith, counts, fits, size) in
+    λ e h. c.loop-field.invariant.stay e (causes_put g.S.EntrySource.cause used xs c.read_field.new.sources room c.read_field.ensures.causes_stay e h)
 
 -- the values so far, and those of the fields that are left
 abbrev SeenTo : {A : Type 0} → (A → List Entry → Type 0) → Fields → Fields → ℕ → ℕ → ℕ → List A → List A → ℕ → ValueTrees → (List Token → Type 0) → (List Token → Type 0) → Type 0
@@ -321,6 +348,7 @@ read_fields-loop-field-preserved-then-is_single g t c =
       valid = (subst AreValid place c.loop-field.invariant.valid).1;
       deep = omega (arith, deep);
       kept = map_kept g.S.EntrySource.refused used xs ys room c.in_ok-read_single.ensures.kept ∙ c.loop-field.invariant.kept;
+      stay = λ e h. c.loop-field.invariant.stay e (causes_put g.S.EntrySource.cause used xs ys room c.read_single.ensures.causes_stay e h);
       size = search rules;
     }
 
@@ -361,6 +389,7 @@ read_fields-loop-field-preserved g t c =
       valid = (subst AreValid place c.loop-field.invariant.valid).1;
       deep = omega (arith, deep);
       kept = map_kept g.S.EntrySource.refused used xs ys room c.in_ok-used.ensures.kept ∙ c.loop-field.invariant.kept;
+      stay = λ e h. c.loop-field.invariant.stay e (causes_put g.S.EntrySource.cause used xs ys room c.read_field.ensures.causes_stay e h);
       size = search rules;
     }
 
@@ -403,9 +432,9 @@ read_inside-returns-in_err-used-in-Group-clause-refused g t c =
     let e = c.in_err-used-in-Group.field-0.0 in
     let fs = field_views c.in-Group.fields.items in
     let is = ap field_view c.in-Group.is ∙ view_fields c.in-Group.name c.in-Group.repetition c.in-Group.annotation c.in-Group.fields in
-    let told = subst (λ gs. IsRefusedFor S R xs ys (IsFaulty (FitEach (field_views gs)) (stripes_each (field_views gs) r d k) k (wants_each (field_views gs) d)) e) c.as_slice.ensures.value c.in_err-used-in-Group.ensures.refused in
+    let told = subst (λ gs. IsRefusedFor S R g.S.EntrySource.cause xs ys (IsFaulty (FitEach (field_views gs)) (stripes_each (field_views gs) r d k) k (wants_each (field_views gs) d)) e) c.as_slice.ensures.value c.in_err-used-in-Group.ensures.refused in
     refused_ok _ c.from_residual-in_err-used-in-Group.result e c.from_residual-in_err-used-in-Group.ensures.1
-    (refused_same S R xs xs ys (IsFaulty (FitEach fs) (stripes_each fs r d k) k (wants_each fs d)) (IsFaulty (FitInside (field_view c.args.field.now)) (stripes_inside (field_view c.args.field.now) r d k) k (wants_inside (field_view c.args.field.now) d)) e (same_self S xs) refl
+    (refused_same S R g.S.EntrySource.cause xs xs ys (IsFaulty (FitEach fs) (stripes_each fs r d k) k (wants_each fs d)) (IsFaulty (FitInside (field_view c.args.field.now)) (stripes_inside (field_view c.args.field.now) r d k) k (wants_inside (field_view c.args.field.now) d)) e (same_self S xs) refl (λ _ h. h)
     (λ cs s h. subst (λ f. IsFaulty (FitInside f) (stripes_inside f r d k) k (wants_inside f d) cs e) (sym is) (faulty_group (string_bytes c.in-Group.name) c.in-Group.repetition c.in-Group.annotation fs r d k cs e h)) told)
 
 pub read_inside-returns-in_ok-read_leaf-in-Leaf-clause-reads : goal.read_inside-returns-in_ok-read_leaf-in-Leaf-clause-reads
@@ -455,7 +484,7 @@ read_items-returns-in_err-used-clause-refused g t c =
     let k = c.args.place.own in
     let e = c.in_err-used.field-0.0 in
     refused_ok _ c.from_residual.result e c.from_residual.ensures.1
-    (refused_same S g.S.EntrySource.refused old old c.read_inside.new.sources (IsFaulty (FitInside f) (stripes_inside f r (d + 1) (k + 1)) (k + 1) (wants_inside f (d + 1))) (IsFaulty (FitItems f) (stripes_items f r d k) k (wants_inside f (d + 1))) e (same_self S old) refl
+    (refused_same S g.S.EntrySource.refused g.S.EntrySource.cause old old c.read_inside.new.sources (IsFaulty (FitInside f) (stripes_inside f r (d + 1) (k + 1)) (k + 1) (wants_inside f (d + 1))) (IsFaulty (FitItems f) (stripes_items f r d k) k (wants_inside f (d + 1))) e (same_self S old) refl (λ _ h. h)
     (λ cs s h. subst (λ n. IsFaulty (FitItems f) (stripes_items f r d k) k (wants_inside f n) cs e) (sym (add-one d)) (items.first_faulty f c.requires.valid r d k cs e (one_more (λ m n. IsFaulty (FitInside f) (stripes_inside f r m n) n (wants_inside f m) cs e) d k h)))
     c.in_err-used.ensures.refused)
 
@@ -483,6 +512,7 @@ read_items-more-init g t c =
         ),
       );
       kept = c.in_ok-used.ensures.kept;
+      stay = c.read_inside.ensures.causes_stay;
       size = search rules;
     }
 
@@ -517,7 +547,7 @@ read_items-returns-in_err-read_inside-clause-refused g t c =
     let e = c.in_err-read_inside.field-0.0 in
     let more : (cs : Columns) → AllStand S xs cs → HasItem (suc k) (first_of cs) true = λ cs s. subst (λ n. HasItem n (first_of cs) true) (add-one k) (subst (HasItem (k + 1) (first_of cs)) c.if-not-branch.false (c.in_ok-has_item.ensures.item cs s)) in
     refused_ok _ c.from_residual-in_err-read_inside.result e c.from_residual-in_err-read_inside.ensures.1
-    (refused_up S g.S.EntrySource.refused old new mid new (IsFaulty (FitInside f) (stripes_inside f (k + 1) (d + 1) (k + 1)) (k + 1) (wants_inside f (d + 1))) (IsFaulty (FitItems f) (stripes_items f r d k) k (wants_inside f (d + 1))) e (λ h. h) (λ k. k ∙ c.in_ok-has_item.ensures.kept ∙ c.more.invariant.kept)
+    (refused_up S g.S.EntrySource.refused g.S.EntrySource.cause old new mid new (IsFaulty (FitInside f) (stripes_inside f (k + 1) (d + 1) (k + 1)) (k + 1) (wants_inside f (d + 1))) (IsFaulty (FitItems f) (stripes_items f r d k) k (wants_inside f (d + 1))) e (λ h. h) (λ k. k ∙ c.in_ok-has_item.ensures.kept ∙ c.more.invariant.kept) (λ e h. c.more.invariant.stay e (c.has_item.ensures.causes_stay e h))
     (λ cs s.
     let seen = c.more.invariant.seen in
     let w = seen.1.1.0 cs s in (
@@ -563,5 +593,6 @@ read_items-more-preserved g t c =
         ),
       );
       kept = c.in_ok-read_inside.ensures.kept ∙ c.in_ok-has_item.ensures.kept ∙ c.more.invariant.kept;
+      stay = λ e h. c.more.invariant.stay e (c.has_item.ensures.causes_stay e (c.read_inside-in-more.ensures.causes_stay e h));
       size = search rules;
     }

@@ -5,7 +5,8 @@ use Rattle.schema.specs.Law.{AreValid}
 use Rattle.schema.specs.Reading.{tallest, count_leaves_each}
 use Rattle.assemble.specs.Columns.{Fronts}
 use Rattle.assemble.specs.Sinks.{Adds, tokens_each}
-use Rattle.assemble.specs.Standing.{Onward, Backward}
+use Rattle.assemble.specs.Sources.{CausesStay}
+use Rattle.assemble.specs.Standing.{HaveCause, Onward, Backward}
 use Rattle.assemble.specs.inner.Fronts.{FitItems, stripes_items}
 use Rattle.assemble.proofs.Each as each
 use Rattle.assemble.proofs.Items as items
@@ -24,6 +25,7 @@ invariant-read_fields-loop-field g l = record {
   valid : AreValid (field_views (drop l.field-index l.fields));
   deep : l.place.definition + tallest (field_views (drop l.field-index l.fields)) < 2 ^ 32;
   kept : map g.S.EntrySource.refused l.sources ≡ map g.S.EntrySource.refused l.fn.sources;
+  stay : CausesStay (HaveCause g.S.EntrySource.cause) l.fn.sources l.sources;
   size : length l.sources ≡ length l.fn.sources;
 }
 
@@ -37,5 +39,6 @@ invariant-read_items-more g l = record {
       × Adds (g.K.RowSink.shows l.fn.sink) (g.K.RowSink.shows l.sink) (tokens_each vs)))
       );
   kept : map g.S.EntrySource.refused l.sources ≡ map g.S.EntrySource.refused l.fn.sources;
+  stay : CausesStay (HaveCause g.S.EntrySource.cause) l.fn.sources l.sources;
   size : length l.sources ≡ length l.fn.sources;
 }

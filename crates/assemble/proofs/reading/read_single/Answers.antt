@@ -14,7 +14,7 @@ use Rattle.assemble.specs.inner.Steps.{IsLeafFaulty, IsOptionalFaulty, ReadsLeaf
 use Rattle.assemble.proofs.Groups.{faulty_leaf_at, faulty_optional_at}
 use Rattle.assemble.proofs.Readings.{faulty_required}
 use Rattle.assemble.proofs.Showing.{visits_up}
-use Rattle.assemble.proofs.Standing.{same_self, stand_get, stand_length, refused_at}
+use Rattle.assemble.proofs.Standing.{same_self, stand_get, stand_length, causes_set, refused_at}
 use Rattle.assemble.proofs.Taking.{reads_required, reads_leaf, reads_optional}
 use Rattle.assemble.proofs.reading.read_single.Goals as goal
 
@@ -49,7 +49,7 @@ returns-in-Required-clause-refused g c =
     let is = ap field_view c.in-Leaf.is ∙ view_leaf c.in-Leaf.name c.in-Leaf.repetition c.in-Leaf.leaf_type in
     let some = c.requires.room in
     IfErr-weaker c.read_leaf.result _ _
-    (λ x. refused_at S R xs xs 0 c.index-sources-0.result y (IsLeafFaulty r d lt) (IsFaulty (Fit f) (stripes f r d k) k (wants f d)) (refusal_of x) some refl
+    (λ x. refused_at S R g.S.EntrySource.cause xs xs 0 c.index-sources-0.result y (IsLeafFaulty r d lt) (IsFaulty (Fit f) (stripes f r d k) k (wants f d)) (refusal_of x) some refl (λ _ h. h)
     (λ cs s.
     let size = stand_length S xs cs s in (
       get_or cs 0 [],
@@ -94,8 +94,14 @@ returns-in-Optional-clause-refused g c =
     let x : c.in-Leaf.repetition ≡ Optional = sym (ap repetition_of is) ∙ sym c.repetition.ensures ∙ c.in-Optional.is in
     let some = c.requires.room in
     IfErr-weaker c.read_optional.result _ _
-    (λ e. refused_at S R xs xs 0 c.index-sources-0-in-Optional.result y (IsOptionalFaulty r d lt) (IsFaulty (Fit f) (stripes f r d k) k (wants f d)) (refusal_of e) some refl
+    (λ e. refused_at S R g.S.EntrySource.cause xs xs 0 c.index-sources-0-in-Optional.result y (IsOptionalFaulty r d lt) (IsFaulty (Fit f) (stripes f r d k) k (wants f d)) (refusal_of e) some refl (λ _ h. h)
     (λ cs s.
     let size = stand_length S xs cs s in
     (get_or cs 0 [], (stand_get S xs cs 0 c.index-sources-0-in-Optional.result some s, λ h. subst (λ f. IsFaulty (Fit f) (stripes f r d k) k (wants f d) cs (refusal_of e)) (sym is) (faulty_optional_at (string_bytes c.in-Leaf.name) c.in-Leaf.repetition lt x r d k cs (omega (arith, size, some)) (refusal_of e) h)))))
     c.read_optional.ensures.refused
+
+pub returns-in-Required-clause-causes_stay : goal.returns-in-Required-clause-causes_stay
+returns-in-Required-clause-causes_stay g c = causes_set g.S.EntrySource.cause c.args.sources.now 0 c.index-sources-0.result c.read_leaf.new.source c.requires.room c.read_leaf.ensures.causes_stay
+
+pub returns-in-Optional-clause-causes_stay : goal.returns-in-Optional-clause-causes_stay
+returns-in-Optional-clause-causes_stay g c = causes_set g.S.EntrySource.cause c.args.sources.now 0 c.index-sources-0-in-Optional.result c.read_optional.new.source c.requires.room c.read_optional.ensures.causes_stay

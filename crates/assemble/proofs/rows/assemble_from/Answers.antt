@@ -14,6 +14,7 @@ more-init g c =
     let none = sym (ap rows_view c.new-rows.ensures.items) in
     record {
       kept = refl;
+      stay = λ _ h. h;
       fit = subst (RowsFit c.args.schema.now) none tt;
       onward = λ cs s. (cs, (s, begins c.args.schema.now cs));
       backward = λ ds s. (ds, (s, subst (λ rows. Prior c.args.schema.now rows ds ds) none (λ rest e. e)));
@@ -24,7 +25,7 @@ returns-in_err-next_row-clause-which g c =
     let fs = c.args.schema.now in
     let e = c.in_err-next_row.field-0.0 in
     refused_ok _ c.from_residual.result e c.from_residual.ensures.1
-    (refused_up g.S.EntrySource.stands g.S.EntrySource.refused c.args.sources.now c.next_row.new.sources c.more.sources c.next_row.new.sources (HasFault fs) (HasFault fs) e (λ h. h) (λ k. k ∙ c.more.invariant.kept)
+    (refused_up g.S.EntrySource.stands g.S.EntrySource.refused g.S.EntrySource.cause c.args.sources.now c.next_row.new.sources c.more.sources c.next_row.new.sources (HasFault fs) (HasFault fs) e (λ h. h) (λ k. k ∙ c.more.invariant.kept) c.more.invariant.stay
     (λ cs s. let w = c.more.invariant.onward cs s in (w.0, (w.1.0, faulty_rest fs cs w.0 e w.1.1))) c.in_err-next_row.ensures.row)
 
 pub returns-in_err-next_row-clause-only : goal.returns-in_err-next_row-clause-only
@@ -34,8 +35,8 @@ returns-in_err-next_row-clause-only g c =
     let fs = c.args.schema.now in
     let e = c.in_err-next_row.field-0.0 in
     refused_ok _ c.from_residual.result e c.from_residual.ensures.1
-    (only_faults S R c.args.sources.now c.next_row.new.sources fs e
-    (refused_up S R c.args.sources.now c.next_row.new.sources c.more.sources c.next_row.new.sources (HasFault fs) (HasFault fs) e (λ h. h) (λ k. k ∙ c.more.invariant.kept)
+    (only_faults S R g.S.EntrySource.cause c.args.sources.now c.next_row.new.sources fs e
+    (refused_up S R g.S.EntrySource.cause c.args.sources.now c.next_row.new.sources c.more.sources c.next_row.new.sources (HasFault fs) (HasFault fs) e (λ h. h) (λ k. k ∙ c.more.invariant.kept) c.more.invariant.stay
     (λ cs s. let w = c.more.invariant.onward cs s in (w.0, (w.1.0, faulty_rest fs cs w.0 e w.1.1))) c.in_err-next_row.ensures.row))
 
 pub more-preserved : goal.more-preserved
@@ -48,10 +49,11 @@ more-preserved g c =
     let new = c.next_row.new.sources in
     let rows = rows_view c.more.rows.items in
     let row = row_view c.in-Some.row in
-    let read = subst (λ (o : Option Row). NextRow S R fs xs new (Ok o)) c.in-Some.is c.in_ok-next_row.ensures.row in
+    let read = subst (λ (o : Option Row). NextRow S R g.S.EntrySource.cause fs xs new (Ok o)) c.in-Some.is c.in_ok-next_row.ensures.row in
     let more = sym (ap rows_view c.in_ok-push-in-Some.ensures.items ∙ map-append row_view c.more.rows.items (c.in-Some.row ∷ [])) in
     record {
       kept = read.0 ∙ c.more.invariant.kept;
+      stay = λ e h. c.more.invariant.stay e (c.next_row.ensures.causes_stay e h);
       fit = subst (RowsFit fs) more (one_more_fits fs rows row c.more.invariant.fit read.1.0);
       onward = λ cs s.
           let w = c.more.invariant.onward cs s in

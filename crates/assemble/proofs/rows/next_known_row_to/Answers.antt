@@ -30,7 +30,7 @@ pub returns-then-sources-leaves-clause-known : goal.returns-then-sources-leaves-
 returns-then-sources-leaves-clause-known g c = λ rows stand more.
     let fs = c.args.schema.now in
     let count : length c.leaves.result.now ≡ length (leaves_of fs) = sym (length-map c.leaves.result.now leaf_view) ∙ ap length c.leaves.ensures.leaves_are in
-    let each = one_each g.S.EntrySource.stands g.S.EntrySource.refused fs c.args.sources.now rows stand in
+    let each = one_each g.S.EntrySource.stands g.S.EntrySource.refused g.S.EntrySource.cause fs c.args.sources.now rows stand in
     let other = c.if-sources-leaves.true in
     absurd (other (omega (arith, count, each)))
 
@@ -42,8 +42,8 @@ returns-in-Err-clause-known g c = λ rows stand more.
     let old = c.args.sources.now in
     let new = c.read_fields.new.sources in
     let e = c.in-Err.refusal in
-    let told = subst (λ gs. IsRefusedFor S R old new (IsFaulty (FitEach gs) (stripes_each gs 0 0 0) 0 (wants_each gs 0)) e) c.fields.ensures c.in-Err.ensures.refused in
-    c.fault_for.ensures (only_memory S R fs (has_leaves fs c.leaves.ensures.valid) old new e told rows stand more)
+    let told = subst (λ gs. IsRefusedFor S R g.S.EntrySource.cause old new (IsFaulty (FitEach gs) (stripes_each gs 0 0 0) 0 (wants_each gs 0)) e) c.fields.ensures c.in-Err.ensures.refused in
+    c.fault_for.ensures (only_memory S R g.S.EntrySource.cause fs (has_leaves fs c.leaves.ensures.valid) old new e told rows stand more)
 
 pub returns-in-Ok-clause-row : goal.returns-in-Ok-clause-row
 returns-in-Ok-clause-row g c =

@@ -37,6 +37,7 @@ returns-then-sources-leaves g c =
               ],
         ),
       );
+      causes_stay = λ _ h. h;
     }
 
 pub returns-in_err-check_ended : goal.returns-in_err-check_ended
@@ -50,8 +51,9 @@ returns-in_err-check_ended g c =
     let e = c.in_err-check_ended.field-0.0 in
     let none : (cs : Columns) → AllStand S old cs → HasItem 0 (first_of cs) false = λ cs s. subst (HasItem 0 (first_of cs)) c.if-not-branch.true (c.in_ok-has_item.ensures.item cs s) in
     record {
-      row = next_to_err S R g.K.RowSink.shows fs old new c.args.sink.now c.args.sink.now c.from_residual-in_err-check_ended.result e c.from_residual-in_err-check_ended.ensures.1
-          (refused_same S R old mid new (λ cs. Tells (Filled cs) ⊥) (HasFault fs) e c.has_item.ensures.same c.in_ok-has_item.ensures.kept (λ cs s. not_ended fs (has_leaves fs c.leaves-leaves.ensures.valid) cs e (nothing_first (first_of cs) (none cs s))) c.in_err-check_ended.ensures.refused);
+      row = next_to_err S R g.S.EntrySource.cause g.K.RowSink.shows fs old new c.args.sink.now c.args.sink.now c.from_residual-in_err-check_ended.result e c.from_residual-in_err-check_ended.ensures.1
+          (refused_same S R g.S.EntrySource.cause old mid new (λ cs. Tells (Filled cs) ⊥) (HasFault fs) e c.has_item.ensures.same c.in_ok-has_item.ensures.kept c.has_item.ensures.causes_stay (λ cs s. not_ended fs (has_leaves fs c.leaves-leaves.ensures.valid) cs e (nothing_first (first_of cs) (none cs s))) c.in_err-check_ended.ensures.refused);
+      causes_stay = λ e h. c.has_item.ensures.causes_stay e (c.check_ended.ensures.causes_stay e h);
     }
 
 pub returns-then-not-branch : goal.returns-then-not-branch
@@ -64,7 +66,10 @@ returns-then-not-branch g c =
     let kept = same_length S xs mid c.has_item.ensures.same in
     let same = c.if-sources-leaves.false in
     let ended = no_rows S (leaves_of fs) mid (omega (arith, count, kept, same)) c.in_ok-check_ended.ensures.ended in
-    record { row = (c.in_ok-check_ended.ensures.kept ∙ c.in_ok-has_item.ensures.kept, (stand_back S xs mid _ c.has_item.ensures.same ended, (same_then S xs mid c.check_ended.new.sources c.has_item.ensures.same c.check_ended.ensures.same, refl))) }
+    record {
+      row = (c.in_ok-check_ended.ensures.kept ∙ c.in_ok-has_item.ensures.kept, (stand_back S xs mid _ c.has_item.ensures.same ended, (same_then S xs mid c.check_ended.new.sources c.has_item.ensures.same c.check_ended.ensures.same, refl)));
+      causes_stay = λ e h. c.has_item.ensures.causes_stay e (c.check_ended.ensures.causes_stay e h);
+    }
 
 pub read_fields-requires-clause-room : goal.read_fields-requires-clause-room
 read_fields-requires-clause-room g c =
@@ -93,10 +98,11 @@ returns-in_err-read_fields g c =
     let new = c.read_fields.new.sources in
     let e = c.in_err-read_fields.field-0.0 in
     let more : (cs : Columns) → AllStand S old cs → HasItem 0 (first_of cs) true = λ cs s. subst (HasItem 0 (first_of cs)) c.if-not-branch.false (c.in_ok-has_item.ensures.item cs s) in
-    let told = subst (λ gs. IsRefusedFor S R mid new (IsFaulty (FitEach gs) (stripes_each gs 0 0 0) 0 (wants_each gs 0)) e) c.fields.ensures c.in_err-read_fields.ensures.refused in
+    let told = subst (λ gs. IsRefusedFor S R g.S.EntrySource.cause mid new (IsFaulty (FitEach gs) (stripes_each gs 0 0 0) 0 (wants_each gs 0)) e) c.fields.ensures c.in_err-read_fields.ensures.refused in
     record {
-      row = next_to_err S R g.K.RowSink.shows fs old new c.args.sink.now c.read_fields.new.sink c.from_residual-in_err-read_fields.result e c.from_residual-in_err-read_fields.ensures.1
-          (refused_same S R old mid new (IsFaulty (FitEach fs) (stripes_each fs 0 0 0) 0 (wants_each fs 0)) (HasFault fs) e c.has_item.ensures.same c.in_ok-has_item.ensures.kept (λ cs s. faulty_row fs (has_leaves fs c.leaves-leaves.ensures.valid) cs e (more cs s)) told);
+      row = next_to_err S R g.S.EntrySource.cause g.K.RowSink.shows fs old new c.args.sink.now c.read_fields.new.sink c.from_residual-in_err-read_fields.result e c.from_residual-in_err-read_fields.ensures.1
+          (refused_same S R g.S.EntrySource.cause old mid new (IsFaulty (FitEach fs) (stripes_each fs 0 0 0) 0 (wants_each fs 0)) (HasFault fs) e c.has_item.ensures.same c.in_ok-has_item.ensures.kept c.has_item.ensures.causes_stay (λ cs s. faulty_row fs (has_leaves fs c.leaves-leaves.ensures.valid) cs e (more cs s)) told);
+      causes_stay = λ e h. c.has_item.ensures.causes_stay e (c.read_fields.ensures.causes_stay e h);
     }
 
 pub returns : goal.returns
@@ -126,4 +132,5 @@ returns g c =
           ),
         ),
       );
+      causes_stay = λ e h. c.has_item.ensures.causes_stay e (c.read_fields.ensures.causes_stay e h);
     }

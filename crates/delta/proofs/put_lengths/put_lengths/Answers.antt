@@ -3,6 +3,7 @@ use Rattle.std.specs.List.{concat}
 use Rattle.std.proofs.lemmas.List.{take_all}
 use Rattle.delta.specs.inner.Put.{text_of}
 use Rattle.delta.proofs.Joining.{joined_more, lengths_written}
+use Rattle.delta.proofs.WrittenBytes.{written_lengths}
 use Rattle.delta.proofs.put_lengths.put_lengths.Goals as goal
 
 pub loop-value-preserved : goal.loop-value-preserved
@@ -27,4 +28,12 @@ returns-clause-stands g c =
     let values = c.args.values.now in
     let whole : take c.loop-value.value-index values ≡ values = take_all c.loop-value.value-index values c.loop-value-test.false in
     lengths_written (map lent values) c.args.lengths.now c.args.out.now.items c.encode_i32.new.out.items c.loop-value.out.items c.requires.kind c.requires.lengths c.in_ok-encode_i32.ensures.stands
+    (c.loop-value.invariant.joined ∙ ap (λ t. c.encode_i32.new.out.items ++ concat (map text_of (map lent t))) whole)
+
+pub returns-clause-written : goal.returns-clause-written
+returns-clause-written g c =
+    let lent = g.V.Lends.lent in
+    let values = c.args.values.now in
+    let whole : take c.loop-value.value-index values ≡ values = take_all c.loop-value.value-index values c.loop-value-test.false in
+    written_lengths (map lent values) c.args.lengths.now c.args.out.now.items c.encode_i32.new.out.items c.loop-value.out.items c.requires.kind c.requires.lengths c.in_ok-encode_i32.ensures.written
     (c.loop-value.invariant.joined ∙ ap (λ t. c.encode_i32.new.out.items ++ concat (map text_of (map lent t))) whole)

@@ -1,6 +1,6 @@
 use Rattle.std.proofs.Common.{◌≡◌, drop}
 use Rattle.schema.specs.Values.{view, views}
-use Rattle.filter.specs.inner.Same.{same, one_passes}
+use Rattle.filter.specs.Same.{same, one_passes}
 use Rattle.filter.proofs.equality.is_among.Given as goal
 
 -- the answer for the items that are left is that for all

@@ -2,7 +2,7 @@ use Rattle.std.proofs.Common.{◌≡◌, drop}
 use Rattle.std.specs.List.{list_all, list_any}
 use Rattle.schema.specs.Values.{views}
 use Rattle.filter.specs.Test.{ands_view, value_of}
-use Rattle.filter.specs.inner.Tests.{holds}
+use Rattle.filter.specs.Deciding.{holds}
 use Rattle.filter.proofs.holding.some_holds.Given as goal
 
 abbrev pub invariant-loop-terms : goal.invariant-loop-terms

@@ -2,7 +2,7 @@ use Rattle.std.proofs.Common.{◌≡◌, ℤ, ◌||◌, drop}
 use Rattle.std.specs.List.{list_any}
 use Rattle.std.specs.Ordering.{int_eq}
 use Rattle.schema.specs.Values.{integer, views}
-use Rattle.filter.specs.inner.Same.{same, one_passes}
+use Rattle.filter.specs.Same.{same, one_passes}
 use Rattle.filter.proofs.listed.numbers_in.Given as goal
 
 -- a number is in the set or among the items that remain exactly when it is among all

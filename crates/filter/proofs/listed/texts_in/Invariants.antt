@@ -1,7 +1,7 @@
 use Rattle.std.proofs.Common.{◌≡◌, ℕ, Vec, Global, ◌||◌, drop}
 use Rattle.std.specs.List.{list_any}
 use Rattle.schema.specs.Values.{bytes, views}
-use Rattle.filter.specs.inner.Same.{same, one_passes}
+use Rattle.filter.specs.Same.{same, one_passes}
 use Rattle.filter.specs.inner.Sets.{same_text}
 use Rattle.filter.proofs.listed.texts_in.Given as goal
 

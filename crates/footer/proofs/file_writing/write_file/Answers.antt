@@ -1,4 +1,4 @@
-use Rattle.std.proofs.Common.{◌≡◌, ◌⊎◌, ◌≤◌, inr, ℕ, List, length, map, sym, ap, ◌∙◌, Result, Ok, Err}
+use Rattle.std.proofs.Common.{◌≡◌, ◌⊎◌, ◌≤◌, inr, ℕ, List, [], length, map, sym, ap, ◌∙◌, Result, Ok, Err}
 use Rattle.std.specs.Prelude.{IfOk, OnOk}
 use Rattle.bits.specs.declared.refusal.Refusal.{Refusal}
 use Rattle.metadata.specs.Records.{FileMeta}
@@ -47,8 +47,8 @@ returns-clause-means c =
     let gs = map group_meta_view c.in_ok-groups.groups.items in
     let meta = file_meta_view c.in_ok-record.record in
     let range = in_range o (c.is_out_of_range.ensures.within c.if-is_out_of_range.false) in
-    ok_map (λ (file : Vec ℕ Global). EndsWith front meta file.items) (λ (file : Vec ℕ Global). FileMeans file.items fs rows) c.ended.result
-    (λ file ends. means (length c.args.rows.now) fs o rows front file.items gs meta c.an_appended_group_has_its_rows.ensures range.some c.in_ok-record.ensures.meta_is c.in_ok-groups.ensures.stands ends c.in_ok-record.ensures.listed) c.ended.ensures.stands
+    ok_map (λ (file : Vec ℕ Global). EndsWith front meta file.items) (λ (file : Vec ℕ Global). FileMeans file.items fs rows) c.with_footer.result
+    (λ file ends. means (length c.args.rows.now) fs o rows front file.items gs meta c.an_appended_group_has_its_rows.ensures range.some c.in_ok-record.ensures.meta_is c.in_ok-groups.ensures.stands ends c.in_ok-record.ensures.listed) c.with_footer.ensures.stands
 
 pub returns-clause-laid_out : goal.returns-clause-laid_out
 returns-clause-laid_out c =
@@ -59,12 +59,12 @@ returns-clause-laid_out c =
     let gs = map group_meta_view c.in_ok-groups.groups.items in
     let meta = file_meta_view c.in_ok-record.record in
     let size : length rows ≡ length c.args.rows.now = length-map c.args.rows.now row_view in
-    ok_map (λ (file : Vec ℕ Global). EndsWith front meta file.items) (λ (file : Vec ℕ Global). IsLaidOut o fs rows file.items) c.ended.result
-    (λ file ends. laid_out fs o rows front file.items gs meta (c.in_ok-record.ensures.meta_is ∙ ap (λ (n : ℕ). own_record fs n gs) (sym size)) c.in_ok-groups.ensures.stands ends) c.ended.ensures.stands
+    ok_map (λ (file : Vec ℕ Global). EndsWith front meta file.items) (λ (file : Vec ℕ Global). IsLaidOut o fs rows file.items) c.with_footer.result
+    (λ file ends. laid_out fs o rows front file.items gs meta (c.in_ok-record.ensures.meta_is ∙ ap (λ (n : ℕ). own_record fs n gs) (sym size)) c.in_ok-groups.ensures.stands ends) c.with_footer.ensures.stands
 
 pub returns-clause-readable : goal.returns-clause-readable
 returns-clause-readable c =
-    taken_file c.args.options.now.group_rows c.args.schema.now (rows_view c.args.rows.now) c.ended.result c.in_ok-record.ensures.within c.in_ok-groups.ensures.readable c.ended.ensures.size c.ended.ensures.footer_size
+    taken_file c.args.options.now.group_rows c.args.schema.now (rows_view c.args.rows.now) c.with_footer.result c.in_ok-record.ensures.within c.in_ok-groups.ensures.readable c.with_footer.ensures.size c.with_footer.ensures.footer_size
 
 pub returns-clause-within_limits : goal.returns-clause-within_limits
 returns-clause-within_limits c =
@@ -74,13 +74,13 @@ returns-clause-within_limits c =
     let front = c.write_groups.new.out.items in
     let gs = map group_meta_view c.in_ok-groups.groups.items in
     let meta = file_meta_view c.in_ok-record.record in
-    within_file c.ended.result front meta
+    within_file c.with_footer.result front meta
     (λ bytes ends. file_within c.an_appended_group_is_within_limits.ensures c.one_footer.ensures c.a_list_means_one_schema.ensures (length c.args.rows.now) fs o rows front bytes gs meta
     c.in_ok-record.ensures.meta_is c.in_ok-groups.ensures.stands ends c.in_ok-record.ensures.listed c.in_ok-record.ensures.within_limits)
-    c.ended.ensures.stands c.ended.ensures.size c.ended.ensures.footer_size
+    c.with_footer.ensures.stands c.with_footer.ensures.size c.with_footer.ensures.footer_size
 
 pub returns-clause-options : goal.returns-clause-options
-returns-clause-options c = at_ok c.ended.result (c.is_out_of_range.ensures.within c.if-is_out_of_range.false)
+returns-clause-options c = at_ok c.with_footer.result (c.is_out_of_range.ensures.within c.if-is_out_of_range.false)
 
 pub returns-clause-limit : goal.returns-clause-limit
 returns-clause-limit c = λ is.
@@ -89,4 +89,4 @@ returns-clause-limit c = λ is.
     let rows = rows_view c.args.rows.now in
     let gs = map group_meta_view c.in_ok-groups.groups.items in
     let meta = file_meta_view c.in_ok-record.record in
-    inr (is_heavy fs o (length c.args.rows.now) rows c.write_groups.new.out.items gs meta c.in_ok-record.ensures.meta_is c.in_ok-groups.ensures.stands c.in_ok-record.ensures.within (c.ended.ensures.limit is))
+    inr (is_heavy fs o (length c.args.rows.now) rows c.write_groups.new.out.items gs meta c.in_ok-record.ensures.meta_is c.in_ok-groups.ensures.stands c.in_ok-record.ensures.within (c.with_footer.ensures.limit is []))

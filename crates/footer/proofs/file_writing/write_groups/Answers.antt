@@ -48,8 +48,8 @@ returns-in_err-meta-clause-limit c =
     let part = first_rows o.group_rows c.min.result rest c.split_at.result.0.now parted c.split_at.ensures.front in
     passes_limit (IsTooMuch fs o rows) c.from_residual.result c.in_err-meta.field-0.0 c.from_residual.ensures.1
     (λ is. too_much fs o rows (rows_view rest) out (map group_meta_view c.loop-rest.groups.items) (in_range o c.requires.in_range) (omega (arith, there, length-map rest row_view)) c.loop-rest.invariant
-    (subst (IsGroupTooMuch (length out) o.page_rows fs) part
-    (subst (λ (k : ChunkOptions). IsGroupTooMuch (length out) k.page_rows fs (rows_view c.split_at.result.0.now)) c.of_chunks-chunk_options.ensures (c.in_err-meta.ensures.limit (ap Err is)))))
+    (subst (IsGroupTooMuch fs (chunk_options o) (length out)) part
+    (subst (λ (k : ChunkOptions). IsGroupTooMuch fs k (length out) (rows_view c.split_at.result.0.now)) c.of_chunks-chunk_options.ensures (c.in_err-meta.ensures.limit (ap Err is)))))
 
 pub loop-rest-preserved : goal.loop-rest-preserved
 loop-rest-preserved c =

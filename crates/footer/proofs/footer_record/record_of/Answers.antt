@@ -9,7 +9,7 @@ use Rattle.footer.proofs.footer_record.record_of.Goals as goal
 
 pub returns-clause-writable : goal.returns-clause-writable
 returns-clause-writable c =
-    subst (λ (es : List Element). AllByRecursion KeepsWritten es) (sym (c.in_ok-elements.ensures.same ∙ c.elements.ensures)) (elements_writable c.args.schema.now c.leaves-leaves.ensures.valid)
+    subst (λ (es : List Element). AllByRecursion KeepsWritten es) (sym (c.in_ok-elements.ensures.copies ∙ c.elements.ensures)) (elements_writable c.args.schema.now c.leaves-leaves.ensures.valid)
 
 pub returns-clause-within_limits : goal.returns-clause-within_limits
 returns-clause-within_limits c =

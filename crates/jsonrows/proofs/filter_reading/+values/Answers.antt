@@ -8,7 +8,7 @@ use Rattle.schema.specs.Values.{view as value_view}
 use Rattle.schema.specs.Views.{leaf_type_view}
 use Rattle.filter.specs.Terms.{each_of}
 use Rattle.jsonrows.specs.Filters.{list_value, value_of}
-use Rattle.jsonrows.proofs.Forms.{view-List}
+use Rattle.rowtext.proofs.Forms.{view-List}
 use Rattle.jsonrows.proofs.Made.{one_more_made}
 use Rattle.jsonrows.proofs.filter_reading.+values.Goals as goal
 

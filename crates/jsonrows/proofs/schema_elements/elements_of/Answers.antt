@@ -6,7 +6,7 @@ use Rattle.schema.specs.Elements.{Element, elements_view}
 use Rattle.jsonrows.specs.inner.SchemaReading.{AreElementsOf}
 use Rattle.jsonrows.specs.inner.SchemaViews.{said_view, saids}
 use Rattle.jsonrows.proofs.Elements.{goes_on_with, goes_on_below, no_elements}
-use Rattle.jsonrows.proofs.Taken.{nothing_left}
+use Rattle.rowtext.proofs.Taken.{nothing_left}
 use Rattle.jsonrows.proofs.schema_elements.elements_of.Goals as goal
 
 pub returns-in_err-element_of-clause-only : goal.returns-in_err-element_of-clause-only

@@ -7,7 +7,7 @@ use Rattle.serde_json.proofs.Views.{view-Array}
 use Rattle.schema.specs.Shape.{count}
 use Rattle.schema.proofs.Few.{count_leaves, few_each}
 use Rattle.jsonrows.specs.inner.SchemaPrinting.{ArePrintedFields}
-use Rattle.jsonrows.proofs.Heights.{at_most_32}
+use Rattle.rowtext.proofs.Heights.{at_most_32}
 use Rattle.jsonrows.proofs.SchemaObjects.{of_short}
 use Rattle.jsonrows.proofs.SchemaDepths.{fields_shallow}
 use Rattle.jsonrows.proofs.SchemaFloats.{schema-has_no_float}

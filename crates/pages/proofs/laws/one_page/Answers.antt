@@ -8,6 +8,7 @@ pub returns-clause-page : goal.returns-clause-page
 returns-clause-page c =
     let laws : ListsAreOne = record {
       plain = c.one_list.ensures;
+      split = c.one_split_list.ensures;
       hybrid = c.one_list-2.ensures;
       indexed = c.one_list_of_values.ensures;
       deltas = c.one_list-3.ensures;
@@ -20,6 +21,7 @@ pub returns-clause-chunk : goal.returns-clause-chunk
 returns-clause-chunk c =
     let laws : ListsAreOne = record {
       plain = c.one_list.ensures;
+      split = c.one_split_list.ensures;
       hybrid = c.one_list-2.ensures;
       indexed = c.one_list_of_values.ensures;
       deltas = c.one_list-3.ensures;

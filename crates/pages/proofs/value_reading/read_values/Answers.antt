@@ -1,6 +1,6 @@
 use Rattle.std.proofs.Common.{arith, Some}
 use Rattle.schema.specs.Views.{leaf_type_view}
-use Rattle.pages.specs.declared.encoding.Encoding.TheVariants.{Plain, DeltaByteArray}
+use Rattle.pages.specs.declared.encoding.Encoding.TheVariants.{Plain, DeltaByteArray, ByteStreamSplit}
 use Rattle.pages.specs.Left.{values_left}
 use Rattle.pages.specs.Views.{dictionary_view}
 use Rattle.pages.proofs.SharedValues.{nothing_over}
@@ -35,6 +35,18 @@ returns-in-Some-DeltaByteArray-clause-only c =
     let here = rw c.in-Some-DeltaByteArray.is at c.in-Some-DeltaByteArray.field-0-is in
     let is = some_encoding c.args.encoding c.in-Some-DeltaByteArray.field-0 DeltaByteArray c.in-Some-DeltaByteArray.is here in
     none_spelled c.read_shared.result (dictionary_view c.args.dictionary) (leaf_type_view c.args.leaf_type.now) c.args.encoding DeltaByteArray c.args.bytes.now c.args.count is (omega (arith, c.if-count-eq0.false)) c.read_shared.ensures.only
+
+pub returns-in-Some-ByteStreamSplit-clause-stands : goal.returns-in-Some-ByteStreamSplit-clause-stands
+returns-in-Some-ByteStreamSplit-clause-stands c =
+    let here = rw c.in-Some-ByteStreamSplit.is at c.in-Some-ByteStreamSplit.field-0-is in
+    let is = some_encoding c.args.encoding c.in-Some-ByteStreamSplit.field-0 ByteStreamSplit c.in-Some-ByteStreamSplit.is here in
+    shared_spelled c.read_split.result (λ vs. values_left vs) (dictionary_view c.args.dictionary) (leaf_type_view c.args.leaf_type.now) c.args.encoding ByteStreamSplit c.args.bytes.now c.args.count is c.read_split.ensures.stands
+
+pub returns-in-Some-ByteStreamSplit-clause-only : goal.returns-in-Some-ByteStreamSplit-clause-only
+returns-in-Some-ByteStreamSplit-clause-only c =
+    let here = rw c.in-Some-ByteStreamSplit.is at c.in-Some-ByteStreamSplit.field-0-is in
+    let is = some_encoding c.args.encoding c.in-Some-ByteStreamSplit.field-0 ByteStreamSplit c.in-Some-ByteStreamSplit.is here in
+    none_spelled c.read_split.result (dictionary_view c.args.dictionary) (leaf_type_view c.args.leaf_type.now) c.args.encoding ByteStreamSplit c.args.bytes.now c.args.count is (omega (arith, c.if-count-eq0.false)) c.read_split.ensures.only
 
 pub read_plain-requires-clause-stood : goal.read_plain-requires-clause-stood
 read_plain-requires-clause-stood c =

@@ -1,6 +1,6 @@
 use Rattle.std.proofs.Common.{Bool, Ok, ap, subst}
 use Rattle.footer.specs.Left.{rows_stand, TakesRowTo}
-use Rattle.jsonrows.specs.Rows.{text_shows, BeginsLine}
+use Rattle.rowtext.specs.Rows.{text_shows, BeginsLine}
 use Rattle.program.proofs.Printed.{passes_fault, line_gathered, none_gathered}
 use Rattle.program.proofs.decode.put_line.Goals as goal
 

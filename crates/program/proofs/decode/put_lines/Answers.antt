@@ -1,6 +1,6 @@
 use Rattle.std.proofs.Common.{◌+◌, Bool, Ok, subst, arith}
 use Rattle.footer.specs.Left.{rows_stand}
-use Rattle.jsonrows.specs.Rows.{BeginsLine}
+use Rattle.rowtext.specs.Rows.{BeginsLine}
 use Rattle.program.specs.inner.Gathered.{GathersLine}
 use Rattle.program.proofs.Printed.{line_more, line_none, lines_ended, lines_more, lines_fail}
 use Rattle.program.proofs.decode.put_lines.Goals as goal

@@ -5,7 +5,7 @@ use Rattle.bits.specs.Faults.{refusal_of}
 use Rattle.bits.specs.Refusals.{HasCause}
 use Rattle.bits.specs.declared.refusal.Refusal.TheVariants.{Device}
 use Rattle.footer.specs.Left.{rows_stand}
-use Rattle.jsonrows.specs.Rows.{BeginsLine}
+use Rattle.rowtext.specs.Rows.{BeginsLine}
 use Rattle.program.proofs.Printed.{none_left, some_gathered, part_written, all_printed}
 use Rattle.program.proofs.decode.write_rows.Goals as goal
 

@@ -2,7 +2,7 @@ use Rattle.std.proofs.Common.{◌≡◌, false, List}
 use Rattle.schema.specs.Values.{ValueTrees}
 use Rattle.schema.specs.Fits.{RowsFit}
 use Rattle.footer.specs.Left.{rows_stand}
-use Rattle.jsonrows.specs.Rows.{BeginsLine}
+use Rattle.rowtext.specs.Rows.{BeginsLine}
 use Rattle.program.specs.inner.Gathered.{AreGathered}
 use Rattle.program.proofs.decode.write_rows.Given as goal
 

@@ -1,6 +1,6 @@
 use Rattle.std.proofs.Common.{◌≡◌, List, map}
 use Rattle.schema.specs.Values.{ValueTrees}
-use Rattle.jsonrows.specs.Reader.{schema_of as fields_of}
+use Rattle.rowtext.specs.Reader.{schema_of as fields_of}
 use Rattle.program.specs.Program.{AreRowTexts}
 use Rattle.program.proofs.encode.check_lines.Given as goal
 

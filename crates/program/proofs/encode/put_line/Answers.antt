@@ -1,7 +1,7 @@
 use Rattle.std.proofs.Common.{ap, Err}
 use Rattle.bits.proofs.Passing.{passes}
 use Rattle.footer.specs.Writer.{schema_of, options_of}
-use Rattle.jsonrows.specs.Reader.{schema_of as fields_of}
+use Rattle.rowtext.specs.Reader.{schema_of as fields_of}
 use Rattle.program.specs.inner.Lines.{IsLineRefusal, AreTooMuch}
 use Rattle.program.proofs.Told.{line_given, refused_at_begin, refused_as_line, refused_at_end}
 use Rattle.program.proofs.encode.put_line.Goals as goal

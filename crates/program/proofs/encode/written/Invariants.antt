@@ -3,7 +3,7 @@ use denote.Shadow.{shadow}
 use denote.Text.{Utf8}
 use Rattle.std.specs.Borrow.{Bor}
 use Rattle.std.specs.Str.Lines.{lines}
-use Rattle.jsonrows.specs.Reader.{schema_of as fields_of}
+use Rattle.rowtext.specs.Reader.{schema_of as fields_of}
 use Rattle.program.proofs.Told.{HasRead}
 use Rattle.program.proofs.encode.written.Given as goal
 

@@ -19,7 +19,7 @@ fault_so (Err e) P Q so p = λ fault. so (p fault)
 pub returns-in-Some-clause-limit : goal.returns-in-Some-clause-limit
 returns-in-Some-clause-limit c = λ limit all held each.
     let same = c.in-Some.ensures.stands all held in
-    subst (IsChunkTooMuch (length c.args.out.now.items) c.args.options.page_rows) (sym same) (c.write_plain_chunk.ensures.limit limit (subst (AllByRecursion (IsEntryOf (leaf_view c.args.leaf.now))) same each))
+    subst (IsChunkTooMuch (leaf_view c.args.leaf.now) c.args.options (length c.args.out.now.items)) (sym same) (c.write_plain_chunk.ensures.limit limit (subst (AllByRecursion (IsEntryOf (leaf_view c.args.leaf.now))) same each))
 
 pub returns-in-Some-clause-extends : goal.returns-in-Some-clause-extends
 returns-in-Some-clause-extends c =
@@ -37,4 +37,4 @@ returns-in_ok-entries-in_default-clause-only c =
 pub returns-in_ok-entries-in_default-clause-limit : goal.returns-in_ok-entries-in_default-clause-limit
 returns-in_ok-entries-in_default-clause-limit c = λ limit all held each.
     let same = ap (map entry_ref_view) c.as_slice.ensures.value ∙ c.in_ok-entries-in_default.ensures.stands all held in
-    subst (IsChunkTooMuch (length c.args.out.now.items) c.args.options.page_rows) same (c.write_chunk.ensures.limit limit)
+    subst (IsChunkTooMuch (leaf_view c.args.leaf.now) c.args.options (length c.args.out.now.items)) same (c.write_chunk.ensures.limit limit)

@@ -28,4 +28,4 @@ pub returns-in-Err-clause-limit : goal.returns-in-Err-clause-limit
 returns-in-Err-clause-limit c = λ limit all held.
     let b = c.args.rows.now in
     let is : c.in-Err.refusal ≡ Limit = cc in
-    group_too_much c.rows_begin_once.ensures (schema_of b) (length c.args.out.now.items) c.args.options.page_rows all held.fit (c.in-Err.ensures.limit (ap Err is) all held)
+    group_too_much c.rows_begin_once.ensures (schema_of b) c.args.options (length c.args.out.now.items) all held.fit (c.in-Err.ensures.limit (ap Err is) all held)

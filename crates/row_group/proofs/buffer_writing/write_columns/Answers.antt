@@ -32,8 +32,8 @@ returns-in_err-chunk-clause-limit c = λ limit all held.
     let ls = c.leaves-leaves.result.now in
     let leaves : map leaf_view ls ≡ leaves_of fs = c.leaves-leaves.ensures.leaves_are ∙ ap leaves_of c.schema.ensures in
     let here = place_here c.entries_are_of_leaves.ensures fs all ls i c.index-leaves-i.result held.fit leaves (omega arith) c.index-leaves-i.is in
-    too_much c.args.options (leaves_of fs) (columns fs all) i (get_or (columns fs all) i []) c.args.out.now.items c.loop-i.out.items (map chunk_meta_view c.loop-i.chunks.items)
-    here.of_columns here.column_is (c.loop-i.invariant.stands all held)
+    too_much c.args.options (leaves_of fs) (columns fs all) i (leaf_view c.index-leaves-i.result) (get_or (columns fs all) i []) c.args.out.now.items c.loop-i.out.items (map chunk_meta_view c.loop-i.chunks.items)
+    here.of_leaves here.of_columns here.leaf_is here.column_is (c.loop-i.invariant.stands all held)
     (c.in_err-chunk.ensures.limit (passed c.from_residual-in_err-chunk.result c.in_err-chunk.field-0.0 _ c.from_residual-in_err-chunk.ensures.1 limit) all held here.entries)
 
 pub loop-i-preserved : goal.loop-i-preserved

@@ -17,7 +17,7 @@ use Rattle.row_group.proofs.chunk_pages.put_copied_pages.Goals as goal
 
 pub returns-in_err-put_plain_pages-clause-limit : goal.returns-in_err-put_plain_pages-clause-limit
 returns-in_err-put_plain_pages-clause-limit c = λ limit all.
-    values_much (length c.args.out.now.items) c.args.options.page_rows Plain (flat_entries (values_left c.args.values)) c.requires.rows
+    values_much (leaf_view c.args.leaf.now) c.args.options (length c.args.out.now.items) Plain (flat_entries (values_left c.args.values)) c.requires.rows
     (c.in_err-put_plain_pages.ensures.limit (passed c.from_residual-in_err-put_plain_pages.result c.in_err-put_plain_pages.field-0.0 _ c.from_residual-in_err-put_plain_pages.ensures.1 limit) all)
 
 pub returns-clause-stands : goal.returns-clause-stands

@@ -31,7 +31,7 @@ returns-in_err-write_dictionary_page-clause-only c =
 pub returns-in_err-write_dictionary_page-clause-limit : goal.returns-in_err-write_dictionary_page-clause-limit
 returns-in_err-write_dictionary_page-clause-limit c = λ limit.
     let d = c.args.dictionary.now in
-    dictionary_much (length c.args.out.now.items) c.args.options.page_rows (map entry_ref_view c.args.entries.now) (entries_of d) (indexes_of d) c.requires.rows c.requires.indexed
+    dictionary_much (leaf_view c.args.leaf.now) c.args.options (length c.args.out.now.items) (map entry_ref_view c.args.entries.now) (entries_of d) (indexes_of d) c.requires.rows c.requires.has c.requires.indexed
     (c.in_err-write_dictionary_page.ensures.limit (passed c.from_residual-in_err-write_dictionary_page.result c.in_err-write_dictionary_page.field-0.0 _ c.from_residual-in_err-write_dictionary_page.ensures.1 limit))
 
 pub returns-in_err-put_pages-clause-limit : goal.returns-in_err-put_pages-clause-limit
@@ -40,7 +40,7 @@ returns-in_err-put_pages-clause-limit c = λ limit.
     let w = c.in_ok-write_dictionary_page.ensures.written in
     let old = c.args.out.now.items in
     let mid = c.write_dictionary_page.new.out.items in
-    indexes_much (Indexed c.args.dictionary) (length old) (length mid) c.args.options.page_rows (map entry_ref_view c.args.entries.now) (entries_of d) (indexes_of d) (λ parts. refl) c.requires.rows c.requires.indexed
+    indexes_much (leaf_view c.args.leaf.now) c.args.options (Indexed c.args.dictionary) (length old) (length mid) (map entry_ref_view c.args.entries.now) (entries_of d) (indexes_of d) (λ parts. refl) c.requires.rows c.requires.has c.requires.indexed
     (omega (arith, ap length w.joined, length-append old w.text, w.short))
     (c.in_err-put_pages.ensures.limit (passed c.from_residual-in_err-put_pages.result c.in_err-put_pages.field-0.0 _ c.from_residual-in_err-put_pages.ensures.1 limit))
 

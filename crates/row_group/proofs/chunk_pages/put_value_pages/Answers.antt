@@ -19,7 +19,7 @@ put_pages-requires-clause-kind c = subst (λ (e : Encoding). IsEncodingFor c.arg
 
 pub returns-in_err-put_pages-clause-limit : goal.returns-in_err-put_pages-clause-limit
 returns-in_err-put_pages-clause-limit c = λ limit.
-    values_much (length c.args.out.now.items) c.args.options.page_rows c.encoding_of-encoding.result (map entry_ref_view c.args.entries.now) c.requires.rows
+    values_much (leaf_view c.args.leaf.now) c.args.options (length c.args.out.now.items) c.encoding_of-encoding.result (map entry_ref_view c.args.entries.now) c.requires.rows
     (c.in_err-put_pages.ensures.limit (passed c.from_residual-in_err-put_pages.result c.in_err-put_pages.field-0.0 _ c.from_residual-in_err-put_pages.ensures.1 limit))
 
 pub returns-clause-stands : goal.returns-clause-stands

@@ -61,3 +61,12 @@ returns-clause-stands c =
     let u = pages_view c.next_page.new.self in
     let read = subst (λ (o : Option DataPage). NextPage t u (Ok o)) c.in_default.is c.in_ok-next_page.ensures in
     (c.loop.invariant.0 ++ [], (passes_then s t u c.loop.invariant.0 [] c.loop.invariant.1 read.0, read.1))
+
+pub loop-preserved-in-Some-5 : goal.loop-preserved-in-Some-5
+loop-preserved-in-Some-5 c =
+    let s = pages_view c.args.pages.now in
+    let t = pages_view c.loop.pages in
+    let u = pages_view c.next_page.new.self in
+    let read = subst (λ (o : Option DataPage). NextPage t u (Ok o)) c.in-Some.is c.in_ok-next_page.ensures in
+    let es = entries_left c.in-Some.field-0 in
+    (c.loop.invariant.0 ++ es, passes_then s t u c.loop.invariant.0 es c.loop.invariant.1 read.0)

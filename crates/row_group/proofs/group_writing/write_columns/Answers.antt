@@ -42,10 +42,13 @@ returns-in_err-chunk-clause-limit c = λ limit.
     let leaves = c.args.leaves.now in
     let columns = c.args.columns.now in
     let i = c.loop-i.i in
+    let leaf = c.index-leaves-i.result in
     let column = c.index-columns-i.result in
-    let lc : i < length columns = in_columns leaves columns c.requires.entries i (omega arith) in
-    too_much c.args.options (map leaf_view leaves) (column_refs_view columns) i (column_ref_view column) c.args.out.now.items c.loop-i.out.items (map chunk_meta_view c.loop-i.chunks.items)
-    (omega (arith, lc, length-map columns column_ref_view)) (shown_here column_ref_view columns i column lc c.index-columns-i.is) c.loop-i.invariant
+    let lt : i < length leaves = omega arith in
+    let lc : i < length columns = in_columns leaves columns c.requires.entries i lt in
+    too_much c.args.options (map leaf_view leaves) (column_refs_view columns) i (leaf_view leaf) (column_ref_view column) c.args.out.now.items c.loop-i.out.items (map chunk_meta_view c.loop-i.chunks.items)
+    (omega (arith, lt, length-map leaves leaf_view)) (omega (arith, lc, length-map columns column_ref_view)) (shown_here leaf_view leaves i leaf lt c.index-leaves-i.is)
+    (shown_here column_ref_view columns i column lc c.index-columns-i.is) c.loop-i.invariant
     (c.in_err-chunk.ensures.limit (passed c.from_residual-in_err-chunk.result c.in_err-chunk.field-0.0 _ c.from_residual-in_err-chunk.ensures.1 limit))
 
 -- where what was there stays, it does in a refusal

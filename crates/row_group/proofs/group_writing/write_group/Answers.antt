@@ -57,5 +57,6 @@ returns-clause-limit c = λ limit.
     let before = length c.args.out.now.items in
     let same : column_refs_view c.as_slice.result.now ≡ columns fs rows = ap column_refs_view c.as_slice.ensures.value ∙ c.in_ok-found.ensures.stands in
     let is : c.in-Err.refusal ≡ Limit = cc in
-    group_too_much c.rows_begin_once.ensures fs before c.args.options.page_rows rows c.in_ok-found.ensures.fit
-    (subst (AreTooMuch before c.args.options.page_rows) same (c.in-Err.ensures.limit (ap Err is)))
+    group_too_much c.rows_begin_once.ensures fs c.args.options before rows c.in_ok-found.ensures.fit
+    (subst (λ (ls : List Leaf). AreTooMuch c.args.options ls before (columns fs rows)) c.leaves.ensures.leaves_are
+    (subst (AreTooMuch c.args.options (map leaf_view c.leaves.result.now) before) same (c.in-Err.ensures.limit (ap Err is))))

@@ -9,6 +9,7 @@ use Rattle.assemble.specs.Standing.{IsRefusedFor}
 use Rattle.assemble.specs.RowsOf.{HasFault}
 use Rattle.row_group.specs.declared.chunk_reader.ChunkReader.{ChunkReader}
 use Rattle.row_group.specs.Left.{chunk_stands}
+use Rattle.row_group.specs.Causes.{reader_cause}
 use Rattle.row_group.specs.inner.Readers.{AreRowsOfGroup, HasRows, CountsRows, refusal_kept}
 use Rattle.row_group.proofs.GroupRows.{counted_rows, same_count, no_rows, tells, tells_which, tells_no_limit, tells_no_codec}
 use Rattle.row_group.proofs.rows.check_row_by_row.Goals as goal
@@ -45,7 +46,7 @@ returns-clause-only c = λ fault rows k.
     let g = group_meta_view c.args.meta.now in
     let rs = c.in_ok-readers.readers.items in
     let new = c.count_rows.new.sources in
-    let refused = subst (λ (xs : List ChunkReader). IsRefusedFor chunk_stands refusal_kept xs new (HasFault fs) c.in-Err.refusal) c.as_mut_slice.ensures.value c.in-Err.ensures.which in
+    let refused = subst (λ (xs : List ChunkReader). IsRefusedFor chunk_stands refusal_kept reader_cause xs new (HasFault fs) c.in-Err.refusal) c.as_mut_slice.ensures.value c.in-Err.ensures.which in
     let sound = c.in_ok-check_chunks-in-Err.ensures.stands in
     no_rows c.args.front.now fs g c.args.count rs new sound.0 c.in-Err.refusal c.in_ok-readers.ensures.stands sound.1 refused fault rows k
 
@@ -55,7 +56,7 @@ returns-clause-limit c = λ limit.
     let g = group_meta_view c.args.meta.now in
     let rs = c.in_ok-readers.readers.items in
     let new = c.count_rows.new.sources in
-    let refused = subst (λ (xs : List ChunkReader). IsRefusedFor chunk_stands refusal_kept xs new (HasFault fs) c.in-Err.refusal) c.as_mut_slice.ensures.value c.in-Err.ensures.which in
+    let refused = subst (λ (xs : List ChunkReader). IsRefusedFor chunk_stands refusal_kept reader_cause xs new (HasFault fs) c.in-Err.refusal) c.as_mut_slice.ensures.value c.in-Err.ensures.which in
     let sound = c.in_ok-check_chunks-in-Err.ensures.stands in
     absurd (tells_no_limit c.in-Err.refusal (tells c.args.front.now fs g.columns (leaves_of fs) rs new sound.0 c.in-Err.refusal c.in_ok-readers.ensures.stands sound.1 refused) (err_is _ _ limit))
 
@@ -65,7 +66,7 @@ returns-clause-codec c = λ codec.
     let g = group_meta_view c.args.meta.now in
     let rs = c.in_ok-readers.readers.items in
     let new = c.count_rows.new.sources in
-    let refused = subst (λ (xs : List ChunkReader). IsRefusedFor chunk_stands refusal_kept xs new (HasFault fs) c.in-Err.refusal) c.as_mut_slice.ensures.value c.in-Err.ensures.which in
+    let refused = subst (λ (xs : List ChunkReader). IsRefusedFor chunk_stands refusal_kept reader_cause xs new (HasFault fs) c.in-Err.refusal) c.as_mut_slice.ensures.value c.in-Err.ensures.which in
     let sound = c.in_ok-check_chunks-in-Err.ensures.stands in
     absurd (tells_no_codec c.in-Err.refusal (tells c.args.front.now fs g.columns (leaves_of fs) rs new sound.0 c.in-Err.refusal c.in_ok-readers.ensures.stands sound.1 refused) (err_is _ _ codec))
 
@@ -75,6 +76,6 @@ returns-clause-which c =
     let g = group_meta_view c.args.meta.now in
     let rs = c.in_ok-readers.readers.items in
     let new = c.count_rows.new.sources in
-    let refused = subst (λ (xs : List ChunkReader). IsRefusedFor chunk_stands refusal_kept xs new (HasFault fs) c.in-Err.refusal) c.as_mut_slice.ensures.value c.in-Err.ensures.which in
+    let refused = subst (λ (xs : List ChunkReader). IsRefusedFor chunk_stands refusal_kept reader_cause xs new (HasFault fs) c.in-Err.refusal) c.as_mut_slice.ensures.value c.in-Err.ensures.which in
     let sound = c.in_ok-check_chunks-in-Err.ensures.stands in
     tells_which c.in-Err.refusal (tells c.args.front.now fs g.columns (leaves_of fs) rs new sound.0 c.in-Err.refusal c.in_ok-readers.ensures.stands sound.1 refused)

@@ -2,7 +2,7 @@ use Rattle.std.proofs.Common.{sym, ◌∙◌, ap}
 use Rattle.schema.specs.Values.{ValueTree}
 use Rattle.filter.specs.Test.{way_view}
 use Rattle.filter.specs.Test.{test_view, value_at}
-use Rattle.filter.specs.inner.Tests.{holds}
+use Rattle.filter.specs.Deciding.{holds}
 use Rattle.filter.proofs.Members.{value_at_null}
 use Rattle.filter.proofs.test.Test.holds_of.Goals as goal
 

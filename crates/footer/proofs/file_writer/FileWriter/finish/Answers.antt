@@ -46,12 +46,12 @@ returns-clause-means c =
     let shown = c.schema.ensures ∙ same in
     let is : meta ≡ own_record fs new.written gs = subst (λ (t : Fields). meta ≡ own_record t new.written gs) shown c.in_ok-record.ensures.meta_is in
     let listed : IsSchemaOf (elements_of fs) fs = subst (λ (t : Fields). IsSchemaOf (elements_of t) t) shown c.in_ok-record.ensures.listed in
-    ok_map (λ (file : Vec ℕ Global). EndsWith new.bytes.items meta file.items) (λ (file : Vec ℕ Global). (rows : List ValueTrees) → has_rows old rows → FileMeans file.items fs rows) c.ended.result
+    ok_map (λ (file : Vec ℕ Global). EndsWith new.bytes.items meta file.items) (λ (file : Vec ℕ Global). (rows : List ValueTrees) → has_rows old rows → FileMeans file.items fs rows) c.with_footer.result
     (λ file ends rows so.
     let range = in_range o so.given.in_range in
     let all = last_written old new c.in_ok-write_waiting.ensures.stands same c.in_ok-write_waiting.ensures.same_options rows so in
     means new.written fs o rows new.bytes.items file.items gs meta c.an_appended_group_has_its_rows.ensures range.some is all.0 ends listed)
-    c.ended.ensures.stands
+    c.with_footer.ensures.stands
 
 pub returns-clause-laid_out : goal.returns-clause-laid_out
 returns-clause-laid_out c =
@@ -64,12 +64,12 @@ returns-clause-laid_out c =
     let same = c.in_ok-write_waiting.ensures.same_schema in
     let shown = c.schema.ensures ∙ same in
     let is : meta ≡ own_record fs new.written gs = subst (λ (t : Fields). meta ≡ own_record t new.written gs) shown c.in_ok-record.ensures.meta_is in
-    ok_map (λ (file : Vec ℕ Global). EndsWith new.bytes.items meta file.items) (λ (file : Vec ℕ Global). (rows : List ValueTrees) → has_rows old rows → IsLaidOut o fs rows file.items) c.ended.result
+    ok_map (λ (file : Vec ℕ Global). EndsWith new.bytes.items meta file.items) (λ (file : Vec ℕ Global). (rows : List ValueTrees) → has_rows old rows → IsLaidOut o fs rows file.items) c.with_footer.result
     (λ file ends rows so.
     let all = last_written old new c.in_ok-write_waiting.ensures.stands same c.in_ok-write_waiting.ensures.same_options rows so in
     let count = last_counted old new c.in_ok-write_waiting.ensures.counted rows so in
     laid_out fs o rows new.bytes.items file.items gs meta (is ∙ ap (λ (n : ℕ). own_record fs n gs) count) all.0 ends)
-    c.ended.ensures.stands
+    c.with_footer.ensures.stands
 
 pub returns-clause-readable : goal.returns-clause-readable
 returns-clause-readable c =
@@ -81,11 +81,11 @@ returns-clause-readable c =
     let shown = c.schema.ensures ∙ same in
     let within : IsWithinLimits fs = subst IsWithinLimits shown c.in_ok-record.ensures.within in
     ok_both (λ (file : Vec ℕ Global). length file.items ≤ most_of_file) (λ (file : Vec ℕ Global). (before footer : List ℕ) → IsFramed file.items before footer → length footer ≤ most_of_footer)
-    (λ (file : Vec ℕ Global). (rows : List ValueTrees) → has_rows old rows → IsTaken o.group_rows fs rows file.items) c.ended.result
+    (λ (file : Vec ℕ Global). (rows : List ValueTrees) → has_rows old rows → IsTaken o.group_rows fs rows file.items) c.with_footer.result
     (λ file short few rows so.
     let all = last_written old new c.in_ok-write_waiting.ensures.stands same c.in_ok-write_waiting.ensures.same_options rows so in
     record { file_size = short; footer_size = few; schema_taken = within; columns_taken = all.1 })
-    c.ended.ensures.size c.ended.ensures.footer_size
+    c.with_footer.ensures.size c.with_footer.ensures.footer_size
 
 pub returns-clause-within_limits : goal.returns-clause-within_limits
 returns-clause-within_limits c =
@@ -101,13 +101,13 @@ returns-clause-within_limits c =
     let listed : IsSchemaOf (elements_of fs) fs = subst (λ (t : Fields). IsSchemaOf (elements_of t) t) shown c.in_ok-record.ensures.listed in
     let small : IsTooLarge (elements_of fs) → ⊥ = subst (λ (t : Fields). IsTooLarge (elements_of t) → ⊥) shown c.in_ok-record.ensures.within_limits in
     ok_both (λ (file : Vec ℕ Global). EndsWith new.bytes.items meta file.items × length file.items ≤ most_of_file) (λ (file : Vec ℕ Global). (before footer : List ℕ) → IsFramed file.items before footer → length footer ≤ most_of_footer)
-    (λ (file : Vec ℕ Global). (rows : List ValueTrees) → has_rows old rows → IsOverLimit file.items → ⊥) c.ended.result
+    (λ (file : Vec ℕ Global). (rows : List ValueTrees) → has_rows old rows → IsOverLimit file.items → ⊥) c.with_footer.result
     (λ file both few rows so.
     let all = last_written old new c.in_ok-write_waiting.ensures.stands same c.in_ok-write_waiting.ensures.same_options rows so in
     file_within c.an_appended_group_is_within_limits.ensures c.one_footer.ensures c.a_list_means_one_schema.ensures new.written fs o rows new.bytes.items file.items gs meta is all.0 both.0 listed small both.1 few)
-    (ok_both (λ (file : Vec ℕ Global). EndsWith new.bytes.items meta file.items) (λ (file : Vec ℕ Global). length file.items ≤ most_of_file) (λ (file : Vec ℕ Global). EndsWith new.bytes.items meta file.items × length file.items ≤ most_of_file) c.ended.result
-    (λ file ends short. (ends, short)) c.ended.ensures.stands c.ended.ensures.size)
-    c.ended.ensures.footer_size
+    (ok_both (λ (file : Vec ℕ Global). EndsWith new.bytes.items meta file.items) (λ (file : Vec ℕ Global). length file.items ≤ most_of_file) (λ (file : Vec ℕ Global). EndsWith new.bytes.items meta file.items × length file.items ≤ most_of_file) c.with_footer.result
+    (λ file ends short. (ends, short)) c.with_footer.ensures.stands c.with_footer.ensures.size)
+    c.with_footer.ensures.footer_size
 
 pub returns-clause-limit : goal.returns-clause-limit
 returns-clause-limit c = λ limit rows so.
@@ -122,7 +122,7 @@ returns-clause-limit c = λ limit rows so.
     let is : meta ≡ own_record fs new.written gs = subst (λ (t : Fields). meta ≡ own_record t new.written gs) shown c.in_ok-record.ensures.meta_is in
     let within : IsWithinLimits fs = subst IsWithinLimits shown c.in_ok-record.ensures.within in
     let all = last_written old new c.in_ok-write_waiting.ensures.stands same c.in_ok-write_waiting.ensures.same_options rows so in
-    is_heavy fs o new.written rows new.bytes.items gs meta is all.0 within (c.ended.ensures.limit limit)
+    is_heavy fs o new.written rows new.bytes.items gs meta is all.0 within (c.with_footer.ensures.limit limit [])
 
 pub returns-clause-in_range : goal.returns-clause-in_range
-returns-clause-in_range c = ok_always c.ended.result (λ rows so. so.given.in_range)
+returns-clause-in_range c = ok_always c.with_footer.result (λ rows so. so.given.in_range)

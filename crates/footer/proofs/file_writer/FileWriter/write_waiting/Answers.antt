@@ -30,7 +30,7 @@ returns-in_err-meta-clause-limit c =
     let counted = c.len-count.ensures.counted waiting next.held in
     let some : 0 < length waiting = grind (arith, nat_tests, counted) in
     group_too_much fs o out (map group_meta_view w.groups.items) waiting rows later some
-    (subst (λ (k : ChunkOptions). IsGroupTooMuch (length out) k.page_rows fs waiting) c.of_chunks-options.ensures (c.in_err-meta.ensures.limit (ap Err is) waiting next.held)) next.next)
+    (subst (λ (k : ChunkOptions). IsGroupTooMuch fs k (length out) waiting) c.of_chunks-options.ensures (c.in_err-meta.ensures.limit (ap Err is) waiting next.held)) next.next)
 
 pub returns-clause-stands : goal.returns-clause-stands
 returns-clause-stands c =

@@ -12,7 +12,7 @@ returns-in-Some-clause-shows c =
 
 pub returns-in-Some-page-clause-shows : goal.returns-in-Some-page-clause-shows
 returns-in-Some-page-clause-shows c =
-    page_shows (reader_view c.args.self.now) (reader_view c.fill.new.self) c.in-Some-page.page c.peek.result c.in_ok-fill.ensures (ap page_left c.in-Some-page.is) c.peek.ensures
+    page_shows (reader_view c.args.self.now) (reader_view c.fill.new.self) c.in-Some-page.page c.peek.result c.in_ok-fill.ensures.fills (ap page_left c.in-Some-page.is) c.peek.ensures
 
 pub returns-in-None-clause-shows : goal.returns-in-None-clause-shows
-returns-in-None-clause-shows c = none_shows (reader_view c.args.self.now) (reader_view c.fill.new.self) c.in_ok-fill.ensures (ap page_left c.in-None.is)
+returns-in-None-clause-shows c = none_shows (reader_view c.args.self.now) (reader_view c.fill.new.self) c.in_ok-fill.ensures.fills (ap page_left c.in-None.is)

@@ -1,0 +1,121 @@
+//! What the commands print.
+
+use crate::folder::refusal_of;
+use bits::{R, Refusal};
+use jsonrows::{RowPlan, RowText};
+use schema::{Leaf, Schema, Value};
+use serde::Serialize;
+use serde_json::{Number, Value as Json};
+use simdutf8::basic::from_utf8;
+use std::alloc::Global;
+use std::io::Write;
+use table::{Batch, GroupInfo};
+
+/// How many bytes of lines are gathered before they are written.
+const GATHERED_BYTES: usize = 65_536;
+
+fn write_text<W: Write>(text: &[u8], out: &mut W) -> R<()> {
+    out.write_all(text).map_err(refusal_of)
+}
+
+/// Prints `done N`, a line. Refused Device where it cannot be written.
+pub fn print_done<W: Write>(alloc: Global, rows: u64, out: &mut W) -> R<()> {
+    let line = format!(in alloc; "done {rows}\n")?;
+    write_text(line.as_bytes(), out)
+}
+
+/// Prints a number, a line. Refused Device where it cannot be written.
+pub fn print_number<W: Write>(alloc: Global, number: u64, out: &mut W) -> R<()> {
+    let line = format!(in alloc; "{number}\n")?;
+    write_text(line.as_bytes(), out)
+}
+
+/// Whether the leaf is of a column at one of these places.
+fn is_at(leaf: &Leaf, places: &[usize]) -> bool {
+    match leaf.steps.first() {
+        Some(step) => places.contains(&step.place),
+        None => false,
+    }
+}
+
+/// The leaves of the columns at these places of a schema.
+fn leaves_at(alloc: Global, schema: &Schema, places: &[usize]) -> R<Vec<usize>> {
+    let mut leaves = Vec::new(alloc);
+    for (index, leaf) in schema.leaves().iter().enumerate() {
+        if is_at(leaf, places) {
+            leaves.push(index)?;
+        }
+    }
+    Ok(leaves)
+}
+
+/// Prints the rows of a batch, a line each, as objects of the columns at its places. Refused Device where they cannot be
+/// written.
+pub fn print_batch<W: Write>(alloc: Global, schema: &Schema, batch: &Batch, out: &mut W) -> R<()> {
+    let leaves = leaves_at(alloc, schema, batch.places.as_slice())?;
+    if leaves.is_empty() {
+        return print_empty_rows(batch.rows.len(), out);
+    }
+    let shown = schema.cut(alloc, leaves.as_slice())?;
+    let plan = RowPlan::new(alloc, &shown)?;
+    let mut text = RowText::new(alloc, &plan);
+    for row in batch.rows.iter() {
+        text.put_line(row)?;
+        if text.lines().len() >= GATHERED_BYTES {
+            write_text(text.lines(), out)?;
+            text.clear_lines();
+        }
+    }
+    write_text(text.lines(), out)
+}
+
+/// Prints rows without columns.
+fn print_empty_rows<W: Write>(rows: usize, out: &mut W) -> R<()> {
+    for _ in 0..rows {
+        write_text(b"{}\n", out)?;
+    }
+    Ok(())
+}
+
+/// A key value as JSON: a boolean, a number, or a text.
+fn json_of(alloc: Global, value: &Value) -> R<Json> {
+    match value {
+        Value::Bool(b) => Ok(Json::Bool(*b)),
+        Value::Int(n) => Ok(Json::Number(Number::from(*n))),
+        Value::Bytes(bytes) => match from_utf8(bytes.as_slice()) {
+            Ok(text) => Ok(Json::String(String::from_str(alloc, text)?)),
+            Err(_) => Ok(Json::Null),
+        },
+        _ => Ok(Json::Null),
+    }
+}
+
+/// What is printed of a group, in the order of the names.
+#[derive(Drop, Serialize)]
+struct GroupLine {
+    bytes: u64,
+    key: Vec<Json>,
+    number: u64,
+    rows: u64,
+}
+
+/// Prints what a group is, a line of JSON.
+pub fn print_group<W: Write>(alloc: Global, group: &GroupInfo, out: &mut W) -> R<()> {
+    let mut key = Vec::new(alloc);
+    for value in group.key.values.iter() {
+        key.push(json_of(alloc, value)?)?;
+    }
+    let line = GroupLine {
+        bytes: group.bytes,
+        key,
+        number: group.number,
+        rows: group.rows,
+    };
+    match serde_json::to_vec(alloc, &line) {
+        Ok(text) => {
+            write_text(text.as_slice(), out)?;
+            write_text(b"\n", out)
+        }
+        Err(_) => Err(Refusal::Memory),
+    }
+}

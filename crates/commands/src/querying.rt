@@ -1,0 +1,107 @@
+//! Commands that read a dataset.
+
+use crate::printing::{print_batch, print_group, print_number};
+use bits::R;
+use disk::Disk;
+use filter::Term;
+use jsonrows::filter_from;
+use std::alloc::Global;
+use std::io::Write;
+use store::Store;
+use table::{CursorId, Fetched};
+
+/// The filter of a text; without one the filter that every row satisfies.
+pub fn filter_of<D: Disk>(
+    alloc: Global,
+    store: &Store<D>,
+    text: Option<&str>,
+) -> R<Vec<Vec<Term>>> {
+    match text {
+        Some(text) => filter_from(alloc, store.schema(), text),
+        None => Ok(Vec::new(alloc)),
+    }
+}
+
+/// Prints the rows that satisfy a filter, a line each, in table order: objects of the columns of these names, or of all.
+///
+/// Refused as `filter_from` refuses the text; as `Store::query` and `Store::fetch`; and Device where the output cannot be
+/// written. Where a later group is refused, the rows of those before it are printed. Room is that of one group.
+pub fn print_rows<D: Disk, W: Write>(
+    alloc: Global,
+    store: &mut Store<D>,
+    filter: Option<&str>,
+    columns: Option<&[String]>,
+    out: &mut W,
+) -> R<()> {
+    let terms = filter_of(alloc, store, filter)?;
+    let cursor = store.query(alloc, terms.as_slice(), columns)?;
+    let printed = print_batches(alloc, store, cursor, out);
+    let closed = store.close(alloc, cursor);
+    printed?;
+    closed
+}
+
+/// Prints the rows that a cursor still gives.
+fn print_batches<D: Disk, W: Write>(
+    alloc: Global,
+    store: &mut Store<D>,
+    cursor: CursorId,
+    out: &mut W,
+) -> R<()> {
+    for _ in 0..u64::MAX {
+        match store.fetch(alloc, cursor)? {
+            Fetched::Batch(batch) => print_batch(alloc, store.schema(), &batch, out)?,
+            Fetched::End => return Ok(()),
+        }
+    }
+    Ok(())
+}
+
+/// Prints how many rows there are, or how many satisfy a filter: then only its columns are read. Refused as `filter_from`
+/// refuses the text, as `Store::count`, `Store::query` and `Store::fetch`, and Device where the output cannot be written.
+pub fn print_count<D: Disk, W: Write>(
+    alloc: Global,
+    store: &mut Store<D>,
+    filter: Option<&str>,
+    out: &mut W,
+) -> R<()> {
+    let terms = filter_of(alloc, store, filter)?;
+    let count = if terms.is_empty() {
+        store.count(alloc, terms.as_slice())?
+    } else {
+        count_satisfying(alloc, store, terms.as_slice())?
+    };
+    print_number(alloc, count, out)
+}
+
+/// How many rows satisfy a filter: those of a query that wants no column.
+fn count_satisfying<D: Disk>(alloc: Global, store: &mut Store<D>, terms: &[Vec<Term>]) -> R<u64> {
+    let cursor = store.query(alloc, terms, Some(&[]))?;
+    let counted = count_batches(alloc, store, cursor);
+    let closed = store.close(alloc, cursor);
+    let count = counted?;
+    closed?;
+    Ok(count)
+}
+
+/// How many rows a cursor still gives.
+fn count_batches<D: Disk>(alloc: Global, store: &mut Store<D>, cursor: CursorId) -> R<u64> {
+    let mut count: u64 = 0;
+    for _ in 0..u64::MAX {
+        match store.fetch(alloc, cursor)? {
+            Fetched::Batch(batch) => count = count.saturating_add(batch.rows.len() as u64),
+            Fetched::End => return Ok(count),
+        }
+    }
+    Ok(count)
+}
+
+/// Prints what each group is, a line of JSON each, in table order: the bytes of its chunks, its key, its number, its
+/// rows. Refused Device where the output cannot be written.
+pub fn print_groups<D: Disk, W: Write>(alloc: Global, store: &mut Store<D>, out: &mut W) -> R<()> {
+    let groups = store.groups(alloc)?;
+    for group in groups.iter() {
+        print_group(alloc, group, out)?;
+    }
+    Ok(())
+}

@@ -1,0 +1,16 @@
+//! The commands on a dataset as words: what they are called, what is asked for by their arguments, and their help.
+//!
+//! `commands` makes the calls. This crate does not know the store, so that the program's other commands are not proved
+//! again with it.
+#![tactic(auto)]
+
+mod call;
+mod datasets;
+mod help;
+mod options;
+mod words;
+
+pub use call::{Call, Task};
+pub use datasets::Datasets;
+pub use options::{options_in, with_options};
+pub use words::{call_in, with_commands};

@@ -1,9 +1,0 @@
-use Rattle.std.proofs.Common.{◌≡◌, ◌++◌, length}
-use Rattle.jsonrows.specs.inner.Escapes.{unescape}
-use Rattle.jsonrows.proofs.escapes.unescape.Given as goal
-
-abbrev pub invariant-rest : goal.invariant-rest
-invariant-rest l = l.buffer.items ++ unescape l.rest ≡ unescape l.content
-
-abbrev pub decreases-rest : goal.decreases-rest
-decreases-rest l = length l.rest

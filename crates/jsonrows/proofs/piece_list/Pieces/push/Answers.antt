@@ -1,8 +1,0 @@
-use Rattle.std.proofs.Common.{◌∷◌, [], ◌++◌, ap, ◌∙◌, arith}
-use Rattle.jsonrows.specs.inner.PieceLists.{PieceList}
-use Rattle.jsonrows.proofs.PieceLists.{few_more}
-use Rattle.jsonrows.proofs.piece_list.Pieces.push.Goals as goal
-
-pub returns-then-self-lt-FEW : goal.returns-then-self-lt-FEW
-returns-then-self-lt-FEW c =
-    few_more c.self.inside.count c.self.inside.few c.self.inside.many.items c.args.piece (omega arith) (omega arith) ∙ ap (λ (v : PieceList). v.items ++ c.args.piece ∷ []) c.self.view_is

@@ -1,8 +1,0 @@
-use Rattle.std.proofs.Common.{arith}
-use Rattle.jsonrows.proofs.LaneTests.{plain_counted}
-use Rattle.jsonrows.proofs.plain_front.plain_of_4.Goals as goal
-
-pub returns : goal.returns
-returns c =
-    let run = plain_counted c.args.bytes.now c.args.at 4 c.first_set.result c.requires (omega arith) c.type_inv.bytes c.first_set.ensures in
-    record { within = run.0; plain = run.1 }

@@ -1,7 +1,0 @@
-use Rattle.std.proofs.Common.{None, ◌∙◌, arith}
-use Rattle.std.proofs.lemmas.List.{take-replicate}
-use Rattle.jsonrows.proofs.PieceLists.{held_few}
-use Rattle.jsonrows.proofs.spans.Spans.new.Goals as goal
-
-pub returns : goal.returns
-returns c = held_few c.args.count _ _ (omega arith) ∙ take-replicate c.args.count 8 None (omega arith)

@@ -1,5 +1,0 @@
-use Rattle.std.proofs.Common.{◌≡◌, None, replicate}
-use Rattle.jsonrows.proofs.spans.no_spans.Given as goal
-
-abbrev pub invariant-loop : goal.invariant-loop
-invariant-loop l = l.spans.items ≡ replicate l.counter None

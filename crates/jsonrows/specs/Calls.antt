@@ -1,0 +1,170 @@
+-- Calls as JSON values (RFC 8259): an object with the call's name and exactly the members of its form, in any order.
+use Rattle.std.specs.Prelude.{◌≡◌, ◌⊎◌, ℕ, bytes_eq, codes, List, [], ◌∷◌, Option, Some, None, if◌then◌else◌, Result, Ok, Err}
+use Rattle.serde_json.specs.Data.{Data, null, number, string, array, object}
+use Rattle.serde_json.specs.Find.{as_u64, get}
+use Rattle.serde_json.specs.Read.{read}
+use Rattle.bits.specs.declared.refusal.Refusal.{Refusal}
+use Rattle.bits.specs.declared.refusal.Refusal.TheVariants.{RowShape, Script, Memory}
+use Rattle.bits.specs.Refusals.{HasCause}
+use Rattle.schema.specs.Values.{ValueTrees}
+use Rattle.schema.specs.Shape.{Fields}
+use Rattle.schema.specs.Stripe.{leaves_of}
+use Rattle.schema.specs.Elements.{Element}
+use Rattle.filter.specs.Terms.{Term, each_of}
+use Rattle.table.specs.Calls.{Call, append, begin_append, stage, commit, abort, remove, remove_groups, begin_rewrite, step_rewrite, plan_rewrite, query, fetch, close, groups, count, import, add_column, reopen}
+use Rattle.rowtext.specs.Reading.{bytes_of_digits, members_read}
+use Rattle.jsonrows.specs.declared.call_form.Form.{Form}
+use Rattle.jsonrows.specs.declared.call_form.Form.TheVariants as form
+use Rattle.jsonrows.specs.Filters.{listed, ◌>>=◌, or_fault, name_of, filter_of}
+use Rattle.jsonrows.specs.SchemaJson.{has_only, SaysColumn}
+
+-- ---- what one member is
+
+abbrev pub natural_of : Data → Result ℕ Refusal
+natural_of (number n) = or_fault Script (as_u64 n)
+natural_of _ = Err Script
+
+abbrev pub naturals_of : Data → Result (List ℕ) Refusal
+naturals_of (array ds) = each_of natural_of (listed ds)
+naturals_of _ = Err Script
+
+-- a row of the schema
+abbrev pub row_in : Fields → Data → Result ValueTrees Refusal
+row_in fs (object ms) = or_fault RowShape (members_read fs ms)
+row_in fs _ = Err Script
+
+abbrev pub rows_of : Fields → Data → Result (List ValueTrees) Refusal
+rows_of fs (array ds) = each_of (row_in fs) (listed ds)
+rows_of fs _ = Err Script
+
+-- names of columns, or all columns
+abbrev pub columns_of : Data → Result (Option (List (List ℕ))) Refusal
+columns_of null = Ok None
+columns_of (array ds) = each_of name_of (listed ds) >>= (λ names. Ok (Some names))
+columns_of _ = Err Script
+
+-- bytes by their hexadecimal digits
+abbrev pub bytes_of : Data → Result (List ℕ) Refusal
+bytes_of (string s) = or_fault Script (bytes_of_digits s)
+bytes_of _ = Err Script
+
+-- ---- calls
+
+-- the forms by their names
+abbrev pub forms : List (List ℕ × Form)
+forms =
+    (codes "append", form.Append) ∷ (codes "begin_append", form.BeginAppend) ∷ (codes "stage", form.Stage) ∷ (codes "commit", form.Commit) ∷ (codes "abort", form.Abort)
+    ∷ (codes "remove", form.Remove) ∷ (codes "remove_groups", form.RemoveGroups) ∷ (codes "begin_rewrite", form.BeginRewrite) ∷ (codes "step_rewrite", form.StepRewrite)
+    ∷ (codes "plan_rewrite", form.PlanRewrite) ∷ (codes "query", form.Query) ∷ (codes "fetch", form.Fetch) ∷ (codes "close", form.Close) ∷ (codes "groups", form.Groups)
+    ∷ (codes "count", form.Count) ∷ (codes "import", form.Import) ∷ (codes "add_column", form.AddColumn) ∷ (codes "reopen", form.Reopen) ∷ []
+
+abbrev pub form_named : List (List ℕ × Form) → List ℕ → Option Form
+form_named [] s = None
+form_named (w ∷ ws) s = if bytes_eq w.0 s then Some w.1 else form_named ws s
+
+-- the members of a form, besides the name of the call
+abbrev pub members_of : Form → List (List ℕ)
+members_of form.Append = codes "rows" ∷ []
+members_of form.BeginAppend = []
+members_of form.Stage = codes "job" ∷ codes "rows" ∷ []
+members_of form.Commit = codes "job" ∷ []
+members_of form.Abort = codes "job" ∷ []
+members_of form.Remove = codes "filter" ∷ []
+members_of form.RemoveGroups = codes "numbers" ∷ []
+members_of form.BeginRewrite = codes "numbers" ∷ []
+members_of form.StepRewrite = codes "job" ∷ []
+members_of form.PlanRewrite = codes "min_rows" ∷ []
+members_of form.Query = codes "filter" ∷ codes "columns" ∷ []
+members_of form.Fetch = codes "cursor" ∷ []
+members_of form.Close = codes "cursor" ∷ []
+members_of form.Groups = []
+members_of form.Count = codes "filter" ∷ []
+members_of form.Import = codes "bytes" ∷ []
+members_of form.AddColumn = codes "field" ∷ []
+members_of form.Reopen = []
+
+-- the member of this name
+abbrev pub member_of : List ℕ → Data → Result Data Refusal
+member_of name d = or_fault Script (get name d)
+
+-- the form of a call: its name is one of these, and it has no other members
+abbrev pub form_by : Data → Result Form Refusal
+form_by (string s) = or_fault Script (form_named forms s)
+form_by _ = Err Script
+
+abbrev pub form_if : Data → Form → Result Form Refusal
+form_if d f = if has_only (codes "call" ∷ members_of f) d then Ok f else Err Script
+
+abbrev pub form_of : Data → Result Form Refusal
+form_of d = (member_of (codes "call") d >>= form_by) >>= form_if d
+
+abbrev pub rows_at : Fields → Data → Result (List ValueTrees) Refusal
+rows_at fs d = member_of (codes "rows") d >>= rows_of fs
+
+abbrev pub natural_at : List ℕ → Data → Result ℕ Refusal
+natural_at name d = member_of name d >>= natural_of
+
+abbrev pub numbers_at : Data → Result (List ℕ) Refusal
+numbers_at d = member_of (codes "numbers") d >>= naturals_of
+
+abbrev pub filter_at : Fields → Data → Result (List (List Term)) Refusal
+filter_at fs d = member_of (codes "filter") d >>= filter_of (leaves_of fs)
+
+abbrev pub columns_at : Data → Result (Option (List (List ℕ))) Refusal
+columns_at d = member_of (codes "columns") d >>= columns_of
+
+abbrev pub bytes_at : Data → Result (List ℕ) Refusal
+bytes_at d = member_of (codes "bytes") d >>= bytes_of
+
+-- the call of a form by its members, which are read in this order; the elements of a new column are said by `IsNewColumn`
+abbrev pub call_by : Fields → Data → Form → Result Call Refusal
+call_by fs d form.Append = rows_at fs d >>= (λ rows. Ok (append rows))
+call_by fs d form.BeginAppend = Ok begin_append
+call_by fs d form.Stage = natural_at (codes "job") d >>= (λ job. rows_at fs d >>= (λ rows. Ok (stage job rows)))
+call_by fs d form.Commit = natural_at (codes "job") d >>= (λ job. Ok (commit job))
+call_by fs d form.Abort = natural_at (codes "job") d >>= (λ job. Ok (abort job))
+call_by fs d form.Remove = filter_at fs d >>= (λ terms. Ok (remove terms))
+call_by fs d form.RemoveGroups = numbers_at d >>= (λ numbers. Ok (remove_groups numbers))
+call_by fs d form.BeginRewrite = numbers_at d >>= (λ numbers. Ok (begin_rewrite numbers))
+call_by fs d form.StepRewrite = natural_at (codes "job") d >>= (λ job. Ok (step_rewrite job))
+call_by fs d form.PlanRewrite = natural_at (codes "min_rows") d >>= (λ least. Ok (plan_rewrite least))
+call_by fs d form.Query = filter_at fs d >>= (λ terms. columns_at d >>= (λ columns. Ok (query terms columns)))
+call_by fs d form.Fetch = natural_at (codes "cursor") d >>= (λ cursor. Ok (fetch cursor))
+call_by fs d form.Close = natural_at (codes "cursor") d >>= (λ cursor. Ok (close cursor))
+call_by fs d form.Groups = Ok groups
+call_by fs d form.Count = filter_at fs d >>= (λ terms. Ok (count terms))
+call_by fs d form.Import = bytes_at d >>= (λ bytes. Ok (import bytes))
+call_by fs d form.AddColumn = Err Script
+call_by fs d form.Reopen = Ok reopen
+
+-- a call, but the one that adds a column
+abbrev pub call_of : Fields → Data → Result Call Refusal
+call_of fs d = form_of d >>= call_by fs d
+
+-- the call that adds a column of these elements
+pub record IsNewColumn (d : Data) (es : List Element) : Type 0 where
+  pub field : Data
+  pub formed : form_of d ≡ Ok form.AddColumn
+  pub there : get (codes "field") d ≡ Some field
+  pub say : SaysColumn field es
+
+-- ---- whole texts
+
+-- a JSON value is this call
+abbrev pub IsCall : Fields → Data → Call → Type 0
+IsCall fs d call = (call_of fs d ≡ Ok call) ⊎ ((es : List Element) × IsNewColumn d es × (call ≡ add_column es))
+
+abbrev pub IsCallText : Fields → List ℕ → Call → Type 0
+IsCallText fs text call = (d : Data) × (read text ≡ Some d) × IsCall fs d call
+
+-- a JSON value is refused so: it is no call, or its first fault is a value that its leaf cannot hold or a row that is none of the schema
+abbrev pub IsRefusedValue : Fields → Data → Refusal → Type 0
+IsRefusedValue fs d Script = (call_of fs d ≡ Err Script) × ((es : List Element) → IsNewColumn d es → ⊥)
+IsRefusedValue fs d RowShape = call_of fs d ≡ Err RowShape
+IsRefusedValue fs d Memory = Unit {0}
+IsRefusedValue fs d _ = ⊥
+
+-- a text is refused so: it is no JSON, or its value is refused so
+abbrev pub IsRefusedCall : Fields → List ℕ → Refusal → Type 0
+IsRefusedCall fs text Script = (d : Data) → read text ≡ Some d → IsRefusedValue fs d Script
+IsRefusedCall fs text e = HasCause (λ x. (d : Data) × (read text ≡ Some d) × IsRefusedValue fs d x) e

@@ -1,6 +1,0 @@
--- Where the pieces of the members of an object are.
-use Rattle.std.specs.Prelude.{List, Option}
-use Rattle.jsonrows.specs.declared.spans.Span.{Span}
-
-pub record SpanList : Type 0 where
-  pub items : List (Option Span)

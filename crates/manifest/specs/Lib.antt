@@ -1,0 +1,13 @@
+pub mod Handles
+pub mod Ordered
+pub mod Groups
+pub mod Records
+pub mod Root
+pub mod Faults
+pub mod Laid
+pub mod Parts
+pub mod Table
+pub mod Laws
+pub mod Written
+pub mod Worked
+pub mod inner

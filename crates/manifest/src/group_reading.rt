@@ -1,0 +1,140 @@
+//! The record of a group in a root.
+
+ghost use Rattle.std.specs.Prelude.{◌≡◌, suc, ◌<◌, ◌≤◌, ◌^◌, ◌<ℤ◌, ◌↔◌, ℕ, pos, List, Some, map, take, length, option_map, IsTrue, IfOk, OnOk, IfErr};
+ghost use Rattle.bits.specs.declared.refusal.Refusal.TheVariants.{Memory};
+ghost use Rattle.schema.specs.Shape.{Fields};
+ghost use Rattle.schema.specs.Law.{IsSchema};
+ghost use Rattle.schema.specs.Stripe.{leaves_of};
+ghost use Rattle.schema.specs.Keys.{key_columns_view};
+ghost use Rattle.schema.specs.Views.{leaf_view};
+ghost use Rattle.metadata.specs.Records.{ChunkMeta as ChunkMetaShown};
+ghost use Rattle.metadata.specs.Views.{chunk_meta_view, group_meta_view};
+ghost use Rattle.row_group.specs.Greatest.{most_rows};
+ghost use Rattle.statistics.specs.Bounds.{Statistics as StatisticsShown, statistics_of};
+ghost use Rattle.manifest.specs.Groups.{Group as GroupShown, group_view};
+ghost use Rattle.manifest.specs.Records.{AreChunkRecords, IsGroupRecord, placed};
+ghost use Rattle.manifest.specs.inner.Reading.{HasFronts, IsChunksFault, IsGroupFault, IsRowsFault, FirstPath};
+
+use crate::chunk_reading::statistics_in;
+use crate::copies::copied_chunk;
+use crate::fronts::Fronts;
+use crate::group::Group;
+use crate::part_paths::key_and_low_number;
+use bits::{R, Refusal};
+use metadata::{ChunkMeta, GroupMeta};
+use row_group::MOST_ROWS_OF_GROUP;
+use schema::{KeyColumn, Leaf, fronts_have_the_first_leaves};
+use statistics::{GroupStats, Stats};
+use std::alloc::Global;
+
+/// What the record of a group in a root says, of a table with these keys, whose files have these leaves or those of the
+/// first fields.
+///
+/// Refused Schema where its chunks are not those of the leaves; Codec for a compressed chunk; Limit for more rows or
+/// entries than are read; Key for a path that names no key; Page for all else.
+pub(crate) fn group_in(
+    alloc: Global,
+    keys: &[KeyColumn],
+    leaves: &[Leaf],
+    fronts: &Fronts,
+    meta: &GroupMeta,
+) -> R<Group>
+    ensures stands { (stored : Fields) → IsSchema stored → map leaf_view leaves.now ≡ leaves_of stored → HasFronts fronts.now stored
+        → IfOk result (λ g. IsGroupRecord (key_columns_view keys.now) stored (group_meta_view meta.now) (group_view g)) }
+    ensures small { IfOk result (λ g. suc g.number < 2 ^ 64) }
+    ensures only { (stored : Fields) → IsSchema stored → map leaf_view leaves.now ≡ leaves_of stored → HasFronts fronts.now stored
+        → IfErr result (λ e. (e ≡ Memory → ⊥) → (g : GroupShown) → suc g.number < 2 ^ 64 → IsGroupRecord (key_columns_view keys.now) stored (group_meta_view meta.now) g → ⊥) }
+    ensures which { IfErr result (IsGroupFault (group_meta_view meta.now)) }
+{
+    fronts_have_the_first_leaves();
+    let rows = rows_of(meta)?;
+    let columns = meta.columns.as_slice();
+    let Some(width) = fronts.width_of(columns.len()) else {
+        return Err(Refusal::Schema);
+    };
+    let Some(path) = path_in(columns) else {
+        return Err(Refusal::Page);
+    };
+    let (key, number) = key_and_low_number(alloc, keys, path)?;
+    let (chunks, known) = chunks_in(alloc, leaves, path, columns)?;
+    let stats = GroupStats {
+        rows,
+        leaves: known,
+    };
+    Ok(Group {
+        number,
+        key,
+        width,
+        chunks,
+        stats,
+    })
+}
+
+/// A number of rows: at least one, and no more than are read.
+pub(crate) fn rows_of(meta: &GroupMeta) -> R<u64>
+    ensures stands { IfOk result (λ n. (meta.now.num_rows ≡ pos n) × (1 ≤ n)) }
+    ensures within_limits { OnOk result (most_rows <ℤ meta.now.num_rows → ⊥) }
+    ensures only { IfErr result (λ e. (n : ℕ) → meta.now.num_rows ≡ pos n → 1 ≤ n → (most_rows <ℤ meta.now.num_rows → ⊥) → ⊥) }
+    ensures which { IfErr result (IsRowsFault meta.now.num_rows) }
+{
+    if meta.num_rows > MOST_ROWS_OF_GROUP {
+        return Err(Refusal::Limit);
+    }
+    if meta.num_rows < 1 {
+        return Err(Refusal::Page);
+    }
+    Ok(meta.num_rows as u64)
+}
+
+/// The path of the file that the first chunk names.
+fn path_in(chunks: &[ChunkMeta]) -> Option<&[u8]>
+    ensures { FirstPath (map chunk_meta_view chunks.now) (option_map (λ p. p.now) result) }
+{
+    match chunks.first() {
+        Some(chunk) => match &chunk.file_path {
+            Some(path) => Some(path.as_slice()),
+            None => None,
+        },
+        None => None,
+    }
+}
+
+/// The records of chunks as in their own file, which lies at this path, and what they say of their columns.
+fn chunks_in(
+    alloc: Global,
+    leaves: &[Leaf],
+    path: &[u8],
+    chunks: &[ChunkMeta],
+) -> R<(Vec<ChunkMeta>, Vec<Stats>)>
+    ensures placed { IfOk result (λ x. map chunk_meta_view chunks.now ≡ map (placed path.now) (map chunk_meta_view x.0.items)) }
+    ensures stands { IfOk result (λ x. AreChunkRecords (take (length chunks.now) (map leaf_view leaves.now)) (map chunk_meta_view x.0.items) (map statistics_of x.1.items)) }
+    ensures only { IfErr result (λ e. (e ≡ Memory → ⊥) → (own : List ChunkMetaShown) (known : List StatisticsShown)
+        → map chunk_meta_view chunks.now ≡ map (placed path.now) own → AreChunkRecords (take (length chunks.now) (map leaf_view leaves.now)) own known → ⊥) }
+    ensures which { IfErr result (IsChunksFault (map chunk_meta_view chunks.now)) }
+{
+    if chunks.len() > leaves.len() {
+        return Err(Refusal::Schema);
+    }
+    let mut own = Vec::with_capacity(alloc, chunks.len())?;
+    let mut known = Vec::with_capacity(alloc, chunks.len())?;
+    for (i, chunk) in chunks.iter().enumerate() {
+        if !is_at(chunk, path) {
+            return Err(Refusal::Page);
+        }
+        let stats = statistics_in(alloc, chunk, &leaves[i])?;
+        known.push(stats)?;
+        let copy = copied_chunk(alloc, chunk, None)?;
+        own.push(copy)?;
+    }
+    Ok((own, known))
+}
+
+/// Whether a chunk lies in the file at this path.
+fn is_at(chunk: &ChunkMeta, path: &[u8]) -> bool
+    ensures { IsTrue result ↔ ((chunk_meta_view chunk.now).file_path ≡ Some path.now) }
+{
+    match &chunk.file_path {
+        Some(file_path) => file_path.as_slice() == path,
+        None => false,
+    }
+}

@@ -1,0 +1,6 @@
+pub mod Json
+pub mod Reading
+pub mod Rows
+pub mod Reader
+pub mod Law
+pub mod inner

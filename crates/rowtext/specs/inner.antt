@@ -1,0 +1,15 @@
+pub mod Scalars
+pub mod Fill
+pub mod Slots
+pub mod Levels
+pub mod Opening
+pub mod Room
+pub mod Lines
+pub mod Pieces
+pub mod PieceLists
+pub mod Spans
+pub mod LowerDigits
+pub mod Escapes
+pub mod FirstLane
+pub mod SpanLists
+pub mod Kept

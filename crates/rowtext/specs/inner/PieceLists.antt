@@ -1,0 +1,15 @@
+-- Lists of which a few take no allocation.
+use Rattle.std.specs.Prelude.{ℕ, List, ◌++◌, take, drop, slice_range, nat_le, if◌then◌else◌}
+use Rattle.rowtext.specs.declared.pieces.Piece.{Piece}
+
+-- the pieces of a row
+pub record PieceList : Type 0 where
+  pub items : List Piece
+
+-- the first of the few, or those in the allocation
+abbrev pub held : {A : Type 0} → ℕ → List A → List A → List A
+held count few many = if nat_le count 8 then take count few else many
+
+-- those from the second index on stand before those from the first up to it
+abbrev pub exchanged : {A : Type 0} → ℕ → ℕ → List A → List A
+exchanged from middle xs = take from xs ++ (drop middle xs ++ slice_range xs from middle)

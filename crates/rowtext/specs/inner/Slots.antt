@@ -1,0 +1,93 @@
+-- How rows are printed: what stands at each field, and the order of the members of an object, made once for a schema.
+use Rattle.std.specs.Ordering.{nat_cmp, match_ordering}
+use Rattle.std.specs.Cmp.Lexicographic.{slice_cmp}
+use Rattle.std.specs.Prelude.{ℕ, suc, Bool, true, ◌&&◌, ◌==◌, List, [], ◌∷◌, ◌++◌, map, length, Option, Some, None, option_map, String, string_bytes, if◌then◌else◌}
+use Rattle.std.specs.declared.alloc.Global.{Global}
+use Rattle.std.specs.Global.{Vec}
+use Rattle.std.specs.Borrow.{Bor}
+use Rattle.json.specs.Print.{quoted}
+use Rattle.schema.specs.Annotations.{is_text, order_of as leaf_order}
+use Rattle.schema.specs.Shape.{Field, leaf, fields, Fields, no_fields, field, name_of, count}
+use Rattle.rowtext.specs.declared.scalars.Numbers.{Numbers}
+use Rattle.rowtext.specs.declared.row_plan.Slot.{Slot as CodeSlot, fold-Slot}
+use Rattle.rowtext.specs.declared.row_plan.Slot.TheOpen.{Slot-F}
+use Rattle.rowtext.specs.inner.Scalars.{numbers_of}
+
+-- a field: its name as it is printed, between a comma and a colon, and what its values are; the order of a group is none where its fields stand in the order of their names
+mutual
+  pub data Slot : Type 0 where
+    leaf_slot : List ℕ → Numbers → Bool → Slot
+    group_slot : List ℕ → Slots → Option (List ℕ) → Slot
+
+  pub data Slots : Type 0 where
+    no_slots : Slots
+    slot : Slot → Slots → Slots
+
+abbrev pub slots_from : List Slot → Slots
+slots_from [] = no_slots
+slots_from (s ∷ ss) = slot s (slots_from ss)
+
+abbrev pub vec_items : Vec ℕ → List ℕ
+vec_items v = v.items
+
+abbrev pub order_view : Option (Bor (List ℕ)) → Option (List ℕ)
+order_view o = option_map (λ (x : Bor (List ℕ)). x.now) o
+
+-- one level, with each slot inside already seen
+abbrev pub slot_step : Slot-F Slot → Slot
+slot_step (Slot-F.Leaf k n t) = leaf_slot k n t
+slot_step (Slot-F.Group k ss o) = group_slot k (slots_from ss.items) (option_map vec_items o)
+
+abbrev pub slot_view : CodeSlot → Slot
+slot_view = fold-Slot Slot slot_step
+
+abbrev pub slots_view : List CodeSlot → Slots
+slots_view ss = slots_from (map slot_view ss)
+
+abbrev pub key_in : Slot → List ℕ
+key_in (leaf_slot k n t) = k
+key_in (group_slot k ss o) = k
+
+-- ---- how it is made
+
+abbrev pub key_of : List ℕ → List ℕ
+key_of name = 44 ∷ (quoted name ++ 58 ∷ [])
+
+abbrev pub entries_view : List (String Global × ℕ) → List (List ℕ × ℕ)
+entries_view es = map (λ e. (string_bytes e.0, e.1)) es
+
+-- the names with their indices, with i at k
+abbrev pub put_index : List ℕ → ℕ → List (List ℕ × ℕ) → List (List ℕ × ℕ)
+put_index k i [] = (k, i) ∷ []
+put_index k i (e ∷ es) = match_ordering (slice_cmp nat_cmp k e.0) ((k, i) ∷ e ∷ es) ((e.0, i) ∷ es) (e ∷ put_index k i es)
+
+-- the names of fields in their byte order, with the indices of the fields, the first of which has this one
+abbrev pub ordered : ℕ → Fields → List (List ℕ × ℕ)
+ordered i no_fields = []
+ordered i (field f fs) = put_index (name_of f) i (ordered (suc i) fs)
+
+abbrev pub second : List ℕ × ℕ → ℕ
+second e = e.1
+
+abbrev pub indices_of : Fields → List ℕ
+indices_of fs = map second (ordered 0 fs)
+
+-- the numbers from i on
+abbrev pub is_counting : ℕ → List ℕ → Bool
+is_counting i [] = true
+is_counting i (j ∷ js) = (j == i) && is_counting (suc i) js
+
+abbrev pub is_in_order : List ℕ → ℕ → Bool
+is_in_order indices n = is_counting 0 indices && (length indices == n)
+
+abbrev pub order_of : Fields → Option (List ℕ)
+order_of fs = if is_in_order (indices_of fs) (count fs) then None else Some (indices_of fs)
+
+abbrev mutual
+  pub slot_of : Field → Slot
+  slot_of (leaf n r t) = leaf_slot (key_of n) (numbers_of t.kind (leaf_order t)) (is_text t.kind t.annotation)
+  slot_of (fields n r a fs) = group_slot (key_of n) (slots_made fs) (order_of fs)
+
+  pub slots_made : Fields → Slots
+  slots_made no_fields = no_slots
+  slots_made (field f fs) = slot (slot_of f) (slots_made fs)

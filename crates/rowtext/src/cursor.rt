@@ -1,0 +1,166 @@
+//! What is left of a line that is read in the form in which rows are printed.
+
+ghost use Rattle.std.specs.Prelude.{◌≡◌, ◌≤◌, ℕ, List, ◌∷◌, [], false, length, IfSome, IsTrue, decimal};
+ghost use Rattle.std.specs.Fmt.{signed_decimal};
+ghost use Rattle.json.specs.Print.{escape, quoted};
+ghost use Rattle.rowtext.specs.inner.Escapes.{IsPrintedText};
+
+use crate::escapes::printed_end;
+use crate::integers::natural_front;
+use crate::pieces::{Piece, text_piece};
+use crate::plain_front::plain_front;
+
+/// A line, and how many of its bytes were read.
+#[derive(Drop)]
+pub struct Cursor<'t> {
+    text: &'t str,
+    at: usize,
+    ghost within: { at ≤ length text.now },
+}
+
+impl<'t> Cursor<'t> {
+    ghost use Rattle.rowtext.specs.inner.Lines.{rest_of, Takes};
+    ghost use Rattle.rowtext.specs.inner.Pieces.{IsTextRead};
+
+    /// A line of which nothing was read.
+    pub fn new(text: &'t str) -> Cursor<'t>
+        ensures { rest_of result ≡ text.now }
+    {
+        Cursor { text, at: 0 }
+    }
+
+    /// What is left of it.
+    #[inline(always)]
+    fn rest(&self) -> &'t [u8]
+        ensures { result.now ≡ rest_of self.now }
+    {
+        &self.text.as_bytes()[self.at..]
+    }
+
+    /// Whether nothing is left.
+    pub fn is_over(&self) -> bool
+        ensures { IsTrue result → rest_of self.now ≡ [] }
+    {
+        self.rest().is_empty()
+    }
+
+    /// Passes over these bytes, where they stand there.
+    #[inline(always)]
+    pub fn skip(&mut self, bytes: &[u8]) -> bool
+        ensures taken { IsTrue result → Takes self.old self.new bytes.now }
+        ensures unchanged { result ≡ false → rest_of self.new ≡ rest_of self.old }
+    {
+        if self.rest().starts_with(bytes) {
+            self.at += bytes.len();
+            true
+        } else {
+            false
+        }
+    }
+
+    /// Passes over this byte, where it stands there.
+    #[inline(always)]
+    pub fn skip_byte(&mut self, byte: u8) -> bool
+        ensures taken { IsTrue result → Takes self.old self.new (byte ∷ []) }
+        ensures unchanged { result ≡ false → rest_of self.new ≡ rest_of self.old }
+    {
+        match self.rest().first() {
+            Some(first) if *first == byte => {
+                self.at += 1;
+                true
+            }
+            _ => false,
+        }
+    }
+
+    /// The number whose digits stand there.
+    #[inline(always)]
+    pub fn natural(&mut self) -> Option<u64>
+        ensures { IfSome result (λ n. Takes self.old self.new (decimal n)) }
+    {
+        let (number, count) = natural_front(self.rest())?;
+        self.at += count;
+        Some(number)
+    }
+
+    /// The integer whose text stands there.
+    #[inline(always)]
+    pub fn integer(&mut self) -> Option<i64>
+        ensures { IfSome result (λ z. Takes self.old self.new (signed_decimal z)) }
+    {
+        if self.skip_byte(b'-') {
+            let number = self.natural()?;
+            if number == 0 {
+                return None;
+            }
+            i64::try_from(-i128::from(number)).ok()
+        } else {
+            i64::try_from(self.natural()?).ok()
+        }
+    }
+
+    /// The string up to a quote, with no escape in it.
+    #[inline(always)]
+    fn content(&mut self) -> Option<&'t str>
+        ensures { IfSome result (λ s. Takes self.old self.new s.now × (escape s.now ≡ s.now)) }
+    {
+        let count = plain_front(self.rest());
+        let end = self.at + count;
+        let content = self.text.get(self.at..end)?;
+        self.at = end;
+        Some(content)
+    }
+
+    /// The string that stands there in quotes, with no escape in it.
+    #[inline(always)]
+    pub fn string(&mut self) -> Option<&'t str>
+        ensures { IfSome result (λ s. Takes self.old self.new (quoted s.now)) }
+    {
+        if !self.skip_byte(b'"') {
+            return None;
+        }
+        let content = self.content()?;
+        if self.skip_byte(b'"') {
+            Some(content)
+        } else {
+            None
+        }
+    }
+
+    /// The text whose string stands there, as it is printed.
+    #[inline(always)]
+    pub fn text(&mut self) -> Option<Piece<'t>>
+        ensures { IfSome result (λ p. IsTextRead self.old self.new p) }
+    {
+        let text = self.text;
+        let at = self.at;
+        if let Some(plain) = self.string() {
+            return Some(text_piece(plain));
+        }
+        self.text = text;
+        self.at = at;
+        let content = self.escaped()?;
+        Some(Piece::Escaped(content))
+    }
+
+    /// The content of the string that stands there in quotes, with escapes as they are printed.
+    #[cold]
+    #[inline(never)]
+    fn escaped(&mut self) -> Option<&'t str>
+        ensures { IfSome result (λ raw. (s : List ℕ) × (IsPrintedText raw.now s × Takes self.old self.new (quoted s))) }
+    {
+        if !self.skip_byte(b'"') {
+            return None;
+        }
+        let rest = self.text.get(self.at..)?;
+        let end = printed_end(rest)?;
+        let content = rest.get(..end)?;
+        self.text = rest.get(end..)?;
+        self.at = 0;
+        if self.skip_byte(b'"') {
+            Some(content)
+        } else {
+            None
+        }
+    }
+}

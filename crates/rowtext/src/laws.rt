@@ -1,0 +1,9 @@
+//! What holds of the definitions.
+
+ghost use Rattle.rowtext.specs.Law.{RowsReadBack};
+
+/// The text of each row that fits a schema is read as that row.
+#[tactic(auto, using(crate::proofs::RowsBack::rows_read_back))]
+pub fn rows_read_back()
+    ensures { RowsReadBack }
+{}

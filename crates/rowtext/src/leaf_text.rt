@@ -1,0 +1,96 @@
+//! The text of values of a leaf.
+
+ghost use Rattle.std.specs.Prelude.{◌≡◌, ◌≤◌, ◌+◌, ◌++◌, length, OnOk, option_map};
+ghost use Rattle.schema.specs.Borrowed.{value_ref_view};
+ghost use Rattle.rowtext.specs.inner.Levels.{bytes_text, value_text, text_at, seen};
+
+use crate::line::Line;
+use crate::row_plan::Slot;
+use crate::scalars::{Numbers, put_boolean, put_null, put_number};
+use crate::strings::{end_with_digits, place_string, put_digits, put_string};
+use schema::ValueRef;
+use std::alloc::AllocError;
+
+/// The most bytes whose digits take no more room.
+const FEW: usize = 16;
+
+/// Appends bytes of a leaf: text as a string, and all else by its digits.
+#[inline(always)]
+fn put_bytes(is_text: bool, bytes: &[u8], out: &mut Line) -> Result<(), AllocError>
+    ensures { OnOk result (out.new.items ≡ out.old.items ++ bytes_text is_text bytes.now) }
+{
+    if is_text {
+        put_string(bytes, out)
+    } else {
+        put_digits(bytes, out)
+    }
+}
+
+/// Appends bytes of a leaf, as [`put_bytes`] does: a call that ends the caller, which then has no registers to save.
+#[inline(never)]
+pub fn end_with_bytes(is_text: bool, bytes: &[u8], out: &mut Line) -> Result<(), AllocError>
+    ensures { OnOk result (out.new.items ≡ out.old.items ++ bytes_text is_text bytes.now) }
+{
+    put_bytes(is_text, bytes, out)
+}
+
+/// Appends a few bytes of a leaf, where there is room for them as a string.
+#[inline(always)]
+pub fn place_bytes(is_text: bool, bytes: &[u8], out: &mut Line) -> Result<(), AllocError>
+    requires string { length bytes.now + 2 ≤ out.old.ready }
+    requires digits { 34 ≤ out.old.ready }
+    ensures { OnOk result (out.new.items ≡ out.old.items ++ bytes_text is_text bytes.now) }
+{
+    if !is_text {
+        if bytes.len() > FEW {
+            return put_digits(bytes, out);
+        }
+        return end_with_digits(bytes, out);
+    }
+    place_string(bytes, out)
+}
+
+/// Appends a value of a leaf, its repetition aside, where there is room for a number.
+#[inline(always)]
+pub fn put_value(
+    numbers: Numbers,
+    is_text: bool,
+    value: ValueRef<'_>,
+    out: &mut Line,
+) -> Result<(), AllocError>
+    requires { 53 ≤ out.old.ready }
+    ensures { OnOk result (out.new.items ≡ out.old.items ++ value_text numbers is_text (value_ref_view value.entry)) }
+{
+    match value {
+        ValueRef::Bool(boolean) => put_boolean(boolean, out),
+        ValueRef::Int(number) => put_number(numbers, number, out),
+        ValueRef::Bytes(bytes) => return put_bytes(is_text, bytes, out),
+        ValueRef::Null | ValueRef::Group(_) | ValueRef::List(_) => put_null(out),
+    }
+    Ok(())
+}
+
+/// Appends a value that is no group and no list, where there is room for a number: null where it is not of a leaf.
+#[inline(always)]
+pub fn put_single(
+    slot: Option<&Slot>,
+    value: ValueRef<'_>,
+    out: &mut Line,
+) -> Result<(), AllocError>
+    requires { 53 ≤ out.old.ready }
+    ensures { OnOk result (out.new.items ≡ out.old.items ++ text_at (option_map seen slot.entry) (value_ref_view value.entry)) }
+{
+    match slot {
+        Some(
+            Slot::Leaf {
+                numbers,
+                is_text,
+                ..
+            },
+        ) => put_value(*numbers, *is_text, value, out),
+        _ => {
+            put_null(out);
+            Ok(())
+        }
+    }
+}

@@ -1,0 +1,97 @@
+//! How rows of a schema are read from the form in which they are printed.
+
+ghost use Rattle.std.specs.Prelude.{◌≡◌, true, IfOk, OnOk};
+ghost use Rattle.bits.specs.Refusals.{RefusedMemoryOnly};
+ghost use Rattle.schema.specs.Fits.{fits_each};
+ghost use Rattle.schema.specs.Values.{ValueTrees};
+ghost use Rattle.assemble.specs.Sinks.{tokens_each};
+ghost use Rattle.rowtext.specs.Json.{row_text};
+ghost use Rattle.rowtext.specs.Reader.{IsRowOf};
+ghost use Rattle.rowtext.specs.inner.Pieces.{Grows};
+
+use crate::cursor::Cursor;
+use crate::piece_list::Pieces;
+use crate::printed_rows::members_printed;
+use crate::row_plan::RowPlan;
+use crate::unread::Unread;
+use bits::R;
+use schema::Schema;
+use std::alloc::Global;
+use std::marker::Model;
+
+/// How rows of a schema are printed, by which they are read. A clause sees the schema.
+#[derive(Drop)]
+pub struct ReadPlan<'a> {
+    schema: &'a Schema,
+    plan: RowPlan<'a>,
+}
+
+impl<'a> Model for ReadPlan<'a> {
+    ghost use Rattle.std.specs.Prelude.{◌≡◌};
+    ghost use Rattle.schema.specs.Shape.{Fields};
+    ghost use Rattle.schema.specs.inner.Code.{fields_code};
+    ghost use Rattle.rowtext.specs.Rows.{plan_schema, IsReady};
+
+    ghost Value = { Fields };
+
+    ghost coded = { fields_code };
+
+    ghost view = { λ p. p.schema.now };
+
+    ghost invariant = { λ p. IsReady p.plan × (plan_schema p.plan ≡ p.schema.now) };
+}
+
+impl<'a> ReadPlan<'a> {
+    /// It fails only when out of memory. Time and memory are linear in the schema, with a look-up of each name
+    /// among its siblings.
+    pub fn new(alloc: Global, schema: &'a Schema) -> R<ReadPlan<'a>>
+        ensures reads { IfOk result (λ plan. plan ≡ schema.now) }
+        ensures which { RefusedMemoryOnly result }
+    {
+        let plan = RowPlan::new(alloc, schema)?;
+        Ok(ReadPlan { schema, plan })
+    }
+
+    /// The schema.
+    pub fn schema(&self) -> &'a Schema
+        ensures { result.now ≡ self.now }
+    {
+        self.schema
+    }
+
+    /// Adds the pieces of the row whose printed text a line is.
+    fn printed<'t>(
+        &self,
+        alloc: Global,
+        text: &'t str,
+        pieces: &mut Pieces<'t>,
+    ) -> Result<(), Unread>
+        ensures { OnOk result ((values : ValueTrees) ×
+            ((fits_each self.now values ≡ true) × ((text.now ≡ row_text self.now values) × Grows pieces.old.items pieces.new.items (tokens_each values)))) }
+    {
+        let mut line = Cursor::new(text);
+        let fields = self.schema.fields();
+        let slots = self.plan.slots();
+        let order = self.plan.order();
+        members_printed(alloc, fields, slots, order, &mut line, pieces)?;
+        if line.is_over() {
+            Ok(())
+        } else {
+            Err(Unread::Unknown)
+        }
+    }
+
+    /// Adds the pieces of the row that a text is, where it is one as it is printed.
+    pub fn put_pieces<'t>(
+        &self,
+        alloc: Global,
+        text: &'t str,
+        pieces: &mut Pieces<'t>,
+    ) -> Result<(), Unread>
+        ensures { OnOk result ((values : ValueTrees) × (IsRowOf self.now text.now values × Grows pieces.old.items pieces.new.items (tokens_each values))) }
+    {
+        // For the proof: what is known of the schema.
+        let _ = self.schema.leaves();
+        self.printed(alloc, text, pieces)
+    }
+}

@@ -1,0 +1,243 @@
+//! The row that a text is.
+
+ghost use Rattle.std.specs.BTreeMap.{btree_map_len};
+ghost use Rattle.std.specs.Prelude.{◌≡◌, ◌⊎◌, ◌↔◌, Option, option_map, IfOk, IfErr, IsTrue, string_bytes};
+ghost use Rattle.bits.specs.declared.refusal.Refusal.TheVariants.{Memory, RowShape, Script};
+ghost use Rattle.serde_json.specs.Data.{Data, Members};
+ghost use Rattle.serde_json.specs.Read.{read};
+ghost use Rattle.serde_json.specs.View.{view, number_view, items_view, members_view};
+ghost use Rattle.schema.specs.Annotations.{order_of};
+ghost use Rattle.schema.specs.Fits.{fits_each};
+ghost use Rattle.schema.specs.Values.{ValueTree, view as value_view, views};
+ghost use Rattle.schema.specs.Views.{leaf_type_view, field_view, field_views, row_view};
+ghost use Rattle.rowtext.specs.Reading.{number_read, bytes_of_digits, bytes_read, scalar_read, leaf_read, read_as, items_read, inside_read, field_read, members_read, row_of, line_of};
+
+use crate::json_text::json_of;
+use bits::{R, Refusal};
+use hex::FromHexError;
+use schema::{Field, Kind, LeafType, Order, Repetition, Row, Schema, Value};
+use serde_json::{Map, Number, Value as Json};
+use std::alloc::{AllocError, Global};
+
+/// How many numbers have 32 bits.
+const NUMBERS_OF_INT32: u64 = 4_294_967_296;
+
+/// The integer of a leaf that a number is: where the leaf's order is unsigned, the one of the same bits.
+pub fn number_from(leaf_type: &LeafType, number: &Number) -> Option<i64>
+    ensures { result ≡ number_read leaf_type.now.kind (order_of (leaf_type_view leaf_type.now)) (number_view number.now) }
+{
+    match (leaf_type.order(), leaf_type.kind) {
+        (Some(Order::Unsigned), Kind::Int32) => {
+            let bits = number.as_u64()?;
+            if bits < NUMBERS_OF_INT32 {
+                Some(i64::from((bits as u32).cast_signed()))
+            } else {
+                None
+            }
+        }
+        (Some(Order::Unsigned), _) => {
+            let bits = number.as_u64()?;
+            Some(bits.cast_signed())
+        }
+        _ => number.as_i64(),
+    }
+}
+
+/// The bytes of these hexadecimal digits, which are in lower case.
+pub fn bytes_of_digits(alloc: Global, digits: &str) -> Result<Option<Vec<u8>>, AllocError>
+    ensures { IfOk result (λ found. option_map (λ bytes. bytes.items) found ≡ bytes_of_digits digits.now) }
+{
+    match hex::decode(alloc, digits) {
+        Ok(bytes) => {
+            let again = hex::encode(alloc, bytes.as_slice())?;
+            if again.as_str() == digits {
+                Ok(Some(bytes))
+            } else {
+                Ok(None)
+            }
+        }
+        Err(FromHexError::OutOfMemory) => Err(AllocError),
+        Err(_) => Ok(None),
+    }
+}
+
+/// A value of a leaf, its repetition aside; none where the JSON value is no such value.
+pub fn leaf_from(
+    alloc: Global,
+    leaf_type: &LeafType,
+    json: Json,
+) -> Result<Option<Value>, AllocError>
+    ensures { IfOk result (λ found. option_map value_view found ≡ leaf_read (leaf_type_view leaf_type.now) (view json)) }
+{
+    let Some(value) = scalar_from(alloc, leaf_type, json)? else {
+        return Ok(None);
+    };
+    if leaf_type.fits(&value) {
+        Ok(Some(value))
+    } else {
+        Ok(None)
+    }
+}
+
+/// The row of the schema that a text is: a JSON object (RFC 8259) with a member for each top-level field,
+/// by its name. An absent OPTIONAL member is null, and an absent REPEATED one is empty. Where the text
+/// names a member twice, the last counts.
+///
+/// Refused Script where the text is no JSON object; RowShape where a member that is needed is absent, one
+/// is of no field, or one is no value of its field. Time and memory are linear in the text and the
+/// fields, a member's look-up among the others of its object aside.
+pub fn row_from(alloc: Global, schema: &Schema, text: &str) -> R<Row>
+    ensures stands { IfOk result (λ row. (d : Data) × (read text.now ≡ Some d) × (row_of schema.now d ≡ Some (row_view row))) }
+    ensures fits { IfOk result (λ row. IsTrue (fits_each schema.now (row_view row))) }
+    ensures shape { result ≡ Err RowShape → (ms : Members) × (line_of text.now ≡ Some ms) × (members_read schema.now ms ≡ None) }
+    ensures script { result ≡ Err Script → line_of text.now ≡ None }
+    ensures which { IfErr result (λ e. (e ≡ RowShape) ⊎ (e ≡ Script) ⊎ (e ≡ Memory)) }
+{
+    let Json::Object(members) = json_of(alloc, text)? else {
+        return Err(Refusal::Script);
+    };
+    match members_from(alloc, schema.fields(), members)? {
+        Some(values) => Ok(Row { values }),
+        None => Err(Refusal::RowShape),
+    }
+}
+
+/// The bytes of a leaf that a text is: itself where they are text, and else those of its digits.
+fn bytes_from(
+    alloc: Global,
+    leaf_type: &LeafType,
+    text: String,
+) -> Result<Option<Vec<u8>>, AllocError>
+    ensures { IfOk result (λ found. option_map (λ bytes. bytes.items) found ≡ bytes_read (leaf_type_view leaf_type.now) (string_bytes text)) }
+{
+    if leaf_type.is_text() {
+        Ok(Some(text.into_bytes()))
+    } else {
+        bytes_of_digits(alloc, text.as_str())
+    }
+}
+
+/// The value that a JSON value is by its kind.
+fn scalar_from(alloc: Global, leaf_type: &LeafType, json: Json) -> Result<Option<Value>, AllocError>
+    ensures { IfOk result (λ found. option_map value_view found ≡ scalar_read (leaf_type_view leaf_type.now) (view json)) }
+{
+    match json {
+        Json::Bool(boolean) => Ok(Some(Value::Bool(boolean))),
+        Json::Number(number) => match number_from(leaf_type, &number) {
+            Some(number) => Ok(Some(Value::Int(number))),
+            None => Ok(None),
+        },
+        Json::String(text) => match bytes_from(alloc, leaf_type, text)? {
+            Some(bytes) => Ok(Some(Value::Bytes(bytes))),
+            None => Ok(None),
+        },
+        _ => Ok(None),
+    }
+}
+
+/// A value of a field, its repetition aside; none where the JSON value is no such value.
+#[cycle(reading)]
+fn inside_from(alloc: Global, field: &Field, json: Json) -> Result<Option<Value>, AllocError>
+    ensures { IfOk result (λ found. option_map value_view found ≡ inside_read (field_view field.now) (view json)) }
+{
+    match field {
+        Field::Leaf { leaf_type, .. } => leaf_from(alloc, leaf_type, json),
+        Field::Group { fields, .. } => match json {
+            Json::Object(members) => match members_from(alloc, fields.as_slice(), members)? {
+                Some(values) => Ok(Some(Value::Group(values))),
+                None => Ok(None),
+            },
+            _ => Ok(None),
+        },
+    }
+}
+
+/// The values that the items of an array are; none where one is no value of the field.
+#[cycle(reading)]
+fn items_from(
+    alloc: Global,
+    field: &Field,
+    items: Vec<Json>,
+) -> Result<Option<Vec<Value>>, AllocError>
+    ensures { IfOk result (λ found. option_map (λ all. views all.items) found ≡ items_read (inside_read (field_view field.now)) (items_view items.items)) }
+{
+    let mut all = Vec::with_capacity(alloc, items.len())?;
+    for item in items {
+        let Some(value) = inside_from(alloc, field, item)? else {
+            return Ok(None);
+        };
+        all.push(value)?;
+    }
+    Ok(Some(all))
+}
+
+/// The value of a field whose member is absent.
+fn value_of_absent(alloc: Global, repetition: Repetition) -> Option<Value>
+    ensures { (inside : Data → Option ValueTree) → option_map value_view result ≡ read_as repetition inside None }
+{
+    match repetition {
+        Repetition::Required => None,
+        Repetition::Optional => Some(Value::Null),
+        Repetition::Repeated => Some(Value::List(Vec::new(alloc))),
+    }
+}
+
+/// A value of a field; none where the member, which may be absent, is no such value.
+#[cycle(reading)]
+fn field_from(
+    alloc: Global,
+    field: &Field,
+    member: Option<Json>,
+) -> Result<Option<Value>, AllocError>
+    ensures { IfOk result (λ found. option_map value_view found ≡ field_read (field_view field.now) (option_map view member)) }
+{
+    let Some(json) = member else {
+        return Ok(value_of_absent(alloc, field.repetition()));
+    };
+    match field.repetition() {
+        Repetition::Required => inside_from(alloc, field, json),
+        Repetition::Optional => match json {
+            Json::Null => Ok(Some(Value::Null)),
+            _ => inside_from(alloc, field, json),
+        },
+        Repetition::Repeated => match json {
+            Json::Array(items) => match items_from(alloc, field, items)? {
+                Some(values) => Ok(Some(Value::List(values))),
+                None => Ok(None),
+            },
+            _ => Ok(None),
+        },
+    }
+}
+
+/// Whether each member was taken by a field: what is left is of none.
+fn are_all_taken(members: &Map<String, Json>) -> bool
+    ensures { IsTrue result ↔ (btree_map_len members.now ≡ 0) }
+{
+    members.is_empty()
+}
+
+/// A value for each field, by the member of its name; none where a member is no such value, or where
+/// one is left.
+#[cycle(reading)]
+pub fn members_from(
+    alloc: Global,
+    fields: &[Field],
+    mut members: Map<String, Json>,
+) -> Result<Option<Vec<Value>>, AllocError>
+    ensures { IfOk result (λ found. option_map (λ all. views all.items) found ≡ members_read (field_views fields.now) (members_view members.entries)) }
+{
+    let mut all = Vec::with_capacity(alloc, fields.len())?;
+    for field in fields {
+        let member = members.remove(field.name());
+        let Some(value) = field_from(alloc, field, member)? else {
+            return Ok(None);
+        };
+        all.push(value)?;
+    }
+    if are_all_taken(&members) {
+        Ok(Some(all))
+    } else {
+        Ok(None)
+    }
+}

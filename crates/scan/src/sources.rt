@@ -1,0 +1,125 @@
+//! Readers over the bytes of chunks.
+
+ghost use Rattle.std.specs.Prelude.{◌≡◌, ◌<◌, ◌⊎◌, List, [], ◌∷◌, length, map, IfOk, OnOk, IfErr};
+ghost use Rattle.bits.specs.Refusals.{RefusedOnly, RefusedMemoryOnly};
+ghost use Rattle.schema.specs.Stripe.{Entry, leaves_of};
+ghost use Rattle.schema.specs.Values.{ValueTrees, view};
+ghost use Rattle.schema.specs.Views.{leaf_view, row_view};
+ghost use Rattle.metadata.specs.Views.{chunk_meta_view};
+ghost use Rattle.assemble.specs.Columns.{Columns};
+ghost use Rattle.assemble.specs.RowsOf.{StandForRows, IsNextRow};
+ghost use Rattle.assemble.specs.Sources.{Precede};
+ghost use Rattle.assemble.specs.Standing.{AllStand};
+ghost use Rattle.row_group.specs.Left.{chunk_stands};
+ghost use Rattle.scan.specs.Faults.{IsOfParts};
+ghost use Rattle.scan.specs.inner.Cells.{value_in};
+ghost use Rattle.scan.specs.inner.Texts.{IsHeld, AreHeld, texts_view};
+ghost use Rattle.scan.specs.inner.Uses.{numbers_of, picked};
+
+use crate::leaf_uses::LeafUse;
+use assemble::{Discard, EntrySource, RowBuilder, next_known_row_to};
+use bits::{R, Refusal};
+use metadata::ChunkMeta;
+use row_group::ChunkReader;
+use schema::{Leaf, Row, Schema, Value};
+use std::alloc::Global;
+
+/// A reader for each leaf that is picked, in the order of the leaves. A chunk that was read for the filter lies in
+/// `first`, another one in `later`.
+pub fn sources_of<'a>(
+    alloc: Global,
+    schema: &'a Schema,
+    chunks: &[ChunkMeta],
+    uses: &[LeafUse],
+    first: &'a [Vec<u8>],
+    later: &'a [Vec<u8>],
+    for_filter: bool,
+) -> R<Vec<ChunkReader<'a>>>
+    requires uses { length uses.now ≡ length (leaves_of schema.now) }
+    requires first { length first.now ≡ length (leaves_of schema.now) }
+    requires later { length later.now ≡ length (leaves_of schema.now) }
+    ensures stands { IfOk result (λ rs. (cols : Columns)
+        → AreHeld for_filter (map chunk_meta_view chunks.now) (leaves_of schema.now) uses.now (texts_view first.now) (texts_view later.now) cols
+        → AllStand chunk_stands rs.items (picked for_filter uses.now cols)) }
+    ensures only { (cols : Columns)
+        → AreHeld for_filter (map chunk_meta_view chunks.now) (leaves_of schema.now) uses.now (texts_view first.now) (texts_view later.now) cols
+        → RefusedMemoryOnly result }
+    ensures as_many { IfOk result (λ rs. length rs.items ≡ length (numbers_of for_filter 0 uses.now)) }
+    ensures which { RefusedOnly IsOfParts result }
+{
+    let mut sources = Vec::new(alloc);
+    for (number, leaf) in schema.leaves().iter().enumerate() {
+        let usage = uses[number];
+        if !usage.is_picked(for_filter) {
+            continue;
+        }
+        let text = if usage.is_filtered {
+            &first[number]
+        } else {
+            &later[number]
+        };
+        let source = source_of(alloc, chunks, usage.chunk, leaf, text.as_slice())?;
+        sources.push(source)?;
+    }
+    Ok(sources)
+}
+
+/// A reader of the chunk with this index, whose bytes these are. Refused Schema where there is none.
+fn source_of<'a>(
+    alloc: Global,
+    chunks: &[ChunkMeta],
+    number: usize,
+    leaf: &'a Leaf,
+    text: &'a [u8],
+) -> R<ChunkReader<'a>>
+    ensures stands { IfOk result (λ r. (es : List Entry)
+        → IsHeld (map chunk_meta_view chunks.now) number (leaf_view leaf.now) text.now es → chunk_stands r es) }
+    ensures only { (es : List Entry) → IsHeld (map chunk_meta_view chunks.now) number (leaf_view leaf.now) text.now es → RefusedMemoryOnly result }
+    ensures which { RefusedOnly IsOfParts result }
+{
+    if number >= chunks.len() {
+        return Err(Refusal::Schema);
+    }
+    ChunkReader::new(alloc, text, &chunks[number].meta_data, leaf)
+}
+
+/// The value of the next entry, which is taken: null where it has none.
+pub fn take_value<S: EntrySource>(alloc: Global, source: &mut S) -> R<Value>
+    ensures takes { IfOk result (λ v. (e : Entry) × (value_in e ≡ view v) × Precede (e ∷ []) (S.stands source.old) (S.stands source.new)) }
+    ensures only { IfErr result (λ r. (r ≡ Refusal.Memory) ⊎ ((es : List Entry) → S.stands source.old es → es ≡ [])) }
+    ensures which { RefusedOnly IsOfParts result }
+{
+    match source.next() {
+        Ok(Some(entry)) => match entry.value {
+            Some(value) => value.to_value(alloc),
+            None => Ok(Value::Null),
+        },
+        Ok(None) => Err(Refusal::Levels),
+        Err(fault) => Err(Refusal::from(fault)),
+    }
+}
+
+/// The next row. Where the readers do not stand for one, it is refused for a fault.
+pub fn take_row(alloc: Global, cut: &Schema, sources: &mut [ChunkReader<'_>]) -> R<Row>
+    ensures takes { IfOk result (λ row. IsNextRow chunk_stands cut.now sources.old sources.new (row_view row)) }
+    ensures only { IfErr result (λ r. (rows : List ValueTrees) → StandForRows chunk_stands sources.old cut.now rows → 0 < length rows → r ≡ Refusal.Memory) }
+    ensures which { RefusedOnly IsOfParts result }
+{
+    let mut builder = RowBuilder::new(alloc, cut.fields().len())?;
+    match next_known_row_to(cut, sources, &mut builder) {
+        Ok(()) => Ok(builder.into_row()),
+        Err(fault) => Err(Refusal::from(fault)),
+    }
+}
+
+/// Passes the next row over: nothing of it is kept. Where the readers do not stand for one, it is refused for a fault.
+pub fn skip_row(cut: &Schema, sources: &mut [ChunkReader<'_>]) -> R<()>
+    ensures takes { OnOk result ((row : ValueTrees) × IsNextRow chunk_stands cut.now sources.old sources.new row) }
+    ensures only { IfErr result (λ r. (rows : List ValueTrees) → StandForRows chunk_stands sources.old cut.now rows → 0 < length rows → r ≡ Refusal.Memory) }
+    ensures which { RefusedOnly IsOfParts result }
+{
+    match next_known_row_to(cut, sources, &mut Discard) {
+        Ok(()) => Ok(()),
+        Err(fault) => Err(Refusal::from(fault)),
+    }
+}

@@ -1,0 +1,11 @@
+pub mod Lists
+pub mod Same
+pub mod Numbering
+pub mod Times
+pub mod Commits
+pub mod States
+pub mod Needed
+pub mod Open
+pub mod Told
+pub mod Versioned
+pub mod Blocked

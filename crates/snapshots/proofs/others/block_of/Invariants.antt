@@ -1,0 +1,6 @@
+use Rattle.std.proofs.Common.{◌≡◌, ◌++◌, drop}
+use Rattle.snapshots.specs.inner.Spells.{others_view, others_of_blocks}
+use Rattle.snapshots.proofs.others.block_of.Given as goal
+
+abbrev pub invariant-loop-block : goal.invariant-loop-block
+invariant-loop-block l = others_view l.out.items ++ others_of_blocks (drop l.block-index l.blocks) ≡ others_view l.initial.out.items ++ others_of_blocks l.blocks

@@ -1,0 +1,156 @@
+-- The commit of an append of which nothing is staged: the job ends.
+use Rattle.std.proofs.Common.{◌≡◌, ◌<◌, ℕ, Bool, true, false, not, ◌&&◌, nat_eq, nat_lt, List, [], ◌∷◌, ◌++◌, map, flat_map, length, Option, Some, None, refl, sym, ◌∙◌, ap, subst, arith}
+use Rattle.std.specs.Prelude.{Vec, if◌then◌else◌}
+use Rattle.std.specs.List.{AllZip}
+use Rattle.std.specs.declared.alloc.Global.{Global}
+use Rattle.std.proofs.lemmas.Bool.{and_parts, eqb-true, lt-ltb}
+use Rattle.std.proofs.lemmas.List.{append-nil, nil_from_length}
+use Rattle.bits.specs.declared.refusal.Refusal.{Refusal}
+use Rattle.bits.specs.declared.refusal.Refusal.TheVariants.{Memory}
+use Rattle.bits.specs.Refusals.{HasCause}
+use Rattle.schema.specs.Keys.{key_of_row}
+use Rattle.partition.specs.Order.{AreInTableOrder}
+use Rattle.partition.specs.Splitting.{KeyRows, key_rows_view}
+use Rattle.partition.specs.declared.splitting.KeyRows.{KeyRows as CodeRows}
+use Rattle.disk.specs.State.{State as DiskState}
+use Rattle.manifest.specs.Groups.{Group as FileGroup, handles_view}
+use Rattle.snapshots.specs.declared.state.Snapshots.{Snapshots}
+use Rattle.snapshots.specs.State.{Pins, ended, after, fault_of, open_at as pinned_at}
+use Rattle.snapshots.specs.Views.{state_of}
+use Rattle.table.specs.Table.{Row, Group, rows}
+use Rattle.table.specs.InOrder.{put_in_order, in_order}
+use Rattle.table.specs.Commits.{appended}
+use Rattle.table.specs.State.{State, Job, appending, rewriting, open_at, ended_at}
+use Rattle.table.specs.Faults.{first}
+use Rattle.table.specs.Checks.{fault, job_fault, stale_fault}
+use Rattle.table.specs.Calls.{commit, done, refused}
+use Rattle.table.specs.Leading.{Leads, IsDone, job_rows}
+use Rattle.table.specs.Refusing.{Happens}
+use Rattle.table.proofs.Counters.{counters_cover}
+use Rattle.table.proofs.Steady.{stays_there}
+use Rattle.store.specs.declared.store.Store.{Store}
+use Rattle.store.specs.declared.jobs.OpenJob.{OpenJob}
+use Rattle.store.specs.declared.jobs.Appending.{Appending}
+use Rattle.store.specs.declared.jobs.Work.{Work}
+use Rattle.store.specs.declared.jobs.Work.TheVariants.{Append, Rewrite}
+use Rattle.store.specs.Lookups.{job_at, jobs_left}
+use Rattle.store.specs.Staging.{is_nothing, finds_nothing}
+use Rattle.store.specs.Stands.{AreStored, AreWaiting, ShowsAppend, ShowsWork, ShowsOpen, Shows, Stands}
+use Rattle.store.specs.Cleaning.{Clears}
+use Rattle.store.specs.Promises.{ActsFrom}
+use Rattle.store.proofs.Events.{job_found}
+use Rattle.store.proofs.Begins.{only_memory}
+use Rattle.store.proofs.Ends.{job_unrefused, job_ended, ends, refused_poor}
+use Rattle.store.proofs.Brought.{length_order}
+use Rattle.store.proofs.Asked.{commit_fault}
+use Rattle.store.proofs.Had.{had_same}
+
+-- groups in table order stay as they are
+put_front : (g : Group) (gs : List Group) → AreInTableOrder (g.key ∷ map (λ (h : Group). h.key) gs) → put_in_order (λ (h : Group). h.key) g gs ≡ g ∷ gs
+put_front g [] o = refl
+put_front g (h ∷ hs) o = ap (λ (b : Bool). if b then g ∷ h ∷ hs else h ∷ put_in_order (λ (x : Group). x.key) g hs) o.0
+
+rest : (g : Group) (gs : List Group) → AreInTableOrder (g.key ∷ map (λ (h : Group). h.key) gs) → AreInTableOrder (map (λ (h : Group). h.key) gs)
+rest g [] o = tt
+rest g (h ∷ hs) o = o.1
+
+stays_in_order : (gs : List Group) → AreInTableOrder (map (λ (h : Group). h.key) gs) → in_order (λ (h : Group). h.key) gs ≡ gs
+stays_in_order [] o = refl
+stays_in_order (g ∷ gs) o = ap (put_in_order (λ (h : Group). h.key) g) (stays_in_order gs (rest g gs o)) ∙ put_front g gs o
+
+-- what goes side by side with nothing is nothing
+pub nothing_beside : {A B : Type 0} (R : A → B → Type 0) (xs : List A) (ys : List B) → xs ≡ [] → AllZip R xs ys → ys ≡ []
+nothing_beside R [] [] e z = refl
+nothing_beside R [] (y ∷ ys) e z = absurd z
+nothing_beside R (x ∷ xs) ys e z = absurd (cc)
+
+module _ {D : Type 0} (state : D → DiskState) (store : Store D) (s : State) (stands : Stands state store s) (is_open : s.closed ≡ false) (n : ℕ) where
+  abbrev disk : DiskState
+  disk = state store.vault.disk
+
+  here : ShowsOpen disk store s
+  here = stands.shows.shown is_open
+
+  abbrev Work_of : Pins → Work → Job → Type 0
+  Work_of pins w j = ShowsWork disk s.table.keys s.table.schema s.next_group s.options.group_rows s.had pins w j
+
+  none_staged : (pins : Pins) (a : Appending) (staged : List Row) → is_nothing (Append a) ≡ true → Work_of pins (Append a) (appending staged) → staged ≡ []
+  none_staged pins a staged e is =
+      let parts = and_parts (nat_eq (length a.written.items) 0) (nat_eq (length a.waiting.items) 0) e in
+      let written : a.written.items ≡ [] = nil_from_length a.written.items (eqb-true (length a.written.items) 0 parts.0) in
+      let waiting : a.waiting.items ≡ [] = nil_from_length a.waiting.items (eqb-true (length a.waiting.items) 0 parts.1) in
+      let groups : is.groups ≡ [] = nothing_beside _ (handles_view a.written.items) is.groups (ap (λ xs. handles_view xs) written) is.are_written.stored in
+      let rest_is : is.waiting ≡ [] = nothing_beside _ (map key_rows_view a.waiting.items) is.waiting (ap (λ (xs : List CodeRows). map key_rows_view xs) waiting) is.are_waiting in
+      let key = key_of_row s.table.keys in
+      let all : [] ≡ in_order key staged = sym (ap (λ (gs : List Group). in_order key (rows gs ++ flat_map (λ (rs : List Row). rs) is.waiting)) groups ∙ ap (λ (rss : List (List Row)). in_order key (flat_map (λ (rs : List Row). rs) rss)) rest_is) ∙ is.all in
+      nil_from_length staged (sym (length_order key staged) ∙ ap (λ (rs : List Row). length rs) (sym all))
+
+  nothing_told : (pins : Pins) (w : Work) (j : Job) → is_nothing w ≡ true → Work_of pins w j → j ≡ appending []
+  nothing_told pins (Append a) (appending staged) e is = ap appending (none_staged pins a staged e is)
+  nothing_told pins (Append a) (rewriting runs unread) e is = absurd is
+  nothing_told pins (Rewrite r) j e is = absurd (cc)
+
+  found_so : (b : Bool) → finds_nothing (job_at n store.jobs.items) ≡ true → (pins : Pins) × (pinned_at n (state_of store.snapshots).jobs ≡ Some pins) × (open_at n s.jobs ≡ Some (appending []))
+  found_so b e = by (job_at n store.jobs.items) refl e
+    where
+      by : (o : Option OpenJob) → job_at n store.jobs.items ≡ o → finds_nothing o ≡ true → (pins : Pins) × (pinned_at n (state_of store.snapshots).jobs ≡ Some pins) × (open_at n s.jobs ≡ Some (appending []))
+      by None none f = absurd (cc)
+      by (Some x) some f =
+          let is = job_found disk s.table.keys s.table.schema s.next_group s.options.group_rows s.had n (state_of store.snapshots).jobs store.jobs.items s.jobs here.jobs x some in
+          (is.2.pins, ap (λ (m : ℕ). pinned_at m (state_of store.snapshots).jobs) (sym is.2.number) ∙ is.2.pinned, is.1 ∙ ap (λ (j : Job). Some j) (nothing_told is.2.pins x.work is.0 f is.2.work))
+
+  module _ (nothing : finds_nothing (job_at n store.jobs.items) ≡ true) (low : s.next_group < 9223372036854775808) where
+    open_is : open_at n s.jobs ≡ Some (appending [])
+    open_is = (found_so true nothing).2
+
+    unfaulted : fault s (commit n) ≡ None
+    unfaulted = commit_fault state store s stands is_open n None true (ap job_fault open_is) (lt-ltb s.next_group 9223372036854775808 low)
+        ∙ ap (λ (o : Option Job). first (stale_fault s.table o ∷ [])) open_is
+
+    no_fault : fault_of (state_of store.snapshots) (ended n) ≡ None
+    no_fault = let f = found_so true nothing in job_unrefused state store s stands is_open n f.0 f.1
+
+    pub empty_refused : (e : Refusal) → HasCause (λ f. fault_of (state_of store.snapshots) (ended n) ≡ Some f) e → (snapshots : Snapshots) → state_of snapshots ≡ state_of store.snapshots
+        → ActsFrom state store (record store { snapshots = snapshots }) (commit n) (refused e) s
+    empty_refused e cause snapshots same = subst (λ (f : Refusal). ActsFrom state store (record store { snapshots = snapshots }) (commit n) (refused f) s) (sym (only_memory (fault_of (state_of store.snapshots) (ended n)) no_fault e cause))
+        (refused_poor state store s stands is_open (commit n) refl (ap not is_open) refl snapshots store.jobs store.cursors same refl refl)
+
+    leads : Leads s (commit n) 0 s.table s.next_group
+    leads = record {
+      made = appended [];
+      asked = (appending [], open_is, refl);
+      step = record {
+        schema = refl;
+        keys = refl;
+        change = (
+          record {
+            added = [];
+            placed = sym (ap (in_order (λ (h : Group). h.key)) (append-nil s.table.groups) ∙ stays_in_order s.table.groups stands.shows.valid.in_order);
+            hold = refl;
+            full = refl;
+            fresh = refl;
+          },
+          refl,
+        );
+        table = stands.shows.valid;
+        never_falls = omega arith;
+        same = λ of_groups same. refl;
+      };
+      rises = record { most = 0; work = sym (ap job_rows open_is); no_less = omega arith; no_more = omega arith };
+      covers = (counters_cover s stands.reached).next;
+    }
+
+    pub empty_done : (snapshots : Snapshots) → state_of snapshots ≡ after (state_of store.snapshots) (ended n) → (jobs : Vec OpenJob Global) → jobs.items ≡ jobs_left (Some n) store.jobs.items → (new : Store D)
+        → ((t : State) → Shows state (record store { snapshots = snapshots; jobs = jobs }) t → t.closed ≡ false → Clears state (record store { snapshots = snapshots; jobs = jobs }) new t)
+        → ActsFrom state store new (commit n) (done 0) s
+    empty_done snapshots steps jobs left new clears =
+        let next = record s { jobs = ended_at n s.jobs } in
+        let is : IsDone s (commit n) (done 0) next = record {
+          n = 0;
+          table = s.table;
+          counter = s.next_group;
+          leads = leads;
+          answers = refl;
+          becomes = ap (λ (h : ℕ → Bool). record s { jobs = ended_at n s.jobs; had = h }) (sym (had_same s stands.reached));
+        } in
+        ends state store s stands is_open (commit n) (done 0) next (unfaulted, is) snapshots jobs store.cursors new (clears next (job_ended state store s stands is_open n snapshots steps jobs left) is_open)

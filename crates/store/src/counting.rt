@@ -1,0 +1,131 @@
+//! Counting.
+
+ghost use Rattle.std.specs.Prelude.{◌≡◌, ◌≤◌, ◌+◌, ◌↔◌, ◌∷◌, [], List, IfOk};
+ghost use Rattle.bits.specs.Refusals.{RefusedOnly, RefusedMemoryOnly};
+ghost use Rattle.filter.specs.Test.{tests_in};
+ghost use Rattle.manifest.specs.Groups.{group_view, handles_view, root_of};
+ghost use Rattle.scan.specs.Faults.{IsDevice};
+ghost use Rattle.table.specs.Table.{Group as TableGroup};
+ghost use Rattle.store.specs.Reading.{OnlyReads};
+ghost use Rattle.store.specs.Counting.{IsHeld, AreHeld, matching};
+
+use crate::dropping::rows_in;
+use crate::store::Store;
+use bits::{R, Refusal};
+use disk::Disk;
+use filter::{Filter, Term};
+use manifest::{Group, Manifest};
+use std::alloc::Global;
+use std::rc::Rc;
+use vault::Vault;
+
+impl<D: Disk> Store<D> {
+    ghost use Rattle.filter.specs.Terms.{terms_view};
+    ghost use Rattle.table.specs.Calls.{count, counted};
+    ghost use Rattle.table.specs.Views.{answered};
+    ghost use Rattle.store.specs.Promises.{Acts, HasCause};
+
+    /// How many rows satisfy. With no filter that is told by the table's description, and nothing is read. Else a group
+    /// that the filter rules out is not read, and of another one only the chunks of filtered columns are.
+    ///
+    /// Refused Closed; for the first term that has a fault; Device.
+    pub fn count(&mut self, alloc: Global, terms: &[Vec<Term>]) -> R<u64>
+        ensures acts { Acts D.state self.old self.new (count (terms_view terms.now)) (answered counted result) }
+        ensures cause { HasCause D.state self.old self.new (answered counted result) }
+        ensures unread { terms.now ≡ [] → (D.state self.new.vault.disk).reads ≡ (D.state self.old.vault.disk).reads }
+        ensures counts { (D.state self.old.vault.disk).failures ≤ (D.state self.new.vault.disk).failures }
+        ensures honest { (D.state self.old.vault.disk).honest ↔ (D.state self.new.vault.disk).honest }
+    {
+        if self.closed {
+            return Err(Refusal::Closed);
+        }
+        if terms.is_empty() {
+            let all = rows_in(self.manifest.groups().blocks())?;
+            return Ok(all);
+        }
+        let filter = Filter::new(alloc, self.manifest.schema(), terms)?;
+        let found = count_rows(alloc, &mut self.vault, &self.manifest, &filter)?;
+        Ok(found)
+    }
+}
+
+/// How many rows of a table satisfy. A group that the filter rules out is not read; of another one, only the chunks of
+/// filtered columns.
+fn count_rows<D: Disk>(
+    alloc: Global,
+    vault: &mut Vault<D>,
+    table: &Manifest,
+    filter: &Filter,
+) -> R<u64>
+    ensures stands { (D.state vault.old.disk).honest → (held : List TableGroup) → AreHeld (D.state vault.old.disk) (tests_in filter.now) (root_of table.now) (root_of table.now).groups held
+        → IfOk result (λ n. n ≡ matching (tests_in filter.now) held) }
+    ensures only { (D.state vault.old.disk).honest → (held : List TableGroup) → AreHeld (D.state vault.old.disk) (tests_in filter.now) (root_of table.now) (root_of table.now).groups held
+        → RefusedOnly IsDevice result }
+    ensures effect { OnlyReads (D.state vault.old.disk) (D.state vault.new.disk) result }
+{
+    let mut found: u64 = 0;
+    for block in table.groups().blocks() {
+        let here = count_in(alloc, vault, table, filter, block.groups.as_slice())?;
+        found = sum_of(found, here)?;
+    }
+    Ok(found)
+}
+
+/// The same of these groups.
+fn count_in<D: Disk>(
+    alloc: Global,
+    vault: &mut Vault<D>,
+    table: &Manifest,
+    filter: &Filter,
+    groups: &[Rc<Group>],
+) -> R<u64>
+    ensures stands { (D.state vault.old.disk).honest → (held : List TableGroup) → AreHeld (D.state vault.old.disk) (tests_in filter.now) (root_of table.now) (handles_view groups.now) held
+        → IfOk result (λ n. n ≡ matching (tests_in filter.now) held) }
+    ensures only { (D.state vault.old.disk).honest → (held : List TableGroup) → AreHeld (D.state vault.old.disk) (tests_in filter.now) (root_of table.now) (handles_view groups.now) held
+        → RefusedOnly IsDevice result }
+    ensures effect { OnlyReads (D.state vault.old.disk) (D.state vault.new.disk) result }
+{
+    let mut found: u64 = 0;
+    for group in groups {
+        let here = count_at(alloc, vault, table, filter, group)?;
+        found = sum_of(found, here)?;
+    }
+    Ok(found)
+}
+
+/// The same of this group.
+fn count_at<D: Disk>(
+    alloc: Global,
+    vault: &mut Vault<D>,
+    table: &Manifest,
+    filter: &Filter,
+    group: &Group,
+) -> R<u64>
+    ensures stands { (D.state vault.old.disk).honest → (held : TableGroup) → IsHeld (D.state vault.old.disk) (tests_in filter.now) (root_of table.now) (group_view group.now) held
+        → IfOk result (λ n. n ≡ matching (tests_in filter.now) (held ∷ [])) }
+    ensures only { (D.state vault.old.disk).honest → (held : TableGroup) → IsHeld (D.state vault.old.disk) (tests_in filter.now) (root_of table.now) (group_view group.now) held
+        → RefusedOnly IsDevice result }
+    ensures effect { OnlyReads (D.state vault.old.disk) (D.state vault.new.disk) result }
+{
+    let rows = scan::rows_of(
+        alloc,
+        vault,
+        table.schema(),
+        table.keys(),
+        group,
+        filter,
+        &[],
+    )?;
+    Ok(rows.as_slice().len() as u64)
+}
+
+/// The sum of two counts. Refused where a u64 does not count it.
+fn sum_of(a: u64, b: u64) -> R<u64>
+    ensures summed { IfOk result (λ n. n ≡ a + b) }
+    ensures which { RefusedMemoryOnly result }
+{
+    match a.checked_add(b) {
+        Some(sum) => Ok(sum),
+        None => Err(Refusal::Memory),
+    }
+}

@@ -1,0 +1,155 @@
+//! Rows that are written as full groups as they come, and their rest at the end.
+
+ghost use Rattle.std.specs.Prelude.{◌≡◌, ◌≤◌, ◌+◌, ◌↔◌, ◌++◌, ◌∷◌, [], List, false, true, length, map, Ok, Err, Result, IfOk};
+ghost use Rattle.bits.specs.Refusals.{RefusedOnly};
+ghost use Rattle.schema.specs.Views.{key_view, row_view, rows_view};
+ghost use Rattle.schema.specs.Keys.{AreRowsOf};
+ghost use Rattle.partition.specs.Splitting.{key_rows_view};
+ghost use Rattle.manifest.specs.Groups.{handles_view};
+
+use crate::buffers::add_row;
+use crate::cutting::cut_row;
+use crate::store::Store;
+use bits::{R, Refusal};
+use disk::Disk;
+use manifest::Group;
+use partition::KeyRows;
+use schema::Row;
+use std::alloc::Global;
+use std::rc::Rc;
+use table::JobId;
+
+/// The counter's last values are for no file.
+const LAST_NUMBER: u64 = u64::MAX - 1;
+
+impl<D: Disk> Store<D> {
+    ghost use Rattle.table.specs.Table.{Row as TableRow, Group as TableGroup};
+    ghost use Rattle.table.specs.State.{State};
+    ghost use Rattle.store.specs.Stands.{Shows};
+    ghost use Rattle.store.specs.Writing.{IsPartRefusal};
+    ghost use Rattle.store.specs.Filling.{HasWritten, Adds, Filled, Takes, Ends, AreFine, written_group, EndsWith};
+
+    /// Writes rows as groups, for a job or for none: each key's rows in order, a full group as soon as its last row comes,
+    /// and at the end the rest of each key, keys ascending. Gives the groups in the order of their numbers.
+    ///
+    /// Time is linear in the rows, but for finding each row's key.
+    pub(crate) fn write_rows(
+        &mut self,
+        alloc: Global,
+        job: Option<JobId>,
+        rows: &[Row],
+    ) -> R<Vec<Rc<Group>>>
+        ensures writes { (D.state self.old.vault.disk).honest → (start : Store D) (s : State) → s.closed ≡ false → AreFine s (rows_view rows.now) → HasWritten D.state start self.old s job [] [] → self.old.next_group ≡ s.next_group
+            → EndsWith D.state start self.new s job (rows_view rows.now) result }
+        ensures same { self.new ≡ record self.old { vault = self.new.vault; snapshots = self.new.snapshots; next_group = self.new.next_group } }
+        ensures counts { (D.state self.old.vault.disk).failures ≤ (D.state self.new.vault.disk).failures }
+        ensures honest { (D.state self.old.vault.disk).honest ↔ (D.state self.new.vault.disk).honest }
+    {
+        let mut written = Vec::new(alloc);
+        let mut waiting = Vec::new(alloc);
+        self.take_rows(alloc, job, &mut written, &mut waiting, rows)?;
+        self.write_rest(alloc, job, &mut written, waiting.as_slice())?;
+        Ok(written)
+    }
+
+    /// Takes rows, one by one: copies of them wait under their keys, till they fill a group.
+    pub(crate) fn take_rows(
+        &mut self,
+        alloc: Global,
+        job: Option<JobId>,
+        written: &mut Vec<Rc<Group>>,
+        waiting: &mut Vec<KeyRows>,
+        rows: &[Row],
+    ) -> R<()>
+        ensures takes { (D.state self.old.vault.disk).honest → (start : Store D) (s : State) (given : List TableRow) → s.closed ≡ false → AreFine s (rows_view rows.now)
+            → Filled D.state start self.old s job (handles_view written.old.items) [] (map key_rows_view waiting.old.items) given
+            → Takes D.state start self.new s job (handles_view written.new.items) (map key_rows_view waiting.new.items) (given ++ rows_view rows.now) result }
+        ensures same { self.new ≡ record self.old { vault = self.new.vault; snapshots = self.new.snapshots; next_group = self.new.next_group } }
+        ensures rises { self.new.next_group ≤ self.old.next_group + length rows.now }
+        ensures counts { (D.state self.old.vault.disk).failures ≤ (D.state self.new.vault.disk).failures }
+        ensures honest { (D.state self.old.vault.disk).honest ↔ (D.state self.new.vault.disk).honest }
+    {
+        for row in rows {
+            self.take_row(alloc, job, written, waiting, row)?;
+        }
+        Ok(())
+    }
+
+    /// Takes a row.
+    fn take_row(
+        &mut self,
+        alloc: Global,
+        job: Option<JobId>,
+        written: &mut Vec<Rc<Group>>,
+        waiting: &mut Vec<KeyRows>,
+        row: &Row,
+    ) -> R<()>
+        ensures takes { (D.state self.old.vault.disk).honest → (start : Store D) (s : State) (given : List TableRow) → s.closed ≡ false → AreFine s (row_view row.now ∷ [])
+            → Filled D.state start self.old s job (handles_view written.old.items) [] (map key_rows_view waiting.old.items) given
+            → Takes D.state start self.new s job (handles_view written.new.items) (map key_rows_view waiting.new.items) (given ++ row_view row.now ∷ []) result }
+        ensures same { self.new ≡ record self.old { vault = self.new.vault; snapshots = self.new.snapshots; next_group = self.new.next_group } }
+        ensures rises { self.new.next_group ≤ self.old.next_group + 1 }
+        ensures counts { (D.state self.old.vault.disk).failures ≤ (D.state self.new.vault.disk).failures }
+        ensures honest { (D.state self.old.vault.disk).honest ↔ (D.state self.new.vault.disk).honest }
+    {
+        let cut = cut_row(alloc, self.manifest.keys(), row)?;
+        let at = add_row(alloc, waiting, cut)?;
+        if waiting[at].rows.len() < self.options.group_rows as usize {
+            return Ok(());
+        }
+        let full = waiting.remove(at);
+        self.write_buffer(alloc, job, written, &full)?;
+        Ok(())
+    }
+
+    /// Writes what waits, in its order.
+    pub(crate) fn write_rest(
+        &mut self,
+        alloc: Global,
+        job: Option<JobId>,
+        written: &mut Vec<Rc<Group>>,
+        waiting: &[KeyRows],
+    ) -> R<()>
+        ensures ends { (D.state self.old.vault.disk).honest → (start : Store D) (s : State) (given : List TableRow) → s.closed ≡ false
+            → Filled D.state start self.old s job (handles_view written.old.items) [] (map key_rows_view waiting.now) given
+            → Ends D.state start self.new s job (handles_view written.new.items) given result }
+        ensures same { self.new ≡ record self.old { vault = self.new.vault; snapshots = self.new.snapshots; next_group = self.new.next_group } }
+        ensures counts { (D.state self.old.vault.disk).failures ≤ (D.state self.new.vault.disk).failures }
+        ensures honest { (D.state self.old.vault.disk).honest ↔ (D.state self.new.vault.disk).honest }
+    {
+        for buffer in waiting {
+            self.write_buffer(alloc, job, written, buffer)?;
+        }
+        Ok(())
+    }
+
+    /// Writes rows of one key as a part file, and keeps its group. They are at least one, at most as many as a group has,
+    /// and numbers are left.
+    pub(crate) fn write_buffer(
+        &mut self,
+        alloc: Global,
+        job: Option<JobId>,
+        written: &mut Vec<Rc<Group>>,
+        buffer: &KeyRows,
+    ) -> R<()>
+        ensures adds { (D.state self.old.vault.disk).honest → (start : Store D) (s : State) (groups : List TableGroup) (rows : List TableRow) → s.closed ≡ false
+            → HasWritten D.state start self.old s job (handles_view written.old.items) groups → AreRowsOf s.table.keys (key_view buffer.now.key) (rows_view buffer.now.rows.items) rows
+            → Adds D.state start self.old self.new s job (handles_view written.new.items) groups (written_group self.old.next_group (key_view buffer.now.key) rows) result }
+        ensures which { RefusedOnly (IsPartRefusal self.old job (key_view buffer.now.key) (rows_view buffer.now.rows.items)) result }
+        ensures same { self.new ≡ record self.old { vault = self.new.vault; snapshots = self.new.snapshots; next_group = self.new.next_group } }
+        ensures rises { self.new.next_group ≤ self.old.next_group + 1 }
+        ensures counts { (D.state self.old.vault.disk).failures ≤ (D.state self.new.vault.disk).failures }
+        ensures honest { (D.state self.old.vault.disk).honest ↔ (D.state self.new.vault.disk).honest }
+    {
+        let rows = buffer.rows.as_slice();
+        if rows.is_empty() || rows.len() > self.options.group_rows as usize {
+            return Err(Refusal::Memory);
+        }
+        if self.next_group >= LAST_NUMBER {
+            return Err(Refusal::Memory);
+        }
+        let group = self.write_part(alloc, job, &buffer.key, rows)?;
+        written.push(group)?;
+        Ok(())
+    }
+}

@@ -1,0 +1,53 @@
+//! A table on a disk, and its calls.
+//!
+//! `specs/Stands.antt` says in which state of a table's history a store stands, `specs/Promises.antt` what each call
+//! promises, `specs/Running.antt` what calls one after another do, `specs/Opening.antt` what making and opening a store
+//! promise, and `specs/Spares.antt` what a call leaves as it was.
+#![tactic(auto)]
+
+mod append_work;
+mod appending;
+mod beginning;
+mod bringing;
+mod buffers;
+mod checks;
+mod cleaning;
+mod columns;
+mod committing;
+mod comparing;
+mod completing;
+mod counting;
+mod creating;
+mod cursors;
+mod cutting;
+mod dropping;
+mod ending;
+mod filling;
+mod importing;
+mod jobs;
+mod laws;
+mod listing;
+mod lookup;
+mod making;
+mod opening;
+mod part;
+mod passing;
+mod reading_once;
+mod removing;
+mod reopening;
+mod restart;
+mod rewriting;
+mod run;
+mod staging;
+mod starting;
+mod store;
+mod turn;
+mod wanted;
+mod widening;
+
+pub use jobs::{Appending, OpenCursor, OpenJob, Rewriting, RunWork, Work};
+pub use laws::{heavy_roots_are_too_much, paths_are_apart};
+pub use opening::{create, open};
+pub use reading_once::{fetches_follow, queries_read_once};
+pub use restart::a_table_can_be_opened_again;
+pub use store::Store;

@@ -1,0 +1,15 @@
+pub mod Deciding
+pub mod Columns
+pub mod Steady
+pub mod Counters
+pub mod Turned
+pub mod Turning
+pub mod Standing
+pub mod Answers
+pub mod Queries
+pub mod Beginnings
+pub mod CommitsOf
+pub mod WorkedNumbers
+pub mod WorkedKeys
+pub mod WorkedFull
+pub mod WorkedColumns

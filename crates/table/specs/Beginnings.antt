@@ -1,0 +1,68 @@
+-- What a stop leaves of a run: a beginning of its commits.
+use Rattle.std.specs.Prelude.{◌≡◌, ℕ, ◌≤◌, ◌⊎◌, List, [], ◌∷◌, ◌++◌, length, take, Some, Bool, IsTrue}
+use Rattle.table.specs.Table.{Table}
+use Rattle.table.specs.State.{State}
+use Rattle.table.specs.Calls.{Call, Answer, done, accepted}
+use Rattle.table.specs.Refusing.{Happens, Run}
+use Rattle.table.specs.Stops.{MayHold, RunsOn}
+
+-- The commits that a call adds, by the tables that they lead to: one that is answered done, and one in doubt that a
+-- reopening finds.
+abbrev pub Adds : State → Answer → State → List Table → Type 0
+Adds old (done n) new tables = tables ≡ new.table ∷ []
+Adds old accepted new tables = ((tables ≡ []) × (new.table ≡ old.table)) ⊎ ((tables ≡ new.table ∷ []) × (old.doubtful ≡ Some new.table))
+Adds old _ new tables = tables ≡ []
+
+-- Calls one after another, and the tables that their commits lead to, in order.
+abbrev pub Commits : State → List Call → List Answer → State → List Table → Type 0
+Commits s [] [] new tables = (new ≡ s) × (tables ≡ [])
+Commits s (call ∷ calls) (answer ∷ answers) new tables =
+    (mid : State) × (added : List Table) × (later : List Table) × Happens s call answer mid × Adds s answer mid added × Commits mid calls answers new later × (tables ≡ added ++ later)
+Commits s [] (answer ∷ answers) new tables = ⊥
+Commits s (call ∷ calls) [] new tables = ⊥
+
+abbrev pub last_of : Table → List Table → Table
+last_of t [] = t
+last_of t (u ∷ tables) = last_of u tables
+
+-- a run has the table that the last of its commits leads to
+abbrev pub RunsAreOfCommits : Type 0
+RunsAreOfCommits = (s : State) (calls : List Call) (answers : List Answer) (new : State) → Run s calls answers new
+    → (tables : List Table) × Commits s calls answers new tables × (new.table ≡ last_of s.table tables)
+
+-- The image holds the table after the first so many of the calls, or that table with the commit in doubt.
+pub record LeavesAfterSome {Image : Type 0} (holds : Image → Table → Type 0) (old : State) (calls : List Call) (answers : List Answer) (image : Image) : Type 0 where
+  pub count : ℕ
+  pub state : State
+  pub before : Run old (take count calls) (take count answers) state
+  pub table : Table
+  pub held : holds image table
+  pub may : MayHold state table
+
+-- A stop at any moment of a run leaves a beginning of it.
+abbrev pub StopsLeaveABeginning : {Image : Type 0} → (ℕ → Image → Type 0) → (Image → Table → Type 0) → Type 0
+StopsLeaveABeginning images holds = (start : ℕ) (old : State) (calls : List Call) (answers : List Answer) (finish : ℕ) (new : State)
+    → ((image : _) → images start image → (table : Table) × holds image table × MayHold old table)
+    → RunsOn images holds start old calls answers finish new
+    → (m : ℕ) (image : _) → start ≤ m → m ≤ finish → images m image → LeavesAfterSome holds old calls answers image
+
+-- A run parts where some of its calls have ended: what a stop leaves from there on has each of their commits.
+abbrev pub RunsPart : {Image : Type 0} → (ℕ → Image → Type 0) → (Image → Table → Type 0) → Type 0
+RunsPart images holds = (start : ℕ) (old : State) (calls later : List Call) (answers told : List Answer) (finish : ℕ) (new : State)
+    → length calls ≡ length answers → RunsOn images holds start old (calls ++ later) (answers ++ told) finish new
+    → (next : ℕ) × (mid : State) × RunsOn images holds start old calls answers next mid × RunsOn images holds next mid later told finish new
+
+-- what a run over moments answers is a history
+abbrev pub RunsAreHistories : {Image : Type 0} → (ℕ → Image → Type 0) → (Image → Table → Type 0) → Type 0
+RunsAreHistories images holds = (start : ℕ) (old : State) (calls : List Call) (answers : List Answer) (finish : ℕ) (new : State)
+    → RunsOn images holds start old calls answers finish new → Run old calls answers new
+
+-- So it is of images under numbers, each of which holds one table. (A store says it of the images of its disk.)
+abbrev pub NumberedImagesLeaveABeginning : Type 0
+NumberedImagesLeaveABeginning = (left : ℕ → ℕ → Bool) (table_of : ℕ → Table) → StopsLeaveABeginning (λ m i. IsTrue (left m i)) (λ i t. t ≡ table_of i)
+
+abbrev pub NumberedRunsPart : Type 0
+NumberedRunsPart = (left : ℕ → ℕ → Bool) (table_of : ℕ → Table) → RunsPart (λ m i. IsTrue (left m i)) (λ i t. t ≡ table_of i)
+
+abbrev pub NumberedRunsAreHistories : Type 0
+NumberedRunsAreHistories = (left : ℕ → ℕ → Bool) (table_of : ℕ → Table) → RunsAreHistories (λ m i. IsTrue (left m i)) (λ i t. t ≡ table_of i)
