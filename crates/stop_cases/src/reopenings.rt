@@ -76,9 +76,11 @@ fn stopped_disk(alloc: Global, k: u64, pick: u64) -> R<Option<MemDisk>> {
     Ok(Some(store.into_disk()))
 }
 
-/// `reopenings PICK`: a stop at each call of the disk, and then one at each call of the opening of what it leaves.
+/// `reopenings PICK`: a stop at each call of the disk, and then one at each call of the opening of what it leaves. (How many
+/// calls an opening makes depends on what it removes, so they are not told.)
 pub fn reopenings(alloc: Global, pick: u64) -> R<String> {
     let mut seen = Seen::new();
+    let mut images: u64 = 0;
     for k in 0..u64::MAX {
         let Some(disk) = stopped_disk(alloc, k, pick)? else {
             break;
@@ -86,7 +88,14 @@ pub fn reopenings(alloc: Global, pick: u64) -> R<String> {
         for list in &LISTS {
             let image = crashed(alloc, &disk, *list)?;
             stop_everywhere(alloc, &image, pick, &mut seen)?;
+            images = images.saturating_add(1);
         }
     }
-    seen.text(alloc)
+    let each = if seen.stops >= images {
+        "stops in each"
+    } else {
+        "too few stops"
+    };
+    let wrong = seen.wrong;
+    Ok(format!(in alloc; "{images} openings, {each}, not allowed: {wrong}")?)
 }
