@@ -16,7 +16,6 @@ pub mod Bringing
 pub mod Opening
 pub mod Running
 pub mod Listing
-pub mod Rewritten
 pub mod Starting
 pub mod Creating
 pub mod Restarting

@@ -1,17 +1,12 @@
 //! Rewrites of groups.
 
-ghost use Rattle.std.specs.Prelude.{◌≡◌, ◌≤◌, ◌↔◌, map, IfOk};
-ghost use Rattle.bits.specs.Refusals.{RefusedMemoryOnly};
-ghost use Rattle.manifest.specs.Groups.{groups_in};
-ghost use Rattle.planning.specs.Runs.{runs_in};
-ghost use Rattle.store.specs.Rewritten.{run_told, begun_run};
+ghost use Rattle.std.specs.Prelude.{◌≤◌, ◌↔◌};
 
 use crate::beginning::can_open;
-use crate::jobs::{Rewriting, RunWork, Work};
+use crate::jobs::{Rewriting, Work};
 use crate::store::Store;
 use bits::{R, Refusal};
 use disk::Disk;
-use manifest::Version;
 use planning::runs_of;
 use std::alloc::Global;
 use table::JobId;
@@ -41,9 +36,9 @@ impl<D: Disk> Store<D> {
             return Err(Refusal::NoGroup);
         }
         let sources = Vec::from_slice(alloc, numbers)?;
-        let table = self.description()?;
-        let runs = runs_to_do(alloc, self.manifest.groups(), numbers)?;
-        let work = Work::Rewrite(Rewriting { table, runs });
+        let runs = runs_of(alloc, self.manifest.groups(), numbers)?;
+        let read = Vec::new(alloc);
+        let work = Work::Rewrite(Rewriting { runs, read });
         let number = self.begin_job(alloc, Some(sources), work)?;
         Ok(number)
     }
@@ -62,21 +57,4 @@ impl<D: Disk> Store<D> {
         }
         Err(Refusal::Memory)
     }
-}
-
-/// The runs of the groups of these numbers, of which nothing is read yet.
-fn runs_to_do(alloc: Global, version: &Version, numbers: &[u64]) -> R<Vec<RunWork>>
-    ensures told { IfOk result (λ runs. map run_told runs.items ≡ map begun_run (runs_in numbers.now (groups_in version.now))) }
-    ensures which { RefusedMemoryOnly result }
-{
-    let mut runs = Vec::new(alloc);
-    for run in runs_of(alloc, version, numbers)? {
-        runs.push(RunWork {
-            sources: run.groups,
-            read: 0,
-            written: Vec::new(alloc),
-            waiting: Vec::new(alloc),
-        })?;
-    }
-    Ok(runs)
 }
