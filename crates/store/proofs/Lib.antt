@@ -84,3 +84,4 @@ pub mod StageFine
 pub mod CommitLeft
 pub mod CommitOn
 pub mod CommitDone
+pub mod WholeRows
