@@ -85,3 +85,6 @@ pub mod CommitLeft
 pub mod CommitOn
 pub mod CommitDone
 pub mod WholeRows
+pub mod Steps
+pub mod Stepped
+pub mod SourcePlaces
