@@ -1,9 +1,10 @@
 -- The step of a rewrite, from its checks to its ends.
-use Rattle.std.proofs.Common.{◌≡◌, ◌≤◌, ◌<◌, ◌+◌, ℕ, Bool, true, false, not, List, [], ◌∷◌, ◌++◌, length, Option, Some, None, refl, sym, ◌∙◌, ap, subst, arith}
-use Rattle.std.specs.Prelude.{Vec, is_some}
+use Rattle.std.proofs.Common.{◌≡◌, ◌≤◌, ◌<◌, ◌+◌, ℕ, Bool, true, false, not, ◌==◌, List, [], ◌∷◌, ◌++◌, length, option_map, Option, Some, None, refl, sym, ◌∙◌, ap, subst, arith}
+use Rattle.std.specs.Prelude.{Vec, is_some, if◌then◌else◌}
 use Rattle.std.specs.List.{AllZip}
 use Rattle.std.specs.declared.alloc.Global.{Global}
 use Rattle.std.proofs.lemmas.Bool.{lt-ltb}
+use Rattle.std.proofs.lemmas.List.{append-nil}
 use Rattle.bits.specs.declared.refusal.Refusal.{Refusal}
 use Rattle.bits.specs.declared.refusal.Refusal.TheVariants.{Closed, Full, NoJob, Memory, Device}
 use Rattle.bits.specs.Refusals.{HasCause}
@@ -59,6 +60,23 @@ passed s n e = by (not s.closed) (rewrite_fault (open_at n s.jobs)) (can_count s
     by true None b f = refl
     by true (Some r) b f = absurd (cc)
     by false o b f = absurd (cc)
+
+-- the source that is read next, as it is found
+pub next_none : {X : Type 0} (n : ℕ) (o : Option X) (view : X → FileGroup) (lent items : List OpenJob) → o ≡ None → option_map view o ≡ next_at (job_at n lent) → lent ≡ items → next_at (job_at n items) ≡ None
+next_none n o view lent items is e same = ap (λ (js : List OpenJob). next_at (job_at n js)) (sym same) ∙ sym e ∙ ap (option_map view) is
+
+pub next_some : {X : Type 0} (n : ℕ) (o : Option X) (x : X) (view : X → FileGroup) (lent items : List OpenJob) → o ≡ Some x → option_map view o ≡ next_at (job_at n lent) → lent ≡ items → next_at (job_at n items) ≡ Some (view x)
+next_some n o x view lent items is e same = ap (λ (js : List OpenJob). next_at (job_at n js)) (sym same) ∙ sym e ∙ ap (option_map view) is
+
+-- the source that is read next by the job that has this work now
+next_work : (n : ℕ) (w : Work) (xs : List OpenJob) (x : OpenJob) → job_at n xs ≡ Some x → next_at (job_at n (with_work n w xs)) ≡ next_in w
+next_work n w [] x there = absurd (cc)
+next_work n w (y ∷ ys) x there = by (y.number == n) refl there (next_work n w ys x)
+  where
+    by : (b : Bool) → (y.number == n) ≡ b → (if b then Some y else job_at n ys) ≡ Some x → (job_at n ys ≡ Some x → next_at (job_at n (with_work n w ys)) ≡ next_in w)
+        → next_at (job_at n (if b then record { number = y.number; work = w } ∷ ys else y ∷ with_work n w ys)) ≡ next_in w
+    by true e t r = ap (λ (b : Bool). next_at (if b then Some (record { number = y.number; work = w }) else job_at n ys)) e
+    by false e t r = ap (λ (b : Bool). next_at (if b then Some y else job_at n (with_work n w ys))) e ∙ r t
 
 module _ {D : Type 0} (state : D → DiskState) (store : Store D) (s : State) (stands : Stands state store s) (is_open : s.closed ≡ false) (n : ℕ) where
   abbrev disk : DiskState
@@ -296,3 +314,16 @@ module _ {D : Type 0} (state : D → DiskState) (store : Store D) (s : State) (s
                   stands = record { reached = reached_on s stands.reached call (more b) after happens; shows = stands_in left shown };
                   past = still.past;
                 }
+
+        -- what the code has kept
+        module _ (w : Work) (js : Vec OpenJob Global) (put : js.items ≡ with_work n w store.jobs.items) where
+          pub unkept_so : HasRead [] t.x.work w → ActsFrom state store (record mid { jobs = js }) call (refused Memory) s
+          unkept_so read =
+              let h : HasRead [] (Rewrite t.r) w = subst (λ (v : Work). HasRead [] v w) t.is read in
+              step_unkept h.0 js (put ∙ ap (λ (v : Work). with_work n v store.jobs.items) h.1) h.2 (h.3 ∙ append-nil t.r.read.items)
+
+          pub kept_so : (rows : Vec CodeRow Global) → rows_view rows.items ≡ at_next.g.rows → HasRead (rows ∷ []) t.x.work w → (b : Bool) → b ≡ is_some (next_at (job_at n js.items)) → ActsFrom state store (record mid { jobs = js }) call (more b) s
+          kept_so rows rows_are read b is =
+              let h : HasRead (rows ∷ []) (Rewrite t.r) w = subst (λ (v : Work). HasRead (rows ∷ []) v w) t.is read in
+              step_kept h.0 js (put ∙ ap (λ (v : Work). with_work n v store.jobs.items) h.1) rows rows_are h.2 h.3 b
+              (is ∙ ap (λ (xs : List OpenJob). is_some (next_at (job_at n xs))) put ∙ ap is_some (next_work n w store.jobs.items t.x t.there ∙ ap next_in h.1))

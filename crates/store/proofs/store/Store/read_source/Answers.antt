@@ -1,0 +1,27 @@
+use Rattle.std.proofs.Common.{◌≡◌, ℕ, Bool, true, false, List, [], ◌∷◌, ◌++◌, Some, None, Result, Ok, Err, refl, sym, ◌∙◌, ap, subst}
+use Rattle.bits.specs.declared.refusal.Refusal.{Refusal}
+use Rattle.vault.proofs.Chained.{refused}
+use Rattle.manifest.specs.Groups.{group_view}
+use Rattle.table.specs.Calls.{step_rewrite, more}
+use Rattle.table.specs.Views.{answered}
+use Rattle.store.specs.Promises.{ActsFrom}
+use Rattle.store.proofs.Stepped.{there_so, next_none, next_some, step_none, at_next, held_next, step_stopped, unkept_so, kept_so}
+use Rattle.store.proofs.store.Store.read_source.Goals as goal
+
+pub returns-in-None-clause-acts : goal.returns-in-None-clause-acts
+returns-in-None-clause-acts g c honest s stands is_open fine =
+    let old = c.args.self.now in
+    let n = c.args.job in
+    step_none g.D.Disk.state old s stands is_open n fine (next_none n c.next_source.result (λ x. group_view x.now) c.as_slice.result.now old.jobs.items c.in-None.is c.next_source.ensures c.as_slice.ensures.value)
+
+pub returns-in_err-rows-in-Some-clause-acts : goal.returns-in_err-rows-in-Some-clause-acts
+returns-in_err-rows-in-Some-clause-acts g c honest s stands is_open fine =
+    let old = c.args.self.now in
+    let n = c.args.job in
+    let state = g.D.Disk.state in
+    let f = group_view c.in-Some.group.now in
+    let next = next_some n c.next_source.result c.in-Some.group (λ x. group_view x.now) c.as_slice.result.now old.jobs.items c.in-Some.is c.next_source.ensures c.as_slice.ensures.value in
+    let failed = c.in_err-rows-in-Some in
+    refused (λ r. ActsFrom state old (record old { vault = c.whole_rows.new.vault }) (step_rewrite n) (answered {T = Bool} (λ b. more b) r) s) c.from_residual.result failed.field-0.0 c.from_residual.ensures.1
+    (step_stopped state old s stands is_open n fine f next c.whole_rows.new.vault (failed.ensures.effect.unchanged honest) failed.field-0.0
+    (failed.ensures.only honest (at_next state old s stands is_open n fine f next).g (held_next state old s stands is_open n fine f next)))
