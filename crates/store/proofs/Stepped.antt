@@ -68,6 +68,10 @@ next_none n o view lent items is e same = ap (λ (js : List OpenJob). next_at (j
 pub next_some : {X : Type 0} (n : ℕ) (o : Option X) (x : X) (view : X → FileGroup) (lent items : List OpenJob) → o ≡ Some x → option_map view o ≡ next_at (job_at n lent) → lent ≡ items → next_at (job_at n items) ≡ Some (view x)
 next_some n o x view lent items is e same = ap (λ (js : List OpenJob). next_at (job_at n js)) (sym same) ∙ sym e ∙ ap (option_map view) is
 
+pub some_mapped : {X Y : Type 0} (f : X → Y) (o : Option X) → is_some o ≡ is_some (option_map f o)
+some_mapped f None = refl
+some_mapped f (Some x) = refl
+
 -- the source that is read next by the job that has this work now
 next_work : (n : ℕ) (w : Work) (xs : List OpenJob) (x : OpenJob) → job_at n xs ≡ Some x → next_at (job_at n (with_work n w xs)) ≡ next_in w
 next_work n w [] x there = absurd (cc)
@@ -156,7 +160,7 @@ module _ {D : Type 0} (state : D → DiskState) (store : Store D) (s : State) (s
             there_by x e found.2.pins (ap (λ (m : ℕ). pinned_at m (state_of store.snapshots).jobs) (sym found.2.number) ∙ found.2.pinned) found.0 found.1 x.work refl found.2.work
             (ap rewrite_fault (sym found.1) ∙ passed s n fine)
 
-    t : IsThere
+    abbrev pub t : IsThere
     t = there_so
 
     next_is : next_at (job_at n store.jobs.items) ≡ source_in t.r.runs.items (length t.r.read.items)
@@ -223,13 +227,13 @@ module _ {D : Type 0} (state : D → DiskState) (store : Store D) (s : State) (s
         here_then = still.shows.shown is_open
 
         -- the rewrite shows on the disk as it is then
-        found_then : (k : Job) × (open_at n s.jobs ≡ Some k) × ShowsJob now s.table.keys s.table.schema s.next_group s.options.group_rows s.had (state_of store.snapshots).jobs t.x (n, k)
+        abbrev found_then : (k : Job) × (open_at n s.jobs ≡ Some k) × ShowsJob now s.table.keys s.table.schema s.next_group s.options.group_rows s.had (state_of store.snapshots).jobs t.x (n, k)
         found_then = job_found now s.table.keys s.table.schema s.next_group s.options.group_rows s.had n (state_of store.snapshots).jobs store.jobs.items s.jobs here_then.jobs t.x t.there
 
         one_job : (a b : Job) → open_at n s.jobs ≡ Some a → open_at n s.jobs ≡ Some b → a ≡ b
         one_job a b e g = let both : Some a ≡ Some b = sym e ∙ g in cc
 
-        pins_then : Pins
+        abbrev pins_then : Pins
         pins_then = found_then.2.pins
 
         shows_then : ShowsRewrite now s.table.keys s.table.schema s.next_group s.options.group_rows s.had pins_then t.r t.runs t.unread
@@ -287,10 +291,10 @@ module _ {D : Type 0} (state : D → DiskState) (store : Store D) (s : State) (s
             rows_then : rows_view rows.items ≡ next_then.g.rows
             rows_then = rows_are ∙ ap (λ (g : Group). g.rows) (sym same_group)
 
-            left : List ℕ
+            abbrev left : List ℕ
             left = rest now s.table.keys s.table.schema s.next_group s.options.group_rows s.had pins_then t.r t.runs t.unread shows_then f next_then stands.shows.valid.keys rows rows_then q one two
 
-            after : State
+            abbrev after : State
             after = record s { jobs = changed_at n (rewriting t.runs left) s.jobs }
 
             pub step_kept : (b : Bool) → b ≡ is_some (next_in (Rewrite q)) → ActsFrom state store (record mid { jobs = js }) call (more b) s

@@ -85,7 +85,7 @@ module _ (disk : DiskState) (keys : List KeyColumn) (schema : Fields) (count : �
     -- ---- the next source of a rewrite
 
     module _ (r : Rewriting) (runs : List (List Group)) (unread : List ℕ) (is : ShowsRewrite disk keys schema count size had pins r runs unread) where
-      abbrev place : ℕ
+      abbrev pub place : ℕ
       place = length r.read.items
 
       stored : AreStored disk keys schema count (sources_in r.runs.items) (sources runs)
@@ -110,7 +110,7 @@ module _ (disk : DiskState) (keys : List KeyColumn) (schema : Fields) (count : �
       -- ---- one source more is read
 
       module _ (f : FileGroup) (there : AtPlace place f (sources runs)) (are_keys : AreKeys keys schema) (rows : Vec CodeRow Global) (rows_are : rows_view rows.items ≡ there.g.rows) (q : Rewriting) (one : q.runs ≡ r.runs) (two : q.read.items ≡ r.read.items ++ rows ∷ []) where
-        abbrev rest : List ℕ
+        abbrev pub rest : List ℕ
         rest = numbers (drop (suc place) (sources runs))
 
         more : length (r.read.items ++ rows ∷ []) ≡ suc place

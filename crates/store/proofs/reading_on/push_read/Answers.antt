@@ -29,7 +29,7 @@ returns-then-jobs-i-clause-pushed c x there =
       w,
       ap (λ (xs : List OpenJob). slice_set xs i record { number = (slice_index_or xs i c.index-jobs-i-then-jobs-i.result).number; work = w }) same
       ∙ put_here n w old i c.index-jobs-i-then-jobs-i.result c.index-jobs-i.result low is number c.loop-i.invariant.none,
-      subst (λ (y : OpenJob). HasRead (kept_rows c.args.rows c.push_work.result) y.work w) one c.push_work.ensures.pushed,
+      subst (λ (y : OpenJob). HasRead (kept_rows c.args.rows c.push_work.result) y.work w) (sym c.index-jobs-i-then-jobs-i.is ∙ one) c.push_work.ensures.pushed,
     )
 
 pub returns-clause-pushed : goal.returns-clause-pushed
