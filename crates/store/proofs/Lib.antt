@@ -84,3 +84,7 @@ pub mod StageFine
 pub mod CommitLeft
 pub mod CommitOn
 pub mod CommitDone
+pub mod WholeRows
+pub mod Steps
+pub mod Stepped
+pub mod SourcePlaces
