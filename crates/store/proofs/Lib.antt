@@ -84,3 +84,7 @@ pub mod StageFine
 pub mod CommitLeft
 pub mod CommitOn
 pub mod CommitDone
+pub mod Remains
+pub mod Replacing
+pub mod Removed
+pub mod Replaced

@@ -28,3 +28,4 @@ pub mod Reading
 pub mod Passing
 pub mod Counting
 pub mod Completing
+pub mod Removing

@@ -33,6 +33,7 @@ mod opening;
 mod part;
 mod passing;
 mod reading_once;
+mod remaining;
 mod removing;
 mod reopening;
 mod restart;
