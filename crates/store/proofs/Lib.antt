@@ -88,3 +88,4 @@ pub mod Remains
 pub mod Replacing
 pub mod Removed
 pub mod Replaced
+pub mod Judged

@@ -162,7 +162,8 @@ impl<D: Disk> Store<D> {
         add_change(removed, remains, come)
     }
 
-    /// Writes rows of one key, one at least, as one part file.
+    /// Writes rows of one key, one at least, as one part file: also where they are more than a group has, as what is left
+    /// of a group may be that was written when a group had more rows.
     fn write_whole(&mut self, alloc: Global, rest: &KeyRows) -> R<Rc<Group>>
         requires some { 1 ≤ length rest.now.rows.items }
         ensures writes { (D.state self.old.vault.disk).honest → (s : State) (held : List TableRow) → Shows D.state self.old s → s.closed ≡ false
@@ -174,13 +175,14 @@ impl<D: Disk> Store<D> {
         ensures honest { (D.state self.old.vault.disk).honest ↔ (D.state self.new.vault.disk).honest }
     {
         let rows = rest.rows.as_slice();
-        if rows.len() > self.options.group_rows as usize {
-            return Err(Refusal::Memory);
-        }
         if self.next_group >= LAST_NUMBER {
             return Err(Refusal::Memory);
         }
-        self.write_part(alloc, None, &rest.key, rows)
+        if rows.len() <= self.options.group_rows as usize {
+            return self.write_part(alloc, None, &rest.key, rows);
+        }
+        let part = self.make_wide_part(alloc, &rest.key, rows)?;
+        self.put_part(alloc, None, part)
     }
 
     /// The version with these changes.
