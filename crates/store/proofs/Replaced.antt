@@ -34,7 +34,7 @@ use Rattle.store.specs.Buffers.{buffer}
 use Rattle.store.specs.Counting.{AreHeld, IsHeld}
 use Rattle.store.specs.Filling.{HasWritten, IsBuffer}
 use Rattle.store.specs.Reading.{OnlyReads}
-use Rattle.store.specs.Removing.{Outcome, stays, goes, comes, IsLeft, not_those, change_for, changes_for, files_come, groups_come, AreRemains, IsOfRest, HasPut, WhyNotPut, Puts, HasReplaced, WhyHalted, IsHalted}
+use Rattle.store.specs.Removing.{Outcome, stays, goes, comes, IsLeft, not_those, change_for, changes_for, files_come, groups_come, AreRemains, IsOfRest, HasPut, WhyNotPut, Puts, HasReplaced, Replaces, WhyHalted, IsHalted}
 use Rattle.store.specs.Stands.{IsStored, AreStored, ShowsOpen}
 use Rattle.store.specs.Writing.{counted}
 use Rattle.store.proofs.Adding.{failed_since as failed_on}
@@ -264,6 +264,12 @@ module _ {D : Type 0} (state : D → DiskState) (start now : Store D) (s : State
           by Limit w = (at.group, touched_at pass s.table.groups place at.group at.group_at (is_touched some), w)
           by Memory w = tt
           by f w = absurd w
+
+      -- either
+      pub put_ends : (mid new : Store D) (after : Removed) → 1 ≤ rest.gone → mid.next_group ≡ now.next_group → root_of new.manifest ≡ root → (result : Result (Unit {0}) Refusal)
+          → Puts state start mid new s (files_come r.outcomes) (groups_come r.outcomes) left_rows rest removed after result → Replaces state start new s pass (place + 1) after result
+      put_ends mid new after some mid_number same (Ok x) put = put_on mid new after some mid_number same put
+      put_ends mid new after some mid_number same (Err e) put = put_stops mid new e some mid_number after put
 
   -- it is not read
   pub read_stops : (vault : Vault D) (T : Type 0) (e : Refusal) → OnlyReads {T = T} disk (state vault.disk) (Err e) → HasCause IsDevice e → disk.honest → IsHalted state start (record now { vault = vault }) s pass e
