@@ -1,11 +1,13 @@
 -- What is read of a group, whole, and which of its rows satisfy.
 use Rattle.std.proofs.Common.{◌≡◌, ◌≤◌, ◌<◌, ◌+◌, ◌↔◌, ℕ, suc, Bool, true, false, not, ◌||◌, ◌&&◌, nat_eq, List, [], ◌∷◌, map, filter, length, Option, Some, None, Result, Ok, Err, refl, sym, ◌∙◌, ap, subst, arith, inl, ⊎_elim, eq-eqb}
-use Rattle.std.specs.Prelude.{if◌then◌else◌, cond, IsTrue}
+use Rattle.std.specs.Prelude.{if◌then◌else◌, cond, IsTrue, IfOk, Vec}
+use Rattle.std.specs.declared.alloc.Global.{Global}
 use Rattle.std.specs.List.{AllByRecursion}
 use Rattle.std.proofs.lemmas.Bool.{cases_lt, and_parts}
 use Rattle.bits.specs.declared.refusal.Refusal.{Refusal}
 use Rattle.bits.specs.declared.refusal.Refusal.TheVariants.{Memory}
-use Rattle.bits.specs.Refusals.{HasCause}
+use Rattle.bits.specs.Refusals.{HasCause, RefusedOnly, RefusedMemoryOnly}
+use Rattle.schema.specs.declared.row.Row.{Row as CodeRow}
 use Rattle.schema.specs.Values.{ValueTrees, no_values, value as item}
 use Rattle.schema.specs.Shape.{Fields, no_fields, field, count}
 use Rattle.schema.specs.Fits.{fits, fits_each, RowsFit}
@@ -19,13 +21,16 @@ use Rattle.filter.specs.Satisfies.{Satisfies}
 use Rattle.filter.specs.Terms.{tests_of}
 use Rattle.filter.specs.Deciding.{satisfies as all_satisfied}
 use Rattle.manifest.specs.Groups.{Group as FileGroup, Root}
+use Rattle.scan.specs.Faults.{IsDevice}
 use Rattle.scan.specs.Selected.{AreSelected, cut_to, IsRuledOut, RuledOutGroupsHoldNone}
 use Rattle.table.specs.Table.{Row, Group}
 use Rattle.table.specs.Cursors.{wanted_places}
 use Rattle.table.proofs.Deciding.{tests_decide}
 use Rattle.store.specs.declared.remaining.Remains.{Remains}
 use Rattle.store.specs.Counting.{IsHeld}
+use Rattle.store.specs.Reading.{OnlyReads, IsReading}
 use Rattle.store.specs.Removing.{AreRemains, not_those}
+use Rattle.store.proofs.Passed.{reading_done, reading_poor}
 
 -- ---- whether a row satisfies
 
@@ -129,3 +134,27 @@ module _ (tests : List (List Test)) (keys : List KeyColumn) (f : FileGroup) (g :
 
   pub some_left : r.gone ≡ length (filter (all_satisfied tests) g.rows) → rows_view r.rest.rows.items ≡ map (row_without_keys keys) (not_those (all_satisfied tests) g.rows) → AreRemains tests keys f g r
   some_left many rest = record { number = number; key = key; gone = many; rest = λ some. rest }
+
+module _ (tests : List (List Test)) (keys : List KeyColumn) (f : FileGroup) (g : Group) where
+  -- so it is of what is given
+  pub none_ends : (result : Result Remains Refusal) → IfOk result (λ r. r.number ≡ f.number) → IfOk result (λ r. key_view r.rest.key ≡ f.key) → IfOk result (λ r. r.gone ≡ 0) → length (filter (all_satisfied tests) g.rows) ≡ 0
+      → IfOk result (λ r. AreRemains tests keys f g r)
+  none_ends (Ok r) number key none out = all_left tests keys f g r number key none out
+  none_ends (Err e) number key none out = tt
+
+  pub some_ends : (result : Result Remains Refusal) → IfOk result (λ r. r.number ≡ f.number) → IfOk result (λ r. key_view r.rest.key ≡ f.key) → (gone : ℕ) → IfOk result (λ r. r.gone ≡ gone) → gone ≡ length (filter (all_satisfied tests) g.rows)
+      → (rows : Vec CodeRow Global) → IfOk result (λ r. r.rest.rows ≡ rows) → rows_view rows.items ≡ map (row_without_keys keys) (not_those (all_satisfied tests) g.rows) → IfOk result (λ r. AreRemains tests keys f g r)
+  some_ends (Ok r) number key gone gone_is many rows rows_are rest = some_left tests keys f g r number key (gone_is ∙ many) (ap (λ (v : Vec CodeRow Global). rows_view v.items) rows_are ∙ rest)
+  some_ends (Err e) number key gone gone_is many rows rows_are rest = tt
+
+-- ---- only read, and out of memory where it is refused
+
+pub reads_so : (T : Type 0) (old new : DiskState) → IsReading old new → (result : Result T Refusal) → RefusedMemoryOnly result → OnlyReads old new result
+reads_so T old new a (Ok x) m = reading_done old new x a
+reads_so T old new a (Err Memory) m = reading_poor T old new a
+reads_so T old new a (Err e) m = absurd m
+
+pub device_too : (T : Type 0) (result : Result T Refusal) → RefusedMemoryOnly result → RefusedOnly IsDevice result
+device_too T (Ok x) m = tt
+device_too T (Err Memory) m = tt
+device_too T (Err e) m = absurd m
