@@ -89,3 +89,4 @@ pub mod Replacing
 pub mod Removed
 pub mod Replaced
 pub mod Judged
+pub mod Removals

@@ -130,9 +130,10 @@ fn how_many(filter: &Filter, rows: &[Row]) -> u64
 {
     let mut found: u64 = 0;
     for row in rows {
-        if filter.satisfies(row) {
-            found += 1;
+        if !filter.satisfies(row) {
+            continue;
         }
+        found += 1;
     }
     found
 }
