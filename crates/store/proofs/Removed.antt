@@ -1,5 +1,5 @@
 -- A removal of rows, once all groups are judged or are not.
-use Rattle.std.proofs.Common.{◌≡◌, ◌≢◌, ◌≤◌, ◌<◌, ◌+◌, ◌⊎◌, ℕ, Bool, true, false, not, List, [], ◌∷◌, ◌++◌, map, drop, filter, length, None, Ok, Err, refl, sym, ◌∙◌, ap, subst, arith, inl, inr, ⊎_elim}
+use Rattle.std.proofs.Common.{◌≡◌, ◌≢◌, ◌≤◌, ◌<◌, ◌+◌, ◌⊎◌, ℕ, Bool, true, false, not, List, [], ◌∷◌, ◌++◌, map, drop, filter, length, None, Result, Ok, Err, refl, sym, ◌∙◌, ap, subst, arith, inl, inr, ⊎_elim}
 use Rattle.std.specs.List.{AllByRecursion, AllZip}
 use Rattle.std.proofs.lemmas.Bool.{and_from}
 use Rattle.std.proofs.lemmas.List.{append-nil}
@@ -7,6 +7,10 @@ use Rattle.bits.specs.declared.refusal.Refusal.{Refusal}
 use Rattle.bits.specs.declared.refusal.Refusal.TheVariants.{Limit, Device, Memory, Page}
 use Rattle.bits.specs.Refusals.{HasCause}
 use Rattle.schema.specs.Keys.{AreDistinct, without_keys}
+use Rattle.schema.specs.Stripe.{leaves_of}
+use Rattle.filter.specs.Test.{Test}
+use Rattle.filter.specs.Terms.{tests_of}
+use Rattle.filter.specs.Deciding.{satisfies as all_satisfied}
 use Rattle.disk.specs.State.{State as DiskState}
 use Rattle.vault.specs.Calls.{HasFailed}
 use Rattle.partition.specs.Order.{AreInTableOrder}
@@ -24,7 +28,7 @@ use Rattle.planning.proofs.Numbered.{replaced_are_distinct}
 use Rattle.table.specs.Table.{Row, Group, Table, IsTable, IsGroupIn, rows}
 use Rattle.table.specs.Commits.{removed as removed_rows, Removes}
 use Rattle.table.specs.State.{State}
-use Rattle.table.specs.Deciding.{Filter as Terms}
+use Rattle.table.specs.Deciding.{Filter as Terms, passes}
 use Rattle.table.specs.Checks.{fault}
 use Rattle.table.specs.Calls.{Call, remove, done, refused}
 use Rattle.table.specs.Leading.{Leads, Rises, IsDone, test, touched}
@@ -54,6 +58,7 @@ use Rattle.store.proofs.PlannedWeights.{too_heavy_is_too_much}
 use Rattle.store.proofs.Brought.{all_so, distinct_append, at_number, each_number, same_keys, numbers_too, numbers_back}
 use Rattle.store.proofs.Buffered.{drop_all}
 use Rattle.store.proofs.Dropped.{has_reason}
+use Rattle.store.proofs.Replaced.{as_many}
 use Rattle.store.proofs.Remains.{HaveCome, have_come, files_then, groups_then, replaced_are, stored_then, keyed_then, all_then, each_then, none_pass, all_stay, brought_are, renumbered, rests_then, fresh_then}
 
 module _ {D : Type 0} (state : D → DiskState) (old : Store D) (s : State) (stands : Stands state old s) (is_open : s.closed ≡ false) where
@@ -96,6 +101,14 @@ module _ {D : Type 0} (state : D → DiskState) (old : Store D) (s : State) (sta
     stays_there : (mid : Store D) → s.next_group ≤ mid.next_group → mid.next_group ≤ s.next_group + length (rows (touched pass old_groups)) → Stays s call (counted s mid.next_group)
     stays_there mid low high = record { counter = mid.next_group; rises = rises mid low high; is = refl }
 
+    -- what is said of the tests of its terms is said of the rows that they pass
+    module _ (tests : List (List Test)) (made : tests_of (leaves_of s.table.schema) terms ≡ Ok tests) (mid : Store D) where
+      pub halted_by : (e : Refusal) → IsHalted state old mid s (all_satisfied tests) e → IsHalted state old mid s pass e
+      halted_by e h = subst (λ (o : Result (List (List Test)) Refusal). IsHalted state old mid s (passes o) e) (sym made) h
+
+      pub replaced_by : (removed : Removed) → HasReplaced state old mid s (all_satisfied tests) (length old_groups) removed → HasReplaced state old mid s pass (length old_groups) removed
+      replaced_by removed h = subst (λ (o : Result (List (List Test)) Refusal). HasReplaced state old mid s (passes o) (length old_groups) removed) (sym made) h
+
     -- not all groups are judged
     pub halted : (mid : Store D) (e : Refusal) → IsHalted state old mid s pass e → ActsFrom state old mid call (refused e) s
     halted mid e h = refusals_act state old mid s call mid.next_group e stands is_open h.wrote (why e h.why)
@@ -137,18 +150,12 @@ module _ {D : Type 0} (state : D → DiskState) (old : Store D) (s : State) (sta
       all_gone : (xs : List Group) → drop (length xs) xs ≡ []
       all_gone xs = drop_all xs (length xs) (omega arith)
 
-      as_many : (fs : List FileGroup) (gs : List Group) → AreStored disk s.table.keys s.table.schema mid.next_group fs gs → length fs ≡ length gs
-      as_many [] [] z = refl
-      as_many (f ∷ fs) (g ∷ gs) z = let e = as_many fs gs z.1 in omega (arith, e)
-      as_many [] (g ∷ gs) z = absurd z
-      as_many (f ∷ fs) [] z = absurd z
-
       all_groups : old_groups ≡ r.groups
       all_groups = r.groups_are ∙ ap (λ (gs : List Group). r.groups ++ gs) (all_gone old_groups) ∙ append-nil r.groups
 
       all_files : old_root.groups ≡ r.files
       all_files =
-          let many = as_many old_root.groups old_groups here.version in
+          let many = as_many disk s.table.keys s.table.schema mid.next_group old_root.groups old_groups here.version in
           r.files_are ∙ ap (λ (fs : List FileGroup). r.files ++ fs) (drop_all old_root.groups (length old_groups) (omega (arith, many))) ∙ append-nil r.files
 
       left : AllZip (IsLeft pass) old_groups os

@@ -38,6 +38,7 @@ use Rattle.store.specs.Removing.{Outcome, stays, goes, comes, IsLeft, not_those,
 use Rattle.store.specs.Stands.{IsStored, AreStored, ShowsOpen}
 use Rattle.store.specs.Writing.{counted}
 use Rattle.store.proofs.Adding.{failed_since as failed_on}
+use Rattle.store.proofs.Buffered.{drop_all}
 use Rattle.store.proofs.Kept.{all_kept}
 use Rattle.store.proofs.Passed.{drop_at}
 use Rattle.store.proofs.Widths.{is_row_of}
@@ -63,6 +64,12 @@ module _ (disk : DiskState) (keys : List KeyColumn) (schema : Fields) (count : �
   at_place (f ∷ fs) (g ∷ gs) (suc i) z t d l =
       let r = at_place fs gs i z.1 t.1 d.1 (omega (arith, l)) in
       record { file = r.file; group = r.group; file_at = r.file_at; group_at = r.group_at; stored = r.stored; in_table = r.in_table; described = r.described }
+
+  pub as_many : (fs : List FileGroup) (gs : List Group) → AreStored disk keys schema count fs gs → length fs ≡ length gs
+  as_many [] [] z = refl
+  as_many (f ∷ fs) (g ∷ gs) z = let e = as_many fs gs z.1 in omega (arith, e)
+  as_many [] (g ∷ gs) z = absurd z
+  as_many (f ∷ fs) [] z = absurd z
 
 rows_fit : (schema : Fields) (keys : List KeyColumn) (key : Key) (given : List Row) → AllByRecursion (IsRowIn schema keys key) given → RowsFit schema given
 rows_fit schema keys key [] h = tt
@@ -286,3 +293,32 @@ module _ {D : Type 0} (state : D → DiskState) (start now : Store D) (s : State
       by Memory c w = tt
       by Device c w = failed_since (⊎_elim (λ d. d.1) (λ p. absurd p) w)
       by f c w = absurd (let d : f ≡ Device = c in cc)
+
+-- all are judged
+pub at_last : {D : Type 0} (state : D → DiskState) (start now : Store D) (s : State) (is_open : s.closed ≡ false) (test : Row → Bool) (place : ℕ) (removed : Removed) → HasReplaced state start now s test place removed
+    → length (root_of now.manifest).groups ≤ place → HasReplaced state start now s test (length s.table.groups) removed
+at_last state start now s is_open test place removed r past = record {
+  files = r.files;
+  groups = r.groups;
+  outcomes = r.outcomes;
+  files_are = r.files_are ∙ ap (λ (fs : List FileGroup). r.files ++ fs) (drop_all fs place past ∙ sym (drop_all fs (length gs) (omega (arith, many))));
+  groups_are = r.groups_are ∙ ap (λ (xs : List Group). r.groups ++ xs) same_drop;
+  as_many = r.as_many;
+  left = r.left;
+  changes_are = r.changes_are;
+  written = r.written;
+  counted = let c = r.counted in let e = ap (λ (xs : List Group). length (filter test (rows xs))) same_drop in omega (arith, c, e);
+  room = let c = r.room in let e = ap (λ (xs : List Group). length (rows (touched test xs))) same_drop in omega (arith, c, e);
+}
+  where
+    fs : List FileGroup
+    fs = (root_of now.manifest).groups
+
+    gs : List Group
+    gs = s.table.groups
+
+    many : length fs ≡ length gs
+    many = as_many (state now.vault.disk) s.table.keys s.table.schema now.next_group fs gs (r.written.wrote.shows.shown is_open).version
+
+    same_drop : drop place gs ≡ drop (length gs) gs
+    same_drop = drop_all gs place (omega (arith, many, past)) ∙ sym (drop_all gs (length gs) (omega arith))

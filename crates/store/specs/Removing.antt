@@ -23,7 +23,10 @@ use Rattle.store.specs.Filling.{HasWritten, written_group}
 
 -- ---- one group
 
--- the rows that do not satisfy
+-- the rows that satisfy, and those that do not
+abbrev pub those : (Row → Bool) → List Row → List Row
+those test given = filter test given
+
 abbrev pub not_those : (Row → Bool) → List Row → List Row
 not_those test given = filter (λ row. not (test row)) given
 

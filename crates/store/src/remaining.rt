@@ -1,6 +1,6 @@
 //! What a removal leaves of a group.
 
-ghost use Rattle.std.specs.Prelude.{◌≡◌, List, Some, IfOk, filter, length, map};
+ghost use Rattle.std.specs.Prelude.{◌≡◌, List, Some, IfOk, length, map};
 ghost use Rattle.std.specs.List.{slice_get};
 ghost use Rattle.bits.specs.Refusals.{RefusedOnly, RefusedMemoryOnly};
 ghost use Rattle.schema.specs.Fits.{RowsFit};
@@ -13,7 +13,7 @@ ghost use Rattle.scan.specs.Faults.{IsDevice};
 ghost use Rattle.table.specs.Table.{Group as TableGroup};
 ghost use Rattle.store.specs.Counting.{IsHeld};
 ghost use Rattle.store.specs.Reading.{OnlyReads};
-ghost use Rattle.store.specs.Removing.{AreRemains, not_those};
+ghost use Rattle.store.specs.Removing.{AreRemains, those, not_those};
 
 use crate::cutting::rest_of;
 use crate::wanted::places_of;
@@ -126,7 +126,7 @@ fn whole_rows<D: Disk>(
 
 /// How many rows satisfy. Takes no memory.
 fn how_many(filter: &Filter, rows: &[Row]) -> u64
-    ensures { result ≡ length (filter (all_satisfied (tests_in filter.now)) (rows_view rows.now)) }
+    ensures { result ≡ length (those (all_satisfied (tests_in filter.now)) (rows_view rows.now)) }
 {
     let mut found: u64 = 0;
     for row in rows {
