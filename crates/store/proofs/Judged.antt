@@ -6,7 +6,7 @@ use Rattle.std.specs.List.{AllByRecursion}
 use Rattle.std.proofs.lemmas.Bool.{cases_lt, and_parts}
 use Rattle.bits.specs.declared.refusal.Refusal.{Refusal}
 use Rattle.bits.specs.declared.refusal.Refusal.TheVariants.{Memory}
-use Rattle.bits.specs.Refusals.{HasCause, RefusedOnly, RefusedMemoryOnly}
+use Rattle.bits.specs.Refusals.{RefusedOnly, RefusedMemoryOnly}
 use Rattle.schema.specs.declared.row.Row.{Row as CodeRow}
 use Rattle.schema.specs.Values.{ValueTrees, no_values, value as item}
 use Rattle.schema.specs.Shape.{Fields, no_fields, field, count}
@@ -80,15 +80,15 @@ module _ (tests : List (List Test)) where
 
 among_from : (fs : Fields) (i j : ℕ) → i ≤ j → j < i + count fs → is_among (wanted_places None i fs) j ≡ true
 among_from no_fields i j low high = absurd (omega (arith, low, high))
-among_from (field f fs) i j low high = by (nat_eq i j) refl
+among_from (field f fs) i j low high = by (nat_eq i j) refl (λ less. among_from fs (suc i) j (omega (arith, less)) (omega (arith, high)))
   where
     clash : nat_eq i j ≡ false → nat_eq i j ≡ true → ⊥
     clash e g = let c : false ≡ true = sym e ∙ g in cc
 
-    by : (b : Bool) → nat_eq i j ≡ b → (b || is_among (wanted_places None (suc i) fs) j) ≡ true
-    by true e = refl
-    by false e = ⊎_elim
-        (λ less. among_from fs (suc i) j (omega (arith, less)) (omega (arith, high)))
+    by : (b : Bool) → nat_eq i j ≡ b → (i < j → is_among (wanted_places None (suc i) fs) j ≡ true) → (b || is_among (wanted_places None (suc i) fs) j) ≡ true
+    by true e rest = refl
+    by false e rest = ⊎_elim
+        (λ less. rest less)
         (λ more. absurd (clash e (eq-eqb i j (omega (arith, low, more)))))
         (cases_lt i j)
 
@@ -118,13 +118,14 @@ pub no_tests : (leaves : List Leaf) (tests : List (List Test)) → tests_of leav
 no_tests leaves tests e = let f : Ok [] ≡ Ok tests = e in cc
 
 -- with no filter and all columns the rows are what the group has
-pub selected_all : (fs : Fields) (given out : List Row) (tests : List (List Test)) (places : List ℕ) → tests ≡ [] → places ≡ wanted_places None 0 fs → RowsFit fs given → AreSelected tests places given out → out ≡ given
+selected_all : (fs : Fields) (given out : List Row) (tests : List (List Test)) (places : List ℕ) → tests ≡ [] → places ≡ wanted_places None 0 fs → RowsFit fs given → AreSelected tests places given out → out ≡ given
 selected_all fs given out tests places none all h are =
     none_asked fs given out h (subst (λ (ts : List (List Test)). AreSelected ts (wanted_places None 0 fs) given out) none (subst (λ (ps : List ℕ). AreSelected tests ps given out) all are))
 
-pub no_term_fault : (leaves : List Leaf) (e : Refusal) → HasCause (λ f. tests_of leaves [] ≡ Err f) e → e ≡ Memory
-no_term_fault leaves Memory h = refl
-no_term_fault leaves e h = absurd (cc)
+pub all_selected : (result : Result (Vec CodeRow Global) Refusal) (fs : Fields) (given : List Row) (tests : List (List Test)) (places : List ℕ) → tests ≡ [] → places ≡ wanted_places None 0 fs → RowsFit fs given
+    → IfOk result (λ out. AreSelected tests places given (rows_view out.items)) → IfOk result (λ out. rows_view out.items ≡ given)
+all_selected (Ok out) fs given tests places none all h are = selected_all fs given (rows_view out.items) tests places none all h are
+all_selected (Err e) fs given tests places none all h are = tt
 
 -- ---- what is left of a group
 

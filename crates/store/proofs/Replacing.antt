@@ -58,7 +58,7 @@ module _ {D : Type 0} (state : D → DiskState) (start now : Store D) (s : State
     abbrev versions : Versions
     versions = state_of now.snapshots
 
-    wrote_read : (counter : ℕ) → WroteTo state start now s counter → WroteTo state start read_store s counter
+    pub wrote_read : (counter : ℕ) → WroteTo state start now s counter → WroteTo state start read_store s counter
     wrote_read counter w =
         let keys = s.table.keys in
         let old = state now.vault.disk in
@@ -141,16 +141,16 @@ module _ {D : Type 0} (state : D → DiskState) (start now : Store D) (s : State
   poor e h new = absurd h
 
   -- no row is left
-  pub put_nothing : length r.rest.rows.items ≡ 0 → (result : Result (Unit {0}) Refusal) → Kept [] result → Ends now result
-  put_nothing none (Ok x) kept = record {
+  pub put_nothing : length r.rest.rows.items ≡ 0 → (come : List FileGroup) → come ≡ [] → (result : Result (Unit {0}) Refusal) → Kept come result → Ends now result
+  put_nothing none come is (Ok x) kept = record {
     outcome = goes;
     is = no_more_held s.table.keys (key_view r.rest.key) held (subst (λ (ws : List Row). AreRowsOf s.table.keys (key_view r.rest.key) ws held) (ap rows_view (nil_from_length r.rest.rows.items none)) b.are);
     written = subst (λ (fs : List FileGroup). HasWritten state start now s None fs (groups ++ [])) (sym (nothing_more files)) (subst (λ (gs : List Group). HasWritten state start now s None files gs) (sym (nothing_more groups)) has);
-    changed = kept.0;
+    changed = kept.0 ∙ ap (λ (fs : List FileGroup). changes_view before.changes.items ++ record { number = r.number; come = fs } ∷ []) is;
     counted = kept.1;
     rises = omega arith;
   }
-  put_nothing none (Err e) kept = (has.wrote, omega arith, poor e kept.2 now)
+  put_nothing none come is (Err e) kept = (has.wrote, omega arith, poor e kept.2 now)
 
   module _ (new : Store D) (later : (state now.vault.disk).failures ≤ (state new.vault.disk).failures) (same : new.jobs ≡ now.jobs) where
     abbrev key : Key

@@ -29,7 +29,7 @@ use Rattle.store.proofs.Unfit.{unfit_rows, unfit_group, unfit_limit}
 use Rattle.store.proofs.part.part_of.Goals as goal
 
 pub returns-clause-no_root : goal.returns-clause-no_root
-returns-clause-no_root g c =
+returns-clause-no_root c =
     let keys = key_columns_view c.keys.result.now in
     let key = key_view c.args.key.now in
     let number = c.args.number in
@@ -38,7 +38,7 @@ returns-clause-no_root g c =
     ((λ e. (c.part_paths_are_not_roots.ensures keys key number root_path fits (inl refl)).0 (sym is ∙ e)), (λ e. (c.part_paths_are_not_roots.ensures keys key number next_path fits (inr refl)).0 (sym is ∙ e)))
 
 pub returns-clause-made : goal.returns-clause-made
-returns-clause-made g c held are =
+returns-clause-made c held are =
     let root = root_of c.args.table.now in
     let key = key_view c.args.key.now in
     let rows = rows_view c.args.rows.now in
@@ -65,7 +65,7 @@ returns-clause-made g c held are =
     }
 
 pub returns-in_err-bytes-clause-which : goal.returns-in_err-bytes-clause-which
-returns-in_err-bytes-clause-which g c =
+returns-in_err-bytes-clause-which c =
     let root = root_of c.args.table.now in
     let options = c.args.options.now in
     let key = key_view c.args.key.now in
@@ -86,7 +86,7 @@ written_here o fs rows bytes lent same laid within some few = let many = length-
 }
 
 pub returns-in_err-group-clause-which : goal.returns-in_err-group-clause-which
-returns-in_err-group-clause-which g c =
+returns-in_err-group-clause-which c =
     let root = root_of c.args.table.now in
     let options = c.args.options.now in
     let key = key_view c.args.key.now in
@@ -97,7 +97,7 @@ returns-in_err-group-clause-which g c =
     (subst (λ (fs : Fields). (c.in_err-group.field-0.0 ≡ Memory → ⊥) → (c.in_err-group.field-0.0 ≡ Limit) × IsTooMuch fs options rows) c.stored-stored.ensures (λ other. c.in_err-group.ensures.only other options rows written)))
 
 pub returns-in_err-group-clause-limit : goal.returns-in_err-group-clause-limit
-returns-in_err-group-clause-limit g c =
+returns-in_err-group-clause-limit c =
     let root = root_of c.args.table.now in
     let options = c.args.options.now in
     let key = key_view c.args.key.now in

@@ -43,21 +43,21 @@ returns-in_err-rows-clause-effect g c =
     let new = g.D.Disk.state c.whole_rows.new.vault.disk in
     refused (λ (r : Result Remains Refusal). OnlyReads old new r) c.from_residual.result c.in_err-rows.field-0.0 c.from_residual.ensures.1 (reading_ends old old new c.in_err-rows.field-0.0 (reading_here old) c.in_err-rows.ensures.effect)
 
-pub returns-then-gone-clause-stands : goal.returns-then-gone-clause-stands
-returns-then-gone-clause-stands g c honest held h fit =
+pub returns-then-gone-eq0-clause-stands : goal.returns-then-gone-eq0-clause-stands
+returns-then-gone-eq0-clause-stands g c honest held h fit =
     let tests = tests_in c.args.filter.now in
     let root = root_of c.args.table.now in
     let f = group_view c.args.group.now in
     let whole = ap rows_view c.as_slice.ensures.value ∙ c.in_ok-rows.ensures.stands honest tests held h fit in
-    let none = ap (λ (rs : List Row). length (filter (all_satisfied tests) rs)) (sym whole) ∙ sym c.how_many-gone.ensures ∙ c.if-gone.true in
-    none_ends tests root.keys f held c.left_of-then-gone.result c.left_of-then-gone.ensures.number c.left_of-then-gone.ensures.key c.left_of-then-gone.ensures.gone none
+    let none = ap (λ (rs : List Row). length (filter (all_satisfied tests) rs)) (sym whole) ∙ sym c.how_many-gone.ensures ∙ c.if-gone-eq0.true in
+    none_ends tests root.keys f held c.left_of-then-gone-eq0.result c.left_of-then-gone-eq0.ensures.number c.left_of-then-gone-eq0.ensures.key c.left_of-then-gone-eq0.ensures.gone none
 
-pub returns-then-gone-clause-only : goal.returns-then-gone-clause-only
-returns-then-gone-clause-only g c honest held h fit = device_too Remains c.left_of-then-gone.result c.left_of-then-gone.ensures.which
+pub returns-then-gone-eq0-clause-only : goal.returns-then-gone-eq0-clause-only
+returns-then-gone-eq0-clause-only g c honest held h fit = device_too Remains c.left_of-then-gone-eq0.result c.left_of-then-gone-eq0.ensures.which
 
-pub returns-then-gone-clause-effect : goal.returns-then-gone-clause-effect
-returns-then-gone-clause-effect g c =
-    reads_so Remains _ _ (reading_of (g.D.Disk.state c.args.vault.now.disk) (g.D.Disk.state c.whole_rows.new.vault.disk) c.in_ok-rows.rows c.in_ok-rows.ensures.effect) c.left_of-then-gone.result c.left_of-then-gone.ensures.which
+pub returns-then-gone-eq0-clause-effect : goal.returns-then-gone-eq0-clause-effect
+returns-then-gone-eq0-clause-effect g c =
+    reads_so Remains _ _ (reading_of (g.D.Disk.state c.args.vault.now.disk) (g.D.Disk.state c.whole_rows.new.vault.disk) c.in_ok-rows.rows c.in_ok-rows.ensures.effect) c.left_of-then-gone-eq0.result c.left_of-then-gone-eq0.ensures.which
 
 pub returns-in_err-rest-clause-only : goal.returns-in_err-rest-clause-only
 returns-in_err-rest-clause-only g c honest held h fit =
@@ -77,10 +77,10 @@ returns-clause-stands g c honest held h fit =
     let f = group_view c.args.group.now in
     let whole = c.in_ok-rows.ensures.stands honest tests held h fit in
     let first = ap rows_view c.as_slice.ensures.value ∙ whole in
-    let second = ap rows_view c.as_slice-rest.ensures.value ∙ whole in
+    let second = ap rows_view c.as_slice-2.ensures.value ∙ whole in
     let many = c.how_many-gone.ensures ∙ ap (λ (rs : List Row). length (filter (all_satisfied tests) rs)) first in
-    let rest = c.in_ok-rest.ensures.rest ∙ ap (λ (rs : List Row). map (row_without_keys (key_columns_view c.keys-rest.result.now)) (not_those (all_satisfied tests) rs)) second
-    ∙ ap (λ (ks : List KeyColumn). map (row_without_keys ks) (not_those (all_satisfied tests) held.rows)) c.keys-rest.ensures.are in
+    let rest = c.in_ok-rest.ensures.rest ∙ ap (λ (rs : List Row). map (row_without_keys (key_columns_view c.keys-2.result.now)) (not_those (all_satisfied tests) rs)) second
+    ∙ ap (λ (ks : List KeyColumn). map (row_without_keys ks) (not_those (all_satisfied tests) held.rows)) c.keys-2.ensures.are in
     some_ends tests root.keys f held c.left_of-2.result c.left_of-2.ensures.number c.left_of-2.ensures.key c.how_many-gone.result c.left_of-2.ensures.gone many c.in_ok-rest.rest c.left_of-2.ensures.rest rest
 
 pub returns-clause-only : goal.returns-clause-only

@@ -38,15 +38,15 @@ returns-in_err-removed-clause-cause g c honest s terms stands is_open fine made 
     let stop = halted_by st old s stands is_open terms fine tests made mid e (c.in_err-removed.ensures.replaces honest s terms is_open made (begins st old s stands is_open) stands.shows.next_group) in
     refused (λ r. is_failure (answered {T = ℕ} (λ x. done x) r) ≡ true → HasFailed (st old.vault.disk) (st mid.vault.disk)) c.from_residual.result e c.from_residual.ensures.1 (halted_cause st old s stands is_open terms fine mid e stop)
 
-pub returns-then-removed-clause-acts : goal.returns-then-removed-clause-acts
-returns-then-removed-clause-acts g c honest s terms stands is_open fine made =
+pub returns-then-removed-eq0-clause-acts : goal.returns-then-removed-eq0-clause-acts
+returns-then-removed-eq0-clause-acts g c honest s terms stands is_open fine made =
     let st = g.D.Disk.state in
     let old = c.args.self.now in
     let mid = c.replace_groups.new.self in
     let tests = tests_in c.args.filter.now in
     let removed = c.in_ok-removed.removed in
     let r = replaced_by st old s stands is_open terms fine tests made mid removed (c.in_ok-removed.ensures.replaces honest s terms is_open made (begins st old s stands is_open) stands.shows.next_group) in
-    nothing_removed st old s stands is_open terms fine mid removed r c.if-removed.true
+    nothing_removed st old s stands is_open terms fine mid removed r c.if-removed-eq0.true
 
 pub returns-in_err-groups-clause-acts : goal.returns-in_err-groups-clause-acts
 returns-in_err-groups-clause-acts g c honest s terms stands is_open fine made =
@@ -84,7 +84,7 @@ returns-in_err-commit_version-clause-acts g c honest s terms stands is_open fine
     let removed = c.in_ok-removed.removed in
     let r = replaced_by st old s stands is_open terms fine tests made mid removed (c.in_ok-removed.ensures.replaces honest s terms is_open made (begins st old s stands is_open) stands.shows.next_group) in
     let next = c.next_with-next.result in
-    let some = c.if-removed.false in
+    let some = c.if-removed-eq0.false in
     let was : c.next.result ≡ s.table.next = c.next.ensures ∙ (r.written.wrote.shows.shown is_open).next in
     let falls = subst (λ (n : ℕ). n ≤ next) was c.next_with-next.ensures.never_falls in
     let above = subst (λ (cs : List CodeChange). AllByRecursion (λ (f : FileGroup). f.number < next) (brought (changes_view cs))) c.as_slice-2.ensures.value c.next_with-next.ensures.above in
@@ -109,7 +109,7 @@ returns-in_err-commit_version-clause-cause g c honest s terms stands is_open fin
     let removed = c.in_ok-removed.removed in
     let r = replaced_by st old s stands is_open terms fine tests made mid removed (c.in_ok-removed.ensures.replaces honest s terms is_open made (begins st old s stands is_open) stands.shows.next_group) in
     let next = c.next_with-next.result in
-    let some = c.if-removed.false in
+    let some = c.if-removed-eq0.false in
     let was : c.next.result ≡ s.table.next = c.next.ensures ∙ (r.written.wrote.shows.shown is_open).next in
     let falls = subst (λ (n : ℕ). n ≤ next) was c.next_with-next.ensures.never_falls in
     let above = subst (λ (cs : List CodeChange). AllByRecursion (λ (f : FileGroup). f.number < next) (brought (changes_view cs))) c.as_slice-2.ensures.value c.next_with-next.ensures.above in
@@ -132,7 +132,7 @@ returns-clause-acts g c honest s terms stands is_open fine made =
     let removed = c.in_ok-removed.removed in
     let r = replaced_by st old s stands is_open terms fine tests made mid removed (c.in_ok-removed.ensures.replaces honest s terms is_open made (begins st old s stands is_open) stands.shows.next_group) in
     let next = c.next_with-next.result in
-    let some = c.if-removed.false in
+    let some = c.if-removed-eq0.false in
     let was : c.next.result ≡ s.table.next = c.next.ensures ∙ (r.written.wrote.shows.shown is_open).next in
     let falls = subst (λ (n : ℕ). n ≤ next) was c.next_with-next.ensures.never_falls in
     let above = subst (λ (cs : List CodeChange). AllByRecursion (λ (f : FileGroup). f.number < next) (brought (changes_view cs))) c.as_slice-2.ensures.value c.next_with-next.ensures.above in

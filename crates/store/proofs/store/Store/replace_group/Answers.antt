@@ -25,8 +25,8 @@ returns-in_err-remains-clause-replaces g c honest start s terms is_open made wit
     (read_stops st start old s is_open tests place removed r vault Remains e failed.ensures.effect
     (failed.ensures.only honest here.file here.group here.file_at (held st start old s is_open tests place removed r within terms made) (fit st start old s is_open tests place removed r within)) honest)
 
-pub returns-then-remains-clause-replaces : goal.returns-then-remains-clause-replaces
-returns-then-remains-clause-replaces g c honest start s terms is_open made within r =
+pub returns-then-remains-eq0-clause-replaces : goal.returns-then-remains-eq0-clause-replaces
+returns-then-remains-eq0-clause-replaces g c honest start s terms is_open made within r =
     let st = g.D.Disk.state in
     let old = c.args.self.now in
     let tests = tests_in c.args.filter.now in
@@ -36,7 +36,7 @@ returns-then-remains-clause-replaces g c honest start s terms is_open made withi
     let done = c.in_ok-remains in
     let here = at st start old s is_open tests place removed r within in
     let are = done.ensures.stands honest here.file here.group here.file_at (held st start old s is_open tests place removed r within terms made) (fit st start old s is_open tests place removed r within) in
-    stays_on st start old s is_open tests place removed r within done.remains are c.if-remains.true vault (done.ensures.effect.unchanged honest) done.ensures.effect.counts.later
+    stays_on st start old s is_open tests place removed r within done.remains are c.if-remains-eq0.true vault (done.ensures.effect.unchanged honest) done.ensures.effect.counts.later
 
 pub returns-clause-replaces : goal.returns-clause-replaces
 returns-clause-replaces g c honest start s terms is_open made within r =
@@ -50,7 +50,7 @@ returns-clause-replaces g c honest start s terms is_open made within r =
     let rest = done.remains in
     let here = at st start old s is_open tests place removed r within in
     let are = done.ensures.stands honest here.file here.group here.file_at (held st start old s is_open tests place removed r within terms made) (fit st start old s is_open tests place removed r within) in
-    let some : 1 ≤ rest.gone = omega (arith, c.if-remains.false) in
+    let some : 1 ≤ rest.gone = omega (arith, c.if-remains-eq0.false) in
     let mid = record old { vault = vault } in
     let new = c.put_remains.new.self in
     let has = has_read st start old s is_open vault (done.ensures.effect.unchanged honest) done.ensures.effect.counts.later _ (files_come r.outcomes) (groups_come r.outcomes) r.written in
