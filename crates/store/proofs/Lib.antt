@@ -88,3 +88,9 @@ pub mod WholeRows
 pub mod Steps
 pub mod Stepped
 pub mod SourcePlaces
+pub mod Remains
+pub mod Replacing
+pub mod Removed
+pub mod Replaced
+pub mod Judged
+pub mod Removals

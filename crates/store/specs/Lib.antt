@@ -28,3 +28,4 @@ pub mod Passing
 pub mod Counting
 pub mod Completing
 pub mod Stepping
+pub mod Removing

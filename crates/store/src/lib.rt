@@ -34,6 +34,7 @@ mod part;
 mod passing;
 mod reading_on;
 mod reading_once;
+mod remaining;
 mod removing;
 mod reopening;
 mod restart;
