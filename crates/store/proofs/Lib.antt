@@ -84,3 +84,7 @@ pub mod StageFine
 pub mod CommitLeft
 pub mod CommitOn
 pub mod CommitDone
+pub mod RunParts
+pub mod RunReads
+pub mod RunShown
+pub mod RunsBrought

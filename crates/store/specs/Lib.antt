@@ -27,3 +27,5 @@ pub mod Reading
 pub mod Passing
 pub mod Counting
 pub mod Completing
+pub mod Stepping
+pub mod Rewritten
