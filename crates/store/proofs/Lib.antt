@@ -88,3 +88,5 @@ pub mod RunParts
 pub mod RunReads
 pub mod RunShown
 pub mod RunsBrought
+pub mod RewriteHeld
+pub mod RewriteDone
