@@ -84,6 +84,7 @@ pub mod StageFine
 pub mod CommitLeft
 pub mod CommitOn
 pub mod CommitDone
+pub mod WholeRows
 pub mod RunParts
 pub mod RunReads
 pub mod RunShown

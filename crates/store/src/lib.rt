@@ -32,6 +32,7 @@ mod making;
 mod opening;
 mod part;
 mod passing;
+mod reading_on;
 mod reading_once;
 mod removing;
 mod reopening;
