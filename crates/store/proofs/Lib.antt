@@ -91,3 +91,4 @@ pub mod RunShown
 pub mod RunsBrought
 pub mod RewriteHeld
 pub mod RewriteDone
+pub mod RunByRun

@@ -38,9 +38,8 @@ use Rattle.store.specs.Lookups.{job_at}
 use Rattle.store.specs.Staging.{is_append, finds_append, is_nothing, finds_nothing}
 use Rattle.store.specs.Acting.{WroteTo}
 use Rattle.store.specs.Filling.{HasWritten}
-use Rattle.store.specs.Rewritten.{IsRewriteAt, runs_at, kept_at, IsSource, AreSources, IsRunIn, AreRuns}
+use Rattle.store.specs.Rewritten.{IsRewriteAt, kept_at, numbers_of_runs, IsSource, AreSources, IsRunIn, AreRuns}
 use Rattle.store.proofs.Asked.{commit_fault}
-use Rattle.store.proofs.Brought.{stored_append}
 use Rattle.store.proofs.Ends.{found_open}
 use Rattle.store.proofs.Events.{job_found}
 use Rattle.store.proofs.Kept.{same_numbers}
@@ -119,20 +118,22 @@ module _ {D : Type 0} (state : D → DiskState) (old : Store D) (s : State) (sta
     abbrev Shown : Sources → List Group → Type 0
     Shown shown run = ShowsRun disk s.table.keys s.table.schema s.next_group s.options.group_rows s.had here_held.pins shown run
 
-    abbrev files_of_runs : List Sources → List FileGroup
-    files_of_runs shown = flat_map (λ gs. gs) (sources_view shown)
+    run_numbers : (shown : List Sources) (gss : List (List Group)) → AllZip Shown shown gss → numbers_of_runs (sources_view shown) ≡ numbers (sources gss)
+    run_numbers [] [] z = refl
+    run_numbers (x ∷ xs) (run ∷ gss) z =
+        (λ i. same_numbers disk s.table.keys s.table.schema s.next_group (handles_view x.groups.items) run z.0.sources i ++ run_numbers xs gss z.1 i) ∙ sym (both run (sources gss))
+      where
+        both : (as bs : List Group) → numbers (as ++ bs) ≡ numbers as ++ numbers bs
+        both [] bs = refl
+        both (a ∷ as) bs = ap (λ (ns : List ℕ). a.number ∷ ns) (both as bs)
+    run_numbers [] (run ∷ gss) z = absurd z
+    run_numbers (x ∷ xs) [] z = absurd z
 
-    stored_runs : (shown : List Sources) (gss : List (List Group)) → AllZip Shown shown gss → AreStored disk s.table.keys s.table.schema s.next_group (files_of_runs shown) (sources gss)
-    stored_runs [] [] z = tt
-    stored_runs (x ∷ xs) (run ∷ gss) z = stored_append disk s.table.keys s.table.schema s.next_group (handles_view x.groups.items) (files_of_runs xs) run (sources gss) z.0.sources (stored_runs xs gss z.1)
-    stored_runs [] (run ∷ gss) z = absurd z
-    stored_runs (x ∷ xs) [] z = absurd z
-
-    pub source_numbers : numbers_of (files_of_runs r.runs.items) ≡ numbers (sources runs)
-    source_numbers = same_numbers disk s.table.keys s.table.schema s.next_group (files_of_runs r.runs.items) (sources runs) (stored_runs r.runs.items runs here_held.shows.each)
+    pub source_numbers : numbers_of_runs (sources_view r.runs.items) ≡ numbers (sources runs)
+    source_numbers = run_numbers r.runs.items runs here_held.shows.each
 
     -- whether the sources are there decides
-    pub fault_is : s.next_group < 9223372036854775808 → (b : Bool) (ns : List ℕ) → ns ≡ numbers_of (files_of_runs r.runs.items) → list_all (is_among (numbers_of (root_of old.manifest).groups)) ns ≡ b → fault s (commit n) ≡ first (None ∷ None ∷ None ∷ unless b Stale ∷ [])
+    pub fault_is : s.next_group < 9223372036854775808 → (b : Bool) (ns : List ℕ) → ns ≡ numbers_of_runs (sources_view r.runs.items) → list_all (is_among (numbers_of (root_of old.manifest).groups)) ns ≡ b → fault s (commit n) ≡ first (None ∷ None ∷ None ∷ unless b Stale ∷ [])
     fault_is low b ns told all =
         let same : numbers_of (root_of old.manifest).groups ≡ numbers s.table.groups = same_numbers disk s.table.keys s.table.schema s.next_group (root_of old.manifest).groups s.table.groups (stands.shows.shown is_open).version in
         let there : list_all (is_among (numbers s.table.groups)) (numbers (sources runs)) ≡ b

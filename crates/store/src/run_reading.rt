@@ -39,10 +39,11 @@ impl<D: Disk> Store<D> {
         ensures honest { (D.state self.old.vault.disk).honest ↔ (D.state self.new.vault.disk).honest }
     {
         let mut rows = Vec::new(alloc);
-        for i in 0..groups.len() {
-            let at = place_after(place, i)?;
-            let mut more = self.source_rows(alloc, job, at, &groups[i])?;
+        let mut at = place;
+        for group in groups {
+            let mut more = self.source_rows(alloc, job, at, group)?;
             rows.append(&mut more)?;
+            at = place_after(at, 1)?;
         }
         Ok(rows)
     }

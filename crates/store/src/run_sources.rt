@@ -1,6 +1,6 @@
 //! The sources of a rewrite that commits: handles of them, and what was read of them.
 
-ghost use Rattle.std.specs.Prelude.{◌≡◌, ◌++◌, ◌+◌, option_map, flat_map, IfOk, OnOk};
+ghost use Rattle.std.specs.Prelude.{◌≡◌, ◌++◌, ◌+◌, option_map, IfOk, OnOk};
 ghost use Rattle.std.specs.List.{slice_get};
 ghost use Rattle.bits.specs.Refusals.{RefusedMemoryOnly};
 ghost use Rattle.schema.specs.Views.{rows_view};
@@ -9,7 +9,7 @@ ghost use Rattle.planning.specs.Runs.{sources_view};
 ghost use Rattle.planning.specs.Replaced.{run_view};
 ghost use Rattle.store.specs.Completing.{completed_rows};
 ghost use Rattle.store.specs.Lookups.{job_at};
-ghost use Rattle.store.specs.Rewritten.{runs_of_work, runs_at, kept_of_work, kept_at};
+ghost use Rattle.store.specs.Rewritten.{runs_of_work, runs_at, kept_of_work, kept_at, numbers_of_runs};
 
 use crate::append_work::push_handles;
 use crate::completing::completed_rows;
@@ -60,7 +60,7 @@ fn copied_runs(alloc: Global, runs: &[Sources]) -> R<Vec<Sources>>
 
 /// The numbers of all sources, in the order of the runs.
 pub(crate) fn numbers_of_runs(alloc: Global, runs: &[Sources]) -> R<Vec<u64>>
-    ensures told { IfOk result (λ ns. ns.items ≡ numbers_of (flat_map (λ gs. gs) (sources_view runs.now))) }
+    ensures told { IfOk result (λ ns. ns.items ≡ numbers_of_runs (sources_view runs.now)) }
     ensures which { RefusedMemoryOnly result }
 {
     let mut numbers = Vec::new(alloc);
