@@ -38,7 +38,7 @@ use Rattle.store.specs.Lookups.{job_at}
 use Rattle.store.specs.Staging.{is_append, finds_append, is_nothing, finds_nothing}
 use Rattle.store.specs.Acting.{WroteTo}
 use Rattle.store.specs.Filling.{HasWritten}
-use Rattle.store.specs.Rewritten.{IsRewriteAt, kept_at, numbers_of_runs, IsSource, AreSources, IsRunIn, AreRuns}
+use Rattle.store.specs.Rewritten.{IsRewriteAt, runs_at, runs_of_work, kept_at, numbers_of_runs, IsSource, AreSources, IsRunIn, AreRuns}
 use Rattle.store.proofs.Asked.{commit_fault}
 use Rattle.store.proofs.Ends.{found_open}
 use Rattle.store.proofs.Events.{job_found}
@@ -54,6 +54,10 @@ rewrite_there x o is other some = by x.work refl (ap finds_append (sym is) ∙ o
     by : (w : Work) → x.work ≡ w → is_append x.work ≡ false → is_nothing x.work ≡ false → (r : Rewriting) × (x.work ≡ Rewrite r) × (r.runs.items ≡ [] → ⊥)
     by (Append a) e f g = let c : true ≡ false = sym (ap is_append e) ∙ f in absurd (cc)
     by (Rewrite r) e f g = (r, e, λ none. let c : true ≡ false = sym (ap is_nothing e ∙ ap (λ (xs : List Sources). nat_eq (length xs) 0) none) ∙ g in cc)
+
+-- its runs, as they are looked up
+pub runs_told : (n : ℕ) (jobs : List OpenJob) (r : Rewriting) → IsRewriteAt n jobs r → runs_at (job_at n jobs) ≡ sources_view r.runs.items
+runs_told n jobs r at = ap runs_at at.1 ∙ ap runs_of_work at.2
 
 -- ---- what is kept
 

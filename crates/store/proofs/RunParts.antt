@@ -4,7 +4,7 @@ use Rattle.std.specs.Prelude.{if◌then◌else◌, ◌==◌, IsTrue}
 use Rattle.std.specs.List.{AllByRecursion}
 use Rattle.std.proofs.Common.{eq-eqb}
 use Rattle.std.proofs.lemmas.Bool.{and_from, lt-ltb}
-use Rattle.std.proofs.lemmas.List.{append-nil, length-append, length-map, length-take, length-drop, take-append-drop, take-take, drop-drop, drop_all}
+use Rattle.std.proofs.lemmas.List.{append-nil, length-append, length-map, length-take, length-drop, take-append-drop, take-take, take-map, drop-map, drop-drop, drop_all}
 use Rattle.bits.specs.declared.refusal.Refusal.{Refusal}
 use Rattle.bits.specs.declared.refusal.Refusal.TheVariants.{Limit, Device, Memory, NoJob, RowShape, Key as BadKey}
 use Rattle.bits.specs.Refusals.{HasCause}
@@ -206,3 +206,7 @@ module _ {D : Type 0} (state : D → DiskState) (start : Store D) (s : State) (n
             sized = λ again. all_append (HasSize size) p.added (g ∷ []) (p.sized some) (grind (arith, long, rest, again), tt);
             no_more = let a = p.no_more in let b = one.no_more in let c = at_least in grind (arith, rest, a, b, c, some);
           }
+
+-- what is left of some rows, and what is taken of them
+pub rows_left : {A B : Type 0} (f : A → B) (n : ℕ) (xs : List A) → (map f (take n xs) ≡ take n (map f xs)) × (map f (drop n xs) ≡ drop n (map f xs))
+rows_left f n xs = (sym (take-map f n xs), sym (drop-map f n xs))

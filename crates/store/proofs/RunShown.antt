@@ -35,7 +35,7 @@ rows_of all f = rows_at all f.number
 -- no later one has the number of the first
 later_other : (n : ℕ) (hs : List Group) → is_among (numbers hs) n ≡ false → AllByRecursion (λ (h : Group). nat_eq n h.number ≡ false) hs
 later_other n [] e = tt
-later_other n (h ∷ hs) e = by (nat_eq n h.number) refl
+later_other n (h ∷ hs) e = by (nat_eq n h.number) refl (later_other n hs)
   where
     rest : (b : Bool) → (b || is_among (numbers hs) n) ≡ false → is_among (numbers hs) n ≡ false
     rest false f = f
@@ -45,9 +45,9 @@ later_other n (h ∷ hs) e = by (nat_eq n h.number) refl
     clash true c f k = cc
     clash false c f k = cc
 
-    by : (b : Bool) → nat_eq n h.number ≡ b → AllByRecursion (λ (x : Group). nat_eq n x.number ≡ false) (h ∷ hs)
-    by false f = (f, later_other n hs (rest (nat_eq h.number n) e))
-    by true f = absurd (clash (nat_eq h.number n) (is_among (numbers hs) n) (eq-eqb h.number n (sym (eqb-true n h.number f))) e)
+    by : (b : Bool) → nat_eq n h.number ≡ b → (is_among (numbers hs) n ≡ false → AllByRecursion (λ (x : Group). nat_eq n x.number ≡ false) hs) → AllByRecursion (λ (x : Group). nat_eq n x.number ≡ false) (h ∷ hs)
+    by false f others = (f, others (rest (nat_eq h.number n) e))
+    by true f others = absurd (clash (nat_eq h.number n) (is_among (numbers hs) n) (eq-eqb h.number n (sym (eqb-true n h.number f))) e)
 
 pub each_at : (all : List Group) → AreDistinct (numbers all) → AllByRecursion (λ (g : Group). rows_at all g.number ≡ g.rows) all
 each_at [] d = tt
@@ -152,12 +152,12 @@ numbers_joined_of (f ∷ fs) gs = ap (λ (ns : List ℕ). f.number ∷ ns) (numb
 -- what comes for a number that is there is there
 come_there : (cs : List Change) (n : ℕ) (come : List FileGroup) → come_for cs n ≡ Some come → (gs : List FileGroup) → is_among (numbers_of gs) n ≡ true → (m : ℕ) → is_among (numbers_of come) m ≡ true → is_among (numbers_of (replaced cs gs)) m ≡ true
 come_there cs n come is [] there m h = absurd (cc)
-come_there cs n come is (g ∷ gs) there m h = subst (λ (ns : List ℕ). is_among ns m ≡ true) (sym (numbers_joined_of (or_itself g (come_for cs g.number)) (replaced cs gs))) (by (nat_eq g.number n) refl there)
+come_there cs n come is (g ∷ gs) there m h = subst (λ (ns : List ℕ). is_among ns m ≡ true) (sym (numbers_joined_of (or_itself g (come_for cs g.number)) (replaced cs gs))) (by (nat_eq g.number n) refl there (λ f. come_there cs n come is gs f m h))
   where
-    by : (b : Bool) → nat_eq g.number n ≡ b → (b || is_among (numbers_of gs) n) ≡ true → is_among (numbers_of (or_itself g (come_for cs g.number)) ++ numbers_of (replaced cs gs)) m ≡ true
-    by true e f = among_front (numbers_of (or_itself g (come_for cs g.number))) (numbers_of (replaced cs gs)) m
+    by : (b : Bool) → nat_eq g.number n ≡ b → (b || is_among (numbers_of gs) n) ≡ true → (is_among (numbers_of gs) n ≡ true → is_among (numbers_of (replaced cs gs)) m ≡ true) → is_among (numbers_of (or_itself g (come_for cs g.number)) ++ numbers_of (replaced cs gs)) m ≡ true
+    by true e f later = among_front (numbers_of (or_itself g (come_for cs g.number))) (numbers_of (replaced cs gs)) m
         (subst (λ (o : Option (List FileGroup)). is_among (numbers_of (or_itself g o)) m ≡ true) (sym (ap (come_for cs) (eqb-true g.number n e) ∙ is)) h)
-    by false e f = among_back (numbers_of (or_itself g (come_for cs g.number))) (numbers_of (replaced cs gs)) m (come_there cs n come is gs f m h)
+    by false e f later = among_back (numbers_of (or_itself g (come_for cs g.number))) (numbers_of (replaced cs gs)) m (later f)
 
 -- so it is of the first run
 pub first_there : (r : Run) (rs : List Run) (n : ℕ) (ns : List ℕ) → r.sources ≡ n ∷ ns → (gs : List FileGroup) → is_among (numbers_of gs) n ≡ true → (m : ℕ) → is_among (numbers_of r.come) m ≡ true → is_among (numbers_of (replaced (changes_of (r ∷ rs)) gs)) m ≡ true
@@ -202,7 +202,7 @@ among_runs [] gs s m e = absurd (cc)
 among_runs (run ∷ runs) gs s m e =
     subst (λ (hs : List Group). is_among (numbers hs) m ≡ true) (sym s.2)
     (subst (λ (ns : List ℕ). is_among ns m ≡ true) (sym (numbers_two s.0 (run ++ s.1) ∙ ap (λ (ns : List ℕ). numbers s.0 ++ ns) (numbers_two run s.1)))
-    (among_back (numbers s.0) (numbers run ++ numbers s.1) m (either (is_among (numbers run) m) refl)))
+    (among_back (numbers s.0) (numbers run ++ numbers s.1) m (either (is_among (numbers run) m) refl (among_runs runs s.1 s.4 m))))
   where
     other : (ns ms : List ℕ) → is_among (ns ++ ms) m ≡ true → is_among ns m ≡ false → is_among ms m ≡ true
     other ns ms f k = by (is_among ms m) refl
@@ -211,13 +211,14 @@ among_runs (run ∷ runs) gs s m e =
         by true g = g
         by false g = let c : true ≡ false = sym f ∙ none_joined ns ms m k g in absurd (cc)
 
-    either : (b : Bool) → is_among (numbers run) m ≡ b → is_among (numbers run ++ numbers s.1) m ≡ true
-    either true f = among_front (numbers run) (numbers s.1) m f
-    either false f = among_back (numbers run) (numbers s.1) m (among_runs runs s.1 s.4 m (other (numbers run) (numbers_in_all (map numbers runs)) e f))
+    either : (b : Bool) → is_among (numbers run) m ≡ b → (is_among (numbers_in_all (map numbers runs)) m ≡ true → is_among (numbers s.1) m ≡ true) → is_among (numbers run ++ numbers s.1) m ≡ true
+    either true f later = among_front (numbers run) (numbers s.1) m f
+    either false f later = among_back (numbers run) (numbers s.1) m (later (other (numbers run) (numbers_in_all (map numbers runs)) e f))
 
-pub picked : (runs : List (List Group)) (gs : List Group) → StandInRows runs gs → AreDistinct (numbers gs) → with_numbers (numbers_in_all (map numbers runs)) gs ≡ sources runs
-picked [] gs s d = none_picked [] gs (each_of_numbers (λ m. is_among [] m ≡ false) gs (λ m e. refl))
-picked (run ∷ runs) gs s d =
+-- a run, and those after it
+picked_more : (run : List Group) (runs : List (List Group)) (gs : List Group) (s : StandInRows (run ∷ runs) gs) → AreDistinct (numbers gs) → (AreDistinct (numbers s.1) → with_numbers (numbers_in_all (map numbers runs)) s.1 ≡ sources runs)
+    → with_numbers (numbers_in_all (map numbers (run ∷ runs))) gs ≡ sources (run ∷ runs)
+picked_more run runs gs s d later =
     ap (with_numbers all) s.2 ∙ filter-append (λ (g : Group). is_among all g.number) s.0 (run ++ s.1) ∙ ap (λ (hs : List Group). hs ++ with_numbers all (run ++ s.1)) front
     ∙ filter-append (λ (g : Group). is_among all g.number) run s.1 ∙ (λ i. own i ++ rest i)
   where
@@ -255,4 +256,8 @@ picked (run ∷ runs) gs s d =
 
     rest : with_numbers all s.1 ≡ sources runs
     rest = same_picked all (numbers_in_all (map numbers runs)) s.1 (each_of_numbers (λ m. is_among all m ≡ is_among (numbers_in_all (map numbers runs)) m) s.1 (λ m e. same m (shared_back (numbers run) (numbers s.1) (shared_none (numbers run) (numbers s.1) behind) m e)))
-        ∙ picked runs s.1 s.4 (distinct_back (numbers run) (numbers s.1) behind)
+        ∙ later (distinct_back (numbers run) (numbers s.1) behind)
+
+pub picked : (runs : List (List Group)) (gs : List Group) → StandInRows runs gs → AreDistinct (numbers gs) → with_numbers (numbers_in_all (map numbers runs)) gs ≡ sources runs
+picked [] gs s d = none_picked [] gs (each_of_numbers (λ m. is_among [] m ≡ false) gs (λ m e. refl))
+picked (run ∷ runs) gs s d = picked_more run runs gs s d (picked runs s.1 s.4)

@@ -309,11 +309,11 @@ module _ {D : Type 0} (state : D → DiskState) (old mid : Store D) (s : State) 
         where
           at_file : (m : ℕ) (gs : List FileGroup) → AllByRecursion (λ (g : FileGroup). s.had g.number ≡ false) gs → is_among (numbers_of gs) m ≡ true → s.had m ≡ false
           at_file m [] a e = absurd (cc)
-          at_file m (g ∷ gs) a e = one (nat_eq g.number m) refl e
+          at_file m (g ∷ gs) a e = one (nat_eq g.number m) refl (at_file m gs a.1) e
             where
-              one : (b : Bool) → nat_eq g.number m ≡ b → (b || is_among (numbers_of gs) m) ≡ true → s.had m ≡ false
-              one true k f = subst (λ (k : ℕ). s.had k ≡ false) (eqb-true g.number m k) a.0
-              one false k f = at_file m gs a.1 f
+              one : (b : Bool) → nat_eq g.number m ≡ b → (is_among (numbers_of gs) m ≡ true → s.had m ≡ false) → (b || is_among (numbers_of gs) m) ≡ true → s.had m ≡ false
+              one true k later f = subst (λ (j : ℕ). s.had j ≡ false) (eqb-true g.number m k) a.0
+              one false k later f = later f
 
   -- ---- the table then
 
@@ -378,14 +378,13 @@ module _ {D : Type 0} (state : D → DiskState) (old mid : Store D) (s : State) 
           where
             every : (ns : List ℕ) → list_all (is_among (numbers s.table.groups)) ns ≡ true → (k : ℕ) → is_among ns k ≡ true → is_among (numbers s.table.groups) k ≡ true
             every [] e k f = absurd (cc)
-            every (m ∷ ns) e k f = one (nat_eq m k) refl f
+            every (m ∷ ns) e k f =
+                let p = and_parts (is_among (numbers s.table.groups) m) (list_all (is_among (numbers s.table.groups)) ns) e in
+                one (nat_eq m k) refl p.0 (every ns p.1 k) f
               where
-                p : (is_among (numbers s.table.groups) m ≡ true) × (list_all (is_among (numbers s.table.groups)) ns ≡ true)
-                p = and_parts (is_among (numbers s.table.groups) m) (list_all (is_among (numbers s.table.groups)) ns) e
-
-                one : (b : Bool) → nat_eq m k ≡ b → (b || is_among ns k) ≡ true → is_among (numbers s.table.groups) k ≡ true
-                one true same g = subst (λ (j : ℕ). is_among (numbers s.table.groups) j ≡ true) (eqb-true m k same) p.0
-                one false same g = every ns p.1 k g
+                one : (b : Bool) → nat_eq m k ≡ b → is_among (numbers s.table.groups) m ≡ true → (is_among ns k ≡ true → is_among (numbers s.table.groups) k ≡ true) → (b || is_among ns k) ≡ true → is_among (numbers s.table.groups) k ≡ true
+                one true same here later g = subst (λ (j : ℕ). is_among (numbers s.table.groups) j ≡ true) (eqb-true m k same) here
+                one false same here later g = later g
 
         by : (ns : List ℕ) → AllByRecursion (λ m. is_among (numbers (sources runs)) m ≡ true) ns → has_groups olds ns ≡ true
         by [] a = refl
