@@ -1,15 +1,20 @@
 -- Runs that are read and written, one after another.
 use Rattle.std.proofs.Common.{◌≡◌, ◌≤◌, ◌<◌, ◌+◌, ℕ, zero, suc, List, [], ◌∷◌, ◌++◌, map, flat_map, length, drop, Option, Some, refl, sym, ◌∙◌, ap, subst, arith, append_assoc}
-use Rattle.std.specs.Prelude.{Contains}
+use Rattle.std.specs.Prelude.{Contains, Result, Ok, Err, IfOk}
 use Rattle.std.specs.List.{AllByRecursion, AllZip}
-use Rattle.std.proofs.lemmas.List.{append-nil, length-append}
+use Rattle.std.proofs.lemmas.List.{append-nil, length-append, length-map, drop-map}
+use Rattle.std.specs.declared.rc.Rc.{Rc}
+use Rattle.std.specs.declared.alloc.Global.{Global}
+use Rattle.manifest.specs.declared.group.Group.{Group as CodeGroup}
 use Rattle.bits.specs.declared.refusal.Refusal.{Refusal}
 use Rattle.bits.specs.declared.refusal.Refusal.TheVariants.{Limit, Device, Memory}
+use Rattle.bits.specs.Refusals.{RefusedMemoryOnly}
 use Rattle.schema.specs.Keys.{AreKeys}
 use Rattle.disk.specs.State.{State as DiskState}
 use Rattle.partition.specs.Folders.{CanPartition}
-use Rattle.manifest.specs.Groups.{Group as FileGroup, numbers_of}
-use Rattle.planning.specs.Replaced.{Run}
+use Rattle.manifest.specs.Groups.{Group as FileGroup, handles_view, numbers_of}
+use Rattle.planning.specs.declared.change.Run.{Run as CodeRun}
+use Rattle.planning.specs.Replaced.{Run, run_view}
 use Rattle.planning.specs.Numbered.{brought_by}
 use Rattle.table.specs.Table.{Row, Key, Group, IsGroupIn, IsRowIn, rows, numbers}
 use Rattle.table.specs.State.{State, sources}
@@ -19,7 +24,7 @@ use Rattle.store.specs.declared.jobs.OpenJob.{OpenJob}
 use Rattle.store.specs.Lookups.{job_at}
 use Rattle.store.specs.Stands.{AreStored}
 use Rattle.store.specs.Filling.{HasWritten, Goes}
-use Rattle.store.specs.Rewritten.{IsSource, AreSources, IsRunIn, AreRuns, WhyHalted, IsHalted, NoPart, HasAdded, IsNew, AreNew, HasRewritten, HasRewrittenOne}
+use Rattle.store.specs.Rewritten.{IsSource, AreSources, IsRunIn, AreRuns, WhyHalted, IsHalted, NoPart, HasAdded, IsNew, AreNew, HasRewritten, HasRewrittenOne, RewritesOne}
 use Rattle.store.proofs.Brought.{all_append}
 
 -- ---- the rows of a run
@@ -92,6 +97,27 @@ module _ {D : Type 0} (state : D → DiskState) (start : Store D) (s : State) (n
       skip : (xs ys : List FileGroup) → drop (length xs) (xs ++ ys) ≡ ys
       skip [] ys = refl
       skip (x ∷ xs) ys = skip xs ys
+
+  -- the run that is made of it
+  pub one_made : (mid new : Store D) (was files : List FileGroup) (groups run : List Group) (fs : List FileGroup) (place : ℕ) → HasWritten state start mid s (Some n) was groups → AreSources (state start.vault.disk) s (job_at n start.jobs.items) place fs run → (is : IsRunIn s run)
+      → (number : ℕ) → (added : HasAdded state start new s (Some n) was files groups is.key (rows run) (number + length (rows run))) → (o : Result CodeRun Refusal) → IfOk o (λ r. run_view r ≡ record { sources = numbers_of fs; come = drop (length was) files }) → RefusedMemoryOnly o
+      → RewritesOne state start new s (Some n) was files groups run number o
+  one_made mid new was files groups run fs place has are is number added (Ok r) made which = one_run mid new was files groups run fs place has are is (number + length (rows run)) added (run_view r) (ap (λ (q : Run). q.sources) made) (ap (λ (q : Run). q.come) made)
+  one_made mid new was files groups run fs place has are is number added (Err Memory) made which = record { wrote = added.written.wrote; no_more = added.no_more; why = tt }
+  one_made mid new was files groups run fs place has are is number added (Err e) made which = absurd which
+
+-- the handles behind so many
+pub behind_first : (first : ℕ) (was files : List (Rc CodeGroup Global)) (come : List (Rc CodeGroup Global)) → first ≡ length was → come ≡ drop first files → handles_view come ≡ drop (length (handles_view was)) (handles_view files)
+behind_first first was files come many is =
+    ap handles_view is ∙ sym (drop-map _ first files) ∙ ap (λ (k : ℕ). drop k (handles_view files)) (many ∙ sym (length-map was _))
+
+pub come_told : (was files : List FileGroup) (ns : List ℕ) (o : Result CodeRun Refusal) → IfOk o (λ r. run_view r ≡ record { sources = ns; come = drop (length was) files }) → Goes was files → IfOk o (λ r. files ≡ was ++ (run_view r).come)
+come_told was files ns (Ok r) made goes = goes.1 ∙ ap (λ (gs : List FileGroup). was ++ gs) (sym (ap (λ (q : Run). q.come) made ∙ ap (drop (length was)) goes.1 ∙ skip was goes.0))
+  where
+    skip : (xs ys : List FileGroup) → drop (length xs) (xs ++ ys) ≡ ys
+    skip [] ys = refl
+    skip (x ∷ xs) ys = skip xs ys
+come_told was files ns (Err e) made goes = tt
 
 -- ---- all runs
 

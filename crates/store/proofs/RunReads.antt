@@ -51,15 +51,15 @@ module _ {D : Type 0} (state : D → DiskState) (start mid : Store D) (s : State
   stored_there f g z = stored_on s.table.keys s.next_group s.next_group (omega arith) Any (IsBelow s.table.keys s.next_group) (λ h low held. inr (part_below s.table.keys s.next_group h low)) (state start.vault.disk) (state mid.vault.disk) has.wrote.spares s.table.schema
       (f ∷ []) (g ∷ []) (all_any (f ∷ [])) (z, tt)
 
+  abbrev Held : FileGroup → Group → List KeyColumn → Fields → Type 0
+  Held f g ks fs = AreKeys ks fs × AreStored (state mid.vault.disk) ks fs s.next_group (f ∷ []) (g ∷ []) × AllByRecursion (IsGroup ks (without_keys ks fs)) (f ∷ [])
+
+  held_made : (f : FileGroup) (g : Group) → Held f g root.keys root.schema → IsHeld (state mid.vault.disk) [] root f g
+  held_made f g h = record { over = ([], refl); keyed = h.0; count = s.next_group; stored = h.1; described = h.2 }
+
   -- it can be read
   pub source_held : (kept : Option (List Row)) (f : FileGroup) (g : Group) → IsSource (state start.vault.disk) s kept f g → IsHeld (state mid.vault.disk) [] root f g
-  source_held kept f g z = made (subst (λ (ks : List KeyColumn). Held ks root.schema) (sym has.wrote.shows.keys) (subst (λ (fs : Fields). Held s.table.keys fs) (sym has.wrote.shows.schema) (has.wrote.shows.valid.keys, stored_there f g z.stored, (z.described, tt))))
-    where
-      abbrev Held : List KeyColumn → Fields → Type 0
-      Held ks fs = AreKeys ks fs × AreStored (state mid.vault.disk) ks fs s.next_group (f ∷ []) (g ∷ []) × AllByRecursion (IsGroup ks (without_keys ks fs)) (f ∷ [])
-
-      made : Held root.keys root.schema → IsHeld (state mid.vault.disk) [] root f g
-      made h = record { over = ([], refl); keyed = h.0; count = s.next_group; stored = h.1; described = h.2 }
+  source_held kept f g z = held_made f g (subst (λ (ks : List KeyColumn). Held f g ks root.schema) (sym has.wrote.shows.keys) (subst (λ (fs : Fields). Held f g s.table.keys fs) (sym has.wrote.shows.schema) (has.wrote.shows.valid.keys, stored_there f g z.stored, (z.described, tt))))
 
   -- what was read of it before, completed, is its rows
   pub source_kept : (kept : Option (List Row)) (f : FileGroup) (g : Group) → IsSource (state start.vault.disk) s kept f g → (fs : Fields) → fs ≡ s.table.schema → (v : Vec CodeRow Global)

@@ -215,16 +215,17 @@ among_runs (run ∷ runs) gs s m e =
     either true f later = among_front (numbers run) (numbers s.1) m f
     either false f later = among_back (numbers run) (numbers s.1) m (later (other (numbers run) (numbers_in_all (map numbers runs)) e f))
 
+-- the numbers of a run, and of those after it
+abbrev numbers_with : List Group → List (List Group) → List ℕ
+numbers_with run runs = numbers run ++ numbers_in_all (map numbers runs)
+
 -- a run, and those after it
 picked_more : (run : List Group) (runs : List (List Group)) (gs : List Group) (s : StandInRows (run ∷ runs) gs) → AreDistinct (numbers gs) → (AreDistinct (numbers s.1) → with_numbers (numbers_in_all (map numbers runs)) s.1 ≡ sources runs)
     → with_numbers (numbers_in_all (map numbers (run ∷ runs))) gs ≡ sources (run ∷ runs)
 picked_more run runs gs s d later =
-    ap (with_numbers all) s.2 ∙ filter-append (λ (g : Group). is_among all g.number) s.0 (run ++ s.1) ∙ ap (λ (hs : List Group). hs ++ with_numbers all (run ++ s.1)) front
-    ∙ filter-append (λ (g : Group). is_among all g.number) run s.1 ∙ (λ i. own i ++ rest i)
+    ap (with_numbers (numbers_with run runs)) s.2 ∙ filter-append (λ (g : Group). is_among (numbers_with run runs) g.number) s.0 (run ++ s.1) ∙ ap (λ (hs : List Group). hs ++ with_numbers (numbers_with run runs) (run ++ s.1)) front
+    ∙ filter-append (λ (g : Group). is_among (numbers_with run runs) g.number) run s.1 ∙ (λ i. own i ++ rest i)
   where
-    all : List ℕ
-    all = numbers run ++ numbers_in_all (map numbers runs)
-
     parts : AreDistinct (numbers s.0 ++ (numbers run ++ numbers s.1))
     parts = subst AreDistinct (numbers_two s.0 (run ++ s.1) ∙ ap (λ (ns : List ℕ). numbers s.0 ++ ns) (numbers_two run s.1)) (subst (λ (hs : List Group). AreDistinct (numbers hs)) s.2 d)
 
@@ -238,24 +239,24 @@ picked_more run runs gs s d later =
     none_after : (m : ℕ) → is_among (numbers s.1) m ≡ false → is_among (numbers_in_all (map numbers runs)) m ≡ false
     none_after m e = not_true (is_among (numbers_in_all (map numbers runs)) m) (λ h. let c : true ≡ false = sym (among_runs runs s.1 s.4 m h) ∙ e in cc)
 
-    front : with_numbers all s.0 ≡ []
-    front = none_picked all s.0 (each_of_numbers (λ m. is_among all m ≡ false) s.0 (λ m e.
+    front : with_numbers (numbers_with run runs) s.0 ≡ []
+    front = none_picked (numbers_with run runs) s.0 (each_of_numbers (λ m. is_among (numbers_with run runs) m ≡ false) s.0 (λ m e.
         let f = off m e in
         none_joined (numbers run) (numbers_in_all (map numbers runs)) m (not_true (is_among (numbers run) m) (λ h. let c : true ≡ false = sym (among_front (numbers run) (numbers s.1) m h) ∙ f in cc))
         (none_after m (not_true (is_among (numbers s.1) m) (λ h. let c : true ≡ false = sym (among_back (numbers run) (numbers s.1) m h) ∙ f in cc)))))
 
-    own : with_numbers all run ≡ run
-    own = all_picked all run (each_of_numbers (λ m. is_among all m ≡ true) run (λ m e. among_front (numbers run) (numbers_in_all (map numbers runs)) m e))
+    own : with_numbers (numbers_with run runs) run ≡ run
+    own = all_picked (numbers_with run runs) run (each_of_numbers (λ m. is_among (numbers_with run runs) m ≡ true) run (λ m e. among_front (numbers run) (numbers_in_all (map numbers runs)) m e))
 
-    same : (m : ℕ) → is_among (numbers run) m ≡ false → is_among all m ≡ is_among (numbers_in_all (map numbers runs)) m
+    same : (m : ℕ) → is_among (numbers run) m ≡ false → is_among (numbers_with run runs) m ≡ is_among (numbers_in_all (map numbers runs)) m
     same m e = by (is_among (numbers_in_all (map numbers runs)) m) refl
       where
-        by : (b : Bool) → is_among (numbers_in_all (map numbers runs)) m ≡ b → is_among all m ≡ is_among (numbers_in_all (map numbers runs)) m
+        by : (b : Bool) → is_among (numbers_in_all (map numbers runs)) m ≡ b → is_among (numbers_with run runs) m ≡ is_among (numbers_in_all (map numbers runs)) m
         by true f = among_back (numbers run) (numbers_in_all (map numbers runs)) m f ∙ sym f
         by false f = none_joined (numbers run) (numbers_in_all (map numbers runs)) m e f ∙ sym f
 
-    rest : with_numbers all s.1 ≡ sources runs
-    rest = same_picked all (numbers_in_all (map numbers runs)) s.1 (each_of_numbers (λ m. is_among all m ≡ is_among (numbers_in_all (map numbers runs)) m) s.1 (λ m e. same m (shared_back (numbers run) (numbers s.1) (shared_none (numbers run) (numbers s.1) behind) m e)))
+    rest : with_numbers (numbers_with run runs) s.1 ≡ sources runs
+    rest = same_picked (numbers_with run runs) (numbers_in_all (map numbers runs)) s.1 (each_of_numbers (λ m. is_among (numbers_with run runs) m ≡ is_among (numbers_in_all (map numbers runs)) m) s.1 (λ m e. same m (shared_back (numbers run) (numbers s.1) (shared_none (numbers run) (numbers s.1) behind) m e)))
         ∙ later (distinct_back (numbers run) (numbers s.1) behind)
 
 pub picked : (runs : List (List Group)) (gs : List Group) → StandInRows runs gs → AreDistinct (numbers gs) → with_numbers (numbers_in_all (map numbers runs)) gs ≡ sources runs

@@ -1,11 +1,11 @@
 //! The commit of a rewrite.
 
-ghost use Rattle.std.specs.Prelude.{◌≡◌, ◌≢◌, ◌≤◌, ◌<◌, ◌+◌, ◌^◌, ◌↔◌, ℕ, List, Some, None, Result, [], false, true, length, IfOk};
+ghost use Rattle.std.specs.Prelude.{◌≡◌, ◌≢◌, ◌≤◌, ◌<◌, ◌^◌, ◌++◌, ◌↔◌, ℕ, List, Some, None, Result, [], false, true, length, IfOk};
 ghost use Rattle.std.specs.List.{AllByRecursion};
 ghost use Rattle.bits.specs.Refusals.{RefusedMemoryOnly};
 ghost use Rattle.vault.specs.Calls.{HasFailed};
 ghost use Rattle.manifest.specs.Groups.{Group as Described, root_of, groups_in, handles_view};
-ghost use Rattle.planning.specs.Replaced.{runs_view, changes_of, replaced};
+ghost use Rattle.planning.specs.Replaced.{run_view, runs_view, changes_of, replaced};
 ghost use Rattle.planning.specs.Numbered.{brought_by};
 ghost use Rattle.planning.specs.Runs.{sources_view};
 
@@ -97,6 +97,7 @@ impl<D: Disk> Store<D> {
         ensures rewrites { (D.state self.old.vault.disk).honest → (start : Store D) (s : State) (given : List (List TableGroup)) → s.closed ≡ false → self.old.jobs ≡ start.jobs → self.old.next_group ≡ s.next_group
             → written.old.items ≡ [] → HasWritten D.state start self.old s (Some job) [] [] → AreRuns (D.state start.vault.disk) s (job_at job start.jobs.items) 0 (sources_view runs.now) given
             → RewritesAll D.state start self.new s (Some job) (handles_view written.new.items) given result }
+        ensures come { IfOk result (λ made. handles_view written.new.items ≡ handles_view written.old.items ++ brought_by (runs_view made.items)) }
         ensures same { self.new ≡ record self.old { vault = self.new.vault; snapshots = self.new.snapshots; next_group = self.new.next_group } }
         ensures counts { (D.state self.old.vault.disk).failures ≤ (D.state self.new.vault.disk).failures }
         ensures honest { (D.state self.old.vault.disk).honest ↔ (D.state self.new.vault.disk).honest }
@@ -123,6 +124,7 @@ impl<D: Disk> Store<D> {
         ensures rewrites { (D.state self.old.vault.disk).honest → (start : Store D) (s : State) (groups given : List TableGroup) → s.closed ≡ false → self.old.jobs ≡ start.jobs
             → HasWritten D.state start self.old s (Some job) (handles_view written.old.items) groups → AreSources (D.state start.vault.disk) s (job_at job start.jobs.items) place (handles_view run.now.groups.items) given → IsRunIn s given
             → RewritesOne D.state start self.new s (Some job) (handles_view written.old.items) (handles_view written.new.items) groups given self.old.next_group result }
+        ensures come { IfOk result (λ r. handles_view written.new.items ≡ handles_view written.old.items ++ (run_view r).come) }
         ensures same { self.new ≡ record self.old { vault = self.new.vault; snapshots = self.new.snapshots; next_group = self.new.next_group } }
         ensures counts { (D.state self.old.vault.disk).failures ≤ (D.state self.new.vault.disk).failures }
         ensures honest { (D.state self.old.vault.disk).honest ↔ (D.state self.new.vault.disk).honest }

@@ -1,6 +1,6 @@
 //! Rows of one key, written in groups of as many rows as a group has.
 
-ghost use Rattle.std.specs.Prelude.{◌≡◌, ◌≤◌, ◌+◌, ◌↔◌, ℕ, List, Some, false, map, length, min, IfOk};
+ghost use Rattle.std.specs.Prelude.{◌≡◌, ◌≤◌, ◌+◌, ◌↔◌, ℕ, List, Some, false, map, length, min, IfOk, OnOk};
 ghost use Rattle.std.specs.List.{AllByRecursion};
 ghost use Rattle.bits.specs.Refusals.{RefusedMemoryOnly};
 ghost use Rattle.schema.specs.Views.{key_view, rows_view};
@@ -23,7 +23,7 @@ use table::JobId;
 impl<D: Disk> Store<D> {
     ghost use Rattle.table.specs.Table.{Group as TableGroup, IsRowIn};
     ghost use Rattle.table.specs.State.{State};
-    ghost use Rattle.store.specs.Filling.{HasWritten};
+    ghost use Rattle.store.specs.Filling.{HasWritten, Goes};
     ghost use Rattle.store.specs.Rewritten.{AddsAll, AddsOne};
 
     /// Writes rows of one key for a job, in their order: each group has as many rows as a group has, the last has the rest.
@@ -37,6 +37,7 @@ impl<D: Disk> Store<D> {
         ensures writes { (D.state self.old.vault.disk).honest → (start : Store D) (s : State) (groups : List TableGroup) (key : TableKey) → s.closed ≡ false
             → HasWritten D.state start self.old s (Some job) (handles_view written.old.items) groups → CanPartition s.table.keys key → AllByRecursion (IsRowIn s.table.schema s.table.keys key) (rows_view rows.now)
             → AddsAll D.state start self.new s (Some job) (handles_view written.old.items) (handles_view written.new.items) groups key (rows_view rows.now) (self.old.next_group + length (rows_view rows.now)) result }
+        ensures goes { OnOk result (Goes (handles_view written.old.items) (handles_view written.new.items)) }
         ensures same { self.new ≡ record self.old { vault = self.new.vault; snapshots = self.new.snapshots; next_group = self.new.next_group } }
         ensures counts { (D.state self.old.vault.disk).failures ≤ (D.state self.new.vault.disk).failures }
         ensures honest { (D.state self.old.vault.disk).honest ↔ (D.state self.new.vault.disk).honest }
@@ -66,6 +67,7 @@ impl<D: Disk> Store<D> {
             → HasWritten D.state start self.old s (Some job) (handles_view written.old.items) groups → CanPartition s.table.keys key → AllByRecursion (IsRowIn s.table.schema s.table.keys key) (rows_view rows.now)
             → 1 ≤ length (rows_view rows.now)
             → AddsOne D.state start self.new s (Some job) (handles_view written.old.items) (handles_view written.new.items) groups self.old.next_group key (rows_view rows.now) result }
+        ensures goes { OnOk result (Goes (handles_view written.old.items) (handles_view written.new.items)) }
         ensures same { self.new ≡ record self.old { vault = self.new.vault; snapshots = self.new.snapshots; next_group = self.new.next_group } }
         ensures counts { (D.state self.old.vault.disk).failures ≤ (D.state self.new.vault.disk).failures }
         ensures honest { (D.state self.old.vault.disk).honest ↔ (D.state self.new.vault.disk).honest }

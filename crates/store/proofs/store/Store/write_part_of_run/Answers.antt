@@ -58,3 +58,6 @@ returns-clause-writes g c honest start s groups key is_open has can are_in some 
       goes = done.ensures.goes;
       no_more = adds.1;
     }
+
+pub returns-clause-goes : goal.returns-clause-goes
+returns-clause-goes g c = c.in_ok-write_buffer.ensures.goes

@@ -12,7 +12,7 @@ use Rattle.table.specs.Table.{Row, Key, IsRowIn}
 use Rattle.footer.specs.declared.options.WriteOptions.{WriteOptions}
 use Rattle.store.specs.declared.store.Store.{Store}
 use Rattle.store.specs.Rewritten.{AddsAll, AddsOne}
-use Rattle.store.proofs.RunParts.{Parts, no_parts, all_parts, none_left, part_some, part_stops, part_more, rows_left}
+use Rattle.store.proofs.RunParts.{goes_on, goes_nowhere, Parts, no_parts, all_parts, none_left, part_some, part_stops, part_more, rows_left}
 use Rattle.store.proofs.store.Store.write_run.Goals as goal
 
 pub loop-init : goal.loop-init
@@ -20,5 +20,6 @@ loop-init g c = record {
   same = refl;
   failures = omega arith;
   honest = (λ h. h, λ h. h);
+  goes = goes_nowhere (handles_view c.args.written.now.items);
   fills = λ honest start s groups key is_open has can are_in. no_parts g.D.Disk.state start s c.args.job (handles_view c.args.written.now.items) groups key (rows_view c.args.rows.now) (c.args.self.now.next_group + length (rows_view c.args.rows.now)) c.args.self.now has (omega arith);
 }
