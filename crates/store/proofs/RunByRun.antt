@@ -111,6 +111,9 @@ pub behind_first : (first : ℕ) (was files : List (Rc CodeGroup Global)) (come 
 behind_first first was files come many is =
     ap handles_view is ∙ sym (drop-map _ first files) ∙ ap (λ (k : ℕ). drop k (handles_view files)) (many ∙ sym (length-map was _))
 
+pub many_in : (lent items : List (Rc CodeGroup Global)) → lent ≡ items → length lent ≡ length (handles_view items)
+many_in lent items is = ap (λ (xs : List (Rc CodeGroup Global)). length xs) is ∙ sym (length-map items _)
+
 pub come_told : (was files : List FileGroup) (ns : List ℕ) (o : Result CodeRun Refusal) → IfOk o (λ r. run_view r ≡ record { sources = ns; come = drop (length was) files }) → Goes was files → IfOk o (λ r. files ≡ was ++ (run_view r).come)
 come_told was files ns (Ok r) made goes = goes.1 ∙ ap (λ (gs : List FileGroup). was ++ gs) (sym (ap (λ (q : Run). q.come) made ∙ ap (drop (length was)) goes.1 ∙ skip was goes.0))
   where
@@ -149,7 +152,7 @@ rows_two : (xs ys : List Group) → rows (xs ++ ys) ≡ rows xs ++ rows ys
 rows_two [] ys = refl
 rows_two (x ∷ xs) ys = ap (λ (rs : List Row). x.rows ++ rs) (rows_two xs ys) ∙ sym (append_assoc x.rows (rows xs) (rows ys))
 
-brought_two : (rs : List Run) (r : Run) → brought_by (rs ++ r ∷ []) ≡ brought_by rs ++ r.come
+pub brought_two : (rs : List Run) (r : Run) → brought_by (rs ++ r ∷ []) ≡ brought_by rs ++ r.come
 brought_two [] r = append-nil r.come
 brought_two (q ∷ rs) r = ap (λ (gs : List FileGroup). q.come ++ gs) (brought_two rs r) ∙ sym (append_assoc q.come (brought_by rs) r.come)
 

@@ -107,7 +107,8 @@ impl<D: Disk> Store<D> {
         for run in runs {
             let one = self.rewrite_one(alloc, job, written, place, run)?;
             made.push(one)?;
-            place = place_after(place, run.groups.as_slice().len())?;
+            let behind = place_after(place, run.groups.as_slice().len())?;
+            place = behind;
         }
         Ok(made)
     }

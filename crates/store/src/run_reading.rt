@@ -43,7 +43,8 @@ impl<D: Disk> Store<D> {
         for group in groups {
             let mut more = self.source_rows(alloc, job, at, group)?;
             rows.append(&mut more)?;
-            at = place_after(at, 1)?;
+            let behind = place_after(at, 1)?;
+            at = behind;
         }
         Ok(rows)
     }

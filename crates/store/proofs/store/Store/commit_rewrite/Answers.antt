@@ -58,15 +58,15 @@ returns-in_err-has_all-clause-cause g c honest s r stands is_open low at some =
     refused (λ (o : Result ℕ Refusal). is_failure (answered {T = ℕ} (λ x. done x) o) ≡ true → HasFailed (g.D.Disk.state old.vault.disk) (g.D.Disk.state old.vault.disk)) c.from_residual-in_err-has_all.result _ c.from_residual-in_err-has_all.ensures.1
     (memory_so c.in_err-has_all.field-0.0 c.in_err-has_all.ensures.which (λ e. is_failure (answered {T = ℕ} (λ x. done x) (Err e)) ≡ true → HasFailed (g.D.Disk.state old.vault.disk) (g.D.Disk.state old.vault.disk)) (λ h. absurd (cc)))
 
-pub returns-then-has_all-clause-acts : goal.returns-then-has_all-clause-acts
-returns-then-has_all-clause-acts g c honest s r stands is_open low at some =
+pub returns-then-not-branch-clause-acts : goal.returns-then-not-branch-clause-acts
+returns-then-not-branch-clause-acts g c honest s r stands is_open low at some =
     let old = c.args.self.now in
     let n = c.args.job in
     let runs = sources_view c.in_ok-runs.runs.items in
     let told : runs ≡ sources_view r.runs.items = c.in_ok-runs.ensures.told ∙ ap (λ (js : List OpenJob). runs_at (job_at n js)) c.as_slice.ensures.value ∙ runs_told n old.jobs.items r at in
     let numbers = c.in_ok-numbers.ensures.told ∙ ap (λ (xs : List Sources). numbers_of_runs (sources_view xs)) c.as_slice-2.ensures.value ∙ ap numbers_of_runs told in
     let all = ap (λ (ns : List ℕ). list_all (is_among (numbers_of (root_of old.manifest).groups)) ns) (sym c.as_slice-3.ensures.value) ∙ ap (λ (gs : List FileGroup). list_all (is_among (numbers_of gs)) c.as_slice-3.result.now) (sym c.groups.ensures.are) ∙ sym c.in_ok-has_all.ensures.all in
-    let gone = fault_is g.D.Disk.state old s stands is_open n r at low false c.in_ok-numbers.numbers.items numbers (all ∙ c.if-has_all.true) in
+    let gone = fault_is g.D.Disk.state old s stands is_open n r at low false c.in_ok-numbers.numbers.items numbers (all ∙ c.if-not-branch.true) in
     c.end_stale.ensures.acts honest s r stands is_open at gone
 
 pub returns-clause-acts : goal.returns-clause-acts
@@ -77,11 +77,11 @@ returns-clause-acts g c honest s r stands is_open low at some =
     let told : runs ≡ sources_view r.runs.items = c.in_ok-runs.ensures.told ∙ ap (λ (js : List OpenJob). runs_at (job_at n js)) c.as_slice.ensures.value ∙ runs_told n old.jobs.items r at in
     let numbers = c.in_ok-numbers.ensures.told ∙ ap (λ (xs : List Sources). numbers_of_runs (sources_view xs)) c.as_slice-2.ensures.value ∙ ap numbers_of_runs told in
     let all = ap (λ (ns : List ℕ). list_all (is_among (numbers_of (root_of old.manifest).groups)) ns) (sym c.as_slice-3.ensures.value) ∙ ap (λ (gs : List FileGroup). list_all (is_among (numbers_of gs)) c.as_slice-3.result.now) (sym c.groups.ensures.are) ∙ sym c.in_ok-has_all.ensures.all in
-    let fine = fault_is g.D.Disk.state old s stands is_open n r at low true c.in_ok-numbers.numbers.items numbers (all ∙ c.if-has_all.false) in
+    let fine = fault_is g.D.Disk.state old s stands is_open n r at low true c.in_ok-numbers.numbers.items numbers (all ∙ c.if-not-branch.false) in
     c.commit_runs.ensures.acts honest s r stands is_open at some (ap (λ (xs : List Sources). sources_view xs) c.as_slice-4.ensures.value ∙ told) fine
 
-pub returns-then-has_all-clause-cause : goal.returns-then-has_all-clause-cause
-returns-then-has_all-clause-cause g c honest s r stands is_open low at some h = let e : true ≡ false = sym h ∙ c.end_stale.ensures.cause in absurd (cc)
+pub returns-then-not-branch-clause-cause : goal.returns-then-not-branch-clause-cause
+returns-then-not-branch-clause-cause g c honest s r stands is_open low at some h = let e : true ≡ false = sym h ∙ c.end_stale.ensures.cause in absurd (cc)
 
 pub returns-clause-cause : goal.returns-clause-cause
 returns-clause-cause g c honest s r stands is_open low at some =
@@ -91,5 +91,5 @@ returns-clause-cause g c honest s r stands is_open low at some =
     let told : runs ≡ sources_view r.runs.items = c.in_ok-runs.ensures.told ∙ ap (λ (js : List OpenJob). runs_at (job_at n js)) c.as_slice.ensures.value ∙ runs_told n old.jobs.items r at in
     let numbers = c.in_ok-numbers.ensures.told ∙ ap (λ (xs : List Sources). numbers_of_runs (sources_view xs)) c.as_slice-2.ensures.value ∙ ap numbers_of_runs told in
     let all = ap (λ (ns : List ℕ). list_all (is_among (numbers_of (root_of old.manifest).groups)) ns) (sym c.as_slice-3.ensures.value) ∙ ap (λ (gs : List FileGroup). list_all (is_among (numbers_of gs)) c.as_slice-3.result.now) (sym c.groups.ensures.are) ∙ sym c.in_ok-has_all.ensures.all in
-    let fine = fault_is g.D.Disk.state old s stands is_open n r at low true c.in_ok-numbers.numbers.items numbers (all ∙ c.if-has_all.false) in
+    let fine = fault_is g.D.Disk.state old s stands is_open n r at low true c.in_ok-numbers.numbers.items numbers (all ∙ c.if-not-branch.false) in
     c.commit_runs.ensures.cause honest s r stands is_open at some (ap (λ (xs : List Sources). sources_view xs) c.as_slice-4.ensures.value ∙ told) fine
