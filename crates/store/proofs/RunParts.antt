@@ -1,10 +1,10 @@
 -- Rows of one key that a job writes, group by group.
 use Rattle.std.proofs.Common.{◌≡◌, ◌≤◌, ◌<◌, ◌+◌, ◌*◌, ◌⊎◌, ℕ, zero, suc, Bool, true, false, not, ◌&&◌, nat_lt, nat_le, List, [], ◌∷◌, ◌++◌, map, length, take, drop, Some, refl, sym, ◌∙◌, ap, subst, arith, ⊎_elim, append_assoc}
-use Rattle.std.specs.Prelude.{if◌then◌else◌, ◌==◌, IsTrue}
+use Rattle.std.specs.Prelude.{if◌then◌else◌, ◌==◌, IsTrue, min}
 use Rattle.std.specs.List.{AllByRecursion}
 use Rattle.std.proofs.Common.{eq-eqb}
-use Rattle.std.proofs.lemmas.Bool.{and_from, lt-ltb}
-use Rattle.std.proofs.lemmas.List.{append-nil, length-append, length-map, length-take, length-drop, take-append-drop, take-take, take-map, drop-map, drop-drop, drop_all}
+use Rattle.std.proofs.lemmas.Bool.{and_from, lt-ltb, eqb-true}
+use Rattle.std.proofs.lemmas.List.{append-nil, length-append, length-map, length-take, length-drop, take-append-drop, take-map, drop-map, take_min, drop_min, drop-drop, drop_all}
 use Rattle.bits.specs.declared.refusal.Refusal.{Refusal}
 use Rattle.bits.specs.declared.refusal.Refusal.TheVariants.{Limit, Device, Memory, NoJob, RowShape, Key as BadKey}
 use Rattle.bits.specs.Refusals.{HasCause}
@@ -207,6 +207,27 @@ module _ {D : Type 0} (state : D → DiskState) (start : Store D) (s : State) (n
             no_more = let a = p.no_more in let b = one.no_more in let c = at_least in grind (arith, rest, a, b, c, some);
           }
 
--- what is left of some rows, and what is taken of them
-pub rows_left : {A B : Type 0} (f : A → B) (n : ℕ) (xs : List A) → (map f (take n xs) ≡ take n (map f xs)) × (map f (drop n xs) ≡ drop n (map f xs))
-rows_left f n xs = (sym (take-map f n xs), sym (drop-map f n xs))
+-- the next part as it is taken, and what is behind it
+pub part_seen : {A B : Type 0} (f : A → B) (size count : ℕ) (left part : List A) → part ≡ take count left → count ≡ min size (length left) → map f part ≡ take size (map f left)
+part_seen f size count left part is e = ap (map f) (is ∙ ap (λ (k : ℕ). take k left) e ∙ take_min size left) ∙ sym (take-map f size left)
+
+pub behind_seen : {A B : Type 0} (f : A → B) (size count : ℕ) (left behind : List A) → behind ≡ drop count left → count ≡ min size (length left) → map f behind ≡ drop size (map f left)
+behind_seen f size count left behind is e = ap (map f) (is ∙ ap (λ (k : ℕ). drop k left) e ∙ drop_min size left) ∙ sym (drop-map f size left)
+
+pub all_taken : {A : Type 0} (P : A → Type 0) (n : ℕ) (xs : List A) → AllByRecursion P xs → AllByRecursion P (take n xs)
+all_taken P zero xs h = tt
+all_taken P (suc n) [] h = tt
+all_taken P (suc n) (x ∷ xs) h = (h.0, all_taken P n xs h.1)
+
+pub all_dropped : {A : Type 0} (P : A → Type 0) (n : ℕ) (xs : List A) → AllByRecursion P xs → AllByRecursion P (drop n xs)
+all_dropped P zero xs h = h
+all_dropped P (suc n) [] h = tt
+all_dropped P (suc n) (x ∷ xs) h = all_dropped P n xs h.1
+
+pub not_empty : (n : ℕ) → (n == 0) ≡ false → 1 ≤ n
+not_empty zero e = absurd (cc)
+not_empty (suc n) e = omega arith
+
+pub is_empty_so : {A B : Type 0} (f : A → B) (xs : List A) → (length xs == 0) ≡ true → map f xs ≡ []
+is_empty_so f [] e = refl
+is_empty_so f (x ∷ xs) e = absurd (let z = eqb-true (length (x ∷ xs)) 0 e in omega (arith, z))

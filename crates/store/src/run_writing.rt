@@ -42,13 +42,13 @@ impl<D: Disk> Store<D> {
         ensures counts { (D.state self.old.vault.disk).failures ≤ (D.state self.new.vault.disk).failures }
         ensures honest { (D.state self.old.vault.disk).honest ↔ (D.state self.new.vault.disk).honest }
     {
-        let size = self.options.group_rows as usize;
         let mut left = rows;
         for _ in 0..rows.len() {
             if left.is_empty() {
                 return Ok(());
             }
-            let (part, behind) = left.split_at(part_len(left.len(), size));
+            let count = part_len(left.len(), self.options.group_rows as usize);
+            let (part, behind) = left.split_at(count);
             self.write_part_of_run(alloc, job, written, part)?;
             left = behind;
         }
