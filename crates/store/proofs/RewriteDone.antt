@@ -121,16 +121,12 @@ module _ {D : Type 0} (state : D → DiskState) (old : Store D) (s : State) (sta
             by found.2.pins (ap (λ (m : ℕ). pinned_at m (state_of mid.snapshots).jobs) (sym found.2.number) ∙ found.2.pinned) found.0 found.1
             (subst (λ (w : Work). ShowsWork (state mid.vault.disk) s.table.keys s.table.schema s.next_group s.options.group_rows s.had found.2.pins w found.0) at.2 found.2.work)
           where
-            one : (o : Option Job) (a b : Job) → o ≡ Some a → o ≡ Some b → a ≡ b
-            one o a b e f = let both : Some a ≡ Some b = sym e ∙ f in cc
+            one : (a b : List (List Group)) (ns ms : List ℕ) → open_at n s.jobs ≡ Some (rewriting a ns) → open_at n s.jobs ≡ Some (rewriting b ms) → a ≡ b
+            one a b ns ms e f = let both : Some (rewriting a ns) ≡ Some (rewriting b ms) = sym e ∙ f in cc
 
             by : (pins : Pins) → pinned_at n (state_of mid.snapshots).jobs ≡ Some pins → (j : Job) → open_at n s.jobs ≡ Some j → ShowsWork (state mid.vault.disk) s.table.keys s.table.schema s.next_group s.options.group_rows s.had pins (Rewrite r) j
                 → (pins : Pins) × (pinned_at n (state_of mid.snapshots).jobs ≡ Some pins) × AllByRecursion (λ m. is_among (numbers (sources gss)) m ≡ true) pins.sources
-            by pins pinned (rewriting qss unread) e w = (pins, pinned, subst (λ (xss : List (List Group)). AllByRecursion (λ m. is_among (numbers (sources xss)) m ≡ true) pins.sources) (ap runs_of (one (open_at n s.jobs) (rewriting qss unread) (rewriting gss here_held.unread) e here_held.is_open)) w.pinned)
-              where
-                runs_of : Job → List (List Group)
-                runs_of (rewriting xss ns) = xss
-                runs_of (appending rs) = []
+            by pins pinned (rewriting qss unread) e w = (pins, pinned, subst (λ (xss : List (List Group)). AllByRecursion (λ m. is_among (numbers (sources xss)) m ≡ true) pins.sources) (one qss gss unread here_held.unread e here_held.is_open) w.pinned)
             by pins pinned (appending staged) e w = absurd w
 
         abbrev good : stale_fault s.table (Some (rewriting gss here_held.unread)) ≡ None

@@ -57,10 +57,6 @@ use Rattle.store.proofs.Waits.{front_of_all, rest_of_all}
 
 -- ---- runs of the code, and runs of the table
 
--- no rows, no groups that a table can have
-some_of : (schema : Fields) (keys : List KeyColumn) (gs : List Group) → 1 ≤ length (rows gs) → gs ≢ []
-some_of schema keys gs some none = let e = ap (λ (hs : List Group). length (rows hs)) none in omega (arith, some, e)
-
 module _ (s : State) (all : List Group) where
   run_made : (r : Run) (run gs : List Group) → IsNew s r run gs → all_shown (rows_of all) r.come ≡ gs → AllByRecursion (λ (g : Group). s.had g.number ≡ false) gs → IsMadeOf (rows_of all) s.options.group_rows s.had r run
   run_made r run gs new seen fresh = record {
@@ -76,7 +72,7 @@ module _ (s : State) (all : List Group) where
       keyed (x ∷ xs) some are [] h = tt
       keyed (x ∷ xs) some are (g ∷ hs) h = (h.0 ∙ sym are.0, keyed (x ∷ xs) some are hs h.1)
 
-  pub runs_made : (disk : _) (keys : List KeyColumn) (schema : Fields) (count : ℕ) (rs : List Run) (runs gss : List (List Group)) → AreNew s rs runs gss → all_shown (rows_of all) (brought_by rs) ≡ sources gss → AllByRecursion (λ (g : Group). s.had g.number ≡ false) (sources gss)
+  pub runs_made : (disk : DiskState) (keys : List KeyColumn) (schema : Fields) (count : ℕ) (rs : List Run) (runs gss : List (List Group)) → AreNew s rs runs gss → all_shown (rows_of all) (brought_by rs) ≡ sources gss → AllByRecursion (λ (g : Group). s.had g.number ≡ false) (sources gss)
       → AreMadeOf (rows_of all) s.options.group_rows s.had rs runs
   runs_made disk keys schema count [] [] [] new seen fresh = tt
   runs_made disk keys schema count (r ∷ rs) (run ∷ runs) (gs ∷ gss) new seen fresh =
