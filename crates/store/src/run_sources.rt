@@ -138,10 +138,11 @@ fn completed_at(
     ensures told { IfOk result (λ o. option_map (λ v. rows_view v.items) o ≡ option_map (completed_rows schema.now) (option_map (λ v. rows_view v.items) (slice_get read.now place))) }
     ensures which { RefusedMemoryOnly result }
 {
-    match read.get(place) {
-        Some(rows) => Ok(Some(completed_rows(alloc, schema, rows.as_slice())?)),
-        None => Ok(None),
+    if place >= read.len() {
+        return Ok(None);
     }
+    let copies = completed_rows(alloc, schema, read[place].as_slice())?;
+    Ok(Some(copies))
 }
 
 /// The place behind so many others. Refused where a usize does not tell it.
