@@ -1,10 +1,11 @@
 -- Rows of one key that a job writes, group by group.
-use Rattle.std.proofs.Common.{◌≡◌, ◌≤◌, ◌<◌, ◌+◌, ◌*◌, ◌⊎◌, ℕ, zero, suc, Bool, true, false, not, ◌&&◌, nat_lt, nat_le, List, [], ◌∷◌, ◌++◌, map, length, take, drop, Some, refl, sym, ◌∙◌, ap, subst, arith, ⊎_elim, append_assoc}
+use Rattle.std.proofs.Common.{◌≡◌, ◌≤◌, ◌<◌, ◌+◌, ◌*◌, ◌⊎◌, ℕ, zero, suc, Bool, true, false, ◌&&◌, nat_lt, nat_le, List, [], ◌∷◌, ◌++◌, map, length, take, drop, Some, refl, sym, ◌∙◌, ap, subst, arith, ⊎_elim, append_assoc}
 use Rattle.std.specs.Prelude.{if◌then◌else◌, ◌==◌, IsTrue, min}
 use Rattle.std.specs.List.{AllByRecursion}
 use Rattle.std.proofs.Common.{eq-eqb}
-use Rattle.std.proofs.lemmas.Bool.{and_from, lt-ltb, eqb-true}
-use Rattle.std.proofs.lemmas.List.{append-nil, length-append, length-map, length-take, length-drop, take-append-drop, take-map, drop-map, take_min, drop_min, drop-drop, drop_all}
+use Rattle.std.proofs.lemmas.Bool.{and_from, lt-ltb, le-leb, eqb-true}
+use Rattle.std.proofs.lemmas.Nat.{mul-le}
+use Rattle.std.proofs.lemmas.List.{append-nil, take-append-drop, take-map, drop-map, take_min, drop_min, drop-drop, drop_all}
 use Rattle.bits.specs.declared.refusal.Refusal.{Refusal}
 use Rattle.bits.specs.declared.refusal.Refusal.TheVariants.{Limit, Device, Memory, NoJob, RowShape, Key as BadKey}
 use Rattle.bits.specs.Refusals.{HasCause}
@@ -90,6 +91,28 @@ module _ {D : Type 0} (state : D → DiskState) (start mid : Store D) (s : State
         why BadKey c d = absurd (c can_so)
         why f c d = absurd c
 
+-- ---- so many of some rows
+
+take_some : {A : Type 0} (n : ℕ) (xs : List A) → 1 ≤ n → 1 ≤ length xs → 1 ≤ length (take n xs)
+take_some zero xs a b = absurd (omega (arith, a))
+take_some (suc n) [] a b = absurd (omega (arith, b))
+take_some (suc n) (x ∷ xs) a b = omega arith
+
+take_most : {A : Type 0} (n : ℕ) (xs : List A) → length (take n xs) ≤ n
+take_most zero xs = omega arith
+take_most (suc n) [] = omega arith
+take_most (suc n) (x ∷ xs) = let l = take_most n xs in omega (arith, l)
+
+take_and_drop : {A : Type 0} (n : ℕ) (xs : List A) → length (take n xs) + length (drop n xs) ≡ length xs
+take_and_drop zero xs = omega arith
+take_and_drop (suc n) [] = refl
+take_and_drop (suc n) (x ∷ xs) = let l = take_and_drop n xs in omega (arith, l)
+
+take_whole_so : {A : Type 0} (n : ℕ) (xs : List A) → 1 ≤ length (drop n xs) → length (take n xs) ≡ n
+take_whole_so zero xs h = refl
+take_whole_so (suc n) [] h = absurd (omega (arith, h))
+take_whole_so (suc n) (x ∷ xs) h = ap suc (take_whole_so n xs h)
+
 -- ---- group by group
 
 -- full groups, and a last one with some rows
@@ -97,10 +120,7 @@ pub full_end : (size : ℕ) → 1 ≤ size → (gs : List Group) (g : Group) →
 full_end size some gs g full least most = by gs full
   where
     at_most : (h : Group) → 1 ≤ length h.rows → length h.rows ≤ size → has_at_most size h ≡ true
-    at_most h low high = and_from (nat_lt 0 (length h.rows)) (nat_le (length h.rows) size) (lt-ltb 0 (length h.rows) (omega (arith, low))) (within (length h.rows) size high)
-      where
-        within : (a b : ℕ) → a ≤ b → nat_le a b ≡ true
-        within a b l = search l
+    at_most h low high = and_from (nat_lt 0 (length h.rows)) (nat_le (length h.rows) size) (lt-ltb 0 (length h.rows) (omega (arith, low))) (le-leb (length h.rows) size high)
 
     either : (b : Bool) (h : Group) → length h.rows ≡ size → (if b then length h.rows == size else has_at_most size h) ≡ true
     either true h e = eq-eqb (length h.rows) size e
@@ -154,7 +174,7 @@ module _ {D : Type 0} (state : D → DiskState) (start : Store D) (s : State) (n
   none_left mid files i left p far = p.left_is ∙ drop_all (i * s.options.group_rows) given (times i s.options.group_rows (length given) (size_some state start mid s (Some n) files (groups ++ p.added) p.written) far)
     where
       times : (a b c : ℕ) → 1 ≤ b → c ≤ a → c ≤ a * b
-      times a b c some l = grind (arith, some, l)
+      times a b c some l = let m = mul-le c 1 a b l some in let e : c * 1 ≡ c = grind arith in omega (arith, m, e)
 
   module _ (mid : Store D) (files : List FileGroup) (i : ℕ) (left : List Row) (p : Parts state start mid s n was files groups key given most i left) (some : 1 ≤ length left) where
     abbrev size : ℕ
@@ -165,7 +185,7 @@ module _ {D : Type 0} (state : D → DiskState) (start : Store D) (s : State) (n
 
     -- the next part
     pub part_some : 1 ≤ length (take size left)
-    part_some = let l = length-take size left in let a = at_least in grind (arith, l, a, some)
+    part_some = take_some size left at_least some
 
     pub is_part : IsPart size given (take size left)
     is_part = (i, ap (take size) p.left_is, λ none. let e = ap (λ (rs : List Row). length rs) none in let l = part_some in absurd (omega (arith, e, l)))
@@ -191,8 +211,8 @@ module _ {D : Type 0} (state : D → DiskState) (start : Store D) (s : State) (n
       pub part_more : (new : Store D) (more : List FileGroup) → HasAddedOne state start new s (Some n) files more (groups ++ p.added) mid.next_group key (take size left) → Parts state start new s n was more groups key given most (i + 1) (drop size left)
       part_more new more one =
           let g = written_group mid.next_group key (take size left) in
-          let long = length-take size left in
-          let rest = length-drop size left in
+          let sum = take_and_drop size left in
+          let most_here = take_most size left in
           record {
             added = p.added ++ g ∷ [];
             written = subst (λ (gs : List Group). HasWritten state start new s (Some n) more gs) (append_assoc groups p.added (g ∷ [])) one.written;
@@ -202,9 +222,9 @@ module _ {D : Type 0} (state : D → DiskState) (start : Store D) (s : State) (n
                 ∙ append_assoc (rows p.added) (take size left) (drop size left) ∙ ap (λ (rs : List Row). rows p.added ++ rs) (take-append-drop size left) ∙ p.hold;
             keyed = all_append (λ (x : Group). x.key ≡ key) p.added (g ∷ []) p.keyed (refl, tt);
             each = all_append (IsGroupIn s.table.schema s.table.keys) p.added (g ∷ []) p.each (record { some = part_some; keyed = can; rows_in = are_in }, tt);
-            full = full_end size at_least p.added g (p.sized some) part_some (grind (arith, long));
-            sized = λ again. all_append (HasSize size) p.added (g ∷ []) (p.sized some) (grind (arith, long, rest, again), tt);
-            no_more = let a = p.no_more in let b = one.no_more in let c = at_least in grind (arith, rest, a, b, c, some);
+            full = full_end size at_least p.added g (p.sized some) part_some most_here;
+            sized = λ again. all_append (HasSize size) p.added (g ∷ []) (p.sized some) (take_whole_so size left again, tt);
+            no_more = let a = p.no_more in let b = one.no_more in let c = part_some in omega (arith, sum, a, b, c);
           }
 
 -- the next part as it is taken, and what is behind it
