@@ -150,7 +150,7 @@ module _ {D : Type 0} (state : D → DiskState) (start : Store D) (s : State) (n
     added = [];
     written = subst (λ (gs : List Group). HasWritten state start mid s (Some n) was gs) (sym (append-nil groups)) has;
     goes = goes_nowhere was;
-    left_is = refl;
+    left_is = (let e : 0 ≡ 0 * s.options.group_rows = grind arith in ap (λ (k : ℕ). drop k given) e);
     hold = refl;
     keyed = tt;
     each = tt;

@@ -13,12 +13,12 @@ none_past [] i h = refl
 none_past (x ∷ xs) zero h = absurd (omega (arith, h))
 none_past (x ∷ xs) (suc i) h = none_past xs i (omega (arith, h))
 
-pub returns-then-place-len-clause-told : goal.returns-then-place-len-clause-told
-returns-then-place-len-clause-told c =
-    ap (λ (o : Option (Vec CodeRow Global)). option_map (completed_rows c.args.schema.now) (option_map (λ (v : Vec CodeRow Global). rows_view v.items) o)) (sym (none_past c.args.read.now c.args.place (omega (arith, c.len.ensures, c.if-place-len.true))))
+pub returns-then-place-read-clause-told : goal.returns-then-place-read-clause-told
+returns-then-place-read-clause-told c =
+    ap (λ (o : Option (Vec CodeRow Global)). option_map (completed_rows c.args.schema.now) (option_map (λ (v : Vec CodeRow Global). rows_view v.items) o)) (sym (none_past c.args.read.now c.args.place (omega (arith, c.if-place-read.true))))
 
 pub returns-clause-told : goal.returns-clause-told
 returns-clause-told c =
-    let there = slice_get_read c.args.read.now (length c.args.read.now) c.args.place c.index.result.now refl (omega (arith, c.len.ensures, c.if-place-len.false)) c.index.ensures in
+    let there = slice_get_read c.args.read.now (length c.args.read.now) c.args.place c.index-read-place.result.now refl (omega (arith, c.if-place-read.false)) c.index-read-place.ensures in
     ap (λ (rs : List Row). Some rs) (c.in_ok-copies.ensures.completes ∙ ap (λ (xs : List CodeRow). completed_rows c.args.schema.now (rows_view xs)) c.as_slice.ensures.value)
     ∙ ap (λ (o : Option (Vec CodeRow Global)). option_map (completed_rows c.args.schema.now) (option_map (λ (v : Vec CodeRow Global). rows_view v.items) o)) (sym there)

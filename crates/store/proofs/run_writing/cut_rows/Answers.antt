@@ -9,7 +9,7 @@ use Rattle.store.proofs.Buffered.{drop_item, drop_all, all_at}
 use Rattle.store.proofs.run_writing.cut_rows.Goals as goal
 
 pub loop-row-init : goal.loop-row-init
-loop-row-init c = record { rests = refl; key = λ k all some. absurd (omega (arith, some)) }
+loop-row-init c = record { rests = ap (λ (xs : List CodeRow). rows_view xs ++ map (row_without_keys (key_columns_view c.args.columns.now)) (rows_view c.args.rows.now)) c.in_ok-rests.ensures.items; key = λ k all some. absurd (omega (arith, some)) }
 
 pub loop-row-preserved : goal.loop-row-preserved
 loop-row-preserved c =

@@ -115,7 +115,7 @@ loop-run-preserved g c =
     let left = ap (λ (xs : List Sources). sources_view xs) (drop_item c.args.runs.now i c.run-item.result c.loop-run-test.true c.run-item.is) in
     let done = c.in_ok-one in
     let pushed = ap runs_view c.in_ok-push.ensures.items ∙ map_push run_view c.loop-run.made.items c.in_ok-one.one in
-    let step : c.in_ok-behind.behind ≡ c.loop-run.place + length fs = c.in_ok-behind.ensures.is ∙ ap (λ (k : ℕ). c.loop-run.place + k) (c.len.ensures ∙ many_in c.as_slice.result.now c.run-item.result.groups.items c.as_slice.ensures.value) in
+    let step : c.in_ok-behind.behind ≡ c.loop-run.place + length fs = c.in_ok-behind.ensures.is ∙ ap (λ (k : ℕ). c.loop-run.place + k) (many_in c.as_slice.result.now c.run-item.result.groups.items c.as_slice.ensures.value) in
     record {
       same = done.ensures.same ∙ ap (λ (st : Store g.row.D.Denot). record st { vault = new.vault; snapshots = new.snapshots; next_group = new.next_group }) so_far.same;
       failures = omega (arith, so_far.failures, done.ensures.counts);

@@ -31,7 +31,7 @@ split_at-requires g c =
     let e = length-map now (λ (h : Rc CodeGroup Global). group_view (rc_value h)) in
     let f = ap (λ (xs : List (Rc CodeGroup Global)). length xs) c.as_slice.ensures.value in
     let h = ap (λ (xs : List (Rc CodeGroup Global)). length xs) c.as_slice-4.ensures.value in
-    omega (arith, a, b, d, e, f, h, c.len-first.ensures)
+    omega (arith, a, b, d, e, f, h)
 
 pub returns-in_err-rows-clause-rewrites : goal.returns-in_err-rows-clause-rewrites
 returns-in_err-rows-clause-rewrites g c honest start s groups given is_open same has are is =
@@ -84,8 +84,8 @@ returns-clause-rewrites g c honest start s groups given is_open same has are is 
     let wrote = c.in_ok-write_run.ensures.writes (c.in_ok-rows.ensures.honest.0 honest) start s groups is.key is_open got.0 (run_can s given is) rows_in in
     let added = subst (λ (k : ℕ). HasAdded state start new s (Some n) was files groups is.key (rows given) (k + length (rows given))) count
     (subst (λ (xs : List Row). HasAdded state start new s (Some n) was files groups is.key xs (mid.next_group + length xs)) rows_are wrote) in
-    let come = behind_first c.len-first.result c.args.written.now.items c.write_run.new.written.items c.split_at.result.1.now (c.len-first.ensures ∙ ap (λ (xs : List (Rc CodeGroup Global)). length xs) c.as_slice.ensures.value)
-    (c.split_at.ensures.back ∙ ap (λ (xs : List (Rc CodeGroup Global)). drop c.len-first.result xs) c.as_slice-4.ensures.value) in
+    let come = behind_first (length c.as_slice.result.now) c.args.written.now.items c.write_run.new.written.items c.split_at.result.1.now (ap (λ (xs : List (Rc CodeGroup Global)). length xs) c.as_slice.ensures.value)
+    (c.split_at.ensures.back ∙ ap (λ (xs : List (Rc CodeGroup Global)). drop (length c.as_slice.result.now) xs) c.as_slice-4.ensures.value) in
     let made = subst (λ (gs : List FileGroup). IfOk c.made_run.result (λ r. run_view r ≡ record { sources = numbers_of fs; come = gs })) come
     (subst (λ (xs : List (Rc CodeGroup Global)). IfOk c.made_run.result (λ r. run_view r ≡ record { sources = numbers_of (handles_view xs); come = handles_view c.split_at.result.1.now })) c.as_slice-5.ensures.value c.made_run.ensures.made) in
     one_made state start s n mid new was files groups given fs c.args.place has are is old.next_group added c.made_run.result made c.made_run.ensures.which
@@ -95,6 +95,6 @@ returns-clause-come g c =
     let was = handles_view c.args.written.now.items in
     let files = handles_view c.write_run.new.written.items in
     let fs = handles_view c.as_slice-5.result.now in
-    let come = behind_first c.len-first.result c.args.written.now.items c.write_run.new.written.items c.split_at.result.1.now (c.len-first.ensures ∙ ap (λ (xs : List (Rc CodeGroup Global)). length xs) c.as_slice.ensures.value)
-    (c.split_at.ensures.back ∙ ap (λ (xs : List (Rc CodeGroup Global)). drop c.len-first.result xs) c.as_slice-4.ensures.value) in
+    let come = behind_first (length c.as_slice.result.now) c.args.written.now.items c.write_run.new.written.items c.split_at.result.1.now (ap (λ (xs : List (Rc CodeGroup Global)). length xs) c.as_slice.ensures.value)
+    (c.split_at.ensures.back ∙ ap (λ (xs : List (Rc CodeGroup Global)). drop (length c.as_slice.result.now) xs) c.as_slice-4.ensures.value) in
     come_told was files (numbers_of fs) c.made_run.result (subst (λ (gs : List FileGroup). IfOk c.made_run.result (λ r. run_view r ≡ record { sources = numbers_of fs; come = gs })) come c.made_run.ensures.made) c.in_ok-write_run.ensures.goes

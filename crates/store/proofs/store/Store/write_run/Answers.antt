@@ -23,7 +23,7 @@ loop-init g c = record {
 }
 
 pub split_at-requires : goal.split_at-requires
-split_at-requires g c = grind (arith, c.part_len-count.ensures, c.len.ensures)
+split_at-requires g c = grind (arith, c.part_len-count.ensures)
 
 pub returns-then-is_empty-clause-writes : goal.returns-then-is_empty-clause-writes
 returns-then-is_empty-clause-writes g c honest start s groups key is_open has can are_in =
@@ -61,7 +61,7 @@ returns-in_err-write_part_of_run-clause-writes g c honest start s groups key is_
     let p = so_far.fills honest start s groups key is_open has can are_in in
     let most = old.next_group + length given in
     let size = s.options.group_rows in
-    let count : c.part_len-count.result ≡ min size (length c.loop.left.now) = c.part_len-count.ensures ∙ ap (λ (o : WriteOptions). min o.group_rows c.len.result) p.written.wrote.shows.options ∙ ap (λ (k : ℕ). min size k) c.len.ensures in
+    let count : c.part_len-count.result ≡ min size (length c.loop.left.now) = c.part_len-count.ensures ∙ ap (λ (o : WriteOptions). min o.group_rows (length c.loop.left.now)) p.written.wrote.shows.options in
     let seen : rows_view part ≡ take size left = part_seen row_view size c.part_len-count.result c.loop.left.now part c.split_at.ensures.front count in
     let later : rows_view behind ≡ drop size left = behind_seen row_view size c.part_len-count.result c.loop.left.now behind c.split_at.ensures.back count in
     let in_part = all_taken (IsRowIn s.table.schema s.table.keys key) size left (subst (λ (xs : List Row). AllByRecursion (IsRowIn s.table.schema s.table.keys key) xs) (sym p.left_is) (all_dropped (IsRowIn s.table.schema s.table.keys key) (i * size) given are_in)) in
@@ -99,7 +99,7 @@ loop-preserved g c =
           let p = so_far.fills honest start s groups key is_open has can are_in in
           let most = old.next_group + length given in
           let size = s.options.group_rows in
-          let count : c.part_len-count.result ≡ min size (length c.loop.left.now) = c.part_len-count.ensures ∙ ap (λ (o : WriteOptions). min o.group_rows c.len.result) p.written.wrote.shows.options ∙ ap (λ (k : ℕ). min size k) c.len.ensures in
+          let count : c.part_len-count.result ≡ min size (length c.loop.left.now) = c.part_len-count.ensures ∙ ap (λ (o : WriteOptions). min o.group_rows (length c.loop.left.now)) p.written.wrote.shows.options in
           let seen : rows_view part ≡ take size left = part_seen row_view size c.part_len-count.result c.loop.left.now part c.split_at.ensures.front count in
           let later : rows_view behind ≡ drop size left = behind_seen row_view size c.part_len-count.result c.loop.left.now behind c.split_at.ensures.back count in
           let in_part = all_taken (IsRowIn s.table.schema s.table.keys key) size left (subst (λ (xs : List Row). AllByRecursion (IsRowIn s.table.schema s.table.keys key) xs) (sym p.left_is) (all_dropped (IsRowIn s.table.schema s.table.keys key) (i * size) given are_in)) in
@@ -124,4 +124,4 @@ returns-clause-writes g c honest start s groups key is_open has can are_in =
     let p = so_far.fills honest start s groups key is_open has can are_in in
     let most = old.next_group + length given in
     let many = length-map c.args.rows.now row_view in
-    all_parts state start s n was groups key given most mid files i left p (none_left state start s n was groups key given most mid files i left p (omega (arith, many, c.len-end.ensures, c.loop-test.false)))
+    all_parts state start s n was groups key given most mid files i left p (none_left state start s n was groups key given most mid files i left p (omega (arith, many, c.loop-test.false)))

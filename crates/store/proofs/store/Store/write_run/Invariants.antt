@@ -19,5 +19,5 @@ invariant-loop g l = record {
   goes : Goes (handles_view l.fn.written.items) (handles_view l.written.items);
   fills : (g.D.Disk.state l.fn.self.vault.disk).honest → (start : Store g.row.D.Denot) (s : State) (groups : List Group) (key : Key) → s.closed ≡ false
       → HasWritten g.D.Disk.state start l.fn.self s (Some l.job) (handles_view l.fn.written.items) groups → CanPartition s.table.keys key → AllByRecursion (IsRowIn s.table.schema s.table.keys key) (rows_view l.rows)
-      → Parts g.D.Disk.state start l.self s l.job (handles_view l.fn.written.items) (handles_view l.written.items) groups key (rows_view l.rows) (l.fn.self.next_group + length (rows_view l.rows)) l.counter (rows_view l.left.now);
+      → Parts g.D.Disk.state start l.self s l.job (handles_view l.fn.written.items) (handles_view l.written.items) groups key (rows_view l.rows) (l.fn.self.next_group + length (rows_view l.rows)) l.counter (rows_view l.left);
 }
