@@ -127,9 +127,9 @@ module _ {D : Type 0} (state : D → DiskState) (old : Store D) (s : State) (sta
     run_numbers (x ∷ xs) (run ∷ gss) z =
         (λ i. same_numbers disk s.table.keys s.table.schema s.next_group (handles_view x.groups.items) run z.0.sources i ++ run_numbers xs gss z.1 i) ∙ sym (both run (sources gss))
       where
-        both : (as bs : List Group) → numbers (as ++ bs) ≡ numbers as ++ numbers bs
-        both [] bs = refl
-        both (a ∷ as) bs = ap (λ (ns : List ℕ). a.number ∷ ns) (both as bs)
+        both : (xs ys : List Group) → numbers (xs ++ ys) ≡ numbers xs ++ numbers ys
+        both [] ys = refl
+        both (x ∷ xs) ys = ap (λ (ns : List ℕ). x.number ∷ ns) (both xs ys)
     run_numbers [] (run ∷ gss) z = absurd z
     run_numbers (x ∷ xs) [] z = absurd z
 

@@ -25,6 +25,7 @@ use Rattle.store.specs.declared.store.Store.{Store}
 use Rattle.store.specs.declared.jobs.OpenJob.{OpenJob}
 use Rattle.store.specs.Completing.{completed_rows}
 use Rattle.store.specs.Counting.{IsHeld}
+use Rattle.store.specs.Lookups.{job_at}
 use Rattle.store.specs.Paths.{IsBelow}
 use Rattle.store.specs.Spares.{Spares}
 use Rattle.store.specs.Stands.{IsStored, AreStored}

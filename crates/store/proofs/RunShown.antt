@@ -86,19 +86,19 @@ module _ (disk : DiskState) (keys : List KeyColumn) (schema : Fields) (count : �
   stored_each (f ∷ fs) a = (a.0, stored_each fs a.1)
 
   -- side by side
-  pub shown_parts : (as bs : List FileGroup) (xs ys : List Group) → all_shown (rows_of all) (as ++ bs) ≡ xs ++ ys → length as ≡ length xs → (all_shown (rows_of all) as ≡ xs) × (all_shown (rows_of all) bs ≡ ys)
-  shown_parts [] bs [] ys e l = (refl, e)
-  shown_parts [] bs (x ∷ xs) ys e l = absurd (omega (arith, l))
-  shown_parts (a ∷ as) bs [] ys e l = absurd (omega (arith, l))
-  shown_parts (a ∷ as) bs (x ∷ xs) ys e l = by (first _ x _ (xs ++ ys) e) (shown_parts as bs xs ys (later _ x _ (xs ++ ys) e) (omega (arith, l)))
+  pub shown_parts : (fs es : List FileGroup) (xs ys : List Group) → all_shown (rows_of all) (fs ++ es) ≡ xs ++ ys → length fs ≡ length xs → (all_shown (rows_of all) fs ≡ xs) × (all_shown (rows_of all) es ≡ ys)
+  shown_parts [] es [] ys e l = (refl, e)
+  shown_parts [] es (x ∷ xs) ys e l = absurd (omega (arith, l))
+  shown_parts (f ∷ fs) es [] ys e l = absurd (omega (arith, l))
+  shown_parts (f ∷ fs) es (x ∷ xs) ys e l = by (first _ x _ (xs ++ ys) e) (shown_parts fs es xs ys (later _ x _ (xs ++ ys) e) (omega (arith, l)))
     where
-      first : (a x : Group) (as xs : List Group) → a ∷ as ≡ x ∷ xs → a ≡ x
-      first a x as xs e = cc
+      first : (a b : Group) (gs hs : List Group) → a ∷ gs ≡ b ∷ hs → a ≡ b
+      first a b gs hs h = cc
 
-      later : (a x : Group) (as xs : List Group) → a ∷ as ≡ x ∷ xs → as ≡ xs
-      later a x as xs e = cc
+      later : (a b : Group) (gs hs : List Group) → a ∷ gs ≡ b ∷ hs → gs ≡ hs
+      later a b gs hs h = cc
 
-      by : shown (rows_of all) a ≡ x → (all_shown (rows_of all) as ≡ xs) × (all_shown (rows_of all) bs ≡ ys) → (all_shown (rows_of all) (a ∷ as) ≡ x ∷ xs) × (all_shown (rows_of all) bs ≡ ys)
+      by : shown (rows_of all) f ≡ x → (all_shown (rows_of all) fs ≡ xs) × (all_shown (rows_of all) es ≡ ys) → (all_shown (rows_of all) (f ∷ fs) ≡ x ∷ xs) × (all_shown (rows_of all) es ≡ ys)
       by h r = ((λ i. h i ∷ r.0 i), r.1)
 
 -- what holds of each file holds of each group that it shows

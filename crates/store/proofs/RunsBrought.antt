@@ -100,9 +100,9 @@ module _ (s : State) (all : List Group) where
       both [] ys = refl
       both (x ∷ xs) ys = ap (λ (zs : List Row). x.rows ++ zs) (both xs ys) ∙ sym (three x.rows (rows xs) (rows ys))
         where
-          three : (as bs cs : List Row) → (as ++ bs) ++ cs ≡ as ++ (bs ++ cs)
-          three [] bs cs = refl
-          three (a ∷ as) bs cs = ap (λ (zs : List Row). a ∷ zs) (three as bs cs)
+          three : (rs ss ts : List Row) → (rs ++ ss) ++ ts ≡ rs ++ (ss ++ ts)
+          three [] ss ts = refl
+          three (r ∷ rs) ss ts = ap (λ (zs : List Row). r ∷ zs) (three rs ss ts)
 
       same : (qs : List Run) (runs gss : List (List Group)) → AreNew s qs runs gss → rows (sources gss) ≡ rows (sources runs)
       same [] [] [] new = refl

@@ -30,9 +30,9 @@ loop-run-init g c = record {
   same = refl;
   failures = omega arith;
   honest = (λ h. h, λ h. h);
-  come = sym (append-nil (handles_view c.args.written.now.items));
-  fills = λ honest start s given is_open same counter none has are. subst (λ (xs : List (Rc CodeGroup Global)). SoFar g.D.Disk.state start c.args.self.now s c.args.job (handles_view xs) [] given 0 (sources_view c.args.runs.now)) (sym none)
-      (none_done g.D.Disk.state start s c.args.job given c.args.self.now (sources_view c.args.runs.now) has counter are);
+  come = sym (append-nil (handles_view c.args.written.now.items)) ∙ ap (λ (xs : List CodeRun). handles_view c.args.written.now.items ++ brought_by (runs_view xs)) (sym c.new-made.ensures.items);
+  fills = λ honest start s given is_open same counter none has are. subst (λ (rs : List CodeRun). SoFar g.D.Disk.state start c.args.self.now s c.args.job (handles_view c.args.written.now.items) (runs_view rs) given 0 (sources_view c.args.runs.now)) (sym c.new-made.ensures.items)
+      (subst (λ (xs : List (Rc CodeGroup Global)). SoFar g.D.Disk.state start c.args.self.now s c.args.job (handles_view xs) [] given 0 (sources_view c.args.runs.now)) (sym none) (none_done g.D.Disk.state start s c.args.job given c.args.self.now (sources_view c.args.runs.now) has counter are));
 }
 
 pub returns-in_err-one-clause-rewrites : goal.returns-in_err-one-clause-rewrites
