@@ -85,6 +85,9 @@ pub mod CommitLeft
 pub mod CommitOn
 pub mod CommitDone
 pub mod WholeRows
+pub mod Steps
+pub mod Stepped
+pub mod SourcePlaces
 pub mod RunParts
 pub mod RunReads
 pub mod RunShown

@@ -1,5 +1,5 @@
 -- Rows of a group with all columns of its table.
-use Rattle.std.proofs.Common.{◌≡◌, ◌≤◌, ◌<◌, ◌+◌, ℕ, zero, suc, Bool, true, false, not, ◌||◌, nat_eq, List, [], ◌∷◌, map, filter, None, Ok, refl, sym, ◌∙◌, ap, subst, arith, eq-eqb}
+use Rattle.std.proofs.Common.{◌≡◌, ◌≤◌, ◌<◌, ◌+◌, ℕ, zero, suc, Bool, true, false, not, ◌||◌, nat_eq, List, [], ◌∷◌, map, filter, None, Ok, Err, refl, sym, ◌∙◌, ap, subst, arith, eq-eqb}
 use Rattle.std.specs.Prelude.{if◌then◌else◌, IsTrue}
 use Rattle.std.proofs.lemmas.Bool.{false≢true, and_parts}
 use Rattle.schema.specs.Values.{ValueTree, ValueTrees, no_values, value as item}
@@ -11,8 +11,14 @@ use Rattle.schema.specs.Keys.{KeyColumn, AreKeys, width, without_keys, values_be
 use Rattle.schema.proofs.Grown.{padded_grows}
 use Rattle.schema.proofs.Padding.{whole_rows_are_padded}
 use Rattle.disk.specs.State.{State as DiskState}
+use Rattle.bits.specs.declared.refusal.Refusal.{Refusal}
+use Rattle.bits.specs.declared.refusal.Refusal.TheVariants.{Memory}
+use Rattle.bits.specs.Refusals.{HasCause}
+use Rattle.schema.specs.Stripe.{Leaf}
+use Rattle.filter.specs.Test.{Test}
+use Rattle.filter.specs.Terms.{Term, tests_of}
 use Rattle.filter.specs.Deciding.{satisfies as all_satisfied}
-use Rattle.manifest.specs.Groups.{Group as FileGroup}
+use Rattle.manifest.specs.Groups.{Group as FileGroup, Root}
 use Rattle.manifest.specs.Records.{IsGroup}
 use Rattle.manifest.specs.Laws.{RowsOfPartsFit}
 use Rattle.manifest.proofs.PartRows.{rows_of_parts_fit}
@@ -20,6 +26,7 @@ use Rattle.scan.specs.Selected.{AreSelected, cut_to}
 use Rattle.table.specs.Table.{Row, Group}
 use Rattle.table.specs.Cursors.{wanted_places}
 use Rattle.table.proofs.Deciding.{tests_decide}
+use Rattle.store.specs.Counting.{IsHeld}
 use Rattle.store.specs.Stands.{IsStored}
 
 -- ---- they fit the table
@@ -93,3 +100,18 @@ padded_more fs f (x ∷ xs) (r ∷ rs) fit e =
     let all = whole_width fs r fit.0 in
     let one : padded (with_field fs f) x ≡ with_null r = padded_grows fs f x (omega (arith, long, as_long, all)) ∙ ap with_null here in
     ap (λ (y : Row). y ∷ map (padded (with_field fs f)) xs) one ∙ ap (λ (ys : List Row). with_null r ∷ ys) (padded_more fs f xs rs fit.1 later)
+
+-- ---- what is read of a group that is held
+
+pub no_tests : (leaves : List Leaf) (terms : List (List Term)) (tests : List (List Test)) → terms ≡ [] → tests_of leaves terms ≡ Ok tests → tests ≡ []
+no_tests leaves terms tests none made = let e : Ok [] ≡ Ok tests = ap (tests_of leaves) (sym none) ∙ made in cc
+
+pub filter_poor : (leaves : List Leaf) (terms : List (List Term)) → terms ≡ [] → (e : Refusal) → HasCause (λ f. tests_of leaves terms ≡ Err f) e → e ≡ Memory
+filter_poor leaves terms none Memory h = refl
+filter_poor leaves terms none e h = let c : Ok [] ≡ Err e = ap (tests_of leaves) (sym none) ∙ h in absurd (cc)
+
+pub whole_so : (disk : DiskState) (root : Root) (f : FileGroup) (held : Group) (tests : List (List Test)) (places : List ℕ) (out : List Row) → tests ≡ [] → places ≡ wanted_places None 0 root.schema → IsHeld disk [] root f held
+    → AreSelected tests places held.rows out → out ≡ held.rows
+whole_so disk root f held tests places out none all h are =
+    selected_all root.schema held.rows out (stored_fit disk root.keys root.schema h.count f held h.keyed h.described.0 h.stored.0)
+    (subst (λ (ps : List ℕ). AreSelected [] ps held.rows out) all (subst (λ (ts : List (List Test)). AreSelected ts places held.rows out) none are))
