@@ -101,7 +101,7 @@ module _ {D : Type 0} (state : D → DiskState) (store : Store D) (s : State) (s
     pins : Pins
     pinned : pinned_at n (state_of store.snapshots).jobs ≡ Some pins
     job : Job
-    is_open : open_at n s.jobs ≡ Some job
+    there : open_at n s.jobs ≡ Some job
     empty : IsEmpty job
 
   found_so : finds_nothing (job_at n store.jobs.items) ≡ true → IsFound
@@ -115,7 +115,7 @@ module _ {D : Type 0} (state : D → DiskState) (store : Store D) (s : State) (s
             pins = is.2.pins;
             pinned = ap (λ (m : ℕ). pinned_at m (state_of store.snapshots).jobs) (sym is.2.number) ∙ is.2.pinned;
             job = is.0;
-            is_open = is.1;
+            there = is.1;
             empty = nothing_told is.2.pins x.work is.0 f is.2.work;
           }
 
@@ -128,8 +128,8 @@ module _ {D : Type 0} (state : D → DiskState) (store : Store D) (s : State) (s
     not_stale (rewriting runs unread) e = ap (λ (gss : List (List Group)). first (None ∷ None ∷ None ∷ stale_fault s.table (Some (rewriting gss unread)) ∷ [])) e
 
     unfaulted : fault s (commit n) ≡ None
-    unfaulted = commit_fault state store s stands is_open n None true (ap job_fault found.is_open) (lt-ltb s.next_group 9223372036854775808 low)
-        ∙ ap (λ (o : Option Job). first (None ∷ None ∷ None ∷ stale_fault s.table o ∷ [])) found.is_open ∙ not_stale found.job found.empty
+    unfaulted = commit_fault state store s stands is_open n None true (ap job_fault found.there) (lt-ltb s.next_group 9223372036854775808 low)
+        ∙ ap (λ (o : Option Job). first (None ∷ None ∷ None ∷ stale_fault s.table o ∷ [])) found.there ∙ not_stale found.job found.empty
 
     no_fault : fault_of (state_of store.snapshots) (ended n) ≡ None
     no_fault = job_unrefused state store s stands is_open n found.pins found.pinned
@@ -191,7 +191,7 @@ module _ {D : Type 0} (state : D → DiskState) (store : Store D) (s : State) (s
           n = 0;
           table = s.table;
           counter = s.next_group;
-          leads = leads_of found.job found.is_open found.empty;
+          leads = leads_of found.job found.there found.empty;
           answers = refl;
           becomes = ap (λ (h : ℕ → Bool). record s { jobs = ended_at n s.jobs; had = h }) (sym (had_same s stands.reached));
         } in

@@ -86,7 +86,7 @@ module _ {D : Type 0} (state : D → DiskState) (old : Store D) (s : State) (sta
 
     module _ (fine : fault s (commit n) ≡ None) where
       rises : (mid : Store D) → s.next_group ≤ mid.next_group → mid.next_group ≤ s.next_group + length (rows (sources gss)) → Rises s (commit n) mid.next_group
-      rises mid low high = record { most = length (rows (sources gss)); work = sym (ap job_rows here_held.is_open); no_less = low; no_more = high }
+      rises mid low high = record { most = length (rows (sources gss)); work = sym (ap job_rows here_held.there); no_less = low; no_more = high }
 
       pub halted : (mid : Store D) (e : Refusal) → IsHalted state old mid s (IsOfRun s gss) (s.next_group + length (rows (sources gss))) e → ActsFrom state old mid (commit n) (refused e) s
       halted mid e h = refusals_act state old mid s (commit n) mid.next_group e stands is_open h.wrote (why e h.why)
@@ -96,7 +96,7 @@ module _ {D : Type 0} (state : D → DiskState) (old : Store D) (s : State) (sta
 
           why : (f : Refusal) → WhyHalted state old mid s (IsOfRun s gss) f → Happens s (commit n) (refused f) (counted s mid.next_group)
           why Device w = refused_failed refl (ap not is_open) refl same
-          why Limit w = refused_over refl fine (over_group w.0 (rewriting gss here_held.unread, here_held.is_open, w.1) w.2) same
+          why Limit w = refused_over refl fine (over_group w.0 (rewriting gss here_held.unread, here_held.there, w.1) w.2) same
           why Memory w = no_memory refl (ap not is_open) refl same
           why f w = absurd w
 
@@ -115,7 +115,7 @@ module _ {D : Type 0} (state : D → DiskState) (old : Store D) (s : State) (sta
 
       module _ (some : r.runs.items ≡ [] → ⊥) (mid : Store D) (files : List FileGroup) (made : List Run) (h : HasRewritten state old mid s (Some n) files made gss) (jobs_same : mid.jobs ≡ old.jobs) where
         -- what it holds is held still
-        then_held : (pins : Pins) × (pinned_at n (state_of mid.snapshots).jobs ≡ Some pins) × AllByRecursion (λ m. is_among (numbers (sources gss)) m ≡ true) pins.sources
+        pub then_held : (pins : Pins) × (pinned_at n (state_of mid.snapshots).jobs ≡ Some pins) × AllByRecursion (λ m. is_among (numbers (sources gss)) m ≡ true) pins.sources
         then_held =
             let found = job_found (state mid.vault.disk) s.table.keys s.table.schema s.next_group s.options.group_rows s.had n (state_of mid.snapshots).jobs mid.jobs.items s.jobs h.written.wrote.jobs at.0 (ap (λ (js : Vec OpenJob Global). job_at n js.items) jobs_same ∙ at.1) in
             by found.2.pins (ap (λ (m : ℕ). pinned_at m (state_of mid.snapshots).jobs) (sym found.2.number) ∙ found.2.pinned) found.0 found.1
@@ -126,7 +126,7 @@ module _ {D : Type 0} (state : D → DiskState) (old : Store D) (s : State) (sta
 
             by : (pins : Pins) → pinned_at n (state_of mid.snapshots).jobs ≡ Some pins → (j : Job) → open_at n s.jobs ≡ Some j → ShowsWork (state mid.vault.disk) s.table.keys s.table.schema s.next_group s.options.group_rows s.had pins (Rewrite r) j
                 → (pins : Pins) × (pinned_at n (state_of mid.snapshots).jobs ≡ Some pins) × AllByRecursion (λ m. is_among (numbers (sources gss)) m ≡ true) pins.sources
-            by pins pinned (rewriting qss unread) e w = (pins, pinned, subst (λ (xss : List (List Group)). AllByRecursion (λ m. is_among (numbers (sources xss)) m ≡ true) pins.sources) (one qss gss unread here_held.unread e here_held.is_open) w.pinned)
+            by pins pinned (rewriting qss unread) e w = (pins, pinned, subst (λ (xss : List (List Group)). AllByRecursion (λ m. is_among (numbers (sources xss)) m ≡ true) pins.sources) (one qss gss unread here_held.unread e here_held.there) w.pinned)
             by pins pinned (appending staged) e w = absurd w
 
         abbrev good : stale_fault s.table (Some (rewriting gss here_held.unread)) ≡ None
@@ -137,22 +137,22 @@ module _ {D : Type 0} (state : D → DiskState) (old : Store D) (s : State) (sta
 
         pub count_is : (m : ℕ) → m ≡ rows_in files → m ≡ length (rows (sources gss))
         count_is m e = e ∙ rows_counted (state mid.vault.disk) s.table.keys s.table.schema mid.next_group files (sources h.groups) h.written.stored
-            ∙ rows_same state old mid s stands is_open n gss here_held.unread here_held.is_open good some_gss files made h then_held.0 then_held.1 then_held.2
+            ∙ rows_same state old mid s stands is_open n gss here_held.unread here_held.there good some_gss files made h then_held.0 then_held.1 then_held.2
 
         module _ (next : ℕ) (falls : s.table.next ≤ next) (above : AllByRecursion (λ (g : FileGroup). g.number < next) files) (least : (next ≡ s.table.next) ⊎ IsNextOf next files) (gs : List FileGroup) (are : gs ≡ replaced (changes_of made) (root_of mid.manifest).groups) where
           abbrev pub table_so : Table
-          table_so = table_then state old mid s stands is_open n gss here_held.unread here_held.is_open good some_gss files made h then_held.0 then_held.1 then_held.2 next falls above least
+          table_so = table_then state old mid s stands is_open n gss here_held.unread here_held.there good some_gss files made h then_held.0 then_held.1 then_held.2 next falls above least
 
           pub planned : IsPlanned (state mid.vault.disk) mid (counted s mid.next_group) table_so (ended_at n s.jobs) (Some n) (with_version (root_of mid.manifest) gs next)
           planned = subst (λ (hs : List FileGroup). IsPlanned (state mid.vault.disk) mid (counted s mid.next_group) table_so (ended_at n s.jobs) (Some n) (with_version (root_of mid.manifest) hs next)) (sym are)
-              (planned_so state old mid s stands is_open n gss here_held.unread here_held.is_open good some_gss files made h then_held.0 then_held.1 then_held.2 next falls above least)
+              (planned_so state old mid s stands is_open n gss here_held.unread here_held.there good some_gss files made h then_held.0 then_held.1 then_held.2 next falls above least)
 
           pub too_heavy : IsRootTooHeavy (with_version (root_of mid.manifest) gs next) → IsOver s (commit n)
-          too_heavy heavy = over_so state old mid s stands is_open n gss here_held.unread here_held.is_open good some_gss files made h then_held.0 then_held.1 then_held.2 next falls above least
+          too_heavy heavy = over_so state old mid s stands is_open n gss here_held.unread here_held.there good some_gss files made h then_held.0 then_held.1 then_held.2 next falls above least
               (subst (λ (hs : List FileGroup). IsRootTooHeavy (with_version (root_of mid.manifest) hs next)) are heavy)
 
           asked : AsksCommit s (commit n) (length (rows (sources gss))) table_so mid.next_group
-          asked = asks state old mid s stands is_open n gss here_held.unread here_held.is_open good some_gss files made h then_held.0 then_held.1 then_held.2 next falls above least fine
+          asked = asks state old mid s stands is_open n gss here_held.unread here_held.there good some_gss files made h then_held.0 then_held.1 then_held.2 next falls above least fine
 
           pub done_so : (new : Store D) → Turns {T = Unit {0}} state mid new (counted s mid.next_group) table_so (ended_at n s.jobs) (Ok tt) → ActsFrom state old new (commit n) (done (length (rows (sources gss)))) s
           done_so new turns = commits_act state old mid new s (commit n) (length (rows (sources gss))) table_so mid.next_group (Ok tt) stands is_open asked h.written.wrote tt turns

@@ -81,14 +81,14 @@ module _ {D : Type 0} (state : D → DiskState) (old : Store D) (s : State) (sta
   pub record HeldRewrite (r : Rewriting) : Type 0 where
     pub runs : List (List Group)
     pub unread : List ℕ
-    pub is_open : open_at n s.jobs ≡ Some (rewriting runs unread)
+    pub there : open_at n s.jobs ≡ Some (rewriting runs unread)
     pub pins : Pins
     pub pinned : pinned_at n (state_of old.snapshots).jobs ≡ Some pins
     pub shows : ShowsRewrite disk s.table.keys s.table.schema s.next_group s.options.group_rows s.had pins r runs unread
 
   held_by : (r : Rewriting) (pins : Pins) → pinned_at n (state_of old.snapshots).jobs ≡ Some pins → (j : Job) → open_at n s.jobs ≡ Some j
       → ShowsWork disk s.table.keys s.table.schema s.next_group s.options.group_rows s.had pins (Rewrite r) j → HeldRewrite r
-  held_by r pins pinned (rewriting runs unread) e w = record { runs = runs; unread = unread; is_open = e; pins = pins; pinned = pinned; shows = w }
+  held_by r pins pinned (rewriting runs unread) e w = record { runs = runs; unread = unread; there = e; pins = pins; pinned = pinned; shows = w }
   held_by r pins pinned (appending staged) e w = absurd w
 
   pub held : (r : Rewriting) → IsRewriteAt n old.jobs.items r → HeldRewrite r
@@ -142,12 +142,12 @@ module _ {D : Type 0} (state : D → DiskState) (old : Store D) (s : State) (sta
         let same : numbers_of (root_of old.manifest).groups ≡ numbers s.table.groups = same_numbers disk s.table.keys s.table.schema s.next_group (root_of old.manifest).groups s.table.groups (stands.shows.shown is_open).version in
         let there : list_all (is_among (numbers s.table.groups)) (numbers (sources runs)) ≡ b
         = ap (λ (ms : List ℕ). list_all (is_among ms) (numbers (sources runs))) (sym same) ∙ ap (λ (ms : List ℕ). list_all (is_among (numbers_of (root_of old.manifest).groups)) ms) (sym (told ∙ source_numbers)) ∙ all in
-        commit_fault state old s stands is_open n None true (ap job_fault here_held.is_open) (lt-ltb s.next_group 9223372036854775808 low)
-        ∙ ap (λ (o : Option Job). first (None ∷ None ∷ None ∷ stale_fault s.table o ∷ [])) here_held.is_open
+        commit_fault state old s stands is_open n None true (ap job_fault here_held.there) (lt-ltb s.next_group 9223372036854775808 low)
+        ∙ ap (λ (o : Option Job). first (None ∷ None ∷ None ∷ stale_fault s.table o ∷ [])) here_held.there
         ∙ ap (λ (c : Bool). first (None ∷ None ∷ None ∷ unless c Stale ∷ [])) there
 
     pub not_stale : fault s (commit n) ≡ None → stale_fault s.table (Some (rewriting runs here_held.unread)) ≡ None
-    not_stale fine = ap (stale_fault s.table) (sym here_held.is_open) ∙ by _ _ _ (stale_fault s.table (open_at n s.jobs)) fine
+    not_stale fine = ap (stale_fault s.table) (sym here_held.there) ∙ by _ _ _ (stale_fault s.table (open_at n s.jobs)) fine
       where
         by : (a b c o : Option Refusal) → first (a ∷ b ∷ c ∷ o ∷ []) ≡ None → o ≡ None
         by None None None None e = refl
@@ -158,7 +158,7 @@ module _ {D : Type 0} (state : D → DiskState) (old : Store D) (s : State) (sta
 
     module _ (fine : fault s (commit n) ≡ None) where
       stand : StandInRows runs s.table.groups
-      stand = sources_stand s n runs here_held.unread stands.reached here_held.is_open (not_stale fine)
+      stand = sources_stand s n runs here_held.unread stands.reached here_held.there (not_stale fine)
 
       abbrev job : Option OpenJob
       job = job_at n old.jobs.items

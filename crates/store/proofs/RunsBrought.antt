@@ -379,8 +379,8 @@ module _ {D : Type 0} (state : D → DiskState) (old mid : Store D) (s : State) 
                 one (nat_eq m k) refl p.0 (every ns p.1 k) f
               where
                 one : (b : Bool) → nat_eq m k ≡ b → is_among (numbers s.table.groups) m ≡ true → (is_among ns k ≡ true → is_among (numbers s.table.groups) k ≡ true) → (b || is_among ns k) ≡ true → is_among (numbers s.table.groups) k ≡ true
-                one true same here later g = subst (λ (j : ℕ). is_among (numbers s.table.groups) j ≡ true) (eqb-true m k same) here
-                one false same here later g = later g
+                one true same own later g = subst (λ (j : ℕ). is_among (numbers s.table.groups) j ≡ true) (eqb-true m k same) own
+                one false same own later g = later g
 
         by : (ns : List ℕ) → AllByRecursion (λ m. is_among (numbers (sources runs)) m ≡ true) ns → has_groups olds ns ≡ true
         by [] a = refl

@@ -19,6 +19,6 @@ returns-then-place-read-clause-told c =
 
 pub returns-clause-told : goal.returns-clause-told
 returns-clause-told c =
-    let there = slice_get_read c.args.read.now (length c.args.read.now) c.args.place c.index-read-place.result refl (omega (arith, c.if-place-read.false)) c.index-read-place.ensures in
+    let there = slice_get_read c.args.read.now (length c.args.read.now) c.args.place c.index-read-place.result refl (omega (arith, c.if-place-read.false)) c.index-read-place.is in
     ap (λ (rs : List Row). Some rs) (c.in_ok-copies.ensures.completes ∙ ap (λ (xs : List CodeRow). completed_rows c.args.schema.now (rows_view xs)) c.as_slice.ensures.value)
     ∙ ap (λ (o : Option (Vec CodeRow Global)). option_map (completed_rows c.args.schema.now) (option_map (λ (v : Vec CodeRow Global). rows_view v.items) o)) (sym there)

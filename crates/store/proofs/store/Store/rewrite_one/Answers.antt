@@ -88,7 +88,7 @@ returns-clause-rewrites g c honest start s groups given is_open same has are is 
     (c.split_at.ensures.back ∙ ap (λ (xs : List (Rc CodeGroup Global)). drop (length c.as_slice-first.result.now) xs) c.as_slice-3.ensures.value) in
     let made = subst (λ (gs : List FileGroup). IfOk c.made_run.result (λ r. run_view r ≡ record { sources = numbers_of fs; come = gs })) come
     (subst (λ (xs : List (Rc CodeGroup Global)). IfOk c.made_run.result (λ r. run_view r ≡ record { sources = numbers_of (handles_view xs); come = handles_view c.split_at.result.1.now })) c.as_slice-4.ensures.value c.made_run.ensures.made) in
-    one_made state start s n mid new was files groups given fs c.args.place has are is old.next_group added c.made_run.result made c.made_run.ensures.which
+    one_made state start s n mid new was files groups given fs c.args.place got.0 are is old.next_group added c.made_run.result made c.made_run.ensures.which
 
 pub returns-clause-come : goal.returns-clause-come
 returns-clause-come g c =

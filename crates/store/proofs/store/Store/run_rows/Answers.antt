@@ -26,7 +26,8 @@ loop-group-init g c = record {
   same = refl;
   failures = omega arith;
   honest = (λ h. h, λ h. h);
-  reads = λ honest start s files written run is_open same has are. nothing_read g.D.Disk.state start s c.args.job files written c.args.self.now c.args.place (handles_view c.args.groups.now) run has are;
+  reads = λ honest start s files written run is_open same has are. subst (λ (xs : List CodeRow). IsRead g.D.Disk.state start c.args.self.now s c.args.job files written c.args.place (handles_view c.args.groups.now) (rows_view xs) (rows run)) (sym c.new-rows.ensures.items)
+      (nothing_read g.D.Disk.state start s c.args.job files written c.args.self.now c.args.place (handles_view c.args.groups.now) run has are);
 }
 
 pub returns-in_err-more-clause-reads : goal.returns-in_err-more-clause-reads
