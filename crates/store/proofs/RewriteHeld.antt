@@ -25,7 +25,7 @@ use Rattle.table.specs.Table.{Row, Group, IsGroupIn, rows, numbers}
 use Rattle.table.specs.State.{State, Job, appending, rewriting, sources, open_at}
 use Rattle.table.specs.Standing.{StandInRows, IsRun}
 use Rattle.table.specs.Faults.{first, unless}
-use Rattle.table.specs.Checks.{fault, job_fault, stale_fault}
+use Rattle.table.specs.Checks.{fault, closed_fault, job_fault, counter_fault, stale_fault}
 use Rattle.table.specs.Calls.{commit}
 use Rattle.table.proofs.Standing.{sources_stand}
 use Rattle.store.specs.declared.store.Store.{Store}
@@ -147,7 +147,7 @@ module _ {D : Type 0} (state : D → DiskState) (old : Store D) (s : State) (sta
         ∙ ap (λ (c : Bool). first (None ∷ None ∷ None ∷ unless c Stale ∷ [])) there
 
     pub not_stale : fault s (commit n) ≡ None → stale_fault s.table (Some (rewriting runs here_held.unread)) ≡ None
-    not_stale fine = ap (stale_fault s.table) (sym here_held.there) ∙ by _ _ _ (stale_fault s.table (open_at n s.jobs)) fine
+    not_stale fine = ap (stale_fault s.table) (sym here_held.there) ∙ by (closed_fault s) (job_fault (open_at n s.jobs)) (counter_fault s) (stale_fault s.table (open_at n s.jobs)) fine
       where
         by : (a b c o : Option Refusal) → first (a ∷ b ∷ c ∷ o ∷ []) ≡ None → o ≡ None
         by None None None None e = refl
