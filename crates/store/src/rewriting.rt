@@ -51,6 +51,7 @@ impl<D: Disk> Store<D> {
         }
         let sources = Vec::from_slice(alloc, numbers)?;
         let runs = runs_of(alloc, self.manifest.groups(), numbers)?;
+        // A place for each source, so that no step is refused after it has read.
         let read = Vec::with_capacity(alloc, numbers.len())?;
         let work = Work::Rewrite(Rewriting { runs, read });
         let number = self.begin_job(alloc, Some(sources), work)?;
