@@ -64,7 +64,13 @@ impl<D: Disk> Store<D> {
         ensures counts { (D.state self.old.vault.disk).failures ≤ (D.state self.new.vault.disk).failures }
         ensures honest { (D.state self.old.vault.disk).honest ↔ (D.state self.new.vault.disk).honest }
     {
-        match kept_rows(alloc, self.jobs.as_slice(), job, place, self.manifest.schema())? {
+        match kept_rows(
+            alloc,
+            self.jobs.as_slice(),
+            job,
+            place,
+            self.manifest.schema(),
+        )? {
             Some(rows) => Ok(rows),
             None => whole_rows(alloc, &mut self.vault, &self.manifest, group),
         }

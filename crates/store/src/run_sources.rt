@@ -114,12 +114,7 @@ pub(crate) fn kept_rows(
     }
 }
 
-fn kept_of_work(
-    alloc: Global,
-    work: &Work,
-    place: usize,
-    schema: &Schema,
-) -> R<Option<Vec<Row>>>
+fn kept_of_work(alloc: Global, work: &Work, place: usize, schema: &Schema) -> R<Option<Vec<Row>>>
     ensures told { IfOk result (λ o. option_map (λ v. rows_view v.items) o ≡ option_map (completed_rows schema.now) (kept_of_work place work.now)) }
     ensures which { RefusedMemoryOnly result }
 {
