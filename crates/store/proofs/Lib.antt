@@ -94,3 +94,10 @@ pub mod Removed
 pub mod Replaced
 pub mod Judged
 pub mod Removals
+pub mod RunParts
+pub mod RunReads
+pub mod RunShown
+pub mod RunsBrought
+pub mod RewriteHeld
+pub mod RewriteDone
+pub mod RunByRun

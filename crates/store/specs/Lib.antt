@@ -29,3 +29,4 @@ pub mod Counting
 pub mod Completing
 pub mod Stepping
 pub mod Removing
+pub mod Rewritten
