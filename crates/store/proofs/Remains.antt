@@ -1,5 +1,5 @@
 -- What comes in the place of each group, and that this is what a removal makes of a table's groups.
-use Rattle.std.proofs.Common.{◌≡◌, ◌≤◌, ◌+◌, ℕ, zero, suc, Bool, true, false, not, ◌||◌, ◌&&◌, ◌==◌, nat_eq, List, [], ◌∷◌, ◌++◌, map, filter, drop, length, Option, Some, None, refl, sym, ◌∙◌, ap, subst, arith, append_assoc, add-one}
+use Rattle.std.proofs.Common.{◌≡◌, ◌≤◌, ◌+◌, ℕ, zero, suc, Bool, true, false, not, ◌||◌, nat_eq, List, [], ◌∷◌, ◌++◌, map, filter, drop, length, Option, Some, None, refl, sym, ◌∙◌, ap, subst, arith, append_assoc, add-one}
 use Rattle.std.specs.Prelude.{if◌then◌else◌, slice_get, nat_lt, Contains}
 use Rattle.std.specs.List.{list_any, list_all, AllByRecursion, AllZip}
 use Rattle.std.proofs.lemmas.Bool.{and_from}
@@ -18,7 +18,7 @@ use Rattle.planning.specs.Shown.{HasKeyOf}
 use Rattle.table.specs.Table.{Row, Key, Group, IsRowIn, IsGroupIn, rows}
 use Rattle.table.specs.Commits.{has_rows, rest_of}
 use Rattle.table.specs.Leading.{touched}
-use Rattle.store.specs.Stands.{IsStored, AreStored}
+use Rattle.store.specs.Stands.{AreStored}
 use Rattle.store.specs.Removing.{Outcome, stays, goes, comes, IsLeft, not_those, files_at, groups_at, files_come, groups_come, change_for, changes_for}
 use Rattle.store.proofs.Kept.{all_kept}
 use Rattle.store.proofs.Passed.{drop_at}

@@ -1,8 +1,8 @@
 -- A removal, from group to group: what comes in the place of each.
-use Rattle.std.proofs.Common.{◌≡◌, ◌≤◌, ◌<◌, ◌+◌, ℕ, zero, suc, Bool, true, false, not, List, [], ◌∷◌, ◌++◌, map, drop, length, filter, Option, Some, None, Result, Ok, Err, refl, sym, ◌∙◌, ap, subst, arith, ⊎_elim}
-use Rattle.std.specs.Prelude.{slice_get, IsTrue}
-use Rattle.std.specs.List.{list_any, AllByRecursion, AllZip}
-use Rattle.std.proofs.lemmas.List.{nil_from_length, length-map, length-append}
+use Rattle.std.proofs.Common.{◌≡◌, ◌≤◌, ◌<◌, ◌+◌, ℕ, zero, suc, Bool, true, false, not, List, [], ◌∷◌, ◌++◌, map, drop, length, filter, Some, None, Result, Ok, Err, refl, sym, ◌∙◌, ap, subst, arith, ⊎_elim}
+use Rattle.std.specs.Prelude.{slice_get}
+use Rattle.std.specs.List.{list_any, AllByRecursion}
+use Rattle.std.proofs.lemmas.List.{length-append}
 use Rattle.bits.specs.declared.refusal.Refusal.{Refusal}
 use Rattle.bits.specs.declared.refusal.Refusal.TheVariants.{Limit, Device, Memory}
 use Rattle.bits.specs.Refusals.{HasCause}
@@ -10,10 +10,10 @@ use Rattle.schema.specs.Shape.{Fields}
 use Rattle.schema.specs.Fits.{RowsFit}
 use Rattle.schema.specs.Keys.{KeyColumn, AreKeys, AreRowsOf, row_without_keys, without_keys}
 use Rattle.schema.specs.Stripe.{leaves_of}
-use Rattle.schema.specs.Views.{key_view, rows_view}
+use Rattle.schema.specs.Views.{key_view}
 use Rattle.disk.specs.State.{State as DiskState}
 use Rattle.vault.specs.declared.vault.Vault.{Vault}
-use Rattle.vault.specs.Calls.{LeavesAll, HasFailed, CountsOnce}
+use Rattle.vault.specs.Calls.{LeavesAll, HasFailed}
 use Rattle.filter.specs.Test.{Test}
 use Rattle.filter.specs.Terms.{tests_of}
 use Rattle.filter.specs.Deciding.{satisfies as all_satisfied}
@@ -31,7 +31,7 @@ use Rattle.store.specs.declared.store.Store.{Store}
 use Rattle.store.specs.declared.remaining.Remains.{Remains}
 use Rattle.store.specs.declared.removing.Removed.{Removed}
 use Rattle.store.specs.Buffers.{buffer}
-use Rattle.store.specs.Counting.{AreHeld, IsHeld}
+use Rattle.store.specs.Counting.{IsHeld}
 use Rattle.store.specs.Filling.{HasWritten, IsBuffer}
 use Rattle.store.specs.Reading.{OnlyReads}
 use Rattle.store.specs.Removing.{Outcome, stays, goes, comes, IsLeft, not_those, change_for, changes_for, files_come, groups_come, AreRemains, IsOfRest, HasPut, WhyNotPut, Puts, HasReplaced, Replaces, WhyHalted, IsHalted}
@@ -40,9 +40,8 @@ use Rattle.store.specs.Writing.{counted}
 use Rattle.store.proofs.Adding.{failed_since as failed_on}
 use Rattle.store.proofs.Buffered.{drop_all}
 use Rattle.store.proofs.Kept.{all_kept}
-use Rattle.store.proofs.Passed.{drop_at}
 use Rattle.store.proofs.Widths.{is_row_of}
-use Rattle.store.proofs.Remains.{zip_push, drop_more, passed_more, filtered_both, none_picked, no_picked, any_picked, touched_here, untouched_here, come_files, come_groups, changes_more, touched_at, picked_less}
+use Rattle.store.proofs.Remains.{zip_push, drop_more, passed_more, filtered_both, no_picked, any_picked, touched_here, untouched_here, come_files, come_groups, changes_more, touched_at}
 use Rattle.store.proofs.Replacing.{wrote_read, has_read}
 
 -- ---- the group at a place

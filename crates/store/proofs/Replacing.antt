@@ -1,5 +1,5 @@
 -- A removal, from group to group: what is read, and what is written of it.
-use Rattle.std.proofs.Common.{◌≡◌, ◌≤◌, ◌<◌, ◌+◌, ◌⊎◌, ℕ, Bool, true, false, List, [], ◌∷◌, ◌++◌, map, drop, length, filter, Option, Some, None, Result, Ok, Err, refl, sym, ◌∙◌, ap, subst, arith, inl, inr, ⊎_elim}
+use Rattle.std.proofs.Common.{◌≡◌, ◌≤◌, ◌+◌, ◌⊎◌, ℕ, true, false, List, [], ◌∷◌, ◌++◌, map, length, Option, None, Result, Ok, Err, refl, sym, ◌∙◌, ap, subst, arith, ⊎_elim}
 use Rattle.std.specs.Prelude.{OnOk}
 use Rattle.std.proofs.lemmas.List.{nil_from_length, length-map}
 use Rattle.std.specs.Rc.{rc_value}
@@ -32,8 +32,6 @@ use Rattle.store.specs.declared.store.Store.{Store}
 use Rattle.store.specs.declared.remaining.Remains.{Remains}
 use Rattle.store.specs.declared.removing.Removed.{Removed}
 use Rattle.store.specs.Paths.{IsBelow}
-use Rattle.store.specs.Spares.{Spares}
-use Rattle.store.specs.Stands.{AreStored}
 use Rattle.store.specs.Writing.{Writes, IsPartRefusal, counted}
 use Rattle.store.specs.Acting.{WroteTo}
 use Rattle.store.specs.Buffers.{buffer}
@@ -41,7 +39,7 @@ use Rattle.store.specs.Filling.{HasWritten, IsBuffer, written_group}
 use Rattle.store.specs.Removing.{Puts, WhyNotPut, goes, comes}
 use Rattle.store.proofs.Adding.{failed_since as failed_on, wrote_so, one_more}
 use Rattle.store.proofs.Spared.{read_spares, spares_on}
-use Rattle.store.proofs.Stored.{jobs_on, hold_same, part_below}
+use Rattle.store.proofs.Stored.{jobs_on, hold_same}
 use Rattle.store.proofs.Written.{same_use}
 use Rattle.store.proofs.Cleaned.{still}
 use Rattle.store.proofs.Fetched.{stored_left}

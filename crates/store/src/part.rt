@@ -127,14 +127,7 @@ impl<D: Disk> Store<D> {
         let Some(options) = wide_options(&self.options, rows.len()) else {
             return Err(Refusal::Memory);
         };
-        match part_of(
-            alloc,
-            &self.manifest,
-            self.next_group,
-            &options,
-            key,
-            rows,
-        ) {
+        match part_of(alloc, &self.manifest, self.next_group, &options, key, rows) {
             Ok(part) => Ok(part),
             Err(Refusal::Limit) => Err(Refusal::Memory),
             Err(refusal) => Err(refusal),

@@ -1,11 +1,8 @@
-use Rattle.std.proofs.Common.{◌≡◌, List, Option, Some, None, sym, subst}
+use Rattle.std.proofs.Common.{◌≡◌, List, Some, sym, subst}
 use Rattle.std.specs.Prelude.{IfOk}
 use Rattle.std.specs.List.{slice_get}
-use Rattle.bits.specs.Refusals.{RefusedOnly}
-use Rattle.schema.specs.Fits.{RowsFit}
 use Rattle.filter.specs.Test.{tests_in}
 use Rattle.manifest.specs.Groups.{Group as FileGroup, group_view, root_of, groups_in}
-use Rattle.scan.specs.Faults.{IsDevice}
 use Rattle.store.specs.Counting.{IsHeld}
 use Rattle.store.specs.Removing.{AreRemains}
 use Rattle.store.proofs.Finding.{found, not_found}

@@ -1,7 +1,6 @@
-use Rattle.std.proofs.Common.{◌≡◌, List, [], map, filter, length, Result, Err, refl, sym, ◌∙◌, ap, subst}
+use Rattle.std.proofs.Common.{List, map, filter, length, Result, Err, sym, ◌∙◌, ap, subst}
 use Rattle.bits.specs.declared.refusal.Refusal.{Refusal}
 use Rattle.bits.specs.Refusals.{RefusedOnly}
-use Rattle.schema.specs.declared.row.Row.{Row as CodeRow}
 use Rattle.schema.specs.Keys.{KeyColumn, key_columns_view, row_without_keys}
 use Rattle.schema.specs.Views.{rows_view}
 use Rattle.vault.proofs.Chained.{refused}

@@ -1,6 +1,6 @@
-use Rattle.std.proofs.Common.{◌≡◌, ℕ, List, [], None, Ok, sym, ◌∙◌, ap, subst}
+use Rattle.std.proofs.Common.{◌≡◌, List, [], None, Ok, sym, ◌∙◌, ap, subst}
 use Rattle.schema.specs.Shape.{Fields}
-use Rattle.schema.specs.Keys.{KeyColumn, AreKeys, key_columns_view}
+use Rattle.schema.specs.Keys.{KeyColumn, AreKeys}
 use Rattle.schema.specs.Stripe.{leaves_of}
 use Rattle.filter.specs.Terms.{tests_of}
 use Rattle.filter.specs.Test.{tests_in}

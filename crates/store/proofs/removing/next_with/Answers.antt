@@ -1,4 +1,4 @@
-use Rattle.std.proofs.Common.{◌≡◌, ◌≤◌, ◌<◌, ◌⊎◌, ◌+◌, ◌++◌, ℕ, List, [], ◌∷◌, take, inl, inr, refl, sym, ◌∙◌, ap, subst, arith, append_assoc, ⊎_elim}
+use Rattle.std.proofs.Common.{◌≡◌, ◌<◌, ◌⊎◌, ◌+◌, ◌++◌, ℕ, List, [], ◌∷◌, take, inl, inr, sym, ◌∙◌, ap, subst, arith, append_assoc, ⊎_elim}
 use Rattle.std.specs.List.{AllByRecursion}
 use Rattle.std.proofs.lemmas.List.{append-nil}
 use Rattle.std.specs.declared.rc.Rc.{Rc}
@@ -12,7 +12,7 @@ use Rattle.planning.specs.Replaced.{Change, change_view, changes_view}
 use Rattle.planning.specs.Told.{IsNextOf}
 use Rattle.planning.proofs.Below.{below_rises}
 use Rattle.store.proofs.Brought.{all_append}
-use Rattle.store.proofs.Buffered.{take_item, take_whole}
+use Rattle.store.proofs.Buffered.{take_item}
 use Rattle.store.proofs.removing.next_with.Goals as goal
 
 brought_more : (cs : List Change) (d : Change) → brought (cs ++ d ∷ []) ≡ brought cs ++ d.come

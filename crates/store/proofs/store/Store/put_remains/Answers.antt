@@ -1,4 +1,4 @@
-use Rattle.std.proofs.Common.{◌≡◌, ◌≤◌, ◌++◌, ℕ, zero, suc, nat_eq, false, List, [], ◌∷◌, length, refl, sym, ◌∙◌, ap, arith}
+use Rattle.std.proofs.Common.{◌≡◌, ◌≤◌, ◌++◌, ℕ, zero, suc, nat_eq, false, List, [], ◌∷◌, sym, ◌∙◌, ap, subst, arith}
 use Rattle.std.proofs.lemmas.Bool.{eqb-true}
 use Rattle.std.specs.declared.rc.Rc.{Rc}
 use Rattle.std.specs.declared.alloc.Global.{Global}
@@ -19,7 +19,7 @@ some_of (suc n) e = omega arith
 pub returns-then-is_empty-clause-puts : goal.returns-then-is_empty-clause-puts
 returns-then-is_empty-clause-puts g c honest start s files groups held is_open has b =
     let rest = c.args.remains.now in
-    let none = eqb-true (length rest.rest.rows.items) 0 (sym c.is_empty.ensures ∙ c.if-is_empty.true) in
+    let none = sym rest.rest.rows.ok.0 ∙ eqb-true rest.rest.rows.len 0 (sym c.is_empty.ensures ∙ c.if-is_empty.true) in
     put_nothing g.D.Disk.state start c.args.self.now s is_open files groups has rest held b c.args.removed.now c.add_change.new.removed none (handles_view c.new.result.items) (ap handles_view c.new.ensures.items)
     c.add_change.result (c.add_change.ensures.changed, c.add_change.ensures.counted, c.add_change.ensures.which)
 
@@ -53,8 +53,8 @@ returns-clause-puts g c honest start s files groups held is_open has b =
     let rest = c.args.remains.now in
     let before = c.args.removed.now in
     let done = c.in_ok-group in
-    let some = some_of (length rest.rest.rows.items) (sym c.is_empty.ensures ∙ c.if-is_empty.false) in
+    let some = subst (λ (n : ℕ). 1 ≤ n) rest.rest.rows.ok.0 (some_of rest.rest.rows.len (sym c.is_empty.ensures ∙ c.if-is_empty.false)) in
     let come = ap handles_view c.in_ok-push.ensures.items ∙ ap (λ (hs : List (Rc CodeGroup Global)). handles_view (hs ++ done.group ∷ [])) c.new-come.ensures.items in
-    put_one g.D.Disk.state start old s is_open files groups has rest held b before c.add_change.new.removed new done.ensures.counts (ap (λ (x : Store g.row.D.Denot). x.jobs) done.ensures.same) done.group
+    put_one g.D.Disk.state start old s is_open files groups has rest held b before c.add_change-2.new.removed new done.ensures.counts (ap (λ (x : Store g.row.D.Denot). x.jobs) done.ensures.same) done.group
     (done.ensures.writes honest (counted s old.next_group) held has.wrote.shows is_open b.are) some (handles_view c.push.new.self.items) come
-    c.add_change.result (c.add_change.ensures.changed, c.add_change.ensures.counted, c.add_change.ensures.which)
+    c.add_change-2.result (c.add_change-2.ensures.changed, c.add_change-2.ensures.counted, c.add_change-2.ensures.which)

@@ -1,4 +1,4 @@
-use Rattle.std.proofs.Common.{◌≡◌, ◌≤◌, ◌<◌, ◌+◌, ℕ, Result, Err, refl, sym, ◌∙◌, ap, subst, arith}
+use Rattle.std.proofs.Common.{◌≤◌, ◌+◌, refl, ap, arith}
 use Rattle.vault.proofs.Chained.{refused}
 use Rattle.filter.specs.Test.{tests_in}
 use Rattle.filter.specs.Deciding.{satisfies as all_satisfied}

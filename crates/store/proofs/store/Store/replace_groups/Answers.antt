@@ -1,4 +1,4 @@
-use Rattle.std.proofs.Common.{◌≡◌, ◌≤◌, ◌<◌, List, length, refl, sym, ◌∙◌, ap, subst, arith}
+use Rattle.std.proofs.Common.{◌≤◌, ◌<◌, List, length, refl, sym, ◌∙◌, ap, subst, arith}
 use Rattle.vault.proofs.Chained.{refused, both}
 use Rattle.filter.specs.Test.{tests_in}
 use Rattle.filter.specs.Deciding.{satisfies as all_satisfied}
