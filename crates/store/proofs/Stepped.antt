@@ -302,15 +302,22 @@ module _ {D : Type 0} (state : D → DiskState) (store : Store D) (s : State) (s
                 let told = more_left now s.table.keys s.table.schema s.next_group s.options.group_rows s.had pins_then t.r t.runs t.unread shows_then f next_then stands.shows.valid.keys rows rows_then q one two in
                 let takes = takes_one now s.table.keys s.table.schema s.next_group s.options.group_rows s.had pins_then t.r t.runs t.unread shows_then f next_then stands.shows.valid.keys rows rows_then q one two in
                 let shown = read_more now s.table.keys s.table.schema s.next_group s.options.group_rows s.had pins_then t.r t.runs t.unread shows_then f next_then stands.shows.valid.keys rows rows_then q one two in
-                let happens : Happens s call (more b) after = (fine, (b, refl, record {
-                  runs = t.runs;
-                  unread = t.unread;
-                  rest = left;
-                  is_open = t.is_open_at;
-                  takes = takes;
-                  is_left = is ∙ sym told;
-                  becomes = record { counter = s.next_group; rises = stays_there s call; is = refl };
-                })) in
+                let happens : Happens s call (more b) after = (
+                  fine,
+                  (
+                    b,
+                    refl,
+                    record {
+                      runs = t.runs;
+                      unread = t.unread;
+                      rest = left;
+                      is_open = t.is_open_at;
+                      takes = takes;
+                      is_left = is ∙ sym told;
+                      becomes = record { counter = s.next_group; rises = stays_there s call; is = refl };
+                    },
+                  ),
+                ) in
                 record {
                   after = after;
                   happens = happens;

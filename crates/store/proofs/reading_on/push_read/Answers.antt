@@ -24,11 +24,10 @@ returns-then-jobs-i-clause-pushed c x there =
     let again = subst (λ (xs : List OpenJob). c.index-jobs-i-then-jobs-i.result ≡ get_or xs i c.index-jobs-i-then-jobs-i.result) same c.index-jobs-i-then-jobs-i.is in
     let low = subst (λ (xs : List OpenJob). i < length xs) same (omega (arith, c.loop-i-test.true)) in
     let number : c.index-jobs-i.result.number ≡ n = ap (λ (y : OpenJob). y.number) c.index-jobs-i.is ∙ c.if-jobs-i.true in
-    let one : c.index-jobs-i-then-jobs-i.result ≡ x = again_is old i c.index-jobs-i-then-jobs-i.result c.index-jobs-i.result low again is ∙ some_is c.index-jobs-i.result x (sym (found_at n old i c.index-jobs-i.result low is number c.loop-i.invariant.none) ∙ there) in
-    (
+    let one : c.index-jobs-i-then-jobs-i.result ≡ x = again_is old i c.index-jobs-i-then-jobs-i.result c.index-jobs-i.result low again is ∙ some_is c.index-jobs-i.result x (sym (found_at n old i c.index-jobs-i.result low is number c.loop-i.invariant.none) ∙ there) in (
       w,
       ap (λ (xs : List OpenJob). slice_set xs i record { number = (slice_index_or xs i c.index-jobs-i-then-jobs-i.result).number; work = w }) same
-      ∙ put_here n w old i c.index-jobs-i-then-jobs-i.result c.index-jobs-i.result low is number c.loop-i.invariant.none,
+          ∙ put_here n w old i c.index-jobs-i-then-jobs-i.result c.index-jobs-i.result low is number c.loop-i.invariant.none,
       subst (λ (y : OpenJob). HasRead (kept_rows c.args.rows c.push_work.result) y.work w) (sym c.index-jobs-i-then-jobs-i.is ∙ one) c.push_work.ensures.pushed,
     )
 

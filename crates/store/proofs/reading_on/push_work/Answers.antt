@@ -19,7 +19,7 @@ returns-in_err-push-in-Rewrite-clause-pushed c =
 
 pub returns-clause-pushed : goal.returns-clause-pushed
 returns-clause-pushed c = elim c.match-work.branch [
-  in-Append w ↦ subst (λ (x : Work). HasRead (c.args.rows ∷ []) x c.match-work.work) (sym w.in-Append.is) (w.work-is ∙ w.in-Append.is)
+  | in-Append w ↦ subst (λ (x : Work). HasRead (c.args.rows ∷ []) x c.match-work.work) (sym w.in-Append.is) (w.work-is ∙ w.in-Append.is)
   | in-Rewrite+in_ok-push-in-Rewrite w ↦ subst (λ (x : Work). HasRead (c.args.rows ∷ []) x c.match-work.work) (sym w.in-Rewrite.is)
       (record { runs = w.in-Rewrite.rewrite.runs; read = w.push.new.self }, w.work-is, refl, w.in_ok-push-in-Rewrite.ensures.items)
 ]
