@@ -3,7 +3,7 @@
 use crate::row_lines::rows_of;
 use bits::R;
 use disk::Disk;
-use jsonrows::schema_from;
+use jsonrows::{filter_from, schema_from};
 use std::alloc::Global;
 use store::Store;
 
@@ -21,4 +21,28 @@ pub fn add_column<D: Disk>(alloc: Global, store: &mut Store<D>, field: &str) -> 
     // The first element is the root.
     let elements = schema.elements().get(1..).unwrap_or(&[]);
     store.add_column(alloc, elements)
+}
+
+/// Removes the rows that satisfy the filter of a text. Refused as `filter_from` refuses the text, and then as
+/// `Store::remove`.
+pub fn remove_rows<D: Disk>(alloc: Global, store: &mut Store<D>, filter: &str) -> R<u64> {
+    let terms = filter_from(alloc, store.schema(), filter)?;
+    store.remove(alloc, terms.as_slice())
+}
+
+/// Rewrites the groups of these numbers: the rows of those that stand next to each other under one key are put into full
+/// groups. Of no numbers it does nothing. Refused as `Store::begin_rewrite`, and then as `Store::commit`.
+pub fn rewrite_groups<D: Disk>(alloc: Global, store: &mut Store<D>, numbers: &[u64]) -> R<u64> {
+    if numbers.is_empty() {
+        return Ok(0);
+    }
+    let job = store.begin_rewrite(alloc, numbers)?;
+    store.commit(alloc, job)
+}
+
+/// Rewrites the groups that have fewer rows than this, where a neighbour of the same key has too. Where there are none it
+/// does nothing. Refused as `Store::plan_rewrite`, and then as [`rewrite_groups`].
+pub fn rewrite_small<D: Disk>(alloc: Global, store: &mut Store<D>, min_rows: u64) -> R<u64> {
+    let numbers = store.plan_rewrite(alloc, min_rows)?;
+    rewrite_groups(alloc, store, numbers.as_slice())
 }
