@@ -15,7 +15,7 @@ impl<D: Disk> Store<D> {
     ghost use Rattle.store.specs.Promises.{Acts, HasCause};
 
     /// Removes the rows that satisfy, in a commit. It is not written yet, so that it is not public.
-    pub(crate) fn remove(&mut self, alloc: Global, terms: &[Vec<Term>]) -> R<u64>
+    pub fn remove(&mut self, alloc: Global, terms: &[Vec<Term>]) -> R<u64>
         ensures acts { Acts D.state self.old self.new (remove (terms_view terms.now)) (answered done result) }
         ensures cause { HasCause D.state self.old self.new (answered done result) }
         ensures counts { (D.state self.old.vault.disk).failures ≤ (D.state self.new.vault.disk).failures }

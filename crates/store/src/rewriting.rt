@@ -25,7 +25,7 @@ impl<D: Disk> Store<D> {
     ///
     /// Refused Closed; Full where 16 jobs are open, or there are no more job numbers; NoGroup for a number that no group
     /// has. Time and room are linear in the groups and the numbers.
-    pub(crate) fn begin_rewrite(&mut self, alloc: Global, numbers: &[u64]) -> R<JobId>
+    pub fn begin_rewrite(&mut self, alloc: Global, numbers: &[u64]) -> R<JobId>
         ensures acts { Acts D.state self.old self.new (begin_rewrite numbers.now) (answered job result) }
         ensures cause { HasCause D.state self.old self.new (answered job result) }
         ensures counts { (D.state self.old.vault.disk).failures ≤ (D.state self.new.vault.disk).failures }
@@ -49,7 +49,7 @@ impl<D: Disk> Store<D> {
     }
 
     /// Reads one more source of a rewrite. It is not written yet, so that no call of a rewrite is public.
-    pub(crate) fn step_rewrite(&mut self, alloc: Global, job: JobId) -> R<bool>
+    pub fn step_rewrite(&mut self, alloc: Global, job: JobId) -> R<bool>
         ensures acts { Acts D.state self.old self.new (step_rewrite job) (answered more result) }
         ensures cause { HasCause D.state self.old self.new (answered more result) }
         ensures counts { (D.state self.old.vault.disk).failures ≤ (D.state self.new.vault.disk).failures }
