@@ -4,7 +4,8 @@ use Rattle.serde_json.specs.Data.{Data, Members}
 use Rattle.serde_json.specs.Read.{read}
 use Rattle.serde_json.specs.Written.{compact_text}
 use Rattle.bits.specs.declared.refusal.Refusal.{Refusal}
-use Rattle.bits.specs.declared.refusal.Refusal.TheVariants.{Memory, RowShape, Script}
+use Rattle.bits.specs.declared.refusal.Refusal.TheVariants.{RowShape, Script}
+use Rattle.bits.specs.Refusals.{HasCause}
 use Rattle.schema.specs.Values.{ValueTrees}
 use Rattle.schema.specs.Shape.{Fields}
 use Rattle.rowtext.specs.Reading.{row_of, line_of, members_read}
@@ -44,8 +45,7 @@ pub record HasFirstFault (fs : Fields) (texts : List (List ℕ)) (e : Refusal) :
 
 -- texts are refused so: for the first that is no row, or out of memory
 abbrev pub AreRefusedRows : Fields → List (List ℕ) → Refusal → Type 0
-AreRefusedRows fs texts Memory = Unit {0}
-AreRefusedRows fs texts e = HasFirstFault fs texts e
+AreRefusedRows fs texts e = HasCause (HasFirstFault fs texts) e
 
 -- ---- calls
 
@@ -68,8 +68,7 @@ pub record HasFirstFaultOfCalls (fs : Fields) (texts : List (List ℕ)) (e : Ref
 
 -- texts are refused so: for the first that is no call, or out of memory
 abbrev pub AreRefusedCalls : Fields → List (List ℕ) → Refusal → Type 0
-AreRefusedCalls fs texts Memory = Unit {0}
-AreRefusedCalls fs texts e = HasFirstFaultOfCalls fs texts e
+AreRefusedCalls fs texts e = HasCause (HasFirstFaultOfCalls fs texts) e
 
 -- ---- answers
 

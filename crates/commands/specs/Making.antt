@@ -1,11 +1,11 @@
 -- What a command makes of a store.
-use Rattle.std.specs.Prelude.{◌≡◌, ℕ, List, [], ◌∷◌, map, Result, Ok, Err, OnOk}
+use Rattle.std.specs.Prelude.{◌≡◌, ℕ, List, [], map, Option, Some, None, Result, Ok, Err, OnOk}
 use Rattle.std.specs.Str.Lines.{lines}
 use Rattle.std.specs.Io.KnownBytes.{Appends}
 use Rattle.bits.specs.declared.refusal.Refusal.{Refusal}
 use Rattle.schema.specs.Shape.{Fields}
 use Rattle.schema.specs.Values.{ValueTrees}
-use Rattle.schema.specs.Stripe.{leaves_of}
+use Rattle.schema.specs.Stripe.{Leaf, leaves_of}
 use Rattle.schema.specs.Listed.{listings}
 use Rattle.filter.specs.Terms.{Term}
 use Rattle.disk.specs.State.{State as DiskState}
@@ -14,12 +14,23 @@ use Rattle.table.specs.Calls.{Call, append, remove, begin_rewrite, commit, plan_
 use Rattle.table.specs.Views.{answered, answer_view}
 use Rattle.table.specs.declared.answer.Answer.{Answer}
 use Rattle.jsonrows.specs.Filters.{IsFilterText, IsRefusedFilter}
-use Rattle.jsonrows.specs.SchemaJson.{IsSchemaText, IsRefusedSchema}
+use Rattle.jsonrows.specs.SchemaJson.{IsSchemaText}
 use Rattle.store.specs.declared.store.Store.{Store}
 use Rattle.store.specs.Stands.{Stands}
 use Rattle.store.specs.Promises.{ActsFrom}
 use Rattle.store.specs.Running.{RunsFrom}
 use Rattle.commands.specs.Lines.{AreRowTexts, AreCallTexts, AreRefusedCalls, AreAnswerLines}
+
+-- ---- filters
+
+-- the filter that a command is given; none is the empty one
+abbrev pub IsAskedFilter : List Leaf → Option (List ℕ) → List (List Term) → Type 0
+IsAskedFilter leaves (Some text) ands = IsFilterText leaves text ands
+IsAskedFilter leaves None ands = ands ≡ []
+
+abbrev pub IsRefusedFilterOf : List Leaf → Option (List ℕ) → Refusal → Type 0
+IsRefusedFilterOf leaves (Some text) e = IsRefusedFilter leaves text e
+IsRefusedFilterOf leaves None e = ⊥
 
 -- ---- one call
 
@@ -53,7 +64,7 @@ pub data RewritesFrom {D : Type 0} (state : D → DiskState) (old new : Store D)
   none_named : numbers ≡ [] → result ≡ Ok 0 → new ≡ old → RewritesFrom state old new numbers result s
   not_begun : (e : Refusal) → result ≡ Err e → ActsFrom state old new (begin_rewrite numbers) (refused_answer e) s → RewritesFrom state old new numbers result s
   begun : (mid : Store D) (n : ℕ) (first : ActsFrom state old mid (begin_rewrite numbers) (job n) s) → ActsFrom state mid new (commit n) (answered done result) first.after
-    → RewritesFrom state old new numbers result s
+      → RewritesFrom state old new numbers result s
 
 abbrev pub Rewrites : {D : Type 0} → (D → DiskState) → Store D → Store D → List ℕ → Result ℕ Refusal → Type 0
 Rewrites state old new numbers result = (state old.vault.disk).honest → (s : State) → Stands state old s → RewritesFrom state old new numbers result s
@@ -70,10 +81,10 @@ RewritesPlanned state old new min_rows result = (state old.vault.disk).honest �
 
 -- From the one state: the store makes the calls of a text, one of each line; and where the result is Ok a writer got the lines of
 -- their answers, over the schema that the table has then. Or the text is refused, and the store and the writer are as they were.
-pub data RunsScriptFrom {D : Type 0} (state : D → DiskState) (old new : Store D) (text : List ℕ) (before after : Option (List ℕ)) (result : Result Unit Refusal) (s : State) : Type 0 where
+pub data RunsScriptFrom {D T : Type 0} (state : D → DiskState) (old new : Store D) (text : List ℕ) (before after : Option (List ℕ)) (result : Result T Refusal) (s : State) : Type 0 where
   ran : (calls : List Call) (last : Fields) (answers : List Answer) → AreCallTexts s.table.schema (lines text) calls last → (runs : RunsFrom state old new calls (map answer_view answers) s)
-    → OnOk result ((printed : List ℕ) × AreAnswerLines runs.after.table.schema answers printed × Appends before after printed) → RunsScriptFrom state old new text before after result s
+      → OnOk result ((printed : List ℕ) × AreAnswerLines runs.after.table.schema answers printed × Appends before after printed) → RunsScriptFrom state old new text before after result s
   refused : (e : Refusal) → AreRefusedCalls s.table.schema (lines text) e → result ≡ Err e → new ≡ old → after ≡ before → RunsScriptFrom state old new text before after result s
 
-abbrev pub RunsScript : {D : Type 0} → (D → DiskState) → Store D → Store D → List ℕ → Option (List ℕ) → Option (List ℕ) → Result Unit Refusal → Type 0
+abbrev pub RunsScript : {D T : Type 0} → (D → DiskState) → Store D → Store D → List ℕ → Option (List ℕ) → Option (List ℕ) → Result T Refusal → Type 0
 RunsScript state old new text before after result = (state old.vault.disk).honest → (s : State) → Stands state old s → RunsScriptFrom state old new text before after result s

@@ -15,18 +15,13 @@ pub struct Call<'a> {
 #[derive(Drop)]
 pub enum Task<'a> {
     /// Make a table: the file of its schema, and the names of its key columns.
-    Create {
-        schema: &'a str,
-        keys: Vec<&'a str>,
-    },
+    Create { schema: &'a str, keys: Vec<&'a str> },
     /// Print what a dataset has.
     Ask(Question<'a>),
     /// Change a dataset, in one commit.
     Change(Change<'a>),
     /// Make the calls of a file, one of each line, and print their answers.
-    Run {
-        script: &'a str,
-    },
+    Run { script: &'a str },
 }
 
 /// What is to be printed of a dataset.
@@ -49,31 +44,17 @@ pub enum Question<'a> {
 #[derive(Drop)]
 pub enum Change<'a> {
     /// The rows of a file, a line each, come in.
-    Append {
-        rows: &'a str,
-    },
+    Append { rows: &'a str },
     /// The rows of a Parquet file come in.
-    Import {
-        file: &'a str,
-    },
+    Import { file: &'a str },
     /// A column comes at the end; the file has its schema.
-    AddColumn {
-        schema: &'a str,
-    },
+    AddColumn { schema: &'a str },
     /// The rows that satisfy a filter go.
-    Remove {
-        filter: &'a str,
-    },
+    Remove { filter: &'a str },
     /// The groups of these numbers go.
-    RemoveGroups {
-        numbers: Vec<u64>,
-    },
+    RemoveGroups { numbers: Vec<u64> },
     /// The rows of the groups of these numbers are written anew, in full groups.
-    Rewrite {
-        numbers: Vec<u64>,
-    },
+    Rewrite { numbers: Vec<u64> },
     /// The same of groups that have fewer rows than this, where neighbours of one key do.
-    RewriteSmall {
-        min_rows: u64,
-    },
+    RewriteSmall { min_rows: u64 },
 }

@@ -121,6 +121,7 @@ fn remove_command<'a>(alloc: Global) -> Result<Command<'a>, Error> {
     let remove = Command::new(alloc, "remove")
         .about(help::REMOVE)
         .long_about(help::REMOVE_LONG)
+        .override_usage(help::REMOVE_USAGE)
         .after_help(help::REMOVE_EXAMPLE)
         .arg(folder_named(alloc))?
         .arg(filter_option(alloc, "Removes the rows that satisfy this filter"))?
@@ -141,6 +142,7 @@ fn rewrite_command<'a>(alloc: Global) -> Result<Command<'a>, Error> {
     let rewrite = Command::new(alloc, "rewrite")
         .about(help::REWRITE)
         .long_about(help::REWRITE_LONG)
+        .override_usage(help::REWRITE_USAGE)
         .after_help(help::REWRITE_EXAMPLE)
         .arg(folder_named(alloc))?
         .arg(min_rows_option(alloc))?

@@ -122,10 +122,14 @@ pub const REMOVE: &str = "Removes rows from a dataset";
 pub const REMOVE_LONG: &str = "\
 Removes the rows that satisfy a filter (query says what a filter is; [] holds for every row), or the groups of these numbers
 (groups prints them), and prints `done N`, N the number of rows. All of them go or none, as append says it. A group of which
-some rows go is written anew under a new number; no other part file is.
+some rows go is written anew under a new number; one of which none goes stays as it is.
 
 Refused 14, 15, 16 or 29 for the filter, 18 NoGroup for a number that no group has. With both a filter and numbers, or neither,
 it is a wrong call.";
+
+pub const REMOVE_USAGE: &str = "\
+pqds remove [OPTIONS] <DIR> <NUMBER>...
+       pqds remove [OPTIONS] <DIR> --filter <JSON>";
 
 pub const REMOVE_EXAMPLE: &str = "\
 Example, at the top of the repository:
@@ -149,6 +153,10 @@ the same key that has fewer too. Where there are none, nothing is written: `done
 says it.
 
 Refused 18 NoGroup for a number that no group has. With both, or neither, it is a wrong call.";
+
+pub const REWRITE_USAGE: &str = "\
+pqds rewrite [OPTIONS] <DIR> <NUMBER>...
+       pqds rewrite [OPTIONS] <DIR> --min-rows <N>";
 
 pub const REWRITE_EXAMPLE: &str = "\
 Example, at the top of the repository:
