@@ -14,9 +14,13 @@ line_more : (fs : Fields) (answers : List Answer) (answer : Answer) (printed : L
     → AreAnswerLines fs (answers ++ answer ∷ []) (printed ++ (compact_text d ++ 10 ∷ []))
 line_more fs [] answer printed d so_far is = (d, [], is, ap (λ (t : List ℕ). t ++ (compact_text d ++ 10 ∷ [])) so_far ∙ sym (append-nil (compact_text d ++ 10 ∷ [])), refl)
 line_more fs (a ∷ answers) answer printed d so_far is =
-    let line = compact_text so_far.0 ++ 10 ∷ [] in
-    (so_far.0, so_far.1.0 ++ (compact_text d ++ 10 ∷ []), so_far.1.1.0, ap (λ (t : List ℕ). t ++ (compact_text d ++ 10 ∷ [])) so_far.1.1.1.0 ∙ append_assoc line so_far.1.0 (compact_text d ++ 10 ∷ []),
-     line_more fs answers answer so_far.1.0 d so_far.1.1.1.1 is)
+    let line = compact_text so_far.0 ++ 10 ∷ [] in (
+      so_far.0,
+      so_far.1.0 ++ (compact_text d ++ 10 ∷ []),
+      so_far.1.1.0,
+      ap (λ (t : List ℕ). t ++ (compact_text d ++ 10 ∷ [])) so_far.1.1.1.0 ∙ append_assoc line so_far.1.0 (compact_text d ++ 10 ∷ []),
+      line_more fs answers answer so_far.1.0 d so_far.1.1.1.1 is,
+    )
 
 -- what answers so far got a writer
 abbrev pub ArePrinted : Fields → List Answer → Option (List ℕ) → Option (List ℕ) → Type 0

@@ -38,7 +38,7 @@ IsRefusedFilterOf leaves None e = ⊥
 -- refused, and the store is as it was.
 pub data MakesFrom {D : Type 0} (state : D → DiskState) (old new : Store D) (IsAsked : Fields → Call → Type 0) (IsRefused : Fields → Refusal → Type 0) (result : Result ℕ Refusal) (s : State) : Type 0 where
   made : (call : Call) → IsAsked s.table.schema call → ActsFrom state old new call (answered done result) s → MakesFrom state old new IsAsked IsRefused result s
-  refused : (e : Refusal) → IsRefused s.table.schema e → result ≡ Err e → new ≡ old → MakesFrom state old new IsAsked IsRefused result s
+  not_made : (e : Refusal) → IsRefused s.table.schema e → result ≡ Err e → new ≡ old → MakesFrom state old new IsAsked IsRefused result s
 
 -- on an honest disk, from each state that the store stands in
 abbrev pub Makes : {D : Type 0} → (D → DiskState) → Store D → Store D → (Fields → Call → Type 0) → (Fields → Refusal → Type 0) → Result ℕ Refusal → Type 0
@@ -84,7 +84,7 @@ RewritesPlanned state old new min_rows result = (state old.vault.disk).honest �
 pub data RunsScriptFrom {D T : Type 0} (state : D → DiskState) (old new : Store D) (text : List ℕ) (before after : Option (List ℕ)) (result : Result T Refusal) (s : State) : Type 0 where
   ran : (calls : List Call) (last : Fields) (answers : List Answer) → AreCallTexts s.table.schema (lines text) calls last → (runs : RunsFrom state old new calls (map answer_view answers) s)
       → OnOk result ((printed : List ℕ) × AreAnswerLines runs.after.table.schema answers printed × Appends before after printed) → RunsScriptFrom state old new text before after result s
-  refused : (e : Refusal) → AreRefusedCalls s.table.schema (lines text) e → result ≡ Err e → new ≡ old → after ≡ before → RunsScriptFrom state old new text before after result s
+  not_run : (e : Refusal) → AreRefusedCalls s.table.schema (lines text) e → result ≡ Err e → new ≡ old → after ≡ before → RunsScriptFrom state old new text before after result s
 
 abbrev pub RunsScript : {D T : Type 0} → (D → DiskState) → Store D → Store D → List ℕ → Option (List ℕ) → Option (List ℕ) → Result T Refusal → Type 0
 RunsScript state old new text before after result = (state old.vault.disk).honest → (s : State) → Stands state old s → RunsScriptFrom state old new text before after result s
