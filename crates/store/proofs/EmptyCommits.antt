@@ -1,19 +1,18 @@
 -- The commit of an append of which nothing is staged, or of a rewrite of no sources: the job ends.
-use Rattle.std.proofs.Common.{◌≡◌, ◌<◌, ℕ, Bool, true, false, not, ◌&&◌, nat_eq, nat_lt, List, [], ◌∷◌, ◌++◌, map, flat_map, length, Option, Some, None, refl, sym, ◌∙◌, ap, subst, arith}
+use Rattle.std.proofs.Common.{◌≡◌, ◌<◌, ℕ, Bool, true, false, not, nat_eq, List, [], ◌∷◌, ◌++◌, map, flat_map, length, Option, Some, None, refl, sym, ◌∙◌, ap, subst, arith}
 use Rattle.std.specs.Prelude.{Vec, if◌then◌else◌}
 use Rattle.std.specs.List.{AllZip}
 use Rattle.std.specs.declared.alloc.Global.{Global}
 use Rattle.std.proofs.lemmas.Bool.{and_parts, eqb-true, lt-ltb}
 use Rattle.std.proofs.lemmas.List.{append-nil, nil_from_length}
 use Rattle.bits.specs.declared.refusal.Refusal.{Refusal}
-use Rattle.bits.specs.declared.refusal.Refusal.TheVariants.{Memory}
 use Rattle.bits.specs.Refusals.{HasCause}
 use Rattle.schema.specs.Keys.{key_of_row}
 use Rattle.partition.specs.Order.{AreInTableOrder}
-use Rattle.partition.specs.Splitting.{KeyRows, key_rows_view}
+use Rattle.partition.specs.Splitting.{key_rows_view}
 use Rattle.partition.specs.declared.splitting.KeyRows.{KeyRows as CodeRows}
 use Rattle.disk.specs.State.{State as DiskState}
-use Rattle.manifest.specs.Groups.{Group as FileGroup, handles_view}
+use Rattle.manifest.specs.Groups.{handles_view}
 use Rattle.snapshots.specs.declared.state.Snapshots.{Snapshots}
 use Rattle.snapshots.specs.State.{Pins, ended, after, fault_of, open_at as pinned_at}
 use Rattle.snapshots.specs.Views.{state_of}
@@ -25,9 +24,7 @@ use Rattle.table.specs.Faults.{first}
 use Rattle.table.specs.Checks.{fault, job_fault, stale_fault}
 use Rattle.table.specs.Calls.{commit, done, refused}
 use Rattle.table.specs.Leading.{Leads, IsDone, job_rows}
-use Rattle.table.specs.Refusing.{Happens}
 use Rattle.table.proofs.Counters.{counters_cover}
-use Rattle.table.proofs.Steady.{stays_there}
 use Rattle.store.specs.declared.store.Store.{Store}
 use Rattle.store.specs.declared.jobs.OpenJob.{OpenJob}
 use Rattle.store.specs.declared.jobs.Appending.{Appending}
@@ -35,7 +32,7 @@ use Rattle.store.specs.declared.jobs.Work.{Work}
 use Rattle.store.specs.declared.jobs.Work.TheVariants.{Append, Rewrite}
 use Rattle.store.specs.Lookups.{job_at, jobs_left}
 use Rattle.store.specs.Staging.{is_nothing, finds_nothing}
-use Rattle.store.specs.Stands.{AreStored, AreWaiting, ShowsAppend, ShowsWork, ShowsOpen, Shows, Stands}
+use Rattle.store.specs.Stands.{ShowsWork, ShowsOpen, Shows, Stands}
 use Rattle.store.specs.Cleaning.{Clears}
 use Rattle.store.specs.Promises.{ActsFrom}
 use Rattle.store.proofs.Events.{job_found}

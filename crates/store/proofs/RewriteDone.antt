@@ -1,5 +1,5 @@
 -- How the commit of a rewrite ends.
-use Rattle.std.proofs.Common.{◌≡◌, ◌≢◌, ◌≤◌, ◌<◌, ◌+◌, ◌⊎◌, ℕ, Bool, true, false, not, List, [], ◌∷◌, ◌++◌, length, Option, Some, None, Ok, Err, refl, sym, ◌∙◌, ap, subst, arith}
+use Rattle.std.proofs.Common.{◌≡◌, ◌≢◌, ◌≤◌, ◌<◌, ◌+◌, ◌⊎◌, ℕ, true, false, not, List, [], length, Some, None, Ok, Err, refl, sym, ◌∙◌, ap, subst}
 use Rattle.std.specs.Prelude.{Vec}
 use Rattle.std.specs.List.{AllByRecursion}
 use Rattle.std.specs.declared.alloc.Global.{Global}
@@ -16,11 +16,11 @@ use Rattle.planning.specs.Replaced.{Run, changes_of, replaced}
 use Rattle.snapshots.specs.declared.state.Snapshots.{Snapshots}
 use Rattle.snapshots.specs.State.{Pins, ended, after, fault_of, open_at as pinned_at}
 use Rattle.snapshots.specs.Views.{state_of}
-use Rattle.table.specs.Table.{Row, Group, Table, rows, numbers}
+use Rattle.table.specs.Table.{Group, Table, rows, numbers}
 use Rattle.table.specs.State.{State, Job, appending, rewriting, sources, open_at, ended_at}
 use Rattle.table.specs.Checks.{fault, stale_fault}
 use Rattle.table.specs.Calls.{commit, done, refused}
-use Rattle.table.specs.Leading.{Rises, job_rows, jobs_after}
+use Rattle.table.specs.Leading.{Rises, job_rows}
 use Rattle.table.specs.Limits.{IsOver, IsOfRun, group as over_group}
 use Rattle.table.specs.Refusing.{Happens, Stays, is_failure, no_memory, over as refused_over, failed as refused_failed, stale as refused_stale}
 use Rattle.table.proofs.Steady.{stays}
@@ -47,7 +47,7 @@ use Rattle.store.proofs.Events.{job_found}
 use Rattle.store.proofs.Kept.{rows_counted}
 use Rattle.store.proofs.Refusals.{changes_nothing}
 use Rattle.store.proofs.RewriteHeld.{HeldRewrite, held, runs, not_stale, some_runs}
-use Rattle.store.proofs.RunsBrought.{files_then, table_then, planned as planned_so, asks, over as over_so, rows_same}
+use Rattle.store.proofs.RunsBrought.{table_then, planned as planned_so, asks, over as over_so, rows_same}
 
 module _ {D : Type 0} (state : D → DiskState) (old : Store D) (s : State) (stands : Stands state old s) (is_open : s.closed ≡ false) (n : ℕ) where
   -- out of memory before anything is done

@@ -1,18 +1,18 @@
 -- A rewrite that is open: its sources, while it is not stale.
-use Rattle.std.proofs.Common.{◌≡◌, ◌≤◌, ◌<◌, ◌+◌, ℕ, zero, suc, Bool, true, false, not, List, [], ◌∷◌, ◌++◌, map, flat_map, length, take, Option, Some, None, refl, sym, ◌∙◌, ap, subst, arith, append_assoc}
+use Rattle.std.proofs.Common.{◌≡◌, ◌≤◌, ◌<◌, ◌+◌, ℕ, suc, Bool, true, false, List, [], ◌∷◌, ◌++◌, map, length, take, Option, Some, None, refl, sym, ◌∙◌, ap, subst, arith, append_assoc}
 use Rattle.std.specs.Prelude.{option_map, nat_eq}
 use Rattle.std.specs.List.{AllByRecursion, AllZip, list_all, slice_get}
 use Rattle.std.specs.declared.vec.Vec.{Vec}
 use Rattle.std.specs.declared.alloc.Global.{Global}
 use Rattle.std.proofs.lemmas.Bool.{lt-ltb}
-use Rattle.std.proofs.lemmas.List.{length-append, nil_from_length}
+use Rattle.std.proofs.lemmas.List.{length-append}
 use Rattle.bits.specs.declared.refusal.Refusal.{Refusal}
 use Rattle.bits.specs.declared.refusal.Refusal.TheVariants.{Stale}
 use Rattle.schema.specs.declared.row.Row.{Row as CodeRow}
 use Rattle.schema.specs.Cutting.{is_among}
 use Rattle.schema.specs.Fronts.{padded}
 use Rattle.schema.specs.Shape.{Fields}
-use Rattle.schema.specs.Keys.{KeyColumn, without_keys}
+use Rattle.schema.specs.Keys.{without_keys}
 use Rattle.schema.specs.Views.{rows_view}
 use Rattle.disk.specs.State.{State as DiskState}
 use Rattle.manifest.specs.Groups.{Group as FileGroup, root_of, handles_view, numbers_of}
@@ -33,12 +33,12 @@ use Rattle.store.specs.declared.jobs.OpenJob.{OpenJob}
 use Rattle.store.specs.declared.jobs.Work.{Work}
 use Rattle.store.specs.declared.jobs.Work.TheVariants.{Append, Rewrite}
 use Rattle.store.specs.declared.jobs.Rewriting.{Rewriting}
-use Rattle.store.specs.Stands.{AreStored, AreReadOf, ShowsRun, ShowsRewrite, ShowsJob, ShowsWork, ShowsOpen, Stands}
+use Rattle.store.specs.Stands.{AreStored, ShowsRun, ShowsRewrite, ShowsWork, Stands}
 use Rattle.store.specs.Lookups.{job_at}
 use Rattle.store.specs.Staging.{is_append, finds_append, is_nothing, finds_nothing}
 use Rattle.store.specs.Acting.{WroteTo}
 use Rattle.store.specs.Filling.{HasWritten}
-use Rattle.store.specs.Rewritten.{IsRewriteAt, runs_at, runs_of_work, kept_at, numbers_of_runs, IsSource, AreSources, IsRunIn, AreRuns}
+use Rattle.store.specs.Rewritten.{IsRewriteAt, runs_at, runs_of_work, kept_at, numbers_of_runs, AreSources, IsRunIn, AreRuns}
 use Rattle.store.proofs.Asked.{commit_fault}
 use Rattle.store.proofs.Ends.{found_open}
 use Rattle.store.proofs.Events.{job_found}

@@ -1,5 +1,5 @@
 -- Runs that are read and written, one after another.
-use Rattle.std.proofs.Common.{◌≡◌, ◌≤◌, ◌<◌, ◌+◌, ℕ, zero, suc, List, [], ◌∷◌, ◌++◌, map, flat_map, length, drop, Option, Some, refl, sym, ◌∙◌, ap, subst, arith, append_assoc}
+use Rattle.std.proofs.Common.{◌≡◌, ◌≤◌, ◌+◌, ℕ, suc, List, [], ◌∷◌, ◌++◌, length, drop, Option, Some, refl, sym, ◌∙◌, ap, subst, arith, append_assoc}
 use Rattle.std.specs.Prelude.{Contains, Result, Ok, Err, IfOk}
 use Rattle.std.specs.List.{AllByRecursion, AllZip}
 use Rattle.std.proofs.lemmas.List.{append-nil, length-append, length-map, drop-map}
@@ -9,7 +9,6 @@ use Rattle.manifest.specs.declared.group.Group.{Group as CodeGroup}
 use Rattle.bits.specs.declared.refusal.Refusal.{Refusal}
 use Rattle.bits.specs.declared.refusal.Refusal.TheVariants.{Limit, Device, Memory}
 use Rattle.bits.specs.Refusals.{RefusedMemoryOnly}
-use Rattle.schema.specs.Keys.{AreKeys}
 use Rattle.disk.specs.State.{State as DiskState}
 use Rattle.partition.specs.Folders.{CanPartition}
 use Rattle.manifest.specs.Groups.{Group as FileGroup, handles_view, numbers_of}
@@ -22,9 +21,8 @@ use Rattle.table.specs.Limits.{IsPart, IsOfRun}
 use Rattle.store.specs.declared.store.Store.{Store}
 use Rattle.store.specs.declared.jobs.OpenJob.{OpenJob}
 use Rattle.store.specs.Lookups.{job_at}
-use Rattle.store.specs.Stands.{AreStored}
 use Rattle.store.specs.Filling.{HasWritten, Goes}
-use Rattle.store.specs.Rewritten.{IsSource, AreSources, IsRunIn, AreRuns, WhyHalted, IsHalted, NoPart, HasAdded, IsNew, AreNew, HasRewritten, HasRewrittenOne, RewritesOne}
+use Rattle.store.specs.Rewritten.{AreSources, IsRunIn, AreRuns, WhyHalted, IsHalted, HasAdded, IsNew, AreNew, HasRewritten, HasRewrittenOne, RewritesOne}
 use Rattle.store.proofs.Brought.{all_append}
 
 -- ---- the rows of a run

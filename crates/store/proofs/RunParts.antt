@@ -1,6 +1,6 @@
 -- Rows of one key that a job writes, group by group.
-use Rattle.std.proofs.Common.{◌≡◌, ◌≤◌, ◌<◌, ◌+◌, ◌*◌, ◌⊎◌, ℕ, zero, suc, Bool, true, false, ◌&&◌, nat_lt, nat_le, List, [], ◌∷◌, ◌++◌, map, length, take, drop, Some, refl, sym, ◌∙◌, ap, subst, arith, ⊎_elim, append_assoc}
-use Rattle.std.specs.Prelude.{if◌then◌else◌, ◌==◌, IsTrue, min}
+use Rattle.std.proofs.Common.{◌≡◌, ◌≤◌, ◌+◌, ◌*◌, ◌⊎◌, ℕ, zero, suc, Bool, true, false, nat_lt, nat_le, List, [], ◌∷◌, ◌++◌, map, length, take, drop, Some, refl, sym, ◌∙◌, ap, subst, arith, ⊎_elim, append_assoc}
+use Rattle.std.specs.Prelude.{if◌then◌else◌, ◌==◌, min}
 use Rattle.std.specs.List.{AllByRecursion}
 use Rattle.std.proofs.Common.{eq-eqb}
 use Rattle.std.proofs.lemmas.Bool.{and_from, lt-ltb, le-leb, eqb-true}
@@ -28,7 +28,7 @@ use Rattle.store.specs.declared.store.Store.{Store}
 use Rattle.store.specs.Writing.{IsPartRefusal}
 use Rattle.store.specs.Acting.{WroteTo}
 use Rattle.store.specs.Filling.{HasWritten, HasSize, written_group, Goes}
-use Rattle.store.specs.Rewritten.{WhyHalted, IsHalted, Hold, HasAdded, HasAddedOne}
+use Rattle.store.specs.Rewritten.{WhyHalted, IsHalted, HasAdded, HasAddedOne}
 use Rattle.store.proofs.Brought.{all_append}
 use Rattle.store.proofs.Filled.{size_some, keys_are}
 use Rattle.store.proofs.Waits.{rows_append}

@@ -1,5 +1,5 @@
 -- The sources of a rewrite that are read between writes.
-use Rattle.std.proofs.Common.{◌≡◌, ◌≤◌, ◌<◌, ◌+◌, ℕ, zero, suc, false, List, [], ◌∷◌, ◌++◌, map, length, drop, Option, Some, None, Result, Ok, Err, refl, sym, ◌∙◌, ap, subst, arith, inl, inr, ⊎_elim, append_assoc}
+use Rattle.std.proofs.Common.{◌≡◌, ◌≤◌, ◌+◌, ℕ, suc, false, List, [], ◌∷◌, ◌++◌, Option, Some, None, Result, Ok, Err, refl, sym, ◌∙◌, ap, subst, arith, inl, inr, append_assoc}
 use Rattle.std.specs.Prelude.{option_map, IfOk}
 use Rattle.std.specs.List.{AllByRecursion}
 use Rattle.std.specs.declared.vec.Vec.{Vec}
@@ -13,7 +13,7 @@ use Rattle.schema.specs.Views.{rows_view}
 use Rattle.schema.specs.Keys.{KeyColumn, AreKeys, without_keys}
 use Rattle.disk.specs.State.{State as DiskState}
 use Rattle.vault.specs.declared.vault.Vault.{Vault}
-use Rattle.vault.specs.Calls.{LeavesAll, HasFailed}
+use Rattle.vault.specs.Calls.{LeavesAll}
 use Rattle.manifest.specs.Groups.{Group as FileGroup, Root, root_of}
 use Rattle.manifest.specs.Records.{IsGroup}
 use Rattle.scan.specs.Faults.{IsDevice, IsPartRefusal}
@@ -36,10 +36,8 @@ use Rattle.store.specs.Reading.{OnlyReads}
 use Rattle.store.specs.Rewritten.{IsSource, AreSources, kept_at, IsHalted, NoPart, Reads}
 use Rattle.store.proofs.Adding.{failed_since}
 use Rattle.store.proofs.Cleaned.{still}
-use Rattle.store.proofs.RunParts.{poor_here}
 use Rattle.store.proofs.Spared.{spares_on, spares_less, read_spares}
 use Rattle.store.proofs.Stored.{part_below, Any, all_any, stored_on, jobs_on, hold_same}
-use Rattle.store.proofs.Waits.{rows_append}
 use Rattle.store.proofs.Written.{same_use}
 
 -- ---- a source

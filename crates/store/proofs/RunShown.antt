@@ -1,6 +1,6 @@
 -- The groups that files show, by the rows of their numbers; and what comes in the place of others.
-use Rattle.std.proofs.Common.{◌≡◌, ◌<◌, ℕ, suc, Bool, true, false, not, ◌||◌, nat_eq, List, [], ◌∷◌, ◌++◌, map, flat_map, filter, length, Option, Some, None, refl, sym, ◌∙◌, ap, subst, arith}
-use Rattle.std.specs.Prelude.{if◌then◌else◌, ◌==◌}
+use Rattle.std.proofs.Common.{◌≡◌, ℕ, Bool, true, false, ◌||◌, nat_eq, List, [], ◌∷◌, ◌++◌, map, flat_map, length, Option, Some, refl, sym, ◌∙◌, ap, subst, arith}
+use Rattle.std.specs.Prelude.{if◌then◌else◌}
 use Rattle.std.specs.List.{AllByRecursion}
 use Rattle.std.proofs.Common.{eq-eqb}
 use Rattle.std.proofs.lemmas.Bool.{eqb-true}
@@ -13,12 +13,12 @@ use Rattle.manifest.specs.Groups.{Group as FileGroup, numbers_of}
 use Rattle.planning.specs.Replaced.{Change, Run, gone, changes_for, changes_of, come_for, or_itself, replaced}
 use Rattle.planning.specs.Numbered.{brought, brought_by}
 use Rattle.planning.specs.Shown.{shown, all_shown}
-use Rattle.table.specs.Table.{Row, Group, rows, numbers}
+use Rattle.table.specs.Table.{Row, Group, numbers}
 use Rattle.table.specs.Commits.{with_numbers}
 use Rattle.table.specs.State.{sources}
 use Rattle.table.specs.Standing.{StandInRows}
 use Rattle.store.specs.Stands.{IsStored, AreStored}
-use Rattle.store.proofs.Apart.{Shares, distinct_front, distinct_back, shared_none, shared_back, among_front, among_back, none_joined, not_true}
+use Rattle.store.proofs.Apart.{Shares, distinct_back, shared_none, shared_back, among_front, among_back, none_joined, not_true}
 use Rattle.store.proofs.Brought.{all_append}
 use Rattle.store.proofs.Waits.{front_of_all, rest_of_all}
 

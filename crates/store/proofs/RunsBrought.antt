@@ -1,9 +1,7 @@
 -- The commit of a rewrite, once the new groups of its runs are written.
-use Rattle.std.proofs.Common.{◌≡◌, ◌≢◌, ◌≤◌, ◌<◌, ◌+◌, ◌⊎◌, ℕ, zero, suc, Bool, true, false, not, ◌||◌, ◌&&◌, nat_eq, List, [], ◌∷◌, ◌++◌, map, flat_map, length, Option, Some, None, refl, sym, ◌∙◌, ap, subst, arith, inl, inr, ⊎_elim}
-use Rattle.std.specs.Prelude.{IsTrue}
+use Rattle.std.proofs.Common.{◌≡◌, ◌≢◌, ◌≤◌, ◌<◌, ◌⊎◌, ℕ, Bool, true, false, not, ◌||◌, nat_eq, List, [], ◌∷◌, ◌++◌, map, length, Some, None, refl, sym, ◌∙◌, ap, subst, arith, inl, inr, ⊎_elim}
 use Rattle.std.specs.List.{AllByRecursion, AllZip, list_all}
 use Rattle.std.proofs.lemmas.Bool.{and_from, and_parts, eqb-true}
-use Rattle.std.proofs.lemmas.List.{length-map}
 use Rattle.bits.specs.declared.refusal.Refusal.{Refusal}
 use Rattle.bits.specs.declared.refusal.Refusal.TheVariants.{NoJob, Stale, Page}
 use Rattle.schema.specs.Shape.{Fields}
@@ -15,7 +13,7 @@ use Rattle.manifest.specs.Groups.{Group as FileGroup, Root, root_of, keys_of}
 use Rattle.manifest.specs.Records.{IsGroup}
 use Rattle.manifest.specs.Root.{IsDescription, stored_of}
 use Rattle.manifest.specs.Laid.{IsRootTooHeavy}
-use Rattle.snapshots.specs.State.{State as Versions, Pins, first_of, unless as unless_so, fault_of, committed, is_version, has_groups, sources_of, sources_in, open_at as pinned_at, ended_at as ended_in}
+use Rattle.snapshots.specs.State.{Pins, first_of, unless as unless_so, fault_of, committed, is_version, has_groups, sources_of, sources_in, open_at as pinned_at, ended_at as ended_in}
 use Rattle.snapshots.specs.Views.{state_of}
 use Rattle.planning.specs.Told.{numbers_of, IsNextOf}
 use Rattle.planning.specs.Replaced.{Run, changes_of, replaced}
@@ -25,7 +23,7 @@ use Rattle.planning.specs.Standing.{IsKeyOf, IsMadeOf, AreMadeOf}
 use Rattle.planning.proofs.Standing.{standing_runs_stand, standing_runs_are_rewritten}
 use Rattle.planning.proofs.Reordered.{rewritten_are_in_order}
 use Rattle.planning.proofs.Numbered.{rewritten_are_distinct}
-use Rattle.table.specs.Table.{Row, Key, Group, Table, IsTable, IsGroupIn, rows, numbers}
+use Rattle.table.specs.Table.{Row, Group, Table, IsTable, IsGroupIn, rows, numbers}
 use Rattle.table.specs.Commits.{rewritten, are_full, are_fresh, Rewrites, with_numbers}
 use Rattle.table.specs.State.{State, rewriting, sources, open_at, ended_at}
 use Rattle.table.specs.Standing.{StandInRows}
@@ -36,7 +34,6 @@ use Rattle.table.specs.Limits.{IsOver, root as over_root}
 use Rattle.table.proofs.Standing.{sources_stand}
 use Rattle.table.proofs.Counters.{counters_cover}
 use Rattle.store.specs.declared.store.Store.{Store}
-use Rattle.store.specs.declared.jobs.OpenJob.{OpenJob}
 use Rattle.store.specs.Lookups.{jobs_left}
 use Rattle.store.specs.Stands.{IsStored, AreStored, ShowsJob, ShowsOpen, Stands}
 use Rattle.store.specs.Writing.{counted}
@@ -44,7 +41,7 @@ use Rattle.store.specs.Committing.{with_version, IsPlanned, ShowsJobsLeft}
 use Rattle.store.specs.Acting.{WroteTo, AsksCommit}
 use Rattle.store.specs.Rewritten.{IsNew, AreNew, HasRewritten}
 use Rattle.store.proofs.Apart.{among_first}
-use Rattle.store.proofs.Brought.{all_append, all_so, all_fresh, among_append, at_number, each_number, stored_append, numbers_too, numbers_back, same_keys}
+use Rattle.store.proofs.Brought.{all_append, all_so, all_fresh, at_number, each_number, stored_append, numbers_too, numbers_back, same_keys}
 use Rattle.store.proofs.Ends.{found_open}
 use Rattle.store.proofs.Events.{jobs_left_shown}
 use Rattle.store.proofs.Had.{had_all}
@@ -52,7 +49,7 @@ use Rattle.store.proofs.JobBrought.{distinct_apart}
 use Rattle.store.proofs.Kept.{distinct_test, order_test, same_numbers}
 use Rattle.store.proofs.LeftJobs.{jobs_left_so}
 use Rattle.store.proofs.PlannedWeights.{too_heavy_is_too_much}
-use Rattle.store.proofs.RunShown.{rows_at, rows_of, each_at, shown_so, all_each, stored_each, shown_parts, all_seen, all_unseen, rewritten_all, first_there, each_of_numbers, numbers_in_all, among_runs, picked}
+use Rattle.store.proofs.RunShown.{rows_at, rows_of, each_at, shown_so, all_each, stored_each, shown_parts, all_seen, all_unseen, rewritten_all, first_there, numbers_in_all, among_runs, picked}
 use Rattle.store.proofs.Waits.{front_of_all, rest_of_all}
 
 -- ---- runs of the code, and runs of the table

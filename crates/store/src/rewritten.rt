@@ -1,6 +1,6 @@
 //! The commit of a rewrite.
 
-ghost use Rattle.std.specs.Prelude.{◌≡◌, ◌≢◌, ◌≤◌, ◌<◌, ◌^◌, ◌++◌, ◌↔◌, ℕ, List, Some, None, Result, [], false, true, length, IfOk};
+ghost use Rattle.std.specs.Prelude.{◌≡◌, ◌≢◌, ◌≤◌, ◌<◌, ◌^◌, ◌++◌, ◌↔◌, ℕ, List, Some, None, [], false, true, IfOk};
 ghost use Rattle.std.specs.List.{AllByRecursion};
 ghost use Rattle.bits.specs.Refusals.{RefusedMemoryOnly};
 ghost use Rattle.vault.specs.Calls.{HasFailed};

@@ -1,6 +1,6 @@
 //! The rows of a run of sources: what was read before, and what is still to be read.
 
-ghost use Rattle.std.specs.Prelude.{◌≡◌, ◌≤◌, ◌↔◌, ℕ, List, Some, false};
+ghost use Rattle.std.specs.Prelude.{◌≡◌, ◌≤◌, ◌↔◌, List, Some, false};
 ghost use Rattle.std.specs.Rc.{rc_value};
 ghost use Rattle.manifest.specs.Groups.{Group as FileGroup, group_view, handles_view};
 

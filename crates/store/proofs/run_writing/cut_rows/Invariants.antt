@@ -1,4 +1,4 @@
-use Rattle.std.proofs.Common.{◌≡◌, ◌≤◌, ◌++◌, List, map, drop}
+use Rattle.std.proofs.Common.{◌≡◌, ◌≤◌, ◌++◌, map, drop}
 use Rattle.std.specs.List.{AllByRecursion}
 use Rattle.schema.specs.Views.{key_view, rows_view}
 use Rattle.schema.specs.Keys.{key_columns_view, key_of_row, row_without_keys}

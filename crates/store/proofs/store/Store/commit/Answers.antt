@@ -1,4 +1,4 @@
-use Rattle.std.proofs.Common.{◌≡◌, ◌<◌, ◌≤◌, ℕ, true, false, not, refl, sym, ◌∙◌, ap, arith}
+use Rattle.std.proofs.Common.{◌≡◌, ◌<◌, ◌≤◌, ℕ, true, false, refl, sym, ◌∙◌, ap, arith}
 use Rattle.table.specs.Calls.{commit, done}
 use Rattle.table.specs.Views.{answered}
 use Rattle.vault.proofs.Chained.{refused}

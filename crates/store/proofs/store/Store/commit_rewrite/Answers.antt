@@ -1,4 +1,4 @@
-use Rattle.std.proofs.Common.{◌≡◌, ℕ, List, true, false, not, Err, Some, None, refl, ap, sym, ◌∙◌, subst}
+use Rattle.std.proofs.Common.{◌≡◌, ℕ, List, true, false, Err, ap, sym, ◌∙◌}
 use Rattle.std.specs.Prelude.{Result}
 use Rattle.std.specs.List.{list_all}
 use Rattle.bits.specs.declared.refusal.Refusal.{Refusal}
@@ -13,10 +13,9 @@ use Rattle.table.specs.Calls.{commit, done}
 use Rattle.table.specs.Refusing.{is_failure}
 use Rattle.table.specs.Views.{answered}
 use Rattle.store.specs.declared.jobs.OpenJob.{OpenJob}
-use Rattle.store.specs.declared.jobs.Work.{Work}
 use Rattle.store.specs.Lookups.{job_at}
 use Rattle.store.specs.Promises.{ActsFrom}
-use Rattle.store.specs.Rewritten.{runs_at, runs_of_work, numbers_of_runs}
+use Rattle.store.specs.Rewritten.{runs_at, numbers_of_runs}
 use Rattle.store.proofs.Fetched.{memory_so}
 use Rattle.store.proofs.RewriteHeld.{fault_is, runs_told}
 use Rattle.store.proofs.RewriteDone.{poor_first}

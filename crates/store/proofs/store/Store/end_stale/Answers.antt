@@ -1,9 +1,8 @@
-use Rattle.std.proofs.Common.{ℕ, refl, sym, subst, Err, false}
+use Rattle.std.proofs.Common.{ℕ}
 use Rattle.std.specs.Prelude.{Result}
 use Rattle.bits.specs.declared.refusal.Refusal.{Refusal}
 use Rattle.vault.proofs.Chained.{refused}
 use Rattle.table.specs.Calls.{commit, done}
-use Rattle.table.specs.Refusing.{is_failure}
 use Rattle.table.specs.Views.{answered}
 use Rattle.store.specs.Promises.{ActsFrom}
 use Rattle.store.proofs.RewriteDone.{stale_poor, stale_done}

@@ -1,8 +1,8 @@
-use Rattle.std.proofs.Common.{◌≡◌, ◌≤◌, ◌+◌, ◌++◌, ◌∷◌, [], ℕ, List, Result, length, drop, map, refl, ap, sym, ◌∙◌, subst, arith, append_assoc}
+use Rattle.std.proofs.Common.{◌≡◌, ◌+◌, ◌++◌, [], ℕ, List, Result, length, drop, refl, ap, sym, ◌∙◌, subst, arith, append_assoc}
 use Rattle.std.specs.Prelude.{Some, Vec}
 use Rattle.std.specs.declared.rc.Rc.{Rc}
 use Rattle.std.specs.declared.alloc.Global.{Global}
-use Rattle.std.proofs.lemmas.List.{append-nil, length-map}
+use Rattle.std.proofs.lemmas.List.{append-nil}
 use Rattle.bits.specs.declared.refusal.Refusal.{Refusal}
 use Rattle.bits.specs.declared.refusal.Refusal.TheVariants.{Memory}
 use Rattle.vault.proofs.Chained.{refused, both}
@@ -14,7 +14,7 @@ use Rattle.planning.specs.declared.change.Sources.{Sources}
 use Rattle.planning.specs.Replaced.{Run, run_view, runs_view}
 use Rattle.planning.specs.Numbered.{brought_by}
 use Rattle.planning.specs.Runs.{sources_view}
-use Rattle.table.specs.Table.{Group, rows}
+use Rattle.table.specs.Table.{rows}
 use Rattle.table.specs.State.{sources}
 use Rattle.table.specs.Limits.{IsPart, IsOfRun}
 use Rattle.store.specs.declared.store.Store.{Store}

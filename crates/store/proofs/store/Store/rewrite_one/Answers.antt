@@ -1,4 +1,4 @@
-use Rattle.std.proofs.Common.{◌≡◌, ◌≤◌, ◌+◌, ◌++◌, ℕ, List, Result, length, drop, refl, ap, sym, ◌∙◌, subst, arith}
+use Rattle.std.proofs.Common.{◌≡◌, ◌+◌, ℕ, List, Result, length, drop, ap, sym, ◌∙◌, subst, arith}
 use Rattle.std.specs.Prelude.{Some, IfOk}
 use Rattle.std.specs.List.{AllByRecursion}
 use Rattle.std.specs.Rc.{rc_value}
@@ -12,12 +12,12 @@ use Rattle.vault.proofs.Chained.{refused}
 use Rattle.manifest.specs.declared.group.Group.{Group as CodeGroup}
 use Rattle.manifest.specs.Groups.{Group as FileGroup, group_view, handles_view, numbers_of}
 use Rattle.planning.specs.declared.change.Run.{Run as CodeRun}
-use Rattle.planning.specs.Replaced.{Run, run_view}
-use Rattle.table.specs.Table.{Row, Group, IsRowIn, rows}
+use Rattle.planning.specs.Replaced.{run_view}
+use Rattle.table.specs.Table.{Row, IsRowIn, rows}
 use Rattle.table.specs.Limits.{IsPart}
 use Rattle.store.specs.declared.store.Store.{Store}
 use Rattle.store.specs.Lookups.{job_at}
-use Rattle.store.specs.Rewritten.{AreSources, HasAdded, IsHalted, NoPart, RewritesOne, AddsAll}
+use Rattle.store.specs.Rewritten.{AreSources, HasAdded, IsHalted, NoPart, RewritesOne}
 use Rattle.store.proofs.RunByRun.{run_rows_in, run_can, one_stops, one_made, come_told, behind_first}
 use Rattle.store.proofs.store.Store.rewrite_one.Goals as goal
 

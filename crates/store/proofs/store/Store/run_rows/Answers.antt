@@ -1,5 +1,5 @@
-use Rattle.std.proofs.Common.{◌≡◌, ◌≤◌, ◌+◌, ◌++◌, ◌∷◌, [], ℕ, List, Result, drop, map, refl, ap, sym, ◌∙◌, subst, arith}
-use Rattle.std.specs.Prelude.{Some, Vec, get_or}
+use Rattle.std.proofs.Common.{◌+◌, List, Result, drop, refl, ap, sym, ◌∙◌, subst, arith}
+use Rattle.std.specs.Prelude.{Some, Vec}
 use Rattle.std.specs.Rc.{rc_value}
 use Rattle.std.specs.declared.rc.Rc.{Rc}
 use Rattle.std.specs.declared.alloc.Global.{Global}
@@ -11,10 +11,10 @@ use Rattle.schema.specs.Views.{row_view, rows_view}
 use Rattle.vault.proofs.Chained.{refused, both}
 use Rattle.manifest.specs.declared.group.Group.{Group as CodeGroup}
 use Rattle.manifest.specs.Groups.{Group as FileGroup, group_view, handles_view}
-use Rattle.table.specs.Table.{Row, Group, rows}
+use Rattle.table.specs.Table.{Row, rows}
 use Rattle.store.specs.declared.store.Store.{Store}
 use Rattle.store.specs.Lookups.{job_at}
-use Rattle.store.specs.Rewritten.{AreSources, Reads, IsHalted, NoPart}
+use Rattle.store.specs.Rewritten.{Reads, IsHalted, NoPart}
 use Rattle.store.proofs.Buffered.{drop_item, drop_all}
 use Rattle.store.proofs.Fetched.{memory_so}
 use Rattle.store.proofs.RunParts.{poor_here}

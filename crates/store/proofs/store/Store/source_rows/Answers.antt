@@ -1,5 +1,5 @@
-use Rattle.std.proofs.Common.{◌≡◌, ◌≤◌, [], List, Option, Result, Err, Ok, ap, sym, ◌∙◌, subst, refl, arith}
-use Rattle.std.specs.Prelude.{Some, None, Vec, option_map}
+use Rattle.std.proofs.Common.{◌≡◌, [], Option, Result, ap, sym, ◌∙◌, subst, arith}
+use Rattle.std.specs.Prelude.{Some, Vec, option_map}
 use Rattle.std.specs.Rc.{rc_value}
 use Rattle.std.specs.declared.alloc.Global.{Global}
 use Rattle.bits.specs.declared.refusal.Refusal.{Refusal}

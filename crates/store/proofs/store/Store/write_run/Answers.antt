@@ -1,4 +1,4 @@
-use Rattle.std.proofs.Common.{◌≡◌, ◌≤◌, ◌<◌, ◌+◌, ◌*◌, ◌∷◌, ◌++◌, [], ℕ, true, false, List, Result, length, map, take, drop, refl, ap, sym, ◌∙◌, subst, arith}
+use Rattle.std.proofs.Common.{◌≡◌, ◌≤◌, ◌+◌, ◌*◌, ◌++◌, List, Result, length, take, drop, refl, ap, sym, ◌∙◌, subst, arith}
 use Rattle.std.specs.Prelude.{Some, min}
 use Rattle.std.specs.List.{AllByRecursion}
 use Rattle.std.proofs.lemmas.List.{length-map}
@@ -6,7 +6,7 @@ use Rattle.bits.specs.declared.refusal.Refusal.{Refusal}
 use Rattle.schema.specs.Views.{row_view, rows_view}
 use Rattle.vault.proofs.Chained.{refused, both}
 use Rattle.manifest.specs.Groups.{handles_view}
-use Rattle.table.specs.Table.{Row, Key, IsRowIn}
+use Rattle.table.specs.Table.{Row, IsRowIn}
 use Rattle.footer.specs.declared.options.WriteOptions.{WriteOptions}
 use Rattle.store.specs.declared.store.Store.{Store}
 use Rattle.store.specs.Rewritten.{AddsAll, HasAddedOne, IsHalted}
