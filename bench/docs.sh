@@ -5,8 +5,8 @@
 #     bench/docs.sh [--program] [FILE]...      these documents only; with --program only calls of ./pqds
 #
 # A command is a line of a block marked sh, a text in backquotes that is a call of ./pqds, rt or a script, or an example
-# in a help text. What it prints is the block marked text, the text in backquotes after "prints", or, in a help text, the
-# lines after "prints". The help texts of docs/USAGE.md are compared with the program's. What commands made is removed
+# in a help text. What the commands of a block print, one after another, is the block marked text, the text in backquotes
+# after "prints", or, in a help text, the lines after "prints". The help texts of docs/USAGE.md are compared with the program's. What commands made is removed
 # at the next heading. Commands that take the whole gate, or most of it, are named and left out.
 top=$(CDPATH='' cd -- "$(dirname -- "$0")/.." && pwd) || exit 1
 room=$(mktemp -d) || exit 1
@@ -53,18 +53,21 @@ def called(command):
     return ran.returncode, out, err
 
 
-def run(place, command, shown=None):
-    """Runs a command as typed; where the document shows what it prints, its standard output is that."""
+def run(place, command, before="", shown=None):
+    """Runs a command as typed, and returns what it printed, after what was printed before; where the document shows what is
+    printed, that is it."""
     is_program = command.startswith(("./pqds", "rt version"))
     if command in LONG or command.startswith("rt all ") or only_program and not is_program:
         print(f"left    {place}: {command}", flush=True)
-        return
+        return before
     if not is_program and not os.path.exists("crates/bits/out"):
         copy_built()
     status, out, err = called(command)
     wanted = 2 if command.endswith(("--help", "--version")) else 0
+    out = "\n".join(it for it in (before, out) if it)
     well = status == wanted and (shown is None or out == shown.rstrip())
     tell(f"{place}: {command}", well, f"status {status}, and printed\n{out[-2000:]}\n{err[-2000:]}")
+    return out
 
 
 def steps_of(document):
@@ -102,10 +105,11 @@ def indented(text):
 
 
 def run_each(place, commands, shown):
-    """Runs commands in order; what is shown is printed by the last."""
-    for command in commands:
+    """Runs commands in order; what is shown is all that they print."""
+    printed = ""
+    for number, command in enumerate(commands, 1):
         done.add(command)
-        run(place, command, shown if command is commands[-1] else None)
+        printed = run(place, command, printed, shown if number == len(commands) else None)
 
 
 def check_help(place, word, text):

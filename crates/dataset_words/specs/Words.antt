@@ -1,14 +1,28 @@
 -- The words that the commands on a dataset begin with.
 use Rattle.std.specs.Prelude.{ℕ, List, codes}
 use Rattle.dataset_words.specs.declared.call.Task.{Task}
-use Rattle.dataset_words.specs.declared.call.Task.TheVariants.{Create, Append, Import, Query, Count, Groups, RemoveGroups, AddColumn}
+use Rattle.dataset_words.specs.declared.call.Task.TheVariants.{Create, Ask, Change as ToChange, Run}
+use Rattle.dataset_words.specs.declared.call.Question.{Question}
+use Rattle.dataset_words.specs.declared.call.Question.TheVariants.{Query, Count, Groups}
+use Rattle.dataset_words.specs.declared.call.Change.{Change}
+use Rattle.dataset_words.specs.declared.call.Change.TheVariants.{Append, Import, AddColumn, Remove, RemoveGroups, Rewrite, RewriteSmall}
+
+abbrev pub question_word : Question → List ℕ
+question_word (Query filter columns) = codes "query"
+question_word (Count filter) = codes "count"
+question_word Groups = codes "groups"
+
+abbrev pub change_word : Change → List ℕ
+change_word (Append rows) = codes "append"
+change_word (Import file) = codes "import"
+change_word (AddColumn schema) = codes "add-column"
+change_word (Remove filter) = codes "remove"
+change_word (RemoveGroups numbers) = codes "remove"
+change_word (Rewrite numbers) = codes "rewrite"
+change_word (RewriteSmall min_rows) = codes "rewrite"
 
 abbrev pub task_word : Task → List ℕ
 task_word (Create schema keys) = codes "create"
-task_word (Append rows) = codes "append"
-task_word (Import file) = codes "import"
-task_word (Query filter columns) = codes "query"
-task_word (Count filter) = codes "count"
-task_word Groups = codes "groups"
-task_word (RemoveGroups numbers) = codes "remove"
-task_word (AddColumn schema) = codes "add-column"
+task_word (Ask question) = question_word question
+task_word (ToChange change) = change_word change
+task_word (Run script) = codes "run"

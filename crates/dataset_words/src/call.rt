@@ -15,35 +15,46 @@ pub struct Call<'a> {
 #[derive(Drop)]
 pub enum Task<'a> {
     /// Make a table: the file of its schema, and the names of its key columns.
-    Create {
-        schema: &'a str,
-        keys: Vec<&'a str>,
-    },
-    /// Append the rows of a file, a line each.
-    Append {
-        rows: &'a str,
-    },
-    /// Append the rows of a Parquet file.
-    Import {
-        file: &'a str,
-    },
-    /// Print rows: a filter, and the columns that are wanted, none for all.
+    Create { schema: &'a str, keys: Vec<&'a str> },
+    /// Print what a dataset has.
+    Ask(Question<'a>),
+    /// Change a dataset, in one commit.
+    Change(Change<'a>),
+    /// Make the calls of a file, one of each line, and print their answers.
+    Run { script: &'a str },
+}
+
+/// What is to be printed of a dataset.
+#[derive(Drop)]
+pub enum Question<'a> {
+    /// Rows: a filter, and the columns that are wanted, none for all.
     Query {
         filter: Option<&'a str>,
         columns: Vec<&'a str>,
     },
-    /// Print how many rows there are.
+    /// How many rows there are.
     Count {
         filter: Option<&'a str>,
     },
-    /// Print what the groups are.
+    /// What the groups are.
     Groups,
-    /// Remove groups.
-    RemoveGroups {
-        numbers: Vec<u64>,
-    },
-    /// Put a column at the end; the file has its schema.
-    AddColumn {
-        schema: &'a str,
-    },
+}
+
+/// What is to be made of a dataset.
+#[derive(Drop)]
+pub enum Change<'a> {
+    /// The rows of a file, a line each, come in.
+    Append { rows: &'a str },
+    /// The rows of a Parquet file come in.
+    Import { file: &'a str },
+    /// A column comes at the end; the file has its schema.
+    AddColumn { schema: &'a str },
+    /// The rows that satisfy a filter go.
+    Remove { filter: &'a str },
+    /// The groups of these numbers go.
+    RemoveGroups { numbers: Vec<u64> },
+    /// The rows of the groups of these numbers are written anew, in full groups.
+    Rewrite { numbers: Vec<u64> },
+    /// The same of groups that have fewer rows than this, where neighbours of one key do.
+    RewriteSmall { min_rows: u64 },
 }

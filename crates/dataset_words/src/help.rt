@@ -6,20 +6,38 @@ pub const CREATE_LONG: &str = "\
 Makes a dataset without rows in DIR, which is made where nothing is there.
 
 SCHEMA is a file with a JSON array of the columns, as for encode. A KEY is the name of a column by whose values the rows are
-put into folders `KEY=value`: a required column of type boolean, int32, int64, or bytes noted as utf8. The dataset is a
-Parquet dataset that other tools read: part files in folders, and one file `_metadata`.
+put into folders `KEY=value`: a required column of type boolean, int32, int64, or bytes noted as utf8. Each part of the dataset
+is a Parquet file without the key columns, and one file `_metadata` says which parts are the dataset: the layout of partitioned
+datasets of other tools. No other tool has been tried on a whole dataset yet.
 
 Refused 24 Exists where DIR has a dataset already, which stays as it is; 17 Key for a KEY that is no such column, comes
-twice, or for all columns as keys; 4, 6 and 29 for the schema.";
+twice, or for all columns as keys; 4, 6 and 29 for the schema; 25 Device where DIR cannot be made.";
+
+pub const CREATE_EXAMPLE: &str = "\
+Example, at the top of the repository:
+
+    ./pqds create orders sample/orders_table.schema.json region";
 
 pub const APPEND: &str = "Appends rows to a dataset";
 
 pub const APPEND_LONG: &str = "\
 Appends the rows of ROWS, a file with a line of JSON for each row, and prints `done N`, N the number of rows.
 
-All of them are there or none, also after a crash. Once `done` is printed they stay. Refused 14 or 29 for the first line
-that is no row, 17 Key for a row whose key has no folder (an empty text, or a longer name than 255 bytes), 23 NoTable where
-DIR has no dataset.";
+All of them come in or none, and once `done` is printed they stay. That this holds after a crash too is proved for a disk that
+keeps the rules of docs/DISK.md; whether yours does is not known to the program.
+
+Refused 14 or 29 for the first line that is no row, after a line that has its number; 17 Key for a row whose key has no folder
+(an empty text, or a longer name than 255 bytes); 23 NoTable where DIR has no dataset.";
+
+pub const APPEND_EXAMPLE: &str = "\
+Example, at the top of the repository:
+
+    ./pqds create orders sample/orders_table.schema.json region
+    ./pqds append orders sample/new_orders.jsonl
+
+prints
+
+    done 3";
 
 pub const IMPORT: &str = "Appends the rows of a Parquet file to a dataset";
 
@@ -28,20 +46,40 @@ Appends the rows of a Parquet file, and prints `done N`, N the number of rows. T
 dataset, with the key columns among them, in their order: name, repetition, type, length and annotation; else 4 Schema. The
 file is read as decode reads it, and refused as it refuses it; what the file says of itself besides its rows is not used.";
 
+pub const IMPORT_EXAMPLE: &str = "\
+Example, at the top of the repository:
+
+    ./pqds create numbers sample/two_rows.schema.json
+    ./pqds import numbers sample/two_rows.parquet
+
+prints
+
+    done 2";
+
 pub const QUERY: &str = "Prints rows of a dataset";
 
 pub const QUERY_LONG: &str = "\
 Prints rows of a dataset, each as a line of JSON, keys ascending, and within a key in the order in which they were
-appended. With COLUMNs only these are printed, in the order of the schema.
+appended. With COLUMNs only these are printed, in the order of their names.
 
 A filter is an array of ANDs, each an array of triples [column, operator, value]: a row is printed where all triples of one
-AND hold. One AND may stand alone, as an array of triples. Operators: == (also =), !=, <, <=, >, >=, in, not in. A column is a
-name, or an array of the names on its path. A null satisfies no triple. A group of which the statistics show that no row
-satisfies is not read, nor are columns that are neither printed nor in the filter.
-
-    ./pqds query DIR --filter '[[\"x\",\">=\",10]]' y
+AND hold. One AND may stand alone, as an array of triples; the empty filter [] holds for every row. Operators: == (also =), !=,
+<, <=, >, >=, in, not in. A column is a name, or an array of the names on its path. A null satisfies no triple. A group of which
+the statistics show that no row satisfies is not read, nor are columns that are neither printed nor in the filter.
 
 Refused 14, 15, 16 or 29 for the filter, 15 NoColumn for a COLUMN that is not there.";
+
+pub const QUERY_EXAMPLE: &str = "\
+Example, at the top of the repository:
+
+    ./pqds create orders sample/orders_table.schema.json region
+    ./pqds append orders sample/new_orders.jsonl
+    ./pqds query orders --filter '[[\"cents\",\">=\",1000]]' order cents
+
+prints
+
+    done 3
+    {\"cents\":1250,\"order\":1}";
 
 pub const COUNT: &str = "Prints how many rows a dataset has";
 
@@ -49,17 +87,90 @@ pub const COUNT_LONG: &str = "\
 Prints how many rows a dataset has, or how many satisfy a filter (query says what a filter is). Without a filter no part
 file is read, with one only the columns in it.";
 
+pub const COUNT_EXAMPLE: &str = "\
+Example, at the top of the repository:
+
+    ./pqds create orders sample/orders_table.schema.json region
+    ./pqds append orders sample/new_orders.jsonl
+    ./pqds count orders --filter '[[\"region\",\"==\",\"north\"]]'
+
+prints
+
+    done 3
+    2";
+
 pub const GROUPS: &str = "Prints the groups of a dataset";
 
 pub const GROUPS_LONG: &str = "\
 Prints a line of JSON for each group of rows, in the order of the rows: the bytes of its columns, its key, its number, which
 is in the name of its file, and how many rows it has. No part file is read.";
 
-pub const REMOVE: &str = "Removes groups of rows from a dataset";
+pub const GROUPS_EXAMPLE: &str = "\
+Example, at the top of the repository:
+
+    ./pqds create numbers sample/two_rows.schema.json
+    ./pqds import numbers sample/two_rows.parquet
+    ./pqds groups numbers
+
+prints
+
+    done 2
+    {\"bytes\":33,\"key\":[],\"number\":0,\"rows\":2}";
+
+pub const REMOVE: &str = "Removes rows from a dataset";
 
 pub const REMOVE_LONG: &str = "\
-Removes the groups of these numbers (groups prints them), and prints `done N`, N the number of rows. All of them go or none,
-also after a crash. Refused 18 NoGroup for a number that no group has.";
+Removes the rows that satisfy a filter (query says what a filter is; [] holds for every row), or the groups of these numbers
+(groups prints them), and prints `done N`, N the number of rows. All of them go or none, as append says it. A group of which
+some rows go is written anew under a new number; one of which none goes stays as it is.
+
+Refused 14, 15, 16 or 29 for the filter, 18 NoGroup for a number that no group has. With both a filter and numbers, or neither,
+it is a wrong call.";
+
+pub const REMOVE_USAGE: &str = "\
+pqds remove [OPTIONS] <DIR> <NUMBER>...
+       pqds remove [OPTIONS] <DIR> --filter <JSON>";
+
+pub const REMOVE_EXAMPLE: &str = "\
+Example, at the top of the repository:
+
+    ./pqds create orders sample/orders_table.schema.json region
+    ./pqds append orders sample/new_orders.jsonl
+    ./pqds remove orders --filter '[[\"cents\",\"<\",1000]]'
+
+prints
+
+    done 3
+    done 1";
+
+pub const REWRITE: &str = "Puts small groups of a dataset together";
+
+pub const REWRITE_LONG: &str = "\
+Writes the rows of groups anew, and prints `done N`, N the number of rows. Groups that stand next to each other under one key
+become groups of `--group-rows` rows, the last of them with the rest; the rows stay, in their order. With NUMBERs it does so with
+these groups (groups prints the numbers); with --min-rows N with those that have fewer than N rows, and next to them a group of
+the same key that has fewer too. Where there are none, nothing is written: `done 0`. All of it is done or nothing, as append
+says it.
+
+Refused 18 NoGroup for a number that no group has. With both, or neither, it is a wrong call.";
+
+pub const REWRITE_USAGE: &str = "\
+pqds rewrite [OPTIONS] <DIR> <NUMBER>...
+       pqds rewrite [OPTIONS] <DIR> --min-rows <N>";
+
+pub const REWRITE_EXAMPLE: &str = "\
+Example, at the top of the repository:
+
+    ./pqds create orders sample/orders_table.schema.json region
+    ./pqds append orders sample/new_orders.jsonl
+    ./pqds append orders sample/later_orders.jsonl
+    ./pqds rewrite orders --min-rows 100
+
+prints
+
+    done 3
+    done 1
+    done 2";
 
 pub const ADD_COLUMN: &str = "Adds a column to a dataset";
 
@@ -67,3 +178,55 @@ pub const ADD_COLUMN_LONG: &str = "\
 Puts a column at the end of the schema, and prints `done 0`. SCHEMA is a file with a JSON array of one column, which is
 optional. Rows that are there are null in it; their files stay as they are. Refused 4 Schema for a column that is not
 optional, or whose name is there.";
+
+pub const ADD_COLUMN_EXAMPLE: &str = "\
+Example, at the top of the repository:
+
+    ./pqds create orders sample/orders_table.schema.json region
+    ./pqds add-column orders sample/note.schema.json
+
+prints
+
+    done 0";
+
+pub const RUN: &str = "Makes the calls of a script on a dataset";
+
+pub const RUN_LONG: &str = "\
+Makes the calls of SCRIPT, a file with a line of JSON for each call, one after another on one opening of the dataset, and prints
+the answer of each, a line of JSON. The calls:
+
+    {\"call\":\"append\",\"rows\":[..]}               rows come in: {\"done\":N}
+    {\"call\":\"import\",\"bytes\":\"..\"}              those of a Parquet file, by its hexadecimal digits: {\"done\":N}
+    {\"call\":\"begin_append\"}                     a job, to which rows are given before they come in: {\"job\":N}
+    {\"call\":\"stage\",\"job\":N,\"rows\":[..]}        rows for it: {\"ok\":true}
+    {\"call\":\"remove\",\"filter\":[..]}             rows that satisfy go: {\"done\":N}
+    {\"call\":\"remove_groups\",\"numbers\":[..]}     groups go: {\"done\":N}
+    {\"call\":\"plan_rewrite\",\"min_rows\":N}        the numbers of small groups: {\"plan\":[..]}
+    {\"call\":\"begin_rewrite\",\"numbers\":[..]}     a job that writes groups anew: {\"job\":N}
+    {\"call\":\"step_rewrite\",\"job\":N}             it reads one group: {\"more\":true} where others are left
+    {\"call\":\"commit\",\"job\":N}                   the job is done: {\"done\":N}
+    {\"call\":\"abort\",\"job\":N}                    it is given up: {\"ok\":true}
+    {\"call\":\"query\",\"columns\":null,\"filter\":[]} a cursor over the rows as they are now, or over names in place of null:
+                                              {\"cursor\":N}
+    {\"call\":\"fetch\",\"cursor\":N}                 rows of its next group: {\"batch\":[..]}, or {\"end\":true}
+    {\"call\":\"close\",\"cursor\":N}                 it is given up: {\"ok\":true}
+    {\"call\":\"count\",\"filter\":[..]}              how many rows satisfy: {\"count\":N}
+    {\"call\":\"groups\"}                           what the groups are: {\"groups\":[..]}
+    {\"call\":\"add_column\",\"field\":{..}}          a column, as in a schema: {\"done\":0}; later lines are read with it
+    {\"call\":\"reopen\"}                           the dataset is opened again, without jobs and cursors: {\"ok\":true}
+
+SCRIPT is read whole first. Where a line of it is no call, it is refused 14 or 29, after a line that has its number, and nothing
+is run. A call that is refused answers {\"name\":\"Full\",\"refused\":22}, and those after it are made; the status is 0 all the same.
+Each call is a commit of its own or none; the answers are printed when all are made.";
+
+pub const RUN_EXAMPLE: &str = "\
+Example, at the top of the repository:
+
+    ./pqds create orders sample/orders_table.schema.json region
+    ./pqds append orders sample/new_orders.jsonl
+    ./pqds run orders sample/calls.jsonl | grep '\"refused\"'
+
+prints the answers of the calls that were refused:
+
+    done 3
+    {\"name\":\"NoGroup\",\"refused\":18}";

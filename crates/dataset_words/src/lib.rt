@@ -5,12 +5,14 @@
 #![tactic(auto)]
 
 mod call;
+mod commands;
 mod datasets;
 mod help;
 mod options;
 mod words;
 
-pub use call::{Call, Task};
+pub use call::{Call, Change, Question, Task};
+pub use commands::with_commands;
 pub use datasets::Datasets;
 pub use options::{options_in, with_options};
-pub use words::{call_in, with_commands};
+pub use words::call_in;

@@ -47,7 +47,7 @@ pub fn refuse<E: Write>(err: &mut E, refusal: &Refusal) -> u8
 /// `terminals` says which of both are terminals. Where `err` is one, and `--quiet` is not among the arguments, `decode`
 /// and `encode` show on it how many rows they have dealt with, and take that away again at the end. `datasets` makes
 /// the calls on datasets.
-pub fn work<F: Files, W: Write, E: Write, M: Datasets<W>>(
+pub fn work<F: Files, W: Write, E: Write, M: Datasets<W, E>>(
     rt: &F,
     alloc: Global,
     words: &[String],
@@ -98,7 +98,7 @@ fn terminals_for(words: &[String], terminals: Terminals) -> Terminals
 }
 
 /// Makes the call. Progress is shown where `err` is a terminal; of lines that go to a terminal too, none.
-fn make<F: Files, W: Write, E: Write, M: Datasets<W>>(
+fn make<F: Files, W: Write, E: Write, M: Datasets<W, E>>(
     rt: &F,
     alloc: Global,
     call: &Call<'_>,
@@ -123,6 +123,6 @@ fn make<F: Files, W: Write, E: Write, M: Datasets<W>>(
             inspect(alloc, bytes.as_slice(), *as_json, out)
         }
         Call::Check { sources } => check(rt, alloc, sources, out, err),
-        Call::Dataset { call } => datasets.make(alloc, call, out),
+        Call::Dataset { call } => datasets.make(alloc, call, out, err),
     }
 }

@@ -1,7 +1,8 @@
 //! The texts on the program's use.
 
-pub const ABOUT: &str =
-    "Reads Parquet files and prints their rows as JSON, and makes such files of JSON";
+pub const ABOUT: &str = "\
+Reads Parquet files as JSON, and makes them of JSON. Keeps tables as datasets: folders of Parquet files, to which rows
+are appended and from which they are printed and removed, each change in one commit.";
 
 /// The version, and the logic of the checker that it is proved with.
 pub const VERSION: &str = "0.1.0, proved with Rattle logic dac8208d650f15bf";

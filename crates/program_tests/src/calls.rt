@@ -49,8 +49,8 @@ pub const NO_TERMINALS: Terminals = Terminals {
 /// Nobody makes calls on datasets.
 pub struct NoDatasets;
 
-impl<W: Write> Datasets<W> for NoDatasets {
-    fn make(&self, _alloc: Global, _call: &Call<'_>, _out: &mut W) -> R<()> {
+impl<W: Write, E: Write> Datasets<W, E> for NoDatasets {
+    fn make(&self, _alloc: Global, _call: &Call<'_>, _out: &mut W, _err: &mut E) -> R<()> {
         Err(Refusal::Device)
     }
 }

@@ -51,7 +51,7 @@ no_had had (g ∷ gs) n h e = by (nat_eq g.number n) refl (no_had had gs n h.1 e
     by true same r = let c : true ≡ false = sym e ∙ ap had (sym (eqb-true g.number n same)) ∙ h.0 in absurd (cc)
     by false same r = r
 
-distinct_apart : (had : ℕ → Bool) (xs ys : List FileGroup) → AllByRecursion (λ (g : FileGroup). had g.number ≡ true) xs → AllByRecursion (λ (g : FileGroup). had g.number ≡ false) ys
+pub distinct_apart : (had : ℕ → Bool) (xs ys : List FileGroup) → AllByRecursion (λ (g : FileGroup). had g.number ≡ true) xs → AllByRecursion (λ (g : FileGroup). had g.number ≡ false) ys
     → AreDistinct (numbers_of xs) → AreDistinct (numbers_of ys) → AreDistinct (numbers_of (xs ++ ys))
 distinct_apart had [] ys a b d e = e
 distinct_apart had (x ∷ xs) ys a b d e = (among_append xs ys x.number d.0 (no_had had ys x.number b a.0), distinct_apart had xs ys a.1 b d.1 e)

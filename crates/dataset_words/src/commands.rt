@@ -1,0 +1,192 @@
+//! The commands on a dataset, as the parser of the command line knows them.
+
+use crate::help;
+use crate::options::with_options;
+use clap::{Arg, ArgAction, ArgGroup, Command, Error, value_parser};
+use std::alloc::{AllocError, Global};
+
+const ROWS_HELP: &str = "The file with the rows, as lines of JSON; - is standard input";
+
+/// A folder or a file that must be named.
+fn named<'a>(alloc: Global, name: &'a str, help: &'a str) -> Arg<'a> {
+    Arg::new(alloc, name)
+        .required(true)
+        .action(ArgAction::Set)
+        .help(help)
+}
+
+/// The folder of a dataset.
+fn folder_named<'a>(alloc: Global) -> Arg<'a> {
+    named(alloc, "DIR", "The folder of the dataset")
+}
+
+/// Any number of words.
+fn words_named<'a>(alloc: Global, name: &'a str, help: &'a str) -> Arg<'a> {
+    Arg::new(alloc, name)
+        .action(ArgAction::Append)
+        .num_args(0..)
+        .help(help)
+}
+
+/// Group numbers, one at least where there are any.
+fn numbers_named<'a>(alloc: Global, help: &'a str) -> Arg<'a> {
+    words_named(alloc, "NUMBER", help)
+        .num_args(1..)
+        .value_parser(value_parser!(u64))
+}
+
+/// One of two arguments is there, and not both.
+fn either<'a>(alloc: Global, one: &'a str, other: &'a str) -> Result<ArgGroup<'a>, AllocError> {
+    let group = ArgGroup::new(alloc, "which").required(true);
+    group.arg(one)?.arg(other)
+}
+
+fn filter_option<'a>(alloc: Global, help: &'a str) -> Arg<'a> {
+    Arg::new(alloc, "filter")
+        .long("filter")
+        .value_name("JSON")
+        .help(help)
+}
+
+fn create_command<'a>(alloc: Global) -> Result<Command<'a>, Error> {
+    let create = Command::new(alloc, "create")
+        .about(help::CREATE)
+        .long_about(help::CREATE_LONG)
+        .after_help(help::CREATE_EXAMPLE)
+        .arg(folder_named(alloc))?
+        .arg(named(alloc, "SCHEMA", "The file with the columns, as JSON"))?
+        .arg(words_named(
+            alloc,
+            "KEY",
+            "The names of the key columns, in the order of the folders",
+        ))?;
+    with_options(alloc, create)
+}
+
+fn append_command<'a>(alloc: Global) -> Result<Command<'a>, Error> {
+    let append = Command::new(alloc, "append")
+        .about(help::APPEND)
+        .long_about(help::APPEND_LONG)
+        .after_help(help::APPEND_EXAMPLE)
+        .arg(folder_named(alloc))?
+        .arg(named(alloc, "ROWS", ROWS_HELP))?;
+    with_options(alloc, append)
+}
+
+fn import_command<'a>(alloc: Global) -> Result<Command<'a>, Error> {
+    let import = Command::new(alloc, "import")
+        .about(help::IMPORT)
+        .long_about(help::IMPORT_LONG)
+        .after_help(help::IMPORT_EXAMPLE)
+        .arg(folder_named(alloc))?
+        .arg(named(alloc, "FILE", "The Parquet file with the rows"))?;
+    with_options(alloc, import)
+}
+
+fn query_command<'a>(alloc: Global) -> Result<Command<'a>, Error> {
+    let query = Command::new(alloc, "query")
+        .about(help::QUERY)
+        .long_about(help::QUERY_LONG)
+        .after_help(help::QUERY_EXAMPLE)
+        .arg(folder_named(alloc))?
+        .arg(filter_option(alloc, "Prints only the rows that satisfy this filter"))?
+        .arg(words_named(
+            alloc,
+            "COLUMN",
+            "The columns to print; all where none is named",
+        ))?;
+    Ok(query)
+}
+
+fn count_command<'a>(alloc: Global) -> Result<Command<'a>, Error> {
+    let count = Command::new(alloc, "count")
+        .about(help::COUNT)
+        .long_about(help::COUNT_LONG)
+        .after_help(help::COUNT_EXAMPLE)
+        .arg(folder_named(alloc))?
+        .arg(filter_option(alloc, "Counts only the rows that satisfy this filter"))?;
+    Ok(count)
+}
+
+fn groups_command<'a>(alloc: Global) -> Result<Command<'a>, Error> {
+    let groups = Command::new(alloc, "groups")
+        .about(help::GROUPS)
+        .long_about(help::GROUPS_LONG)
+        .after_help(help::GROUPS_EXAMPLE)
+        .arg(folder_named(alloc))?;
+    Ok(groups)
+}
+
+fn remove_command<'a>(alloc: Global) -> Result<Command<'a>, Error> {
+    let remove = Command::new(alloc, "remove")
+        .about(help::REMOVE)
+        .long_about(help::REMOVE_LONG)
+        .override_usage(help::REMOVE_USAGE)
+        .after_help(help::REMOVE_EXAMPLE)
+        .arg(folder_named(alloc))?
+        .arg(filter_option(alloc, "Removes the rows that satisfy this filter"))?
+        .arg(numbers_named(alloc, "The numbers of the groups to remove"))?
+        .group(either(alloc, "filter", "NUMBER")?)?;
+    with_options(alloc, remove)
+}
+
+fn min_rows_option<'a>(alloc: Global) -> Arg<'a> {
+    Arg::new(alloc, "min-rows")
+        .long("min-rows")
+        .value_name("N")
+        .value_parser(value_parser!(u64))
+        .help("Rewrites groups of fewer rows that stand next to each other")
+}
+
+fn rewrite_command<'a>(alloc: Global) -> Result<Command<'a>, Error> {
+    let rewrite = Command::new(alloc, "rewrite")
+        .about(help::REWRITE)
+        .long_about(help::REWRITE_LONG)
+        .override_usage(help::REWRITE_USAGE)
+        .after_help(help::REWRITE_EXAMPLE)
+        .arg(folder_named(alloc))?
+        .arg(min_rows_option(alloc))?
+        .arg(numbers_named(alloc, "The numbers of the groups to rewrite"))?
+        .group(either(alloc, "min-rows", "NUMBER")?)?;
+    with_options(alloc, rewrite)
+}
+
+fn run_command<'a>(alloc: Global) -> Result<Command<'a>, Error> {
+    let run = Command::new(alloc, "run")
+        .about(help::RUN)
+        .long_about(help::RUN_LONG)
+        .after_help(help::RUN_EXAMPLE)
+        .arg(folder_named(alloc))?
+        .arg(named(
+            alloc,
+            "SCRIPT",
+            "The file with the calls, as lines of JSON; - is standard input",
+        ))?;
+    with_options(alloc, run)
+}
+
+fn add_column_command<'a>(alloc: Global) -> Result<Command<'a>, Error> {
+    let add = Command::new(alloc, "add-column")
+        .about(help::ADD_COLUMN)
+        .long_about(help::ADD_COLUMN_LONG)
+        .after_help(help::ADD_COLUMN_EXAMPLE)
+        .arg(folder_named(alloc))?
+        .arg(named(alloc, "SCHEMA", "The file with the one column, as JSON"))?;
+    Ok(add)
+}
+
+/// The program's commands, with those on a dataset.
+pub fn with_commands<'a>(alloc: Global, program: Command<'a>) -> Result<Command<'a>, Error> {
+    let program = program
+        .subcommand(create_command(alloc)?)?
+        .subcommand(append_command(alloc)?)?
+        .subcommand(import_command(alloc)?)?
+        .subcommand(query_command(alloc)?)?
+        .subcommand(count_command(alloc)?)?
+        .subcommand(groups_command(alloc)?)?
+        .subcommand(remove_command(alloc)?)?
+        .subcommand(rewrite_command(alloc)?)?
+        .subcommand(add_column_command(alloc)?)?
+        .subcommand(run_command(alloc)?)?;
+    Ok(program)
+}
