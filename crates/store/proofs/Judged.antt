@@ -1,30 +1,22 @@
--- What is read of a group, whole, and which of its rows satisfy.
-use Rattle.std.proofs.Common.{◌≡◌, ◌≤◌, ◌<◌, ◌+◌, ◌↔◌, ℕ, suc, Bool, true, false, not, ◌||◌, nat_eq, List, [], ◌∷◌, map, filter, length, None, Result, Ok, Err, refl, sym, ◌∙◌, ap, subst, arith, inl, ⊎_elim, eq-eqb}
-use Rattle.std.specs.Prelude.{if◌then◌else◌, cond, IsTrue, IfOk, Vec}
+-- Which rows of a group satisfy, and what is left of it.
+use Rattle.std.proofs.Common.{◌≡◌, ◌+◌, ◌↔◌, ℕ, Bool, true, false, not, List, [], ◌∷◌, map, filter, length, Result, Ok, Err, refl, sym, ◌∙◌, ap, arith}
+use Rattle.std.specs.Prelude.{if◌then◌else◌, IsTrue, IfOk, Vec}
 use Rattle.std.specs.declared.alloc.Global.{Global}
 use Rattle.std.specs.List.{AllByRecursion}
-use Rattle.std.proofs.lemmas.Bool.{cases_lt, and_parts}
 use Rattle.bits.specs.declared.refusal.Refusal.{Refusal}
 use Rattle.bits.specs.declared.refusal.Refusal.TheVariants.{Memory}
 use Rattle.bits.specs.Refusals.{RefusedOnly, RefusedMemoryOnly}
 use Rattle.schema.specs.declared.row.Row.{Row as CodeRow}
-use Rattle.schema.specs.Values.{ValueTrees, no_values, value as item}
-use Rattle.schema.specs.Shape.{Fields, no_fields, field, count}
-use Rattle.schema.specs.Fits.{fits, fits_each, RowsFit}
-use Rattle.schema.specs.Stripe.{Leaf}
-use Rattle.schema.specs.Cutting.{is_among}
-use Rattle.schema.specs.Keys.{KeyColumn, values_besides, row_without_keys, width}
+use Rattle.schema.specs.Keys.{KeyColumn, row_without_keys}
 use Rattle.schema.specs.Views.{key_view, rows_view}
 use Rattle.disk.specs.State.{State as DiskState}
 use Rattle.filter.specs.Test.{Test}
 use Rattle.filter.specs.Satisfies.{Satisfies}
-use Rattle.filter.specs.Terms.{tests_of}
 use Rattle.filter.specs.Deciding.{satisfies as all_satisfied}
 use Rattle.manifest.specs.Groups.{Group as FileGroup, Root}
 use Rattle.scan.specs.Faults.{IsDevice}
-use Rattle.scan.specs.Selected.{AreSelected, cut_to, IsRuledOut, RuledOutGroupsHoldNone}
+use Rattle.scan.specs.Selected.{IsRuledOut, RuledOutGroupsHoldNone}
 use Rattle.table.specs.Table.{Row, Group}
-use Rattle.table.specs.Cursors.{wanted_places}
 use Rattle.table.proofs.Deciding.{tests_decide}
 use Rattle.store.specs.declared.remaining.Remains.{Remains}
 use Rattle.store.specs.Counting.{IsHeld}
@@ -54,6 +46,10 @@ none_satisfies tests (row ∷ given) h = by (all_satisfied tests row) refl (none
 pub ruled_out_none : (law : RuledOutGroupsHoldNone) (disk : DiskState) (tests : List (List Test)) (root : Root) (f : FileGroup) (g : Group) → IsHeld disk tests root f g → IsRuledOut tests root.keys f → length (filter (all_satisfied tests) g.rows) ≡ 0
 ruled_out_none law disk tests root f g h out = none_satisfies tests g.rows (law root.keys root.schema f h.stored.0.bytes g.rows tests h.keyed h.over h.described.0 h.stored.0.means out)
 
+-- what is held is held without a filter
+pub unfiltered : (disk : DiskState) (tests : List (List Test)) (root : Root) (f : FileGroup) (g : Group) → IsHeld disk tests root f g → IsHeld disk [] root f g
+unfiltered disk tests root f g h = record { over = ([], refl); keyed = h.keyed; count = h.count; stored = h.stored; described = h.described }
+
 -- ---- row by row
 
 module _ (tests : List (List Test)) where
@@ -75,57 +71,6 @@ module _ (tests : List (List Test)) where
 
   pub rest_same : (row : Row) (given : List Row) → pass row ≡ true → not_those pass (row ∷ given) ≡ not_those pass given
   rest_same row given e = ap (λ (b : Bool). if not b then row ∷ not_those pass given else not_those pass given) e
-
--- ---- all columns
-
-among_from : (fs : Fields) (i j : ℕ) → i ≤ j → j < i + count fs → is_among (wanted_places None i fs) j ≡ true
-among_from no_fields i j low high = absurd (omega (arith, low, high))
-among_from (field f fs) i j low high = by (nat_eq i j) refl (λ less. among_from fs (suc i) j (omega (arith, less)) (omega (arith, high)))
-  where
-    clash : nat_eq i j ≡ false → nat_eq i j ≡ true → ⊥
-    clash e g = let c : false ≡ true = sym e ∙ g in cc
-
-    by : (b : Bool) → nat_eq i j ≡ b → (i < j → is_among (wanted_places None (suc i) fs) j ≡ true) → (b || is_among (wanted_places None (suc i) fs) j) ≡ true
-    by true e rest = refl
-    by false e rest = ⊎_elim
-        (λ less. rest less)
-        (λ more. absurd (clash e (eq-eqb i j (omega (arith, low, more)))))
-        (cases_lt i j)
-
-values_whole : (gone : ℕ → Bool) (i : ℕ) (row : ValueTrees) → ((j : ℕ) → i ≤ j → j < i + width row → gone j ≡ false) → values_besides gone i row ≡ row
-values_whole gone i no_values h = refl
-values_whole gone i (item v vs) h =
-    ap (λ (b : Bool). cond b (values_besides gone (suc i) vs) (item v (values_besides gone (suc i) vs))) (h i (omega arith) (omega arith))
-    ∙ ap (λ (ws : ValueTrees). item v ws) (values_whole gone (suc i) vs (λ j low high. h j (omega (arith, low)) (omega (arith, high))))
-
-no_wider : (fs : Fields) (row : ValueTrees) → fits_each fs row ≡ true → width row ≤ count fs
-no_wider no_fields no_values h = omega arith
-no_wider no_fields (item v vs) h = absurd (cc)
-no_wider (field f fs) no_values h = absurd (cc)
-no_wider (field f fs) (item v vs) h = let r = no_wider fs vs (and_parts (fits f v) (fits_each fs vs) h).1 in omega (arith, r)
-
-cut_whole : (fs : Fields) (row : ValueTrees) → IsTrue (fits_each fs row) → cut_to (wanted_places None 0 fs) row ≡ row
-cut_whole fs row h = values_whole (λ i. not (is_among (wanted_places None 0 fs) i)) 0 row (λ j low high. ap not (among_from fs 0 j low (let w = no_wider fs row h in omega (arith, w, high))))
-
-all_whole : (fs : Fields) (given : List Row) → RowsFit fs given → map (cut_to (wanted_places None 0 fs)) (filter (λ (row : Row). true) given) ≡ given
-all_whole fs [] h = refl
-all_whole fs (row ∷ given) h = ap (λ (r : Row). r ∷ map (cut_to (wanted_places None 0 fs)) (filter (λ (x : Row). true) given)) (cut_whole fs row h.0) ∙ ap (λ (rs : List Row). row ∷ rs) (all_whole fs given h.1)
-
-none_asked : (fs : Fields) (given out : List Row) → RowsFit fs given → AreSelected [] (wanted_places None 0 fs) given out → out ≡ given
-none_asked fs given out h are = are (λ row. true) (λ row. (λ t. inl refl, λ t. refl)) ∙ all_whole fs given h
-
-pub no_tests : (leaves : List Leaf) (tests : List (List Test)) → tests_of leaves [] ≡ Ok tests → tests ≡ []
-no_tests leaves tests e = let f : Ok [] ≡ Ok tests = e in cc
-
--- with no filter and all columns the rows are what the group has
-selected_all : (fs : Fields) (given out : List Row) (tests : List (List Test)) (places : List ℕ) → tests ≡ [] → places ≡ wanted_places None 0 fs → RowsFit fs given → AreSelected tests places given out → out ≡ given
-selected_all fs given out tests places none all h are =
-    none_asked fs given out h (subst (λ (ts : List (List Test)). AreSelected ts (wanted_places None 0 fs) given out) none (subst (λ (ps : List ℕ). AreSelected tests ps given out) all are))
-
-pub all_selected : (result : Result (Vec CodeRow Global) Refusal) (fs : Fields) (given : List Row) (tests : List (List Test)) (places : List ℕ) → tests ≡ [] → places ≡ wanted_places None 0 fs → RowsFit fs given
-    → IfOk result (λ out. AreSelected tests places given (rows_view out.items)) → IfOk result (λ out. rows_view out.items ≡ given)
-all_selected (Ok out) fs given tests places none all h are = selected_all fs given (rows_view out.items) tests places none all h are
-all_selected (Err e) fs given tests places none all h are = tt
 
 -- ---- what is left of a group
 

@@ -7,7 +7,6 @@ use Rattle.bits.specs.declared.refusal.Refusal.{Refusal}
 use Rattle.bits.specs.declared.refusal.Refusal.TheVariants.{Limit, Device, Memory}
 use Rattle.bits.specs.Refusals.{HasCause}
 use Rattle.schema.specs.Shape.{Fields}
-use Rattle.schema.specs.Fits.{RowsFit}
 use Rattle.schema.specs.Keys.{KeyColumn, AreKeys, AreRowsOf, row_without_keys, without_keys}
 use Rattle.schema.specs.Stripe.{leaves_of}
 use Rattle.schema.specs.Views.{key_view}
@@ -70,10 +69,6 @@ module _ (disk : DiskState) (keys : List KeyColumn) (schema : Fields) (count : �
   as_many [] (g ∷ gs) z = absurd z
   as_many (f ∷ fs) [] z = absurd z
 
-rows_fit : (schema : Fields) (keys : List KeyColumn) (key : Key) (given : List Row) → AllByRecursion (IsRowIn schema keys key) given → RowsFit schema given
-rows_fit schema keys key [] h = tt
-rows_fit schema keys key (row ∷ given) h = (h.0.fits, rows_fit schema keys key given h.1)
-
 -- rows of a key are that key and what is besides it
 rows_of : (schema : Fields) (keys : List KeyColumn) (k key : Key) → AreKeys keys schema → k ≡ key → (given : List Row) → AllByRecursion (IsRowIn schema keys key) given → AreRowsOf keys k (map (row_without_keys keys) given) given
 rows_of schema keys k key are same [] h = tt
@@ -132,9 +127,6 @@ module _ {D : Type 0} (state : D → DiskState) (start now : Store D) (s : State
               (subst (λ (fs : Fields). AreStored disk s.table.keys fs now.next_group (at.file ∷ []) (at.group ∷ [])) (sym w.schema) (at.stored, tt));
           described = (subst (λ P. P at.file) (sym same_group) at.described, tt);
         }
-
-    pub fit : RowsFit root.schema at.group.rows
-    fit = subst (λ (fs : Fields). RowsFit fs at.group.rows) (sym r.written.wrote.shows.schema) (rows_fit s.table.schema s.table.keys at.group.key at.group.rows at.in_table.rows_in)
 
     abbrev left_rows : List Row
     left_rows = not_those pass at.group.rows

@@ -1,13 +1,12 @@
 //! What a removal leaves of a group.
 
-ghost use Rattle.std.specs.Prelude.{◌≡◌, List, Some, IfOk, length, map};
+ghost use Rattle.std.specs.Prelude.{◌≡◌, Some, IfOk, length, map};
 ghost use Rattle.std.specs.List.{slice_get};
 ghost use Rattle.bits.specs.Refusals.{RefusedOnly, RefusedMemoryOnly};
-ghost use Rattle.schema.specs.Fits.{RowsFit};
 ghost use Rattle.schema.specs.Keys.{key_columns_view, row_without_keys};
 ghost use Rattle.schema.specs.Views.{key_view, rows_view};
 ghost use Rattle.filter.specs.Deciding.{satisfies as all_satisfied};
-ghost use Rattle.filter.specs.Test.{Test, tests_in};
+ghost use Rattle.filter.specs.Test.{tests_in};
 ghost use Rattle.manifest.specs.Groups.{Group as FileGroup, group_view, root_of};
 ghost use Rattle.scan.specs.Faults.{IsDevice};
 ghost use Rattle.table.specs.Table.{Group as TableGroup};
@@ -16,7 +15,7 @@ ghost use Rattle.store.specs.Reading.{OnlyReads};
 ghost use Rattle.store.specs.Removing.{AreRemains, those, not_those};
 
 use crate::cutting::rest_of;
-use crate::wanted::places_of;
+use crate::sources::whole_rows;
 use bits::{R, Refusal};
 use disk::Disk;
 use filter::Filter;
@@ -43,9 +42,9 @@ pub(crate) fn remains_at<D: Disk>(
     filter: &Filter,
     place: usize,
 ) -> R<Remains>
-    ensures stands { (D.state vault.old.disk).honest → (f : FileGroup) (g : TableGroup) → slice_get (root_of table.now).groups place ≡ Some f → IsHeld (D.state vault.old.disk) (tests_in filter.now) (root_of table.now) f g → RowsFit (root_of table.now).schema g.rows
+    ensures stands { (D.state vault.old.disk).honest → (f : FileGroup) (g : TableGroup) → slice_get (root_of table.now).groups place ≡ Some f → IsHeld (D.state vault.old.disk) (tests_in filter.now) (root_of table.now) f g
         → IfOk result (λ r. AreRemains (tests_in filter.now) (root_of table.now).keys f g r) }
-    ensures only { (D.state vault.old.disk).honest → (f : FileGroup) (g : TableGroup) → slice_get (root_of table.now).groups place ≡ Some f → IsHeld (D.state vault.old.disk) (tests_in filter.now) (root_of table.now) f g → RowsFit (root_of table.now).schema g.rows
+    ensures only { (D.state vault.old.disk).honest → (f : FileGroup) (g : TableGroup) → slice_get (root_of table.now).groups place ≡ Some f → IsHeld (D.state vault.old.disk) (tests_in filter.now) (root_of table.now) f g
         → RefusedOnly IsDevice result }
     ensures effect { OnlyReads (D.state vault.old.disk) (D.state vault.new.disk) result }
 {
@@ -63,9 +62,9 @@ fn remains_of<D: Disk>(
     filter: &Filter,
     group: &Group,
 ) -> R<Remains>
-    ensures stands { (D.state vault.old.disk).honest → (g : TableGroup) → IsHeld (D.state vault.old.disk) (tests_in filter.now) (root_of table.now) (group_view group.now) g → RowsFit (root_of table.now).schema g.rows
+    ensures stands { (D.state vault.old.disk).honest → (g : TableGroup) → IsHeld (D.state vault.old.disk) (tests_in filter.now) (root_of table.now) (group_view group.now) g
         → IfOk result (λ r. AreRemains (tests_in filter.now) (root_of table.now).keys (group_view group.now) g r) }
-    ensures only { (D.state vault.old.disk).honest → (g : TableGroup) → IsHeld (D.state vault.old.disk) (tests_in filter.now) (root_of table.now) (group_view group.now) g → RowsFit (root_of table.now).schema g.rows
+    ensures only { (D.state vault.old.disk).honest → (g : TableGroup) → IsHeld (D.state vault.old.disk) (tests_in filter.now) (root_of table.now) (group_view group.now) g
         → RefusedOnly IsDevice result }
     ensures effect { OnlyReads (D.state vault.old.disk) (D.state vault.new.disk) result }
 {
@@ -97,31 +96,6 @@ fn left_of(alloc: Global, group: &Group, gone: u64, rows: Vec<Row>) -> R<Remains
         gone,
         rest: KeyRows { key, rows },
     })
-}
-
-/// All rows of a group, whole.
-fn whole_rows<D: Disk>(
-    alloc: Global,
-    vault: &mut Vault<D>,
-    table: &Manifest,
-    group: &Group,
-) -> R<Vec<Row>>
-    ensures stands { (D.state vault.old.disk).honest → (tests : List (List Test)) (g : TableGroup) → IsHeld (D.state vault.old.disk) tests (root_of table.now) (group_view group.now) g → RowsFit (root_of table.now).schema g.rows
-        → IfOk result (λ rows. rows_view rows.items ≡ g.rows) }
-    ensures only { (D.state vault.old.disk).honest → (tests : List (List Test)) (g : TableGroup) → IsHeld (D.state vault.old.disk) tests (root_of table.now) (group_view group.now) g → RefusedOnly IsDevice result }
-    ensures effect { OnlyReads (D.state vault.old.disk) (D.state vault.new.disk) result }
-{
-    let all = Filter::new(alloc, table.schema(), &[])?;
-    let places = places_of(alloc, table.schema().fields(), None)?;
-    scan::rows_of(
-        alloc,
-        vault,
-        table.schema(),
-        table.keys(),
-        group,
-        &all,
-        places.as_slice(),
-    )
 }
 
 /// How many rows satisfy. Takes no memory.

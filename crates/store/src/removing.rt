@@ -66,7 +66,9 @@ impl<D: Disk> Store<D> {
     /// but for finding each group, which is logarithmic.
     ///
     /// Refused Closed; Full where there are no more group numbers; for the first term that has a fault; Limit for a file
-    /// or a root that is too much; Device, and InDoubt where the root may be the old one or the new one.
+    /// or a root that is too much; Device, and InDoubt where the root may be the old one or the new one. Where more rows are
+    /// left of a group than `group_rows`, as of one that was written when groups were larger, and they are too much for one
+    /// file, the answer is Memory in place of Limit.
     pub fn remove(&mut self, alloc: Global, terms: &[Vec<Term>]) -> R<u64>
         ensures acts { Acts D.state self.old self.new (remove (terms_view terms.now)) (answered done result) }
         ensures cause { HasCause D.state self.old self.new (answered done result) }

@@ -7,7 +7,7 @@ use Rattle.store.specs.declared.store.Store.{Store}
 use Rattle.store.specs.declared.remaining.Remains.{Remains}
 use Rattle.store.specs.Removing.{Replaces, files_come, groups_come, not_those}
 use Rattle.store.proofs.Replacing.{has_read}
-use Rattle.store.proofs.Replaced.{at, held, fit, is_buffer, stays_on, put_ends, read_stops}
+use Rattle.store.proofs.Replaced.{at, held, is_buffer, stays_on, put_ends, read_stops}
 use Rattle.store.proofs.store.Store.replace_group.Goals as goal
 
 pub returns-in_err-remains-clause-replaces : goal.returns-in_err-remains-clause-replaces
@@ -23,7 +23,7 @@ returns-in_err-remains-clause-replaces g c honest start s terms is_open made wit
     let here = at st start old s is_open tests place removed r within in
     refused (λ o. Replaces st start (record old { vault = vault }) s (all_satisfied tests) (place + 1) removed o) c.from_residual.result e c.from_residual.ensures.1
     (read_stops st start old s is_open tests place removed r vault Remains e failed.ensures.effect
-    (failed.ensures.only honest here.file here.group here.file_at (held st start old s is_open tests place removed r within terms made) (fit st start old s is_open tests place removed r within)) honest)
+    (failed.ensures.only honest here.file here.group here.file_at (held st start old s is_open tests place removed r within terms made)) honest)
 
 pub returns-then-remains-eq0-clause-replaces : goal.returns-then-remains-eq0-clause-replaces
 returns-then-remains-eq0-clause-replaces g c honest start s terms is_open made within r =
@@ -35,7 +35,7 @@ returns-then-remains-eq0-clause-replaces g c honest start s terms is_open made w
     let vault = c.remains_at.new.vault in
     let done = c.in_ok-remains in
     let here = at st start old s is_open tests place removed r within in
-    let are = done.ensures.stands honest here.file here.group here.file_at (held st start old s is_open tests place removed r within terms made) (fit st start old s is_open tests place removed r within) in
+    let are = done.ensures.stands honest here.file here.group here.file_at (held st start old s is_open tests place removed r within terms made) in
     stays_on st start old s is_open tests place removed r within done.remains are c.if-remains-eq0.true vault (done.ensures.effect.unchanged honest) done.ensures.effect.counts.later
 
 pub returns-clause-replaces : goal.returns-clause-replaces
@@ -49,7 +49,7 @@ returns-clause-replaces g c honest start s terms is_open made within r =
     let done = c.in_ok-remains in
     let rest = done.remains in
     let here = at st start old s is_open tests place removed r within in
-    let are = done.ensures.stands honest here.file here.group here.file_at (held st start old s is_open tests place removed r within terms made) (fit st start old s is_open tests place removed r within) in
+    let are = done.ensures.stands honest here.file here.group here.file_at (held st start old s is_open tests place removed r within terms made) in
     let some : 1 ≤ rest.gone = omega (arith, c.if-remains-eq0.false) in
     let mid = record old { vault = vault } in
     let new = c.put_remains.new.self in
