@@ -20,10 +20,7 @@ fn is_none_or_empty(alloc: Global, disk: MemDisk) -> R<bool> {
 fn stop_creation(alloc: Global, k: u64, pick: u64, seen: &mut Seen) -> R<bool> {
     let mut disk = MemDisk::new(alloc);
     disk.fuse(k, pick);
-    let disk = match script::create_on(alloc, disk)? {
-        Ok(store) => store.into_disk(),
-        Err((disk, _)) => disk,
-    };
+    let disk = script::disk_of(script::create_on(alloc, disk)?);
     if disk.failures() == 0 {
         return Ok(false);
     }

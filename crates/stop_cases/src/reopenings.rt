@@ -38,10 +38,7 @@ fn stop_at(alloc: Global, image: &MemDisk, k: u64, pick: u64, seen: &mut Seen) -
     let rows = shown(alloc, image)?;
     let mut copy = crashed(alloc, image, 0)?;
     copy.fuse(k, pick);
-    let disk = match script::open(alloc, copy) {
-        Ok(store) => store.into_disk(),
-        Err((disk, _)) => disk,
-    };
+    let disk = script::disk_of(script::open(alloc, copy));
     if disk.failures() == 0 {
         return Ok(false);
     }

@@ -129,6 +129,14 @@ pub fn open(alloc: Global, disk: MemDisk) -> Result<Store<MemDisk>, (MemDisk, Re
     store::open(alloc, disk, WriteOptions::standard())
 }
 
+/// The disk of a store that was made or opened, or of one that was refused.
+pub fn disk_of(made: Result<Store<MemDisk>, (MemDisk, Refusal)>) -> MemDisk {
+    match made {
+        Ok(store) => store.into_disk(),
+        Err((disk, _refusal)) => disk,
+    }
+}
+
 /// The text of a call's answer.
 pub fn answer(alloc: Global, store: &mut Store<MemDisk>, call: &str) -> R<String> {
     let call = call_from(alloc, store.schema(), call)?;
