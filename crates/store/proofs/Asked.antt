@@ -34,7 +34,7 @@ only_append t None e = absurd (cc)
 only_append t (Some (appending staged)) e = (refl, refl)
 only_append t (Some (rewriting runs unread)) e = absurd (cc)
 
-not_low : (n : ℕ) → 9223372036854775808 ≤ n → can_count n ≡ false
+pub not_low : (n : ℕ) → 9223372036854775808 ≤ n → can_count n ≡ false
 not_low n high = by (nat_lt n 9223372036854775808) refl
   where
     by : (b : Bool) → nat_lt n 9223372036854775808 ≡ b → nat_lt n 9223372036854775808 ≡ false

@@ -1,16 +1,18 @@
 -- A rewrite that is opened, from its checks to its end.
-use Rattle.std.proofs.Common.{◌≡◌, ◌<◌, ◌+◌, ℕ, zero, suc, Bool, true, false, not, ◌&&◌, nat_lt, List, [], ◌∷◌, ◌++◌, map, length, Option, Some, None, refl, sym, ◌∙◌, ap, subst, arith}
-use Rattle.std.specs.List.{AllByRecursion, list_all}
+use Rattle.std.proofs.Common.{◌≡◌, ◌<◌, ◌≤◌, ◌+◌, ℕ, Bool, true, false, not, ◌&&◌, nat_lt, List, [], ◌∷◌, ◌++◌, map, length, take, drop, Option, Some, None, refl, sym, ◌∙◌, ap, subst, arith}
+use Rattle.std.specs.List.{AllByRecursion, AllZip, list_all}
+use Rattle.std.specs.declared.vec.Vec.{Vec}
+use Rattle.std.specs.declared.alloc.Global.{Global}
 use Rattle.bits.specs.declared.refusal.Refusal.{Refusal}
 use Rattle.bits.specs.declared.refusal.Refusal.TheVariants.{Full, Closed, NoGroup}
 use Rattle.schema.specs.Shape.{Fields}
+use Rattle.schema.specs.declared.row.Row.{Row as CodeRow}
 use Rattle.schema.specs.Keys.{KeyColumn, without_keys}
 use Rattle.manifest.specs.Records.{IsGroup}
 use Rattle.schema.specs.Cutting.{is_among}
 use Rattle.disk.specs.State.{State as DiskState}
-use Rattle.footer.specs.Writing.{empty_groups}
 use Rattle.manifest.specs.Groups.{Group as FileGroup, root_of, numbers_of}
-use Rattle.planning.specs.Runs.{runs_in as file_runs}
+use Rattle.planning.specs.Runs.{runs_in as file_runs, sources_view}
 use Rattle.snapshots.specs.State.{State as Versions, Pins, began, after, fault_of, has_sources, pins_at_start, file_of, names}
 use Rattle.snapshots.specs.Views.{state_of}
 use Rattle.table.specs.Table.{numbers}
@@ -24,20 +26,15 @@ use Rattle.table.proofs.Steady.{stays}
 use Rattle.store.specs.declared.store.Store.{Store}
 use Rattle.store.specs.declared.jobs.Work.TheVariants.{Rewrite}
 use Rattle.store.specs.declared.jobs.Rewriting.{Rewriting}
-use Rattle.store.specs.Rewritten.{run_told, begun_run}
-use Rattle.store.specs.Stands.{ShowsRewrite, ShowsOpen, Stands}
+use Rattle.store.specs.Stands.{AreReadOf, ShowsRewrite, ShowsOpen, Stands}
 use Rattle.store.specs.Promises.{ActsFrom}
 use Rattle.store.proofs.InUse.{all_named}
 use Rattle.store.proofs.Kept.{same_numbers}
 use Rattle.store.proofs.Begins.{job_test, job_unrefused, job_begun}
 use Rattle.store.proofs.Ends.{opens}
 use Rattle.store.proofs.Staged.{room_in}
-use Rattle.store.proofs.Rewrote.{runs_stored, each_run, all_begun, one_key_each, sources_there, nothing_written}
+use Rattle.store.proofs.Rewrote.{runs_stored, each_run, all_begun, one_key_each, sources_there}
 use Rattle.store.proofs.Refusals.{changes_nothing}
-
-positive : (n : ℕ) → (n ≡ 0 → ⊥) → 0 < n
-positive zero h = absurd (h refl)
-positive (suc n) h = omega arith
 
 module _ {D : Type 0} (state : D → DiskState) (store : Store D) (s : State) (stands : Stands state store s) (is_open : s.closed ≡ false) (ns : List ℕ) where
   abbrev call : Call
@@ -91,27 +88,30 @@ module _ {D : Type 0} (state : D → DiskState) (store : Store D) (s : State) (s
       of_table = subst (λ (ks : List KeyColumn). AllByRecursion (IsGroup ks (without_keys ks s.table.schema)) files) stands.shows.keys
           (subst (λ (fs : Fields). AllByRecursion (IsGroup (root_of store.manifest).keys (without_keys (root_of store.manifest).keys fs)) files) stands.shows.schema here.means.described.each)
 
-      some : 0 < s.options.group_rows
-      some = positive s.options.group_rows (λ e. stands.shows.in_range (empty_groups (ap (λ o. o.group_rows) stands.shows.options ∙ e)))
-
       there_in : list_all (is_among (numbers s.table.groups)) ns ≡ true
       there_in = ap (λ (ms : List ℕ). list_all (is_among ms) ns) (sym (same_numbers disk s.table.keys s.table.schema s.next_group files s.table.groups here.version)) ∙ there
 
-      shows_rewrite : (w : Rewriting) → map run_told w.runs.items ≡ map begun_run (file_runs ns files)
+      shows_rewrite : (w : Rewriting) → sources_view w.runs.items ≡ file_runs ns files → w.read.items ≡ []
           → ShowsRewrite disk s.table.keys s.table.schema s.next_group s.options.group_rows s.had pins w (runs_in ns s.table.groups) (numbers (sources (runs_in ns s.table.groups)))
-      shows_rewrite w told =
-          let all = all_begun disk s.table.keys s.table.schema s.next_group s.options.group_rows s.had pins some w.runs.items (file_runs ns files) (runs_in ns s.table.groups) told
-          (runs_stored disk s.table.keys s.table.schema s.next_group ns files s.table.groups here.version)
-          (each_run (IsGroup s.table.keys (without_keys s.table.keys s.table.schema)) ns files of_table)
-          (each_run (λ (f : FileGroup). names pins.version (file_of f) ≡ true) ns files named) (one_key_each ns s.table.groups) in
-          record { each = all.0; left = all.1; pinned = sources_there ns s.table.groups there_in }
+      shows_rewrite w told none =
+          let runs = runs_in ns s.table.groups in
+          record {
+            each = all_begun disk s.table.keys s.table.schema s.next_group s.options.group_rows s.had pins w.runs.items (file_runs ns files) runs told
+                (runs_stored disk s.table.keys s.table.schema s.next_group ns files s.table.groups here.version)
+                (each_run (IsGroup s.table.keys (without_keys s.table.keys s.table.schema)) ns files of_table)
+                (each_run (λ (f : FileGroup). names pins.version (file_of f) ≡ true) ns files named) (one_key_each ns s.table.groups);
+            as_many = subst (λ (xs : List (Vec CodeRow Global)). length xs ≤ length (sources runs)) (sym none) (omega arith);
+            read = subst (λ (xs : List (Vec CodeRow Global)). AllZip (AreReadOf disk s.table.keys s.table.schema s.next_group s.options.group_rows s.had) xs (take (length xs) (sources runs))) (sym none) tt;
+            left = ap (λ (xs : List (Vec CodeRow Global)). numbers (drop (length xs) (sources runs))) (sym none);
+            pinned = sources_there ns s.table.groups there_in;
+          }
 
-      pub rewrite_begun : (w : Rewriting) → map run_told w.runs.items ≡ map begun_run (file_runs ns files) → (new : Store D) → state_of new.snapshots ≡ after versions (began store.next_job (Some ns))
+      pub rewrite_begun : (w : Rewriting) → sources_view w.runs.items ≡ file_runs ns files → w.read.items ≡ [] → (new : Store D) → state_of new.snapshots ≡ after versions (began store.next_job (Some ns))
           → new.jobs.items ≡ store.jobs.items ++ record { number = store.next_job; work = Rewrite w } ∷ [] → (n : ℕ) → n ≡ store.next_job
           → new ≡ record store { snapshots = new.snapshots; jobs = new.jobs; next_job = store.next_job + 1 } → ActsFrom state store new call (job n) s
-      rewrite_begun w told new steps pushed n number same =
+      rewrite_begun w told none new steps pushed n number same =
           let next = with_job s (begun (runs_in ns s.table.groups)) in
           let happens : Happens s call (job n) next = (fault_is None None tested (numbers_told true there), (ap (λ (m : ℕ). job m) (number ∙ stands.shows.next_job), refl)) in
           subst (λ (x : Store D). ActsFrom state store x call (job n) s) (sym same)
           (opens state store s stands is_open call (job n) next happens new.snapshots new.jobs store.cursors (store.next_job + 1) store.next_cursor
-          (job_begun state store s stands.shows is_open (Some ns) (Rewrite w) (begun (runs_in ns s.table.groups)) (nothing_written w.runs.items (file_runs ns files) told) (shows_rewrite w told) new.snapshots steps new.jobs pushed))
+          (job_begun state store s stands.shows is_open (Some ns) (Rewrite w) (begun (runs_in ns s.table.groups)) refl (shows_rewrite w told none) new.snapshots steps new.jobs pushed))

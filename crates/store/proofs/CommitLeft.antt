@@ -15,7 +15,7 @@ use Rattle.table.specs.State.{Job, appending, rewriting}
 use Rattle.store.specs.declared.jobs.OpenJob.{OpenJob}
 use Rattle.store.specs.declared.jobs.Work.{Work}
 use Rattle.store.specs.declared.jobs.Work.TheVariants.{Append, Rewrite}
-use Rattle.store.specs.declared.jobs.RunWork.{RunWork}
+use Rattle.planning.specs.declared.change.Sources.{Sources}
 use Rattle.store.specs.Lookups.{job_at, jobs_left}
 use Rattle.store.specs.Stands.{AreStored, AreWaiting, AreWritten, ShowsRun, ShowsJob, ShowsWork, written_of, written_in}
 use Rattle.store.proofs.Apart.{Shares, not_true, among_first, among_later, among_front, among_back, shared_none, shared_back, distinct_back, none_joined}
@@ -103,33 +103,14 @@ module _ (disk : DiskState) (keys : List KeyColumn) (schema : Fields) (count siz
   waiting_then [] (rs ∷ rss) z = absurd z
   waiting_then (w ∷ ws) [] z = absurd z
 
-  run_then : (pins : Pins) (shown : RunWork) (run : List Group) → Still (numbers_of (handles_view shown.written.items)) → ShowsRun disk keys schema count size had pins shown run → ShowsRun disk keys schema count size later pins shown run
-  run_then pins shown run s is = record {
-    sources = is.sources;
-    described = is.described;
-    held = is.held;
-    key = is.key;
-    keyed = is.keyed;
-    read = is.read;
-    groups = is.groups;
-    are_written = written_then pins (handles_view shown.written.items) is.groups s is.are_written;
-    waiting = is.waiting;
-    of_key = is.of_key;
-    fit = is.fit;
-    few = is.few;
-    all = is.all;
-  }
+  run_then : (pins : Pins) (shown : Sources) (run : List Group) → ShowsRun disk keys schema count size had pins shown run → ShowsRun disk keys schema count size later pins shown run
+  run_then pins shown run is = record { sources = is.sources; described = is.described; held = is.held; key = is.key; keyed = is.keyed }
 
-  abbrev files_in : List RunWork → List FileGroup
-  files_in ws = flat_map (λ (w : RunWork). handles_view w.written.items) ws
-
-  runs_then : (pins : Pins) (shown : List RunWork) (runs : List (List Group)) → Still (numbers_of (files_in shown)) → AllZip (ShowsRun disk keys schema count size had pins) shown runs → AllZip (ShowsRun disk keys schema count size later pins) shown runs
-  runs_then pins [] [] s z = tt
-  runs_then pins (x ∷ xs) (r ∷ rs) s z =
-      let t = subst (λ (ns : List ℕ). Still ns) (numbers_joined (handles_view x.written.items) (files_in xs)) s in
-      (run_then pins x r (first_still (numbers_of (handles_view x.written.items)) (numbers_of (files_in xs)) t) z.0, runs_then pins xs rs (rest_still (numbers_of (handles_view x.written.items)) (numbers_of (files_in xs)) t) z.1)
-  runs_then pins [] (r ∷ rs) s z = absurd z
-  runs_then pins (x ∷ xs) [] s z = absurd z
+  runs_then : (pins : Pins) (shown : List Sources) (runs : List (List Group)) → AllZip (ShowsRun disk keys schema count size had pins) shown runs → AllZip (ShowsRun disk keys schema count size later pins) shown runs
+  runs_then pins [] [] z = tt
+  runs_then pins (x ∷ xs) (r ∷ rs) z = (run_then pins x r z.0, runs_then pins xs rs z.1)
+  runs_then pins [] (r ∷ rs) z = absurd z
+  runs_then pins (x ∷ xs) [] z = absurd z
 
   work_then : (pins : Pins) (w : Work) (j : Job) → Still (numbers_of (written_of w)) → ShowsWork disk keys schema count size had pins w j → ShowsWork disk keys schema count size later pins w j
   work_then pins (Append a) (appending staged) s is = record {
@@ -141,7 +122,7 @@ module _ (disk : DiskState) (keys : List KeyColumn) (schema : Fields) (count siz
     free = is.free;
     all = is.all;
   }
-  work_then pins (Rewrite r) (rewriting runs unread) s is = record { each = runs_then pins r.runs.items runs s is.each; left = is.left; pinned = is.pinned }
+  work_then pins (Rewrite r) (rewriting runs unread) s is = record { each = runs_then pins r.runs.items runs is.each; as_many = is.as_many; read = is.read; left = is.left; pinned = is.pinned }
   work_then pins (Append a) (rewriting runs unread) s is = absurd is
   work_then pins (Rewrite r) (appending staged) s is = absurd is
 

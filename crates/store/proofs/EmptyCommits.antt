@@ -1,33 +1,30 @@
--- The commit of an append of which nothing is staged: the job ends.
-use Rattle.std.proofs.Common.{◌≡◌, ◌<◌, ℕ, Bool, true, false, not, ◌&&◌, nat_eq, nat_lt, List, [], ◌∷◌, ◌++◌, map, flat_map, length, Option, Some, None, refl, sym, ◌∙◌, ap, subst, arith}
+-- The commit of an append of which nothing is staged, or of a rewrite of no sources: the job ends.
+use Rattle.std.proofs.Common.{◌≡◌, ◌<◌, ℕ, Bool, true, false, not, nat_eq, List, [], ◌∷◌, ◌++◌, map, flat_map, length, Option, Some, None, refl, sym, ◌∙◌, ap, subst, arith}
 use Rattle.std.specs.Prelude.{Vec, if◌then◌else◌}
 use Rattle.std.specs.List.{AllZip}
 use Rattle.std.specs.declared.alloc.Global.{Global}
 use Rattle.std.proofs.lemmas.Bool.{and_parts, eqb-true, lt-ltb}
 use Rattle.std.proofs.lemmas.List.{append-nil, nil_from_length}
 use Rattle.bits.specs.declared.refusal.Refusal.{Refusal}
-use Rattle.bits.specs.declared.refusal.Refusal.TheVariants.{Memory}
 use Rattle.bits.specs.Refusals.{HasCause}
 use Rattle.schema.specs.Keys.{key_of_row}
 use Rattle.partition.specs.Order.{AreInTableOrder}
-use Rattle.partition.specs.Splitting.{KeyRows, key_rows_view}
+use Rattle.partition.specs.Splitting.{key_rows_view}
 use Rattle.partition.specs.declared.splitting.KeyRows.{KeyRows as CodeRows}
 use Rattle.disk.specs.State.{State as DiskState}
-use Rattle.manifest.specs.Groups.{Group as FileGroup, handles_view}
+use Rattle.manifest.specs.Groups.{handles_view}
 use Rattle.snapshots.specs.declared.state.Snapshots.{Snapshots}
 use Rattle.snapshots.specs.State.{Pins, ended, after, fault_of, open_at as pinned_at}
 use Rattle.snapshots.specs.Views.{state_of}
 use Rattle.table.specs.Table.{Row, Group, rows}
 use Rattle.table.specs.InOrder.{put_in_order, in_order}
-use Rattle.table.specs.Commits.{appended}
+use Rattle.table.specs.Commits.{appended, rewritten}
 use Rattle.table.specs.State.{State, Job, appending, rewriting, open_at, ended_at}
 use Rattle.table.specs.Faults.{first}
 use Rattle.table.specs.Checks.{fault, job_fault, stale_fault}
 use Rattle.table.specs.Calls.{commit, done, refused}
 use Rattle.table.specs.Leading.{Leads, IsDone, job_rows}
-use Rattle.table.specs.Refusing.{Happens}
 use Rattle.table.proofs.Counters.{counters_cover}
-use Rattle.table.proofs.Steady.{stays_there}
 use Rattle.store.specs.declared.store.Store.{Store}
 use Rattle.store.specs.declared.jobs.OpenJob.{OpenJob}
 use Rattle.store.specs.declared.jobs.Appending.{Appending}
@@ -35,7 +32,7 @@ use Rattle.store.specs.declared.jobs.Work.{Work}
 use Rattle.store.specs.declared.jobs.Work.TheVariants.{Append, Rewrite}
 use Rattle.store.specs.Lookups.{job_at, jobs_left}
 use Rattle.store.specs.Staging.{is_nothing, finds_nothing}
-use Rattle.store.specs.Stands.{AreStored, AreWaiting, ShowsAppend, ShowsWork, ShowsOpen, Shows, Stands}
+use Rattle.store.specs.Stands.{ShowsWork, ShowsOpen, Shows, Stands}
 use Rattle.store.specs.Cleaning.{Clears}
 use Rattle.store.specs.Promises.{ActsFrom}
 use Rattle.store.proofs.Events.{job_found}
@@ -44,6 +41,7 @@ use Rattle.store.proofs.Ends.{job_unrefused, job_ended, ends, refused_poor}
 use Rattle.store.proofs.Brought.{length_order}
 use Rattle.store.proofs.Asked.{commit_fault}
 use Rattle.store.proofs.Had.{had_same}
+use Rattle.store.proofs.Kept.{none_go}
 
 -- groups in table order stay as they are
 put_front : (g : Group) (gs : List Group) → AreInTableOrder (g.key ∷ map (λ (h : Group). h.key) gs) → put_in_order (λ (h : Group). h.key) g gs ≡ g ∷ gs
@@ -85,60 +83,101 @@ module _ {D : Type 0} (state : D → DiskState) (store : Store D) (s : State) (s
       let all : [] ≡ in_order key staged = sym (ap (λ (gs : List Group). in_order key (rows gs ++ flat_map (λ (rs : List Row). rs) is.waiting)) groups ∙ ap (λ (rss : List (List Row)). in_order key (flat_map (λ (rs : List Row). rs) rss)) rest_is) ∙ is.all in
       nil_from_length staged (sym (length_order key staged) ∙ ap (λ (rs : List Row). length rs) (sym all))
 
-  nothing_told : (pins : Pins) (w : Work) (j : Job) → is_nothing w ≡ true → Work_of pins w j → j ≡ appending []
-  nothing_told pins (Append a) (appending staged) e is = ap appending (none_staged pins a staged e is)
-  nothing_told pins (Append a) (rewriting runs unread) e is = absurd is
-  nothing_told pins (Rewrite r) j e is = absurd (cc)
+  -- nothing is staged, or there are no runs
+  abbrev IsEmpty : Job → Type 0
+  IsEmpty (appending staged) = staged ≡ []
+  IsEmpty (rewriting runs unread) = runs ≡ []
 
-  found_so : (b : Bool) → finds_nothing (job_at n store.jobs.items) ≡ true → (pins : Pins) × (pinned_at n (state_of store.snapshots).jobs ≡ Some pins) × (open_at n s.jobs ≡ Some (appending []))
-  found_so b e = by (job_at n store.jobs.items) refl e
+  nothing_told : (pins : Pins) (w : Work) (j : Job) → is_nothing w ≡ true → Work_of pins w j → IsEmpty j
+  nothing_told pins (Append a) (appending staged) e is = none_staged pins a staged e is
+  nothing_told pins (Append a) (rewriting runs unread) e is = absurd is
+  nothing_told pins (Rewrite r) (rewriting runs unread) e is = nothing_beside _ r.runs.items runs (nil_from_length r.runs.items (eqb-true (length r.runs.items) 0 e)) is.each
+  nothing_told pins (Rewrite r) (appending staged) e is = absurd is
+
+  record IsFound : Type 0 where
+    pins : Pins
+    pinned : pinned_at n (state_of store.snapshots).jobs ≡ Some pins
+    job : Job
+    there : open_at n s.jobs ≡ Some job
+    empty : IsEmpty job
+
+  found_so : finds_nothing (job_at n store.jobs.items) ≡ true → IsFound
+  found_so e = by (job_at n store.jobs.items) refl e
     where
-      by : (o : Option OpenJob) → job_at n store.jobs.items ≡ o → finds_nothing o ≡ true → (pins : Pins) × (pinned_at n (state_of store.snapshots).jobs ≡ Some pins) × (open_at n s.jobs ≡ Some (appending []))
+      by : (o : Option OpenJob) → job_at n store.jobs.items ≡ o → finds_nothing o ≡ true → IsFound
       by None none f = absurd (cc)
       by (Some x) some f =
           let is = job_found disk s.table.keys s.table.schema s.next_group s.options.group_rows s.had n (state_of store.snapshots).jobs store.jobs.items s.jobs here.jobs x some in
-          (is.2.pins, ap (λ (m : ℕ). pinned_at m (state_of store.snapshots).jobs) (sym is.2.number) ∙ is.2.pinned, is.1 ∙ ap (λ (j : Job). Some j) (nothing_told is.2.pins x.work is.0 f is.2.work))
+          record {
+            pins = is.2.pins;
+            pinned = ap (λ (m : ℕ). pinned_at m (state_of store.snapshots).jobs) (sym is.2.number) ∙ is.2.pinned;
+            job = is.0;
+            there = is.1;
+            empty = nothing_told is.2.pins x.work is.0 f is.2.work;
+          }
 
   module _ (nothing : finds_nothing (job_at n store.jobs.items) ≡ true) (low : s.next_group < 9223372036854775808) where
-    open_is : open_at n s.jobs ≡ Some (appending [])
-    open_is = (found_so true nothing).2
+    found : IsFound
+    found = found_so nothing
+
+    not_stale : (j : Job) → IsEmpty j → first (None ∷ None ∷ None ∷ stale_fault s.table (Some j) ∷ []) ≡ None
+    not_stale (appending staged) e = refl
+    not_stale (rewriting runs unread) e = ap (λ (gss : List (List Group)). first (None ∷ None ∷ None ∷ stale_fault s.table (Some (rewriting gss unread)) ∷ [])) e
 
     unfaulted : fault s (commit n) ≡ None
-    unfaulted = commit_fault state store s stands is_open n None true (ap job_fault open_is) (lt-ltb s.next_group 9223372036854775808 low)
-        ∙ ap (λ (o : Option Job). first (stale_fault s.table o ∷ [])) open_is
+    unfaulted = commit_fault state store s stands is_open n None true (ap job_fault found.there) (lt-ltb s.next_group 9223372036854775808 low)
+        ∙ ap (λ (o : Option Job). first (None ∷ None ∷ None ∷ stale_fault s.table o ∷ [])) found.there ∙ not_stale found.job found.empty
 
     no_fault : fault_of (state_of store.snapshots) (ended n) ≡ None
-    no_fault = let f = found_so true nothing in job_unrefused state store s stands is_open n f.0 f.1
+    no_fault = job_unrefused state store s stands is_open n found.pins found.pinned
 
     pub empty_refused : (e : Refusal) → HasCause (λ f. fault_of (state_of store.snapshots) (ended n) ≡ Some f) e → (snapshots : Snapshots) → state_of snapshots ≡ state_of store.snapshots
         → ActsFrom state store (record store { snapshots = snapshots }) (commit n) (refused e) s
     empty_refused e cause snapshots same = subst (λ (f : Refusal). ActsFrom state store (record store { snapshots = snapshots }) (commit n) (refused f) s) (sym (only_memory (fault_of (state_of store.snapshots) (ended n)) no_fault e cause))
         (refused_poor state store s stands is_open (commit n) refl (ap not is_open) refl snapshots store.jobs store.cursors same refl refl)
 
-    leads : Leads s (commit n) 0 s.table s.next_group
-    leads = record {
-      made = appended [];
-      asked = (appending [], open_is, refl);
-      step = record {
-        schema = refl;
-        keys = refl;
-        change = (
-          record {
-            added = [];
-            placed = sym (ap (in_order (λ (h : Group). h.key)) (append-nil s.table.groups) ∙ stays_in_order s.table.groups stands.shows.valid.in_order);
-            hold = refl;
-            full = refl;
-            fresh = refl;
-          },
-          refl,
-        );
-        table = stands.shows.valid;
-        never_falls = omega arith;
-        same = λ of_groups same. refl;
-      };
-      rises = record { most = 0; work = sym (ap job_rows open_is); no_less = omega arith; no_more = omega arith };
-      covers = (counters_cover s stands.reached).next;
-    }
+    leads_of : (j : Job) → open_at n s.jobs ≡ Some j → IsEmpty j → Leads s (commit n) 0 s.table s.next_group
+    leads_of (appending staged) e none =
+        let open_is : open_at n s.jobs ≡ Some (appending []) = e ∙ ap (λ (rs : List Row). Some (appending rs)) none in
+        record {
+          made = appended [];
+          asked = (appending [], open_is, refl);
+          step = record {
+            schema = refl;
+            keys = refl;
+            change = (
+              record {
+                added = [];
+                placed = sym (ap (in_order (λ (h : Group). h.key)) (append-nil s.table.groups) ∙ stays_in_order s.table.groups stands.shows.valid.in_order);
+                hold = refl;
+                full = refl;
+                fresh = refl;
+              },
+              refl,
+            );
+            table = stands.shows.valid;
+            never_falls = omega arith;
+            same = λ of_groups same. refl;
+          };
+          rises = record { most = 0; work = sym (ap job_rows open_is); no_less = omega arith; no_more = omega arith };
+          covers = (counters_cover s stands.reached).next;
+        }
+    leads_of (rewriting runs unread) e none =
+        let open_is : open_at n s.jobs ≡ Some (rewriting [] unread) = e ∙ ap (λ (gss : List (List Group)). Some (rewriting gss unread)) none in
+        record {
+          made = rewritten [];
+          asked = (rewriting [] unread, open_is, refl);
+          step = record {
+            schema = refl;
+            keys = refl;
+            change = (refl, sym (ap (λ (gs : List Group). length (rows gs)) (none_go s.table.groups)));
+            table = stands.shows.valid;
+            never_falls = omega arith;
+            same = λ of_groups same. refl;
+          };
+          rises = record { most = 0; work = sym (ap job_rows open_is); no_less = omega arith; no_more = omega arith };
+          covers = (counters_cover s stands.reached).next;
+        }
 
     pub empty_done : (snapshots : Snapshots) → state_of snapshots ≡ after (state_of store.snapshots) (ended n) → (jobs : Vec OpenJob Global) → jobs.items ≡ jobs_left (Some n) store.jobs.items → (new : Store D)
         → ((t : State) → Shows state (record store { snapshots = snapshots; jobs = jobs }) t → t.closed ≡ false → Clears state (record store { snapshots = snapshots; jobs = jobs }) new t)
@@ -149,7 +188,7 @@ module _ {D : Type 0} (state : D → DiskState) (store : Store D) (s : State) (s
           n = 0;
           table = s.table;
           counter = s.next_group;
-          leads = leads;
+          leads = leads_of found.job found.there found.empty;
           answers = refl;
           becomes = ap (λ (h : ℕ → Bool). record s { jobs = ended_at n s.jobs; had = h }) (sym (had_same s stands.reached));
         } in

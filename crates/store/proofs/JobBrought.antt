@@ -1,17 +1,12 @@
 -- The commit of an append that was staged, once all its groups are written.
-use Rattle.std.proofs.Common.{◌≡◌, ◌≤◌, ◌<◌, ◌⊎◌, ℕ, suc, Bool, true, false, not, ◌||◌, nat_eq, List, [], ◌∷◌, ◌++◌, map, length, Some, None, refl, sym, ◌∙◌, ap, subst, arith, inl, inr}
-use Rattle.std.specs.Prelude.{if◌then◌else◌}
+use Rattle.std.proofs.Common.{◌≡◌, ◌<◌, ℕ, Bool, true, false, not, ◌||◌, nat_eq, List, [], ◌∷◌, ◌++◌, length, Some, None, refl, sym, ◌∙◌, ap, subst, arith}
 use Rattle.std.specs.List.{AllByRecursion}
-use Rattle.std.specs.Ordering.{is_le}
 use Rattle.std.proofs.lemmas.Bool.{and_from, eqb-true}
-use Rattle.std.proofs.lemmas.Cmp.{nat_eq_equiv}
 use Rattle.std.proofs.lemmas.List.{length-append, nil_from_length}
 use Rattle.bits.specs.declared.refusal.Refusal.TheVariants.{NoJob, Stale, Page}
-use Rattle.schema.specs.Values.{ValueTree}
-use Rattle.schema.specs.Shape.{Fields}
 use Rattle.schema.specs.Cutting.{is_among}
-use Rattle.schema.specs.Keys.{KeyColumn, AreDistinct, without_keys}
-use Rattle.partition.specs.Order.{key_cmp, AreInTableOrder}
+use Rattle.schema.specs.Keys.{AreDistinct, without_keys}
+use Rattle.partition.specs.Order.{AreInTableOrder}
 use Rattle.disk.specs.State.{State as DiskState}
 use Rattle.manifest.specs.Groups.{Group as FileGroup, Root, root_of, keys_of}
 use Rattle.manifest.specs.Records.{IsGroup}
@@ -20,22 +15,21 @@ use Rattle.manifest.specs.Laid.{IsRootTooHeavy}
 use Rattle.snapshots.specs.State.{first_of, unless as unless_so, fault_of, committed, is_version, has_groups, sources_of, sources_in}
 use Rattle.snapshots.specs.Views.{state_of}
 use Rattle.planning.specs.Told.{numbers_of}
-use Rattle.table.specs.Table.{Row, Group, Table, IsTable, IsGroupIn, numbers}
-use Rattle.table.specs.InOrder.{put_in_order, in_order}
-use Rattle.table.specs.Commits.{appended, are_fresh}
+use Rattle.table.specs.Table.{Row, Group, Table, IsTable, IsGroupIn}
+use Rattle.table.specs.InOrder.{in_order}
+use Rattle.table.specs.Commits.{appended}
 use Rattle.table.specs.State.{State, appending, ended_at}
 use Rattle.table.specs.Checks.{fault}
 use Rattle.table.specs.Calls.{commit}
 use Rattle.table.specs.Leading.{Leads}
 use Rattle.table.specs.Limits.{IsOver, root as over_root}
-use Rattle.table.proofs.Counters.{counters_cover}
 use Rattle.store.specs.declared.store.Store.{Store}
-use Rattle.store.specs.Stands.{IsStored, AreStored, ShowsOpen, Stands}
+use Rattle.store.specs.Stands.{AreStored, ShowsOpen, Stands}
 use Rattle.store.specs.Writing.{counted}
 use Rattle.store.specs.Committing.{with_version, IsPlanned}
 use Rattle.store.specs.Acting.{WroteTo, AsksCommit}
 use Rattle.store.specs.Bringing.{PlacesInOrder, PlacesDistinct}
-use Rattle.store.specs.Staging.{IsJobBrought, StagedIsReady, StagedAreReady}
+use Rattle.store.specs.Staging.{IsJobBrought, StagedAreReady}
 use Rattle.store.proofs.Brought.{all_append, all_so, among_append, each_number, all_fresh, all_order, length_order, stored_append, stored_order, same_keys, numbers_too, numbers_back}
 use Rattle.store.proofs.Ends.{found_open}
 use Rattle.store.proofs.Had.{had_all}
@@ -51,7 +45,7 @@ no_had had (g ∷ gs) n h e = by (nat_eq g.number n) refl (no_had had gs n h.1 e
     by true same r = let c : true ≡ false = sym e ∙ ap had (sym (eqb-true g.number n same)) ∙ h.0 in absurd (cc)
     by false same r = r
 
-distinct_apart : (had : ℕ → Bool) (xs ys : List FileGroup) → AllByRecursion (λ (g : FileGroup). had g.number ≡ true) xs → AllByRecursion (λ (g : FileGroup). had g.number ≡ false) ys
+pub distinct_apart : (had : ℕ → Bool) (xs ys : List FileGroup) → AllByRecursion (λ (g : FileGroup). had g.number ≡ true) xs → AllByRecursion (λ (g : FileGroup). had g.number ≡ false) ys
     → AreDistinct (numbers_of xs) → AreDistinct (numbers_of ys) → AreDistinct (numbers_of (xs ++ ys))
 distinct_apart had [] ys a b d e = e
 distinct_apart had (x ∷ xs) ys a b d e = (among_append xs ys x.number d.0 (no_had had ys x.number b a.0), distinct_apart had xs ys a.1 b d.1 e)

@@ -14,9 +14,8 @@ use Rattle.table.specs.State.{Job, appending, rewriting}
 use Rattle.store.specs.declared.jobs.OpenJob.{OpenJob}
 use Rattle.store.specs.declared.jobs.Work.{Work}
 use Rattle.store.specs.declared.jobs.Work.TheVariants.{Append, Rewrite}
-use Rattle.store.specs.declared.jobs.RunWork.{RunWork}
 use Rattle.store.specs.Lookups.{job_at, jobs_left, jobs_with}
-use Rattle.store.specs.Stands.{AreStored, ShowsJob, ShowsRun, ShowsWork, written_of, written_in, job_numbers}
+use Rattle.store.specs.Stands.{AreStored, ShowsJob, ShowsWork, written_of, written_in, job_numbers}
 use Rattle.store.proofs.Apart.{Within, WithinBelow, AllBelow, distinct_back, distinct_within, within_joined, within_later, distinct_changed, within_changed, distinct_later, within_back, below_front, below_back, among_later}
 use Rattle.store.proofs.Changes.{none_changed}
 
@@ -138,16 +137,9 @@ module _ (disk : DiskState) (keys : List KeyColumn) (schema : Fields) (count siz
       by true e i r = a n (ap (λ (c : Bool). c || is_among (numbers_of fs) n) e)
       by false e i r = r i
 
-  runs_below : (pins : Pins) (ws : List RunWork) (runs : List (List Group)) → AllZip (ShowsRun disk keys schema count size had pins) ws runs → AllBelow count (numbers_of (flat_map (λ (w : RunWork). handles_view w.written.items) ws))
-  runs_below pins [] [] z = λ n h. absurd (cc)
-  runs_below pins (w ∷ ws) (r ∷ rs) z = both_below (handles_view w.written.items) (flat_map (λ (v : RunWork). handles_view v.written.items) ws)
-      (files_below (handles_view w.written.items) z.0.groups z.0.are_written.stored) (runs_below pins ws rs z.1)
-  runs_below pins [] (r ∷ rs) z = absurd z
-  runs_below pins (w ∷ ws) [] z = absurd z
-
   work_below : (pins : Pins) (w : Work) (j : Job) → ShowsWork disk keys schema count size had pins w j → AllBelow count (numbers_of (written_of w))
   work_below pins (Append a) (appending staged) is = files_below (handles_view a.written.items) is.groups is.are_written.stored
-  work_below pins (Rewrite r) (rewriting runs unread) is = runs_below pins r.runs.items runs is.each
+  work_below pins (Rewrite r) (rewriting runs unread) is = λ n h. absurd (cc)
   work_below pins (Append a) (rewriting runs unread) is = absurd is
   work_below pins (Rewrite r) (appending staged) is = absurd is
 

@@ -1,5 +1,5 @@
 -- One job's work in place of what it was.
-use Rattle.std.proofs.Common.{◌≡◌, ◌≤◌, ◌<◌, ℕ, zero, suc, Bool, true, false, ◌==◌, List, [], ◌∷◌, ◌++◌, take, length, get_or, slice_index_or, refl, sym, ◌∙◌, ap, subst, arith, eq-eqb}
+use Rattle.std.proofs.Common.{◌≡◌, ◌≤◌, ◌<◌, ℕ, zero, suc, Bool, true, false, ◌==◌, List, [], ◌∷◌, ◌++◌, take, length, get_or, slice_index_or, Some, None, refl, sym, ◌∙◌, ap, subst, arith, eq-eqb}
 use Rattle.std.proofs.lemmas.Bool.{eqb-true}
 use Rattle.std.specs.Prelude.{if◌then◌else◌, slice_set}
 use Rattle.std.specs.List.{AllByRecursion}
@@ -7,7 +7,7 @@ use Rattle.store.specs.declared.jobs.OpenJob.{OpenJob}
 use Rattle.store.specs.declared.jobs.Work.{Work}
 use Rattle.schema.specs.Keys.{AreDistinct}
 use Rattle.schema.specs.Cutting.{is_among}
-use Rattle.store.specs.Lookups.{jobs_with}
+use Rattle.store.specs.Lookups.{job_at, jobs_with}
 use Rattle.store.specs.Stands.{job_numbers}
 use Rattle.store.specs.Completing.{with_work}
 use Rattle.store.proofs.Changes.{none_changed}
@@ -49,6 +49,19 @@ module _ (n : ℕ) (w : Work) where
       by : (b : Bool) → length (with_work n w xs) ≡ length xs → length (if b then worked x.number ∷ xs else x ∷ with_work n w xs) ≡ length (x ∷ xs)
       by true r = omega arith
       by false r = omega (arith, r)
+
+-- the first of a number, where none of those before has it
+module _ (n : ℕ) where
+  pub found_at : (xs : List OpenJob) (i : ℕ) (x : OpenJob) → i < length xs → x ≡ get_or xs i x → x.number ≡ n → AllByRecursion (λ (j : OpenJob). (j.number == n) ≡ false) (take i xs) → job_at n xs ≡ Some x
+  found_at [] i x low is e h = absurd (omega (arith, low))
+  found_at (y ∷ ys) zero x low is e h =
+      ap (λ (b : Bool). if b then Some y else job_at n ys) (eq-eqb y.number n (sym (ap (λ (z : OpenJob). z.number) is) ∙ e)) ∙ ap (λ (z : OpenJob). Some z) (sym is)
+  found_at (y ∷ ys) (suc i) x low is e h = ap (λ (b : Bool). if b then Some y else job_at n ys) h.0 ∙ found_at ys i x (omega (arith, low)) is e h.1
+
+  pub found_none : (xs : List OpenJob) (i : ℕ) → length xs ≤ i → AllByRecursion (λ (j : OpenJob). (j.number == n) ≡ false) (take i xs) → job_at n xs ≡ None
+  found_none [] i le h = refl
+  found_none (y ∷ ys) zero le h = absurd (omega (arith, le))
+  found_none (y ∷ ys) (suc i) le h = ap (λ (b : Bool). if b then Some y else job_at n ys) h.0 ∙ found_none ys i (omega (arith, le)) h.1
 
 taken : (xs ys : List OpenJob) → take (length xs) (xs ++ ys) ≡ xs
 taken [] ys = refl

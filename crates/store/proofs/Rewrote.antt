@@ -1,30 +1,25 @@
 -- A rewrite that is opened: its runs, of which nothing is read yet.
 use Rattle.std.proofs.Common.{◌≡◌, ◌≤◌, ◌<◌, ◌+◌, ℕ, zero, Bool, true, false, not, ◌&&◌, ◌||◌, nat_eq, nat_lt, if◌then◌else◌, List, [], ◌∷◌, ◌++◌, map, flat_map, length, take, drop, Option, Some, None, refl, sym, ◌∙◌, ap, subst, arith}
 use Rattle.std.specs.List.{AllZip, AllByRecursion, list_all}
-use Rattle.std.proofs.lemmas.List.{map-append}
 use Rattle.std.proofs.lemmas.Bool.{and_parts, eqb-true}
 use Rattle.bits.specs.declared.refusal.Refusal.TheVariants.{Full, Closed, NoGroup}
 use Rattle.schema.specs.Shape.{Fields}
-use Rattle.schema.specs.Views.{rows_view}
 use Rattle.schema.specs.Cutting.{is_among}
-use Rattle.schema.specs.Keys.{KeyColumn, AreRowsOf, without_keys}
+use Rattle.schema.specs.Keys.{KeyColumn, without_keys}
 use Rattle.partition.specs.Order.{is_same_key}
 use Rattle.disk.specs.State.{State as DiskState}
-use Rattle.footer.specs.Writing.{IsOutOfRange, empty_groups}
 use Rattle.manifest.specs.Groups.{Group as FileGroup, root_of, handles_view}
 use Rattle.manifest.specs.Records.{IsGroup}
-use Rattle.planning.specs.Runs.{runs_in as file_runs}
-use Rattle.snapshots.specs.State.{Pins, file_of, names, is_among as is_file_among}
-use Rattle.table.specs.Table.{Row, Key, Group, numbers, rows}
+use Rattle.planning.specs.Runs.{runs_in as file_runs, sources_view}
+use Rattle.snapshots.specs.State.{Pins, file_of, names}
+use Rattle.table.specs.Table.{Key, Group, numbers}
 use Rattle.table.specs.Plans.{put_before_runs, is_joined, runs_of, first_of}
 use Rattle.table.specs.State.{State, sources}
 use Rattle.table.specs.History.{runs_in}
-use Rattle.store.specs.declared.jobs.RunWork.{RunWork}
-use Rattle.store.specs.Rewritten.{RunTold, run_told, begun_run}
-use Rattle.store.specs.Stands.{IsStored, AreStored, AreWritten, ShowsRun, completed, unread_of}
+use Rattle.planning.specs.declared.change.Sources.{Sources}
+use Rattle.store.specs.Stands.{IsStored, AreStored, ShowsRun}
 use Rattle.partition.proofs.SameKeys.{same_key}
 use Rattle.store.proofs.Apart.{among_first, among_later}
-use Rattle.store.proofs.Kept.{same_numbers}
 
 -- ---- runs of two lists that go side by side
 
@@ -159,70 +154,30 @@ all_there ns gs found (m ∷ ms) there within all =
 pub sources_there : (ns : List ℕ) (gs : List Group) → list_all (is_among (numbers gs)) ns ≡ true → AllByRecursion (λ n. is_among (numbers (sources (runs_in ns gs))) n ≡ true) ns
 sources_there ns gs all = all_there ns (numbers gs) (numbers (sources (runs_in ns gs))) ns (source_there ns gs) (λ n h. h) all
 
--- ---- nothing is written yet
-
-told_written : (w : RunWork) (fs : List FileGroup) → run_told w ≡ begun_run fs → handles_view w.written.items ≡ []
-told_written w fs told = ap (λ (t : RunTold). t.written) told
-
-pub nothing_written : (ws : List RunWork) (fs : List (List FileGroup)) → map run_told ws ≡ map begun_run fs → flat_map (λ (w : RunWork). handles_view w.written.items) ws ≡ []
-nothing_written [] fs e = refl
-nothing_written (w ∷ ws) [] e = absurd (cc)
-nothing_written (w ∷ ws) (f ∷ fs) e =
-    let here : run_told w ≡ begun_run f = cc in
-    let later : map run_told ws ≡ map begun_run fs = cc in
-    ap (λ (xs : List FileGroup). xs ++ flat_map (λ (v : RunWork). handles_view v.written.items) ws) (told_written w f here) ∙ nothing_written ws fs later
-
 -- ---- runs of which nothing is read
 
-module _ (disk : DiskState) (keys : List KeyColumn) (schema : Fields) (count size : ℕ) (had : ℕ → Bool) (pins : Pins) (some : 0 < size) where
-  begun_so : (w : RunWork) (fs : List FileGroup) (run : List Group) → run_told w ≡ begun_run fs → AreStored disk keys schema count fs run → AllByRecursion (IsGroup keys (without_keys keys schema)) fs → AllByRecursion (λ (f : FileGroup). names pins.version (file_of f) ≡ true) fs
+module _ (disk : DiskState) (keys : List KeyColumn) (schema : Fields) (count size : ℕ) (had : ℕ → Bool) (pins : Pins) where
+  begun_so : (w : Sources) (fs : List FileGroup) (run : List Group) → handles_view w.groups.items ≡ fs → AreStored disk keys schema count fs run → AllByRecursion (IsGroup keys (without_keys keys schema)) fs → AllByRecursion (λ (f : FileGroup). names pins.version (file_of f) ≡ true) fs
       → HasOneKey run → ShowsRun disk keys schema count size had pins w run
-  begun_so w fs run told are of held one_key =
-      let sources_are = ap (λ (t : RunTold). t.sources) told in
-      let read = ap (λ (t : RunTold). t.read) told in
-      let written = ap (λ (t : RunTold). t.written) told in
-      let waiting = ap (λ (t : RunTold). t.waiting) told in
-      record {
-        sources = subst (λ (gs : List FileGroup). AreStored disk keys schema count gs run) (sym sources_are) are;
-        described = subst (λ (gs : List FileGroup). AllByRecursion (IsGroup keys (without_keys keys schema)) gs) (sym sources_are) of;
-        held = subst (λ (gs : List FileGroup). AllByRecursion (λ (f : FileGroup). names pins.version (file_of f) ≡ true) gs) (sym sources_are) held;
-        key = key_of_run run;
-        keyed = one_key;
-        read = omega (arith, read);
-        groups = [];
-        are_written = record {
-          stored = subst (λ (gs : List FileGroup). AreStored disk keys schema count gs []) (sym written) tt;
-          described = subst (λ (gs : List FileGroup). AllByRecursion (IsGroup keys (without_keys keys schema)) gs) (sym written) tt;
-          held = subst (λ (gs : List FileGroup). AllByRecursion (λ (f : FileGroup). is_file_among pins.files (file_of f) ≡ true) gs) (sym written) tt;
-          full = refl;
-          fresh = refl;
-        };
-        waiting = [];
-        of_key = subst (λ (rs : List Row). AreRowsOf keys (key_of_run run) (completed disk keys schema count size had rs) []) (sym waiting) tt;
-        fit = tt;
-        few = some;
-        all = ap (λ (n : ℕ). rows (take n run)) (sym read);
-      }
-
-  unread_so : (w : RunWork) (fs : List FileGroup) (run : List Group) → run_told w ≡ begun_run fs → AreStored disk keys schema count fs run → numbers run ≡ unread_of w
-  unread_so w fs run told are =
-      sym (same_numbers disk keys schema count fs run are)
-      ∙ ap (λ (t : RunTold). map (λ (f : FileGroup). f.number) (drop t.read t.sources)) (sym told)
+  begun_so w fs run told are of held one_key = record {
+    sources = subst (λ (gs : List FileGroup). AreStored disk keys schema count gs run) (sym told) are;
+    described = subst (λ (gs : List FileGroup). AllByRecursion (IsGroup keys (without_keys keys schema)) gs) (sym told) of;
+    held = subst (λ (gs : List FileGroup). AllByRecursion (λ (f : FileGroup). names pins.version (file_of f) ≡ true) gs) (sym told) held;
+    key = key_of_run run;
+    keyed = one_key;
+  }
 
   heads : {A : Type 0} (x y : A) (xs ys : List A) → x ∷ xs ≡ y ∷ ys → (x ≡ y) × (xs ≡ ys)
   heads x y xs ys e = (cc, cc)
 
-  pub all_begun : (ws : List RunWork) (fs : List (List FileGroup)) (runs : List (List Group)) → map run_told ws ≡ map begun_run fs → AllZip (AreStored disk keys schema count) fs runs
+  pub all_begun : (ws : List Sources) (fs : List (List FileGroup)) (runs : List (List Group)) → sources_view ws ≡ fs → AllZip (AreStored disk keys schema count) fs runs
       → AllByRecursion (λ (run : List FileGroup). AllByRecursion (IsGroup keys (without_keys keys schema)) run) fs → AllByRecursion (λ (run : List FileGroup). AllByRecursion (λ (f : FileGroup). names pins.version (file_of f) ≡ true) run) fs
-      → AllByRecursion HasOneKey runs → AllZip (ShowsRun disk keys schema count size had pins) ws runs × (numbers (sources runs) ≡ flat_map unread_of ws)
-  all_begun [] [] [] e z o h k = (tt, refl)
+      → AllByRecursion HasOneKey runs → AllZip (ShowsRun disk keys schema count size had pins) ws runs
+  all_begun [] [] [] e z o h k = tt
   all_begun (w ∷ ws) (f ∷ fs) (run ∷ runs) e z o h k =
-      let parts = heads (run_told w) (begun_run f) (map run_told ws) (map begun_run fs) e in
-      let later = all_begun ws fs runs parts.1 z.1 o.1 h.1 k.1 in (
-        (begun_so w f run parts.0 z.0 o.0 h.0 k.0, later.0),
-        map-append (λ (g : Group). g.number) run (sources runs) ∙ ap (λ (ms : List ℕ). ms ++ numbers (sources runs)) (unread_so w f run parts.0 z.0) ∙ ap (λ (ms : List ℕ). unread_of w ++ ms) later.1,
-      )
+      let parts = heads (handles_view w.groups.items) f (sources_view ws) fs e in
+      (begun_so w f run parts.0 z.0 o.0 h.0 k.0, all_begun ws fs runs parts.1 z.1 o.1 h.1 k.1)
   all_begun [] (f ∷ fs) runs e z o h k = absurd (cc)
   all_begun (w ∷ ws) [] runs e z o h k = absurd (cc)
-  all_begun ws [] (run ∷ runs) e z o h k = absurd z
-  all_begun ws (f ∷ fs) [] e z o h k = absurd z
+  all_begun (w ∷ ws) (f ∷ fs) [] e z o h k = absurd z
+  all_begun [] [] (run ∷ runs) e z o h k = absurd z

@@ -16,7 +16,7 @@ use Rattle.store.specs.declared.jobs.OpenJob.{OpenJob}
 use Rattle.store.specs.declared.jobs.OpenCursor.{OpenCursor}
 use Rattle.store.specs.declared.jobs.Work.{Work}
 use Rattle.store.specs.declared.jobs.Work.TheVariants.{Append, Rewrite}
-use Rattle.store.specs.declared.jobs.RunWork.{RunWork}
+use Rattle.planning.specs.declared.change.Sources.{Sources}
 use Rattle.store.specs.Paths.{IsPartBelow}
 use Rattle.store.specs.Spares.{Spares}
 use Rattle.store.specs.Stands.{IsStored, AreStored, AreWritten, AreWaiting, ShowsRun, ShowsWork, ShowsJob, ShowsCursor}
@@ -131,24 +131,16 @@ module _ (keys : List KeyColumn) (schema : Fields) (count more size : ℕ) (grow
     fresh = fresh_on files groups are.stored are.fresh;
   }
 
-  run_on : (n : ℕ) (pins up : Pins) → open_at n a.jobs ≡ Some pins → HoldsMore pins up → (shown : RunWork) (run : List Group) → ShowsRun old keys schema count size had pins shown run → ShowsRun new keys schema more size later up shown run
+  run_on : (n : ℕ) (pins up : Pins) → open_at n a.jobs ≡ Some pins → HoldsMore pins up → (shown : Sources) (run : List Group) → ShowsRun old keys schema count size had pins shown run → ShowsRun new keys schema more size later up shown run
   run_on n pins up e m shown run is = record {
-    sources = stored_on keys count more grows (InUse a) Needed covers old new spared schema (handles_view shown.sources.items) run (sources_in_use a n pins e (handles_view shown.sources.items) is.held) is.sources;
+    sources = stored_on keys count more grows (InUse a) Needed covers old new spared schema (handles_view shown.groups.items) run (sources_in_use a n pins e (handles_view shown.groups.items) is.held) is.sources;
     described = is.described;
-    held = sources_held pins up m (handles_view shown.sources.items) is.held;
+    held = sources_held pins up m (handles_view shown.groups.items) is.held;
     key = is.key;
     keyed = is.keyed;
-    read = is.read;
-    groups = is.groups;
-    are_written = written_on n pins up e m (handles_view shown.written.items) is.groups is.are_written;
-    waiting = is.waiting;
-    of_key = is.of_key;
-    fit = is.fit;
-    few = is.few;
-    all = is.all;
   }
 
-  runs_on : (n : ℕ) (pins up : Pins) → open_at n a.jobs ≡ Some pins → HoldsMore pins up → (shown : List RunWork) (runs : List (List Group)) → AllZip (ShowsRun old keys schema count size had pins) shown runs → AllZip (ShowsRun new keys schema more size later up) shown runs
+  runs_on : (n : ℕ) (pins up : Pins) → open_at n a.jobs ≡ Some pins → HoldsMore pins up → (shown : List Sources) (runs : List (List Group)) → AllZip (ShowsRun old keys schema count size had pins) shown runs → AllZip (ShowsRun new keys schema more size later up) shown runs
   runs_on n pins up e m [] [] z = tt
   runs_on n pins up e m (x ∷ xs) (r ∷ rs) z = (run_on n pins up e m x r z.0, runs_on n pins up e m xs rs z.1)
   runs_on n pins up e m [] (r ∷ rs) z = absurd z
@@ -172,6 +164,8 @@ module _ (keys : List KeyColumn) (schema : Fields) (count more size : ℕ) (grow
   }
   work_on n pins up e m (Rewrite shown) (rewriting runs unread) is = record {
     each = runs_on n pins up e m shown.runs.items runs is.each;
+    as_many = is.as_many;
+    read = is.read;
     left = is.left;
     pinned = subst (λ (ns : List ℕ). AllByRecursion (λ k. is_number_among (numbers (sources runs)) k ≡ true) ns) (sym m.sources) is.pinned;
   }

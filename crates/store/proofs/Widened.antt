@@ -1,5 +1,5 @@
 -- What is open, over a table with a column more.
-use Rattle.std.proofs.Common.{◌≡◌, ◌≤◌, ◌+◌, ℕ, zero, suc, Bool, true, false, List, [], ◌∷◌, ◌++◌, map, flat_map, length, take, refl, sym, ◌∙◌, ap, subst, arith}
+use Rattle.std.proofs.Common.{◌≡◌, ◌≤◌, ◌+◌, ℕ, zero, suc, Bool, true, false, List, [], ◌∷◌, ◌++◌, map, flat_map, length, take, drop, refl, sym, ◌∙◌, ap, subst, arith}
 use Rattle.std.specs.Prelude.{if◌then◌else◌, IsTrue, ◌==◌, not}
 use Rattle.std.specs.List.{AllByRecursion, AllZip, list_all}
 use Rattle.std.specs.Ordering.{is_le}
@@ -29,8 +29,12 @@ use Rattle.table.specs.State.{Job, appending, rewriting, sources, widened_job, w
 use Rattle.store.specs.declared.jobs.OpenJob.{OpenJob}
 use Rattle.store.specs.declared.jobs.Work.{Work}
 use Rattle.store.specs.declared.jobs.Work.TheVariants.{Append, Rewrite}
-use Rattle.store.specs.declared.jobs.RunWork.{RunWork}
-use Rattle.store.specs.Stands.{IsStored, AreStored, AreWritten, AreWaiting, ShowsRun, ShowsWork, ShowsJob, completed}
+use Rattle.planning.specs.declared.change.Sources.{Sources}
+use Rattle.schema.specs.declared.row.Row.{Row as CodeRow}
+use Rattle.std.specs.declared.vec.Vec.{Vec}
+use Rattle.std.specs.declared.alloc.Global.{Global}
+use Rattle.store.specs.Stands.{IsStored, AreStored, AreWritten, AreWaiting, AreReadOf, ShowsRun, ShowsWork, ShowsJob, completed}
+use Rattle.store.proofs.WholeRows.{stored_fit, padded_more}
 
 -- ---- lists
 
@@ -42,6 +46,20 @@ take_mapped : {A B : Type 0} (f : A → B) (n : ℕ) (xs : List A) → take n (m
 take_mapped f zero xs = refl
 take_mapped f (suc n) [] = refl
 take_mapped f (suc n) (x ∷ xs) = ap (λ (ys : List _). f x ∷ ys) (take_mapped f n xs)
+
+drop_mapped : {A B : Type 0} (f : A → B) (n : ℕ) (xs : List A) → drop n (map f xs) ≡ map f (drop n xs)
+drop_mapped f zero xs = refl
+drop_mapped f (suc n) [] = refl
+drop_mapped f (suc n) (x ∷ xs) = drop_mapped f n xs
+
+all_taken : {A : Type 0} (P : A → Type 0) (n : ℕ) (xs : List A) → AllByRecursion P xs → AllByRecursion P (take n xs)
+all_taken P zero xs h = tt
+all_taken P (suc n) [] h = tt
+all_taken P (suc n) (x ∷ xs) h = (h.0, all_taken P n xs h.1)
+
+all_joined : {A : Type 0} (P : A → Type 0) (xs ys : List A) → AllByRecursion P xs → AllByRecursion P ys → AllByRecursion P (xs ++ ys)
+all_joined P [] ys h k = k
+all_joined P (x ∷ xs) ys h k = (h.0, all_joined P xs ys h.1 k)
 
 appended_map : {A B : Type 0} (f : A → B) (xs ys : List A) → map f (xs ++ ys) ≡ map f xs ++ map f ys
 appended_map f [] ys = refl
@@ -63,8 +81,14 @@ numbers_same : (gs : List Group) → numbers (map widened gs) ≡ numbers gs
 numbers_same [] = refl
 numbers_same (g ∷ gs) = ap (λ (ns : List ℕ). g.number ∷ ns) (numbers_same gs)
 
+sources_widened : (runs : List (List Group)) → sources (map (map widened) runs) ≡ map widened (sources runs)
+sources_widened runs = flat_mapped widened runs
+
 sources_still : (runs : List (List Group)) → numbers (sources (map (map widened) runs)) ≡ numbers (sources runs)
-sources_still runs = ap numbers (flat_mapped widened runs) ∙ numbers_same (sources runs)
+sources_still runs = ap numbers (sources_widened runs) ∙ numbers_same (sources runs)
+
+left_still : (n : ℕ) (runs : List (List Group)) → numbers (drop n (sources (map (map widened) runs))) ≡ numbers (drop n (sources runs))
+left_still n runs = ap (λ (gs : List Group). numbers (drop n gs)) (sources_widened runs) ∙ ap numbers (drop_mapped widened n (sources runs)) ∙ numbers_same (drop n (sources runs))
 
 -- what keeps the key keeps the order
 module _ {A : Type 0} (key : A → List ValueTree) (h : A → A) (keeps : (x : A) → key (h x) ≡ key x) where
@@ -181,29 +205,48 @@ module _ (disk : DiskState) (keys : List KeyColumn) (schema : Fields) (f : Field
       waiting_still [] (rs ∷ rss) z = absurd z
       waiting_still (w ∷ ws) [] z = absurd z
 
-      run_still : (shown : RunWork) (run : List Group) → ShowsRun disk keys schema count_of size had pins shown run → ShowsRun disk keys grown count_of size had pins shown (map widened run)
+      run_still : (shown : Sources) (run : List Group) → ShowsRun disk keys schema count_of size had pins shown run → ShowsRun disk keys grown count_of size had pins shown (map widened run)
       run_still shown run is = record {
-        sources = stored_widened (handles_view shown.sources.items) run is.described is.sources;
-        described = groups_still (handles_view shown.sources.items) is.described;
+        sources = stored_widened (handles_view shown.groups.items) run is.described is.sources;
+        described = groups_still (handles_view shown.groups.items) is.described;
         held = is.held;
         key = is.key;
         keyed = keys_still is.key run is.keyed;
-        read = let r = is.read in let l = mapped_length widened run in omega (arith, r, l);
-        groups = map widened is.groups;
-        are_written = written_still (handles_view shown.written.items) is.groups is.are_written;
-        waiting = map with_null is.waiting;
-        of_key = rows_so is.key (rows_view shown.waiting.items) is.waiting is.fit is.of_key;
-        fit = fit_still is.waiting is.fit;
-        few = let r = is.few in let l = mapped_length with_null is.waiting in omega (arith, r, l);
-        all = ap (λ (xs : List Row). xs ++ map with_null is.waiting) (rows_widened is.groups) ∙ sym (appended_map with_null (rows is.groups) is.waiting) ∙ ap (map with_null) is.all
-            ∙ sym (rows_widened (take shown.read run)) ∙ ap rows (sym (take_mapped widened shown.read run));
       }
 
-      runs_still : (shown : List RunWork) (runs : List (List Group)) → AllZip (ShowsRun disk keys schema count_of size had pins) shown runs → AllZip (ShowsRun disk keys grown count_of size had pins) shown (map (map widened) runs)
+      runs_still : (shown : List Sources) (runs : List (List Group)) → AllZip (ShowsRun disk keys schema count_of size had pins) shown runs → AllZip (ShowsRun disk keys grown count_of size had pins) shown (map (map widened) runs)
       runs_still [] [] z = tt
       runs_still (x ∷ xs) (r ∷ rs) z = (run_still x r z.0, runs_still xs rs z.1)
       runs_still [] (r ∷ rs) z = absurd z
       runs_still (x ∷ xs) [] z = absurd z
+
+      -- what was read of groups that fit
+      abbrev Fits : Group → Type 0
+      Fits g = RowsFit schema g.rows
+
+      run_fits : (files : List FileGroup) (gs : List Group) → AllByRecursion (IsGroup keys own) files → AreStored disk keys schema count_of files gs → AllByRecursion Fits gs
+      run_fits [] [] of z = tt
+      run_fits (x ∷ xs) (g ∷ gs) of z = (stored_fit disk keys schema count_of x g are_keys of.0 z.0, run_fits xs gs of.1 z.1)
+      run_fits [] (g ∷ gs) of z = absurd z
+      run_fits (x ∷ xs) [] of z = absurd z
+
+      sources_fit : (shown : List Sources) (runs : List (List Group)) → AllZip (ShowsRun disk keys schema count_of size had pins) shown runs → AllByRecursion Fits (sources runs)
+      sources_fit [] [] z = tt
+      sources_fit (x ∷ xs) (r ∷ rs) z = all_joined Fits r (sources rs) (run_fits (handles_view x.groups.items) r z.0.described z.0.sources) (sources_fit xs rs z.1)
+      sources_fit [] (r ∷ rs) z = absurd z
+      sources_fit (x ∷ xs) [] z = absurd z
+
+      each_read : (read : List (Vec CodeRow Global)) (gs : List Group) → AllByRecursion Fits gs → AllZip (AreReadOf disk keys schema count_of size had) read gs → AllZip (AreReadOf disk keys grown count_of size had) read (map widened gs)
+      each_read [] [] fit z = tt
+      each_read (x ∷ xs) (g ∷ gs) fit z = (padded_more schema f (rows_view x.items) g.rows fit.0 z.0, each_read xs gs fit.1 z.1)
+      each_read [] (g ∷ gs) fit z = absurd z
+      each_read (x ∷ xs) [] fit z = absurd z
+
+      read_still : (n : ℕ) (read : List (Vec CodeRow Global)) (shown : List Sources) (runs : List (List Group)) → AllZip (ShowsRun disk keys schema count_of size had pins) shown runs
+          → AllZip (AreReadOf disk keys schema count_of size had) read (take n (sources runs)) → AllZip (AreReadOf disk keys grown count_of size had) read (take n (sources (map (map widened) runs)))
+      read_still n read shown runs each z =
+          subst (λ (gs : List Group). AllZip (AreReadOf disk keys grown count_of size had) read gs) (sym (ap (take n) (sources_widened runs) ∙ take_mapped widened n (sources runs)))
+          (each_read read (take n (sources runs)) (all_taken Fits n (sources runs) (sources_fit shown runs each)) z)
 
       work_still : (shown : Work) (j : Job) → ShowsWork disk keys schema count_of size had pins shown j → ShowsWork disk keys grown count_of size had pins shown (widened_job j)
       work_still (Append shown) (appending staged) is = record {
@@ -222,7 +265,9 @@ module _ (disk : DiskState) (keys : List KeyColumn) (schema : Fields) (f : Field
       }
       work_still (Rewrite shown) (rewriting runs unread) is = record {
         each = runs_still shown.runs.items runs is.each;
-        left = is.left;
+        as_many = let r = is.as_many in let l = ap length (sources_widened runs) ∙ mapped_length widened (sources runs) in omega (arith, r, l);
+        read = read_still (length shown.read.items) shown.read.items shown.runs.items runs is.each is.read;
+        left = is.left ∙ sym (left_still (length shown.read.items) runs);
         pinned = subst (λ (ns : List ℕ). AllByRecursion (λ n. is_among ns n ≡ true) pins.sources) (sym (sources_still runs)) is.pinned;
       }
       work_still (Append shown) (rewriting runs unread) is = absurd is

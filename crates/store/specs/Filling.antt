@@ -51,6 +51,10 @@ abbrev pub Adds : {D T : Type 0} → (D → DiskState) → Store D → Store D �
 Adds state start old new s job files groups g (Ok x) = HasWritten state start new s job files (groups ++ g ∷ []) × (new.next_group ≤ old.next_group + 1)
 Adds state start old new s job files groups g (Err e) = WroteTo state start new s new.next_group × (new.next_group ≤ old.next_group + 1) × (e ≡ Device → HasFailed (state start.vault.disk) (state new.vault.disk))
 
+-- some files more
+abbrev pub Goes : List FileGroup → List FileGroup → Type 0
+Goes old new = (more : List FileGroup) × (new ≡ old ++ more)
+
 -- ---- rows that wait
 
 -- rows of a table with these columns, whole, which wait without their keys

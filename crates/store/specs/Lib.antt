@@ -16,7 +16,6 @@ pub mod Bringing
 pub mod Opening
 pub mod Running
 pub mod Listing
-pub mod Rewritten
 pub mod Starting
 pub mod Creating
 pub mod Restarting
@@ -28,3 +27,6 @@ pub mod Reading
 pub mod Passing
 pub mod Counting
 pub mod Completing
+pub mod Stepping
+pub mod Removing
+pub mod Rewritten

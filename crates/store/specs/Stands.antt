@@ -37,7 +37,10 @@ use Rattle.store.specs.declared.jobs.Work.{Work}
 use Rattle.store.specs.declared.jobs.Work.TheVariants.{Append, Rewrite}
 use Rattle.store.specs.declared.jobs.Appending.{Appending}
 use Rattle.store.specs.declared.jobs.Rewriting.{Rewriting}
-use Rattle.store.specs.declared.jobs.RunWork.{RunWork}
+use Rattle.planning.specs.declared.change.Sources.{Sources}
+use Rattle.schema.specs.declared.row.Row.{Row as CodeRow}
+use Rattle.std.specs.declared.vec.Vec.{Vec}
+use Rattle.std.specs.declared.alloc.Global.{Global}
 use Rattle.store.specs.Paths.{PathsAreApart}
 use Rattle.store.specs.OnDisk.{IsSoundFor}
 use Rattle.store.specs.Buffers.{keys_in, IsRising}
@@ -66,13 +69,10 @@ pub record IsReady (disk : DiskState) (count : ℕ) (root : Root) (bytes : List 
 
 -- ---- jobs
 
-abbrev pub unread_of : RunWork → List ℕ
-unread_of w = map (λ (g : FileGroup). g.number) (drop w.read (handles_view w.sources.items))
-
--- the files that jobs wrote
+-- the files that jobs wrote: a rewrite writes none before its commit
 abbrev pub written_of : Work → List FileGroup
 written_of (Append a) = handles_view a.written.items
-written_of (Rewrite r) = flat_map (λ (w : RunWork). handles_view w.written.items) r.runs.items
+written_of (Rewrite r) = []
 
 abbrev pub written_in : List OpenJob → List FileGroup
 written_in shown = flat_map (λ (j : OpenJob). written_of j.work) shown
@@ -110,26 +110,24 @@ module _ (disk : DiskState) (keys : List KeyColumn) (schema : Fields) (count siz
     pub free : pins.sources ≡ []
     pub all : in_order (key_of_row keys) (rows groups ++ flat_map (λ rs. rs) waiting) ≡ in_order (key_of_row keys) staged
 
-  -- What a run was read of is written or waits. Its sources are groups of one key, of the version that the rewrite began
-  -- with.
-  pub record ShowsRun (pins : Pins) (shown : RunWork) (run : List Group) : Type 0 where
-    pub sources : AreStored disk keys schema count (handles_view shown.sources.items) run
-    pub described : AllByRecursion (IsGroup keys (without_keys keys schema)) (handles_view shown.sources.items)
-    pub held : AllByRecursion (λ g. names pins.version (file_of g) ≡ true) (handles_view shown.sources.items)
+  -- a run's sources are groups of one key, of the version that the rewrite began with
+  pub record ShowsRun (pins : Pins) (shown : Sources) (run : List Group) : Type 0 where
+    pub sources : AreStored disk keys schema count (handles_view shown.groups.items) run
+    pub described : AllByRecursion (IsGroup keys (without_keys keys schema)) (handles_view shown.groups.items)
+    pub held : AllByRecursion (λ g. names pins.version (file_of g) ≡ true) (handles_view shown.groups.items)
     pub key : Key
     pub keyed : AllByRecursion (λ (g : Group). g.key ≡ key) run
-    pub read : shown.read ≤ length run
-    pub groups : List Group
-    pub are_written : AreWritten pins (handles_view shown.written.items) groups
-    pub waiting : List Row
-    pub of_key : AreRowsOf keys key (completed (rows_view shown.waiting.items)) waiting
-    pub fit : RowsFit schema waiting
-    pub few : length waiting < size
-    pub all : rows groups ++ waiting ≡ rows (take shown.read run)
 
+  -- whole rows that were read of a group: those from before a field was added are null in it
+  abbrev pub AreReadOf : Vec CodeRow Global → Group → Type 0
+  AreReadOf read g = map (padded schema) (rows_view read.items) ≡ g.rows
+
+  -- The rows of the first sources are read.
   pub record ShowsRewrite (pins : Pins) (shown : Rewriting) (runs : List (List Group)) (unread : List ℕ) : Type 0 where
     pub each : AllZip (ShowsRun pins) shown.runs.items runs
-    pub left : unread ≡ flat_map unread_of shown.runs.items
+    pub as_many : length shown.read.items ≤ length (sources runs)
+    pub read : AllZip AreReadOf shown.read.items (take (length shown.read.items) (sources runs))
+    pub left : unread ≡ numbers (drop (length shown.read.items) (sources runs))
     -- no other group is held as a source
     pub pinned : AllByRecursion (λ n. is_number_among (numbers (sources runs)) n ≡ true) pins.sources
 

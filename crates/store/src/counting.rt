@@ -120,7 +120,7 @@ fn count_at<D: Disk>(
 }
 
 /// The sum of two counts. Refused where a u64 does not count it.
-fn sum_of(a: u64, b: u64) -> R<u64>
+pub(crate) fn sum_of(a: u64, b: u64) -> R<u64>
     ensures summed { IfOk result (λ n. n ≡ a + b) }
     ensures which { RefusedMemoryOnly result }
 {

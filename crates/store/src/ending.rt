@@ -59,8 +59,7 @@ impl<D: Disk> Store<D> {
         if finds_append(self.jobs.as_slice(), job) {
             return self.commit_append(alloc, job);
         }
-        // Not written yet: the test of the sources, the files of what waits, and the commit.
-        Err(Refusal::Memory)
+        self.commit_rewrite(alloc, job)
     }
 
     /// Commits what an append staged, one row at least: writes what waits, and then the root.
@@ -107,7 +106,8 @@ impl<D: Disk> Store<D> {
     }
 }
 
-/// Whether the job of this number is an append of which nothing is written, and nothing waits. Takes no memory.
+/// Whether the job of this number is an append of which nothing is written, and nothing waits, or a rewrite of no sources.
+/// Takes no memory.
 fn finds_nothing(jobs: &[OpenJob], number: JobId) -> bool
     ensures { result ≡ finds_nothing (job_at number jobs.now) }
 {
@@ -124,7 +124,7 @@ fn is_nothing(work: &Work) -> bool
         Work::Append(staged) => {
             staged.written.as_slice().is_empty() && staged.waiting.as_slice().is_empty()
         }
-        Work::Rewrite(_) => false,
+        Work::Rewrite(rewrite) => rewrite.runs.as_slice().is_empty(),
     }
 }
 

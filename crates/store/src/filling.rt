@@ -1,6 +1,6 @@
 //! Rows that are written as full groups as they come, and their rest at the end.
 
-ghost use Rattle.std.specs.Prelude.{◌≡◌, ◌≤◌, ◌+◌, ◌↔◌, ◌++◌, ◌∷◌, [], List, false, true, length, map, Ok, Err, Result, IfOk};
+ghost use Rattle.std.specs.Prelude.{◌≡◌, ◌≤◌, ◌+◌, ◌↔◌, ◌++◌, ◌∷◌, [], List, false, true, length, map, Ok, Err, Result, IfOk, OnOk};
 ghost use Rattle.bits.specs.Refusals.{RefusedOnly};
 ghost use Rattle.schema.specs.Views.{key_view, row_view, rows_view};
 ghost use Rattle.schema.specs.Keys.{AreRowsOf};
@@ -27,7 +27,7 @@ impl<D: Disk> Store<D> {
     ghost use Rattle.table.specs.State.{State};
     ghost use Rattle.store.specs.Stands.{Shows};
     ghost use Rattle.store.specs.Writing.{IsPartRefusal};
-    ghost use Rattle.store.specs.Filling.{HasWritten, Adds, Filled, Takes, Ends, AreFine, written_group, EndsWith};
+    ghost use Rattle.store.specs.Filling.{HasWritten, Adds, Filled, Takes, Ends, AreFine, written_group, EndsWith, Goes};
 
     /// Writes rows as groups, for a job or for none: each key's rows in order, a full group as soon as its last row comes,
     /// and at the end the rest of each key, keys ascending. Gives the groups in the order of their numbers.
@@ -135,6 +135,7 @@ impl<D: Disk> Store<D> {
         ensures adds { (D.state self.old.vault.disk).honest → (start : Store D) (s : State) (groups : List TableGroup) (rows : List TableRow) → s.closed ≡ false
             → HasWritten D.state start self.old s job (handles_view written.old.items) groups → AreRowsOf s.table.keys (key_view buffer.now.key) (rows_view buffer.now.rows.items) rows
             → Adds D.state start self.old self.new s job (handles_view written.new.items) groups (written_group self.old.next_group (key_view buffer.now.key) rows) result }
+        ensures goes { OnOk result (Goes (handles_view written.old.items) (handles_view written.new.items)) }
         ensures which { RefusedOnly (IsPartRefusal self.old job (key_view buffer.now.key) (rows_view buffer.now.rows.items)) result }
         ensures same { self.new ≡ record self.old { vault = self.new.vault; snapshots = self.new.snapshots; next_group = self.new.next_group } }
         ensures rises { self.new.next_group ≤ self.old.next_group + 1 }

@@ -1,6 +1,6 @@
 //! Part files.
 
-ghost use Rattle.std.specs.Prelude.{◌≡◌, ◌≢◌, ◌≤◌, ◌<◌, ◌+◌, ◌^◌, ◌-◌, ◌↔◌, ◌⊎◌, ℕ, List, true, false, IfOk, Err, length, string_bytes};
+ghost use Rattle.std.specs.Prelude.{◌≡◌, ◌≢◌, ◌≤◌, ◌<◌, ◌+◌, ◌^◌, ◌-◌, ◌↔◌, ◌⊎◌, ℕ, List, true, false, IfOk, IfSome, Err, length, string_bytes};
 ghost use Rattle.bits.specs.Refusals.{RefusedOnly};
 ghost use Rattle.schema.specs.Views.{rows_view, key_view};
 ghost use Rattle.schema.specs.Keys.{AreRowsOf};
@@ -9,14 +9,16 @@ ghost use Rattle.manifest.specs.Root.{stored_of};
 ghost use Rattle.snapshots.specs.State.{job_is_open};
 ghost use Rattle.snapshots.specs.Views.{state_of};
 ghost use Rattle.footer.specs.Writing.{IsOutOfRange, IsTooMuch};
+ghost use Rattle.table.specs.Table.{Row as TableRow};
 ghost use Rattle.vault.specs.Views.{IsNoRoot};
 ghost use Rattle.vault.specs.Calls.{CountsOnce, HasFailed};
+ghost use Rattle.store.specs.Writing.{IsPartFor, IsUnfit};
 
 use crate::store::Store;
 use bits::{R, Refusal};
 use disk::Disk;
-use footer::write_file;
-use manifest::Group;
+use footer::{WriteOptions, write_file};
+use manifest::{Group, Manifest};
 use partition::{part_path, part_paths_are_not_roots};
 use schema::{Key, Row};
 use snapshots::Event;
@@ -33,10 +35,10 @@ pub struct Part {
 }
 
 impl<D: Disk> Store<D> {
-    ghost use Rattle.table.specs.Table.{Row as TableRow, Key as TableKey};
+    ghost use Rattle.table.specs.Table.{Key as TableKey};
     ghost use Rattle.table.specs.State.{State};
     ghost use Rattle.store.specs.Stands.{Shows};
-    ghost use Rattle.store.specs.Writing.{Writes, IsPartFor, IsUnfitPart, IsPutRefusal, IsPartRefusal};
+    ghost use Rattle.store.specs.Writing.{Writes, IsUnfitPart, IsPutRefusal, IsPartRefusal};
 
     /// Writes a part file under the next number, which is taken, for a job or for none. From then on the file is tracked,
     /// whether it was written or not: what no version comes to name, and no job holds, is removed after the next commit.
@@ -100,13 +102,77 @@ impl<D: Disk> Store<D> {
         ensures limit { result ≡ Err Refusal.Limit → IsOutOfRange self.now.options ⊎ IsTooMuch (stored_of (root_of self.now.manifest)) self.now.options (rows_view rows.now) }
         ensures which { RefusedOnly (IsUnfitPart self.now (key_view key.now) (rows_view rows.now)) result }
     {
-        part_paths_are_not_roots();
-        let number = self.next_group;
-        let stored = self.manifest.stored();
-        let path = part_path(alloc, self.manifest.keys(), key, number)?;
-        let bytes = write_file(alloc, stored, &self.options, rows)?;
-        let group = Group::of_part(alloc, stored, key, number, bytes.as_slice())?;
-        let group = Rc::new(alloc, group)?;
-        Ok(Part { path, bytes, group })
+        part_of(
+            alloc,
+            &self.manifest,
+            self.next_group,
+            &self.options,
+            key,
+            rows,
+        )
     }
+
+    /// The same of rows that may be more than a group has: its file has one group with all of them.
+    ///
+    /// Where they are too much for one file this is refused as if out of memory, and never Limit: what a limit is said
+    /// to be is told of files whose groups have at most as many rows as the options say.
+    pub(crate) fn make_wide_part(&self, alloc: Global, key: &Key, rows: &[Row]) -> R<Part>
+        requires some { 1 ≤ length rows.now }
+        requires counter { self.now.next_group < 2 ^ 64 - 1 }
+        ensures made { IfOk result (λ part. (held : List TableRow) → AreRowsOf (root_of self.now.manifest).keys (key_view key.now) (rows_view rows.now) held
+            → IsPartFor (root_of self.now.manifest).keys (root_of self.now.manifest).schema self.now.next_group (key_view key.now) held part) }
+        ensures no_root { IfOk result (λ part. IsNoRoot (string_bytes part.path)) }
+        ensures which { RefusedOnly (IsUnfitPart self.now (key_view key.now) (rows_view rows.now)) result }
+    {
+        let Some(options) = wide_options(&self.options, rows.len()) else {
+            return Err(Refusal::Memory);
+        };
+        match part_of(alloc, &self.manifest, self.next_group, &options, key, rows) {
+            Ok(part) => Ok(part),
+            Err(Refusal::Limit) => Err(Refusal::Memory),
+            Err(refusal) => Err(refusal),
+        }
+    }
+}
+
+/// The same options, but for groups of so many rows. None where there are no such.
+fn wide_options(options: &WriteOptions, rows: usize) -> Option<WriteOptions>
+    ensures { IfSome result (λ o. o.group_rows ≡ rows) }
+{
+    if rows > u32::MAX as usize {
+        return None;
+    }
+    Some(WriteOptions {
+        group_rows: rows as u32,
+        page_rows: options.page_rows,
+        page_version: options.page_version,
+        style: options.style,
+    })
+}
+
+/// The part file of rows of one key in a table under a number, written by these options.
+fn part_of(
+    alloc: Global,
+    table: &Manifest,
+    number: u64,
+    options: &WriteOptions,
+    key: &Key,
+    rows: &[Row],
+) -> R<Part>
+    requires some { 1 ≤ length rows.now }
+    requires few { length rows.now ≤ options.now.group_rows }
+    requires counter { number < 2 ^ 64 - 1 }
+    ensures made { IfOk result (λ part. (held : List TableRow) → AreRowsOf (root_of table.now).keys (key_view key.now) (rows_view rows.now) held
+        → IsPartFor (root_of table.now).keys (root_of table.now).schema number (key_view key.now) held part) }
+    ensures no_root { IfOk result (λ part. IsNoRoot (string_bytes part.path)) }
+    ensures limit { result ≡ Err Refusal.Limit → IsOutOfRange options.now ⊎ IsTooMuch (stored_of (root_of table.now)) options.now (rows_view rows.now) }
+    ensures which { RefusedOnly (IsUnfit (root_of table.now) options.now (key_view key.now) (rows_view rows.now)) result }
+{
+    part_paths_are_not_roots();
+    let stored = table.stored();
+    let path = part_path(alloc, table.keys(), key, number)?;
+    let bytes = write_file(alloc, stored, options, rows)?;
+    let group = Group::of_part(alloc, stored, key, number, bytes.as_slice())?;
+    let group = Rc::new(alloc, group)?;
+    Ok(Part { path, bytes, group })
 }

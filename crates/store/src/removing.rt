@@ -1,31 +1,231 @@
 //! The removal of rows.
 
-ghost use Rattle.std.specs.Prelude.{◌≤◌, ◌↔◌};
+ghost use Rattle.std.specs.Prelude.{◌≡◌, ◌≤◌, ◌<◌, ◌+◌, ◌↔◌, ◌⊎◌, ℕ, List, [], ◌∷◌, ◌++◌, true, false, None, Ok, IfOk, OnOk, length};
+ghost use Rattle.std.specs.List.{AllByRecursion};
+ghost use Rattle.bits.specs.Refusals.{RefusedOnly, RefusedMemoryOnly};
+ghost use Rattle.schema.specs.Keys.{AreRowsOf};
+ghost use Rattle.schema.specs.Stripe.{leaves_of};
+ghost use Rattle.schema.specs.Views.{key_view, rows_view};
+ghost use Rattle.vault.specs.Calls.{HasFailed};
+ghost use Rattle.filter.specs.Deciding.{satisfies as all_satisfied};
+ghost use Rattle.filter.specs.Terms.{tests_of};
+ghost use Rattle.filter.specs.Test.{tests_in};
+ghost use Rattle.partition.specs.Splitting.{key_rows_view};
+ghost use Rattle.manifest.specs.Groups.{Group as Described, root_of, groups_in, handles_view};
+ghost use Rattle.planning.specs.Numbered.{brought};
+ghost use Rattle.planning.specs.Replaced.{changes_view, replaced};
+ghost use Rattle.planning.specs.Told.{IsNextOf};
+ghost use Rattle.table.specs.Deciding.{Filter as Terms};
 
+use crate::counting::sum_of;
+use crate::remaining::{Remains, remains_at};
 use crate::store::Store;
 use bits::{R, Refusal};
 use disk::Disk;
-use filter::Term;
+use filter::{Filter, Term};
+use manifest::{Group, Version};
+use partition::KeyRows;
+use planning::{Change, next_after};
 use std::alloc::Global;
+use std::rc::Rc;
+
+/// A counter that has come to this gives no more numbers: 2^63.
+const MOST_NUMBERS: u64 = 9223372036854775808;
+
+/// The counter's last values are for no file.
+const LAST_NUMBER: u64 = u64::MAX - 1;
+
+/// What a removal has done so far: what comes in the place of which group, and how many rows went.
+#[derive(Drop)]
+pub(crate) struct Removed {
+    pub changes: Vec<Change>,
+    pub count: u64,
+}
 
 impl<D: Disk> Store<D> {
+    ghost use Rattle.table.specs.Table.{Row as TableRow, Group as TableGroup};
+    ghost use Rattle.table.specs.State.{State};
     ghost use Rattle.filter.specs.Terms.{terms_view};
     ghost use Rattle.table.specs.Calls.{remove, done};
+    ghost use Rattle.table.specs.Checks.{fault};
+    ghost use Rattle.table.specs.Refusing.{is_failure};
     ghost use Rattle.table.specs.Views.{answered};
-    ghost use Rattle.store.specs.Promises.{Acts, HasCause};
+    ghost use Rattle.store.specs.Buffers.{buffer};
+    ghost use Rattle.store.specs.Filling.{HasWritten, IsBuffer};
+    ghost use Rattle.store.specs.Promises.{Acts, ActsFrom, HasCause};
+    ghost use Rattle.store.specs.Removing.{Puts, HasReplaced, Replaces, ReplacesAll};
+    ghost use Rattle.store.specs.Stands.{Shows, Stands};
+    ghost use Rattle.store.specs.Writing.{Writes, IsPartRefusal};
 
-    /// Removes the rows that satisfy, in a commit. It is not written yet, so that it is not public.
+    /// Removes the rows that satisfy, in a commit of its own: Ok(n), of n rows. What is left of a group in which some row
+    /// satisfies is one part file under a new number, in the group's place; where nothing is left, the group goes. The
+    /// others stay as they are. Where no row satisfies, nothing is written.
+    ///
+    /// A group that the filter rules out is not read; of another one each chunk is, once. Held are the rows of one group
+    /// at a time, and copies of those that are left of it. Time is linear in the groups and in the rows that are read,
+    /// but for finding each group, which is logarithmic.
+    ///
+    /// Refused Closed; Full where there are no more group numbers; for the first term that has a fault; Limit for a file
+    /// or a root that is too much; Device, and InDoubt where the root may be the old one or the new one. Where more rows are
+    /// left of a group than `group_rows`, as of one that was written when groups were larger, and they are too much for one
+    /// file, the answer is Memory in place of Limit.
     pub fn remove(&mut self, alloc: Global, terms: &[Vec<Term>]) -> R<u64>
         ensures acts { Acts D.state self.old self.new (remove (terms_view terms.now)) (answered done result) }
         ensures cause { HasCause D.state self.old self.new (answered done result) }
         ensures counts { (D.state self.old.vault.disk).failures ≤ (D.state self.new.vault.disk).failures }
         ensures honest { (D.state self.old.vault.disk).honest ↔ (D.state self.new.vault.disk).honest }
     {
-        let _ = alloc;
-        let _ = terms;
         if self.closed {
             return Err(Refusal::Closed);
         }
-        Err(Refusal::Memory)
+        if self.next_group >= MOST_NUMBERS {
+            return Err(Refusal::Full);
+        }
+        let filter = Filter::new(alloc, self.manifest.schema(), terms)?;
+        self.remove_rows(alloc, &filter)
     }
+
+    /// Removes the rows that satisfy a filter over the table's schema.
+    fn remove_rows(&mut self, alloc: Global, filter: &Filter) -> R<u64>
+        ensures acts { (D.state self.old.vault.disk).honest → (s : State) (terms : Terms) → Stands D.state self.old s → s.closed ≡ false → fault s (remove terms) ≡ None → tests_of (leaves_of s.table.schema) terms ≡ Ok (tests_in filter.now)
+            → ActsFrom D.state self.old self.new (remove terms) (answered done result) s }
+        ensures cause { (D.state self.old.vault.disk).honest → (s : State) (terms : Terms) → Stands D.state self.old s → s.closed ≡ false → fault s (remove terms) ≡ None → tests_of (leaves_of s.table.schema) terms ≡ Ok (tests_in filter.now)
+            → is_failure (answered done result) ≡ true → HasFailed (D.state self.old.vault.disk) (D.state self.new.vault.disk) }
+        ensures counts { (D.state self.old.vault.disk).failures ≤ (D.state self.new.vault.disk).failures }
+        ensures honest { (D.state self.old.vault.disk).honest ↔ (D.state self.new.vault.disk).honest }
+    {
+        let removed = self.replace_groups(alloc, filter)?;
+        if removed.count == 0 {
+            return Ok(0);
+        }
+        let groups = self.with_changes(alloc, removed.changes.as_slice())?;
+        let next = next_with(self.manifest.next(), removed.changes.as_slice());
+        self.commit_version(alloc, groups, next, None)?;
+        Ok(removed.count)
+    }
+
+    /// Judges each group of the table, and writes what is left of it where some row of it goes.
+    fn replace_groups(&mut self, alloc: Global, filter: &Filter) -> R<Removed>
+        ensures replaces { (D.state self.old.vault.disk).honest → (s : State) (terms : Terms) → s.closed ≡ false → tests_of (leaves_of s.table.schema) terms ≡ Ok (tests_in filter.now)
+            → HasWritten D.state self.old self.old s None [] [] → self.old.next_group ≡ s.next_group
+            → ReplacesAll D.state self.old self.new s (all_satisfied (tests_in filter.now)) result }
+        ensures same { self.new ≡ record self.old { vault = self.new.vault; snapshots = self.new.snapshots; next_group = self.new.next_group } }
+        ensures counts { (D.state self.old.vault.disk).failures ≤ (D.state self.new.vault.disk).failures }
+        ensures honest { (D.state self.old.vault.disk).honest ↔ (D.state self.new.vault.disk).honest }
+    {
+        let mut removed = Removed {
+            changes: Vec::new(alloc),
+            count: 0,
+        };
+        let count = self.manifest.groups().len();
+        for place in 0..count {
+            self.replace_group(alloc, filter, place, &mut removed)?;
+        }
+        Ok(removed)
+    }
+
+    /// The same of the group at a place.
+    fn replace_group(
+        &mut self,
+        alloc: Global,
+        filter: &Filter,
+        place: usize,
+        removed: &mut Removed,
+    ) -> R<()>
+        ensures replaces { (D.state self.old.vault.disk).honest → (start : Store D) (s : State) (terms : Terms) → s.closed ≡ false → tests_of (leaves_of s.table.schema) terms ≡ Ok (tests_in filter.now)
+            → place < length (root_of self.old.manifest).groups → HasReplaced D.state start self.old s (all_satisfied (tests_in filter.now)) place removed.old
+            → Replaces D.state start self.new s (all_satisfied (tests_in filter.now)) (place + 1) removed.new result }
+        ensures same { self.new ≡ record self.old { vault = self.new.vault; snapshots = self.new.snapshots; next_group = self.new.next_group } }
+        ensures counts { (D.state self.old.vault.disk).failures ≤ (D.state self.new.vault.disk).failures }
+        ensures honest { (D.state self.old.vault.disk).honest ↔ (D.state self.new.vault.disk).honest }
+    {
+        let remains = remains_at(alloc, &mut self.vault, &self.manifest, filter, place)?;
+        if remains.gone == 0 {
+            return Ok(());
+        }
+        self.put_remains(alloc, &remains, removed)
+    }
+
+    /// Writes what is left of a group, where any row is, and keeps the change.
+    fn put_remains(&mut self, alloc: Global, remains: &Remains, removed: &mut Removed) -> R<()>
+        ensures puts { (D.state self.old.vault.disk).honest → (start : Store D) (s : State) (files : List Described) (groups : List TableGroup) (held : List TableRow) → s.closed ≡ false
+            → HasWritten D.state start self.old s None files groups → IsBuffer s.table.schema s.table.keys (key_rows_view remains.now.rest) (buffer (key_view remains.now.rest.key) held)
+            → Puts D.state start self.old self.new s files groups held remains.now removed.old removed.new result }
+        ensures same { self.new ≡ record self.old { vault = self.new.vault; snapshots = self.new.snapshots; next_group = self.new.next_group } }
+        ensures counts { (D.state self.old.vault.disk).failures ≤ (D.state self.new.vault.disk).failures }
+        ensures honest { (D.state self.old.vault.disk).honest ↔ (D.state self.new.vault.disk).honest }
+    {
+        if remains.rest.rows.is_empty() {
+            return add_change(removed, remains, Vec::new(alloc));
+        }
+        let group = self.write_whole(alloc, &remains.rest)?;
+        let mut come = Vec::new(alloc);
+        come.push(group)?;
+        add_change(removed, remains, come)
+    }
+
+    /// Writes rows of one key, one at least, as one part file: also where they are more than a group has, as what is left
+    /// of a group may be that was written when a group had more rows.
+    fn write_whole(&mut self, alloc: Global, rest: &KeyRows) -> R<Rc<Group>>
+        requires some { 1 ≤ length rest.now.rows.items }
+        ensures writes { (D.state self.old.vault.disk).honest → (s : State) (held : List TableRow) → Shows D.state self.old s → s.closed ≡ false
+            → AreRowsOf s.table.keys (key_view rest.now.key) (rows_view rest.now.rows.items) held → Writes D.state self.old self.new None (key_view rest.now.key) held result s }
+        ensures which { RefusedOnly (IsPartRefusal self.old None (key_view rest.now.key) (rows_view rest.now.rows.items)) result }
+        ensures same { self.new ≡ record self.old { vault = self.new.vault; snapshots = self.new.snapshots; next_group = self.new.next_group } }
+        ensures rises { self.new.next_group ≤ self.old.next_group + 1 }
+        ensures counts { (D.state self.old.vault.disk).failures ≤ (D.state self.new.vault.disk).failures }
+        ensures honest { (D.state self.old.vault.disk).honest ↔ (D.state self.new.vault.disk).honest }
+    {
+        let rows = rest.rows.as_slice();
+        if self.next_group >= LAST_NUMBER {
+            return Err(Refusal::Memory);
+        }
+        if rows.len() <= self.options.group_rows as usize {
+            return self.write_part(alloc, None, &rest.key, rows);
+        }
+        let part = self.make_wide_part(alloc, &rest.key, rows)?;
+        self.put_part(alloc, None, part)
+    }
+
+    /// The version with these changes.
+    fn with_changes(&self, alloc: Global, changes: &[Change]) -> R<Version>
+        ensures replaced { IfOk result (λ v. groups_in v ≡ replaced (changes_view changes.now) (root_of self.now.manifest).groups) }
+        ensures below { (next : ℕ) → (root_of self.now.manifest).next ≤ next → AllByRecursion (λ (g : Described). g.number < next) (brought (changes_view changes.now))
+            → IfOk result (λ v. AllByRecursion (λ (g : Described). g.number < next) (groups_in v)) }
+        ensures which { RefusedMemoryOnly result }
+    {
+        let version = self.manifest.groups();
+        let edits = planning::replace(alloc, version, changes)?;
+        let groups = version.spliced(alloc, edits.as_slice())?;
+        Ok(groups)
+    }
+}
+
+/// In the place of the group of which this is left, these come.
+fn add_change(removed: &mut Removed, remains: &Remains, come: Vec<Rc<Group>>) -> R<()>
+    ensures changed { OnOk result (changes_view removed.new.changes.items ≡ changes_view removed.old.changes.items ++ record { number = remains.now.number; come = handles_view come.items } ∷ []) }
+    ensures counted { OnOk result (removed.new.count ≡ removed.old.count + remains.now.gone) }
+    ensures which { RefusedMemoryOnly result }
+{
+    let count = sum_of(removed.count, remains.gone)?;
+    removed.changes.push(Change {
+        number: remains.number,
+        come,
+    })?;
+    removed.count = count;
+    Ok(())
+}
+
+/// The next number of a table after what these changes bring: above the number of each, and not below what it was; no
+/// greater than that.
+fn next_with(next: u64, changes: &[Change]) -> u64
+    ensures never_falls { next ≤ result }
+    ensures above { AllByRecursion (λ (g : Described). g.number < result) (brought (changes_view changes.now)) }
+    ensures least { (result ≡ next) ⊎ IsNextOf result (brought (changes_view changes.now)) }
+{
+    let mut after = next;
+    for change in changes {
+        after = next_after(after, change.come.as_slice());
+    }
+    after
 }

@@ -1,27 +1,36 @@
 //! Rewrites of groups.
 
-ghost use Rattle.std.specs.Prelude.{◌≡◌, ◌≤◌, ◌↔◌, map, IfOk};
-ghost use Rattle.bits.specs.Refusals.{RefusedMemoryOnly};
-ghost use Rattle.manifest.specs.Groups.{groups_in};
-ghost use Rattle.planning.specs.Runs.{runs_in};
-ghost use Rattle.store.specs.Rewritten.{run_told, begun_run};
+ghost use Rattle.std.specs.Prelude.{◌≡◌, ◌≤◌, ◌↔◌, true, false, None};
+ghost use Rattle.vault.specs.Calls.{HasFailed};
+ghost use Rattle.store.specs.Lookups.{job_at};
+ghost use Rattle.store.specs.Stepping.{is_rewrite, finds_rewrite};
 
 use crate::beginning::can_open;
-use crate::jobs::{Rewriting, RunWork, Work};
+use crate::jobs::{OpenJob, Rewriting, Work};
+use crate::lookup::find_job;
+use crate::reading_on::push_read;
+use crate::sources::{next_source, whole_rows};
 use crate::store::Store;
 use bits::{R, Refusal};
 use disk::Disk;
-use manifest::Version;
 use planning::runs_of;
 use std::alloc::Global;
 use table::JobId;
 
+/// A counter that has come to this gives no more numbers: 2^63.
+const MOST_NUMBERS: u64 = 9223372036854775808;
+
 impl<D: Disk> Store<D> {
+    ghost use Rattle.table.specs.State.{State};
+    ghost use Rattle.table.specs.Checks.{fault};
+    ghost use Rattle.table.specs.Refusing.{is_failure};
     ghost use Rattle.table.specs.Calls.{begin_rewrite, step_rewrite, job, more};
     ghost use Rattle.table.specs.Views.{answered};
-    ghost use Rattle.store.specs.Promises.{Acts, HasCause};
+    ghost use Rattle.store.specs.Stands.{Stands};
+    ghost use Rattle.store.specs.Promises.{Acts, ActsFrom, HasCause};
 
-    /// Opens a rewrite of the groups of these numbers.
+    /// Opens a rewrite of the groups of these numbers: `step_rewrite` reads them one by one, and `commit` puts groups of
+    /// the same rows in their place. Nothing is read or written yet.
     ///
     /// Refused Closed; Full where 16 jobs are open, or there are no more job numbers; NoGroup for a number that no group
     /// has. Time and room are linear in the groups and the numbers.
@@ -41,42 +50,73 @@ impl<D: Disk> Store<D> {
             return Err(Refusal::NoGroup);
         }
         let sources = Vec::from_slice(alloc, numbers)?;
-        let table = self.description()?;
-        let runs = runs_to_do(alloc, self.manifest.groups(), numbers)?;
-        let work = Work::Rewrite(Rewriting { table, runs });
+        let runs = runs_of(alloc, self.manifest.groups(), numbers)?;
+        // A place for each source, so that no step is refused after it has read.
+        let read = Vec::with_capacity(alloc, numbers.len())?;
+        let work = Work::Rewrite(Rewriting { runs, read });
         let number = self.begin_job(alloc, Some(sources), work)?;
         Ok(number)
     }
 
-    /// Reads one more source of a rewrite. It is not written yet, so that no call of a rewrite is public.
+    /// Reads the next source of a rewrite, whose rows the rewrite keeps until its commit: Ok(true) where sources are left
+    /// to read after it, else Ok(false). Where none was left it answers Ok(false), and nothing is read. Refused, the source
+    /// is left to be read.
+    ///
+    /// Refused Closed; NoJob where no rewrite of this number is open; Full where there are no more group numbers; Device.
+    /// Time and room are linear in the source's bytes and its rows, and in the runs.
     pub fn step_rewrite(&mut self, alloc: Global, job: JobId) -> R<bool>
         ensures acts { Acts D.state self.old self.new (step_rewrite job) (answered more result) }
         ensures cause { HasCause D.state self.old self.new (answered more result) }
         ensures counts { (D.state self.old.vault.disk).failures ≤ (D.state self.new.vault.disk).failures }
         ensures honest { (D.state self.old.vault.disk).honest ↔ (D.state self.new.vault.disk).honest }
     {
-        let _ = alloc;
-        let _ = job;
         if self.closed {
             return Err(Refusal::Closed);
         }
-        Err(Refusal::Memory)
+        if !finds_rewrite(self.jobs.as_slice(), job) {
+            return Err(Refusal::NoJob);
+        }
+        if self.next_group >= MOST_NUMBERS {
+            return Err(Refusal::Full);
+        }
+        self.read_source(alloc, job)
+    }
+
+    /// Reads the next source of a rewrite that passed the checks.
+    fn read_source(&mut self, alloc: Global, job: JobId) -> R<bool>
+        ensures acts { (D.state self.old.vault.disk).honest → (s : State) → Stands D.state self.old s → s.closed ≡ false → fault s (step_rewrite job) ≡ None
+            → ActsFrom D.state self.old self.new (step_rewrite job) (answered more result) s }
+        ensures cause { (D.state self.old.vault.disk).honest → (s : State) → Stands D.state self.old s → s.closed ≡ false → fault s (step_rewrite job) ≡ None
+            → is_failure (answered more result) ≡ true → HasFailed (D.state self.old.vault.disk) (D.state self.new.vault.disk) }
+        ensures counts { (D.state self.old.vault.disk).failures ≤ (D.state self.new.vault.disk).failures }
+        ensures honest { (D.state self.old.vault.disk).honest ↔ (D.state self.new.vault.disk).honest }
+    {
+        match next_source(self.jobs.as_slice(), job) {
+            None => Ok(false),
+            Some(group) => {
+                let rows = whole_rows(alloc, &mut self.vault, &self.manifest, group)?;
+                push_read(self.jobs.as_mut_slice(), job, rows)?;
+                Ok(next_source(self.jobs.as_slice(), job).is_some())
+            }
+        }
     }
 }
 
-/// The runs of the groups of these numbers, of which nothing is read yet.
-fn runs_to_do(alloc: Global, version: &Version, numbers: &[u64]) -> R<Vec<RunWork>>
-    ensures told { IfOk result (λ runs. map run_told runs.items ≡ map begun_run (runs_in numbers.now (groups_in version.now))) }
-    ensures which { RefusedMemoryOnly result }
+/// Whether the job of this number is a rewrite. Takes no memory.
+pub(crate) fn finds_rewrite(jobs: &[OpenJob], number: JobId) -> bool
+    ensures { result ≡ finds_rewrite (job_at number jobs.now) }
 {
-    let mut runs = Vec::new(alloc);
-    for run in runs_of(alloc, version, numbers)? {
-        runs.push(RunWork {
-            sources: run.groups,
-            read: 0,
-            written: Vec::new(alloc),
-            waiting: Vec::new(alloc),
-        })?;
+    match find_job(jobs, number) {
+        Some(found) => is_rewrite(&found.work),
+        None => false,
     }
-    Ok(runs)
+}
+
+fn is_rewrite(work: &Work) -> bool
+    ensures { result ≡ is_rewrite work.now }
+{
+    match work {
+        Work::Append(_) => false,
+        Work::Rewrite(_) => true,
+    }
 }

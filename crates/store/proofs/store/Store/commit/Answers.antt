@@ -1,4 +1,4 @@
-use Rattle.std.proofs.Common.{◌≡◌, ◌<◌, ◌≤◌, ℕ, true, false, not, refl, sym, ◌∙◌, ap, arith}
+use Rattle.std.proofs.Common.{◌≡◌, ◌<◌, ◌≤◌, ℕ, true, false, refl, sym, ◌∙◌, ap, arith}
 use Rattle.table.specs.Calls.{commit, done}
 use Rattle.table.specs.Views.{answered}
 use Rattle.vault.proofs.Chained.{refused}
@@ -6,9 +6,10 @@ use Rattle.store.specs.Staging.{finds_append, finds_nothing}
 use Rattle.store.specs.Promises.{ActsFrom}
 use Rattle.store.proofs.EmptyCommits.{empty_refused, empty_done}
 use Rattle.store.specs.Lookups.{job_at}
-use Rattle.store.proofs.Refusals.{acts_shut, acts_poor}
+use Rattle.store.proofs.Refusals.{acts_shut}
 use Rattle.store.proofs.Ends.{not_there, is_there}
 use Rattle.store.proofs.Asked.{commit_no_job, commit_full, commit_fine}
+use Rattle.store.proofs.RewriteHeld.{rewrite_there}
 use Rattle.store.proofs.store.Store.commit.Goals as goal
 
 pub returns-then-self-clause-acts : goal.returns-then-self-clause-acts
@@ -66,4 +67,27 @@ returns-then-finds_append-clause-cause g c honest s stands =
     c.commit_append.ensures.cause honest s stands is_open (commit_fine g.D.Disk.state old s stands is_open n there low) there something
 
 pub returns-clause-acts : goal.returns-clause-acts
-returns-clause-acts g c = acts_poor g.D.Disk.state c.args.self.now (commit c.args.job) refl (λ s e. ap not e) (λ s. refl) c.if-self.false
+returns-clause-acts g c honest s stands =
+    let old = c.args.self.now in
+    let n = c.args.job in
+    let is_open = sym stands.shows.closed ∙ c.if-self.false in
+    let some = is_there (λ j. j.now) c.find_job.result (job_at n c.as_slice.result.now) c.is_none.result c.is_none.ensures c.if-is_none.false c.find_job.ensures in
+    let found = ap (job_at n) (sym c.as_slice.ensures.value) ∙ some.1 in
+    let low : s.next_group < 9223372036854775808 = let a = stands.shows.next_group in let b = c.if-self-ge-MOST_NUMBERS.false in omega (arith, a, b) in
+    let other : finds_append (job_at n old.jobs.items) ≡ false = ap (λ js. finds_append (job_at n js)) (sym c.as_slice-3.ensures.value) ∙ sym c.finds_append.ensures ∙ c.if-finds_append.false in
+    let something : finds_nothing (job_at n old.jobs.items) ≡ false = ap (λ js. finds_nothing (job_at n js)) (sym c.as_slice-2.ensures.value) ∙ sym c.finds_nothing.ensures ∙ c.if-finds_nothing.false in
+    let t = rewrite_there some.0 (job_at n old.jobs.items) found other something in
+    c.commit_rewrite.ensures.acts honest s t.0 stands is_open low (some.0, found, t.1) t.2
+
+pub returns-clause-cause : goal.returns-clause-cause
+returns-clause-cause g c honest s stands =
+    let old = c.args.self.now in
+    let n = c.args.job in
+    let is_open = sym stands.shows.closed ∙ c.if-self.false in
+    let some = is_there (λ j. j.now) c.find_job.result (job_at n c.as_slice.result.now) c.is_none.result c.is_none.ensures c.if-is_none.false c.find_job.ensures in
+    let found = ap (job_at n) (sym c.as_slice.ensures.value) ∙ some.1 in
+    let low : s.next_group < 9223372036854775808 = let a = stands.shows.next_group in let b = c.if-self-ge-MOST_NUMBERS.false in omega (arith, a, b) in
+    let other : finds_append (job_at n old.jobs.items) ≡ false = ap (λ js. finds_append (job_at n js)) (sym c.as_slice-3.ensures.value) ∙ sym c.finds_append.ensures ∙ c.if-finds_append.false in
+    let something : finds_nothing (job_at n old.jobs.items) ≡ false = ap (λ js. finds_nothing (job_at n js)) (sym c.as_slice-2.ensures.value) ∙ sym c.finds_nothing.ensures ∙ c.if-finds_nothing.false in
+    let t = rewrite_there some.0 (job_at n old.jobs.items) found other something in
+    c.commit_rewrite.ensures.cause honest s t.0 stands is_open low (some.0, found, t.1) t.2

@@ -1,6 +1,5 @@
-use Rattle.std.proofs.Common.{◌≡◌, ◌≤◌, ◌<◌, ◌^◌, ◌⊎◌, ℕ, List, length, map, Err, refl, sym, ◌∙◌, ap, subst, arith, inl, inr}
+use Rattle.std.proofs.Common.{◌≡◌, ◌≤◌, ◌<◌, ◌^◌, ◌⊎◌, ℕ, List, length, Err, refl, sym, ◌∙◌, ap, subst, arith, inl, inr}
 use Rattle.std.proofs.lemmas.List.{length-map}
-use Rattle.bits.specs.declared.refusal.Refusal.{Refusal}
 use Rattle.schema.specs.Keys.{KeyColumn, key_columns_view}
 use Rattle.schema.specs.Views.{row_view, rows_view, key_view}
 use Rattle.vault.specs.Views.{root_path, next_path}
@@ -21,28 +20,28 @@ use Rattle.bits.specs.Refusals.{OnFault, RefusedOnly}
 use Rattle.schema.specs.Fits.{RowsFit}
 use Rattle.footer.specs.Writing.{IsOutOfRange, IsTooMuch}
 use Rattle.vault.proofs.Chained.{refused}
-use Rattle.store.specs.Writing.{IsUnfitPart}
+use Rattle.store.specs.Writing.{IsUnfit}
 use Rattle.std.specs.Prelude.{Vec}
 use Rattle.std.specs.declared.alloc.Global.{Global}
 use Rattle.store.proofs.Written.{failed}
 use Rattle.store.proofs.Unfit.{unfit_rows, unfit_group, unfit_limit}
-use Rattle.store.proofs.store.Store.make_part.Goals as goal
+use Rattle.store.proofs.part.part_of.Goals as goal
 
 pub returns-clause-no_root : goal.returns-clause-no_root
-returns-clause-no_root g c =
+returns-clause-no_root c =
     let keys = key_columns_view c.keys.result.now in
     let key = key_view c.args.key.now in
-    let number = c.args.self.now.next_group in
+    let number = c.args.number in
     let is = c.in_ok-path.ensures.stands in
     let fits : number < 2 ^ 64 = let r = c.requires.counter in omega (arith, r) in
     ((λ e. (c.part_paths_are_not_roots.ensures keys key number root_path fits (inl refl)).0 (sym is ∙ e)), (λ e. (c.part_paths_are_not_roots.ensures keys key number next_path fits (inr refl)).0 (sym is ∙ e)))
 
 pub returns-clause-made : goal.returns-clause-made
-returns-clause-made g c held are =
-    let root = root_of c.args.self.now.manifest in
+returns-clause-made c held are =
+    let root = root_of c.args.table.now in
     let key = key_view c.args.key.now in
     let rows = rows_view c.args.rows.now in
-    let o = c.args.self.now.options in
+    let o = c.args.options.now in
     let fs = c.stored-stored.result.now in
     let same = c.in_ok-group-2.ensures.ok in
     let many = length-map c.args.rows.now row_view in
@@ -60,19 +59,20 @@ returns-clause-made g c held are =
       key_is = ap (λ (x : CodeGroup). key_view x.key) same ∙ c.in_ok-group.ensures.key;
       can = can;
       described = subst (λ (x : CodeGroup). IsGroup root.keys (stored_of root) (group_view x)) (sym same) (subst (λ (gs : Fields). IsGroup root.keys gs (group_view c.in_ok-group.group)) c.stored-stored.ensures (c.in_ok-group.ensures.is root.keys can));
-      path_is = c.in_ok-path.ensures.stands ∙ ap (λ (ks : List KeyColumn). part_path_of ks key c.args.self.now.next_group) keys;
+      path_is = c.in_ok-path.ensures.stands ∙ ap (λ (ks : List KeyColumn). part_path_of ks key c.args.number) keys;
       means = subst (λ (x : CodeGroup). PartMeans root.keys (stored_of root) (group_view x) c.in_ok-bytes.bytes.items held) (sym same) (subst (λ (gs : Fields). PartMeans root.keys gs (group_view c.in_ok-group.group) c.in_ok-bytes.bytes.items held) c.stored-stored.ensures means);
     }
 
 pub returns-in_err-bytes-clause-which : goal.returns-in_err-bytes-clause-which
-returns-in_err-bytes-clause-which g c =
-    let old = c.args.self.now in
+returns-in_err-bytes-clause-which c =
+    let root = root_of c.args.table.now in
+    let options = c.args.options.now in
     let key = key_view c.args.key.now in
     let rows = rows_view c.args.rows.now in
-    refused (λ r. RefusedOnly (IsUnfitPart old key rows) r) c.from_residual-in_err-bytes.result _ c.from_residual-in_err-bytes.ensures.1
-    (unfit_rows old key rows (Vec ℕ Global) c.in_err-bytes.field-0.0
+    refused (λ r. RefusedOnly (IsUnfit root options key rows) r) c.from_residual-in_err-bytes.result _ c.from_residual-in_err-bytes.ensures.1
+    (unfit_rows root options key rows (Vec ℕ Global) c.in_err-bytes.field-0.0
     (subst (λ (fs : Fields). OnFault (failed (Vec ℕ Global) c.in_err-bytes.field-0.0) (RowsFit fs rows → ⊥)) c.stored-stored.ensures c.in_err-bytes.ensures.only)
-    (subst (λ (fs : Fields). failed (Vec ℕ Global) c.in_err-bytes.field-0.0 ≡ failed (Vec ℕ Global) Limit → IsOutOfRange old.options ⊎ IsTooMuch fs old.options rows) c.stored-stored.ensures c.in_err-bytes.ensures.limit)
+    (subst (λ (fs : Fields). failed (Vec ℕ Global) c.in_err-bytes.field-0.0 ≡ failed (Vec ℕ Global) Limit → IsOutOfRange options ⊎ IsTooMuch fs options rows) c.stored-stored.ensures c.in_err-bytes.ensures.limit)
     c.in_err-bytes.ensures.which)
 
 -- what was written is the part of these rows
@@ -85,21 +85,23 @@ written_here o fs rows bytes lent same laid within some few = let many = length-
 }
 
 pub returns-in_err-group-clause-which : goal.returns-in_err-group-clause-which
-returns-in_err-group-clause-which g c =
-    let old = c.args.self.now in
+returns-in_err-group-clause-which c =
+    let root = root_of c.args.table.now in
+    let options = c.args.options.now in
     let key = key_view c.args.key.now in
     let rows = rows_view c.args.rows.now in
-    let written = written_here old.options c.stored-stored.result.now c.args.rows.now c.in_ok-bytes.bytes.items c.as_slice.result.now c.as_slice.ensures.value c.in_ok-bytes.ensures.laid_out c.in_ok-bytes.ensures.within_limits c.requires.some c.requires.few in
-    refused (λ r. RefusedOnly (IsUnfitPart old key rows) r) c.from_residual-in_err-group.result _ c.from_residual-in_err-group.ensures.1
-    (unfit_group old key rows c.in_err-group.field-0.0
-    (subst (λ (fs : Fields). (c.in_err-group.field-0.0 ≡ Memory → ⊥) → (c.in_err-group.field-0.0 ≡ Limit) × IsTooMuch fs old.options rows) c.stored-stored.ensures (λ other. c.in_err-group.ensures.only other old.options rows written)))
+    let written = written_here options c.stored-stored.result.now c.args.rows.now c.in_ok-bytes.bytes.items c.as_slice.result.now c.as_slice.ensures.value c.in_ok-bytes.ensures.laid_out c.in_ok-bytes.ensures.within_limits c.requires.some c.requires.few in
+    refused (λ r. RefusedOnly (IsUnfit root options key rows) r) c.from_residual-in_err-group.result _ c.from_residual-in_err-group.ensures.1
+    (unfit_group root options key rows c.in_err-group.field-0.0
+    (subst (λ (fs : Fields). (c.in_err-group.field-0.0 ≡ Memory → ⊥) → (c.in_err-group.field-0.0 ≡ Limit) × IsTooMuch fs options rows) c.stored-stored.ensures (λ other. c.in_err-group.ensures.only other options rows written)))
 
 pub returns-in_err-group-clause-limit : goal.returns-in_err-group-clause-limit
-returns-in_err-group-clause-limit g c =
-    let old = c.args.self.now in
+returns-in_err-group-clause-limit c =
+    let root = root_of c.args.table.now in
+    let options = c.args.options.now in
     let key = key_view c.args.key.now in
     let rows = rows_view c.args.rows.now in
-    let written = written_here old.options c.stored-stored.result.now c.args.rows.now c.in_ok-bytes.bytes.items c.as_slice.result.now c.as_slice.ensures.value c.in_ok-bytes.ensures.laid_out c.in_ok-bytes.ensures.within_limits c.requires.some c.requires.few in
-    refused (λ r. r ≡ Err Limit → IsOutOfRange old.options ⊎ IsTooMuch (stored_of (root_of old.manifest)) old.options rows) c.from_residual-in_err-group.result _ c.from_residual-in_err-group.ensures.1
-    (λ is. inr (unfit_limit old key rows _ (IsTooMuch (stored_of (root_of old.manifest)) old.options rows) c.in_err-group.field-0.0
-    (subst (λ (fs : Fields). (c.in_err-group.field-0.0 ≡ Memory → ⊥) → (c.in_err-group.field-0.0 ≡ Limit) × IsTooMuch fs old.options rows) c.stored-stored.ensures (λ other. c.in_err-group.ensures.only other old.options rows written)) is))
+    let written = written_here options c.stored-stored.result.now c.args.rows.now c.in_ok-bytes.bytes.items c.as_slice.result.now c.as_slice.ensures.value c.in_ok-bytes.ensures.laid_out c.in_ok-bytes.ensures.within_limits c.requires.some c.requires.few in
+    refused (λ r. r ≡ Err Limit → IsOutOfRange options ⊎ IsTooMuch (stored_of root) options rows) c.from_residual-in_err-group.result _ c.from_residual-in_err-group.ensures.1
+    (λ is. inr (unfit_limit root options key rows _ (IsTooMuch (stored_of root) options rows) c.in_err-group.field-0.0
+    (subst (λ (fs : Fields). (c.in_err-group.field-0.0 ≡ Memory → ⊥) → (c.in_err-group.field-0.0 ≡ Limit) × IsTooMuch fs options rows) c.stored-stored.ensures (λ other. c.in_err-group.ensures.only other options rows written)) is))

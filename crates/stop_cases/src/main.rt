@@ -1,0 +1,52 @@
+//! Stops and failures at each call of the disk: a line of standard input is a loop and what a failed call has done (0
+//! nothing, 1 all, 2 a part), and the line that is printed has after ` = ` how many there were, and how many of them left
+//! what may not be: 0.
+#![tactic(auto)]
+
+mod failures;
+mod makings;
+mod reopenings;
+mod script;
+mod stops;
+
+use bits::{R, Refusal};
+use case_words::{natural, word};
+use std::alloc::Global;
+use std::io;
+
+/// What a loop saw; Script where there is no such loop.
+fn outcome(alloc: Global, words: &[&str]) -> R<String> {
+    let pick = natural(word(words, 1)?)?;
+    match word(words, 0)? {
+        "stops" => stops::stops(alloc, pick),
+        "reopenings" => reopenings::reopenings(alloc, pick),
+        "failures" => failures::failures(alloc, pick),
+        "creations" => makings::creations(alloc, pick),
+        "columns" => makings::columns(alloc, pick),
+        _ => Err(Refusal::Script),
+    }
+}
+
+/// The line that is printed: a comment or an empty line as it is, another one with its outcome after it.
+fn answered(alloc: Global, line: &str) -> R<String> {
+    if line.is_empty() || line.starts_with('#') {
+        return Ok(String::from_str(alloc, line)?);
+    }
+    let words: Vec<&str> = line.split_whitespace().collect(alloc)?;
+    let text = match outcome(alloc, words.as_slice()) {
+        Ok(text) => text,
+        Err(refusal) => format!(in alloc; "refused {refusal}")?,
+    };
+    Ok(format!(in alloc; "{line} = {text}")?)
+}
+
+fn main(rt: HostRuntime) -> io::Result<()> {
+    for line in rt.lines(rt.alloc()) {
+        let line = line?;
+        match answered(rt.alloc(), line.as_str()) {
+            Ok(text) => println!(rt; "{text}")?,
+            Err(refusal) => println!(rt; "{refusal}")?,
+        }
+    }
+    Ok(())
+}

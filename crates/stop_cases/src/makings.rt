@@ -1,0 +1,95 @@
+//! Stops while a table is made, and while it is given a column.
+
+use crate::script::{self, SCHEMA};
+use crate::stops::{LISTS, Seen, crashed};
+use bits::{R, Refusal};
+use disk::Disk;
+use jsonrows::schema_to;
+use mem_disk::MemDisk;
+use std::alloc::Global;
+
+/// Whether the disk has no table, or the empty one.
+fn is_none_or_empty(alloc: Global, disk: MemDisk) -> R<bool> {
+    match script::open(alloc, disk) {
+        Ok(mut store) => Ok(script::rows(alloc, &mut store)?.is_empty()),
+        Err((_, refusal)) => Ok(matches!(refusal, Refusal::NoTable)),
+    }
+}
+
+/// A stop after `k` calls of making a table. Whether the disk failed at all.
+fn stop_creation(alloc: Global, k: u64, pick: u64, seen: &mut Seen) -> R<bool> {
+    let mut disk = MemDisk::new(alloc);
+    disk.fuse(k, pick);
+    let disk = match script::create_on(alloc, disk)? {
+        Ok(store) => store.into_disk(),
+        Err((disk, _)) => disk,
+    };
+    if disk.failures() == 0 {
+        return Ok(false);
+    }
+    seen.stops = seen.stops.saturating_add(1);
+    for list in 0..LISTS {
+        let image = crashed(alloc, &disk, list)?;
+        let right = is_none_or_empty(alloc, image)?;
+        seen.add(right);
+    }
+    Ok(true)
+}
+
+/// `creations PICK`: a stop at each call of making a table.
+pub fn creations(alloc: Global, pick: u64) -> R<String> {
+    let mut seen = Seen::new();
+    for k in 0..u64::MAX {
+        if !stop_creation(alloc, k, pick, &mut seen)? {
+            break;
+        }
+    }
+    seen.text(alloc)
+}
+
+const APPEND: &str = "{\"call\":\"append\",\"rows\":[{\"k\":\"a\",\"x\":1}]}";
+
+const COLUMN: &str =
+    "{\"call\":\"add_column\",\"field\":{\"name\":\"y\",\"rep\":\"optional\",\"type\":\"int32\"}}";
+
+/// Whether the disk has the table of one row, with the new column or without it.
+fn is_with_or_without(alloc: Global, disk: MemDisk, must_have: bool) -> R<bool> {
+    let Ok(mut store) = script::open(alloc, disk) else {
+        return Ok(false);
+    };
+    let rows = script::rows(alloc, &mut store)?;
+    let schema = schema_to(alloc, store.schema())?;
+    let old = schema.as_str() == SCHEMA && rows.as_str() == "a1 " && !must_have;
+    Ok(old || schema.as_str() != SCHEMA && rows.as_str() == "a1ynull ")
+}
+
+/// A stop after `k` calls of adding a column. Whether the disk failed at all.
+fn stop_column(alloc: Global, k: u64, pick: u64, seen: &mut Seen) -> R<bool> {
+    let mut store = script::new_store(alloc)?;
+    script::answer(alloc, &mut store, APPEND)?;
+    store.vault.disk.fuse(k, pick);
+    let answer = script::answer(alloc, &mut store, COLUMN)?;
+    if script::failures(&store) == 0 {
+        return Ok(false);
+    }
+    let must_have = answer.as_str() == "{\"done\":0}";
+    seen.stops = seen.stops.saturating_add(1);
+    let disk = store.into_disk();
+    for list in 0..LISTS {
+        let image = crashed(alloc, &disk, list)?;
+        let right = is_with_or_without(alloc, image, must_have)?;
+        seen.add(right);
+    }
+    Ok(true)
+}
+
+/// `columns PICK`: a stop at each call of adding a column.
+pub fn columns(alloc: Global, pick: u64) -> R<String> {
+    let mut seen = Seen::new();
+    for k in 0..u64::MAX {
+        if !stop_column(alloc, k, pick, &mut seen)? {
+            break;
+        }
+    }
+    seen.text(alloc)
+}

@@ -1,0 +1,101 @@
+//! Stops while a table is opened again after a stop.
+
+use crate::script::{self, STEPS};
+use crate::stops::{Seen, crashed};
+use bits::R;
+use disk::Disk;
+use mem_disk::MemDisk;
+use std::alloc::Global;
+
+/// Which lists of words say what the two stops leave.
+const LISTS: [u64; 4] = [0, 1, 2, 11];
+
+/// The rows that an opening of a copy of the disk shows; none where it is refused.
+fn shown(alloc: Global, image: &MemDisk) -> R<Option<String>> {
+    let copy = crashed(alloc, image, 0)?;
+    match script::open(alloc, copy) {
+        Ok(mut store) => Ok(Some(script::rows(alloc, &mut store)?)),
+        Err(_) => Ok(None),
+    }
+}
+
+/// Whether each list leaves, of a disk whose opening was stopped, a table that shows these rows.
+fn is_kept(alloc: Global, disk: &MemDisk, rows: &Option<String>, seen: &mut Seen) -> R<()> {
+    for list in &LISTS {
+        let image = crashed(alloc, disk, *list)?;
+        let now = shown(alloc, &image)?;
+        let right = match (&now, rows) {
+            (Some(now), Some(rows)) => now.as_str() == rows.as_str(),
+            _ => false,
+        };
+        seen.add(right);
+    }
+    Ok(())
+}
+
+/// An opening of a copy of the image that is stopped after `k` calls. Whether the disk failed at all.
+fn stop_at(alloc: Global, image: &MemDisk, k: u64, pick: u64, seen: &mut Seen) -> R<bool> {
+    let rows = shown(alloc, image)?;
+    let mut copy = crashed(alloc, image, 0)?;
+    copy.fuse(k, pick);
+    let disk = match script::open(alloc, copy) {
+        Ok(store) => store.into_disk(),
+        Err((disk, _)) => disk,
+    };
+    if disk.failures() == 0 {
+        return Ok(false);
+    }
+    seen.stops = seen.stops.saturating_add(1);
+    is_kept(alloc, &disk, &rows, seen)?;
+    Ok(true)
+}
+
+/// A stop at each call of an opening of this image.
+fn stop_everywhere(alloc: Global, image: &MemDisk, pick: u64, seen: &mut Seen) -> R<()> {
+    for k in 0..u64::MAX {
+        if !stop_at(alloc, image, k, pick, seen)? {
+            break;
+        }
+    }
+    Ok(())
+}
+
+/// The disk that the calls leave where it fails from the call `k` on, and whether it failed.
+fn stopped_disk(alloc: Global, k: u64, pick: u64) -> R<Option<MemDisk>> {
+    let mut store = script::new_store(alloc)?;
+    store.vault.disk.fuse(k, pick);
+    for step in &STEPS {
+        let answer = script::answer(alloc, &mut store, step.call)?;
+        if answer.as_str() != step.answer {
+            break;
+        }
+    }
+    if script::failures(&store) == 0 {
+        return Ok(None);
+    }
+    Ok(Some(store.into_disk()))
+}
+
+/// `reopenings PICK`: a stop at each call of the disk, and then one at each call of the opening of what it leaves. (How many
+/// calls an opening makes depends on what it removes, so they are not told.)
+pub fn reopenings(alloc: Global, pick: u64) -> R<String> {
+    let mut seen = Seen::new();
+    let mut images: u64 = 0;
+    for k in 0..u64::MAX {
+        let Some(disk) = stopped_disk(alloc, k, pick)? else {
+            break;
+        };
+        for list in &LISTS {
+            let image = crashed(alloc, &disk, *list)?;
+            stop_everywhere(alloc, &image, pick, &mut seen)?;
+            images = images.saturating_add(1);
+        }
+    }
+    let each = if seen.stops >= images {
+        "stops in each"
+    } else {
+        "too few stops"
+    };
+    let wrong = seen.wrong;
+    Ok(format!(in alloc; "{images} openings, {each}, not allowed: {wrong}")?)
+}

@@ -1,0 +1,184 @@
+//! The calls that are stopped, the answers that they have without a fault, and the tables that they lead to.
+
+use bits::{R, Refusal};
+use disk::Disk;
+use footer::WriteOptions;
+use jsonrows::{answer_to, call_from, schema_from};
+use mem_disk::MemDisk;
+use std::alloc::Global;
+use store::Store;
+use table::{Answer, Fetched};
+
+/// The table's schema; `k` is its key column.
+pub const SCHEMA: &str =
+    "[{\"name\":\"k\",\"note\":\"utf8\",\"rep\":\"required\",\"type\":\"bytes\"},{\"name\":\"x\",\"rep\":\"required\",\"type\":\"int64\"}]";
+
+/// A call, its answer, and whether it is a commit. The numbers of a rewrite are those of all groups.
+pub struct Step {
+    pub call: &'static str,
+    pub answer: &'static str,
+    pub commits: bool,
+}
+
+/// What two appends, a removal and a rewrite do while a cursor is open.
+pub const STEPS: [Step; 14] = [
+    Step {
+        call: "{\"call\":\"append\",\"rows\":[{\"k\":\"a\",\"x\":1},{\"k\":\"b\",\"x\":2}]}",
+        answer: "{\"done\":2}",
+        commits: true,
+    },
+    Step {
+        call: "{\"call\":\"begin_append\"}",
+        answer: "{\"job\":0}",
+        commits: false,
+    },
+    Step {
+        call: "{\"call\":\"stage\",\"job\":0,\"rows\":[{\"k\":\"a\",\"x\":3}]}",
+        answer: "{\"ok\":true}",
+        commits: false,
+    },
+    Step {
+        call: "{\"call\":\"query\",\"filter\":[],\"columns\":null}",
+        answer: "{\"cursor\":0}",
+        commits: false,
+    },
+    Step {
+        call: "{\"call\":\"remove\",\"filter\":[[\"x\",\"==\",1]]}",
+        answer: "{\"done\":1}",
+        commits: true,
+    },
+    Step {
+        call: "{\"call\":\"commit\",\"job\":0}",
+        answer: "{\"done\":1}",
+        commits: true,
+    },
+    Step {
+        call: "{\"call\":\"begin_rewrite\",\"numbers\":[2,1]}",
+        answer: "{\"job\":1}",
+        commits: false,
+    },
+    Step {
+        call: "{\"call\":\"step_rewrite\",\"job\":1}",
+        answer: "{\"more\":true}",
+        commits: false,
+    },
+    Step {
+        call: "{\"call\":\"append\",\"rows\":[{\"k\":\"b\",\"x\":4}]}",
+        answer: "{\"done\":1}",
+        commits: true,
+    },
+    Step {
+        call: "{\"call\":\"commit\",\"job\":1}",
+        answer: "{\"done\":2}",
+        commits: true,
+    },
+    Step {
+        call: "{\"call\":\"fetch\",\"cursor\":0}",
+        answer: "{\"batch\":[{\"k\":\"a\",\"x\":1}]}",
+        commits: false,
+    },
+    Step {
+        call: "{\"call\":\"fetch\",\"cursor\":0}",
+        answer: "{\"batch\":[{\"k\":\"b\",\"x\":2}]}",
+        commits: false,
+    },
+    Step {
+        call: "{\"call\":\"fetch\",\"cursor\":0}",
+        answer: "{\"end\":true}",
+        commits: false,
+    },
+    Step {
+        call: "{\"call\":\"close\",\"cursor\":0}",
+        answer: "{\"ok\":true}",
+        commits: false,
+    },
+];
+
+/// The rows of the table after so many commits.
+pub const TABLES: [&str; 6] = ["", "a1 b2 ", "b2 ", "a3 b2 ", "a3 b2 b4 ", "a3 b2 b4 "];
+
+/// The table after so many commits; none where there are not so many.
+pub fn table_after(commits: usize) -> Option<&'static str> {
+    TABLES.get(commits).copied()
+}
+
+/// A store on a new disk, with an empty table.
+pub fn new_store(alloc: Global) -> R<Store<MemDisk>> {
+    match create_on(alloc, MemDisk::new(alloc))? {
+        Ok(store) => Ok(store),
+        Err((_, refusal)) => Err(refusal),
+    }
+}
+
+/// What making the table on a disk gives.
+pub fn create_on(alloc: Global, disk: MemDisk) -> R<Result<Store<MemDisk>, (MemDisk, Refusal)>> {
+    let schema = schema_from(alloc, SCHEMA)?;
+    let mut names = Vec::new(alloc);
+    names.push(String::from_str(alloc, "k")?)?;
+    Ok(store::create(
+        alloc,
+        disk,
+        schema,
+        names.as_slice(),
+        WriteOptions::standard(),
+    ))
+}
+
+/// What opening a disk gives.
+pub fn open(alloc: Global, disk: MemDisk) -> Result<Store<MemDisk>, (MemDisk, Refusal)> {
+    store::open(alloc, disk, WriteOptions::standard())
+}
+
+/// The text of a call's answer.
+pub fn answer(alloc: Global, store: &mut Store<MemDisk>, call: &str) -> R<String> {
+    let call = call_from(alloc, store.schema(), call)?;
+    let mut calls = Vec::new(alloc);
+    calls.push(call)?;
+    let answers = store.run(alloc, calls.as_slice())?;
+    match answers.as_slice() {
+        [answer] => answer_to(alloc, store.schema(), answer),
+        _ => Err(Refusal::Script),
+    }
+}
+
+/// The rows of a table, each as its key and its number.
+pub fn rows(alloc: Global, store: &mut Store<MemDisk>) -> R<String> {
+    let cursor = store.query(alloc, &[], None)?;
+    let mut text = String::new(alloc);
+    for _ in 0..u64::MAX {
+        match store.fetch(alloc, cursor)? {
+            Fetched::Batch(batch) => {
+                let more = answer_to(alloc, store.schema(), &Answer::Batch(batch))?;
+                put_rows(&mut text, more.as_str())?;
+            }
+            Fetched::End => break,
+        }
+    }
+    store.close(alloc, cursor)?;
+    Ok(text)
+}
+
+/// Of the text of a batch, the key and the number of each row.
+fn put_rows(text: &mut String, batch: &str) -> R<()> {
+    for row in batch.split('{') {
+        if let Some(rest) = row.strip_prefix("\"k\":\"") {
+            for part in rest.split(|c: char| c == '"'
+                || c == '}'
+                || c == ','
+                || c == ':'
+                || c == ']')
+            {
+                if part != "x" && !part.is_empty() {
+                    text.push_str(part)?;
+                }
+            }
+            text.push_str(" ")?;
+        }
+    }
+    Ok(())
+}
+
+/// The failures of a store's disk.
+pub fn failures(store: &Store<MemDisk>) -> u64 {
+    store.disk().failures()
+}

@@ -1,0 +1,166 @@
+-- The sources of a rewrite that are read between writes.
+use Rattle.std.proofs.Common.{◌≡◌, ◌≤◌, ◌+◌, ℕ, suc, false, List, [], ◌∷◌, ◌++◌, Option, Some, None, Result, Ok, Err, refl, sym, ◌∙◌, ap, subst, arith, inl, inr, append_assoc}
+use Rattle.std.specs.Prelude.{option_map, IfOk}
+use Rattle.std.specs.List.{AllByRecursion}
+use Rattle.std.specs.declared.vec.Vec.{Vec}
+use Rattle.std.specs.declared.alloc.Global.{Global}
+use Rattle.bits.specs.declared.refusal.Refusal.{Refusal}
+use Rattle.bits.specs.declared.refusal.Refusal.TheVariants.{Memory, Device}
+use Rattle.bits.specs.Refusals.{HasCause, RefusedOnly}
+use Rattle.schema.specs.declared.row.Row.{Row as CodeRow}
+use Rattle.schema.specs.Shape.{Fields}
+use Rattle.schema.specs.Views.{rows_view}
+use Rattle.schema.specs.Keys.{KeyColumn, AreKeys, without_keys}
+use Rattle.disk.specs.State.{State as DiskState}
+use Rattle.vault.specs.declared.vault.Vault.{Vault}
+use Rattle.vault.specs.Calls.{LeavesAll}
+use Rattle.manifest.specs.Groups.{Group as FileGroup, Root, root_of}
+use Rattle.manifest.specs.Records.{IsGroup}
+use Rattle.scan.specs.Faults.{IsDevice, IsPartRefusal}
+use Rattle.snapshots.specs.State.{State as Versions}
+use Rattle.snapshots.specs.Views.{state_of}
+use Rattle.table.specs.Table.{Row, Group, rows}
+use Rattle.table.specs.State.{State}
+use Rattle.store.specs.declared.store.Store.{Store}
+use Rattle.store.specs.declared.jobs.OpenJob.{OpenJob}
+use Rattle.store.specs.Completing.{completed_rows}
+use Rattle.store.specs.Counting.{IsHeld}
+use Rattle.store.specs.Lookups.{job_at}
+use Rattle.store.specs.Paths.{IsBelow}
+use Rattle.store.specs.Spares.{Spares}
+use Rattle.store.specs.Stands.{IsStored, AreStored}
+use Rattle.store.specs.Writing.{counted}
+use Rattle.store.specs.Acting.{WroteTo}
+use Rattle.store.specs.Filling.{HasWritten}
+use Rattle.store.specs.Reading.{OnlyReads}
+use Rattle.store.specs.Rewritten.{IsSource, AreSources, kept_at, IsHalted, NoPart, Reads}
+use Rattle.store.proofs.Adding.{failed_since}
+use Rattle.store.proofs.Cleaned.{still}
+use Rattle.store.proofs.Spared.{spares_on, spares_less, read_spares}
+use Rattle.store.proofs.Stored.{part_below, Any, all_any, stored_on, jobs_on, hold_same}
+use Rattle.store.proofs.Written.{same_use}
+
+-- ---- a source
+
+module _ {D : Type 0} (state : D → DiskState) (start mid : Store D) (s : State) (n : ℕ) (files : List FileGroup) (groups : List Group) (is_open : s.closed ≡ false) (has : HasWritten state start mid s (Some n) files groups) where
+  abbrev root : Root
+  root = root_of mid.manifest
+
+  stored_there : (f : FileGroup) (g : Group) → IsStored (state start.vault.disk) s.table.keys s.table.schema s.next_group f g → AreStored (state mid.vault.disk) s.table.keys s.table.schema s.next_group (f ∷ []) (g ∷ [])
+  stored_there f g z = stored_on s.table.keys s.next_group s.next_group (omega arith) Any (IsBelow s.table.keys s.next_group) (λ h low held. inr (part_below s.table.keys s.next_group h low)) (state start.vault.disk) (state mid.vault.disk) has.wrote.spares s.table.schema
+      (f ∷ []) (g ∷ []) (all_any (f ∷ [])) (z, tt)
+
+  abbrev Held : FileGroup → Group → List KeyColumn → Fields → Type 0
+  Held f g ks fs = AreKeys ks fs × AreStored (state mid.vault.disk) ks fs s.next_group (f ∷ []) (g ∷ []) × AllByRecursion (IsGroup ks (without_keys ks fs)) (f ∷ [])
+
+  held_made : (f : FileGroup) (g : Group) → Held f g root.keys root.schema → IsHeld (state mid.vault.disk) [] root f g
+  held_made f g h = record { over = ([], refl); keyed = h.0; count = s.next_group; stored = h.1; described = h.2 }
+
+  -- it can be read
+  pub source_held : (kept : Option (List Row)) (f : FileGroup) (g : Group) → IsSource (state start.vault.disk) s kept f g → IsHeld (state mid.vault.disk) [] root f g
+  source_held kept f g z = held_made f g (subst (λ (ks : List KeyColumn). Held f g ks root.schema) (sym has.wrote.shows.keys) (subst (λ (fs : Fields). Held f g s.table.keys fs) (sym has.wrote.shows.schema) (has.wrote.shows.valid.keys, stored_there f g z.stored, (z.described, tt))))
+
+  -- what was read of it before, completed, is its rows
+  pub source_kept : (kept : Option (List Row)) (f : FileGroup) (g : Group) → IsSource (state start.vault.disk) s kept f g → (fs : Fields) → fs ≡ s.table.schema → (v : Vec CodeRow Global)
+      → option_map (λ (w : Vec CodeRow Global). rows_view w.items) (Some v) ≡ option_map (completed_rows fs) kept → rows_view v.items ≡ g.rows
+  source_kept None f g z fs same v told = absurd (cc)
+  source_kept (Some given) f g z fs same v told =
+      let is : rows_view v.items ≡ completed_rows fs given = one (rows_view v.items) (completed_rows fs given) told in
+      is ∙ ap (λ (xs : Fields). completed_rows xs given) same ∙ z.read given refl
+    where
+      one : (a b : List Row) → Some a ≡ Some b → a ≡ b
+      one a b e = cc
+
+  -- ---- the disk is read
+
+  module _ (vault : Vault D) (leaves : LeavesAll (state mid.vault.disk) (state vault.disk)) (later : (state mid.vault.disk).failures ≤ (state vault.disk).failures) where
+    abbrev read_store : Store D
+    read_store = record mid { vault = vault }
+
+    abbrev versions : Versions
+    versions = state_of mid.snapshots
+
+    spared : Spares s.table.keys (λ q. Unit {0}) (state mid.vault.disk) (state vault.disk)
+    spared = read_spares s.table.keys has.wrote.shows.apart (λ q. Unit {0}) (state mid.vault.disk) (state vault.disk) leaves
+
+    wrote_so : WroteTo state start read_store s mid.next_group
+    wrote_so = record {
+      rises = has.wrote.rises;
+      spares = spares_on s.table.keys (IsBelow s.table.keys s.next_group) (state start.vault.disk) (state mid.vault.disk) (state vault.disk) has.wrote.spares
+          (spares_less s.table.keys (λ q. Unit {0}) (IsBelow s.table.keys s.next_group) (λ path need. tt) (state mid.vault.disk) (state vault.disk) spared);
+      shows = (still state mid (counted s mid.next_group) has.wrote.shows is_open vault mid.snapshots (λ q. Unit {0}) tt (λ f low held. tt) spared (same_use versions versions refl) (has.wrote.shows.shown is_open).files).shows;
+      jobs = jobs_on s.table.keys s.table.schema s.next_group s.next_group s.options.group_rows (omega arith) s.had s.had (λ m low e. e) versions versions (λ q. Unit {0}) (λ f low held. tt) (state mid.vault.disk) (state vault.disk) spared
+          (hold_same versions.jobs versions.jobs refl) mid.jobs.items s.jobs has.wrote.jobs;
+    }
+
+    pub read_on : HasWritten state start read_store s (Some n) files groups
+    read_on = record {
+      wrote = wrote_so;
+      no_less = let a = has.no_less in omega (arith, a, later);
+      job_open = has.job_open;
+      stored = stored_on s.table.keys mid.next_group mid.next_group (omega arith) Any (λ q. Unit {0}) (λ f low held. tt) (state mid.vault.disk) (state vault.disk) spared s.table.schema files groups (all_any files) has.stored;
+      held = has.held;
+      described = has.described;
+      above = has.above;
+      distinct = has.distinct;
+    }
+
+    pub read_so : (given : List Row) (r : Result (Vec CodeRow Global) Refusal) → IfOk r (λ v. rows_view v.items ≡ given) → RefusedOnly IsDevice r → OnlyReads (state mid.vault.disk) (state vault.disk) r → Reads state start read_store s (Some n) files groups given r
+    read_so given (Ok v) is only effect = (read_on, is)
+    read_so given (Err e) is only effect = by e only effect.which
+      where
+        by : (f : Refusal) → HasCause IsDevice f → HasCause (IsPartRefusal (state mid.vault.disk) (state vault.disk)) f → IsHalted state start read_store s NoPart mid.next_group f
+        by Memory c d = record { wrote = wrote_so; no_more = omega arith; why = tt }
+        by Device c (inl d) = record { wrote = wrote_so; no_more = omega arith; why = failed_since (state start.vault.disk) (state mid.vault.disk) (state vault.disk) has.no_less later d.1 }
+        by Device c (inr d) = absurd d
+        by f c d = absurd (cc)
+
+-- ---- one after another
+
+-- So far these rows are read; these sources are left, from this place on.
+pub record IsRead {D : Type 0} (state : D → DiskState) (start mid : Store D) (s : State) (n : ℕ) (files : List FileGroup) (groups : List Group) (place : ℕ) (fs : List FileGroup) (given all : List Row) : Type 0 where
+  pub has : HasWritten state start mid s (Some n) files groups
+  pub left : List Group
+  pub are : AreSources (state start.vault.disk) s (job_at n start.jobs.items) place fs left
+  pub rows_are : given ++ rows left ≡ all
+
+-- the first of those that are left
+pub record NextSource (disk : DiskState) (s : State) (job : Option OpenJob) (place : ℕ) (f : FileGroup) (fs : List FileGroup) (left : List Group) : Type 0 where
+  pub g : Group
+  pub gs : List Group
+  pub is : left ≡ g ∷ gs
+  pub source : IsSource disk s (kept_at place job) f g
+  pub others : AreSources disk s job (suc place) fs gs
+
+pub next_source : (disk : DiskState) (s : State) (job : Option OpenJob) (place : ℕ) (f : FileGroup) (fs : List FileGroup) (left : List Group) → AreSources disk s job place (f ∷ fs) left → NextSource disk s job place f fs left
+next_source disk s job place f fs [] z = absurd z
+next_source disk s job place f fs (g ∷ gs) z = record { g = g; gs = gs; is = refl; source = z.0; others = z.1 }
+
+module _ {D : Type 0} (state : D → DiskState) (start : Store D) (s : State) (n : ℕ) (files : List FileGroup) (groups : List Group) where
+  pub nothing_read : (mid : Store D) (place : ℕ) (fs : List FileGroup) (run : List Group) → HasWritten state start mid s (Some n) files groups → AreSources (state start.vault.disk) s (job_at n start.jobs.items) place fs run
+      → IsRead state start mid s n files groups place fs [] (rows run)
+  nothing_read mid place fs run has are = record { has = has; left = run; are = are; rows_are = refl }
+
+  pub read_more : (mid new : Store D) (place at : ℕ) → at ≡ place + 1 → (f : FileGroup) (fs : List FileGroup) (given more all : List Row) (r : IsRead state start mid s n files groups place (f ∷ fs) given all)
+      → (next : NextSource (state start.vault.disk) s (job_at n start.jobs.items) place f fs r.left) → HasWritten state start new s (Some n) files groups → more ≡ next.g.rows → IsRead state start new s n files groups at fs (given ++ more) all
+  read_more mid new place at step f fs given more all r next has is = record {
+    has = has;
+    left = next.gs;
+    are = subst (λ (k : ℕ). AreSources (state start.vault.disk) s (job_at n start.jobs.items) k fs next.gs) (omega (arith, step)) next.others;
+    rows_are = append_assoc given more (rows next.gs) ∙ ap (λ (rs : List Row). given ++ (rs ++ rows next.gs)) is ∙ ap (λ (hs : List Group). given ++ rows hs) (sym next.is) ∙ r.rows_are;
+  }
+
+  pub all_read : (mid : Store D) (place : ℕ) (given all : List Row) → (r : IsRead state start mid s n files groups place [] given all) → given ≡ all
+  all_read mid place given all r = by r.left r.are r.rows_are
+    where
+      by : (left : List Group) → AreSources (state start.vault.disk) s (job_at n start.jobs.items) place [] left → given ++ rows left ≡ all → given ≡ all
+      by [] z e = sym (plain given) ∙ e
+        where
+          plain : (rs : List Row) → rs ++ [] ≡ rs
+          plain [] = refl
+          plain (x ∷ xs) = ap (λ (ys : List Row). x ∷ ys) (plain xs)
+      by (g ∷ gs) z e = absurd z
+
+  -- it stops while sources are left
+  pub reading_stops : (new : Store D) (e : Refusal) (most : ℕ) → new.next_group ≤ most → IsHalted state start new s NoPart new.next_group e → IsHalted state start new s NoPart most e
+  reading_stops new e most low h = record { wrote = h.wrote; no_more = low; why = h.why }

@@ -1,0 +1,40 @@
+use Rattle.std.proofs.Common.{◌≡◌, List, None, refl, sym, subst}
+use Rattle.bits.specs.declared.refusal.Refusal.{Refusal}
+use Rattle.bits.specs.declared.refusal.Refusal.TheVariants.{Device, Memory}
+use Rattle.bits.specs.Refusals.{HasCause}
+use Rattle.schema.specs.declared.row.Row.{Row as CodeRow}
+use Rattle.schema.specs.Keys.{KeyColumn, AreRowsOf}
+use Rattle.schema.specs.Views.{rows_view, key_view}
+use Rattle.vault.proofs.Chained.{refused}
+use Rattle.manifest.specs.Groups.{root_of}
+use Rattle.table.specs.Table.{Row, Key}
+use Rattle.store.specs.declared.store.Store.{Store}
+use Rattle.store.specs.Writing.{Writes, IsUnfitPart}
+use Rattle.store.proofs.Written.{nothing_written, part_for}
+use Rattle.store.proofs.store.Store.write_whole.Goals as goal
+
+no_device : {D : Type 0} (store : Store D) (key : Key) (rows : List Row) (e : Refusal) → HasCause (IsUnfitPart store key rows) e → e ≡ Device → ⊥
+no_device store key rows e cause is = subst (λ (x : Refusal). HasCause (IsUnfitPart store key rows) x) is cause
+
+pub returns-then-self-ge-LAST_NUMBER-clause-writes : goal.returns-then-self-ge-LAST_NUMBER-clause-writes
+returns-then-self-ge-LAST_NUMBER-clause-writes g c honest s held shows is_open are =
+    let old = c.args.self.now in
+    nothing_written g.D.Disk.state old s None (key_view c.args.rest.now.key) held shows is_open old.snapshots refl Memory (λ is. cc)
+
+pub returns-in_err-part-clause-writes : goal.returns-in_err-part-clause-writes
+returns-in_err-part-clause-writes g c honest s held shows is_open are =
+    let old = c.args.self.now in
+    let key = key_view c.args.rest.now.key in
+    refused (λ r. Writes g.D.Disk.state old old None key held r s) c.from_residual.result _ c.from_residual.ensures.1
+    (nothing_written g.D.Disk.state old s None key held shows is_open old.snapshots refl _ (no_device old key (rows_view c.as_slice-rows.result.now) c.in_err-part.field-0.0 c.in_err-part.ensures.which))
+
+pub returns-clause-writes : goal.returns-clause-writes
+returns-clause-writes g c honest s held shows is_open are =
+    let old = c.args.self.now in
+    let part = c.in_ok-part.part in
+    let key = key_view c.args.rest.now.key in
+    let rows = rows_view c.as_slice-rows.result.now in
+    let so = subst (λ (rs : List CodeRow). AreRowsOf s.table.keys key (rows_view rs) held) (sym c.as_slice-rows.ensures.value) are in
+    let made = c.in_ok-part.ensures.made held (subst (λ (ks : List KeyColumn). AreRowsOf ks key rows held) (sym shows.keys) so) in
+    let ready = part_for (root_of old.manifest).keys s.table.keys (root_of old.manifest).schema s.table.schema old.next_group s.next_group key held part shows.keys shows.schema shows.next_group made in
+    c.put_part.ensures.writes honest s key held shows is_open refl ready

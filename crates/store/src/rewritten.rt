@@ -1,0 +1,152 @@
+//! The commit of a rewrite.
+
+ghost use Rattle.std.specs.Prelude.{◌≡◌, ◌≢◌, ◌≤◌, ◌<◌, ◌^◌, ◌++◌, ◌↔◌, ℕ, List, Some, None, [], false, true, IfOk};
+ghost use Rattle.std.specs.List.{AllByRecursion};
+ghost use Rattle.bits.specs.Refusals.{RefusedMemoryOnly};
+ghost use Rattle.vault.specs.Calls.{HasFailed};
+ghost use Rattle.manifest.specs.Groups.{Group as Described, root_of, groups_in, handles_view};
+ghost use Rattle.planning.specs.Replaced.{run_view, runs_view, changes_of, replaced};
+ghost use Rattle.planning.specs.Numbered.{brought_by};
+ghost use Rattle.planning.specs.Runs.{sources_view};
+
+use crate::dropping::plus_rows;
+use crate::lookup::end_job;
+use crate::run_sources::{made_run, numbers_of_runs, place_after, runs_at};
+use crate::store::Store;
+use bits::{R, Refusal};
+use disk::Disk;
+use manifest::{Group, Version};
+use planning::{Run, Sources, next_after};
+use snapshots::Event;
+use std::alloc::Global;
+use std::rc::Rc;
+use table::JobId;
+
+impl<D: Disk> Store<D> {
+    ghost use Rattle.table.specs.State.{State};
+    ghost use Rattle.table.specs.Table.{Group as TableGroup};
+    ghost use Rattle.table.specs.Calls.{commit, done};
+    ghost use Rattle.table.specs.Checks.{fault};
+    ghost use Rattle.table.specs.Refusing.{is_failure};
+    ghost use Rattle.table.specs.Views.{answered};
+    ghost use Rattle.store.specs.declared.jobs.Rewriting.{Rewriting};
+    ghost use Rattle.store.specs.Lookups.{job_at};
+    ghost use Rattle.store.specs.Stands.{Stands};
+    ghost use Rattle.store.specs.Promises.{ActsFrom};
+    ghost use Rattle.store.specs.Filling.{HasWritten};
+    ghost use Rattle.store.specs.Rewritten.{IsRewriteAt, AreSources, AreRuns, IsRunIn, RewritesOne, RewritesAll};
+
+    /// Commits a rewrite that has sources. Where one of them is gone it is refused Stale, which ends the job.
+    pub(crate) fn commit_rewrite(&mut self, alloc: Global, job: JobId) -> R<u64>
+        ensures acts { (D.state self.old.vault.disk).honest → (s : State) (r : Rewriting) → Stands D.state self.old s → s.closed ≡ false → s.next_group < 2 ^ 63 → IsRewriteAt job self.old.jobs.items r → r.runs.items ≢ []
+            → ActsFrom D.state self.old self.new (commit job) (answered done result) s }
+        ensures cause { (D.state self.old.vault.disk).honest → (s : State) (r : Rewriting) → Stands D.state self.old s → s.closed ≡ false → s.next_group < 2 ^ 63 → IsRewriteAt job self.old.jobs.items r → r.runs.items ≢ []
+            → is_failure (answered done result) ≡ true → HasFailed (D.state self.old.vault.disk) (D.state self.new.vault.disk) }
+        ensures counts { (D.state self.old.vault.disk).failures ≤ (D.state self.new.vault.disk).failures }
+        ensures honest { (D.state self.old.vault.disk).honest ↔ (D.state self.new.vault.disk).honest }
+    {
+        let runs = runs_at(alloc, self.jobs.as_slice(), job)?;
+        let numbers = numbers_of_runs(alloc, runs.as_slice())?;
+        if !planning::has_all(alloc, self.manifest.groups(), numbers.as_slice())? {
+            return self.end_stale(alloc, job);
+        }
+        self.commit_runs(alloc, job, runs.as_slice())
+    }
+
+    /// Ends a rewrite whose sources are not all there. The files that nothing needs any more are removed.
+    fn end_stale(&mut self, alloc: Global, job: JobId) -> R<u64>
+        ensures acts { (D.state self.old.vault.disk).honest → (s : State) (r : Rewriting) → Stands D.state self.old s → s.closed ≡ false → IsRewriteAt job self.old.jobs.items r → fault s (commit job) ≡ Some Refusal.Stale
+            → ActsFrom D.state self.old self.new (commit job) (answered done result) s }
+        ensures cause { is_failure (answered done result) ≡ false }
+        ensures counts { (D.state self.old.vault.disk).failures ≤ (D.state self.new.vault.disk).failures }
+        ensures honest { (D.state self.old.vault.disk).honest ↔ (D.state self.new.vault.disk).honest }
+    {
+        self.snapshots.step(alloc, Event::Ended(job))?;
+        end_job(&mut self.jobs, job);
+        self.clean_up(alloc);
+        Err(Refusal::Stale)
+    }
+
+    /// Writes the rows of these runs of sources, which all are there, and commits: the new groups of each run come in its
+    /// place.
+    fn commit_runs(&mut self, alloc: Global, job: JobId, runs: &[Sources]) -> R<u64>
+        ensures acts { (D.state self.old.vault.disk).honest → (s : State) (r : Rewriting) → Stands D.state self.old s → s.closed ≡ false → IsRewriteAt job self.old.jobs.items r → r.runs.items ≢ [] → sources_view runs.now ≡ sources_view r.runs.items
+            → fault s (commit job) ≡ None → ActsFrom D.state self.old self.new (commit job) (answered done result) s }
+        ensures cause { (D.state self.old.vault.disk).honest → (s : State) (r : Rewriting) → Stands D.state self.old s → s.closed ≡ false → IsRewriteAt job self.old.jobs.items r → r.runs.items ≢ [] → sources_view runs.now ≡ sources_view r.runs.items
+            → fault s (commit job) ≡ None → is_failure (answered done result) ≡ true → HasFailed (D.state self.old.vault.disk) (D.state self.new.vault.disk) }
+        ensures counts { (D.state self.old.vault.disk).failures ≤ (D.state self.new.vault.disk).failures }
+        ensures honest { (D.state self.old.vault.disk).honest ↔ (D.state self.new.vault.disk).honest }
+    {
+        let mut written = Vec::new(alloc);
+        let made = self.rewrite_all(alloc, job, &mut written, runs)?;
+        let count = plus_rows(0, written.as_slice())?;
+        let groups = self.with_runs(alloc, made.as_slice())?;
+        let next = next_after(self.manifest.next(), written.as_slice());
+        self.commit_version(alloc, groups, next, Some(job))?;
+        Ok(count)
+    }
+
+    /// Reads and writes each run, in its order.
+    fn rewrite_all(
+        &mut self,
+        alloc: Global,
+        job: JobId,
+        written: &mut Vec<Rc<Group>>,
+        runs: &[Sources],
+    ) -> R<Vec<Run>>
+        ensures rewrites { (D.state self.old.vault.disk).honest → (start : Store D) (s : State) (given : List (List TableGroup)) → s.closed ≡ false → self.old.jobs ≡ start.jobs → self.old.next_group ≡ s.next_group
+            → written.old.items ≡ [] → HasWritten D.state start self.old s (Some job) [] [] → AreRuns (D.state start.vault.disk) s (job_at job start.jobs.items) 0 (sources_view runs.now) given
+            → RewritesAll D.state start self.new s (Some job) (handles_view written.new.items) given result }
+        ensures come { IfOk result (λ made. handles_view written.new.items ≡ handles_view written.old.items ++ brought_by (runs_view made.items)) }
+        ensures same { self.new ≡ record self.old { vault = self.new.vault; snapshots = self.new.snapshots; next_group = self.new.next_group } }
+        ensures counts { (D.state self.old.vault.disk).failures ≤ (D.state self.new.vault.disk).failures }
+        ensures honest { (D.state self.old.vault.disk).honest ↔ (D.state self.new.vault.disk).honest }
+    {
+        let mut made = Vec::new(alloc);
+        let mut place = 0;
+        for run in runs {
+            let one = self.rewrite_one(alloc, job, written, place, run)?;
+            made.push(one)?;
+            let behind = place_after(place, run.groups.as_slice().len())?;
+            place = behind;
+        }
+        Ok(made)
+    }
+
+    /// Reads the rows of a run whose first source has this place over all runs, and writes them.
+    fn rewrite_one(
+        &mut self,
+        alloc: Global,
+        job: JobId,
+        written: &mut Vec<Rc<Group>>,
+        place: usize,
+        run: &Sources,
+    ) -> R<Run>
+        ensures rewrites { (D.state self.old.vault.disk).honest → (start : Store D) (s : State) (groups given : List TableGroup) → s.closed ≡ false → self.old.jobs ≡ start.jobs
+            → HasWritten D.state start self.old s (Some job) (handles_view written.old.items) groups → AreSources (D.state start.vault.disk) s (job_at job start.jobs.items) place (handles_view run.now.groups.items) given → IsRunIn s given
+            → RewritesOne D.state start self.new s (Some job) (handles_view written.old.items) (handles_view written.new.items) groups given self.old.next_group result }
+        ensures come { IfOk result (λ r. handles_view written.new.items ≡ handles_view written.old.items ++ (run_view r).come) }
+        ensures same { self.new ≡ record self.old { vault = self.new.vault; snapshots = self.new.snapshots; next_group = self.new.next_group } }
+        ensures counts { (D.state self.old.vault.disk).failures ≤ (D.state self.new.vault.disk).failures }
+        ensures honest { (D.state self.old.vault.disk).honest ↔ (D.state self.new.vault.disk).honest }
+    {
+        let first = written.as_slice().len();
+        let rows = self.run_rows(alloc, job, place, run.groups.as_slice())?;
+        self.write_run(alloc, job, written, rows.as_slice())?;
+        let (_, come) = written.as_slice().split_at(first);
+        made_run(alloc, run.groups.as_slice(), come)
+    }
+
+    /// The version with the new groups of each run in its place. Its numbers are below what those of both are.
+    fn with_runs(&self, alloc: Global, runs: &[Run]) -> R<Version>
+        ensures replaced { IfOk result (λ v. groups_in v ≡ replaced (changes_of (runs_view runs.now)) (root_of self.now.manifest).groups) }
+        ensures below { (next : ℕ) → (root_of self.now.manifest).next ≤ next → AllByRecursion (λ (g : Described). g.number < next) (brought_by (runs_view runs.now))
+            → IfOk result (λ v. AllByRecursion (λ (g : Described). g.number < next) (groups_in v)) }
+        ensures which { RefusedMemoryOnly result }
+    {
+        let version = self.manifest.groups();
+        let edits = planning::rewrite(alloc, version, runs)?;
+        let groups = version.spliced(alloc, edits.as_slice())?;
+        Ok(groups)
+    }
+}

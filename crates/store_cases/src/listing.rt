@@ -1,0 +1,84 @@
+//! The files of a disk.
+
+use crate::disks::{Cases, disk_of};
+use bits::{R, Refusal};
+use disk::{Disk, Entry, Fault, Kind, path_in};
+use mem_disk::MemDisk;
+use std::alloc::Global;
+
+/// How deep folders are looked into.
+const DEPTH: usize = 4;
+
+fn refusal_of(fault: Fault) -> Refusal {
+    match fault {
+        Fault::Memory => Refusal::Memory,
+        _ => Refusal::Device,
+    }
+}
+
+/// What is in some folders: the paths of the files go to `files`, those of the folders are given.
+fn look_into(
+    alloc: Global,
+    disk: &mut MemDisk,
+    folders: &[String],
+    files: &mut Vec<String>,
+) -> R<Vec<String>> {
+    let mut deeper = Vec::new(alloc);
+    for folder in folders {
+        let entries = disk.list(alloc, folder.as_str()).map_err(refusal_of)?;
+        put_entries(
+            alloc,
+            folder.as_str(),
+            entries.as_slice(),
+            files,
+            &mut deeper,
+        )?;
+    }
+    Ok(deeper)
+}
+
+/// The paths of some entries of a folder.
+fn put_entries(
+    alloc: Global,
+    folder: &str,
+    entries: &[Entry],
+    files: &mut Vec<String>,
+    deeper: &mut Vec<String>,
+) -> R<()> {
+    for entry in entries {
+        let path = path_in(alloc, folder, entry.name.as_str()).map_err(refusal_of)?;
+        match entry.kind {
+            Kind::File => files.push(path)?,
+            Kind::Folder => deeper.push(path)?,
+        }
+    }
+    Ok(())
+}
+
+/// `files`: the paths of all files, in byte order.
+pub fn files(alloc: Global, cases: &mut Cases) -> R<String> {
+    let disk = disk_of(cases)?;
+    let mut files = Vec::new(alloc);
+    let mut folders = Vec::new(alloc);
+    folders.push(String::new(alloc))?;
+    for _ in 0..DEPTH {
+        folders = look_into(alloc, disk, folders.as_slice(), &mut files)?;
+    }
+    files.sort()?;
+    joined(alloc, files.as_slice())
+}
+
+/// Texts with a space between them; `none` where there are none.
+fn joined(alloc: Global, texts: &[String]) -> R<String> {
+    let mut all = String::new(alloc);
+    for text in texts {
+        if !all.is_empty() {
+            all.push_str(" ")?;
+        }
+        all.push_str(text.as_str())?;
+    }
+    if all.is_empty() {
+        all.push_str("none")?;
+    }
+    Ok(all)
+}
