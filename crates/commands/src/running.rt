@@ -58,8 +58,11 @@ fn reader_for(alloc: Global, schema: &Schema) -> R<ScriptReader>
     a_list_means_one_schema();
     // For the proof: this is a schema.
     let _ = schema.leaves();
-    let own = Schema::new(alloc, schema.elements())?;
-    Ok(ScriptReader::new(own))
+    match Schema::new(alloc, schema.elements()) {
+        Ok(own) => Ok(ScriptReader::new(own)),
+        // They are the elements of a schema, so that no other refusal can come.
+        Err(_) => Err(Refusal::Memory),
+    }
 }
 
 /// The calls of a text, one of each line; a last line needs no line feed. Each line is read over the schema with the fields

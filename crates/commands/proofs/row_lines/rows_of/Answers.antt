@@ -30,4 +30,4 @@ loop-line-preserved c =
     let l = c.loop-line in
     let row = c.in_ok-row.row in
     let is : IsRowText c.args.schema.now c.in-Some.line.now (row_view row) = subst (λ (t : Fields). IsRowText t c.in-Some.line.now (row_view row)) l.invariant.1 c.in_ok-row.ensures.stands in
-    (told_one_more c.args.schema.now l.yielded l.rows.items c.in-Some.line row is l.invariant.0, c.in_ok-row.ensures.same ∙ l.invariant.1)
+    (rw c.in_ok-push.ensures.items (told_one_more c.args.schema.now l.yielded l.rows.items c.in-Some.line row is l.invariant.0), c.in_ok-row.ensures.same ∙ l.invariant.1)

@@ -26,4 +26,4 @@ returns-in_err-call-clause-which c =
 pub loop-line-preserved : goal.loop-line-preserved
 loop-line-preserved c =
     let l = c.loop-line in
-    called_one_more c.args.schema.now (next_schema l.reader) (next_schema c.read.new.self) l.yielded l.calls.items c.in-Some.line c.in_ok-call.call c.in_ok-call.ensures.stands c.in_ok-call.ensures.after l.invariant
+    rw c.in_ok-push.ensures.items (called_one_more c.args.schema.now (next_schema l.reader) (next_schema c.read.new.self) l.yielded l.calls.items c.in-Some.line c.in_ok-call.call c.in_ok-call.ensures.stands c.in_ok-call.ensures.after l.invariant)
