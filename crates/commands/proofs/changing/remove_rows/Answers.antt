@@ -8,16 +8,20 @@ use Rattle.jsonrows.specs.Filters.{IsFilterText, IsRefusedFilter}
 use Rattle.commands.specs.Making.{MakesFrom, made, not_made, AsksRemove}
 use Rattle.commands.proofs.changing.remove_rows.Goals as goal
 
-pub returns-in_err-terms-clause-makes : goal.returns-in_err-terms-clause-makes
-returns-in_err-terms-clause-makes g c honest s stands =
-    let old = c.args.store.now in
-    let is = c.schema.ensures s stands in
-    let e = c.in_err-terms.field-0.0 in
-    refused (λ r. MakesFrom g.D.Disk.state old old (AsksRemove c.args.filter.now) (λ fs. IsRefusedFilter (leaves_of fs) c.args.filter.now) r s) c.from_residual.result e c.from_residual.ensures.1
-    (not_made e (subst (λ (t : Fields). IsRefusedFilter (leaves_of t) c.args.filter.now e) is c.in_err-terms.ensures.which) refl refl)
+pub returns-in_err-terms : goal.returns-in_err-terms
+returns-in_err-terms g c = record {
+  makes = λ honest s stands.
+      let old = c.args.store.now in
+      let is = c.schema.ensures s stands in
+      let e = c.in_err-terms.field-0.0 in
+      refused (λ r. MakesFrom g.D.Disk.state old old (AsksRemove c.args.text.now) (λ fs. IsRefusedFilter (leaves_of fs) c.args.text.now) r s) c.from_residual.result e c.from_residual.ensures.1
+      (not_made e (subst (λ (t : Fields). IsRefusedFilter (leaves_of t) c.args.text.now e) is c.in_err-terms.ensures.which) refl refl);
+}
 
-pub returns-clause-makes : goal.returns-clause-makes
-returns-clause-makes g c honest s stands =
-    let is = c.schema.ensures s stands in
-    let terms = terms_view c.in_ok-terms.terms.items in
-    made (remove terms) (terms, subst (λ (t : Fields). IsFilterText (leaves_of t) c.args.filter.now terms) is c.in_ok-terms.ensures.stands, refl) (c.remove.ensures.acts honest s stands)
+pub returns : goal.returns
+returns g c = record {
+  makes = λ honest s stands.
+      let is = c.schema.ensures s stands in
+      let terms = terms_view c.in_ok-terms.terms.items in
+      made (remove terms) (terms, subst (λ (t : Fields). IsFilterText (leaves_of t) c.args.text.now terms) is c.in_ok-terms.ensures.stands, refl) (c.remove.ensures.acts honest s stands);
+}
