@@ -1,15 +1,5 @@
 //! Commands that change a dataset. Each is one commit, and returns how many rows it appended, removed or rewrote.
 
-ghost use Rattle.std.specs.Prelude.{◌≡◌};
-ghost use Rattle.std.specs.Str.Lines.{lines};
-ghost use Rattle.schema.specs.Elements.{elements_view};
-ghost use Rattle.schema.specs.Listed.{listings};
-ghost use Rattle.schema.specs.Stripe.{leaves_of};
-ghost use Rattle.jsonrows.specs.Filters.{IsRefusedFilter};
-ghost use Rattle.jsonrows.specs.SchemaJson.{IsRefusedSchema};
-ghost use Rattle.commands.specs.Lines.{AreRefusedRows};
-ghost use Rattle.commands.specs.Making.{Makes, AsksAppend, AsksRemove, AsksColumn, Rewrites, RewritesPlanned};
-
 use crate::row_lines::rows_of;
 use bits::R;
 use disk::Disk;
@@ -20,26 +10,20 @@ use store::Store;
 
 /// Appends the rows of a text, one of each line. Refused as `row_from` refuses the first line that is no row, and then as
 /// `Store::append`.
-pub fn append<D: Disk>(alloc: Global, store: &mut Store<D>, text: &str) -> R<u64>
-    ensures makes { Makes D.state store.old store.new (AsksAppend text.now) (λ fs. AreRefusedRows fs (lines text.now)) result }
-{
+pub fn append<D: Disk>(alloc: Global, store: &mut Store<D>, text: &str) -> R<u64> {
     let rows = rows_of(alloc, store.schema(), text)?;
     store.append(alloc, rows.as_slice())
 }
 
 /// Puts the one field of a text at the end of the schema. Refused as `schema_from` refuses the text, and then as
 /// `Store::add_column`.
-pub fn add_column<D: Disk>(alloc: Global, store: &mut Store<D>, field: &str) -> R<u64>
-    ensures makes { Makes D.state store.old store.new (AsksColumn field.now) (λ fs. IsRefusedSchema field.now) result }
-{
+pub fn add_column<D: Disk>(alloc: Global, store: &mut Store<D>, field: &str) -> R<u64> {
     let schema = schema_from(alloc, field)?;
     store.add_column(alloc, without_root(&schema))
 }
 
 /// The elements of a schema but its root.
-fn without_root(schema: &Schema) -> &[Element]
-    ensures { elements_view result.now ≡ listings schema.now }
-{
+fn without_root(schema: &Schema) -> &[Element] {
     match schema.elements().split_first() {
         Some((_, elements)) => elements,
         None => &[],
@@ -48,18 +32,14 @@ fn without_root(schema: &Schema) -> &[Element]
 
 /// Removes the rows that satisfy the filter of a text. Refused as `filter_from` refuses the text, and then as
 /// `Store::remove`.
-pub fn remove_rows<D: Disk>(alloc: Global, store: &mut Store<D>, filter: &str) -> R<u64>
-    ensures makes { Makes D.state store.old store.new (AsksRemove filter.now) (λ fs. IsRefusedFilter (leaves_of fs) filter.now) result }
-{
+pub fn remove_rows<D: Disk>(alloc: Global, store: &mut Store<D>, filter: &str) -> R<u64> {
     let terms = filter_from(alloc, store.schema(), filter)?;
     store.remove(alloc, terms.as_slice())
 }
 
 /// Rewrites the groups of these numbers: the rows of those that stand next to each other under one key are put into full
 /// groups. Of no numbers it does nothing. Refused as `Store::begin_rewrite`, and then as `Store::commit`.
-pub fn rewrite_groups<D: Disk>(alloc: Global, store: &mut Store<D>, numbers: &[u64]) -> R<u64>
-    ensures rewrites { Rewrites D.state store.old store.new numbers.now result }
-{
+pub fn rewrite_groups<D: Disk>(alloc: Global, store: &mut Store<D>, numbers: &[u64]) -> R<u64> {
     if numbers.is_empty() {
         return Ok(0);
     }
@@ -69,9 +49,7 @@ pub fn rewrite_groups<D: Disk>(alloc: Global, store: &mut Store<D>, numbers: &[u
 
 /// Rewrites the groups that have fewer rows than this, where a neighbour of the same key has too. Where there are none it
 /// does nothing. Refused as `Store::plan_rewrite`, and then as [`rewrite_groups`].
-pub fn rewrite_small<D: Disk>(alloc: Global, store: &mut Store<D>, min_rows: u64) -> R<u64>
-    ensures rewrites { RewritesPlanned D.state store.old store.new min_rows result }
-{
+pub fn rewrite_small<D: Disk>(alloc: Global, store: &mut Store<D>, min_rows: u64) -> R<u64> {
     let numbers = store.plan_rewrite(alloc, min_rows)?;
     rewrite_groups(alloc, store, numbers.as_slice())
 }

@@ -1,11 +1,5 @@
 //! What the commands print.
 
-ghost use Rattle.std.specs.Prelude.{◌≡◌, ◌∷◌, [], ◌++◌, Ok, codes, decimal, OnOk};
-ghost use Rattle.std.specs.Io.KnownBytes.{Appends};
-ghost use Rattle.serde_json.specs.Data.{Data};
-ghost use Rattle.serde_json.specs.Written.{compact_text};
-ghost use Rattle.jsonrows.specs.Answers.{answer_json};
-
 use crate::folder::refusal_of;
 use bits::{R, Refusal};
 use jsonrows::{RowPlan, RowText, answer_to};
@@ -20,33 +14,30 @@ use table::{Answer, Batch, GroupInfo};
 /// How many bytes of lines are gathered before they are written.
 const GATHERED_BYTES: usize = 65_536;
 
-fn write_text<W: Write>(text: &[u8], out: &mut W) -> R<()>
-    ensures written { OnOk result (Appends (W.contents out.old) (W.contents out.new) text.now) }
-{
+fn write_text<W: Write>(text: &[u8], out: &mut W) -> R<()> {
     out.write_all(text).map_err(refusal_of)
 }
 
 /// Prints `done N`, a line. Refused Device where it cannot be written.
-pub fn print_done<W: Write>(alloc: Global, rows: u64, out: &mut W) -> R<()>
-    ensures written { OnOk result (Appends (W.contents out.old) (W.contents out.new) (codes "done " ++ decimal rows ++ codes "\n")) }
-{
+pub fn print_done<W: Write>(alloc: Global, rows: u64, out: &mut W) -> R<()> {
     let line = format!(in alloc; "done {rows}\n")?;
     write_text(line.as_bytes(), out)
 }
 
 /// Prints a number, a line. Refused Device where it cannot be written.
-pub fn print_number<W: Write>(alloc: Global, number: u64, out: &mut W) -> R<()>
-    ensures written { OnOk result (Appends (W.contents out.old) (W.contents out.new) (decimal number ++ codes "\n")) }
-{
+pub fn print_number<W: Write>(alloc: Global, number: u64, out: &mut W) -> R<()> {
     let line = format!(in alloc; "{number}\n")?;
     write_text(line.as_bytes(), out)
 }
 
 /// Prints an answer over a schema, a line of JSON. Refused RowShape for rows that are none of the schema, and Device where
 /// it cannot be written.
-pub fn print_answer<W: Write>(alloc: Global, schema: &Schema, answer: &Answer, out: &mut W) -> R<()>
-    ensures written { OnOk result ((d : Data) × (answer_json schema.now answer.now ≡ Ok d) × Appends (W.contents out.old) (W.contents out.new) (compact_text d ++ 10 ∷ [])) }
-{
+pub fn print_answer<W: Write>(
+    alloc: Global,
+    schema: &Schema,
+    answer: &Answer,
+    out: &mut W,
+) -> R<()> {
     let mut text = answer_to(alloc, schema, answer)?;
     text.push('\n')?;
     write_text(text.as_bytes(), out)

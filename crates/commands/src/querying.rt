@@ -1,12 +1,5 @@
 //! Commands that read a dataset.
 
-ghost use Rattle.std.specs.Prelude.{IfOk, IfErr, option_map};
-ghost use Rattle.schema.specs.Stripe.{leaves_of};
-ghost use Rattle.filter.specs.Terms.{terms_view};
-ghost use Rattle.table.specs.State.{State};
-ghost use Rattle.store.specs.Stands.{Stands};
-ghost use Rattle.commands.specs.Making.{IsAskedFilter, IsRefusedFilterOf};
-
 use crate::printing::{print_batch, print_group, print_number};
 use bits::R;
 use disk::Disk;
@@ -18,10 +11,11 @@ use store::Store;
 use table::{CursorId, Fetched};
 
 /// The filter of a text; without one the filter that every row satisfies.
-pub fn filter_of<D: Disk>(alloc: Global, store: &Store<D>, text: Option<&str>) -> R<Vec<Vec<Term>>>
-    ensures stands { (s : State) → Stands D.state store.now s → IfOk result (λ terms. IsAskedFilter (leaves_of s.table.schema) (option_map (λ t. t.now) text.entry) (terms_view terms.items)) }
-    ensures which { (s : State) → Stands D.state store.now s → IfErr result (IsRefusedFilterOf (leaves_of s.table.schema) (option_map (λ t. t.now) text.entry)) }
-{
+pub fn filter_of<D: Disk>(
+    alloc: Global,
+    store: &Store<D>,
+    text: Option<&str>,
+) -> R<Vec<Vec<Term>>> {
     match text {
         Some(text) => filter_from(alloc, store.schema(), text),
         None => Ok(Vec::new(alloc)),

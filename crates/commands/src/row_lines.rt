@@ -1,12 +1,5 @@
 //! Rows as lines of JSON, to rows.
 
-ghost use Rattle.std.specs.Prelude.{◌≡◌, IfOk, IfErr};
-ghost use Rattle.std.specs.Str.Lines.{lines};
-ghost use Rattle.bits.specs.Refusals.{RefusedOnly};
-ghost use Rattle.schema.specs.Views.{row_view, rows_view};
-ghost use Rattle.rowtext.specs.Reader.{schema_of};
-ghost use Rattle.commands.specs.Lines.{IsRowText, IsRefusedLine, AreRowTexts, AreRefusedRows};
-
 use bits::{R, Refusal};
 use jsonrows::Reader;
 use schema::{Row, Schema};
@@ -15,10 +8,7 @@ use std::alloc::Global;
 /// The rows of a text, one of each line; a last line needs no line feed.
 ///
 /// Refused as `row_from` refuses the first line that is no row. Time and room are linear in the text.
-pub fn rows_of(alloc: Global, schema: &Schema, text: &str) -> R<Vec<Row>>
-    ensures stands { IfOk result (λ rows. AreRowTexts schema.now (lines text.now) (rows_view rows.items)) }
-    ensures which { IfErr result (AreRefusedRows schema.now (lines text.now)) }
-{
+pub fn rows_of(alloc: Global, schema: &Schema, text: &str) -> R<Vec<Row>> {
     let mut reader = Reader::new(alloc, schema)?;
     let mut rows = Vec::new(alloc);
     for line in text.lines() {
@@ -29,11 +19,7 @@ pub fn rows_of(alloc: Global, schema: &Schema, text: &str) -> R<Vec<Row>>
 }
 
 /// The row of a line. Refused as `row_from` refuses the line.
-fn read_row(reader: &mut Reader<'_>, line: &str) -> R<Row>
-    ensures stands { IfOk result (λ row. IsRowText (schema_of reader.old) line.now (row_view row)) }
-    ensures which { RefusedOnly (IsRefusedLine (schema_of reader.old) line.now) result }
-    ensures same { schema_of reader.new ≡ schema_of reader.old }
-{
+fn read_row(reader: &mut Reader<'_>, line: &str) -> R<Row> {
     reader.read(line)
 }
 

@@ -1,20 +1,10 @@
 //! Scripts: calls as lines of JSON.
 
-ghost use Rattle.std.specs.Prelude.{◌≡◌, ℕ, List, IfOk, IfErr, OnOk};
-ghost use Rattle.std.specs.Str.Lines.{lines};
-ghost use Rattle.std.specs.Io.KnownBytes.{Appends};
-ghost use Rattle.bits.specs.Refusals.{RefusedMemoryOnly};
-ghost use Rattle.schema.specs.Shape.{Fields};
-ghost use Rattle.table.specs.Views.{calls_view};
-ghost use Rattle.jsonrows.specs.Scripts.{next_schema};
-ghost use Rattle.commands.specs.Lines.{AreCallTexts, AreRefusedCalls, AreAnswerLines};
-ghost use Rattle.commands.specs.Making.{RunsScript};
-
 use crate::printing::print_answer;
 use bits::{R, Refusal};
 use disk::Disk;
 use jsonrows::ScriptReader;
-use schema::{Schema, a_list_means_one_schema, a_schema_is_its_elements};
+use schema::Schema;
 use std::alloc::Global;
 use std::io::Write;
 use store::Store;
@@ -31,18 +21,19 @@ pub fn run_script<D: Disk, W: Write>(
     store: &mut Store<D>,
     text: &str,
     out: &mut W,
-) -> R<()>
-    ensures runs { RunsScript D.state store.old store.new text.now (W.contents out.old) (W.contents out.new) result }
-{
+) -> R<()> {
     let calls = calls_of(alloc, store.schema(), text)?;
     let answers = store.run(alloc, calls.as_slice())?;
     print_answers(alloc, store.schema(), answers.as_slice(), out)
 }
 
 /// Prints answers, a line each. Later columns stand at the end of the schema, so that it is that of each batch.
-fn print_answers<W: Write>(alloc: Global, schema: &Schema, answers: &[Answer], out: &mut W) -> R<()>
-    ensures printed { OnOk result ((printed : List ℕ) × AreAnswerLines schema.now answers.now printed × Appends (W.contents out.old) (W.contents out.new) printed) }
-{
+fn print_answers<W: Write>(
+    alloc: Global,
+    schema: &Schema,
+    answers: &[Answer],
+    out: &mut W,
+) -> R<()> {
     for answer in answers {
         print_answer(alloc, schema, answer, out)?;
     }
@@ -50,14 +41,7 @@ fn print_answers<W: Write>(alloc: Global, schema: &Schema, answers: &[Answer], o
 }
 
 /// The reader of a script over this schema.
-fn reader_for(alloc: Global, schema: &Schema) -> R<ScriptReader>
-    ensures reads { IfOk result (λ reader. next_schema reader ≡ schema.now) }
-    ensures which { RefusedMemoryOnly result }
-{
-    a_schema_is_its_elements();
-    a_list_means_one_schema();
-    // For the proof: this is a schema.
-    let _ = schema.leaves();
+fn reader_for(alloc: Global, schema: &Schema) -> R<ScriptReader> {
     match Schema::new(alloc, schema.elements()) {
         Ok(own) => Ok(ScriptReader::new(own)),
         // They are the elements of a schema, so that no other refusal can come.
@@ -69,10 +53,7 @@ fn reader_for(alloc: Global, schema: &Schema) -> R<ScriptReader>
 /// that the lines before it add.
 ///
 /// Refused as `call_from` refuses the first line that is no call.
-pub fn calls_of(alloc: Global, schema: &Schema, text: &str) -> R<Vec<Call>>
-    ensures stands { IfOk result (λ calls. (last : Fields) × AreCallTexts schema.now (lines text.now) (calls_view calls.items) last) }
-    ensures which { IfErr result (AreRefusedCalls schema.now (lines text.now)) }
-{
+pub fn calls_of(alloc: Global, schema: &Schema, text: &str) -> R<Vec<Call>> {
     let mut reader = reader_for(alloc, schema)?;
     let mut calls = Vec::new(alloc);
     for line in text.lines() {

@@ -1,3 +1,0 @@
-mod Told
-mod Called
-mod Answered
