@@ -5,17 +5,23 @@ use Rattle.vault.proofs.Chained.{refused}
 use Rattle.commands.specs.Making.{RewritesFrom, none_named, not_begun, begun}
 use Rattle.commands.proofs.changing.rewrite_groups.Goals as goal
 
-pub returns-then-is_empty-clause-rewrites : goal.returns-then-is_empty-clause-rewrites
-returns-then-is_empty-clause-rewrites g c honest s stands =
-    none_named (nil_from_length c.args.numbers.now (eqb-true (length c.args.numbers.now) 0 (sym c.is_empty.ensures ∙ c.if-is_empty.true))) refl refl
+pub returns-then-is_empty : goal.returns-then-is_empty
+returns-then-is_empty g c = record {
+  rewrites = λ honest s stands.
+      none_named (nil_from_length c.args.numbers.now (eqb-true (length c.args.numbers.now) 0 (sym c.is_empty.ensures ∙ c.if-is_empty.true))) refl refl;
+}
 
-pub returns-in_err-job-clause-rewrites : goal.returns-in_err-job-clause-rewrites
-returns-in_err-job-clause-rewrites g c honest s stands =
-    let e = c.in_err-job.field-0.0 in
-    refused (λ r. RewritesFrom g.D.Disk.state c.args.store.now c.begin_rewrite.new.self c.args.numbers.now r s) c.from_residual.result e c.from_residual.ensures.1
-    (not_begun e refl (c.in_err-job.ensures.acts honest s stands))
+pub returns-in_err-job : goal.returns-in_err-job
+returns-in_err-job g c = record {
+  rewrites = λ honest s stands.
+      let e = c.in_err-job.field-0.0 in
+      refused (λ r. RewritesFrom g.D.Disk.state c.args.store.now c.begin_rewrite.new.self c.args.numbers.now r s) c.from_residual.result e c.from_residual.ensures.1
+      (not_begun e refl (c.in_err-job.ensures.acts honest s stands));
+}
 
-pub returns-clause-rewrites : goal.returns-clause-rewrites
-returns-clause-rewrites g c honest s stands =
-    let first = c.in_ok-job.ensures.acts honest s stands in
-    begun c.begin_rewrite.new.self c.in_ok-job.job first (c.commit.ensures.acts (c.in_ok-job.ensures.honest.0 honest) first.after first.stands)
+pub returns : goal.returns
+returns g c = record {
+  rewrites = λ honest s stands.
+      let first = c.in_ok-job.ensures.acts honest s stands in
+      begun c.begin_rewrite.new.self c.in_ok-job.job first (c.commit.ensures.acts (c.in_ok-job.ensures.honest.0 honest) first.after first.stands);
+}
