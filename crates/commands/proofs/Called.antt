@@ -16,10 +16,10 @@ use Rattle.commands.proofs.Told.{split_there}
 
 one_more : (fs mid last : Fields) (texts : List (List ℕ)) (calls : List Call) (text : List ℕ) (call : Call) → AreCallTexts fs texts calls mid → IsCallText mid text call → IsAfter call mid last
     → AreCallTexts fs (texts ++ text ∷ []) (calls ++ call ∷ []) last
-one_more fs mid last [] [] text call so_far is after = (subst (λ (t : Fields). IsCallText t text call) (sym so_far) is, last, subst (λ (t : Fields). IsAfter call t last) (sym so_far) after, refl)
+one_more fs mid last [] [] text call so_far is after = (subst (λ (t : Fields). IsCallText t text call) (sym so_far) is, (last, subst (λ (t : Fields). IsAfter call t last) (sym so_far) after, refl))
 one_more fs mid last [] (c ∷ calls) text call so_far is after = absurd so_far
 one_more fs mid last (t ∷ texts) [] text call so_far is after = absurd so_far
-one_more fs mid last (t ∷ texts) (c ∷ calls) text call so_far is after = (so_far.0, so_far.1.0, so_far.1.1.0, one_more so_far.1.0 mid last texts calls text call so_far.1.1.1 is after)
+one_more fs mid last (t ∷ texts) (c ∷ calls) text call so_far is after = (so_far.0, (so_far.1.0, so_far.1.1, one_more so_far.1.0 mid last texts calls text call so_far.1.2 is after))
 
 -- the calls so far, and that of one more line
 pub called_one_more : (fs mid last : Fields) (texts : List (Bor (List ℕ))) (calls : List CodeCall) (text : Bor (List ℕ)) (call : CodeCall) → IsCallText mid text.now (call_view call) → IsAfter (call_view call) mid last

@@ -48,10 +48,10 @@ fn without_root(schema: &Schema) -> &[Element]
 
 /// Removes the rows that satisfy the filter of a text. Refused as `filter_from` refuses the text, and then as
 /// `Store::remove`.
-pub fn remove_rows<D: Disk>(alloc: Global, store: &mut Store<D>, text: &str) -> R<u64>
-    ensures makes { Makes D.state store.old store.new (AsksRemove text.now) (λ fs. IsRefusedFilter (leaves_of fs) text.now) result }
+pub fn remove_rows<D: Disk>(alloc: Global, store: &mut Store<D>, filter: &str) -> R<u64>
+    ensures makes { Makes D.state store.old store.new (AsksRemove filter.now) (λ fs. IsRefusedFilter (leaves_of fs) filter.now) result }
 {
-    let terms = filter_from(alloc, store.schema(), text)?;
+    let terms = filter_from(alloc, store.schema(), filter)?;
     store.remove(alloc, terms.as_slice())
 }
 

@@ -1,9 +1,12 @@
-use Rattle.std.proofs.Common.{refl, subst}
+use Rattle.std.proofs.Common.{ℕ, List, refl, subst}
 use Rattle.std.specs.Str.Lines.{lines}
 use Rattle.vault.proofs.Chained.{refused}
 use Rattle.schema.specs.Shape.{Fields}
 use Rattle.schema.specs.Views.{rows_view}
-use Rattle.table.specs.Calls.{append}
+use Rattle.schema.specs.declared.row.Row.{Row}
+use Rattle.table.specs.Calls.{append, done}
+use Rattle.table.specs.Views.{answered}
+use Rattle.store.specs.Promises.{ActsFrom}
 use Rattle.commands.specs.Lines.{AreRowTexts, AreRefusedRows}
 use Rattle.commands.specs.Making.{MakesFrom, made, not_made, AsksAppend}
 use Rattle.commands.proofs.changing.append.Goals as goal
@@ -23,5 +26,6 @@ returns g c = record {
   makes = λ honest s stands.
       let is = c.schema.ensures s stands in
       let rows = rows_view c.in_ok-rows.rows.items in
-      made (append rows) (rows, subst (λ (t : Fields). AreRowTexts t (lines c.args.text.now) rows) is c.in_ok-rows.ensures.stands, refl) (c.append.ensures.acts honest s stands);
+      made (append rows) (rows, subst (λ (t : Fields). AreRowTexts t (lines c.args.text.now) rows) is c.in_ok-rows.ensures.stands, refl)
+      (subst (λ (rs : List Row). ActsFrom g.D.Disk.state c.args.store.now c.append.new.self (append (rows_view rs)) (answered {T = ℕ} (λ x. done x) c.append.result) s) c.as_slice.ensures.value (c.append.ensures.acts honest s stands));
 }
