@@ -14,6 +14,6 @@ loop-answer-preserved g c =
     let contents = g.W.Write.contents in
     let answer = c.answer-item.result in
     let grown : take (l.answer-index + 1) all ≡ take l.answer-index all ++ answer ∷ [] =
-        take_more all l.answer-index answer c.loop-answer-test.true ∙ ap (λ (a : Answer). take l.answer-index all ++ a ∷ []) (sym c.answer-item.is) in
+    take_more all l.answer-index answer c.loop-answer-test.true ∙ ap (λ (a : Answer). take l.answer-index all ++ a ∷ []) (sym c.answer-item.is) in
     subst (λ (told : List Answer). ArePrinted c.args.schema.now told (contents c.args.out.now) (contents c.print_answer.new.out)) (sym grown)
     (printed_more c.args.schema.now (take l.answer-index all) answer (contents c.args.out.now) (contents l.out) (contents c.print_answer.new.out) l.invariant c.in_ok-print_answer.ensures.written)

@@ -45,7 +45,7 @@ returns g c = record {
       let before = g.W.Write.contents c.args.out.now in
       let after = g.W.Write.contents c.print_answers.new.out in
       let runs : RunsFrom g.D.Disk.state old new calls (map answer_view answers) s =
-          subst (λ (xs : List Call). RunsFrom g.D.Disk.state old new (map call_view xs) (map answer_view answers) s) c.as_slice.ensures.value (c.in_ok-answers.ensures.headline honest s stands) in
+      subst (λ (xs : List Call). RunsFrom g.D.Disk.state old new (map call_view xs) (map answer_view answers) s) c.as_slice.ensures.value (c.in_ok-answers.ensures.headline honest s stands) in
       let of_slice = subst (λ (xs : List Answer). OnOk c.print_answers.result (ArePrinted c.schema-2.result.now xs before after)) c.as_slice-2.ensures.value c.print_answers.ensures.printed in
       let printed = subst (λ (t : Fields). OnOk c.print_answers.result (ArePrinted t answers before after)) (c.schema-2.ensures runs.after runs.stands) of_slice in
       ran calls told.0 answers (rw (← is) told.1) runs printed;
