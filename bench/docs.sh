@@ -7,7 +7,8 @@
 # A command is a line of a block marked sh, a text in backquotes that is a call of ./pqds, rt or a script, or an example
 # in a help text. What the commands of a block print, one after another, is the block marked text, the text in backquotes
 # after "prints", or, in a help text, the lines after "prints". The help texts of docs/USAGE.md are compared with the program's. What commands made is removed
-# at the next heading. Commands that take the whole gate, or most of it, are named and left out.
+# at the next heading, but for the tutorial's, which go on from one heading to the next. Commands that take the whole gate, or
+# most of it, are named and left out.
 top=$(CDPATH='' cd -- "$(dirname -- "$0")/.." && pwd) || exit 1
 room=$(mktemp -d) || exit 1
 trap 'rm -rf "$room"' EXIT
@@ -142,7 +143,8 @@ def check(document):
         place = f"{document}:{number}"
         if mark is None and text.startswith("#"):
             heading = text
-            remove_made(there)
+            if os.path.basename(document) != "TUTORIAL.md":
+                remove_made(there)
         if mark is None:
             for command, shown in CALL.findall(text):
                 if command not in done | {"rt", "./pqds"}:
