@@ -8,7 +8,7 @@
 # in a help text. What the commands of a block print, one after another, is the block marked text, the text in backquotes
 # after "prints", or, in a help text, the lines after "prints". The help texts of docs/USAGE.md are compared with the program's. What commands made is removed
 # at the next heading, but for the tutorial's, which go on from one heading to the next. Commands that take the whole gate, or
-# most of it, are named and left out.
+# many minutes, are named and left out.
 top=$(CDPATH='' cd -- "$(dirname -- "$0")/.." && pwd) || exit 1
 room=$(mktemp -d) || exit 1
 trap 'rm -rf "$room"' EXIT
@@ -21,7 +21,8 @@ import glob, os, re, shutil, subprocess, sys
 top, copy, words = sys.argv[1], sys.argv[2], sys.argv[3:]
 only_program = "--program" in words
 named = [it for it in words if it != "--program"]
-LONG = {"rt ci", ".ci/run", "bench/gate.sh", "bench/edits.sh", "bench/docs.sh"}
+LONG = {"rt ci", ".ci/run", "bench/gate.sh", "bench/edits.sh", "bench/docs.sh", "bench/crash.sh", "bench/crash.sh --syncs",
+        "bench/allocations.sh", "bench/stops.sh", "bench/locks.sh", "bench/prebuilt.sh", "bench/peers.sh ROOM", "./pqds --prove"}
 CALL = re.compile(r"`((?:\./pqds|rt|bench/\w+\.sh|\.ci/run|\(cd crates/\w+ && rt)(?: [^`]*|\w[^`]*)?)`(?: prints `([^`]*)`)?")
 HELP = re.compile(r"## `pqds ?([\w-]*)`$")
 failed = 0
@@ -57,7 +58,7 @@ def called(command):
 def run(place, command, before="", shown=None):
     """Runs a command as typed, and returns what it printed, after what was printed before; where the document shows what is
     printed, that is it."""
-    is_program = command.startswith(("./pqds", "rt version"))
+    is_program = command.startswith(("./pqds", "rt version", "find ", "bench/killed_at.sh "))
     if command in LONG or command.startswith("rt all ") or only_program and not is_program:
         print(f"left    {place}: {command}", flush=True)
         return before

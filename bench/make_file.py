@@ -297,4 +297,5 @@ def main(what, path, lines=None):
             file.writelines(row + "\n" for row in rows)
 
 
-main(*sys.argv[1:])
+if __name__ == "__main__":
+    main(*sys.argv[1:])

@@ -4,8 +4,8 @@
 Files that pyarrow and DuckDB write without compression are decoded by PQDS, and the lines are compared with the rows
 that pyarrow reads of the same files; files that PQDS encodes are read by pyarrow and DuckDB, and compared with the
 lines. With FOLDER (such as the data of parquet-testing), each file below it is decoded: PQDS must print what pyarrow
-reads, or refuse it. It needs Python with pyarrow, and DuckDB as `duckdb`, where that is there. Prints a line for each
-difference, and counts; status 1 where there is a difference."""
+reads, or refuse it with a cause that pyarrow sees too. It needs Python with pyarrow, and DuckDB as `duckdb`, where that
+is there. Prints a line for each difference, and counts; status 1 where there is a difference. bench/peers.py uses it."""
 import datetime, decimal, glob, json, os, random, shutil, subprocess, sys, tempfile
 
 import pyarrow as pa
@@ -35,6 +35,8 @@ def names_below(paths, depth):
 def leaf(scalar, column):
     """A value of a leaf as JSON: numbers, booleans, text, and else hexadecimal digits."""
     kind, physical = scalar.type, column.physical_type
+    if isinstance(kind, pa.BaseExtensionType):
+        return leaf(scalar.value, column)
     if pa.types.is_boolean(kind) or pa.types.is_integer(kind):
         return scalar.as_py()
     if pa.types.is_date(kind):
@@ -42,13 +44,15 @@ def leaf(scalar, column):
     if pa.types.is_timestamp(kind) or pa.types.is_time(kind) or pa.types.is_duration(kind):
         return scalar.value
     if pa.types.is_decimal(kind):
-        whole = int(scalar.as_py().scaleb(kind.scale))
+        whole = int(scalar.as_py().scaleb(kind.scale, decimal.Context(prec=80)))
         if physical in ("INT32", "INT64"):
             return whole
         size = column.length if physical == "FIXED_LEN_BYTE_ARRAY" else max(1, (whole.bit_length() + 8) // 8)
         return whole.to_bytes(size, "big", signed=True).hex()
     if pa.types.is_string(kind) or pa.types.is_large_string(kind) or pa.types.is_string_view(kind):
         return scalar.as_py()
+    if column.logical_type.type == "ENUM":                # a text, which pyarrow gives as bytes
+        return scalar.as_py().decode()
     if pa.types.is_binary(kind) or pa.types.is_large_binary(kind) or pa.types.is_fixed_size_binary(kind) or pa.types.is_binary_view(kind):
         return scalar.as_py().hex()
     raise TypeError(str(kind))
@@ -62,8 +66,12 @@ def shown(scalar, paths, depth):
     if pa.types.is_list(kind) or pa.types.is_large_list(kind) or pa.types.is_fixed_size_list(kind):
         if len(paths[0][0]) == depth:                     # a REPEATED leaf
             return [shown(it, paths, depth) for it in scalar.values]
-        middle, below = paths[0][0][depth], names_below(paths, depth + 1)
-        if pa.types.is_struct(kind.value_type) and [f.name for f in kind.value_type] == below:
+        middle = paths[0][0][depth]
+        below = names_below([p for p in paths if len(p[0]) > depth + 1], depth + 1)
+        members = [f.name for f in kind.value_type] if pa.types.is_struct(kind.value_type) else None
+        if members == names_below(paths, depth):          # a REPEATED group without an annotation
+            return [shown(it, paths, depth) for it in scalar.values]
+        if members == below or not below:                 # the repeated field is the element
             return {middle: [shown(it, paths, depth + 1) for it in scalar.values]}
         return {middle: [{below[0]: shown(it, paths, depth + 2)} for it in scalar.values]}
     if pa.types.is_map(kind):
@@ -103,23 +111,75 @@ def decoded(program, file):
     return [json.loads(line) for line in ran.stdout.decode().split("\n")[:-1]], ""
 
 
+def isolated(work, *given):
+    """What work returns, as JSON, or the text of its exception: in a process of its own, since readers end on some files."""
+    out, into = os.pipe()
+    child = os.fork()
+    if not child:
+        os.close(out)
+        try:
+            text = json.dumps({"it": work(*given)})
+        except BaseException as error:
+            text = json.dumps({"error": f"{type(error).__name__}: {error}".split("\n")[0]})
+        with os.fdopen(into, "w") as it:
+            it.write(text)
+        os._exit(0)
+    os.close(into)
+    with os.fdopen(out) as it:
+        text = it.read()
+    status = os.waitpid(child, 0)[1]
+    answer = json.loads(text) if text else {"error": f"ended by signal {status & 127}"}
+    return answer.get("it"), answer.get("error")
+
+
 def compare(program, file, what, may_refuse=False):
     """Whether PQDS prints of the file what pyarrow reads."""
-    try:
-        wanted = rows_of(file)
-    except Exception as error:
-        wanted = f"pyarrow: {type(error).__name__}: {error}"
+    wanted, error = isolated(rows_of, file)
+    if error:
+        wanted = f"pyarrow: {error}"
     rows, refusal = decoded(program, file)
     if rows is None:
         if not may_refuse:
             tell(f"{what}: {refusal}")
         return refusal
     if isinstance(wanted, str):
+        tell(f"{what}: printed {len(rows)} rows, {wanted[:120]}")
         return f"printed {len(rows)} rows, {wanted[:120]}"
     if rows != wanted:
         at = next((i for i, (a, b) in enumerate(zip(rows, wanted)) if a != b), min(len(rows), len(wanted)))
         tell(f"{what}: {len(rows)} rows for {len(wanted)}, row {at}: {json.dumps(rows[at:at + 1])[:200]} for {json.dumps(wanted[at:at + 1])[:200]}")
     return "same"
+
+
+READ = {"PLAIN", "PLAIN_DICTIONARY", "RLE_DICTIONARY", "RLE", "DELTA_BINARY_PACKED", "DELTA_LENGTH_BYTE_ARRAY", "DELTA_BYTE_ARRAY", "BYTE_STREAM_SPLIT"}
+
+
+def chunks_of(meta):
+    return [meta.row_group(group).column(place) for group in range(meta.num_row_groups) for place in range(meta.num_columns)]
+
+
+def cause(file, refusal):
+    """Where pyarrow sees the cause of a refusal too, what it sees; else nothing."""
+    number, named = int(refusal.split()[1]), refusal.split(" ", 3)[3:]
+    with open(file, "rb") as it:
+        if number == 2 and it.read(4) == b"PARE":
+            return "an encrypted footer"
+    found, error = isolated(profile, file, number, named) if number in (5, 6, 7, 8) else isolated(rows_of, file)
+    return f"pyarrow cannot read it: {error}" if error else found if number in (5, 6, 7, 8) else None
+
+
+def profile(file, number, named):
+    """What pyarrow's metadata shows of a file that is refused 5 to 8."""
+    meta = pq.read_metadata(file)
+    if number in (5, 8):
+        chunks = chunks_of(meta)
+        compressed, unknown = any(it.compression != "UNCOMPRESSED" for it in chunks), any(set(it.encodings) - READ for it in chunks)
+        return "a compressed column" if number == 5 and compressed else "an encoding that is not read" if number == 8 and unknown else None
+    leaf = next(meta.schema.column(i) for i in range(len(meta.schema)) if meta.schema.column(i).path == named[0])
+    if number == 7:
+        return "an INT96 column" if leaf.physical_type == "INT96" else None
+    is_float = leaf.physical_type in ("FLOAT", "DOUBLE") or leaf.logical_type.type == "FLOAT16"
+    return "a column of floating-point numbers" if is_float else None
 
 
 # ---- tables ----
@@ -181,6 +241,7 @@ def table_of(count, names=None, nullable=True):
     return pa.table(arrays, schema=pa.schema(fields))
 
 
+SPLIT = {name: "BYTE_STREAM_SPLIT" for name in ("i8", "i32", "i64", "u32", "u64", "day", "at_us", "dec9", "dec30", "fix")}
 DELTA = {"i32": "DELTA_BINARY_PACKED", "i64": "DELTA_BINARY_PACKED", "u32": "DELTA_BINARY_PACKED", "text": "DELTA_BYTE_ARRAY", "bin": "DELTA_LENGTH_BYTE_ARRAY", "fix": "DELTA_BYTE_ARRAY", "bool": "RLE"}
 
 OPTIONS = [
@@ -190,40 +251,37 @@ OPTIONS = [
     {"data_page_version": "2.0", "data_page_size": 200, "write_batch_size": 8, "row_group_size": 333, "dictionary_pagesize_limit": 100},
     {"use_dictionary": False, "column_encoding": DELTA, "names": list(DELTA)},
     {"use_dictionary": False, "column_encoding": DELTA, "names": list(DELTA), "data_page_version": "2.0", "data_page_size": 300, "write_batch_size": 10},
-    {"write_statistics": False}, {"use_byte_stream_split": ["i32"], "use_dictionary": False, "names": ["i32"], "refused": True},
+    {"use_dictionary": False, "column_encoding": SPLIT, "names": list(SPLIT)},
+    {"use_dictionary": False, "column_encoding": SPLIT, "names": list(SPLIT), "store_decimal_as_integer": True},
+    {"use_dictionary": False, "column_encoding": SPLIT, "names": list(SPLIT), "data_page_version": "2.0", "data_page_size": 300, "write_batch_size": 10},
+    {"write_statistics": False}, {"use_byte_stream_split": ["i32"], "use_dictionary": False, "names": ["i32"]},
 ]
 
 
 def read_theirs(program, room):
-    """Files of pyarrow."""
+    """Files of pyarrow; returns how many were compared."""
     count = 0
-    for number, options in enumerate(OPTIONS):
+    for given in OPTIONS:
+        options = {name: value for name, value in given.items() if name != "names"}
         for nullable in (True, False):
             for rows in (0, 1, 1000):
-                options = dict(options)
-                names, refused = options.pop("names", None), options.pop("refused", False)
-                table, file = table_of(rows, names, nullable), f"{room}/theirs.parquet"
+                table, file = table_of(rows, given.get("names"), nullable), f"{room}/theirs.parquet"
                 try:
                     pq.write_table(table, file, compression="NONE", **options)
                 except (TypeError, ValueError, pa.ArrowException) as error:
                     print(f"not written by this pyarrow: {options}: {error}")
-                    options["names"] = names
                     break
-                said = compare(program, file, f"pyarrow {options} nullable {nullable} rows {rows}", refused)
+                compare(program, file, f"pyarrow {options} nullable {nullable} rows {rows}")
                 count += 1
-                if refused and rows and "Encoding" not in said:
-                    tell(f"pyarrow {options}: {said}, and a refusal is wanted")
-                if names:
-                    options["names"] = names
-                if refused:
-                    options["refused"] = refused
     print(f"files of pyarrow {pa.__version__}: {count} compared")
+    return count
 
 
 def read_duckdb(program, room):
     """Files of DuckDB."""
     if not shutil.which("duckdb"):
-        return print("no duckdb")
+        print("no duckdb")
+        return 0
     select = ("SELECT i::INTEGER AS i, (i * 7919 % 1009)::BIGINT AS big, i % 3 = 0 AS flag, CASE WHEN i % 4 = 0 THEN NULL ELSE 'text ' || (i % 13) END AS t, "
               "(i % 250)::UTINYINT AS u8, (i * 65537)::UINTEGER AS u32, DATE '2020-01-01' + (i % 900)::INTEGER AS d, TIMESTAMP '2020-01-01' + to_seconds(i) AS ts, "
               "[i, NULL, i + 1]::INTEGER[] AS xs, {{'a': i::INTEGER, 'b': 's' || i}} AS pair, MAP {{'k' || (i % 3): i::INTEGER}} AS m, "
@@ -240,6 +298,7 @@ def read_duckdb(program, room):
             compare(program, file, f"DuckDB{options} rows {rows}")
             count += 1
     print(f"files of DuckDB: {count} compared")
+    return count
 
 
 # ---- ours ----
@@ -252,6 +311,9 @@ SCHEMA = [
     {"name": "xs", "rep": "optional", "note": "list", "fields": [{"name": "list", "rep": "repeated", "fields": [{"name": "element", "rep": "optional", "type": "int64"}]}]},
     {"name": "g", "rep": "optional", "fields": [{"name": "a", "rep": "required", "type": "int32"}, {"name": "s", "rep": "optional", "type": "bytes", "note": "utf8"}]},
 ]
+
+
+STYLES = ("plain", "dictionary", "delta", "lengths", "split")
 
 
 def our_row(i, rng):
@@ -270,7 +332,7 @@ def give_ours(program, room):
             json.dump(SCHEMA, it)
         with open(f"{room}/rows.jsonl", "w") as it:
             it.writelines(json.dumps(row, ensure_ascii=False) + "\n" for row in wanted)
-        for style in ("plain", "dictionary", "delta", "lengths"):
+        for style in STYLES:
             for version in ("1", "2"):
                 for sizes in ([], ["--group-rows", "300", "--page-rows", "70"]):
                     file = f"{room}/ours.parquet"
@@ -286,8 +348,10 @@ def give_ours(program, room):
                         tell(f"{what}: pyarrow reads other rows")
                     check_statistics(file, wanted, what)
                     if shutil.which("duckdb"):
-                        check_by_duckdb(file, wanted, what)
+                        # DuckDB does not read bytes of a fixed length in this encoding.
+                        check_by_duckdb(file, wanted, what, "n" if style == "split" else "f")
     print(f"files of ours: {count} read by pyarrow" + (" and DuckDB" if shutil.which("duckdb") else ""))
+    return count
 
 
 def check_statistics(file, wanted, what):
@@ -309,9 +373,9 @@ def check_statistics(file, wanted, what):
                 tell(f"{what}: nulls of {name}: {found.null_count}")
 
 
-def check_by_duckdb(file, wanted, what):
-    """What DuckDB counts and sums in the file."""
-    text = f"SELECT count(*), sum(n), count(l), sum(l)::VARCHAR, count(t), min(t), sum(octet_length(raw)), count(f), sum(len(xs)), count(g) FROM read_parquet('{file}')"
+def check_by_duckdb(file, wanted, what, fixed):
+    """What DuckDB counts and sums in the file; fixed is a column that it counts."""
+    text = f"SELECT count(*), sum(n), count(l), sum(l)::VARCHAR, count(t), min(t), sum(octet_length(raw)), count({fixed}), sum(len(xs)), count(g) FROM read_parquet('{file}')"
     ran = subprocess.run(["duckdb", "-json", "-c", text], capture_output=True)
     if ran.returncode:
         return tell(f"{what}: DuckDB: {ran.stderr.decode()[:300]}")
@@ -320,21 +384,29 @@ def check_by_duckdb(file, wanted, what):
     texts = there("t")
     total = lambda values: sum(values) if values else None
     numbers = [len(wanted), total(there("n")), len(there("l")), str(sum(there("l"))) if there("l") else None, len(texts),
-               min(texts, key=lambda v: v.encode()) if texts else None, total([len(row["raw"]) // 2 for row in wanted]), len(there("f")),
+               min(texts, key=lambda v: v.encode()) if texts else None, total([len(row["raw"]) // 2 for row in wanted]), len(there(fixed)),
                total([len(v["list"]) for v in there("xs")]), len(there("g"))]
     if [str(v) for v in seen] != [str(v) for v in numbers]:
         tell(f"{what}: DuckDB finds {seen} for {numbers}")
 
 
 def read_folder(program, folder):
-    """Each file below a folder."""
+    """Each file below a folder: PQDS prints what pyarrow reads, or refuses it for a cause that pyarrow sees; what lies in a
+    folder bad_data is refused. Returns how many were tried, equal and refused."""
     said = {}
-    for file in sorted(glob.glob(f"{folder}/**/*.parquet", recursive=True)):
-        found = compare(program, file, os.path.relpath(file, folder), True)
-        print(f"    {os.path.relpath(file, folder)}: {found[:150]}")
+    for file in sorted(glob.glob(f"{folder}/**/*.parquet", recursive=True) + glob.glob(f"{folder}/**/*.parquet.encrypted", recursive=True)):
+        name = os.path.relpath(file, folder)
+        found = compare(program, file, name, True)
+        why = cause(file, found) if found.startswith("refused") else ""
+        print(f"    {name}: {found[:150]}" + (f" ({why[:120]})" if why else ""), flush=True)
+        if why is None:
+            tell(f"{name}: {found}, and pyarrow reads it")
+        if "bad_data" in name and found == "same":
+            tell(f"{name}: read, and it is bad")
         found = " ".join(found.split(" ")[:3]) if found.startswith("refused") else found.split(" ")[0]
         said[found] = said.get(found, 0) + 1
     print(f"files below {folder}: " + ", ".join(f"{n} {what}" for what, n in sorted(said.items())))
+    return sum(said.values()), said.get("same", 0), sum(n for what, n in said.items() if what.startswith("refused"))
 
 
 def main():
@@ -351,4 +423,5 @@ def main():
     sys.exit(1 if differences else 0)
 
 
-main()
+if __name__ == "__main__":
+    main()

@@ -7,6 +7,8 @@ It knows the encodings, and nothing of the product. With `--stdin` it prints wha
 import os
 import sys
 
+from compact import uleb, zigzag
+
 TOP = os.path.join(os.path.dirname(os.path.abspath(__file__)), "..", "crates", "value_cases")
 
 
@@ -55,19 +57,6 @@ def hexed(text):
     if plain:
         pieces.append(plain)
     return ".".join(pieces) or "-"
-
-
-def uleb(number):
-    out = bytearray()
-    while number >= 128:
-        out.append(number % 128 + 128)
-        number //= 128
-    out.append(number)
-    return bytes(out)
-
-
-def zigzag(number):
-    return 2 * number if number >= 0 else -2 * number - 1
 
 
 def wrapped(number, bits):

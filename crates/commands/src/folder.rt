@@ -6,7 +6,7 @@ use footer::WriteOptions;
 use schema::Schema;
 use std::alloc::Global;
 use std::fs::{self, File, OpenFile};
-use std::io::{self, ErrorKind, Read};
+use std::io::{self, ErrorKind, Input, Read};
 use std::rt::Files;
 use store::Store;
 
@@ -18,16 +18,38 @@ pub fn refusal_of(error: io::Error) -> Refusal {
     }
 }
 
-/// The bytes of a file of the host, all of them. Refused Device where it cannot be read.
-pub fn bytes_of<F: Files>(rt: &F, alloc: Global, path: &str) -> R<Vec<u8>> {
-    let mut file = File::open(rt, path).map_err(refusal_of)?;
+/// Whether a path of a file is the standard input.
+fn is_input(path: &str) -> bool {
+    path == "-" || path == "/dev/stdin"
+}
+
+/// The bytes of a file of the host, all of them; `-` is the standard input. Refused Device where it cannot be read.
+pub fn bytes_of<F: Files + Input>(rt: &F, alloc: Global, path: &str) -> R<Vec<u8>> {
+    if is_input(path) {
+        all_of(alloc, &mut rt.reader())
+    } else {
+        let mut file = File::open(rt, path).map_err(refusal_of)?;
+        all_of(alloc, &mut file)
+    }
+}
+
+/// All that a reader gives. Refused Device where it cannot be read.
+fn all_of<T: Read>(alloc: Global, reader: &mut T) -> R<Vec<u8>> {
     let mut bytes = Vec::new(alloc);
-    file.read_to_end(&mut bytes).map_err(refusal_of)?;
+    reader.read_to_end(&mut bytes).map_err(refusal_of)?;
     Ok(bytes)
 }
 
+/// Whether a folder is there.
+pub fn is_folder<F: Files>(rt: &F, path: &str) -> bool {
+    match fs::metadata(rt, path) {
+        Ok(metadata) => metadata.is_dir(),
+        Err(_) => false,
+    }
+}
+
 /// The disk of a folder.
-fn disk_of<F: Files + Clone + Drop>(rt: &F, alloc: Global, folder: &str) -> R<HostDisk<F>> {
+pub fn disk_of<F: Files + Clone + Drop>(rt: &F, alloc: Global, folder: &str) -> R<HostDisk<F>> {
     let files = rt.clone()?;
     match HostDisk::new(alloc, files, folder) {
         Ok(disk) => Ok(disk),
@@ -49,30 +71,8 @@ pub fn open<F: Files + Clone + Drop>(
     }
 }
 
-/// Makes a table in a folder, and the folder where nothing is there; a folder that was made is taken away again where the
-/// table is refused. Refused Device where the folder cannot be made, and as `store::create`.
+/// Makes a table in a folder that is there. Refused as `store::create`.
 pub fn create<F: Files + Clone + Drop>(
-    rt: &F,
-    alloc: Global,
-    folder: &str,
-    schema: Schema,
-    keys: &[String],
-    options: WriteOptions,
-) -> R<()> {
-    let is_new = fs::metadata(rt, folder).is_err();
-    if is_new {
-        make_folder(rt, folder).map_err(refusal_of)?;
-    }
-    let made = create_in(rt, alloc, folder, schema, keys, options);
-    if is_new && made.is_err() {
-        // It stays where something is in it.
-        let _ = fs::remove_dir(rt, folder);
-    }
-    made
-}
-
-/// Makes a table in a folder that is there.
-fn create_in<F: Files + Clone + Drop>(
     rt: &F,
     alloc: Global,
     folder: &str,
@@ -87,19 +87,30 @@ fn create_in<F: Files + Clone + Drop>(
     }
 }
 
-/// Makes a folder, and makes its name durable.
-fn make_folder<F: Files>(rt: &F, folder: &str) -> io::Result<()> {
-    fs::create_dir(rt, folder)?;
-    sync_above(rt, folder)
+/// Makes a folder where nothing is, and makes its name durable, also where it is there. Whether it was made. Refused Device
+/// where it cannot be made or the folder above it not be synced; then none is made.
+pub fn make_folder<F: Files>(rt: &F, alloc: Global, folder: &str) -> R<bool> {
+    let is_new = make_new(rt, folder).map_err(refusal_of)?;
+    let synced = sync_above(rt, alloc, folder);
+    if is_new && synced.is_err() {
+        let _ = fs::remove_dir(rt, folder);
+    }
+    synced?;
+    Ok(is_new)
 }
 
-/// Syncs the folder in which this one is.
-fn sync_above<F: Files>(rt: &F, folder: &str) -> io::Result<()> {
-    let path = folder.trim_end_matches('/');
-    let above = match path.rsplit_once('/') {
-        Some(("", _)) => "/",
-        Some((above, _)) => above,
-        None => ".",
-    };
-    File::open(rt, above)?.sync_all()
+/// Makes a folder, unless something has its name. Whether it was made.
+fn make_new<F: Files>(rt: &F, folder: &str) -> io::Result<bool> {
+    match fs::create_dir(rt, folder) {
+        Ok(()) => Ok(true),
+        Err(error) if error.kind() == ErrorKind::AlreadyExists => Ok(false),
+        Err(error) => Err(error),
+    }
+}
+
+/// Syncs the folder in which this one is. Refused Device where that fails.
+fn sync_above<F: Files>(rt: &F, alloc: Global, folder: &str) -> R<()> {
+    let above = format!(in alloc; "{folder}/..")?;
+    let above = File::open(rt, above.as_str()).map_err(refusal_of)?;
+    above.sync_all().map_err(refusal_of)
 }

@@ -5,15 +5,27 @@
 #![tactic(auto)]
 
 mod changing;
+mod column_text;
+mod explaining;
+mod filter_reason;
 mod folder;
+mod import_reason;
+mod key_reason;
+mod lock;
+mod looking;
 mod making;
+mod part_reason;
 mod printing;
 mod querying;
+mod reason;
 mod row_lines;
 mod running;
+mod texts;
 
 pub use changing::{add_column, append, remove_rows, rewrite_groups, rewrite_small};
+pub use lock::{Access, Lock};
+pub use looking::{print_check, print_rows_fit, print_survey};
 pub use making::Folders;
 pub use printing::print_done;
-pub use querying::{print_count, print_groups, print_rows};
+pub use querying::{print_count, print_groups, print_rows, print_schema, print_schema_of};
 pub use running::run_script;

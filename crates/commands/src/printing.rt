@@ -2,13 +2,14 @@
 
 ghost use Rattle.std.specs.Prelude.{◌≡◌, ◌∷◌, [], ◌++◌, Ok, codes, decimal, OnOk};
 ghost use Rattle.std.specs.Io.KnownBytes.{Appends};
-ghost use Rattle.serde_json.specs.Data.{Data};
+ghost use Rattle.serde_json.specs.Data.{Data, Items, array};
 ghost use Rattle.serde_json.specs.Written.{compact_text};
 ghost use Rattle.jsonrows.specs.Answers.{answer_json};
+ghost use Rattle.jsonrows.specs.SchemaPrinted.{PrintsFields};
 
 use crate::folder::refusal_of;
 use bits::{R, Refusal};
-use jsonrows::{RowPlan, RowText, answer_to};
+use jsonrows::{RowPlan, RowText, answer_to, schema_to};
 use schema::{Leaf, Schema, Value};
 use serde::Serialize;
 use serde_json::{Number, Value as Json};
@@ -20,7 +21,8 @@ use table::{Answer, Batch, GroupInfo};
 /// How many bytes of lines are gathered before they are written.
 const GATHERED_BYTES: usize = 65_536;
 
-fn write_text<W: Write>(text: &[u8], out: &mut W) -> R<()>
+/// Writes all of a text. Refused Device where it cannot be written.
+pub fn write_text<W: Write>(text: &[u8], out: &mut W) -> R<()>
     ensures written { OnOk result (Appends (W.contents out.old) (W.contents out.new) text.now) }
 {
     out.write_all(text).map_err(refusal_of)
@@ -52,11 +54,14 @@ pub fn print_answer<W: Write>(alloc: Global, schema: &Schema, answer: &Answer, o
     write_text(text.as_bytes(), out)
 }
 
-/// Says which line of a file was not accepted, where it was one. Where that cannot be written nothing is left to be said.
-pub fn print_fault<E: Write>(line: Option<u64>, err: &mut E) {
-    if let Some(line) = line {
-        let _ = writeln!(err, "line {line} is not accepted, and nothing was done");
-    }
+/// Prints a schema, a line of JSON that [`schema_from`](jsonrows::schema_from) reads as it. Refused Device where it cannot be
+/// written.
+pub fn print_columns<W: Write>(alloc: Global, schema: &Schema, out: &mut W) -> R<()>
+    ensures written { OnOk result ((ds : Items) × PrintsFields schema.now ds × Appends (W.contents out.old) (W.contents out.new) (compact_text (array ds) ++ 10 ∷ [])) }
+{
+    let mut text = schema_to(alloc, schema)?;
+    text.push('\n')?;
+    write_text(text.as_bytes(), out)
 }
 
 /// Whether the leaf is of a column at one of these places.
@@ -68,7 +73,7 @@ fn is_at(leaf: &Leaf, places: &[usize]) -> bool {
 }
 
 /// The leaves of the columns at these places of a schema.
-fn leaves_at(alloc: Global, schema: &Schema, places: &[usize]) -> R<Vec<usize>> {
+pub fn leaves_at(alloc: Global, schema: &Schema, places: &[usize]) -> R<Vec<usize>> {
     let mut leaves = Vec::new(alloc);
     for (index, leaf) in schema.leaves().iter().enumerate() {
         if is_at(leaf, places) {

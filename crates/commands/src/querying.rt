@@ -1,17 +1,23 @@
 //! Commands that read a dataset.
 
-ghost use Rattle.std.specs.Prelude.{IfOk, IfErr, option_map};
+ghost use Rattle.std.specs.Prelude.{◌∷◌, [], ◌++◌, IfOk, IfErr, OnOk, option_map};
+ghost use Rattle.std.specs.Io.KnownBytes.{Appends};
+ghost use Rattle.serde_json.specs.Data.{Items, array};
+ghost use Rattle.serde_json.specs.Written.{compact_text};
 ghost use Rattle.schema.specs.Stripe.{leaves_of};
 ghost use Rattle.filter.specs.Terms.{terms_view};
 ghost use Rattle.table.specs.State.{State};
+ghost use Rattle.jsonrows.specs.SchemaPrinted.{PrintsFields};
 ghost use Rattle.store.specs.Stands.{Stands};
 ghost use Rattle.commands.specs.Making.{IsAskedFilter, IsRefusedFilterOf};
 
-use crate::printing::{print_batch, print_group, print_number};
+use crate::printing::{print_batch, print_columns, print_group, print_number};
 use bits::R;
 use disk::Disk;
 use filter::Term;
+use footer::read_footer;
 use jsonrows::filter_from;
+use schema::Schema;
 use std::alloc::Global;
 use std::io::Write;
 use store::Store;
@@ -110,4 +116,21 @@ pub fn print_groups<D: Disk, W: Write>(alloc: Global, store: &mut Store<D>, out:
         print_group(alloc, group, out)?;
     }
     Ok(())
+}
+
+/// Prints the columns of a table, its key columns among them: a line of JSON, of which `create` makes such a table. Refused
+/// Device where the output cannot be written.
+pub fn print_schema<D: Disk, W: Write>(alloc: Global, store: &Store<D>, out: &mut W) -> R<()>
+    ensures printed { (s : State) → Stands D.state store.now s
+        → OnOk result ((ds : Items) × PrintsFields s.table.schema ds × Appends (W.contents out.old) (W.contents out.new) (compact_text (array ds) ++ 10 ∷ [])) }
+{
+    print_columns(alloc, store.schema(), out)
+}
+
+/// Prints the columns of a Parquet file in the same way. Refused as `read_footer` and `Schema::new` refuse the file, and
+/// Device where the output cannot be written.
+pub fn print_schema_of<W: Write>(alloc: Global, bytes: &[u8], out: &mut W) -> R<()> {
+    let record = read_footer(alloc, bytes)?;
+    let schema = Schema::new(alloc, record.schema.as_slice())?;
+    print_columns(alloc, &schema, out)
 }

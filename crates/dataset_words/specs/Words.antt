@@ -1,16 +1,19 @@
 -- The words that the commands on a dataset begin with.
 use Rattle.std.specs.Prelude.{ℕ, List, codes}
 use Rattle.dataset_words.specs.declared.call.Task.{Task}
-use Rattle.dataset_words.specs.declared.call.Task.TheVariants.{Create, Ask, Change as ToChange, Run}
+use Rattle.dataset_words.specs.declared.call.Task.TheVariants.{Create, Ask, Change as ToChange, Look as LookAt, Run}
 use Rattle.dataset_words.specs.declared.call.Question.{Question}
-use Rattle.dataset_words.specs.declared.call.Question.TheVariants.{Query, Count, Groups}
+use Rattle.dataset_words.specs.declared.call.Question.TheVariants.{Query, Count, Groups, Schema}
 use Rattle.dataset_words.specs.declared.call.Change.{Change}
 use Rattle.dataset_words.specs.declared.call.Change.TheVariants.{Append, Import, AddColumn, Remove, RemoveGroups, Rewrite, RewriteSmall}
+use Rattle.dataset_words.specs.declared.call.Look.{Look}
+use Rattle.dataset_words.specs.declared.call.Look.TheVariants.{Survey, Files, Rows}
 
 abbrev pub question_word : Question → List ℕ
 question_word (Query filter columns) = codes "query"
 question_word (Count filter) = codes "count"
 question_word Groups = codes "groups"
+question_word Schema = codes "schema"
 
 abbrev pub change_word : Change → List ℕ
 change_word (Append rows) = codes "append"
@@ -21,8 +24,14 @@ change_word (RemoveGroups numbers) = codes "remove"
 change_word (Rewrite numbers) = codes "rewrite"
 change_word (RewriteSmall min_rows) = codes "rewrite"
 
+abbrev pub look_word : Look → List ℕ
+look_word (Survey min_rows) = codes "inspect"
+look_word Files = codes "check"
+look_word (Rows rows) = codes "check"
+
 abbrev pub task_word : Task → List ℕ
 task_word (Create schema keys) = codes "create"
 task_word (Ask question) = question_word question
 task_word (ToChange change) = change_word change
+task_word (LookAt look) = look_word look
 task_word (Run script) = codes "run"

@@ -5,7 +5,10 @@ use footer::WriteOptions;
 /// A call on the dataset in a folder.
 #[derive(Drop)]
 pub struct Call<'a> {
+    /// The folder; of the question for a schema it may be a Parquet file.
     pub folder: &'a str,
+    /// Whether to wait while another command uses the folder. Else the call is refused then.
+    pub waits: bool,
     /// How part files are written.
     pub options: WriteOptions,
     pub task: Task<'a>,
@@ -20,6 +23,8 @@ pub enum Task<'a> {
     Ask(Question<'a>),
     /// Change a dataset, in one commit.
     Change(Change<'a>),
+    /// Look at a dataset, which is not opened.
+    Look(Look<'a>),
     /// Make the calls of a file, one of each line, and print their answers.
     Run { script: &'a str },
 }
@@ -38,6 +43,8 @@ pub enum Question<'a> {
     },
     /// What the groups are.
     Groups,
+    /// What the columns are.
+    Schema,
 }
 
 /// What is to be made of a dataset.
@@ -57,4 +64,15 @@ pub enum Change<'a> {
     Rewrite { numbers: Vec<u64> },
     /// The same of groups that have fewer rows than this, where neighbours of one key do.
     RewriteSmall { min_rows: u64 },
+}
+
+/// What is to be said of the folder of a dataset.
+#[derive(Drop)]
+pub enum Look<'a> {
+    /// What the dataset has, at a glance. Groups of fewer rows are small.
+    Survey { min_rows: u64 },
+    /// Whether the files are as the dataset says.
+    Files,
+    /// Whether the rows of a file, a line each, are rows of the dataset.
+    Rows { rows: &'a str },
 }

@@ -20,6 +20,20 @@ fn folder_named<'a>(alloc: Global) -> Arg<'a> {
     named(alloc, "DIR", "The folder of the dataset")
 }
 
+/// The flag by which a command on a dataset does not wait for another one.
+pub fn no_wait_flag<'a>(alloc: Global) -> Arg<'a> {
+    Arg::new(alloc, "no-wait")
+        .long("no-wait")
+        .action(ArgAction::SetTrue)
+        .help("Is refused 25 where another command is using DIR, in place of waiting")
+}
+
+/// A command on the dataset in a folder, which is its first word.
+fn on_dataset<'a>(alloc: Global, word: &'a str) -> Result<Command<'a>, AllocError> {
+    let command = Command::new(alloc, word).arg(folder_named(alloc))?;
+    command.arg(no_wait_flag(alloc))
+}
+
 /// Any number of words.
 fn words_named<'a>(alloc: Global, name: &'a str, help: &'a str) -> Arg<'a> {
     Arg::new(alloc, name)
@@ -49,12 +63,15 @@ fn filter_option<'a>(alloc: Global, help: &'a str) -> Arg<'a> {
 }
 
 fn create_command<'a>(alloc: Global) -> Result<Command<'a>, Error> {
-    let create = Command::new(alloc, "create")
+    let create = on_dataset(alloc, "create")?
         .about(help::CREATE)
         .long_about(help::CREATE_LONG)
         .after_help(help::CREATE_EXAMPLE)
-        .arg(folder_named(alloc))?
-        .arg(named(alloc, "SCHEMA", "The file with the columns, as JSON"))?
+        .arg(named(
+            alloc,
+            "SCHEMA",
+            "The file with the columns, as JSON; - is standard input",
+        ))?
         .arg(words_named(
             alloc,
             "KEY",
@@ -64,31 +81,28 @@ fn create_command<'a>(alloc: Global) -> Result<Command<'a>, Error> {
 }
 
 fn append_command<'a>(alloc: Global) -> Result<Command<'a>, Error> {
-    let append = Command::new(alloc, "append")
+    let append = on_dataset(alloc, "append")?
         .about(help::APPEND)
         .long_about(help::APPEND_LONG)
         .after_help(help::APPEND_EXAMPLE)
-        .arg(folder_named(alloc))?
         .arg(named(alloc, "ROWS", ROWS_HELP))?;
     with_options(alloc, append)
 }
 
 fn import_command<'a>(alloc: Global) -> Result<Command<'a>, Error> {
-    let import = Command::new(alloc, "import")
+    let import = on_dataset(alloc, "import")?
         .about(help::IMPORT)
         .long_about(help::IMPORT_LONG)
         .after_help(help::IMPORT_EXAMPLE)
-        .arg(folder_named(alloc))?
         .arg(named(alloc, "FILE", "The Parquet file with the rows"))?;
     with_options(alloc, import)
 }
 
 fn query_command<'a>(alloc: Global) -> Result<Command<'a>, Error> {
-    let query = Command::new(alloc, "query")
+    let query = on_dataset(alloc, "query")?
         .about(help::QUERY)
         .long_about(help::QUERY_LONG)
         .after_help(help::QUERY_EXAMPLE)
-        .arg(folder_named(alloc))?
         .arg(filter_option(alloc, "Prints only the rows that satisfy this filter"))?
         .arg(words_named(
             alloc,
@@ -99,64 +113,77 @@ fn query_command<'a>(alloc: Global) -> Result<Command<'a>, Error> {
 }
 
 fn count_command<'a>(alloc: Global) -> Result<Command<'a>, Error> {
-    let count = Command::new(alloc, "count")
+    let count = on_dataset(alloc, "count")?
         .about(help::COUNT)
         .long_about(help::COUNT_LONG)
         .after_help(help::COUNT_EXAMPLE)
-        .arg(folder_named(alloc))?
         .arg(filter_option(alloc, "Counts only the rows that satisfy this filter"))?;
     Ok(count)
 }
 
 fn groups_command<'a>(alloc: Global) -> Result<Command<'a>, Error> {
-    let groups = Command::new(alloc, "groups")
+    let groups = on_dataset(alloc, "groups")?
         .about(help::GROUPS)
         .long_about(help::GROUPS_LONG)
-        .after_help(help::GROUPS_EXAMPLE)
-        .arg(folder_named(alloc))?;
+        .after_help(help::GROUPS_EXAMPLE);
     Ok(groups)
 }
 
+fn schema_command<'a>(alloc: Global) -> Result<Command<'a>, Error> {
+    let schema = Command::new(alloc, "schema")
+        .about(help::SCHEMA)
+        .long_about(help::SCHEMA_LONG)
+        .after_help(help::SCHEMA_EXAMPLE)
+        .arg(named(
+            alloc,
+            "PATH",
+            "The folder of the dataset, or a Parquet file",
+        ))?
+        .arg(no_wait_flag(alloc))?;
+    Ok(schema)
+}
+
 fn remove_command<'a>(alloc: Global) -> Result<Command<'a>, Error> {
-    let remove = Command::new(alloc, "remove")
+    let remove = on_dataset(alloc, "remove")?
         .about(help::REMOVE)
         .long_about(help::REMOVE_LONG)
         .override_usage(help::REMOVE_USAGE)
         .after_help(help::REMOVE_EXAMPLE)
-        .arg(folder_named(alloc))?
         .arg(filter_option(alloc, "Removes the rows that satisfy this filter"))?
         .arg(numbers_named(alloc, "The numbers of the groups to remove"))?
         .group(either(alloc, "filter", "NUMBER")?)?;
     with_options(alloc, remove)
 }
 
-fn min_rows_option<'a>(alloc: Global) -> Arg<'a> {
+/// The number of rows below which a group is small.
+pub fn min_rows_option<'a>(alloc: Global, help: &'a str) -> Arg<'a> {
     Arg::new(alloc, "min-rows")
         .long("min-rows")
         .value_name("N")
         .value_parser(value_parser!(u64))
-        .help("Rewrites groups of fewer rows that stand next to each other")
+        .help(help)
 }
 
 fn rewrite_command<'a>(alloc: Global) -> Result<Command<'a>, Error> {
-    let rewrite = Command::new(alloc, "rewrite")
+    let rewrite = on_dataset(alloc, "rewrite")?
         .about(help::REWRITE)
         .long_about(help::REWRITE_LONG)
         .override_usage(help::REWRITE_USAGE)
         .after_help(help::REWRITE_EXAMPLE)
-        .arg(folder_named(alloc))?
-        .arg(min_rows_option(alloc))?
+        .arg(min_rows_option(
+            alloc,
+            "Rewrites groups of fewer rows that stand next to each other",
+        ))?
         .arg(numbers_named(alloc, "The numbers of the groups to rewrite"))?
         .group(either(alloc, "min-rows", "NUMBER")?)?;
     with_options(alloc, rewrite)
 }
 
 fn run_command<'a>(alloc: Global) -> Result<Command<'a>, Error> {
-    let run = Command::new(alloc, "run")
+    let run = on_dataset(alloc, "run")?
         .about(help::RUN)
         .long_about(help::RUN_LONG)
         .after_help(help::RUN_EXAMPLE)
-        .arg(folder_named(alloc))?
         .arg(named(
             alloc,
             "SCRIPT",
@@ -166,12 +193,15 @@ fn run_command<'a>(alloc: Global) -> Result<Command<'a>, Error> {
 }
 
 fn add_column_command<'a>(alloc: Global) -> Result<Command<'a>, Error> {
-    let add = Command::new(alloc, "add-column")
+    let add = on_dataset(alloc, "add-column")?
         .about(help::ADD_COLUMN)
         .long_about(help::ADD_COLUMN_LONG)
         .after_help(help::ADD_COLUMN_EXAMPLE)
-        .arg(folder_named(alloc))?
-        .arg(named(alloc, "SCHEMA", "The file with the one column, as JSON"))?;
+        .arg(named(
+            alloc,
+            "SCHEMA",
+            "The file with the one column, as JSON; - is standard input",
+        ))?;
     Ok(add)
 }
 
@@ -184,6 +214,7 @@ pub fn with_commands<'a>(alloc: Global, program: Command<'a>) -> Result<Command<
         .subcommand(query_command(alloc)?)?
         .subcommand(count_command(alloc)?)?
         .subcommand(groups_command(alloc)?)?
+        .subcommand(schema_command(alloc)?)?
         .subcommand(remove_command(alloc)?)?
         .subcommand(rewrite_command(alloc)?)?
         .subcommand(add_column_command(alloc)?)?

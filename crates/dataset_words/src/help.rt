@@ -8,10 +8,13 @@ Makes a dataset without rows in DIR, which is made where nothing is there.
 SCHEMA is a file with a JSON array of the columns, as for encode. A KEY is the name of a column by whose values the rows are
 put into folders `KEY=value`: a required column of type boolean, int32, int64, or bytes noted as utf8. Each part of the dataset
 is a Parquet file without the key columns, and one file `_metadata` says which parts are the dataset: the layout of partitioned
-datasets of other tools. No other tool has been tried on a whole dataset yet.
+datasets of other tools. pyarrow, DuckDB, Dask and fastparquet were seen to read such folders.
+
+DIR is made once SCHEMA and the KEYs are accepted, and the folder above it is synced. That folder must be there.
 
 Refused 24 Exists where DIR has a dataset already, which stays as it is; 17 Key for a KEY that is no such column, comes
-twice, or for all columns as keys; 4, 6 and 29 for the schema; 25 Device where DIR cannot be made.";
+twice, or for all columns as keys; 4, 6 and 29 for the schema; 25 Device where DIR cannot be made, or is a file. The line
+before 17 says which KEY and why.";
 
 pub const CREATE_EXAMPLE: &str = "\
 Example, at the top of the repository:
@@ -27,7 +30,12 @@ All of them come in or none, and once `done` is printed they stay. That this hol
 keeps the rules of docs/DISK.md; whether yours does is not known to the program.
 
 Refused 14 or 29 for the first line that is no row, after a line that has its number; 17 Key for a row whose key has no folder
-(an empty text, or a longer name than 255 bytes); 23 NoTable where DIR has no dataset.";
+(an empty text, or a longer name than 255 bytes), after a line that says which; 23 NoTable where DIR has no dataset.
+
+Refused 26 InDoubt where the disk failed at the moment of the commit: the rows are all there, or none is. So it is after a kill.
+`pqds count DIR`, compared with the count before, shows which. Where some filter holds for the new rows alone, a line that
+appends only if there are none can be run again, as by cron; the second example has one. Two such lines must not run side by
+side: each would count before the other appends.";
 
 pub const APPEND_EXAMPLE: &str = "\
 Example, at the top of the repository:
@@ -37,14 +45,30 @@ Example, at the top of the repository:
 
 prints
 
-    done 3";
+    done 3
+
+Example of a line that can be run again, here run twice:
+
+    ./pqds create again sample/orders_table.schema.json
+    n=$(./pqds count again --filter '[[\"order\",\"==\",4]]') && { [ $n != 0 ] || ./pqds append again sample/later_orders.jsonl; }
+    n=$(./pqds count again --filter '[[\"order\",\"==\",4]]') && { [ $n != 0 ] || ./pqds append again sample/later_orders.jsonl; }
+
+prints
+
+    done 1
+
+Rows come from a pipe by `-`, as in `zcat rows.jsonl.gz | ./pqds append again -`.";
 
 pub const IMPORT: &str = "Appends the rows of a Parquet file to a dataset";
 
 pub const IMPORT_LONG: &str = "\
 Appends the rows of a Parquet file, and prints `done N`, N the number of rows. The columns of the file are those of the
-dataset, with the key columns among them, in their order: name, repetition, type, length and annotation; else 4 Schema. The
-file is read as decode reads it, and refused as it refuses it; what the file says of itself besides its rows is not used.";
+dataset, with the key columns among them, in their order: name, repetition, type, length and annotation; else 4 Schema, after
+a line that shows the first column that differs, in the file and in the dataset. `pqds schema` prints all columns of both. The
+file is read as decode reads it, and refused as it refuses it; what the file says of itself besides its rows is not used.
+
+Refused 5 Codec for a compressed file: write it with compression=\"none\". Refused 6 Float or 7 Int96 for a column of such a
+type: cast it to integers, decimals or texts (6), or to timestamps of microseconds (7). 17, 23 and 26 are as of append.";
 
 pub const IMPORT_EXAMPLE: &str = "\
 Example, at the top of the repository:
@@ -67,7 +91,10 @@ AND hold. One AND may stand alone, as an array of triples; the empty filter [] h
 <, <=, >, >=, in, not in. A column is a name, or an array of the names on its path. A null satisfies no triple. A group of which
 the statistics show that no row satisfies is not read, nor are columns that are neither printed nor in the filter.
 
-Refused 14, 15, 16 or 29 for the filter, 15 NoColumn for a COLUMN that is not there.";
+A reader that closes the output early, as head does, ends the call with `refused 25 Device`.
+
+Refused 14, 15, 16 or 29 for the filter, after a line that says for which of its triples and why; 15 NoColumn for a COLUMN that
+is not there; 1 to 13 for a damaged part file, after a line that has its path. The rows before it are printed then.";
 
 pub const QUERY_EXAMPLE: &str = "\
 Example, at the top of the repository:
@@ -85,7 +112,7 @@ pub const COUNT: &str = "Prints how many rows a dataset has";
 
 pub const COUNT_LONG: &str = "\
 Prints how many rows a dataset has, or how many satisfy a filter (query says what a filter is). Without a filter no part
-file is read, with one only the columns in it.";
+file is read, with one only the columns in it. Refused as query.";
 
 pub const COUNT_EXAMPLE: &str = "\
 Example, at the top of the repository:
@@ -117,6 +144,28 @@ prints
     done 2
     {\"bytes\":33,\"key\":[],\"number\":0,\"rows\":2}";
 
+pub const SCHEMA: &str = "Prints the columns of a dataset or of a Parquet file";
+
+pub const SCHEMA_LONG: &str = "\
+Prints the columns of the dataset in the folder PATH, with its key columns among them, in their order; or those of the Parquet
+file PATH. It is a line of JSON, as create and encode take it: create makes a dataset of it into which the file can be
+imported, or a second one with the columns of the first. No part file is read.
+
+Of a file only the footer is read, and refused 1 to 4, 6, 7 or 13 as decode refuses it.";
+
+pub const SCHEMA_EXAMPLE: &str = "\
+Example, at the top of the repository:
+
+    ./pqds schema sample/two_rows.parquet >numbers.schema.json
+    ./pqds create numbers numbers.schema.json
+    ./pqds import numbers sample/two_rows.parquet
+    ./pqds schema numbers
+
+prints
+
+    done 2
+    [{\"name\":\"x\",\"rep\":\"required\",\"type\":\"int64\"}]";
+
 pub const REMOVE: &str = "Removes rows from a dataset";
 
 pub const REMOVE_LONG: &str = "\
@@ -124,8 +173,8 @@ Removes the rows that satisfy a filter (query says what a filter is; [] holds fo
 (groups prints them), and prints `done N`, N the number of rows. All of them go or none, as append says it. A group of which
 some rows go is written anew under a new number; one of which none goes stays as it is.
 
-Refused 14, 15, 16 or 29 for the filter, 18 NoGroup for a number that no group has. With both a filter and numbers, or neither,
-it is a wrong call.";
+Refused 14, 15, 16 or 29 for the filter, as query says it; 18 NoGroup for a number that no group has; 26 InDoubt as append: all
+of them are gone, or none. With both a filter and numbers, or neither, it is a wrong call.";
 
 pub const REMOVE_USAGE: &str = "\
 pqds remove [OPTIONS] <DIR> <NUMBER>...
@@ -152,7 +201,8 @@ these groups (groups prints the numbers); with --min-rows N with those that have
 the same key that has fewer too. Where there are none, nothing is written: `done 0`. All of it is done or nothing, as append
 says it.
 
-Refused 18 NoGroup for a number that no group has. With both, or neither, it is a wrong call.";
+Refused 18 NoGroup for a number that no group has; 26 InDoubt as append: `pqds groups DIR` shows whether it is done. With both,
+or neither, it is a wrong call.";
 
 pub const REWRITE_USAGE: &str = "\
 pqds rewrite [OPTIONS] <DIR> <NUMBER>...
@@ -177,7 +227,7 @@ pub const ADD_COLUMN: &str = "Adds a column to a dataset";
 pub const ADD_COLUMN_LONG: &str = "\
 Puts a column at the end of the schema, and prints `done 0`. SCHEMA is a file with a JSON array of one column, which is
 optional. Rows that are there are null in it; their files stay as they are. Refused 4 Schema for a column that is not
-optional, or whose name is there.";
+optional, or whose name is there; 26 InDoubt as append: `pqds schema DIR` shows whether it is there.";
 
 pub const ADD_COLUMN_EXAMPLE: &str = "\
 Example, at the top of the repository:

@@ -1,9 +1,9 @@
 //! What is asked for by the words of the commands on a dataset.
 
 ghost use Rattle.std.specs.Prelude.{◌≡◌, IfSome, IfOk, codes};
-ghost use Rattle.dataset_words.specs.Words.{task_word, question_word, change_word};
+ghost use Rattle.dataset_words.specs.Words.{task_word, question_word, change_word, look_word};
 
-use crate::call::{Call, Change, Question, Task};
+use crate::call::{Call, Change, Look, Question, Task};
 use crate::options::options_in;
 use bits::{R, Refusal};
 use clap::ArgMatches;
@@ -94,6 +94,7 @@ fn question_of<'a>(alloc: Global, word: &str, matches: &ArgMatches<'a>) -> R<Opt
         },
         "count" => Question::Count { filter },
         "groups" => Question::Groups,
+        "schema" => Question::Schema,
         _ => return Ok(None),
     };
     Ok(Some(question))
@@ -133,6 +134,11 @@ fn task_of<'a>(alloc: Global, word: &str, matches: &ArgMatches<'a>) -> R<Option<
     task_of_file(alloc, word, matches)
 }
 
+/// The folder that a command is on; of `schema` it may be a file.
+fn folder_in<'a>(matches: &ArgMatches<'a>) -> Option<&'a str> {
+    matches.get_str("DIR").or(matches.get_str("PATH"))
+}
+
 /// The commands whose words say how files are written.
 fn has_options(word: &str) -> bool {
     matches!(
@@ -149,9 +155,10 @@ pub fn call_in<'a>(alloc: Global, word: &str, matches: &ArgMatches<'a>) -> R<Opt
         return Ok(None);
     };
     let task = task_of(alloc, word, matches)?;
-    match (matches.get_str("DIR"), task) {
+    match (folder_in(matches), task) {
         (Some(folder), Some(task)) => Ok(Some(Call {
             folder,
+            waits: !matches.get_flag("no-wait"),
             options: options_for(word, matches),
             task,
         })),
@@ -165,5 +172,25 @@ fn options_for(word: &str, matches: &ArgMatches<'_>) -> WriteOptions {
         options_in(matches)
     } else {
         WriteOptions::standard()
+    }
+}
+
+/// Of fewer rows a group is small, where the words do not say it: half of those that a group has at most.
+const SMALL_ROWS: u64 = 65_536;
+
+/// Of fewer rows a group is small, by the words.
+pub fn min_rows_in(matches: &ArgMatches<'_>) -> u64 {
+    matches.get_one::<u64>("min-rows").unwrap_or(SMALL_ROWS)
+}
+
+/// The call that looks so at the folder of a dataset.
+pub fn look_call<'a>(folder: &'a str, matches: &ArgMatches<'_>, look: Look<'a>) -> Call<'a>
+    ensures { task_word result.task ≡ look_word look.entry }
+{
+    Call {
+        folder,
+        waits: !matches.get_flag("no-wait"),
+        options: WriteOptions::standard(),
+        task: Task::Look(look),
     }
 }

@@ -1,7 +1,9 @@
 //! A file system on which a write, a read or a sync fails in the midst.
 
-use crate::real_folders::own_folder;
-use disk::{Disk, Fault, HostDisk};
+use crate::folders::{has_range, own_folder};
+use crate::rows::{Row, check_calls};
+use disk::Fault::Failed;
+use disk::{Disk, HostDisk};
 use std::alloc::Allocator;
 use std::fs::{self, File, Files, Metadata, OpenFile, OpenOptions};
 use std::io::{self, ErrorKind, Read, Seek, SeekFrom, Write};
@@ -121,6 +123,21 @@ impl OpenFile for FaultyFile {
     }
 }
 
+/// A file for which there is room, up to a last append of which a part has.
+const APPENDS: &[Row] = &[
+    ("create", "part", "", None),
+    ("append", "part", "hello,", None),
+    ("append", "part", " world", None),
+    ("append", "part", " and more", Some(Failed)),
+];
+
+/// A read of more than comes, and syncs.
+const FAILURES: &[Row] = &[
+    ("read", "part", "", Some(Failed)),
+    ("sync", "part", "", Some(Failed)),
+    ("sync-folder", "", "", Some(Failed)),
+];
+
 #[test]
 fn a_full_disk_and_a_failed_sync_are_counted_once_each(rt: HostRuntime) -> Result<(), Fail> {
     let alloc = rt.alloc();
@@ -130,24 +147,15 @@ fn a_full_disk_and_a_failed_sync_are_counted_once_each(rt: HostRuntime) -> Resul
         room: 6,
     };
     let mut disk = HostDisk::new(alloc, files, folder.as_str())?;
-    disk.create("part")?;
-    assert!(rt; disk.append("part", b"hello,").is_ok());
-    assert!(rt; disk.append("part", b" world").is_ok());
-    assert_eq!(rt; disk.failures(), 0);
+    check_calls(&rt, alloc, &mut disk, APPENDS);
     // The bytes for which there was room are in the file.
-    assert!(rt; matches!(disk.append("part", b" and more"), Err(Fault::Failed)));
-    assert_eq!(rt; disk.failures(), 1);
-    assert!(rt; matches!(disk.length("part"), Ok(18)));
-    assert_eq!(rt;
-        disk.read_range(alloc, "part", 6, 6)?.as_slice(),
-        b" world".as_slice()
+    assert!(rt;
+        disk.failures() == 1
+            && disk.length("part") == Ok(18)
+            && has_range(&mut disk, alloc, "part", (6, 6, " world"))
     );
-    assert!(rt; matches!(disk.read_range(alloc, "part", 0, 18), Err(Fault::Failed)));
-    assert_eq!(rt; disk.failures(), 2);
-    assert!(rt; matches!(disk.sync("part"), Err(Fault::Failed)));
-    assert!(rt; matches!(disk.sync_folder(""), Err(Fault::Failed)));
-    assert_eq!(rt; disk.failures(), 4);
-    assert_eq!(rt; disk.reads(), 2);
+    check_calls(&rt, alloc, &mut disk, FAILURES);
+    assert!(rt; disk.failures() == 4 && disk.reads() == 2);
     fs::remove_dir_all(&rt, folder.as_str())?;
     Ok(())
 }

@@ -1,36 +1,23 @@
-//! Tests of the disk's crates: a real folder, a disk in memory stopped at each moment, and the vault over both.
+//! Tests of the disk's crates that no line of text can say: a real folder, a file system that fails, a disk that keeps
+//! nothing, and callers that know a disk by its trait alone. The disk in memory, what stops leave of it, and the vault
+//! over it are cases of `disk_cases`.
 //!
-//! They hold what no contract says: what a real folder does, that exactly the outcomes that a list of words picks are
-//! reached, and that each public call succeeds with ample memory. Each file has one subject.
+//! A test is a table of calls with what each must return, or one helper that returns whether all is as it should be.
 #![tactic(auto)]
 
-#[cfg(test)]
-mod empty_datasets;
 #[cfg(test)]
 mod fake;
 #[cfg(test)]
 mod faulty_hosts;
 #[cfg(test)]
-mod impossible_calls;
+mod folders;
 #[cfg(test)]
-mod many_names;
-#[cfg(test)]
-mod many_stops;
-#[cfg(test)]
-mod memory_disks;
+mod links;
 #[cfg(test)]
 mod real_folders;
 #[cfg(test)]
-mod runs;
-#[cfg(test)]
-mod small_commits;
-#[cfg(test)]
-mod stopped_disks;
-#[cfg(test)]
-mod stopped_vaults;
+mod rows;
 #[cfg(test)]
 mod vault_calls;
 #[cfg(test)]
 mod vault_on_a_folder;
-#[cfg(test)]
-mod vaults;

@@ -3,6 +3,7 @@
 use crate::fake::Fake;
 use bits::Refusal;
 use disk::Disk;
+use std::alloc::Global;
 use vault::Vault;
 
 const PUT: &str = "remove k=a/l=b/part.0.parquet
@@ -25,84 +26,92 @@ rename _metadata.new
 sync_folder 
 ";
 
-// The first n lines.
-fn first_lines(text: &str, n: u64) -> usize {
-    let mut left = n;
-    for (at, b) in text.as_bytes().iter().enumerate() {
-        if left == 0 {
-            return at;
-        }
-        if *b == b'\n' {
-            left -= 1;
+const READS: &str = "remove part.0.parquet
+read_range _metadata
+read_range part.1.parquet
+sync_folder 
+";
+
+/// The lines up to the one of this number; all of them where it is 0.
+fn first_lines(text: &str, number: u64) -> &str {
+    let mut left = number;
+    for (at, byte) in text.bytes().enumerate() {
+        if byte == b'\n' {
+            left = left.wrapping_sub(1);
+            if left == 0 {
+                return text.get(..at.saturating_add(1)).unwrap_or(text);
+            }
         }
     }
-    text.len()
+    text
+}
+
+/// Whether a put into two folders makes its calls up to the one that fails, or all where that is 0.
+fn is_put_up_to(alloc: Global, fails_at: u64) -> bool {
+    let mut vault = Vault::start(Fake::new(alloc, fails_at));
+    let answer = vault.put("k=a/l=b/part.0.parquet", &[1, 2, 3]);
+    let wanted = if fails_at == 0 {
+        Ok(())
+    } else {
+        Err(Refusal::Device)
+    };
+    answer == wanted
+        && vault.disk().log.as_str() == first_lines(PUT, fails_at)
+        && vault.disk().failures() == fails_at.min(1)
 }
 
 #[test]
 fn a_put_into_two_folders_syncs_all_of_them_and_ends_at_a_failure(rt: HostRuntime) {
     for fails_at in 0..10 {
-        let mut vault = Vault::start(Fake::new(rt.alloc(), fails_at));
-        let answer = vault.put("k=a/l=b/part.0.parquet", &[1, 2, 3]);
-        if fails_at == 0 {
-            assert!(rt; answer.is_ok());
-            assert_eq!(rt; vault.disk().log.as_str(), PUT);
-            assert_eq!(rt; vault.disk().failures(), 0);
-        } else {
-            assert!(rt; matches!(answer, Err(Refusal::Device)), "at {fails_at}");
-            assert_eq!(rt;
-                vault.disk().log.len(),
-                first_lines(PUT, fails_at),
-                "at {fails_at}"
-            );
-            assert_eq!(rt; vault.disk().failures(), 1);
-        }
+        assert!(rt; is_put_up_to(rt.alloc(), fails_at), "at {fails_at}");
     }
+}
+
+/// Whether a swap makes its calls up to the one that fails, and is in doubt from the sixth on, the rename.
+fn is_swap_up_to(alloc: Global, fails_at: u64) -> bool {
+    let mut vault = Vault::start(Fake::new(alloc, fails_at));
+    let answer = vault.swap_root(&[1, 2, 3]);
+    let wanted = match fails_at {
+        0 => Ok(()),
+        1..=5 => Err(Refusal::Device),
+        _ => Err(Refusal::InDoubt),
+    };
+    answer == wanted && vault.disk().log.as_str() == first_lines(SWAP, fails_at)
 }
 
 #[test]
 fn a_swap_is_in_doubt_from_the_rename_on(rt: HostRuntime) {
     for fails_at in 0..8 {
-        let mut vault = Vault::start(Fake::new(rt.alloc(), fails_at));
-        let answer = vault.swap_root(&[1, 2, 3]);
-        if fails_at == 0 {
-            assert!(rt; answer.is_ok());
-            assert_eq!(rt; vault.disk().log.as_str(), SWAP);
-        } else {
-            let want = if fails_at < 6 {
-                Refusal::Device
-            } else {
-                Refusal::InDoubt
-            };
-            assert!(rt; answer == Err(want), "at {fails_at}");
-            assert_eq!(rt;
-                vault.disk().log.len(),
-                first_lines(SWAP, fails_at),
-                "at {fails_at}"
-            );
-        }
+        assert!(rt; is_swap_up_to(rt.alloc(), fails_at), "at {fails_at}");
     }
+}
+
+/// How many bytes a range or a root has.
+fn length_of(bytes: Vec<u8>) -> usize {
+    bytes.len()
+}
+
+/// Whether the calls that read are made by one call of the disk each, of which the third fails.
+fn are_reads_one_each(alloc: Global) -> bool {
+    let mut vault = Vault::start(Fake::new(alloc, 3));
+    let is_adopted = vault.adopt("part.1.parquet").is_ok();
+    let is_gone = vault.forget("part.0.parquet").is_ok();
+    let root = vault.root(alloc).unwrap_or(None).map(length_of);
+    let part = vault
+        .get_range(alloc, "part.1.parquet", 0, 9)
+        .map(length_of);
+    let is_settled = vault.settle().is_ok();
+    is_adopted
+        && is_gone
+        && is_settled
+        && root == Some(1)
+        && part == Err(Refusal::Device)
+        && vault.disk().log.as_str() == READS
+        && vault.disk().failures() == 1
+        && vault.disk().reads() == 2
 }
 
 #[test]
 fn reads_take_one_read_range_and_a_name_that_is_gone_is_no_fault(rt: HostRuntime) {
-    let mut vault = Vault::start(Fake::new(rt.alloc(), 3));
-    assert!(rt; vault.adopt("part.1.parquet").is_ok());
-    assert!(rt; vault.forget("part.0.parquet").is_ok());
-    let root = vault.root(rt.alloc()).unwrap_or(None);
-    assert!(rt; matches!(root.map(|bytes| bytes.len()), Some(1)));
-    assert!(rt;
-        matches!(
-            vault
-                .get_range(rt.alloc(), "part.1.parquet", 0, 9)
-                .map(|bytes| bytes.len()),
-            Err(Refusal::Device)
-        )
-    );
-    assert!(rt; vault.settle().is_ok());
-    assert_eq!(rt;
-        vault.disk().log.as_str(),
-        "remove part.0.parquet\nread_range _metadata\nread_range part.1.parquet\nsync_folder \n"
-    );
-    assert_eq!(rt; vault.into_disk().reads(), 2);
+    assert!(rt; are_reads_one_each(rt.alloc()));
 }

@@ -1,37 +1,43 @@
-//! A vault over a real folder, below the host's folder for what is temporary.
+//! A vault over a real folder.
 
+use crate::folders::{host_disk, own_folder};
+use bits::R;
 use disk::HostDisk;
+use std::fs;
 use std::test::Fail;
-use std::time::SystemTime;
-use std::{env, fs};
 use vault::Vault;
 
-// The vault over this folder, as a program that starts finds it.
-fn opened(rt: &HostRuntime, folder: &str) -> Result<Vault<HostDisk<HostRuntime>>, Fail> {
-    Ok(Vault::start(HostDisk::new(rt.alloc(), rt.clone()?, folder)?))
-}
+type HostVault = Vault<HostDisk<HostRuntime>>;
 
-#[test]
-fn what_is_put_and_swapped_in_a_real_folder_is_found_again(rt: HostRuntime) -> Result<(), Fail> {
-    let since = SystemTime::now(&rt)?.duration_since(SystemTime::UNIX_EPOCH)?;
-    let name = format!(in rt.alloc(); "pqds_vault_{}_{}", since.as_secs(), since.subsec_nanos())?;
-    let folder = env::temp_dir(&rt)?.join(rt.alloc(), name.as_str())?;
-    fs::create_dir(&rt, folder.as_str())?;
-    let mut vault = opened(&rt, folder.as_str())?;
+/// Puts two files, swaps the root twice, and lets the second file go.
+fn fill(vault: &mut HostVault) -> R<()> {
     vault.put("k=a/l=b/part.0.parquet", b"rows")?;
     vault.put("part.1.parquet", b"more rows")?;
     vault.swap_root(b"first")?;
     vault.swap_root(b"second")?;
-    vault.forget("part.1.parquet")?;
-    let mut found = opened(&rt, folder.as_str())?;
-    let part = found.get_range(rt.alloc(), "k=a/l=b/part.0.parquet", 0, 9)?;
-    assert!(rt; part.as_slice() == b"rows".as_slice());
-    assert!(rt;
-        found
-            .root(rt.alloc())?
-            .is_some_and(|root| root.as_slice() == b"second".as_slice())
-    );
-    assert!(rt; found.get_range(rt.alloc(), "part.1.parquet", 0, 9).is_err());
+    vault.forget("part.1.parquet")
+}
+
+/// Whether the first file and the second root are found, and the second file is not.
+fn is_found(rt: &HostRuntime, vault: &mut HostVault) -> R<bool> {
+    let alloc = rt.alloc();
+    let part = vault.get_range(alloc, "k=a/l=b/part.0.parquet", 0, 9)?;
+    let root = vault.root(alloc)?;
+    Ok(
+        part.as_slice() == b"rows".as_slice()
+            && root.is_some_and(|root| root.as_slice() == b"second".as_slice())
+            && vault.get_range(alloc, "part.1.parquet", 0, 9).is_err(),
+    )
+}
+
+#[test]
+fn what_is_put_and_swapped_in_a_real_folder_is_found_again(rt: HostRuntime) -> Result<(), Fail> {
+    let folder = own_folder(&rt, "vault")?;
+    let mut vault = Vault::start(host_disk(&rt, folder.as_str())?);
+    fill(&mut vault)?;
+    // As a program that starts finds it.
+    let mut found = Vault::start(host_disk(&rt, folder.as_str())?);
+    assert!(rt; is_found(&rt, &mut found)?);
     fs::remove_dir_all(&rt, folder.as_str())?;
     Ok(())
 }

@@ -1,22 +1,7 @@
-//! Tests of whole files, read and written, over the public calls of `footer`.
+//! Tests of rows that sinks are shown, and of sources that make promises, over the public calls of `assemble` and `footer`.
 //!
-//! They hold what no contract says: bytes that were made elsewhere, printed texts, and that each public call succeeds
-//! with ample memory. Each file has one subject.
+//! They are what no line of `file_cases` can say, since the sinks and the sources are the tests' own.
 #![tactic(auto)]
 
 #[cfg(test)]
-mod faults;
-#[cfg(test)]
-mod files;
-#[cfg(test)]
-mod files_of_all_kinds;
-#[cfg(test)]
-mod files_of_other_tools;
-#[cfg(test)]
-mod nested_round_trips;
-#[cfg(test)]
 mod row_sinks;
-#[cfg(test)]
-mod written_files;
-#[cfg(test)]
-mod written_styles;

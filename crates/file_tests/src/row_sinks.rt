@@ -85,6 +85,17 @@ struct Text {
     bytes: Vec<u8>,
 }
 
+impl Text {
+    /// Ends the text of a row; a stop stands for no row.
+    fn end(&mut self, is_shown: bool) -> R<()> {
+        if !is_shown {
+            self.bytes.push(b'.')?;
+        }
+        self.bytes.push(b' ')?;
+        Ok(())
+    }
+}
+
 impl RowSink for Text {
     ghost shows = { λ _ _. Unit {0} };
 
@@ -119,67 +130,78 @@ impl RowSink for Text {
     }
 }
 
-const TEXTS: [&[u8]; 3] = [b"1([(7)(-)])", b"2([])", b"3-"];
+/// The texts of the three rows, each ended by a space, and of what comes after the last one.
+const SHOWN: &[u8] = b"1([(7)(-)]) 2([]) 3- . ";
 
-#[test]
-fn a_sink_is_shown_rows_in_order(rt: HostRuntime) -> Result<(), Fail> {
-    let alloc = rt.alloc();
+/// Whether the rows of columns are shown to a sink in their order, and nothing after the last one.
+fn are_shown(alloc: Global) -> R<bool> {
     let schema = lists(alloc)?;
     let columns = columns(alloc)?;
     let mut sources = cursors(alloc, columns.as_slice())?;
-    for expected in TEXTS {
-        let mut text = Text {
-            bytes: Vec::new(alloc),
-        };
-        assert!(rt; next_row_to(&schema, sources.as_mut_slice(), &mut text)?);
-        assert_eq!(rt; text.bytes.as_slice(), expected);
-    }
     let mut text = Text {
         bytes: Vec::new(alloc),
     };
-    assert!(rt; !next_row_to(&schema, sources.as_mut_slice(), &mut text)?);
-    assert!(rt; text.bytes.is_empty());
-    Ok(())
+    for _ in 0..4 {
+        let is_shown = next_row_to(&schema, sources.as_mut_slice(), &mut text)?;
+        text.end(is_shown)?;
+    }
+    Ok(text.bytes.as_slice() == SHOWN)
 }
 
 #[test]
-fn a_sink_is_shown_the_rows_of_a_file(rt: HostRuntime) -> Result<(), Fail> {
-    let alloc = rt.alloc();
+fn a_sink_is_shown_rows_in_order(rt: HostRuntime) -> Result<(), Fail> {
+    assert!(rt; are_shown(rt.alloc())?);
+    Ok(())
+}
+
+/// A file of the rows, two in a group.
+fn file(alloc: Global) -> R<Vec<u8>> {
     let schema = lists(alloc)?;
     let rows = assemble(alloc, &schema, columns(alloc)?.as_slice())?;
     let options = WriteOptions {
         group_rows: 2,
         ..WriteOptions::standard()
     };
-    let bytes = write_file(alloc, &schema, &options, rows.as_slice())?;
+    write_file(alloc, &schema, &options, rows.as_slice())
+}
+
+/// Whether the rows of a file are shown to a sink in their order, and nothing after the last one, also to other sinks.
+fn are_shown_of_a_file(alloc: Global) -> R<bool> {
+    let bytes = file(alloc)?;
     let file = FileReader::new(alloc, bytes.as_slice())?;
     let mut rows = file.rows(alloc);
-    for expected in TEXTS {
-        let mut text = Text {
-            bytes: Vec::new(alloc),
-        };
-        assert!(rt; rows.next_to(&mut text)?);
-        assert_eq!(rt; text.bytes.as_slice(), expected);
+    let mut text = Text {
+        bytes: Vec::new(alloc),
+    };
+    for _ in 0..4 {
+        let is_shown = rows.next_to(&mut text)?;
+        text.end(is_shown)?;
     }
-    assert!(rt; !rows.next_to(&mut Discard)?);
-    assert!(rt; rows.next()?.is_none());
+    let is_over = !rows.next_to(&mut Discard)? && rows.next()?.is_none();
+    Ok(is_over && text.bytes.as_slice() == SHOWN)
+}
+
+#[test]
+fn a_sink_is_shown_the_rows_of_a_file(rt: HostRuntime) -> Result<(), Fail> {
+    assert!(rt; are_shown_of_a_file(rt.alloc())?);
     Ok(())
+}
+
+/// Whether three rows are counted, and then none; and whether fewer columns are refused.
+fn are_counted(alloc: Global) -> R<bool> {
+    let schema = lists(alloc)?;
+    let columns = columns(alloc)?;
+    let mut sources = cursors(alloc, columns.as_slice())?;
+    let all = count_rows(&schema, sources.as_mut_slice())?;
+    let left = count_rows(&schema, sources.as_mut_slice())?;
+    let mut fewer = cursors(alloc, columns.as_slice().get(..1).unwrap_or(&[]))?;
+    let refused = count_rows(&schema, fewer.as_mut_slice());
+    Ok(all == 3 && left == 0 && matches!(refused, Err(Refusal::Levels)))
 }
 
 #[test]
 fn rows_are_counted_or_refused(rt: HostRuntime) -> Result<(), Fail> {
-    let alloc = rt.alloc();
-    let schema = lists(alloc)?;
-    let columns = columns(alloc)?;
-    let mut sources = cursors(alloc, columns.as_slice())?;
-    assert_eq!(rt; count_rows(&schema, sources.as_mut_slice())?, 3);
-    assert_eq!(rt; count_rows(&schema, sources.as_mut_slice())?, 0);
-    let mut fewer = Vec::new(alloc);
-    for column in columns.iter().take(1) {
-        fewer.push(Cursor::new(column.entries.as_slice()))?;
-    }
-    let refused = count_rows(&schema, fewer.as_mut_slice());
-    assert!(rt; matches!(refused, Err(Refusal::Levels)));
+    assert!(rt; are_counted(rt.alloc())?);
     Ok(())
 }
 
@@ -213,22 +235,33 @@ impl EntrySource for Sevens {
     fn one_list(&self) {}
 }
 
-#[test]
-fn a_source_may_promise_that_its_values_fit(rt: HostRuntime) -> Result<(), Fail> {
-    let alloc = rt.alloc();
+/// required int64 id
+fn one_number(alloc: Global) -> R<Schema> {
     let mut elements = Vec::new(alloc);
     elements.push(element(alloc, "root", REQUIRED, 1)?)?;
     elements.push(element(alloc, "id", REQUIRED, 0)?)?;
-    let schema = Schema::new(alloc, elements.as_slice())?;
+    Schema::new(alloc, elements.as_slice())
+}
+
+/// Whether the numbers of a source that promises that they fit are shown, to each of two sinks in turn.
+fn are_sevens(alloc: Global) -> R<bool> {
+    let schema = one_number(alloc)?;
     let mut sources = Vec::new(alloc);
     sources.push(Sevens)?;
     let mut text = Text {
         bytes: Vec::new(alloc),
     };
     for _ in 0..3 {
-        assert!(rt; next_row_to(&schema, sources.as_mut_slice(), &mut text)?);
-        assert!(rt; next_row_to(&schema, sources.as_mut_slice(), &mut Discard)?);
+        let is_shown = next_row_to(&schema, sources.as_mut_slice(), &mut text)?;
+        if !is_shown || !next_row_to(&schema, sources.as_mut_slice(), &mut Discard)? {
+            return Ok(false);
+        }
     }
-    assert_eq!(rt; text.bytes.as_slice(), b"777".as_slice());
+    Ok(text.bytes.as_slice() == b"777")
+}
+
+#[test]
+fn a_source_may_promise_that_its_values_fit(rt: HostRuntime) -> Result<(), Fail> {
+    assert!(rt; are_sevens(rt.alloc())?);
     Ok(())
 }

@@ -1,5 +1,5 @@
 -- Calls of the program, by the words that they begin with.
-use Rattle.std.specs.Prelude.{◌≡◌, ℕ, Bool, List, [], ◌∷◌, Option, Some, None, String, string_bytes, codes, bytes_eq, if◌then◌else◌}
+use Rattle.std.specs.Prelude.{◌≡◌, ◌⊎◌, ℕ, Bool, List, [], ◌∷◌, Option, Some, None, String, string_bytes, codes, bytes_eq, if◌then◌else◌}
 use Rattle.std.specs.List.{list_any}
 use Rattle.footer.specs.declared.options.WriteOptions.{WriteOptions}
 use Rattle.dataset_words.specs.declared.call.Task.{Task}
@@ -21,8 +21,8 @@ has_word text words = list_any (λ word. bytes_eq (string_bytes word) text) word
 abbrev pub word_of : Call → List ℕ
 word_of (Decode file) = codes "decode"
 word_of (Encode sources file) = codes "encode"
-word_of (Inspect file as_json) = codes "inspect"
-word_of (Check sources) = codes "check"
+word_of (Inspect file as_json table) = codes "inspect"
+word_of (Check sources table) = codes "check"
 word_of (Dataset call) = task_word call.task
 
 -- standard output got the lines of the rows of a file
@@ -33,12 +33,13 @@ Decodes old new = (bytes : List ℕ) × WritesRowsOf bytes old new
 abbrev pub Inspects : Option (List ℕ) → Option (List ℕ) → Type 0
 Inspects old new = (bytes : List ℕ) × WritesReportOf bytes old new
 
--- what a call that is done does to standard output: `encode` writes nothing to it, and by its options some texts have a file
+-- What a call that is done does to standard output: `encode` writes nothing to it, and by its options some texts have a file.
+-- What is printed of a dataset, also where `inspect` and `check` are given its folder, no clause says.
 abbrev pub Does : Call → Option (List ℕ) → Option (List ℕ) → Type 0
 Does (Decode file) old new = Decodes old new
 Does (Encode sources file) old new = (new ≡ old) × HaveFile sources.options
-Does (Inspect file as_json) old new = Inspects old new
-Does (Check sources) old new = WritesCount sources.options old new
+Does (Inspect file as_json table) old new = Inspects old new ⊎ Unit {0}
+Does (Check sources table) old new = WritesCount sources.options old new ⊎ Unit {0}
 Does (Dataset call) old new = Unit {0}
 
 -- the same, by the first word

@@ -1,4 +1,3 @@
 -- Definitions for private functions only.
 pub mod Gathered
 pub mod Lines
-pub mod Names

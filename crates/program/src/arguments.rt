@@ -8,7 +8,10 @@ use crate::help;
 use bits::{R, Refusal};
 use clap::error::ErrorKind;
 use clap::{Arg, ArgAction, ArgMatches, Command, Error};
-use dataset_words::{options_in, with_commands, with_options};
+use dataset_words::{
+    Look, look_call, min_rows_in, min_rows_option, no_wait_flag, options_in, with_commands,
+    with_options,
+};
 use footer::WriteOptions;
 use std::alloc::Global;
 
@@ -16,15 +19,29 @@ use std::alloc::Global;
 #[derive(Drop)]
 pub enum Call<'a> {
     /// Print the rows of a file.
-    Decode { file: &'a str },
+    Decode {
+        file: &'a str,
+    },
     /// Make a file.
-    Encode { sources: Sources<'a>, file: &'a str },
-    /// Say what a file is.
-    Inspect { file: &'a str, as_json: bool },
-    /// Say whether a file can be made.
-    Check { sources: Sources<'a> },
+    Encode {
+        sources: Sources<'a>,
+        file: &'a str,
+    },
+    /// Say what a file is; or, of a folder, look at the dataset in it.
+    Inspect {
+        file: &'a str,
+        as_json: bool,
+        table: dataset_words::Call<'a>,
+    },
+    /// Say whether a file can be made; or, of a folder in place of the schema, whether the rows are of the dataset in it.
+    Check {
+        sources: Sources<'a>,
+        table: dataset_words::Call<'a>,
+    },
     /// Do what is asked of a dataset.
-    Dataset { call: dataset_words::Call<'a> },
+    Dataset {
+        call: dataset_words::Call<'a>,
+    },
 }
 
 /// What the words ask for, or the text on the program's use, where they ask for nothing that it knows.
@@ -87,18 +104,38 @@ fn encode_command<'a>(alloc: Global) -> Result<Command<'a>, Error> {
     Ok(encode)
 }
 
-fn inspect_command<'a>(alloc: Global) -> Result<Command<'a>, Error> {
-    let json = Arg::new(alloc, "json")
+/// The flag by which a report is JSON.
+fn json_flag<'a>(alloc: Global) -> Arg<'a> {
+    Arg::new(alloc, "json")
         .long("json")
         .action(ArgAction::SetTrue)
-        .help("Prints one line of JSON in place of text");
+        .help("Of a file: prints one line of JSON in place of text")
+}
+
+fn inspect_command<'a>(alloc: Global) -> Result<Command<'a>, Error> {
     let inspect = Command::new(alloc, "inspect")
         .about(help::INSPECT)
         .long_about(help::INSPECT_LONG)
         .after_help(help::INSPECT_REFUSALS)
-        .arg(file_named(alloc, "FILE", "The Parquet file to look into"))?
-        .arg(json)?;
+        .arg(file_named(
+            alloc,
+            "FILE",
+            "The Parquet file, or the folder of the dataset, to look into",
+        ))?
+        .arg(json_flag(alloc))?
+        .arg(min_rows_option(
+            alloc,
+            "Of a dataset: counts groups of fewer rows that stand next to each other [default: 65536]",
+        ))?
+        .arg(no_wait_flag(alloc))?;
     Ok(inspect)
+}
+
+/// The file with the rows to check. Without it the files of a dataset are checked.
+fn rows_named<'a>(alloc: Global) -> Arg<'a> {
+    Arg::new(alloc, "ROWS").action(ArgAction::Set).help(
+        "The file with the rows, as lines of JSON; without it the files of the dataset are checked",
+    )
 }
 
 fn check_command<'a>(alloc: Global) -> Result<Command<'a>, Error> {
@@ -106,8 +143,13 @@ fn check_command<'a>(alloc: Global) -> Result<Command<'a>, Error> {
         .about(help::CHECK)
         .long_about(help::CHECK_LONG)
         .after_help(help::CHECK_REFUSALS)
-        .arg(file_named(alloc, "SCHEMA", "The file with the columns, as JSON"))?
-        .arg(file_named(alloc, "ROWS", "The file with the rows, as lines of JSON"))?;
+        .arg(file_named(
+            alloc,
+            "SCHEMA",
+            "The file with the columns, as JSON, or the folder of a dataset",
+        ))?
+        .arg(rows_named(alloc))?
+        .arg(no_wait_flag(alloc))?;
     Ok(check)
 }
 
@@ -165,21 +207,31 @@ fn inspect_call<'a>(matches: &ArgMatches<'a>) -> Option<Call<'a>>
 {
     let file = matches.get_str("FILE")?;
     let as_json = matches.get_flag("json");
-    Some(Call::Inspect { file, as_json })
+    let min_rows = min_rows_in(matches);
+    let table = look_call(file, matches, Look::Survey { min_rows });
+    Some(Call::Inspect {
+        file,
+        as_json,
+        table,
+    })
 }
 
 fn check_call<'a>(matches: &ArgMatches<'a>) -> Option<Call<'a>>
     ensures { IfSome result (λ call. word_of call ≡ codes "check") }
 {
     let schema = matches.get_str("SCHEMA")?;
-    let rows = matches.get_str("ROWS")?;
+    let Some(rows) = matches.get_str("ROWS") else {
+        let call = look_call(schema, matches, Look::Files);
+        return Some(Call::Dataset { call });
+    };
     let options = WriteOptions::standard();
     let sources = Sources {
         schema,
         rows,
         options,
     };
-    Some(Call::Check { sources })
+    let table = look_call(schema, matches, Look::Rows { rows });
+    Some(Call::Check { sources, table })
 }
 
 /// The call that the first word names, by what was found in the words.

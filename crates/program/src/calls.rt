@@ -7,12 +7,11 @@ use crate::arguments::{Call, call_of};
 use crate::check::check;
 use crate::decode::decode;
 use crate::encode::encode;
-use crate::host::bytes_of;
+use crate::host::{bytes_of, is_folder};
 use crate::inspect::inspect;
-use crate::one_line::OneLine;
-use crate::progress::Terminals;
 use bits::{R, Refusal};
 use dataset_words::Datasets;
+use reports::{OneLine, Terminals};
 use std::alloc::Global;
 use std::fmt::Write as _;
 use std::io::Write;
@@ -45,8 +44,8 @@ pub fn refuse<E: Write>(err: &mut E, refusal: &Refusal) -> u8
 /// the program, or ask for help, and `err` has the text on its use.
 ///
 /// `terminals` says which of both are terminals. Where `err` is one, and `--quiet` is not among the arguments, `decode`
-/// and `encode` show on it how many rows they have dealt with, and take that away again at the end. `datasets` makes
-/// the calls on datasets.
+/// and `encode` show on it how many rows they have dealt with, and take that away again at the end; and a call on a
+/// dataset says there what it waits for. `datasets` makes the calls on datasets.
 pub fn work<F: Files, W: Write, E: Write, M: Datasets<W, E>>(
     rt: &F,
     alloc: Global,
@@ -118,11 +117,17 @@ fn make<F: Files, W: Write, E: Write, M: Datasets<W, E>>(
             decode(alloc, bytes.as_slice(), out, err, shows)
         }
         Call::Encode { sources, file } => encode(rt, alloc, sources, file, err, terminals.err),
-        Call::Inspect { file, as_json } => {
+        Call::Inspect { file, table, .. } if is_folder(rt, file) => {
+            datasets.make(alloc, table, out, err, terminals.err)
+        }
+        Call::Inspect { file, as_json, .. } => {
             let bytes = bytes_of(rt, alloc, file)?;
             inspect(alloc, bytes.as_slice(), *as_json, out)
         }
-        Call::Check { sources } => check(rt, alloc, sources, out, err),
-        Call::Dataset { call } => datasets.make(alloc, call, out, err),
+        Call::Check { sources, table } if is_folder(rt, sources.schema) => {
+            datasets.make(alloc, table, out, err, terminals.err)
+        }
+        Call::Check { sources, .. } => check(rt, alloc, sources, out, err),
+        Call::Dataset { call } => datasets.make(alloc, call, out, err, terminals.err),
     }
 }

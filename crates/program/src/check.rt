@@ -7,13 +7,11 @@ ghost use Rattle.bits.specs.declared.refusal.Refusal.TheVariants.{Memory, Device
 ghost use Rattle.program.specs.Program.{HaveFileOf, AreRefusedTexts, AreRefusedSources, WritesCount};
 
 use crate::encode::{Sources, encoded};
-use crate::explain::{Misfit, of_line};
-use crate::explain_schema::of_schema;
 use crate::host::{text_of, whole_of, write_whole};
-use crate::one_line::OneLine;
 use bits::{R, Refusal};
 use footer::WriteOptions;
 use jsonrows::{row_from, schema_from};
+use reports::{Misfit, OneLine, of_line, of_schema};
 use schema::Schema;
 use std::alloc::{AllocError, Global};
 use std::fmt::Write as _;

@@ -14,10 +14,10 @@ ghost use Rattle.program.specs.Program.{WritesRowsOf, MeansRows};
 ghost use Rattle.program.specs.inner.Gathered.{AppendsLines, GathersLine, AreGathered, GathersLines, WritesPart};
 
 use crate::host::{OUTPUT_BUFFER_BYTES, write_text, write_whole};
-use crate::progress::Progress;
 use bits::{Fault, R, Refusal};
 use footer::{FileReader, Rows, read_footer};
 use jsonrows::{RowPlan, RowText};
+use reports::Progress;
 use schema::Schema;
 use std::alloc::Global;
 use std::io::Write;

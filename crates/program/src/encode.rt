@@ -11,12 +11,12 @@ ghost use Rattle.program.specs.Program.{IsRefusedLine, AreRowTexts, HasFirstFaul
 ghost use Rattle.program.specs.inner.Lines.{IsFileOfLines, IsLinesRefusal, IsLineRefusal, AreTooMuch, HasLine};
 
 use crate::host::{put_new, text_of, whole_of};
-use crate::progress::Progress;
 use crate::text_lines::split_line;
 use assemble::{Discard, RowSink};
 use bits::{R, Refusal};
 use footer::{FileWriter, WriteOptions};
 use jsonrows::{Reader, schema_from};
+use reports::Progress;
 use schema::Schema;
 use std::alloc::Global;
 use std::io::Write;

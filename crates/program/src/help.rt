@@ -12,6 +12,9 @@ Returns status 0 when all was done, and 1 when the call was refused: then the la
 `refused`, a number, a name, and for 6 and 7 the column. Status 2 is a wrong call, or a call for this help or the
 version, which are printed on standard error too.
 
+The commands on a dataset wait for each other: one alone changes it, and others read it side by side. With --no-wait
+they are refused 25 in place of waiting, after a line that says so.
+
 Example, at the top of the repository:
 
     ./pqds encode sample/two_rows.schema.json sample/two_rows.jsonl two_rows.parquet
@@ -137,7 +140,7 @@ and sample/two_rows.jsonl is
     {\"x\":1}
     {\"x\":300}";
 
-pub const INSPECT: &str = "Says what a Parquet file is, by its footer and its page headers";
+pub const INSPECT: &str = "Says what a Parquet file is, or what a dataset has";
 
 pub const INSPECT_LONG: &str = "\
 Says what a Parquet file is: its rows, row groups, writer and key-values; its schema as a tree; of each column chunk
@@ -151,10 +154,16 @@ decode does not read, as hexadecimal digits. Of the two kinds of bounds the depr
 others are missing. Names that are not UTF-8 are shown with replacement characters.
 
 With --json the same is one line of JSON: an object with bytes, footer_bytes, version, rows, created_by, key_values,
-schema (each element with its depth), groups (each with chunks, and these with pages) and not_read.";
+schema (each element with its depth), groups (each with chunks, and these with pages) and not_read.
+
+Where FILE is the folder of a dataset it says what the dataset has: the columns and keys; the rows, groups and bytes
+in all and of the twenty keys with the most bytes, with a bar for each; how many groups `rewrite --min-rows N` would
+put together; which part files are there that the dataset does not name, and which it names that are not there. Only
+its _metadata is read, and the names in its folders. Nothing is changed, nor what a stop left behind removed.";
 
 pub const INSPECT_REFUSALS: &str = "\
-The file is refused, with status 1 and one line on standard error, where its footer cannot be read:
+The file is refused, with status 1 and one line on standard error, where its footer cannot be read (or, of a dataset, its
+_metadata; 23 where there is none):
 
     1 Truncated    the bytes end before what they announce, or are fewer than 12
     2 Magic        the first or the last four bytes are not PAR1
@@ -185,7 +194,7 @@ prints
 
     decode refuses nothing of the footer and of the page headers";
 
-pub const CHECK: &str = "Says whether rows are of a schema, and where they are not";
+pub const CHECK: &str = "Says whether rows are of a schema, or whether a dataset is whole";
 
 pub const CHECK_LONG: &str = "\
 Says whether encode makes a file of these rows, with its default options, and why not where it does not. Nothing is
@@ -197,7 +206,13 @@ expected there and what was found, and then the line by which encode refuses the
     ROWS:7: a.list[2].b: expected true or false, found 3
     refused 14 RowShape
 
-The time and the memory are those of encode.";
+The time and the memory are those of encode.
+
+Where SCHEMA is the folder of a dataset, and there is no ROWS, it reads each part file of the dataset: that it is there and
+can be read, that it has the columns and rows that the dataset says, that its footer and the dataset describe its
+column chunks alike, and that the statistics are true of its values. No other part file may be there. Prints `ok` and how
+much there is; or a line for each file with what is wrong in it, and is then refused as the first of them counts. Rows
+of ROWS are rows that append would take. Nothing is changed.";
 
 pub const CHECK_REFUSALS: &str = "\
 The files are refused, with status 1, as encode refuses them, but for 24:
@@ -212,6 +227,14 @@ The files are refused, with status 1, as encode refuses them, but for 24:
     25 Device      SCHEMA or ROWS cannot be read, or standard output not be written
     28 Memory      there was no memory left
     29 Script      SCHEMA, or a line of ROWS, is not JSON of this form, or not UTF-8
+
+A dataset is refused 23 where there is none, and its files as decode refuses them; and
+
+    1 Truncated    a file is not there
+    4 Schema       a file has other columns than the dataset says
+    9 Page         a file has other rows, chunks or statistics than the dataset says
+    17 Key         a row of ROWS has a key that no folder can be named by
+    24 Exists      a part file is there that the dataset does not name; the next query removes it, or change
 
 Example, at the top of the repository:
 

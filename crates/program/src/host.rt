@@ -59,6 +59,14 @@ pub fn whole_of<F: Files>(rt: &F, alloc: Global, path: &str) -> R<Vec<u8>>
     Ok(bytes)
 }
 
+/// Whether a folder is there.
+pub fn is_folder<F: Files>(rt: &F, path: &str) -> bool {
+    match fs::metadata(rt, path) {
+        Ok(metadata) => metadata.is_dir(),
+        Err(_) => false,
+    }
+}
+
 /// Writes all of a text. Refused Device where it cannot be written.
 pub fn write_text<W: Write>(text: &[u8], out: &mut W) -> R<()>
     ensures stands { OnOk result (Appends (W.contents out.old) (W.contents out.new) text.now) }

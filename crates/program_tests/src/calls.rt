@@ -50,7 +50,14 @@ pub const NO_TERMINALS: Terminals = Terminals {
 pub struct NoDatasets;
 
 impl<W: Write, E: Write> Datasets<W, E> for NoDatasets {
-    fn make(&self, _alloc: Global, _call: &Call<'_>, _out: &mut W, _err: &mut E) -> R<()> {
+    fn make(
+        &self,
+        _alloc: Global,
+        _call: &Call<'_>,
+        _out: &mut W,
+        _err: &mut E,
+        _is_terminal: bool,
+    ) -> R<()> {
         Err(Refusal::Device)
     }
 }

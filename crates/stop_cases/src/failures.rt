@@ -1,41 +1,32 @@
 //! One failure at each call of the disk.
 
-use crate::script::{self, STEPS, Step, table_after};
+use crate::script::{self, STEPS, Step, TABLES, is_table_after, table_after};
 use crate::stops::Seen;
 use bits::R;
 use mem_disk::MemDisk;
 use std::alloc::Global;
 use store::Store;
 
-const DEVICE: &str = "{\"name\":\"Device\",\"refused\":25}";
+pub const DEVICE: &str = "{\"name\":\"Device\",\"refused\":25}";
 
-const DOUBT: &str = "{\"name\":\"InDoubt\",\"refused\":26}";
+pub const DOUBT: &str = "{\"name\":\"InDoubt\",\"refused\":26}";
 
 const CLOSED: &str = "{\"name\":\"Closed\",\"refused\":27}";
 
 /// How a call with one failure went.
-enum Made {
+pub enum Made {
     AsEver,
     InDoubt,
     Wrong,
 }
 
-/// The call that begins a rewrite of all groups that are there.
-fn rewrite_of_all(alloc: Global, store: &mut Store<MemDisk>) -> R<String> {
-    let groups = store.groups(alloc)?;
-    let mut text = String::from_str(alloc, "{\"call\":\"begin_rewrite\",\"numbers\":[")?;
-    for (at, group) in groups.iter().enumerate() {
-        let number = group.number;
-        let gap = if at > 0 { "," } else { "" };
-        let more = format!(in alloc; "{gap}{number}")?;
-        text.push_str(more.as_str())?;
-    }
-    text.push_str("]}")?;
-    Ok(text)
+/// How a call went whose answer is right or not.
+pub fn went(is_right: bool) -> Made {
+    if is_right { Made::AsEver } else { Made::Wrong }
 }
 
 /// Whether the table has as many rows as this one. (A query would take a cursor's number.)
-fn has_as_many_rows(alloc: Global, store: &mut Store<MemDisk>, rows: &str) -> R<bool> {
+pub fn has_as_many_rows(alloc: Global, store: &mut Store<MemDisk>, rows: &str) -> R<bool> {
     let wanted = rows.split_whitespace().count() as u64;
     let found = store.count(alloc, &[])?;
     Ok(found == wanted)
@@ -43,13 +34,7 @@ fn has_as_many_rows(alloc: Global, store: &mut Store<MemDisk>, rows: &str) -> R<
 
 /// Makes a call, and once more where the disk failed and nothing changed.
 fn make(alloc: Global, store: &mut Store<MemDisk>, step: &Step, before: &str) -> R<Made> {
-    let is_rewrite = step.call.contains("begin_rewrite");
-    let call = if is_rewrite {
-        rewrite_of_all(alloc, store)?
-    } else {
-        String::from_str(alloc, step.call)?
-    };
-    let first = script::answer(alloc, store, call.as_str())?;
+    let first = script::answer(alloc, store, step.call)?;
     if first.as_str() == step.answer {
         return Ok(Made::AsEver);
     }
@@ -62,24 +47,24 @@ fn make(alloc: Global, store: &mut Store<MemDisk>, step: &Step, before: &str) ->
     if !has_as_many_rows(alloc, store, before)? {
         return Ok(Made::Wrong);
     }
-    let again = script::answer(alloc, store, call.as_str())?;
-    Ok(if again.as_str() == step.answer {
-        Made::AsEver
-    } else {
-        Made::Wrong
-    })
+    let again = script::answer(alloc, store, step.call)?;
+    Ok(went(again.as_str() == step.answer))
 }
 
-/// Whether a store in doubt is closed, and opens again with the table of before or the next one.
-fn comes_back(alloc: Global, store: &mut Store<MemDisk>, commits: usize) -> R<bool> {
+/// Whether a store in doubt is closed, and opens again with the table after so many commits or the next one.
+pub fn comes_back(
+    alloc: Global,
+    store: &mut Store<MemDisk>,
+    tables: &[&str],
+    commits: usize,
+) -> R<bool> {
     let closed = script::answer(alloc, store, "{\"call\":\"groups\"}")?;
     if closed.as_str() != CLOSED {
         return Ok(false);
     }
     store.reopen(alloc)?;
     let rows = script::rows(alloc, store)?;
-    let next = table_after(commits.saturating_add(1));
-    Ok(table_after(commits) == Some(rows.as_str()) || next == Some(rows.as_str()))
+    Ok(is_table_after(tables, commits, rows.as_str()))
 }
 
 /// Makes all calls. Whether each went as it may.
@@ -89,7 +74,7 @@ fn makes_all(alloc: Global, store: &mut Store<MemDisk>) -> R<bool> {
         let before = table_after(commits).unwrap_or("");
         match make(alloc, store, step, before)? {
             Made::AsEver => {}
-            Made::InDoubt => return comes_back(alloc, store, commits),
+            Made::InDoubt => return comes_back(alloc, store, &TABLES, commits),
             Made::Wrong => return Ok(false),
         }
         if step.commits {

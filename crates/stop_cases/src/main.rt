@@ -3,26 +3,46 @@
 //! what may not be: 0.
 #![tactic(auto)]
 
+mod allocations;
+mod changes;
 mod failures;
 mod makings;
 mod reopenings;
 mod script;
 mod stops;
 
+use crate::reopenings::Stops;
 use bits::{R, Refusal};
 use case_words::{natural, word};
 use std::alloc::Global;
 use std::io;
+
+/// The lists of words that a line names after its loop and its pick; four where it names none.
+fn lists_of(alloc: Global, words: &[&str]) -> R<Vec<u64>> {
+    let mut lists = Vec::new(alloc);
+    for word in words.iter().skip(2) {
+        lists.push(natural(word)?)?;
+    }
+    if lists.is_empty() {
+        lists.extend_from_slice(&[0, 1, 2, 11])?;
+    }
+    Ok(lists)
+}
 
 /// What a loop saw; Script where there is no such loop.
 fn outcome(alloc: Global, words: &[&str]) -> R<String> {
     let pick = natural(word(words, 1)?)?;
     match word(words, 0)? {
         "stops" => stops::stops(alloc, pick),
-        "reopenings" => reopenings::reopenings(alloc, pick),
+        "reopenings" => {
+            let lists = lists_of(alloc, words)?;
+            let lists = lists.as_slice();
+            reopenings::reopenings(alloc, Stops { pick, lists })
+        }
         "failures" => failures::failures(alloc, pick),
         "creations" => makings::creations(alloc, pick),
         "columns" => makings::columns(alloc, pick),
+        "allocations" => allocations::allocations(alloc, pick),
         _ => Err(Refusal::Script),
     }
 }

@@ -9,7 +9,7 @@ use mem_disk::MemDisk;
 use std::alloc::Global;
 
 /// Whether the disk has no table, or the empty one.
-fn is_none_or_empty(alloc: Global, disk: MemDisk) -> R<bool> {
+pub fn is_none_or_empty(alloc: Global, disk: MemDisk) -> R<bool> {
     match script::open(alloc, disk) {
         Ok(mut store) => Ok(script::rows(alloc, &mut store)?.is_empty()),
         Err((_, refusal)) => Ok(matches!(refusal, Refusal::NoTable)),

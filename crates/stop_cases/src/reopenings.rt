@@ -7,8 +7,12 @@ use disk::Disk;
 use mem_disk::MemDisk;
 use std::alloc::Global;
 
-/// Which lists of words say what the two stops leave.
-const LISTS: [u64; 4] = [0, 1, 2, 11];
+/// What a failed call has done, and which lists of words say what the two stops leave.
+#[derive(Clone, Copy)]
+pub struct Stops<'a> {
+    pub pick: u64,
+    pub lists: &'a [u64],
+}
 
 /// The rows that an opening of a copy of the disk shows; none where it is refused.
 fn shown(alloc: Global, image: &MemDisk) -> R<Option<String>> {
@@ -20,8 +24,14 @@ fn shown(alloc: Global, image: &MemDisk) -> R<Option<String>> {
 }
 
 /// Whether each list leaves, of a disk whose opening was stopped, a table that shows these rows.
-fn is_kept(alloc: Global, disk: &MemDisk, rows: &Option<String>, seen: &mut Seen) -> R<()> {
-    for list in &LISTS {
+fn is_kept(
+    alloc: Global,
+    disk: &MemDisk,
+    rows: &Option<String>,
+    lists: &[u64],
+    seen: &mut Seen,
+) -> R<()> {
+    for list in lists {
         let image = crashed(alloc, disk, *list)?;
         let now = shown(alloc, &image)?;
         let right = match (&now, rows) {
@@ -34,23 +44,23 @@ fn is_kept(alloc: Global, disk: &MemDisk, rows: &Option<String>, seen: &mut Seen
 }
 
 /// An opening of a copy of the image that is stopped after `k` calls. Whether the disk failed at all.
-fn stop_at(alloc: Global, image: &MemDisk, k: u64, pick: u64, seen: &mut Seen) -> R<bool> {
+fn stop_at(alloc: Global, image: &MemDisk, k: u64, stops: Stops<'_>, seen: &mut Seen) -> R<bool> {
     let rows = shown(alloc, image)?;
     let mut copy = crashed(alloc, image, 0)?;
-    copy.fuse(k, pick);
+    copy.fuse(k, stops.pick);
     let disk = script::disk_of(script::open(alloc, copy));
     if disk.failures() == 0 {
         return Ok(false);
     }
     seen.stops = seen.stops.saturating_add(1);
-    is_kept(alloc, &disk, &rows, seen)?;
+    is_kept(alloc, &disk, &rows, stops.lists, seen)?;
     Ok(true)
 }
 
 /// A stop at each call of an opening of this image.
-fn stop_everywhere(alloc: Global, image: &MemDisk, pick: u64, seen: &mut Seen) -> R<()> {
+fn stop_everywhere(alloc: Global, image: &MemDisk, stops: Stops<'_>, seen: &mut Seen) -> R<()> {
     for k in 0..u64::MAX {
-        if !stop_at(alloc, image, k, pick, seen)? {
+        if !stop_at(alloc, image, k, stops, seen)? {
             break;
         }
     }
@@ -73,18 +83,18 @@ fn stopped_disk(alloc: Global, k: u64, pick: u64) -> R<Option<MemDisk>> {
     Ok(Some(store.into_disk()))
 }
 
-/// `reopenings PICK`: a stop at each call of the disk, and then one at each call of the opening of what it leaves. (How many
-/// calls an opening makes depends on what it removes, so they are not told.)
-pub fn reopenings(alloc: Global, pick: u64) -> R<String> {
+/// `reopenings PICK LIST ..`: a stop at each call of the disk, and then one at each call of the opening of what it leaves. (How
+/// many calls an opening makes depends on what it removes, so they are not told.)
+pub fn reopenings(alloc: Global, stops: Stops<'_>) -> R<String> {
     let mut seen = Seen::new();
     let mut images: u64 = 0;
     for k in 0..u64::MAX {
-        let Some(disk) = stopped_disk(alloc, k, pick)? else {
+        let Some(disk) = stopped_disk(alloc, k, stops.pick)? else {
             break;
         };
-        for list in &LISTS {
+        for list in stops.lists {
             let image = crashed(alloc, &disk, *list)?;
-            stop_everywhere(alloc, &image, pick, &mut seen)?;
+            stop_everywhere(alloc, &image, stops, &mut seen)?;
             images = images.saturating_add(1);
         }
     }

@@ -7,13 +7,14 @@ use jsonrows::{answer_to, call_from, schema_from};
 use mem_disk::MemDisk;
 use std::alloc::Global;
 use store::Store;
-use table::{Answer, Fetched};
+use table::{Answer, Call, Fetched};
 
 /// The table's schema; `k` is its key column.
 pub const SCHEMA: &str =
     "[{\"name\":\"k\",\"note\":\"utf8\",\"rep\":\"required\",\"type\":\"bytes\"},{\"name\":\"x\",\"rep\":\"required\",\"type\":\"int64\"}]";
 
-/// A call, its answer, and whether it is a commit. The numbers of a rewrite are those of all groups.
+/// A call, its answer, and whether it is a commit. Numbers of groups that have other values after a refused call are
+/// words in them ([`numbered`]).
 pub struct Step {
     pub call: &'static str,
     pub answer: &'static str,
@@ -53,7 +54,7 @@ pub const STEPS: [Step; 14] = [
         commits: true,
     },
     Step {
-        call: "{\"call\":\"begin_rewrite\",\"numbers\":[2,1]}",
+        call: "{\"call\":\"begin_rewrite\",\"numbers\":[@all]}",
         answer: "{\"job\":1}",
         commits: false,
     },
@@ -102,6 +103,12 @@ pub fn table_after(commits: usize) -> Option<&'static str> {
     TABLES.get(commits).copied()
 }
 
+/// Whether these rows are those of the table after so many commits, or after one more.
+pub fn is_table_after(tables: &[&str], commits: usize, rows: &str) -> bool {
+    let next = commits.saturating_add(1);
+    tables.get(commits).copied() == Some(rows) || tables.get(next).copied() == Some(rows)
+}
+
 /// A store on a new disk, with an empty table.
 pub fn new_store(alloc: Global) -> R<Store<MemDisk>> {
     match create_on(alloc, MemDisk::new(alloc))? {
@@ -137,16 +144,59 @@ pub fn disk_of(made: Result<Store<MemDisk>, (MemDisk, Refusal)>) -> MemDisk {
     }
 }
 
-/// The text of a call's answer.
-pub fn answer(alloc: Global, store: &mut Store<MemDisk>, call: &str) -> R<String> {
-    let call = call_from(alloc, store.schema(), call)?;
+/// The numbers of the groups of a table, in its order, with commas between them: of `all`, the `last` one, or the `others`.
+fn numbers(alloc: Global, store: &mut Store<MemDisk>, which: &str) -> R<String> {
+    let groups = store.groups(alloc)?;
+    let last = groups.len().saturating_sub(1);
+    let mut text = String::new(alloc);
+    for (at, group) in groups.iter().enumerate() {
+        let wanted = match which {
+            "last" => at == last,
+            "others" => at != last,
+            _ => true,
+        };
+        if wanted {
+            let number = group.number;
+            let gap = if text.is_empty() { "" } else { "," };
+            let more = format!(in alloc; "{gap}{number}")?;
+            text.push_str(more.as_str())?;
+        }
+    }
+    Ok(text)
+}
+
+/// A text in which `[@all]`, `[@last]` or `[@others]` stands for numbers of the groups that are there now.
+pub fn numbered(alloc: Global, store: &mut Store<MemDisk>, text: &str) -> R<String> {
+    let Some((before, rest)) = text.split_once('@') else {
+        return Ok(String::from_str(alloc, text)?);
+    };
+    let (which, behind) = rest.split_once(']').unwrap_or((rest, ""));
+    let numbers = numbers(alloc, store, which)?;
+    Ok(format!(in alloc; "{before}{numbers}]{behind}")?)
+}
+
+/// The one call of a text without such words.
+pub fn calls_of(alloc: Global, store: &Store<MemDisk>, text: &str) -> R<Vec<Call>> {
+    let call = call_from(alloc, store.schema(), text)?;
     let mut calls = Vec::new(alloc);
     calls.push(call)?;
-    let answers = store.run(alloc, calls.as_slice())?;
-    match answers.as_slice() {
+    Ok(calls)
+}
+
+/// The text of the one answer.
+pub fn text_of(alloc: Global, store: &Store<MemDisk>, answers: &[Answer]) -> R<String> {
+    match answers {
         [answer] => answer_to(alloc, store.schema(), answer),
         _ => Err(Refusal::Script),
     }
+}
+
+/// The text of a call's answer.
+pub fn answer(alloc: Global, store: &mut Store<MemDisk>, call: &str) -> R<String> {
+    let text = numbered(alloc, store, call)?;
+    let calls = calls_of(alloc, store, text.as_str())?;
+    let answers = store.run(alloc, calls.as_slice())?;
+    text_of(alloc, store, answers.as_slice())
 }
 
 /// The rows of a table, each as its key and its number.

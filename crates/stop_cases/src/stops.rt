@@ -1,6 +1,6 @@
 //! Stops at each call of the disk.
 
-use crate::script::{self, STEPS, table_after};
+use crate::script::{self, STEPS, TABLES, is_table_after};
 use bits::{R, Refusal};
 use mem_disk::MemDisk;
 use std::alloc::Global;
@@ -90,8 +90,7 @@ fn is_allowed(alloc: Global, disk: MemDisk, commits: usize) -> R<bool> {
         return Ok(false);
     };
     let rows = script::rows(alloc, &mut store)?;
-    let next = table_after(commits.saturating_add(1));
-    Ok(table_after(commits) == Some(rows.as_str()) || next == Some(rows.as_str()))
+    Ok(is_table_after(&TABLES, commits, rows.as_str()))
 }
 
 /// A stop after `k` calls of the disk, and what each list leaves of it. Whether the disk failed at all.

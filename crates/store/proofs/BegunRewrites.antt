@@ -1,5 +1,5 @@
 -- A rewrite that is opened, from its checks to its end.
-use Rattle.std.proofs.Common.{◌≡◌, ◌<◌, ◌≤◌, ◌+◌, ℕ, Bool, true, false, not, ◌&&◌, nat_lt, List, [], ◌∷◌, ◌++◌, map, length, take, drop, Option, Some, None, refl, sym, ◌∙◌, ap, subst, arith}
+use Rattle.std.proofs.Common.{◌≡◌, ◌≤◌, ◌+◌, ℕ, Bool, true, false, not, ◌&&◌, nat_lt, List, [], ◌∷◌, ◌++◌, length, take, drop, Option, Some, None, refl, sym, ◌∙◌, ap, subst, arith}
 use Rattle.std.specs.List.{AllByRecursion, AllZip, list_all}
 use Rattle.std.specs.declared.vec.Vec.{Vec}
 use Rattle.std.specs.declared.alloc.Global.{Global}
@@ -13,7 +13,7 @@ use Rattle.schema.specs.Cutting.{is_among}
 use Rattle.disk.specs.State.{State as DiskState}
 use Rattle.manifest.specs.Groups.{Group as FileGroup, root_of, numbers_of}
 use Rattle.planning.specs.Runs.{runs_in as file_runs, sources_view}
-use Rattle.snapshots.specs.State.{State as Versions, Pins, began, after, fault_of, has_sources, pins_at_start, file_of, names}
+use Rattle.snapshots.specs.State.{State as Versions, Pins, began, after, fault_of, pins_at_start, file_of, names}
 use Rattle.snapshots.specs.Views.{state_of}
 use Rattle.table.specs.Table.{numbers}
 use Rattle.table.specs.State.{State, sources}

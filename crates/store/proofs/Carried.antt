@@ -63,6 +63,7 @@ module _ {D : Type 0} (state : D → DiskState) (store : Store D) (s : State) (s
         let was = spared.moments.each m c lo hi at in
         holds_like disk s.next_group root shown.root s.table ready (InUse (state_of store.snapshots)) in_use was.0 c was.1 (was.2 root_path at_root ∙ shown.root_kept was.0 was.1)
         (λ f low held. was.2 (part_path_of root.keys f.key f.number) (need_by_root f low held))
+        (λ path place. spared.clear path place (shows.room path place) m c lo hi at)
 
     pub survives_spared : (after : State) → after.table ≡ s.table → Survives new.images Holds disk.moment new.moment s after
     survives_spared after same = record {
@@ -140,7 +141,7 @@ module _ {D : Type 0} (state : D → DiskState) (store : Store D) (s : State) (s
       counted = fits;
       closed = shows.closed;
       room = room_on s.table.keys Needed disk (state vault.disk) spared shows.room;
-      sound = sound_for (state vault.disk) more root shown.root s.table ready_here shows.one_root (rooted_on s.table.keys Needed disk (state vault.disk) spared shows.sound.sound.rooted) root_here
+      sound = sound_for (state vault.disk) more root shown.root s.table ready_here (room_on s.table.keys Needed disk (state vault.disk) spared shows.room) shows.one_root (rooted_on s.table.keys Needed disk (state vault.disk) spared shows.sound.sound.rooted) root_here
           (MayHold (record s { next_group = more })) (inl refl);
       shown = λ o. open_on;
     }

@@ -1,5 +1,5 @@
 -- One job changes in place.
-use Rattle.std.proofs.Common.{◌≡◌, ◌<◌, ℕ, zero, suc, Bool, true, false, ◌||◌, ◌==◌, if◌then◌else◌, List, [], ◌∷◌, length, reverse, get_or, set, Option, Some, None, refl, sym, ◌∙◌, ap, subst, arith}
+use Rattle.std.proofs.Common.{◌≡◌, ◌<◌, ℕ, zero, suc, Bool, true, false, ◌||◌, ◌==◌, if◌then◌else◌, List, [], ◌∷◌, length, reverse, get_or, set, refl, sym, ◌∙◌, ap, subst, arith}
 use Rattle.std.specs.Prelude.{Vec}
 use Rattle.std.specs.declared.alloc.Global.{Global}
 use Rattle.std.specs.List.{AllZip}
@@ -16,7 +16,7 @@ use Rattle.table.specs.State.{State, Job, changed_at}
 use Rattle.store.specs.declared.store.Store.{Store}
 use Rattle.store.specs.declared.jobs.OpenJob.{OpenJob}
 use Rattle.store.specs.Lookups.{jobs_with}
-use Rattle.store.specs.Stands.{AreNumbered, ShowsJob, ShowsOpen, Shows, TracksJobs, numbers_at, job_numbers, written_in}
+use Rattle.store.specs.Stands.{AreNumbered, ShowsJob, ShowsOpen, Shows, numbers_at, job_numbers, written_in}
 use Rattle.store.proofs.OpenSo.{IsOpenSo, shows_open}
 
 -- ---- numbers stay

@@ -1,16 +1,13 @@
 -- A column more, from its plan to its end.
-use Rattle.std.proofs.Common.{◌≡◌, ◌≢◌, ◌≤◌, ◌⊎◌, ℕ, suc, Bool, true, false, not, List, [], ◌∷◌, map, None, Some, Ok, Err, refl, sym, ◌∙◌, ap, subst, arith, inl, inr}
+use Rattle.std.proofs.Common.{◌≡◌, ◌≤◌, ℕ, Bool, true, false, not, List, [], ◌∷◌, map, None, Ok, Err, refl, sym, ◌∙◌, ap, subst, arith, inl, inr}
 use Rattle.std.specs.List.{AllByRecursion}
 use Rattle.std.proofs.lemmas.Bool.{and_from}
 use Rattle.bits.specs.declared.refusal.Refusal.{Refusal}
-use Rattle.bits.specs.declared.refusal.Refusal.TheVariants.{Schema, Limit, Device, Memory, InDoubt, Closed, Page}
+use Rattle.bits.specs.declared.refusal.Refusal.TheVariants.{Limit, Device, Memory, InDoubt, Closed, Page}
 use Rattle.bits.specs.Refusals.{HasCause}
-use Rattle.schema.specs.Shape.{Field, Fields, no_fields, field, count}
+use Rattle.schema.specs.Shape.{Field, Fields, count}
 use Rattle.schema.specs.Elements.{Element}
-use Rattle.schema.specs.Faults.{HasFault}
 use Rattle.schema.specs.Keys.{KeyColumn, without_keys}
-use Rattle.schema.specs.Law.{IsSchema, IsWithinLimits}
-use Rattle.schema.specs.Listing.{IsSchemaOf}
 use Rattle.schema.specs.Cutting.{is_among}
 use Rattle.disk.specs.State.{State as DiskState}
 use Rattle.manifest.specs.Groups.{Group as FileGroup, Root, root_of}
@@ -18,7 +15,7 @@ use Rattle.manifest.specs.Root.{IsDescription}
 use Rattle.manifest.specs.Records.{IsGroup}
 use Rattle.manifest.specs.Laid.{IsRootTooHeavy}
 use Rattle.manifest.proofs.GrownRoots.{grown_roots_are_described}
-use Rattle.snapshots.specs.State.{committed, fault_of, first_of, unless as unless_so}
+use Rattle.snapshots.specs.State.{first_of, unless as unless_so}
 use Rattle.snapshots.specs.Views.{state_of}
 use Rattle.planning.specs.Told.{numbers_of}
 use Rattle.table.specs.Table.{Group, Table, IsTable, numbers}
@@ -28,11 +25,11 @@ use Rattle.schema.proofs.Grown.{count_grows}
 use Rattle.table.specs.Columns.{with_column, widened, HasColumnFault}
 use Rattle.table.specs.Commits.{extended}
 use Rattle.table.specs.State.{State, widened_jobs}
-use Rattle.table.specs.Faults.{first, unless}
+use Rattle.table.specs.Faults.{unless}
 use Rattle.table.specs.Checks.{fault}
 use Rattle.table.specs.Calls.{Call, add_column, done, refused}
 use Rattle.table.specs.Leading.{Leads}
-use Rattle.table.specs.Limits.{IsOver, MayBeOver, root as over_root, schema as over_schema}
+use Rattle.table.specs.Limits.{IsOver, root as over_root, schema as over_schema}
 use Rattle.table.specs.Refusing.{is_failure, unfit, over, no_memory}
 use Rattle.table.proofs.Counters.{counters_cover}
 use Rattle.table.proofs.Columns.{widened_tables_are_tables}

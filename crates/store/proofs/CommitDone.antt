@@ -1,9 +1,8 @@
 -- The commit of an append on which something is staged: how it ends.
-use Rattle.std.proofs.Common.{◌≡◌, ◌≢◌, ◌≤◌, ◌<◌, ◌+◌, ◌⊎◌, ℕ, zero, suc, Bool, true, false, not, ◌&&◌, List, [], ◌∷◌, ◌++◌, map, flat_map, length, Option, Some, None, Ok, Err, refl, sym, ◌∙◌, ap, subst, arith}
-use Rattle.std.specs.Prelude.{Vec, nat_eq}
+use Rattle.std.proofs.Common.{◌≡◌, ◌≢◌, ◌≤◌, ◌<◌, ◌+◌, ◌⊎◌, ℕ, true, false, not, List, [], ◌∷◌, ◌++◌, map, flat_map, length, Some, None, Ok, Err, refl, sym, ◌∙◌, ap, subst, arith}
+use Rattle.std.specs.Prelude.{nat_eq}
 use Rattle.std.specs.List.{AllByRecursion, AllZip}
-use Rattle.std.proofs.lemmas.List.{nil_from_length, append-nil, length-append}
-use Rattle.std.proofs.Common.{eq-eqb}
+use Rattle.std.proofs.lemmas.List.{nil_from_length, append-nil}
 use Rattle.std.proofs.lemmas.Bool.{and_from}
 use Rattle.bits.specs.declared.refusal.Refusal.{Refusal}
 use Rattle.bits.specs.declared.refusal.Refusal.TheVariants.{Limit, Device, Memory}
@@ -24,7 +23,7 @@ use Rattle.planning.proofs.Showing.{placed_are_in_order}
 use Rattle.planning.proofs.Kept.{placed_are_distinct}
 use Rattle.table.specs.Table.{Row, Group, Table, rows}
 use Rattle.table.specs.InOrder.{in_order}
-use Rattle.table.specs.State.{State, appending, open_at, ended_at}
+use Rattle.table.specs.State.{State, appending, ended_at}
 use Rattle.table.specs.Checks.{fault}
 use Rattle.table.specs.Calls.{commit, done, refused}
 use Rattle.table.specs.Leading.{Rises, job_rows}
@@ -33,14 +32,12 @@ use Rattle.table.specs.Refusing.{Happens, Stays, is_failure, no_memory, over as 
 use Rattle.table.proofs.Steady.{stays}
 use Rattle.store.specs.declared.store.Store.{Store}
 use Rattle.store.specs.declared.jobs.OpenJob.{OpenJob}
-use Rattle.store.specs.declared.jobs.Work.{Work}
 use Rattle.store.specs.declared.jobs.Work.TheVariants.{Append}
 use Rattle.store.specs.declared.jobs.Appending.{Appending}
 use Rattle.store.specs.Lookups.{job_at}
-use Rattle.store.specs.Stands.{AreStored, AreWaiting, Stands}
+use Rattle.store.specs.Stands.{AreWaiting, Stands}
 use Rattle.store.specs.Writing.{counted}
 use Rattle.store.specs.Committing.{with_version, IsPlanned, Turns}
-use Rattle.store.specs.Acting.{WroteTo}
 use Rattle.store.specs.Bringing.{files_with, grown}
 use Rattle.store.specs.Causes.{IsCommitRefusal}
 use Rattle.store.specs.Dropping.{rows_in}
@@ -49,10 +46,9 @@ use Rattle.store.specs.Staging.{is_nothing, finds_nothing, StagedIsReady}
 use Rattle.store.specs.Filling.{IsFilled, IsStopped, IsAny, WhyStopped}
 use Rattle.store.proofs.Acting.{commits_act, refusals_act}
 use Rattle.store.proofs.Appended.{sorted_behind}
-use Rattle.store.proofs.Brought.{length_order, stored_append}
+use Rattle.store.proofs.Brought.{length_order}
 use Rattle.store.proofs.CommitOn.{come, added, all_stored, long_wait, brought, both_rows}
 use Rattle.store.proofs.Dropped.{has_reason}
-use Rattle.store.proofs.EmptyCommits.{nothing_beside}
 use Rattle.store.proofs.JobBrought.{staged_are_ready}
 use Rattle.store.proofs.Kept.{rows_counted}
 use Rattle.store.proofs.Refusals.{changes_nothing}

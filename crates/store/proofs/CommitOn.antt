@@ -1,17 +1,16 @@
 -- The commit of an append on which something is staged: its groups, once the rest is written.
-use Rattle.std.proofs.Common.{◌≡◌, ◌≢◌, ◌≤◌, ◌<◌, ◌+◌, ◌⊎◌, ℕ, zero, suc, Bool, true, false, not, ◌||◌, List, [], ◌∷◌, ◌++◌, map, flat_map, length, Option, Some, None, refl, sym, ◌∙◌, ap, subst, arith, inl, inr, ⊎_elim, append_assoc}
+use Rattle.std.proofs.Common.{◌≡◌, ◌≢◌, ◌≤◌, ◌<◌, ◌⊎◌, ℕ, Bool, true, false, not, ◌||◌, List, [], ◌∷◌, ◌++◌, length, Some, refl, sym, ◌∙◌, ap, subst, arith, inl, inr, ⊎_elim, append_assoc}
 use Rattle.std.specs.Prelude.{IsTrue, Vec}
 use Rattle.std.specs.List.{AllByRecursion, AllZip, list_all}
 use Rattle.std.specs.declared.alloc.Global.{Global}
-use Rattle.std.proofs.lemmas.List.{length-append, nil_from_length}
+use Rattle.std.proofs.lemmas.List.{length-append}
 use Rattle.std.proofs.lemmas.Bool.{and_parts}
 use Rattle.schema.specs.Fits.{RowsFit}
 use Rattle.schema.specs.Cutting.{is_among}
 use Rattle.schema.specs.Keys.{KeyColumn, AreKeys, AreDistinct, AreRowsOf, key_of_row, without_keys}
 use Rattle.disk.specs.State.{State as DiskState}
 use Rattle.partition.specs.Folders.{CanPartition}
-use Rattle.partition.specs.Splitting.{KeyRows, key_rows_view}
-use Rattle.manifest.specs.Groups.{Group as FileGroup, root_of, handles_view, numbers_of}
+use Rattle.manifest.specs.Groups.{Group as FileGroup, handles_view, numbers_of}
 use Rattle.manifest.specs.Records.{IsGroup}
 use Rattle.manifest.specs.Laws.{RowsOfPartsFit}
 use Rattle.planning.specs.Told.{IsNextOf}
@@ -21,7 +20,7 @@ use Rattle.snapshots.specs.Views.{state_of}
 use Rattle.table.specs.Table.{Row, Key, Group, Table, IsRowIn, IsGroupIn, numbers, rows}
 use Rattle.table.specs.InOrder.{in_order}
 use Rattle.table.specs.Commits.{are_full}
-use Rattle.table.specs.State.{State, appending, open_at, ended_at, had_with}
+use Rattle.table.specs.State.{State, ended_at, had_with}
 use Rattle.table.specs.Calls.{commit}
 use Rattle.table.specs.Leading.{Rises, job_rows}
 use Rattle.table.proofs.Counters.{counters_cover}
@@ -48,7 +47,7 @@ use Rattle.store.proofs.Parted.{numbers_written, numbers_joined, files_below, wr
 use Rattle.store.proofs.Sorting.{same_behind}
 use Rattle.store.proofs.Spared.{spares_here}
 use Rattle.store.proofs.StageMore.{held, before, wait}
-use Rattle.store.proofs.StageOn.{Held, held_in, sized, keyed_stored, own_distinct}
+use Rattle.store.proofs.StageOn.{Held, held_in, sized, own_distinct}
 use Rattle.store.proofs.Stored.{part_below, Any, all_any, stored_on, jobs_on, hold_same}
 use Rattle.store.proofs.Waits.{rows_append}
 

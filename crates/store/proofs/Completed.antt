@@ -1,6 +1,6 @@
 -- Rows of the first fields, made longer by Null.
-use Rattle.std.proofs.Common.{◌≡◌, ◌≤◌, ◌<◌, ℕ, suc, List, [], ◌∷◌, ◌++◌, length, refl, ap, arith}
-use Rattle.schema.specs.Values.{ValueTree, ValueTrees, null, no_values, value as item, trees_of}
+use Rattle.std.proofs.Common.{◌≡◌, ◌≤◌, ◌<◌, List, [], ◌∷◌, ◌++◌, length, refl, ap, arith}
+use Rattle.schema.specs.Values.{ValueTree, null, value as item, trees_of}
 use Rattle.schema.specs.Shape.{Fields, no_fields, field, count}
 use Rattle.schema.specs.Fronts.{padded}
 

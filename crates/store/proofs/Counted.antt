@@ -1,20 +1,19 @@
 -- How many rows satisfy.
-use Rattle.std.proofs.Common.{◌≡◌, ◌==◌, ℕ, Bool, true, false, not, List, [], ◌∷◌, map, filter, length, Option, Some, None, Result, Ok, Err, refl, sym, ◌∙◌, ap, subst, arith, eqb-true}
+use Rattle.std.proofs.Common.{◌≡◌, ◌==◌, ℕ, true, false, not, List, [], ◌∷◌, map, filter, length, Option, None, Err, refl, sym, ◌∙◌, ap, subst, arith, eqb-true}
 use Rattle.bits.specs.declared.refusal.Refusal.{Refusal}
 use Rattle.bits.specs.declared.refusal.Refusal.TheVariants.{Memory, Closed}
 use Rattle.bits.specs.Refusals.{HasCause}
 use Rattle.schema.specs.Stripe.{leaves_of}
-use Rattle.filter.specs.Terms.{Term, tests_of}
+use Rattle.filter.specs.Terms.{tests_of}
 use Rattle.disk.specs.State.{State as DiskState}
 use Rattle.manifest.specs.Groups.{root_of}
 use Rattle.table.specs.Table.{Row, rows}
 use Rattle.table.specs.Deciding.{Filter, filter_fault, refusal_in}
-use Rattle.table.specs.Plans.{row_count}
 use Rattle.table.specs.State.{State}
 use Rattle.table.specs.Faults.{first, unless}
 use Rattle.table.specs.Checks.{fault}
 use Rattle.table.specs.Calls.{count, counted, refused}
-use Rattle.table.specs.Refusing.{Happens, checked, no_memory}
+use Rattle.table.specs.Refusing.{checked, no_memory}
 use Rattle.table.proofs.Steady.{stays}
 use Rattle.store.specs.declared.store.Store.{Store}
 use Rattle.store.specs.Dropping.{rows_in}

@@ -77,12 +77,12 @@ module _ {D : Type 0} (state : D → DiskState) (store : Store D) (o : WriteOpti
   ready : IsReady disk 0 (first_root schema keys) first.root.items table
   ready = record { means = on.is.means; schema = refl; keys = refl; next = refl; stored = tt }
 
-  sound : RootsMeanOneTable → IsSound disk
-  sound one = (sound_for disk 0 (first_root schema keys) first.root.items table ready one on.rooted on.kept (λ (t : Table). Unit {0}) tt).sound
+  sound : HasRoom keys disk → RootsMeanOneTable → IsSound disk
+  sound room one = (sound_for disk 0 (first_root schema keys) first.root.items table ready room one on.rooted on.kept (λ (t : Table). Unit {0}) tt).sound
 
   pub new_stands : PathsAreApart → RootsMeanOneTable → RowsOfPartsFit → (IsOutOfRange o → ⊥) → HasRoom keys disk → may_leave disk disk.seen → Stands state store (opened o table)
   new_stands apart one fit in_range room seen_may =
-      started.stands state store o is table each first.root.items on.kept no_parts seen_may fit apart one in_range (sound one) room
+      started.stands state store o is table each first.root.items on.kept no_parts seen_may fit apart one in_range (sound room one) room
 
 -- of a store that was made of a vault and a new table
 pub stands_so : {D : Type 0} (state : D → DiskState) (store : Store D) (o : WriteOptions) (vault : Vault D) (first : First) → store.vault ≡ vault → store.manifest ≡ first.manifest → IsStarted o store

@@ -1,8 +1,8 @@
 -- Rows that are cut to the columns of a query: the values at the other places go, or those at its places are taken.
-use Rattle.std.proofs.Common.{◌≡◌, ◌≤◌, ◌<◌, ◌+◌, ℕ, zero, suc, Bool, true, false, not, ◌||◌, nat_eq, List, [], ◌∷◌, length, map, filter, refl, sym, ◌∙◌, ap, subst, arith, eqb-true, eq-eqb, add-zero}
+use Rattle.std.proofs.Common.{◌≡◌, ◌≤◌, ◌<◌, ◌+◌, ℕ, zero, suc, Bool, true, false, not, ◌||◌, nat_eq, List, [], ◌∷◌, map, filter, refl, sym, ◌∙◌, ap, subst, arith, eqb-true, eq-eqb, add-zero}
 use Rattle.std.specs.Prelude.{if◌then◌else◌, cond}
 use Rattle.std.specs.List.{AllByRecursion}
-use Rattle.schema.specs.Values.{ValueTree, null, ValueTrees, no_values, value as item, trees_of, member_at}
+use Rattle.schema.specs.Values.{ValueTree, ValueTrees, no_values, value as item, trees_of, member_at}
 use Rattle.schema.specs.Shape.{Fields, no_fields, field, count, name_of}
 use Rattle.schema.specs.Cutting.{is_among}
 use Rattle.schema.specs.Keys.{KeyColumn, AreKeys, values_besides, without_keys, width, AreRowsOf}

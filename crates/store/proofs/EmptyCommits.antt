@@ -1,6 +1,6 @@
 -- The commit of an append of which nothing is staged, or of a rewrite of no sources: the job ends.
 use Rattle.std.proofs.Common.{◌≡◌, ◌<◌, ℕ, Bool, true, false, not, nat_eq, List, [], ◌∷◌, ◌++◌, map, flat_map, length, Option, Some, None, refl, sym, ◌∙◌, ap, subst, arith}
-use Rattle.std.specs.Prelude.{Vec, if◌then◌else◌}
+use Rattle.std.specs.Prelude.{Vec}
 use Rattle.std.specs.List.{AllZip}
 use Rattle.std.specs.declared.alloc.Global.{Global}
 use Rattle.std.proofs.lemmas.Bool.{and_parts, eqb-true, lt-ltb}
@@ -8,7 +8,6 @@ use Rattle.std.proofs.lemmas.List.{append-nil, nil_from_length}
 use Rattle.bits.specs.declared.refusal.Refusal.{Refusal}
 use Rattle.bits.specs.Refusals.{HasCause}
 use Rattle.schema.specs.Keys.{key_of_row}
-use Rattle.partition.specs.Order.{AreInTableOrder}
 use Rattle.partition.specs.Splitting.{key_rows_view}
 use Rattle.partition.specs.declared.splitting.KeyRows.{KeyRows as CodeRows}
 use Rattle.disk.specs.State.{State as DiskState}
@@ -17,7 +16,7 @@ use Rattle.snapshots.specs.declared.state.Snapshots.{Snapshots}
 use Rattle.snapshots.specs.State.{Pins, ended, after, fault_of, open_at as pinned_at}
 use Rattle.snapshots.specs.Views.{state_of}
 use Rattle.table.specs.Table.{Row, Group, rows}
-use Rattle.table.specs.InOrder.{put_in_order, in_order}
+use Rattle.table.specs.InOrder.{in_order}
 use Rattle.table.specs.Commits.{appended, rewritten}
 use Rattle.table.specs.State.{State, Job, appending, rewriting, open_at, ended_at}
 use Rattle.table.specs.Faults.{first}
@@ -42,20 +41,9 @@ use Rattle.store.proofs.Brought.{length_order}
 use Rattle.store.proofs.Asked.{commit_fault}
 use Rattle.store.proofs.Had.{had_same}
 use Rattle.store.proofs.Kept.{none_go}
+use Rattle.store.proofs.Begun.{stays_in_order}
 
 -- groups in table order stay as they are
-put_front : (g : Group) (gs : List Group) → AreInTableOrder (g.key ∷ map (λ (h : Group). h.key) gs) → put_in_order (λ (h : Group). h.key) g gs ≡ g ∷ gs
-put_front g [] o = refl
-put_front g (h ∷ hs) o = ap (λ (b : Bool). if b then g ∷ h ∷ hs else h ∷ put_in_order (λ (x : Group). x.key) g hs) o.0
-
-rest : (g : Group) (gs : List Group) → AreInTableOrder (g.key ∷ map (λ (h : Group). h.key) gs) → AreInTableOrder (map (λ (h : Group). h.key) gs)
-rest g [] o = tt
-rest g (h ∷ hs) o = o.1
-
-stays_in_order : (gs : List Group) → AreInTableOrder (map (λ (h : Group). h.key) gs) → in_order (λ (h : Group). h.key) gs ≡ gs
-stays_in_order [] o = refl
-stays_in_order (g ∷ gs) o = ap (put_in_order (λ (h : Group). h.key) g) (stays_in_order gs (rest g gs o)) ∙ put_front g gs o
-
 -- what goes side by side with nothing is nothing
 pub nothing_beside : {A B : Type 0} (R : A → B → Type 0) (xs : List A) (ys : List B) → xs ≡ [] → AllZip R xs ys → ys ≡ []
 nothing_beside R [] [] e z = refl

@@ -1,5 +1,5 @@
 -- Something that is open ends: where the store stands then, and after what it needed was removed.
-use Rattle.std.proofs.Common.{◌≡◌, ℕ, Bool, true, false, not, ◌||◌, ◌==◌, if◌then◌else◌, List, [], ◌∷◌, option_map, Option, Some, None, refl, sym, ◌∙◌, ap, subst, arith, inl, inr, ⊎_elim}
+use Rattle.std.proofs.Common.{◌≡◌, ℕ, Bool, true, false, not, ◌||◌, ◌==◌, if◌then◌else◌, List, [], ◌∷◌, option_map, Option, Some, None, refl, sym, ap, subst, arith, inl, inr, ⊎_elim}
 use Rattle.std.specs.Prelude.{Vec, is_some, IsTrue}
 use Rattle.std.specs.List.{AllZip}
 use Rattle.std.specs.declared.alloc.Global.{Global}
@@ -9,8 +9,7 @@ use Rattle.manifest.specs.Groups.{Group as FileGroup}
 use Rattle.snapshots.specs.declared.state.Snapshots.{Snapshots}
 use Rattle.snapshots.specs.State.{State as Versions, Pins, is_open as is_among_open, open_at, ended_at as ended_in, ended, closed, after, fault_of, unless as unless_so}
 use Rattle.snapshots.specs.Views.{state_of}
-use Rattle.table.specs.State.{State, Job, ended_at}
-use Rattle.table.specs.Cursors.{Cursor}
+use Rattle.table.specs.State.{State, ended_at}
 use Rattle.table.specs.Calls.{Call, Answer, refused}
 use Rattle.table.specs.Refusing.{Happens, gets_on, needs_memory, no_memory}
 use Rattle.table.proofs.Steady.{is_other, stays}

@@ -1,6 +1,6 @@
 -- A fetch that goes on: what it leaves, and that it acts.
-use Rattle.std.proofs.Common.{◌≡◌, ◌⊎◌, ℕ, Bool, true, false, not, ◌||◌, ◌==◌, List, [], ◌∷◌, ◌++◌, drop, length, reverse, option_map, Option, Some, None, Result, Ok, Err, inl, inr, refl, sym, ◌∙◌, ap, subst, ⊎_elim, eqb-true, eq-eqb, arith}
-use Rattle.std.specs.Prelude.{if◌then◌else◌, Vec, IfOk}
+use Rattle.std.proofs.Common.{◌≡◌, ℕ, Bool, true, false, not, ◌==◌, List, [], ◌∷◌, ◌++◌, length, reverse, option_map, Option, Some, None, Ok, Err, refl, sym, ◌∙◌, ap, subst, eqb-true, arith}
+use Rattle.std.specs.Prelude.{if◌then◌else◌, Vec}
 use Rattle.std.specs.declared.alloc.Global.{Global}
 use Rattle.std.specs.List.{AllZip}
 use Rattle.bits.specs.declared.refusal.Refusal.{Refusal}
@@ -14,13 +14,13 @@ use Rattle.schema.specs.declared.row.Row.{Row as CodeRow}
 use Rattle.partition.specs.Folders.{part_path_of}
 use Rattle.disk.specs.State.{State as DiskState}
 use Rattle.vault.specs.declared.vault.Vault.{Vault}
-use Rattle.vault.specs.Views.{View, Same, LeavesAfter}
+use Rattle.vault.specs.Views.{Same}
 use Rattle.vault.specs.Calls.{LeavesAll}
 use Rattle.vault.proofs.Moments.{widens, kept_on}
 use Rattle.manifest.specs.Groups.{Group as FileGroup, root_of}
 use Rattle.scan.specs.Faults.{IsDevice}
 use Rattle.snapshots.specs.Views.{state_of}
-use Rattle.table.specs.Table.{Row, Group}
+use Rattle.table.specs.Table.{Group}
 use Rattle.table.specs.Cursors.{Batch, Cursor}
 use Rattle.table.specs.State.{State, open_at, changed_at}
 use Rattle.table.specs.Calls.{Call, Answer, fetch, refused}
@@ -36,7 +36,7 @@ use Rattle.store.specs.declared.jobs.OpenCursor.{OpenCursor}
 use Rattle.store.specs.declared.passing.Reached.{Reached}
 use Rattle.store.specs.Lookups.{cursor_at}
 use Rattle.store.specs.Spares.{Spares, Agrees}
-use Rattle.store.specs.Stands.{AreStored, AreNumbered, ShowsCursor, ShowsOpen, Shows, Stands, numbers_at, cursor_numbers}
+use Rattle.store.specs.Stands.{AreStored, AreNumbered, ShowsCursor, ShowsOpen, Stands, numbers_at, cursor_numbers}
 use Rattle.store.specs.Cleaning.{Clears}
 use Rattle.store.specs.Passing.{Comes, batches_with, batches_from, moved, moved_at, GoesTo, Sees, Went, FetchReads}
 use Rattle.store.proofs.Passed.{goes_nowhere}

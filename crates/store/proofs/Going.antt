@@ -1,11 +1,9 @@
 -- A cursor that goes from group to group.
-use Rattle.std.proofs.Common.{◌≡◌, ◌≤◌, ◌<◌, ◌+◌, ◌-◌, ℕ, zero, suc, Bool, true, false, nat_lt, ◌==◌, List, [], ◌∷◌, ◌++◌, map, filter, drop, length, Option, Some, None, Result, Ok, Err, refl, sym, ◌∙◌, ap, subst, arith}
+use Rattle.std.proofs.Common.{◌≡◌, ◌≤◌, ◌<◌, ◌+◌, ◌-◌, ℕ, zero, suc, Bool, true, false, nat_lt, ◌==◌, List, [], ◌∷◌, ◌++◌, map, filter, drop, length, Option, Some, None, Ok, refl, sym, ◌∙◌, ap, subst, arith}
 use Rattle.std.specs.Prelude.{if◌then◌else◌, slice_get, Vec}
 use Rattle.std.specs.declared.alloc.Global.{Global}
 use Rattle.std.specs.List.{AllByRecursion}
 use Rattle.std.proofs.lemmas.Bool.{eqb-true, lt-ltb}
-use Rattle.bits.specs.declared.refusal.Refusal.{Refusal}
-use Rattle.bits.specs.Refusals.{RefusedOnly}
 use Rattle.schema.specs.declared.row.Row.{Row as CodeRow}
 use Rattle.schema.specs.Values.{ValueTrees}
 use Rattle.schema.specs.Shape.{Fields, count as count_fields}
@@ -19,19 +17,19 @@ use Rattle.filter.specs.Test.{Test, tests_in}
 use Rattle.filter.specs.Deciding.{satisfies as all_satisfied}
 use Rattle.manifest.specs.Groups.{Group as FileGroup, Root, root_of}
 use Rattle.manifest.specs.Records.{IsGroup}
-use Rattle.scan.specs.Faults.{IsDevice}
-use Rattle.scan.specs.Selected.{IsOver, Holds, AreSelected, cut_to, IsRuledOut}
+use Rattle.scan.specs.Selected.{IsOver, Holds, AreSelected, cut_to}
 use Rattle.snapshots.specs.State.{State as Versions, open_at, group_in, version_at}
 use Rattle.table.specs.Table.{Row, Group}
-use Rattle.table.specs.Cursors.{Batch, Cursor, cut, batch_of, batches_of, wanted_places}
+use Rattle.table.specs.Cursors.{Cursor, cut, batches_of}
 use Rattle.table.proofs.Deciding.{tests_decide}
 use Rattle.store.specs.declared.jobs.OpenCursor.{OpenCursor}
 use Rattle.store.specs.declared.passing.Reached.{Reached}
-use Rattle.store.specs.Stands.{IsStored, AreStored, IsMade, ShowsCursor}
+use Rattle.store.specs.Stands.{IsStored, AreStored, ShowsCursor}
 use Rattle.store.specs.Reading.{OnlyReads, ReadsFor, IsReading}
-use Rattle.store.specs.Passing.{AreReads, ReadsFrom, GoesTo, Goes, Comes, batches_with, batches_from}
+use Rattle.store.specs.Passing.{GoesTo, Comes, batches_with, batches_from}
 use Rattle.store.proofs.CutRows.{cut_each, all_wide}
 use Rattle.store.proofs.Passed.{reading_here, reading_on, from_then, one_from, goes_nowhere}
+use Rattle.store.proofs.Buffered.{drop_all}
 
 -- ---- batches
 
@@ -41,12 +39,6 @@ split_first test places g gs rs e = ap (λ (xs : List Row). if nat_lt 0 (length 
     by : (xs : List Row) → (if nat_lt 0 (length xs) then record { places = places; rows = xs } ∷ batches_of test places gs else batches_of test places gs) ≡ batches_with places xs ++ batches_of test places gs
     by [] = refl
     by (x ∷ xs) = ap (λ (b : Bool). if b then record { places = places; rows = x ∷ xs } ∷ batches_of test places gs else batches_of test places gs) (lt-ltb 0 (length (x ∷ xs)) (omega arith))
-
-past_end : {A : Type 0} (xs : List A) (i : ℕ) → length xs ≤ i → drop i xs ≡ []
-past_end [] zero le = refl
-past_end [] (suc i) le = refl
-past_end (x ∷ xs) zero le = absurd (omega (arith, le))
-past_end (x ∷ xs) (suc i) le = past_end xs i (omega (arith, le))
 
 pub no_rows : {A : Type 0} (xs : List A) → (length xs == 0) ≡ true → xs ≡ []
 no_rows [] e = refl
@@ -212,5 +204,5 @@ module _ (old : DiskState) (versions : Versions) (c : OpenCursor) where
       → (r : Reached) → r.rows.items ≡ [] → r.passed ≡ p → Comes c z.groups r
   none_left p now so_far honest keys count d z le r none same = record {
     batches = so_far.none honest keys count d z ∙ ap (batches_from c z.groups) (sym same) ∙ sym (ap (λ (rs : List CodeRow). batches_with places (rows_view rs) ++ batches_from c z.groups r.passed) none);
-    none = λ e. ap (batches_from c z.groups) same ∙ ap (λ (gs : List Group). batches_of (all_satisfied tests) places gs) (past_end z.groups p (let m = as_many old keys root.schema count root.groups z.groups z.stored in omega (arith, le, m)));
+    none = λ e. ap (batches_from c z.groups) same ∙ ap (λ (gs : List Group). batches_of (all_satisfied tests) places gs) (drop_all z.groups p (let m = as_many old keys root.schema count root.groups z.groups z.stored in omega (arith, le, m)));
   }

@@ -6,6 +6,7 @@ pub mod Sound
 pub mod Carried
 pub mod Written
 pub mod Unfit
+pub mod Narrowed
 pub mod Numbered
 pub mod Wrote
 pub mod Turned
@@ -27,13 +28,13 @@ pub mod Fetching
 pub mod Joins
 pub mod Events
 pub mod OpenSo
-pub mod OpenedNothing
 pub mod Begins
 pub mod Ends
 pub mod Listed
 pub mod Staged
 pub mod Ended
 pub mod TermFaults
+pub mod Sure
 pub mod Queried
 pub mod Changes
 pub mod Rewrote
@@ -46,6 +47,7 @@ pub mod Opened
 pub mod Made
 pub mod Created
 pub mod Restarted
+pub mod Prefixed
 pub mod Cut
 pub mod Widths
 pub mod Sorting

@@ -1,5 +1,5 @@
 -- Where a disk stands after a new table was put, or was to be.
-use Rattle.std.proofs.Common.{◌≡◌, ◌≢◌, ◌⊎◌, List, Some, None, Result, Ok, Err, refl, sym, ◌∙◌, ap, subst, arith, inl, inr, ⊎_elim}
+use Rattle.std.proofs.Common.{◌≡◌, ◌≢◌, ◌⊎◌, ℕ, List, Some, None, Result, Ok, Err, refl, sym, ◌∙◌, ap, subst, arith, inl, inr, ⊎_elim}
 use Rattle.std.specs.Prelude.{IfErr}
 use Rattle.bits.specs.declared.refusal.Refusal.{Refusal}
 use Rattle.bits.specs.declared.refusal.Refusal.TheVariants.{Limit, Exists, Device, InDoubt, Memory}
@@ -8,6 +8,7 @@ use Rattle.schema.specs.Shape.{Fields}
 use Rattle.schema.specs.Keys.{KeyColumn}
 use Rattle.disk.specs.State.{Image, State as DiskState, content}
 use Rattle.vault.specs.Views.{LeavesAfter, AllBut, root_path, next_path}
+use Rattle.vault.specs.Ways.{IsClearIn}
 use Rattle.vault.specs.Calls.{HasFailed, LeavesAll, SwapsRoot}
 use Rattle.vault.proofs.Moments.{le_or}
 use Rattle.vault.proofs.Names.{root_not_next}
@@ -21,7 +22,7 @@ use Rattle.table.specs.Table.{Table, empty_table}
 use Rattle.store.specs.declared.creating.First.{First}
 use Rattle.store.specs.Paths.{PathsAreApart}
 use Rattle.store.specs.OnDisk.{Holds}
-use Rattle.store.specs.Spares.{HasRoom}
+use Rattle.store.specs.Spares.{IsPlace, HasRoom}
 use Rattle.store.specs.Opening.{HasNoRoot, LeavesNoneOr}
 use Rattle.store.specs.Creating.{first_root, IsFirst, IsNotNew, IsNotPut, IsNotFirst}
 use Rattle.store.proofs.Carried.{past_of, past_on}
@@ -48,19 +49,19 @@ module _ (schema : Fields) (keys : List KeyColumn) (first : First) (is : IsFirst
     parts = tt;
   }
 
-  holds_first : (c : Image) → content c root_path ≡ Some first.root.items → Holds c (empty_table schema keys)
-  holds_first c there = (first_root schema keys, is_table c there)
+  holds_first : (c : Image) → content c root_path ≡ Some first.root.items → ((path : List ℕ) → IsPlace keys path → IsClearIn c path) → Holds c (empty_table schema keys)
+  holds_first c there clear = record { files = (first_root schema keys, is_table c there); room = clear }
 
   pub versions_are : state_of first.versions ≡ start (root_of first.manifest).groups
   versions_are = is.versions ∙ ap (λ (r : Root). start r.groups) (sym is.manifest)
 
   module _ (old new : DiskState) (result : Result (Unit {0}) Refusal) (swaps : SwapsRoot first.root.items old new result) where
-    pub swap_leaves : HasNoRoot old → LeavesNoneOr (empty_table schema keys) old new
-    swap_leaves none = record {
+    pub swap_leaves : PathsAreApart → HasRoom keys old → HasNoRoot old → LeavesNoneOr (empty_table schema keys) old new
+    swap_leaves apart room none = record {
       past = past_of old new swaps.moments;
       each = λ m c lo hi at.
           let was = swaps.moments.each m c lo hi at in
-          ⊎_elim (λ same. inl (same ∙ none was.0 was.1)) (λ put. inr (holds_first c put)) was.2.either;
+          ⊎_elim (λ same. inl (same ∙ none was.0 was.1)) (λ put. inr (holds_first c put (λ path place. swaps.clear path (off_place keys apart path place) (room path place) m c lo hi at))) was.2.either;
     }
 
     pub swap_refused : (e : Refusal) → result ≡ Err e → HasNoRoot old → e ≢ InDoubt → HasNoRoot new

@@ -5,9 +5,9 @@ use Rattle.std.specs.List.{AllZip}
 use Rattle.std.specs.declared.alloc.Global.{Global}
 use Rattle.schema.specs.Keys.{AreDistinct}
 use Rattle.disk.specs.State.{State as DiskState}
-use Rattle.manifest.specs.Groups.{Group as FileGroup, numbers_of}
+use Rattle.manifest.specs.Groups.{numbers_of}
 use Rattle.snapshots.specs.declared.state.Snapshots.{Snapshots}
-use Rattle.snapshots.specs.State.{State as Versions, Pins}
+use Rattle.snapshots.specs.State.{State as Versions}
 use Rattle.snapshots.specs.Views.{state_of}
 use Rattle.table.specs.Cursors.{Cursor}
 use Rattle.table.specs.State.{State, Job}

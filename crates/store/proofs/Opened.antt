@@ -1,10 +1,14 @@
 -- Where a disk and a store stand after an opening.
-use Rattle.std.proofs.Common.{◌≡◌, ◌≤◌, ℕ, Bool, true, false, not, List, [], ◌∷◌, map, refl, sym, ◌∙◌, ap, subst, arith}
+use Rattle.std.proofs.Common.{◌≡◌, ◌≤◌, ℕ, Bool, true, false, not, Result, Ok, Err, refl, sym, ◌∙◌, ap, subst, arith, inl, inr}
+use Rattle.std.specs.Prelude.{IfErr, OnOk, OnErr}
+use Rattle.bits.specs.declared.refusal.Refusal.{Refusal}
+use Rattle.bits.specs.Refusals.{HasCause, RefusedMemoryOnly}
 use Rattle.disk.specs.State.{Image, State as DiskState, content, may_leave}
 use Rattle.vault.specs.declared.vault.Vault.{Vault}
-use Rattle.vault.specs.Views.{LeavesAfter}
-use Rattle.vault.proofs.Moments.{nothing_yet}
+use Rattle.vault.specs.Views.{Same, LeavesAfter}
+use Rattle.vault.proofs.Moments.{nothing_yet, stays_rooted_here, stays_clear_here}
 use Rattle.vault.specs.Ways.{LeavesWays}
+use Rattle.vault.specs.Calls.{LeavesAll}
 use Rattle.footer.specs.declared.options.WriteOptions.{WriteOptions}
 use Rattle.footer.specs.Writing.{IsOutOfRange}
 use Rattle.manifest.specs.declared.description.Manifest.{Manifest}
@@ -18,12 +22,12 @@ use Rattle.store.specs.declared.store.Store.{Store}
 use Rattle.store.specs.Paths.{PathsAreApart}
 use Rattle.store.specs.OnDisk.{Holds}
 use Rattle.store.specs.Starting.{IsStarted}
-use Rattle.store.specs.Opening.{LeavesTables, HasRoomForAll, IsOpened}
+use Rattle.store.specs.Opening.{LeavesTables, HasRoomForAll, IsOpened, ReadsRootAs, LeavesAllOrCleans}
 use Rattle.store.proofs.Carried.{past_of}
 use Rattle.store.proofs.Started as started
-use Rattle.store.proofs.Reopened.{room_left}
+use Rattle.store.proofs.Reopened.{room_left, memory_only}
 
-module _ (old new : DiskState) (moments : LeavesAfter SameTable old new) (sound : IsSound old) where
+module _ (old new : DiskState) (moments : LeavesAfter SameTable old new) (sound : IsSound old) (clear : LeavesWays old new) (room : HasRoomForAll old) where
   -- what an image holds, it held before
   abbrev Came : ℕ → Image → Type 0
   Came m c = (t : Table) × Holds c t × (d : Image) × may_leave old d × Holds d t
@@ -32,17 +36,17 @@ module _ (old new : DiskState) (moments : LeavesAfter SameTable old new) (sound 
   came m c lo hi at =
       let was = moments.each m c lo hi at in
       let h = sound.tables was.0 was.1 in
-      (h.0, was.2 h.0 h.1, was.0, was.1, h.1)
+      let own = room was.0 h.0 was.1 h.1 in
+      (h.0, record { files = was.2 h.0 h.1; room = λ path place. clear path (own path place) m c lo hi at }, was.0, was.1, record { files = h.1; room = λ path place. own path place was.0 was.1 })
 
   pub leaves_tables : LeavesTables old new
   leaves_tables = record { past = past_of old new moments; each = came }
 
-  module _ (one_table : TablesAreOne) (clear : LeavesWays old new) (room : HasRoomForAll old) where
-    pub room_for_all : HasRoomForAll new
-    room_for_all c t may held =
-        let is = came new.moment c moments.later (omega arith) may in
-        let same : is.0 ≡ t = one_table (content c) is.0 t is.1 held in
-        room_left old new SameTable moments clear t.keys (room is.2 t is.3 (subst (λ (x : Table). TableOf (content is.2) x) same is.4))
+  pub room_for_all : TablesAreOne → HasRoomForAll new
+  room_for_all one_table c t may files =
+      let is = came new.moment c moments.later (omega arith) may in
+      let same : is.0 ≡ t = one_table (content c) is.0 t is.1.files files in
+      room_left old new SameTable moments clear t.keys (room is.2 t is.3 (subst (λ (x : Table). TableOf (content is.2) x) same is.4.files))
 
 -- a store on the disk that is left
 module _ {D : Type 0} (state : D → DiskState) (old : DiskState) (store : Store D) (moments : LeavesAfter SameTable old (state store.vault.disk)) (sound : IsSound old) (room : HasRoomForAll old)
@@ -52,8 +56,8 @@ module _ {D : Type 0} (state : D → DiskState) (old : DiskState) (store : Store
 
   pub opened_so : PathsAreApart → RootsMeanOneTable → RowsOfPartsFit → (IsOutOfRange o → ⊥) → IsSound new → IsDescribed new (root_of store.manifest) → may_leave new new.seen → IsOpened state old o store
   opened_so apart one fit in_range sound_now described seen_may =
-      let here = came old new moments sound new.moment new.seen moments.later (omega arith) seen_may in
-      let same : here.0 ≡ described.table = one_table (content new.seen) here.0 described.table here.1 (root_of store.manifest, described.each new.seen seen_may) in
+      let here = came old new moments sound clear room new.moment new.seen moments.later (omega arith) seen_may in
+      let same : here.0 ≡ described.table = one_table (content new.seen) here.0 described.table here.1.files (root_of store.manifest, described.each new.seen seen_may) in
       let each : (c : Image) → may_leave new c → IsTableOf (content c) (root_of store.manifest) here.0
       = λ c may. subst (λ (x : Table). IsTableOf (content c) (root_of store.manifest) x) (sym same) (described.each c may) in
       record {
@@ -62,7 +66,7 @@ module _ {D : Type 0} (state : D → DiskState) (old : DiskState) (store : Store
         left = here.3;
         held = here.4;
         stands = started.stands state store o is here.0 each described.root_kept.0 described.root_kept.1 described.parts_kept seen_may fit apart one in_range sound_now
-            (room_left old new SameTable moments clear here.0.keys (room here.2 here.0 here.3 here.4));
+            (room_left old new SameTable moments clear here.0.keys (room here.2 here.0 here.3 here.4.files));
       }
 
 -- ---- over a store that was made of a vault and a description
@@ -102,10 +106,42 @@ pub cleans_at : {D : Type 0} (state : D → DiskState) (old : DiskState) (store 
 cleans_at {D} state old store vault manifest at_vault at_manifest cleans =
     subst (λ (v : Vault D). Cleans (root_of store.manifest) old (state v.disk)) (sym at_vault) (subst (λ (m : Manifest). Cleans (root_of m) old (state vault.disk)) (sym at_manifest) cleans)
 
+-- ---- what a refused opening leaves
+
+all_here : (disk : DiskState) → LeavesAll disk disk
+all_here disk = record {
+  moments = nothing_yet Same disk (λ u q. refl);
+  rooted = λ rooted. stays_rooted_here disk rooted;
+  clear = λ q clear. stays_clear_here disk q clear;
+  names = λ q. refl;
+  seen = λ q. refl;
+}
+
+pub nothing_changed : (disk : DiskState) (e : Refusal) → LeavesAllOrCleans disk disk e
+nothing_changed disk e = inl (all_here disk)
+
+module _ {D : Type 0} (state : D → DiskState) (old : DiskState) (vault : Vault D) (manifest : Manifest) (reads : ReadsRootAs old (root_of manifest)) (cleans : Cleans (root_of manifest) old (state vault.disk)) where
+  -- memory ran out after the cleaning
+  pub cleaned_poor : (d : D) → d ≡ vault.disk → (e : Refusal) → HasCause (λ _. ⊥) e → LeavesAllOrCleans old (state d) e
+  cleaned_poor d there e which = inr (memory_only e which, root_of manifest, reads, subst (λ (x : D). Cleans (root_of manifest) old (state x)) (sym there) cleans)
+
+  module _ (new : Store D) (there : new.vault ≡ vault) where
+    pub anew_left : (result : Result (Unit {0}) Refusal) → RefusedMemoryOnly result → IfErr result (λ e. LeavesAllOrCleans old (state new.vault.disk) e)
+    anew_left (Ok x) which = tt
+    anew_left (Err e) which = cleaned_poor new.vault.disk (ap (λ (v : Vault D). v.disk) there) e which
+
+    pub anew_cleans : (result : Result (Unit {0}) Refusal) → OnOk result (new.manifest ≡ manifest) → OnOk result (Cleans (root_of new.manifest) old (state new.vault.disk))
+    anew_cleans (Ok x) is = cleans_at state old new vault manifest there is cleans
+    anew_cleans (Err e) is = tt
+
+pub anew_shut : {D : Type 0} (mid later : Store D) (result : Result (Unit {0}) Refusal) → OnErr result (later ≡ mid) → mid.closed ≡ true → OnErr result (later.closed ≡ true)
+anew_shut mid later (Ok x) same is = tt
+anew_shut {D} mid later (Err e) same is = ap (λ (s : Store D). s.closed) same ∙ is
+
 -- ---- nothing is done yet
 
-pub nothing_left : (disk : DiskState) → IsSound disk → LeavesTables disk disk
-nothing_left disk sound = leaves_tables disk disk (nothing_yet SameTable disk (λ u t h. h)) sound
+pub nothing_left : (disk : DiskState) → IsSound disk → HasRoomForAll disk → LeavesTables disk disk
+nothing_left disk sound room = leaves_tables disk disk (nothing_yet SameTable disk (λ u t h. h)) sound (λ q clear. stays_clear_here disk q clear) room
 
 pub unlike : (b : Bool) → b ≡ false → b ≡ true → ⊥
 unlike b e f = let h : false ≡ true = sym e ∙ f in cc

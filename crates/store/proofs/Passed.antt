@@ -1,22 +1,22 @@
 -- What reading groups one after another leaves, and how often the disk is read for them.
-use Rattle.std.proofs.Common.{◌≡◌, ◌≤◌, ◌<◌, ◌+◌, ◌⊎◌, ◌↔◌, ℕ, zero, suc, Bool, true, false, List, [], ◌∷◌, ◌++◌, drop, length, Option, Some, None, option_map, Result, Ok, Err, inl, inr, refl, sym, ◌∙◌, ap, subst, arith}
-use Rattle.std.specs.Prelude.{IsErrAnd, OnOk, slice_get}
+use Rattle.std.proofs.Common.{◌≡◌, ◌+◌, ℕ, zero, suc, List, [], ◌∷◌, ◌++◌, drop, length, Some, Ok, Err, inl, inr, refl, sym, ◌∙◌, ap, subst, arith}
+use Rattle.std.specs.Prelude.{slice_get}
 use Rattle.bits.specs.declared.refusal.Refusal.{Refusal}
 use Rattle.bits.specs.declared.refusal.Refusal.TheVariants.{Memory}
-use Rattle.bits.specs.Refusals.{HasCause, RefusedOnly, RefusedMemoryOnly}
+use Rattle.bits.specs.Refusals.{HasCause}
 use Rattle.schema.specs.Shape.{Fields}
 use Rattle.schema.specs.Keys.{KeyColumn}
 use Rattle.disk.specs.State.{State as DiskState}
 use Rattle.vault.specs.Views.{Same}
-use Rattle.vault.specs.Calls.{LeavesAll, CountsOnce}
+use Rattle.vault.specs.Calls.{LeavesAll}
 use Rattle.vault.proofs.Moments.{joins, rooted_joins, clear_joins, nothing_yet, same_same, same_twice, stays_rooted_here, stays_clear_here}
 use Rattle.vault.proofs.Chained.{failed_since, both}
 use Rattle.filter.specs.Test.{Test}
 use Rattle.manifest.specs.Groups.{Group as FileGroup}
 use Rattle.scan.specs.Faults.{IsPartRefusal}
 use Rattle.store.specs.declared.jobs.OpenCursor.{OpenCursor}
-use Rattle.store.specs.Reading.{OnlyReads, ReadsFor, IsReading}
-use Rattle.store.specs.Passing.{AreReads, AreReadsOf, AreReadsFrom, ReadsFrom, GoesTo, AreFetches, QueriesReadOnce, FetchesFollow, sum_of, moved}
+use Rattle.store.specs.Reading.{OnlyReads, IsReading}
+use Rattle.store.specs.Passing.{AreReads, AreReadsOf, AreReadsFrom, ReadsFrom, GoesTo, AreFetches, QueriesReadOnce, FetchesFollow, moved}
 
 -- ---- a disk that is only read
 

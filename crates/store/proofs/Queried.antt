@@ -1,7 +1,5 @@
 -- A cursor that is opened.
 use Rattle.std.proofs.Common.{◌≡◌, ◌+◌, ℕ, Bool, true, false, not, ◌&&◌, nat_lt, List, [], ◌∷◌, ◌++◌, length, drop, Option, Some, None, Ok, Err, refl, sym, ◌∙◌, ap, subst}
-use Rattle.std.specs.Prelude.{Vec}
-use Rattle.std.specs.declared.alloc.Global.{Global}
 use Rattle.bits.specs.declared.refusal.Refusal.{Refusal}
 use Rattle.bits.specs.declared.refusal.Refusal.TheVariants.{Memory, Full, Closed, NoColumn}
 use Rattle.bits.specs.Refusals.{HasCause}
@@ -18,7 +16,6 @@ use Rattle.disk.specs.State.{State as DiskState}
 use Rattle.manifest.specs.Groups.{Group as FileGroup, Root, root_of}
 use Rattle.snapshots.specs.State.{opened, after, fault_of, open_at}
 use Rattle.snapshots.specs.Views.{state_of}
-use Rattle.table.specs.Table.{Group}
 use Rattle.table.specs.State.{State}
 use Rattle.table.specs.Deciding.{Filter, filter_fault, passes, refusal_in}
 use Rattle.table.specs.Cursors.{Columns, columns_fault, wanted_places, batches, batches_of}

@@ -25,12 +25,6 @@ use Rattle.store.proofs.Passed.{drop_at}
 
 -- ---- any list
 
-pub zip_push : {A B : Type 0} (R : A → B → Type 0) (xs : List A) (ys : List B) (x : A) (y : B) → AllZip R xs ys → R x y → AllZip R (xs ++ x ∷ []) (ys ++ y ∷ [])
-zip_push R [] [] x y z one = (one, tt)
-zip_push R (a ∷ xs) (b ∷ ys) x y z one = (z.0, zip_push R xs ys x y z.1 one)
-zip_push R [] (b ∷ ys) x y z one = absurd z
-zip_push R (a ∷ xs) [] x y z one = absurd z
-
 pub drop_more : {A : Type 0} (xs : List A) (i : ℕ) (x : A) → slice_get xs i ≡ Some x → drop i xs ≡ x ∷ drop (i + 1) xs
 drop_more xs i x e = rw (add-one i) (drop_at xs i x e)
 

@@ -35,7 +35,7 @@ use Rattle.store.proofs.Doubts.{keys_in_doubt}
 pub room_left : (old new : DiskState) (Change : View → View → Type 0) → LeavesAfter Change old new → LeavesWays old new → (keys : List KeyColumn) → HasRoom keys old → HasRoom keys new
 room_left old new Change moments clear keys room path place c may = clear path (room path place) new.moment c moments.later (omega arith) may
 
-memory_only : (e : Refusal) → HasCause (λ _. ⊥) e → e ≡ Memory
+pub memory_only : (e : Refusal) → HasCause (λ _. ⊥) e → e ≡ Memory
 memory_only Memory h = refl
 memory_only e h = absurd h
 
@@ -58,12 +58,17 @@ module _ {D : Type 0} (state : D → DiskState) (old : Store D) (s : State) (sta
   abbrev shown : Shows state old s
   shown = stands.shows
 
+  -- the table that may be there has the same key columns
+  keys_of : (t : Table) → MayHold s t → t.keys ≡ s.table.keys
+  keys_of t may = ⊎_elim (λ is. ap (λ (x : Table). x.keys) is) (λ doubt. keys_in_doubt s stands.reached t doubt) may
+
   -- at each moment there is a table that may have been there
   holds_at : (m : ℕ) (c : Image) → before.moment ≤ m → m ≤ disk.moment → disk.images m c → (t : Table) × Holds c t × MayHold s t
   holds_at m c lo hi at =
       let was = moments.each m c lo hi at in
       let h = shown.sound.tables was.0 was.1 in
-      (h.table, was.2 h.table h.held, h.allowed)
+      let room = subst (λ (ks : List KeyColumn). HasRoom ks before) (sym (keys_of h.table h.allowed)) shown.room in
+      (h.table, record { files = was.2 h.table h.held.files; room = λ path place. clear path (room path place) m c lo hi at }, h.allowed)
 
   holds_now : (c : Image) → may_leave disk c → (t : Table) × Holds c t × MayHold s t
   holds_now c may = holds_at disk.moment c moments.later (omega arith) may
@@ -119,13 +124,13 @@ module _ {D : Type 0} (state : D → DiskState) (old : Store D) (s : State) (sta
     table = seen_holds.0
 
     is_described : table ≡ described.table
-    is_described = one_table (content disk.seen) table described.table seen_holds.1 (root_of new.manifest, described.each disk.seen seen_may)
+    is_described = one_table (content disk.seen) table described.table seen_holds.1.files (root_of new.manifest, described.each disk.seen seen_may)
 
     each : (c : Image) → may_leave disk c → IsTableOf (content c) (root_of new.manifest) table
     each c may = subst (λ (x : Table). IsTableOf (content c) (root_of new.manifest) x) (sym is_described) (described.each c may)
 
     same_keys : table.keys ≡ s.table.keys
-    same_keys = ⊎_elim (λ is. ap (λ (t : Table). t.keys) is) (λ doubt. keys_in_doubt s stands.reached table doubt) seen_holds.2
+    same_keys = keys_of table seen_holds.2
 
     room : HasRoom table.keys disk
     room = subst (λ (ks : List KeyColumn). HasRoom ks disk) (sym same_keys) (room_left before disk SameTable moments clear s.table.keys shown.room)
@@ -145,7 +150,7 @@ module _ {D : Type 0} (state : D → DiskState) (old : Store D) (s : State) (sta
       survives = record {
         later = moments.later;
         each = λ m c lo hi at. let h = holds_at m c lo hi at in (h.0, h.1, inl h.2);
-        ended = λ c may. (table, (root_of new.manifest, each c may), inl refl);
+        ended = λ c may. (table, record { files = (root_of new.manifest, each c may); room = λ path place. room path place c may }, inl refl);
       };
       stands = stands_now;
       past = past_of before disk moments;

@@ -40,8 +40,9 @@ use Rattle.store.proofs.Adding.{failed_since as failed_on}
 use Rattle.store.proofs.Buffered.{drop_all}
 use Rattle.store.proofs.Kept.{all_kept}
 use Rattle.store.proofs.Widths.{is_row_of}
-use Rattle.store.proofs.Remains.{zip_push, drop_more, passed_more, filtered_both, no_picked, any_picked, touched_here, untouched_here, come_files, come_groups, changes_more, touched_at}
+use Rattle.store.proofs.Remains.{drop_more, passed_more, filtered_both, no_picked, any_picked, touched_here, untouched_here, come_files, come_groups, changes_more, touched_at}
 use Rattle.store.proofs.Replacing.{wrote_read, has_read}
+use Rattle.store.proofs.Events.{zip_more}
 
 -- ---- the group at a place
 
@@ -174,7 +175,7 @@ module _ {D : Type 0} (state : D → DiskState) (start now : Store D) (s : State
             files_are = passed_more root.groups r.files place at.file at.file_at r.files_are;
             groups_are = passed_more s.table.groups r.groups place at.group at.group_at r.groups_are;
             as_many = more_many stays;
-            left = zip_push (IsLeft pass) r.groups r.outcomes at.group stays r.left untouched;
+            left = zip_more (IsLeft pass) r.groups r.outcomes at.group stays r.left untouched;
             changes_are = r.changes_are ∙ sym (changes_more r.files r.outcomes at.file stays r.as_many ∙ nothing_behind (changes_for r.files r.outcomes));
             written = subst (λ (fs : List FileGroup). HasWritten state start (record now { vault = vault }) s None fs (groups_come (r.outcomes ++ stays ∷ []))) (sym (come_files r.outcomes stays ∙ nothing_behind (files_come r.outcomes)))
                 (subst (λ (gs : List Group). HasWritten state start (record now { vault = vault }) s None (files_come r.outcomes) gs) (sym (come_groups r.outcomes stays ∙ nothing_behind (groups_come r.outcomes)))
@@ -227,7 +228,7 @@ module _ {D : Type 0} (state : D → DiskState) (start now : Store D) (s : State
           files_are = subst (λ (q : Root). q.groups ≡ (r.files ++ at.file ∷ []) ++ drop (place + 1) q.groups) (sym same) (passed_more root.groups r.files place at.file at.file_at r.files_are);
           groups_are = passed_more s.table.groups r.groups place at.group at.group_at r.groups_are;
           as_many = more_many;
-          left = zip_push (IsLeft pass) r.groups r.outcomes at.group o r.left (is_left o put.is);
+          left = zip_more (IsLeft pass) r.groups r.outcomes at.group o r.left (is_left o put.is);
           changes_are = put.changed ∙ ap (λ (cs : List Change). cs ++ change_for rest.number o) r.changes_are ∙ ap (λ (n : ℕ). changes_for r.files r.outcomes ++ change_for n o) are.number
               ∙ sym (changes_more r.files r.outcomes at.file o r.as_many);
           written = subst (λ (fs : List FileGroup). HasWritten state start new s None fs (groups_come (r.outcomes ++ o ∷ []))) (sym (come_files r.outcomes o))

@@ -1,22 +1,22 @@
 -- What waits of an append, as the writing of rows goes on with it, and back.
-use Rattle.std.proofs.Common.{◌≡◌, ◌≤◌, ◌<◌, ◌+◌, ℕ, suc, Bool, true, false, List, [], ◌∷◌, ◌++◌, map, flat_map, length, refl, sym, ◌∙◌, ap, subst, arith}
+use Rattle.std.proofs.Common.{◌≡◌, ◌≤◌, ◌<◌, ℕ, suc, Bool, true, List, [], ◌∷◌, ◌++◌, map, flat_map, length, refl, sym, ap, subst, arith}
 use Rattle.std.specs.List.{AllZip, AllByRecursion}
 use Rattle.schema.specs.Values.{ValueTrees, no_values, value as item}
 use Rattle.schema.specs.Shape.{Fields, no_fields, field, count as count_fields}
 use Rattle.schema.specs.Fits.{fits_each, RowsFit}
 use Rattle.schema.specs.Fronts.{padded}
-use Rattle.schema.specs.Keys.{KeyColumn, AreKeys, IsRowOf, AreRowsOf, key_of_row, width, without_keys}
+use Rattle.schema.specs.Keys.{KeyColumn, AreKeys, IsRowOf, AreRowsOf, width, without_keys}
 use Rattle.schema.proofs.Grown.{keys_and_others}
 use Rattle.partition.specs.Folders.{CanPartition}
 use Rattle.partition.specs.Splitting.{KeyRows}
 use Rattle.disk.specs.State.{State as DiskState}
 use Rattle.table.specs.Table.{Row, Key, IsRowIn}
 use Rattle.store.specs.Stands.{AreWaiting}
-use Rattle.store.specs.Buffers.{keys_in, IsRising}
+use Rattle.store.specs.Buffers.{keys_in}
 use Rattle.store.specs.Filling.{IsBuffer, AreBuffers, IsFew, rows_waiting}
-use Rattle.store.specs.Completing.{completed_rows, completed_buffer, completed_buffers}
+use Rattle.store.specs.Completing.{completed_rows, completed_buffers}
 use Rattle.store.proofs.Taken.{same_length}
-use Rattle.store.proofs.Widened.{width_fits}
+use Rattle.store.proofs.WholeRows.{whole_width}
 
 padded_full : (fs : Fields) (row : ValueTrees) → count_fields fs ≤ width row → padded fs row ≡ row
 padded_full no_fields row h = refl
@@ -50,7 +50,7 @@ module _ (keys : List KeyColumn) (schema : Fields) where
   module _ (are_keys : AreKeys keys schema) where
     one_padded : (key : Key) (w r : Row) → fits_each schema r ≡ true → IsRowOf keys key w r → padded own w ≡ w
     one_padded key w r fit is =
-        let a = width_fits schema r fit in
+        let a = whole_width schema r fit in
         let b = is.whole in
         let c = keys_and_others keys schema are_keys in
         padded_full own w (omega (arith, a, b, c))

@@ -1,20 +1,19 @@
 -- A rewrite that is opened: its runs, of which nothing is read yet.
-use Rattle.std.proofs.Common.{◌≡◌, ◌≤◌, ◌<◌, ◌+◌, ℕ, zero, Bool, true, false, not, ◌&&◌, ◌||◌, nat_eq, nat_lt, if◌then◌else◌, List, [], ◌∷◌, ◌++◌, map, flat_map, length, take, drop, Option, Some, None, refl, sym, ◌∙◌, ap, subst, arith}
+use Rattle.std.proofs.Common.{◌≡◌, ℕ, Bool, true, false, ◌&&◌, ◌||◌, nat_eq, if◌then◌else◌, List, [], ◌∷◌, refl, sym, ◌∙◌, ap, subst}
 use Rattle.std.specs.List.{AllZip, AllByRecursion, list_all}
 use Rattle.std.proofs.lemmas.Bool.{and_parts, eqb-true}
-use Rattle.bits.specs.declared.refusal.Refusal.TheVariants.{Full, Closed, NoGroup}
 use Rattle.schema.specs.Shape.{Fields}
 use Rattle.schema.specs.Cutting.{is_among}
 use Rattle.schema.specs.Keys.{KeyColumn, without_keys}
 use Rattle.partition.specs.Order.{is_same_key}
 use Rattle.disk.specs.State.{State as DiskState}
-use Rattle.manifest.specs.Groups.{Group as FileGroup, root_of, handles_view}
+use Rattle.manifest.specs.Groups.{Group as FileGroup, handles_view}
 use Rattle.manifest.specs.Records.{IsGroup}
 use Rattle.planning.specs.Runs.{runs_in as file_runs, sources_view}
 use Rattle.snapshots.specs.State.{Pins, file_of, names}
 use Rattle.table.specs.Table.{Key, Group, numbers}
-use Rattle.table.specs.Plans.{put_before_runs, is_joined, runs_of, first_of}
-use Rattle.table.specs.State.{State, sources}
+use Rattle.table.specs.Plans.{put_before_runs, is_joined, first_of}
+use Rattle.table.specs.State.{sources}
 use Rattle.table.specs.History.{runs_in}
 use Rattle.planning.specs.declared.change.Sources.{Sources}
 use Rattle.store.specs.Stands.{IsStored, AreStored, ShowsRun}

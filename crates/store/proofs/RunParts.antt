@@ -3,7 +3,7 @@ use Rattle.std.proofs.Common.{◌≡◌, ◌≤◌, ◌+◌, ◌*◌, ◌⊎◌,
 use Rattle.std.specs.Prelude.{if◌then◌else◌, ◌==◌, min}
 use Rattle.std.specs.List.{AllByRecursion}
 use Rattle.std.proofs.Common.{eq-eqb}
-use Rattle.std.proofs.lemmas.Bool.{and_from, lt-ltb, le-leb, eqb-true}
+use Rattle.std.proofs.lemmas.Bool.{and_from, lt-ltb, le-leb}
 use Rattle.std.proofs.lemmas.Nat.{mul-le}
 use Rattle.std.proofs.lemmas.List.{append-nil, take-append-drop, take-map, drop-map, take_min, drop_min, drop-drop, drop_all}
 use Rattle.bits.specs.declared.refusal.Refusal.{Refusal}
@@ -247,7 +247,3 @@ all_dropped P (suc n) (x ∷ xs) h = all_dropped P n xs h.1
 pub not_empty : (n : ℕ) → (n == 0) ≡ false → 1 ≤ n
 not_empty zero e = absurd (cc)
 not_empty (suc n) e = omega arith
-
-pub is_empty_so : {A B : Type 0} (f : A → B) (xs : List A) → (length xs == 0) ≡ true → map f xs ≡ []
-is_empty_so f [] e = refl
-is_empty_so f (x ∷ xs) e = absurd (let z = eqb-true (length (x ∷ xs)) 0 e in omega (arith, z))

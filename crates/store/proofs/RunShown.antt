@@ -19,8 +19,9 @@ use Rattle.table.specs.State.{sources}
 use Rattle.table.specs.Standing.{StandInRows}
 use Rattle.store.specs.Stands.{IsStored, AreStored}
 use Rattle.store.proofs.Apart.{Shares, distinct_back, shared_none, shared_back, among_front, among_back, none_joined, not_true}
-use Rattle.store.proofs.Brought.{all_append}
+use Rattle.store.proofs.Brought.{all_append, each_number}
 use Rattle.store.proofs.Waits.{front_of_all, rest_of_all}
+use Rattle.store.proofs.Parted.{numbers_joined}
 
 -- ---- rows by number
 
@@ -145,14 +146,10 @@ module _ (P : FileGroup → Type 0) where
   pub rewritten_all : (rs : List Run) (gs : List FileGroup) → AllByRecursion P gs → AllByRecursion P (brought_by rs) → AllByRecursion P (replaced (changes_of rs) gs)
   rewritten_all rs gs a b = replaced_all (changes_of rs) gs a (runs_all rs b)
 
-numbers_joined_of : (fs gs : List FileGroup) → numbers_of (fs ++ gs) ≡ numbers_of fs ++ numbers_of gs
-numbers_joined_of [] gs = refl
-numbers_joined_of (f ∷ fs) gs = ap (λ (ns : List ℕ). f.number ∷ ns) (numbers_joined_of fs gs)
-
 -- what comes for a number that is there is there
 come_there : (cs : List Change) (n : ℕ) (come : List FileGroup) → come_for cs n ≡ Some come → (gs : List FileGroup) → is_among (numbers_of gs) n ≡ true → (m : ℕ) → is_among (numbers_of come) m ≡ true → is_among (numbers_of (replaced cs gs)) m ≡ true
 come_there cs n come is [] there m h = absurd (cc)
-come_there cs n come is (g ∷ gs) there m h = subst (λ (ns : List ℕ). is_among ns m ≡ true) (sym (numbers_joined_of (or_itself g (come_for cs g.number)) (replaced cs gs))) (by (nat_eq g.number n) refl there (λ f. come_there cs n come is gs f m h))
+come_there cs n come is (g ∷ gs) there m h = subst (λ (ns : List ℕ). is_among ns m ≡ true) (sym (numbers_joined (or_itself g (come_for cs g.number)) (replaced cs gs))) (by (nat_eq g.number n) refl there (λ f. come_there cs n come is gs f m h))
   where
     by : (b : Bool) → nat_eq g.number n ≡ b → (b || is_among (numbers_of gs) n) ≡ true → (is_among (numbers_of gs) n ≡ true → is_among (numbers_of (replaced cs gs)) m ≡ true) → is_among (numbers_of (or_itself g (come_for cs g.number)) ++ numbers_of (replaced cs gs)) m ≡ true
     by true e f later = among_front (numbers_of (or_itself g (come_for cs g.number))) (numbers_of (replaced cs gs)) m
@@ -188,14 +185,6 @@ same_picked ns ms (g ∷ gs) h =
     ∙ ap (λ (hs : List Group). if is_among ms g.number then g ∷ hs else hs) (same_picked ns ms gs h.1)
 
 -- each by its number
-pub each_of_numbers : (P : ℕ → Type 0) (gs : List Group) → ((m : ℕ) → is_among (numbers gs) m ≡ true → P m) → AllByRecursion (λ (g : Group). P g.number) gs
-each_of_numbers P [] h = tt
-each_of_numbers P (g ∷ gs) h = (h g.number (ap (λ (b : Bool). b || is_among (numbers gs) g.number) (eq-eqb g.number g.number refl)), each_of_numbers P gs (λ m e. h m (also (nat_eq g.number m) (is_among (numbers gs) m) e)))
-  where
-    also : (a b : Bool) → b ≡ true → (a || b) ≡ true
-    also true b e = refl
-    also false b e = e
-
 -- numbers of runs that stand among groups are the groups' own
 pub among_runs : (runs : List (List Group)) (gs : List Group) → StandInRows runs gs → (m : ℕ) → is_among (numbers_in_all (map numbers runs)) m ≡ true → is_among (numbers gs) m ≡ true
 among_runs [] gs s m e = absurd (cc)
@@ -240,13 +229,13 @@ picked_more run runs gs s d later =
     none_after m e = not_true (is_among (numbers_in_all (map numbers runs)) m) (λ h. let c : true ≡ false = sym (among_runs runs s.1 s.4 m h) ∙ e in cc)
 
     front : with_numbers (numbers_with run runs) s.0 ≡ []
-    front = none_picked (numbers_with run runs) s.0 (each_of_numbers (λ m. is_among (numbers_with run runs) m ≡ false) s.0 (λ m e.
+    front = none_picked (numbers_with run runs) s.0 (each_number (λ m. is_among (numbers_with run runs) m ≡ false) s.0 (λ m e.
         let f = off m e in
         none_joined (numbers run) (numbers_in_all (map numbers runs)) m (not_true (is_among (numbers run) m) (λ h. let c : true ≡ false = sym (among_front (numbers run) (numbers s.1) m h) ∙ f in cc))
         (none_after m (not_true (is_among (numbers s.1) m) (λ h. let c : true ≡ false = sym (among_back (numbers run) (numbers s.1) m h) ∙ f in cc)))))
 
     own : with_numbers (numbers_with run runs) run ≡ run
-    own = all_picked (numbers_with run runs) run (each_of_numbers (λ m. is_among (numbers_with run runs) m ≡ true) run (λ m e. among_front (numbers run) (numbers_in_all (map numbers runs)) m e))
+    own = all_picked (numbers_with run runs) run (each_number (λ m. is_among (numbers_with run runs) m ≡ true) run (λ m e. among_front (numbers run) (numbers_in_all (map numbers runs)) m e))
 
     same : (m : ℕ) → is_among (numbers run) m ≡ false → is_among (numbers_with run runs) m ≡ is_among (numbers_in_all (map numbers runs)) m
     same m e = by (is_among (numbers_in_all (map numbers runs)) m) refl
@@ -256,9 +245,9 @@ picked_more run runs gs s d later =
         by false f = none_joined (numbers run) (numbers_in_all (map numbers runs)) m e f ∙ sym f
 
     rest : with_numbers (numbers_with run runs) s.1 ≡ sources runs
-    rest = same_picked (numbers_with run runs) (numbers_in_all (map numbers runs)) s.1 (each_of_numbers (λ m. is_among (numbers_with run runs) m ≡ is_among (numbers_in_all (map numbers runs)) m) s.1 (λ m e. same m (shared_back (numbers run) (numbers s.1) (shared_none (numbers run) (numbers s.1) behind) m e)))
+    rest = same_picked (numbers_with run runs) (numbers_in_all (map numbers runs)) s.1 (each_number (λ m. is_among (numbers_with run runs) m ≡ is_among (numbers_in_all (map numbers runs)) m) s.1 (λ m e. same m (shared_back (numbers run) (numbers s.1) (shared_none (numbers run) (numbers s.1) behind) m e)))
         ∙ later (distinct_back (numbers run) (numbers s.1) behind)
 
 pub picked : (runs : List (List Group)) (gs : List Group) → StandInRows runs gs → AreDistinct (numbers gs) → with_numbers (numbers_in_all (map numbers runs)) gs ≡ sources runs
-picked [] gs s d = none_picked [] gs (each_of_numbers (λ m. is_among [] m ≡ false) gs (λ m e. refl))
+picked [] gs s d = none_picked [] gs (each_number (λ m. is_among [] m ≡ false) gs (λ m e. refl))
 picked (run ∷ runs) gs s d = picked_more run runs gs s d (picked runs s.1 s.4)

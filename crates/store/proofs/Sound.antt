@@ -1,18 +1,20 @@
 -- An open store's disk holds its table, whatever a stop leaves.
-use Rattle.std.proofs.Common.{◌≡◌, ◌<◌, ◌⊎◌, ℕ, zero, suc, length, List, [], ◌∷◌, map, Some, refl, sym, ◌∙◌, ap, subst, arith, ⊎_elim}
+use Rattle.std.proofs.Common.{◌≡◌, ◌<◌, ◌⊎◌, ℕ, zero, suc, length, List, [], ◌∷◌, Some, refl, sym, ◌∙◌, ap, subst, arith, ⊎_elim}
 use Rattle.std.specs.Prelude.{Contains}
 use Rattle.std.specs.List.{AllByRecursion, slice_index_or}
 use Rattle.schema.specs.Shape.{Fields}
 use Rattle.schema.specs.Keys.{KeyColumn}
 use Rattle.disk.specs.State.{Image, State as DiskState, content, may_leave}
 use Rattle.vault.specs.Views.{IsKept, IsRooted, root_path}
+use Rattle.vault.specs.Ways.{IsClearIn}
 use Rattle.partition.specs.Folders.{part_path_of}
 use Rattle.manifest.specs.Groups.{Group as FileGroup, Root}
 use Rattle.manifest.specs.Root.{RootMeans}
-use Rattle.manifest.specs.Table.{ArePartsAt, NamesPath, path_of_group}
+use Rattle.manifest.specs.Table.{TableOf, ArePartsAt, NamesPath, path_of_group}
 use Rattle.manifest.specs.Laws.{RootsMeanOneTable}
 use Rattle.table.specs.Table.{Group, Table}
 use Rattle.store.specs.OnDisk.{Holds, IsSoundFor}
+use Rattle.store.specs.Spares.{IsPlace, HasRoom}
 use Rattle.store.specs.Stands.{AreStored, IsReady}
 use Rattle.store.proofs.Stored.{IsFileBelow, stored_below, Any, all_any}
 
@@ -36,8 +38,8 @@ module _ (disk : DiskState) (count : ℕ) (root : Root) (bytes : List ℕ) (t : 
     parts_at [] (g ∷ gs) h z = absurd z
     parts_at (f ∷ fs) [] h z = absurd z
 
-    pub holds_like : Holds c t
-    holds_like = (
+    files_like : TableOf (content c) t
+    files_like = (
       root,
       record {
         described = record { bytes = bytes; there = there; means = ready.means };
@@ -48,8 +50,11 @@ module _ (disk : DiskState) (count : ℕ) (root : Root) (bytes : List ℕ) (t : 
       },
     )
 
-  pub holds : (c : Image) → may_leave disk c → content c root_path ≡ Some bytes → Holds c t
-  holds c may there = holds_like Any (all_any root.groups) c c may there (λ f low h. refl)
+    pub holds_like : ((path : List ℕ) → IsPlace t.keys path → IsClearIn c path) → Holds c t
+    holds_like clear = record { files = files_like; room = clear }
+
+  pub holds : HasRoom t.keys disk → (c : Image) → may_leave disk c → content c root_path ≡ Some bytes → Holds c t
+  holds room c may there = holds_like Any (all_any root.groups) c c may there (λ f low h. refl) (λ path place. room path place c may)
 
   -- a file that is stored is the same in each image
   same_file : (c d : Image) → may_leave disk c → may_leave disk d → (files : List FileGroup) (groups : List Group) → AreStored disk root.keys root.schema count files groups
@@ -71,11 +76,11 @@ module _ (disk : DiskState) (count : ℕ) (root : Root) (bytes : List ℕ) (t : 
       let is : part_path_of root.keys g.key g.number ≡ path = ap (λ (r : Root). path_of_group r g) (sym same) ∙ named.2.2 in
       subst (λ (p : List ℕ). content d p ≡ content c p) is (same_file c d at_c at_d root.groups t.groups stored g among.0 among.1 among.2)
 
-  pub sound_for : RootsMeanOneTable → IsRooted disk → IsKept disk root_path bytes → (Allows : Table → Type 0) → Allows t → IsSoundFor Allows disk
-  sound_for one rooted kept Allows allowed = record {
-    tables = λ c may. record { table = t; held = holds c may (kept c may); allowed = allowed };
+  pub sound_for : HasRoom t.keys disk → RootsMeanOneTable → IsRooted disk → IsKept disk root_path bytes → (Allows : Table → Type 0) → Allows t → IsSoundFor Allows disk
+  sound_for room one rooted kept Allows allowed = record {
+    tables = λ c may. record { table = t; held = holds room c may (kept c may); allowed = allowed };
     sound = record {
-      tables = λ c may. (t, holds c may (kept c may));
+      tables = λ c may. (t, (holds room c may (kept c may)).files);
       parts = λ c d at_c at_d. part_same one c d at_c at_d (kept c at_c);
       rooted = rooted;
     };
@@ -84,16 +89,16 @@ module _ (disk : DiskState) (count : ℕ) (root : Root) (bytes : List ℕ) (t : 
 -- each image has one root or another, and both tables are stored
 module _ (disk : DiskState) (count : ℕ) (root other : Root) (bytes others : List ℕ) (t u : Table) (ready : IsReady disk count root bytes t) (ready_too : IsReady disk count other others u)
     (each : (c : Image) → may_leave disk c → (content c root_path ≡ Some bytes) ⊎ (content c root_path ≡ Some others)) where
-  pub sound_for_either : RootsMeanOneTable → IsRooted disk → (Allows : Table → Type 0) → Allows t → Allows u → IsSoundFor Allows disk
-  sound_for_either one rooted Allows allowed allowed_too = record {
+  pub sound_for_either : HasRoom t.keys disk → HasRoom u.keys disk → RootsMeanOneTable → IsRooted disk → (Allows : Table → Type 0) → Allows t → Allows u → IsSoundFor Allows disk
+  sound_for_either room room_too one rooted Allows allowed allowed_too = record {
     tables = λ c may. ⊎_elim
-        (λ is. record { table = t; held = holds disk count root bytes t ready c may is; allowed = allowed })
-        (λ is. record { table = u; held = holds disk count other others u ready_too c may is; allowed = allowed_too })
+        (λ is. record { table = t; held = holds disk count root bytes t ready room c may is; allowed = allowed })
+        (λ is. record { table = u; held = holds disk count other others u ready_too room_too c may is; allowed = allowed_too })
         (each c may);
     sound = record {
       tables = λ c may. ⊎_elim
-          (λ is. (t, holds disk count root bytes t ready c may is))
-          (λ is. (u, holds disk count other others u ready_too c may is))
+          (λ is. (t, (holds disk count root bytes t ready room c may is).files))
+          (λ is. (u, (holds disk count other others u ready_too room_too c may is).files))
           (each c may);
       parts = λ c d at_c at_d path named. ⊎_elim
           (λ is. part_same disk count root bytes t ready one c d at_c at_d is path named)

@@ -1,5 +1,5 @@
 -- Places of sources, over all runs.
-use Rattle.std.proofs.Common.{◌≡◌, ◌≤◌, ◌<◌, ◌+◌, ◌-◌, ℕ, zero, suc, List, [], ◌∷◌, ◌++◌, map, drop, length, get_or, add-one, Option, Some, None, refl, sym, ◌∙◌, ap, subst, arith}
+use Rattle.std.proofs.Common.{◌≡◌, ◌≤◌, ◌<◌, ◌+◌, ◌-◌, ℕ, zero, suc, List, [], ◌∷◌, ◌++◌, drop, length, get_or, add-one, Some, None, refl, sym, ◌∙◌, ap, arith}
 use Rattle.std.specs.List.{slice_get}
 use Rattle.std.specs.Rc.{rc_value}
 use Rattle.std.specs.declared.rc.Rc.{Rc}
@@ -9,7 +9,7 @@ use Rattle.manifest.specs.declared.group.Group.{Group as CodeGroup}
 use Rattle.manifest.specs.Groups.{Group, group_view, handles_view}
 use Rattle.planning.specs.declared.change.Sources.{Sources}
 use Rattle.store.specs.Stepping.{sources_in, source_in}
-use Rattle.store.proofs.Tallied.{past_all}
+use Rattle.store.proofs.Buffered.{drop_all}
 
 get_front : {A : Type 0} (xs ys : List A) (n : ℕ) → n < length xs → slice_get (xs ++ ys) n ≡ slice_get xs n
 get_front [] ys n low = absurd (omega (arith, low))
@@ -50,4 +50,4 @@ module _ (runs : List Sources) (i : ℕ) (x : Sources) (low : i < length runs) (
       ∙ ap (λ (fs : List Group). slice_get fs place) (sym split)
 
 pub source_none : (runs : List Sources) (i place : ℕ) → length runs ≤ i → None ≡ source_in (drop i runs) place
-source_none runs i place over = ap (λ (rs : List Sources). source_in rs place) (sym (past_all runs i over))
+source_none runs i place over = ap (λ (rs : List Sources). source_in rs place) (sym (drop_all runs i over))

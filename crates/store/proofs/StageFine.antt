@@ -1,5 +1,5 @@
 -- A stage that passed its checks: its job is there, and its rows can be written.
-use Rattle.std.proofs.Common.{◌≡◌, ℕ, Bool, true, false, not, List, [], ◌∷◌, ◌++◌, map, Option, Some, None, refl, sym, ◌∙◌, ap, subst}
+use Rattle.std.proofs.Common.{◌≡◌, ℕ, Bool, true, false, not, List, [], ◌∷◌, map, Option, Some, None, refl, sym, ◌∙◌, ap, subst}
 use Rattle.bits.specs.declared.refusal.Refusal.{Refusal}
 use Rattle.bits.specs.declared.refusal.Refusal.TheVariants.{Closed, Full}
 use Rattle.schema.specs.Shape.{Fields}
@@ -7,7 +7,7 @@ use Rattle.schema.specs.Keys.{KeyColumn, without_keys}
 use Rattle.disk.specs.State.{State as DiskState}
 use Rattle.partition.specs.Splitting.{KeyRows, key_rows_view}
 use Rattle.partition.proofs.KeyColumns.{keys_can}
-use Rattle.manifest.specs.Groups.{Group as FileGroup, root_of, handles_view}
+use Rattle.manifest.specs.Groups.{Group as FileGroup, root_of}
 use Rattle.manifest.specs.Root.{stored_of}
 use Rattle.table.specs.Table.{Row}
 use Rattle.table.specs.State.{State, open_at}
@@ -17,7 +17,7 @@ use Rattle.table.specs.Calls.{stage}
 use Rattle.store.specs.declared.store.Store.{Store}
 use Rattle.store.specs.Stands.{Stands}
 use Rattle.store.specs.Filling.{AreFine, Filled}
-use Rattle.store.specs.Completing.{completed_buffers, waiting_at, groups_at}
+use Rattle.store.specs.Completing.{completed_buffers, waiting_at}
 use Rattle.store.specs.Lookups.{job_at}
 use Rattle.store.proofs.Appended.{fine_rows}
 use Rattle.store.proofs.StageOn.{IsThere, append_there, append_in}

@@ -1,11 +1,10 @@
 -- Rows that are staged: the writing begins, and the job has them.
-use Rattle.std.proofs.Common.{◌≡◌, ◌≤◌, ◌<◌, ◌+◌, ◌*◌, ℕ, suc, Bool, true, false, not, ◌&&◌, List, [], ◌∷◌, ◌++◌, map, flat_map, length, take, drop, Option, Some, None, refl, sym, ◌∙◌, ap, subst, arith, inl, inr, append_assoc}
-use Rattle.std.specs.Prelude.{IsTrue, Vec, ◌==◌}
+use Rattle.std.proofs.Common.{◌≡◌, ◌≤◌, ◌+◌, ◌*◌, ℕ, Bool, true, false, not, ◌&&◌, List, [], ◌∷◌, ◌++◌, map, flat_map, length, take, drop, Option, Some, None, refl, sym, ◌∙◌, ap, subst, arith, inl, inr, append_assoc}
+use Rattle.std.specs.Prelude.{Vec, ◌==◌}
 use Rattle.std.specs.List.{AllByRecursion, AllZip, list_all}
 use Rattle.std.specs.declared.alloc.Global.{Global}
-use Rattle.std.proofs.lemmas.List.{append-nil}
 use Rattle.bits.specs.declared.refusal.Refusal.{Refusal}
-use Rattle.bits.specs.declared.refusal.Refusal.TheVariants.{Limit, Device, Memory, Closed, Full}
+use Rattle.bits.specs.declared.refusal.Refusal.TheVariants.{Limit, Device, Memory}
 use Rattle.schema.specs.Cutting.{is_among}
 use Rattle.schema.specs.Keys.{KeyColumn, AreDistinct, key_of_row, without_keys}
 use Rattle.disk.specs.State.{State as DiskState}
@@ -13,17 +12,15 @@ use Rattle.vault.specs.Calls.{HasFailed}
 use Rattle.partition.specs.Splitting.{KeyRows, key_rows_view}
 use Rattle.manifest.specs.Groups.{Group as FileGroup, handles_view, numbers_of}
 use Rattle.manifest.specs.Records.{IsGroup}
-use Rattle.snapshots.specs.State.{State as Versions, Pins, file_of, is_among as is_file_among, open_at as pinned_at}
+use Rattle.snapshots.specs.State.{Pins, file_of, is_among as is_file_among, open_at as pinned_at}
 use Rattle.snapshots.specs.Views.{state_of}
 use Rattle.table.specs.Table.{Row, Key, Group, rows}
 use Rattle.table.specs.InOrder.{in_order}
-use Rattle.table.specs.State.{State, appending, open_at, changed_at}
-use Rattle.table.specs.Faults.{first, unless}
-use Rattle.table.specs.Checks.{fault, rows_fault, append_fault, can_count}
+use Rattle.table.specs.State.{State, appending, changed_at}
+use Rattle.table.specs.Checks.{fault}
 use Rattle.table.specs.Calls.{stage, accepted, refused}
 use Rattle.table.specs.Leading.{Rises}
-use Rattle.table.specs.Limits.{IsNewGroup, at_key, group as over_group}
-use Rattle.table.specs.History.{Stages}
+use Rattle.table.specs.Limits.{IsNewGroup, group as over_group}
 use Rattle.table.specs.Refusing.{Happens, Stays, is_failure, no_memory, over as refused_over, failed as refused_failed}
 use Rattle.table.proofs.Counters.{counters_cover}
 use Rattle.store.specs.declared.store.Store.{Store}
@@ -32,7 +29,7 @@ use Rattle.store.specs.declared.jobs.Work.TheVariants.{Append}
 use Rattle.store.specs.declared.jobs.Appending.{Appending}
 use Rattle.store.specs.Paths.{IsBelow}
 use Rattle.store.specs.Lookups.{job_at, jobs_with}
-use Rattle.store.specs.Stands.{AreStored, AreWaiting, AreWritten, ShowsAppend, ShowsJob, ShowsOpen, Shows, Stands, written_in, written_of, job_numbers}
+use Rattle.store.specs.Stands.{AreStored, AreWaiting, AreWritten, ShowsAppend, ShowsJob, ShowsOpen, Stands, written_in, written_of, job_numbers}
 use Rattle.store.specs.Writing.{IsHeldFor, counted}
 use Rattle.store.specs.Acting.{WroteTo}
 use Rattle.store.specs.Buffers.{keys_in, IsRising}
@@ -48,7 +45,7 @@ use Rattle.store.proofs.Changes.{job_changed}
 use Rattle.store.proofs.Ends.{found_open}
 use Rattle.store.proofs.Filled.{some_rows_fit}
 use Rattle.store.proofs.Grouped.{IsKeyed, full_part}
-use Rattle.store.proofs.Parted.{WritesOn, numbers_written, numbers_joined, parted_changed, files_below, written_below}
+use Rattle.store.proofs.Parted.{WritesOn, numbers_joined, parted_changed, files_below, written_below}
 use Rattle.store.proofs.Putting.{put_changes}
 use Rattle.store.proofs.Reached.{reached_on}
 use Rattle.store.proofs.Restaged.{whole_of, begin_buffers, begin_few, begin_keys, begin_rows, waits_back, rows_back}

@@ -1,69 +1,35 @@
 -- Rows that are staged: from what the job holds, to what it holds then.
-use Rattle.std.proofs.Common.{◌≡◌, ◌≤◌, ◌<◌, ◌+◌, ◌*◌, ℕ, zero, suc, Bool, true, false, not, List, [], ◌∷◌, ◌++◌, map, flat_map, length, take, drop, Option, Some, None, refl, sym, ◌∙◌, ap, subst, arith, inl, inr, append_assoc}
-use Rattle.std.specs.Prelude.{if◌then◌else◌, IsTrue, Vec, ◌==◌}
+use Rattle.std.proofs.Common.{◌≡◌, ◌≤◌, ◌+◌, ◌*◌, ℕ, Bool, true, false, List, [], ◌∷◌, ◌++◌, map, length, drop, Option, Some, None, refl, sym, ◌∙◌, ap, subst, arith}
+use Rattle.std.specs.Prelude.{if◌then◌else◌, ◌==◌}
 use Rattle.std.specs.List.{AllByRecursion, AllZip, list_all}
-use Rattle.std.specs.declared.alloc.Global.{Global}
-use Rattle.std.proofs.lemmas.List.{length-append, append-nil}
 use Rattle.std.proofs.Math.Seq.{drop-append-add}
 use Rattle.std.proofs.lemmas.Bool.{and_parts, and_from, eqb-true}
 use Rattle.std.proofs.Common.{eq-eqb}
-use Rattle.bits.specs.declared.refusal.Refusal.{Refusal}
-use Rattle.bits.specs.declared.refusal.Refusal.TheVariants.{Limit, Device, Memory, Closed, Full, NoJob}
 use Rattle.schema.specs.Shape.{Fields}
-use Rattle.schema.specs.Cutting.{is_among}
-use Rattle.schema.specs.Keys.{KeyColumn, AreKeys, AreDistinct, AreRowsOf, key_of_row, without_keys}
+use Rattle.schema.specs.Keys.{KeyColumn, AreDistinct, AreRowsOf, key_of_row}
 use Rattle.disk.specs.State.{State as DiskState}
-use Rattle.vault.specs.Calls.{HasFailed}
-use Rattle.partition.specs.Order.{is_same_key}
-use Rattle.partition.specs.Splitting.{KeyRows, key_rows_view}
-use Rattle.manifest.specs.Groups.{Group as FileGroup, root_of, handles_view, numbers_of}
-use Rattle.manifest.specs.Records.{IsGroup}
-use Rattle.snapshots.specs.State.{State as Versions, Pins, file_of, is_among as is_file_among, open_at as pinned_at}
+use Rattle.partition.specs.Splitting.{key_rows_view}
+use Rattle.manifest.specs.Groups.{Group as FileGroup, handles_view, numbers_of}
+use Rattle.snapshots.specs.State.{Pins, open_at as pinned_at}
 use Rattle.snapshots.specs.Views.{state_of}
-use Rattle.table.specs.Table.{Row, Key, Group, rows}
-use Rattle.table.specs.InOrder.{in_order}
-use Rattle.table.specs.State.{State, Job, appending, rewriting, open_at, changed_at}
-use Rattle.table.specs.Faults.{first, unless}
-use Rattle.table.specs.Checks.{fault, rows_fault, append_fault, can_count}
-use Rattle.table.specs.Calls.{stage, accepted, refused}
-use Rattle.table.specs.Leading.{Rises}
-use Rattle.table.specs.Limits.{IsNewGroup, at_key, group as over_group}
-use Rattle.table.specs.History.{Stages}
-use Rattle.table.specs.Refusing.{Happens, Stays, is_failure, no_memory, over as refused_over, failed as refused_failed}
-use Rattle.table.proofs.Counters.{counters_cover}
+use Rattle.table.specs.Table.{Row, Key, Group}
+use Rattle.table.specs.State.{State, Job, appending, rewriting, open_at}
+use Rattle.table.specs.Checks.{append_fault}
 use Rattle.store.specs.declared.store.Store.{Store}
 use Rattle.store.specs.declared.jobs.OpenJob.{OpenJob}
 use Rattle.store.specs.declared.jobs.Work.{Work}
 use Rattle.store.specs.declared.jobs.Work.TheVariants.{Append, Rewrite}
 use Rattle.store.specs.declared.jobs.Appending.{Appending}
-use Rattle.store.specs.Paths.{IsBelow}
-use Rattle.store.specs.Lookups.{job_at, jobs_with}
-use Rattle.store.specs.Stands.{AreStored, AreWaiting, AreWritten, ShowsAppend, ShowsJob, ShowsWork, ShowsOpen, Shows, Stands, written_in, written_of, job_numbers}
-use Rattle.store.specs.Writing.{counted}
-use Rattle.store.specs.Acting.{WroteTo}
-use Rattle.store.specs.Buffers.{keys_in, IsRising}
-use Rattle.store.specs.Filling.{HasWritten, HasSize, Filled, IsStopped, IsWhole, WhyStopped, rows_waiting}
+use Rattle.store.specs.Lookups.{job_at}
+use Rattle.store.specs.Stands.{AreStored, ShowsAppend, ShowsJob, ShowsWork, written_of}
+use Rattle.store.specs.Filling.{HasSize}
 use Rattle.store.specs.Staging.{is_append, finds_append}
-use Rattle.store.specs.Completing.{completed_buffers, waiting_of, waiting_at, groups_of, groups_at, with_work}
-use Rattle.store.specs.Promises.{ActsFrom}
-use Rattle.store.proofs.Acting.{refusals_act}
-use Rattle.store.proofs.Apart.{AllBelow, distinct_front, distinct_back, distinct_joined, none_joined}
-use Rattle.store.proofs.Begins.{job_numbers_are}
-use Rattle.store.proofs.Brought.{all_append, all_so, all_fresh, no_number, stored_append, numbers_too}
-use Rattle.store.proofs.Carried.{past_of, survives_spared}
-use Rattle.store.proofs.Changes.{job_changed}
-use Rattle.store.proofs.Ends.{found_open}
+use Rattle.store.specs.Completing.{waiting_of, waiting_at, groups_of, groups_at}
+use Rattle.store.proofs.Apart.{distinct_front, distinct_back}
 use Rattle.store.proofs.Events.{job_found, job_not_found}
-use Rattle.store.proofs.Filled.{some_rows_fit}
-use Rattle.store.proofs.Grouped.{IsKeyed, full_part}
-use Rattle.store.proofs.Parted.{WritesOn, numbers_written, numbers_first, parted_changed, files_below, written_below}
-use Rattle.store.proofs.Putting.{put_changes}
-use Rattle.store.proofs.Reached.{reached_on}
-use Rattle.store.proofs.Restaged.{whole_of, begin_buffers, begin_few, begin_keys, begin_rows, waits_back, rows_back}
-use Rattle.store.proofs.Sorting.{Keyed, part_of, same_behind, same_before, sorted_part, part_append}
-use Rattle.store.proofs.Stored.{part_below, Any, all_any, stored_on}
-use Rattle.store.proofs.Waits.{rows_append, same_key_lists}
-use Rattle.store.proofs.Wrote.{wrote_nothing}
+use Rattle.store.proofs.Grouped.{IsKeyed}
+use Rattle.store.proofs.Parted.{numbers_written, numbers_first}
+use Rattle.store.proofs.Sorting.{Keyed}
 
 -- ---- groups that are stored, and full
 

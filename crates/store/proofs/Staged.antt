@@ -14,7 +14,6 @@ use Rattle.manifest.specs.declared.group.Group.{Group as CodeGroup}
 use Rattle.schema.specs.Keys.{without_keys}
 use Rattle.manifest.specs.Groups.{Group as FileGroup, handles_view}
 use Rattle.manifest.specs.Records.{IsGroup}
-use Rattle.snapshots.specs.declared.state.Snapshots.{Snapshots}
 use Rattle.snapshots.specs.State.{began, after, fault_of, is_among, file_of, pins_at_start}
 use Rattle.snapshots.specs.Views.{state_of}
 use Rattle.table.specs.State.{State, appending}

@@ -100,7 +100,7 @@ module _ {D : Type 0} (state : D → DiskState) (store : Store D) (o : WriteOpti
       counted = let fits = described.fits in let e = there.next in omega (arith, fits, e);
       closed = is.closed;
       room = room;
-      sound = record { tables = λ c may. record { table = t; held = (root, each c may); allowed = inl refl }; sound = sound };
+      sound = record { tables = λ c may. record { table = t; held = record { files = (root, each c may); room = λ path place. room path place c may }; allowed = inl refl }; sound = sound };
       shown = λ is_open. shows_open;
     }
 

@@ -1,7 +1,6 @@
 -- The step of a rewrite, from its checks to its ends.
-use Rattle.std.proofs.Common.{◌≡◌, ◌≤◌, ◌<◌, ◌+◌, ℕ, Bool, true, false, not, ◌==◌, List, [], ◌∷◌, ◌++◌, length, option_map, Option, Some, None, refl, sym, ◌∙◌, ap, subst, arith}
+use Rattle.std.proofs.Common.{◌≡◌, ◌≤◌, ◌<◌, ℕ, Bool, true, false, not, ◌==◌, List, [], ◌∷◌, ◌++◌, length, option_map, Option, Some, None, refl, sym, ◌∙◌, ap, subst}
 use Rattle.std.specs.Prelude.{Vec, is_some, if◌then◌else◌}
-use Rattle.std.specs.List.{AllZip}
 use Rattle.std.specs.declared.alloc.Global.{Global}
 use Rattle.std.proofs.lemmas.Bool.{lt-ltb}
 use Rattle.std.proofs.lemmas.List.{append-nil}
@@ -11,8 +10,7 @@ use Rattle.bits.specs.Refusals.{HasCause}
 use Rattle.schema.specs.declared.row.Row.{Row as CodeRow}
 use Rattle.schema.specs.Shape.{Fields}
 use Rattle.schema.specs.Views.{rows_view}
-use Rattle.schema.specs.Keys.{KeyColumn, AreKeys, AreDistinct, without_keys}
-use Rattle.schema.specs.Cutting.{is_among}
+use Rattle.schema.specs.Keys.{KeyColumn, AreDistinct}
 use Rattle.disk.specs.State.{State as DiskState}
 use Rattle.vault.specs.declared.vault.Vault.{Vault}
 use Rattle.vault.specs.Calls.{LeavesAll}
@@ -20,12 +18,12 @@ use Rattle.manifest.specs.Groups.{Group as FileGroup, root_of, numbers_of}
 use Rattle.scan.specs.Faults.{IsDevice}
 use Rattle.snapshots.specs.State.{Pins, open_at as pinned_at}
 use Rattle.snapshots.specs.Views.{state_of}
-use Rattle.table.specs.Table.{Group, numbers}
+use Rattle.table.specs.Table.{Group}
 use Rattle.table.specs.State.{State, Job, appending, rewriting, sources, open_at, changed_at}
 use Rattle.table.specs.Faults.{first, unless}
 use Rattle.table.specs.Checks.{fault, rewrite_fault, can_count}
-use Rattle.table.specs.Calls.{Call, Answer, step_rewrite, more, refused}
-use Rattle.table.specs.History.{StepsOn, TakesOne, is_left}
+use Rattle.table.specs.Calls.{Call, step_rewrite, more, refused}
+use Rattle.table.specs.History.{TakesOne, is_left}
 use Rattle.table.specs.Refusing.{Happens, checked, no_memory, failed as refused_failed}
 use Rattle.table.proofs.Steady.{stays, stays_there}
 use Rattle.store.specs.declared.store.Store.{Store}
@@ -37,7 +35,7 @@ use Rattle.store.specs.Lookups.{job_at, jobs_with}
 use Rattle.store.specs.Cleaning.{Clears}
 use Rattle.store.specs.Completing.{with_work}
 use Rattle.store.specs.Counting.{IsHeld}
-use Rattle.store.specs.Stands.{AreStored, IsStored, ShowsRewrite, ShowsWork, ShowsJob, ShowsOpen, Shows, Stands, written_in, job_numbers}
+use Rattle.store.specs.Stands.{ShowsRewrite, ShowsWork, ShowsJob, ShowsOpen, Shows, Stands, written_in, job_numbers}
 use Rattle.store.specs.Stepping.{is_rewrite, finds_rewrite, next_at, next_in, source_in, HasRead}
 use Rattle.store.specs.Promises.{ActsFrom}
 use Rattle.store.proofs.Asked.{not_low}

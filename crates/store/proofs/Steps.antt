@@ -1,5 +1,5 @@
 -- The sources of a rewrite, file by file, and the one that is read next.
-use Rattle.std.proofs.Common.{◌≡◌, ◌≤◌, ◌+◌, ℕ, zero, suc, Bool, true, false, List, [], ◌∷◌, ◌++◌, map, length, take, drop, Option, Some, None, refl, sym, ◌∙◌, ap, subst, arith}
+use Rattle.std.proofs.Common.{◌≡◌, ◌≤◌, ℕ, zero, suc, Bool, List, [], ◌∷◌, ◌++◌, map, length, take, drop, Some, None, refl, sym, ◌∙◌, ap, subst, arith}
 use Rattle.std.specs.Prelude.{is_some}
 use Rattle.std.specs.List.{AllByRecursion, AllZip, slice_get}
 use Rattle.std.specs.declared.vec.Vec.{Vec}
@@ -19,7 +19,7 @@ use Rattle.table.specs.Table.{Row, Group, numbers}
 use Rattle.table.specs.State.{sources}
 use Rattle.table.specs.History.{TakesOne, is_left}
 use Rattle.store.specs.declared.jobs.Rewriting.{Rewriting}
-use Rattle.store.specs.Counting.{AreHeld, IsHeld}
+use Rattle.store.specs.Counting.{IsHeld}
 use Rattle.store.specs.Stands.{IsStored, AreStored, AreReadOf, ShowsRun, ShowsRewrite}
 use Rattle.store.specs.Stepping.{sources_in, source_in}
 use Rattle.store.proofs.Brought.{all_append, stored_append}

@@ -1,6 +1,6 @@
 -- Counting the rows that satisfy, group by group.
-use Rattle.std.proofs.Common.{◌≡◌, ◌≤◌, ◌<◌, ◌+◌, ℕ, zero, suc, Bool, true, false, not, List, [], ◌∷◌, ◌++◌, map, filter, drop, length, get_or, add-one, Option, Some, None, Result, Ok, Err, refl, sym, ◌∙◌, ap, subst, arith}
-use Rattle.std.specs.Prelude.{if◌then◌else◌, IfOk, IsTrue}
+use Rattle.std.proofs.Common.{◌≡◌, ◌<◌, ◌+◌, ℕ, zero, suc, Bool, true, false, not, List, [], ◌∷◌, ◌++◌, map, filter, drop, length, get_or, add-one, Option, None, Result, Ok, Err, refl, sym, ◌∙◌, ap, subst, arith}
+use Rattle.std.specs.Prelude.{if◌then◌else◌}
 use Rattle.std.specs.List.{AllByRecursion}
 use Rattle.std.proofs.lemmas.List.{length-map, length-append, append-nil}
 use Rattle.std.specs.Rc.{rc_value}
@@ -8,8 +8,8 @@ use Rattle.std.specs.declared.rc.Rc.{Rc}
 use Rattle.std.specs.declared.alloc.Global.{Global}
 use Rattle.manifest.specs.declared.block.Block.{Block}
 use Rattle.bits.specs.declared.refusal.Refusal.{Refusal}
-use Rattle.bits.specs.declared.refusal.Refusal.TheVariants.{Memory, Device, InDoubt}
-use Rattle.bits.specs.Refusals.{HasCause, RefusedOnly}
+use Rattle.bits.specs.declared.refusal.Refusal.TheVariants.{Memory, Device}
+use Rattle.bits.specs.Refusals.{HasCause}
 use Rattle.schema.specs.declared.row.Row.{Row as CodeRow}
 use Rattle.schema.specs.Shape.{Fields}
 use Rattle.schema.specs.Stripe.{leaves_of}
@@ -17,22 +17,22 @@ use Rattle.schema.specs.Keys.{KeyColumn, AreKeys, without_keys}
 use Rattle.schema.specs.Views.{row_view, rows_view}
 use Rattle.disk.specs.State.{State as DiskState}
 use Rattle.vault.specs.declared.vault.Vault.{Vault}
-use Rattle.vault.specs.Calls.{LeavesAll, HasFailed}
+use Rattle.vault.specs.Calls.{LeavesAll}
 use Rattle.filter.specs.Test.{Test}
-use Rattle.filter.specs.Terms.{Term, tests_of}
+use Rattle.filter.specs.Terms.{tests_of}
 use Rattle.filter.specs.Deciding.{satisfies as all_satisfied}
 use Rattle.manifest.specs.Groups.{Group as FileGroup, Root, root_of, handles_view, groups_of_blocks}
 use Rattle.manifest.specs.Records.{IsGroup}
-use Rattle.scan.specs.Faults.{IsDevice, IsPartRefusal}
-use Rattle.scan.specs.Selected.{IsOver, Holds, AreSelected, cut_to}
+use Rattle.scan.specs.Faults.{IsDevice}
+use Rattle.scan.specs.Selected.{Holds, AreSelected, cut_to}
 use Rattle.table.specs.Table.{Row, Group, rows}
-use Rattle.table.specs.Deciding.{Filter, passes, filter_fault, refusal_in}
+use Rattle.table.specs.Deciding.{Filter, passes, refusal_in}
 use Rattle.table.specs.Plans.{row_count}
 use Rattle.table.specs.State.{State}
 use Rattle.table.specs.Faults.{first}
 use Rattle.table.specs.Checks.{fault}
 use Rattle.table.specs.Calls.{count, counted, refused}
-use Rattle.table.specs.Refusing.{is_failure, no_memory, failed as refused_failed}
+use Rattle.table.specs.Refusing.{no_memory, failed as refused_failed}
 use Rattle.table.proofs.Deciding.{tests_decide}
 use Rattle.table.proofs.Steady.{stays}
 use Rattle.store.specs.declared.store.Store.{Store}
@@ -185,12 +185,6 @@ from_one {A = A} f xs i x h is = rw (add-one i) (by xs i h is)
     by [] n l e = absurd (omega (arith, l))
     by (y ∷ ys) zero l e = ap (λ (z : A). f z ∷ map f ys) (sym e)
     by (y ∷ ys) (suc n) l e = by ys n (omega (arith, l)) e
-
-pub past_all : {A : Type 0} (xs : List A) (i : ℕ) → length xs ≤ i → drop i xs ≡ []
-past_all [] zero h = refl
-past_all [] (suc i) h = refl
-past_all (x ∷ xs) zero h = absurd (omega (arith, h))
-past_all (x ∷ xs) (suc i) h = past_all xs i (omega (arith, h))
 
 pub blocks_from : (xs : List (Rc Block Global)) (i : ℕ) (x : Rc Block Global) → i < length xs → x ≡ get_or xs i x → groups_of_blocks (drop i xs) ≡ handles_view (rc_value x).groups.items ++ groups_of_blocks (drop (i + 1) xs)
 blocks_from xs i x h is = rw (add-one i) (by xs i h is)

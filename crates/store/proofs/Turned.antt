@@ -1,5 +1,5 @@
 -- Where a store stands after its root was to be swapped.
-use Rattle.std.proofs.Common.{◌≡◌, ◌≢◌, ◌≤◌, ◌<◌, ◌^◌, ◌⊎◌, ◌==◌, ℕ, Bool, true, false, ◌||◌, List, [], ◌∷◌, map, Some, None, Result, Ok, refl, sym, ◌∙◌, ap, subst, arith, inl, inr, ⊎_elim}
+use Rattle.std.proofs.Common.{◌≡◌, ◌≢◌, ◌≤◌, ◌<◌, ◌^◌, ◌⊎◌, ◌==◌, ℕ, true, false, List, [], ◌∷◌, Some, Result, Ok, refl, sym, ◌∙◌, ap, subst, arith, inl, inr, ⊎_elim}
 use Rattle.std.specs.List.{AllZip}
 use Rattle.std.proofs.lemmas.Bool.{eqb-true}
 use Rattle.bits.specs.declared.refusal.Refusal.{Refusal}
@@ -17,8 +17,7 @@ use Rattle.manifest.specs.Groups.{Group as FileGroup, root_of, numbers_of}
 use Rattle.snapshots.specs.declared.state.Snapshots.{Snapshots}
 use Rattle.snapshots.specs.State.{State as Versions, File, file_of, is_same, names, committed, after, jobs_without}
 use Rattle.snapshots.specs.Views.{state_of, prepared_of}
-use Rattle.schema.specs.Cutting.{is_among}
-use Rattle.table.specs.Table.{Group, Table, numbers}
+use Rattle.table.specs.Table.{Group, Table}
 use Rattle.table.specs.State.{State, Job, had_with}
 use Rattle.table.specs.Stops.{MayHold, Survives}
 use Rattle.store.specs.declared.store.Store.{Store}
@@ -28,7 +27,7 @@ use Rattle.std.specs.Prelude.{Vec, reverse}
 use Rattle.std.specs.declared.alloc.Global.{Global}
 use Rattle.store.specs.Paths.{IsPartBelow, IsBelow}
 use Rattle.store.specs.OnDisk.{Holds}
-use Rattle.store.specs.Spares.{Agrees, Spares, HasRoom}
+use Rattle.store.specs.Spares.{Agrees, IsPlace, Spares, HasRoom}
 use Rattle.store.specs.Lookups.{jobs_left}
 use Rattle.store.specs.Stands.{AreStored, IsReady, ShowsJob, ShowsJobs, ShowsCursor, AreFilesBelow, AreNumbered, TracksJobs, ShowsOpen, Shows, numbers_at, job_numbers, written_in}
 use Rattle.store.specs.Committing.{turned, doubted, TurnsInto, IsTurnTo, Turns}
@@ -136,9 +135,11 @@ module _ {D : Type 0} (state : D → DiskState) (store : Store D) (s : State) (t
         let was = swaps.moments.each m c lo hi at in
         ⊎_elim
         (λ same. inl (holds_like disk s.next_group (root_of store.manifest) here.root s.table (ready state store s shows is_open) Any (all_any (root_of store.manifest).groups) was.0 c was.1 (same ∙ here.root_kept was.0 was.1)
-        (λ f low held. let path = part_path_of (root_of store.manifest).keys f.key f.number in let off = part_off path (subst (λ (ks : List KeyColumn). IsPartBelow ks s.next_group path) shows.keys (part_below (root_of store.manifest).keys s.next_group f low)) in was.2.others path off.0 off.1)))
+        (λ f low held. let path = part_path_of (root_of store.manifest).keys f.key f.number in let off = part_off path (subst (λ (ks : List KeyColumn). IsPartBelow ks s.next_group path) shows.keys (part_below (root_of store.manifest).keys s.next_group f low)) in was.2.others path off.0 off.1)
+        (λ path place. parts_spare.clear path place (shows.room path place) m c lo hi at)))
         (λ is. inr (holds_like disk s.next_group (root_of turn.manifest) turn.root.items t is_turn.ready Any (all_any (root_of turn.manifest).groups) was.0 c was.1 is
-        (λ f low held. let path = part_path_of (root_of turn.manifest).keys f.key f.number in let off = part_off path (subst (λ (ks : List KeyColumn). IsPartBelow ks s.next_group path) (is_turn.ready.keys ∙ is_turn.keys) (part_below (root_of turn.manifest).keys s.next_group f low)) in was.2.others path off.0 off.1)))
+        (λ f low held. let path = part_path_of (root_of turn.manifest).keys f.key f.number in let off = part_off path (subst (λ (ks : List KeyColumn). IsPartBelow ks s.next_group path) (is_turn.ready.keys ∙ is_turn.keys) (part_below (root_of turn.manifest).keys s.next_group f low)) in was.2.others path off.0 off.1)
+        (λ path place. let own = subst (λ (ks : List KeyColumn). IsPlace ks path) is_turn.keys place in parts_spare.clear path own (shows.room path own) m c lo hi at)))
         was.2.either
 
     survives_to : (next : State) → MayHold next t → ((c : Image) → may_leave new c → (table : Table) × Holds c table × MayHold next table) → Survives new.images Holds disk.moment new.moment s next
@@ -148,8 +149,11 @@ module _ {D : Type 0} (state : D → DiskState) (store : Store D) (s : State) (t
       ended = ends;
     }
 
+    room_here : HasRoom keys new
+    room_here = room_on keys (IsPartBelow keys s.next_group) disk new parts_spare shows.room
+
     room_too : HasRoom t.keys new
-    room_too = subst (λ (ks : List KeyColumn). HasRoom ks new) (sym is_turn.keys) (room_on keys (IsPartBelow keys s.next_group) disk new parts_spare shows.room)
+    room_too = subst (λ (ks : List KeyColumn). HasRoom ks new) (sym is_turn.keys) room_here
 
     module _ (snapshots : Snapshots) (published : state_of snapshots ≡ prepared_of turn.prepared) (left : Vec OpenJob Global) (left_is : left.items ≡ jobs_left turn.job store.jobs.items) (kept : IsKept new root_path turn.root.items) where
       abbrev versions : Versions
@@ -231,10 +235,10 @@ module _ {D : Type 0} (state : D → DiskState) (store : Store D) (s : State) (t
           counted = shows.counted;
           closed = shows.closed;
           room = room_too;
-          sound = sound_for new s.next_group (root_of turn.manifest) turn.root.items t new_ready shows.one_root rooted_here kept (MayHold next) (inl refl);
+          sound = sound_for new s.next_group (root_of turn.manifest) turn.root.items t new_ready room_too shows.one_root rooted_here kept (MayHold next) (inl refl);
           shown = λ o. open_next;
         };
-        survives = survives_to next (inl refl) (λ c may. (t, holds_like new s.next_group (root_of turn.manifest) turn.root.items t new_ready Any (all_any (root_of turn.manifest).groups) c c may (kept c may) (λ f low held. refl), inl refl));
+        survives = survives_to next (inl refl) (λ c may. (t, holds_like new s.next_group (root_of turn.manifest) turn.root.items t new_ready Any (all_any (root_of turn.manifest).groups) c c may (kept c may) (λ f low held. refl) (λ path place. room_too path place c may), inl refl));
         past = past_of disk new swaps.moments;
         cause = tt;
       }
@@ -246,7 +250,7 @@ module _ {D : Type 0} (state : D → DiskState) (store : Store D) (s : State) (t
 
     pub turn_doubted : (e : Refusal) → result ≡ failed T e → e ≡ InDoubt → Turns state store (record store { vault = vault; closed = true }) s t jobs (failed T InDoubt)
     turn_doubted e result_is doubt =
-        let sound = sound_for_either new s.next_group (root_of store.manifest) (root_of turn.manifest) here.root turn.root.items s.table t old_ready new_ready each_root shows.one_root rooted_here (MayHold (doubted s t)) (inl refl) (inr refl) in
+        let sound = sound_for_either new s.next_group (root_of store.manifest) (root_of turn.manifest) here.root turn.root.items s.table t old_ready new_ready each_root room_here room_too shows.one_root rooted_here (MayHold (doubted s t)) (inl refl) (inr refl) in
         record {
           after_it = doubted s t;
           is = refl;
@@ -263,7 +267,7 @@ module _ {D : Type 0} (state : D → DiskState) (store : Store D) (s : State) (t
             next_group = shows.next_group;
             counted = shows.counted;
             closed = refl;
-            room = room_on keys (IsPartBelow keys s.next_group) disk new parts_spare shows.room;
+            room = room_here;
             sound = sound;
             shown = λ o. absurd (cc);
           };

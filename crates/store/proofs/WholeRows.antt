@@ -1,8 +1,8 @@
 -- Rows of a group with all columns of its table.
 use Rattle.std.proofs.Common.{◌≡◌, ◌≤◌, ◌<◌, ◌+◌, ℕ, zero, suc, Bool, true, false, not, ◌||◌, nat_eq, List, [], ◌∷◌, map, filter, None, Ok, Err, refl, sym, ◌∙◌, ap, subst, arith, eq-eqb}
-use Rattle.std.specs.Prelude.{if◌then◌else◌, IsTrue}
+use Rattle.std.specs.Prelude.{if◌then◌else◌}
 use Rattle.std.proofs.lemmas.Bool.{false≢true, and_parts}
-use Rattle.schema.specs.Values.{ValueTree, ValueTrees, no_values, value as item}
+use Rattle.schema.specs.Values.{no_values, value as item}
 use Rattle.schema.specs.Shape.{Field, Fields, no_fields, field, count}
 use Rattle.schema.specs.Fits.{fits_each, RowsFit}
 use Rattle.schema.specs.Fronts.{padded, with_field, with_null}
@@ -20,7 +20,6 @@ use Rattle.filter.specs.Terms.{Term, tests_of}
 use Rattle.filter.specs.Deciding.{satisfies as all_satisfied}
 use Rattle.manifest.specs.Groups.{Group as FileGroup, Root}
 use Rattle.manifest.specs.Records.{IsGroup}
-use Rattle.manifest.specs.Laws.{RowsOfPartsFit}
 use Rattle.manifest.proofs.PartRows.{rows_of_parts_fit}
 use Rattle.scan.specs.Selected.{AreSelected, cut_to}
 use Rattle.table.specs.Table.{Row, Group}
@@ -36,7 +35,7 @@ stored_fit disk keys schema n f g k of is = rows_of_parts_fit keys schema f is.b
 
 -- ---- cut to all columns, a row is whole
 
-whole_width : (fs : Fields) (row : Row) → fits_each fs row ≡ true → width row ≡ count fs
+pub whole_width : (fs : Fields) (row : Row) → fits_each fs row ≡ true → width row ≡ count fs
 whole_width no_fields no_values e = refl
 whole_width no_fields (item v vs) e = absurd (false≢true e)
 whole_width (field f fs) no_values e = absurd (false≢true e)
@@ -82,7 +81,7 @@ pub padded_same : (fs : Fields) (rows : List Row) → RowsFit fs rows → map (p
 padded_same fs [] h = refl
 padded_same fs (r ∷ rs) h = ap (λ (x : Row). x ∷ map (padded fs) rs) (whole_rows_are_padded fs r h.0) ∙ ap (λ (xs : List Row). r ∷ xs) (padded_same fs rs h.1)
 
-wider : (fs : Fields) (row : Row) → width row ≤ width (padded fs row)
+pub wider : (fs : Fields) (row : Row) → width row ≤ width (padded fs row)
 wider no_fields row = omega arith
 wider (field f fs) no_values = omega arith
 wider (field f fs) (item v vs) = let h = wider fs vs in omega (arith, h)

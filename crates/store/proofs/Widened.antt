@@ -1,14 +1,13 @@
 -- What is open, over a table with a column more.
-use Rattle.std.proofs.Common.{◌≡◌, ◌≤◌, ◌+◌, ℕ, zero, suc, Bool, true, false, List, [], ◌∷◌, ◌++◌, map, flat_map, length, take, drop, refl, sym, ◌∙◌, ap, subst, arith}
-use Rattle.std.specs.Prelude.{if◌then◌else◌, IsTrue, ◌==◌, not}
+use Rattle.std.proofs.Common.{◌≡◌, ℕ, zero, suc, Bool, true, false, List, [], ◌∷◌, ◌++◌, map, flat_map, length, take, drop, refl, sym, ◌∙◌, ap, subst, arith}
+use Rattle.std.specs.Prelude.{if◌then◌else◌, ◌==◌, not}
 use Rattle.std.specs.List.{AllByRecursion, AllZip, list_all}
 use Rattle.std.specs.Ordering.{is_le}
-use Rattle.std.proofs.lemmas.Bool.{false≢true, and_parts, and_from}
-use Rattle.std.proofs.lemmas.List.{map-append, length-map}
+use Rattle.std.proofs.lemmas.Bool.{and_parts, and_from}
 use Rattle.schema.specs.declared.value.Repetition.TheVariants.{Optional}
-use Rattle.schema.specs.Values.{ValueTree, no_values, value as item}
-use Rattle.schema.specs.Shape.{Field, Fields, no_fields, field, count, repetition_of}
-use Rattle.schema.specs.Fits.{fits, fits_each, RowsFit}
+use Rattle.schema.specs.Values.{ValueTree}
+use Rattle.schema.specs.Shape.{Field, Fields, count, repetition_of}
+use Rattle.schema.specs.Fits.{fits_each, RowsFit}
 use Rattle.schema.specs.Keys.{KeyColumn, AreKeys, IsRowOf, AreRowsOf, key_of_row, width, without_keys}
 use Rattle.schema.specs.Views.{rows_view}
 use Rattle.partition.specs.Order.{key_cmp}
@@ -16,7 +15,6 @@ use Rattle.partition.specs.Splitting.{KeyRows, key_rows_view}
 use Rattle.disk.specs.State.{State as DiskState}
 use Rattle.manifest.specs.Groups.{Group as FileGroup, handles_view}
 use Rattle.manifest.specs.Records.{IsGroup}
-use Rattle.manifest.specs.Parts.{PartMeans}
 use Rattle.manifest.proofs.GrownRoots.{grown_parts_mean_rows, group_stays}
 use Rattle.snapshots.specs.State.{Pins}
 use Rattle.schema.specs.Cutting.{is_among}
@@ -33,8 +31,10 @@ use Rattle.planning.specs.declared.change.Sources.{Sources}
 use Rattle.schema.specs.declared.row.Row.{Row as CodeRow}
 use Rattle.std.specs.declared.vec.Vec.{Vec}
 use Rattle.std.specs.declared.alloc.Global.{Global}
-use Rattle.store.specs.Stands.{IsStored, AreStored, AreWritten, AreWaiting, AreReadOf, ShowsRun, ShowsWork, ShowsJob, completed}
-use Rattle.store.proofs.WholeRows.{stored_fit, padded_more}
+use Rattle.store.specs.Stands.{IsStored, AreStored, AreWritten, AreWaiting, AreReadOf, ShowsRun, ShowsWork, ShowsJob}
+use Rattle.store.proofs.WholeRows.{stored_fit, padded_more, whole_width, wider}
+use Rattle.store.proofs.RunParts.{all_taken}
+use Rattle.store.proofs.Brought.{all_append}
 
 -- ---- lists
 
@@ -51,15 +51,6 @@ drop_mapped : {A B : Type 0} (f : A → B) (n : ℕ) (xs : List A) → drop n (m
 drop_mapped f zero xs = refl
 drop_mapped f (suc n) [] = refl
 drop_mapped f (suc n) (x ∷ xs) = drop_mapped f n xs
-
-all_taken : {A : Type 0} (P : A → Type 0) (n : ℕ) (xs : List A) → AllByRecursion P xs → AllByRecursion P (take n xs)
-all_taken P zero xs h = tt
-all_taken P (suc n) [] h = tt
-all_taken P (suc n) (x ∷ xs) h = (h.0, all_taken P n xs h.1)
-
-all_joined : {A : Type 0} (P : A → Type 0) (xs ys : List A) → AllByRecursion P xs → AllByRecursion P ys → AllByRecursion P (xs ++ ys)
-all_joined P [] ys h k = k
-all_joined P (x ∷ xs) ys h k = (h.0, all_joined P xs ys h.1 k)
 
 appended_map : {A B : Type 0} (f : A → B) (xs ys : List A) → map f (xs ++ ys) ≡ map f xs ++ map f ys
 appended_map f [] ys = refl
@@ -110,17 +101,6 @@ module _ {A : Type 0} (key : A → List ValueTree) (h : A → A) (keeps : (x : A
 
 -- ---- rows
 
-pub width_fits : (fs : Fields) (row : Row) → fits_each fs row ≡ true → width row ≡ count fs
-width_fits no_fields no_values e = refl
-width_fits no_fields (item v vs) e = absurd (false≢true e)
-width_fits (field f fs) no_values e = absurd (false≢true e)
-width_fits (field f fs) (item v vs) e = ap suc (width_fits fs vs (and_parts (fits f v) (fits_each fs vs) e).1)
-
-padded_wider : (fs : Fields) (row : Row) → width row ≤ width (padded fs row)
-padded_wider no_fields row = omega arith
-padded_wider (field f fs) no_values = omega arith
-padded_wider (field f fs) (item v vs) = let h = padded_wider fs vs in omega (arith, h)
-
 module _ (disk : DiskState) (keys : List KeyColumn) (schema : Fields) (f : Field) (are_keys : AreKeys keys schema) (optional : repetition_of f ≡ Optional) where
   abbrev own : Fields
   own = without_keys keys schema
@@ -136,10 +116,10 @@ module _ (disk : DiskState) (keys : List KeyColumn) (schema : Fields) (f : Field
 
   row_widened : (key : Key) (w row : Row) → fits_each schema row ≡ true → IsRowOf keys key (padded own w) row → IsRowOf keys key (padded (without_keys keys grown) w) (with_null row)
   row_widened key w row fit is =
-      let a = width_fits schema row fit in
+      let a = whole_width schema row fit in
       let b = is.whole in
       let c = keys_and_others keys schema are_keys in
-      let d = padded_wider own w in
+      let d = wider own w in
       let wide : width (padded own w) ≡ count own = omega (arith, a, b, c) in
       let one = row_grows keys schema key (padded own w) row are_keys wide is in
       subst (λ (x : Row). IsRowOf keys key x (with_null row)) (sym (ap (λ (fs : Fields). padded fs w) own_grown ∙ padded_grows own f w (omega (arith, d, wide)))) one
@@ -232,7 +212,7 @@ module _ (disk : DiskState) (keys : List KeyColumn) (schema : Fields) (f : Field
 
       sources_fit : (shown : List Sources) (runs : List (List Group)) → AllZip (ShowsRun disk keys schema count_of size had pins) shown runs → AllByRecursion Fits (sources runs)
       sources_fit [] [] z = tt
-      sources_fit (x ∷ xs) (r ∷ rs) z = all_joined Fits r (sources rs) (run_fits (handles_view x.groups.items) r z.0.described z.0.sources) (sources_fit xs rs z.1)
+      sources_fit (x ∷ xs) (r ∷ rs) z = all_append Fits r (sources rs) (run_fits (handles_view x.groups.items) r z.0.described z.0.sources) (sources_fit xs rs z.1)
       sources_fit [] (r ∷ rs) z = absurd z
       sources_fit (x ∷ xs) [] z = absurd z
 

@@ -1,6 +1,6 @@
 -- Groups of a table that are held on a disk, and how many of their rows satisfy.
 use Rattle.std.specs.Prelude.{ℕ, List, [], ◌∷◌, filter, length}
-use Rattle.std.specs.List.{AllByRecursion, AllZip}
+use Rattle.std.specs.List.{AllByRecursion}
 use Rattle.schema.specs.Keys.{AreKeys, without_keys}
 use Rattle.disk.specs.State.{State as DiskState}
 use Rattle.filter.specs.Test.{Test}
@@ -9,7 +9,7 @@ use Rattle.manifest.specs.Groups.{Group as FileGroup, Root}
 use Rattle.manifest.specs.Records.{IsGroup}
 use Rattle.scan.specs.Selected.{IsOver}
 use Rattle.table.specs.Table.{Group, rows}
-use Rattle.store.specs.Stands.{IsStored, AreStored}
+use Rattle.store.specs.Stands.{AreStored}
 
 -- how many rows of these groups satisfy
 abbrev pub matching : List (List Test) → List Group → ℕ

@@ -4,6 +4,7 @@ pub mod Spares
 pub mod Lookups
 pub mod Stands
 pub mod Writing
+pub mod Wide
 pub mod Committing
 pub mod Cleaning
 pub mod Promises
@@ -19,6 +20,7 @@ pub mod Listing
 pub mod Starting
 pub mod Creating
 pub mod Restarting
+pub mod Prefixes
 pub mod Buffers
 pub mod Filling
 pub mod Widening

@@ -1,12 +1,16 @@
 -- Which table an image of a disk holds.
+use Rattle.std.specs.Prelude.{ℕ, List}
 use Rattle.disk.specs.State.{Image, State as DiskState, content, may_leave}
 use Rattle.manifest.specs.Table.{TableOf}
+use Rattle.vault.specs.Ways.{IsClearIn}
 use Rattle.recovery.specs.Sound.{IsSound}
 use Rattle.table.specs.Table.{Table}
+use Rattle.store.specs.Spares.{IsPlace}
 
--- the files of the image are this table
-abbrev pub Holds : Image → Table → Type 0
-Holds image t = TableOf (content image) t
+-- the files of the image are this table, and a file can stand at each place of the table's files
+pub record Holds (image : Image) (t : Table) : Type 0 where
+  pub files : TableOf (content image) t
+  pub room : (path : List ℕ) → IsPlace t.keys path → IsClearIn image path
 
 -- an image holds a table that is allowed
 pub record HoldsAllowed (Allows : Table → Type 0) (image : Image) : Type 0 where

@@ -17,7 +17,7 @@ use std::alloc::Global;
 use table::JobId;
 
 /// A counter that has come to this gives no more numbers: 2^63.
-const MOST_NUMBERS: u64 = 9223372036854775808;
+pub(crate) const MOST_NUMBERS: u64 = 9223372036854775808;
 
 /// Whether one more can be opened, beside so many of at most so many, under the next number. Takes no memory.
 pub(crate) fn can_open(count: usize, most: usize, next: u64) -> bool

@@ -13,7 +13,7 @@ impl<D: Disk> Store<D> {
     ghost use Rattle.schema.specs.Elements.{elements_view};
     ghost use Rattle.table.specs.Calls.{add_column, done};
     ghost use Rattle.table.specs.Views.{answered};
-    ghost use Rattle.store.specs.Promises.{Acts, HasCause};
+    ghost use Rattle.store.specs.Promises.{Acts, HasCause, StaysClosed, ClosesInDoubt};
 
     /// Puts one OPTIONAL field at the end of the schema, in a commit: Ok(0). Rows that are there are null in it, and so
     /// are those that are staged; no part file is written.
@@ -24,6 +24,8 @@ impl<D: Disk> Store<D> {
     pub fn add_column(&mut self, alloc: Global, elements: &[Element]) -> R<u64>
         ensures acts { Acts D.state self.old self.new (add_column (elements_view elements.now)) (answered done result) }
         ensures cause { HasCause D.state self.old self.new (answered done result) }
+        ensures closed { StaysClosed self.old self.new result }
+        ensures doubt { ClosesInDoubt self.new result }
         ensures counts { (D.state self.old.vault.disk).failures ≤ (D.state self.new.vault.disk).failures }
         ensures honest { (D.state self.old.vault.disk).honest ↔ (D.state self.new.vault.disk).honest }
     {

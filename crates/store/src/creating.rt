@@ -48,7 +48,7 @@ pub(crate) fn put_new<D: Disk>(
     ensures made { (D.state vault.old.disk).honest → IfOk result (λ first. IsFirstOn schema (key_columns_view keys.items) first (D.state vault.new.disk)) }
     ensures absent { (D.state vault.old.disk).honest → OnOk result (content (D.state vault.old.disk).seen root_path ≡ None) }
     ensures in_range { OnOk result (IsOutOfRange options.now → ⊥) }
-    ensures moments { (D.state vault.old.disk).honest → HasNoRoot (D.state vault.old.disk)
+    ensures moments { (D.state vault.old.disk).honest → HasRoom (key_columns_view keys.items) (D.state vault.old.disk) → HasNoRoot (D.state vault.old.disk)
         → LeavesNoneOr (empty_table schema (key_columns_view keys.items)) (D.state vault.old.disk) (D.state vault.new.disk) }
     ensures refused { (D.state vault.old.disk).honest → HasNoRoot (D.state vault.old.disk) → IfErr result (λ e. e ≢ Refusal.InDoubt → HasNoRoot (D.state vault.new.disk)) }
     ensures room { (D.state vault.old.disk).honest → HasRoom (key_columns_view keys.items) (D.state vault.old.disk) → HasRoom (key_columns_view keys.items) (D.state vault.new.disk) }
@@ -97,7 +97,7 @@ fn put_first<D: Disk>(
 ) -> R<First>
     requires { AreKeys (key_columns_view keys.items) schema }
     ensures made { (D.state vault.old.disk).honest → IfOk result (λ first. IsFirstOn schema (key_columns_view keys.items) first (D.state vault.new.disk)) }
-    ensures moments { (D.state vault.old.disk).honest → HasNoRoot (D.state vault.old.disk)
+    ensures moments { (D.state vault.old.disk).honest → HasRoom (key_columns_view keys.items) (D.state vault.old.disk) → HasNoRoot (D.state vault.old.disk)
         → LeavesNoneOr (empty_table schema (key_columns_view keys.items)) (D.state vault.old.disk) (D.state vault.new.disk) }
     ensures refused { (D.state vault.old.disk).honest → HasNoRoot (D.state vault.old.disk) → IfErr result (λ e. e ≢ Refusal.InDoubt → HasNoRoot (D.state vault.new.disk)) }
     ensures room { (D.state vault.old.disk).honest → HasRoom (key_columns_view keys.items) (D.state vault.old.disk) → HasRoom (key_columns_view keys.items) (D.state vault.new.disk) }

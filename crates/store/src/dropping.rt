@@ -22,7 +22,7 @@ pub(crate) struct Removal {
 impl<D: Disk> Store<D> {
     ghost use Rattle.table.specs.Calls.{remove_groups, done};
     ghost use Rattle.table.specs.Views.{answered};
-    ghost use Rattle.store.specs.Promises.{Acts, HasCause};
+    ghost use Rattle.store.specs.Promises.{Acts, HasCause, StaysClosed, ClosesInDoubt};
 
     /// Removes the groups of these numbers, in a commit of its own: Ok(n), of n rows. Of no numbers it writes nothing.
     ///
@@ -31,6 +31,8 @@ impl<D: Disk> Store<D> {
     pub fn remove_groups(&mut self, alloc: Global, numbers: &[u64]) -> R<u64>
         ensures acts { Acts D.state self.old self.new (remove_groups numbers.now) (answered done result) }
         ensures cause { HasCause D.state self.old self.new (answered done result) }
+        ensures closed { StaysClosed self.old self.new result }
+        ensures doubt { ClosesInDoubt self.new result }
         ensures counts { (D.state self.old.vault.disk).failures ≤ (D.state self.new.vault.disk).failures }
         ensures honest { (D.state self.old.vault.disk).honest ↔ (D.state self.new.vault.disk).honest }
     {

@@ -6,6 +6,7 @@ ghost use Rattle.store.specs.Lookups.{job_at};
 ghost use Rattle.store.specs.Staging.{is_nothing, finds_nothing, finds_append, StagedAreReady};
 
 use crate::append_work::{waiting_rows, written_with};
+use crate::beginning::MOST_NUMBERS;
 use crate::dropping::plus_rows;
 use crate::jobs::{OpenJob, Work};
 use crate::lookup::{end_job, find_job};
@@ -18,9 +19,6 @@ use snapshots::Event;
 use std::alloc::Global;
 use table::JobId;
 
-/// A counter that has come to this gives no more numbers: 2^63.
-const MOST_NUMBERS: u64 = 9223372036854775808;
-
 impl<D: Disk> Store<D> {
     ghost use Rattle.table.specs.State.{State};
     ghost use Rattle.table.specs.Checks.{fault};
@@ -28,7 +26,7 @@ impl<D: Disk> Store<D> {
     ghost use Rattle.table.specs.Calls.{commit, abort, done, accepted};
     ghost use Rattle.table.specs.Views.{answered};
     ghost use Rattle.store.specs.Stands.{Stands};
-    ghost use Rattle.store.specs.Promises.{Acts, ActsFrom, HasCause};
+    ghost use Rattle.store.specs.Promises.{Acts, ActsFrom, HasCause, StaysClosed, ClosesInDoubt};
 
     /// Makes a job a commit, and ends it: Ok(n), of n rows that it staged or rewrote.
     ///
@@ -38,6 +36,8 @@ impl<D: Disk> Store<D> {
     pub fn commit(&mut self, alloc: Global, job: JobId) -> R<u64>
         ensures acts { Acts D.state self.old self.new (commit job) (answered done result) }
         ensures cause { HasCause D.state self.old self.new (answered done result) }
+        ensures closed { StaysClosed self.old self.new result }
+        ensures doubt { ClosesInDoubt self.new result }
         ensures counts { (D.state self.old.vault.disk).failures ≤ (D.state self.new.vault.disk).failures }
         ensures honest { (D.state self.old.vault.disk).honest ↔ (D.state self.new.vault.disk).honest }
     {
@@ -68,6 +68,7 @@ impl<D: Disk> Store<D> {
             → finds_nothing (job_at job self.old.jobs.items) ≡ false → ActsFrom D.state self.old self.new (commit job) (answered done result) s }
         ensures cause { (D.state self.old.vault.disk).honest → (s : State) → Stands D.state self.old s → s.closed ≡ false → fault s (commit job) ≡ None → finds_append (job_at job self.old.jobs.items) ≡ true
             → finds_nothing (job_at job self.old.jobs.items) ≡ false → is_failure (answered done result) ≡ true → HasFailed (D.state self.old.vault.disk) (D.state self.new.vault.disk) }
+        ensures doubt { ClosesInDoubt self.new result }
         ensures counts { (D.state self.old.vault.disk).failures ≤ (D.state self.new.vault.disk).failures }
         ensures honest { (D.state self.old.vault.disk).honest ↔ (D.state self.new.vault.disk).honest }
     {
@@ -90,6 +91,7 @@ impl<D: Disk> Store<D> {
     pub fn abort(&mut self, alloc: Global, job: JobId) -> R<()>
         ensures acts { Acts D.state self.old self.new (abort job) (answered (λ _. accepted) result) }
         ensures cause { HasCause D.state self.old self.new (answered (λ _. accepted) result) }
+        ensures closed { StaysClosed self.old self.new result }
         ensures counts { (D.state self.old.vault.disk).failures ≤ (D.state self.new.vault.disk).failures }
         ensures honest { (D.state self.old.vault.disk).honest ↔ (D.state self.new.vault.disk).honest }
     {

@@ -20,11 +20,12 @@ use std::rc::Rc;
 use table::JobId;
 
 /// The counter's last values are for no file.
-const LAST_NUMBER: u64 = u64::MAX - 1;
+pub(crate) const LAST_NUMBER: u64 = u64::MAX - 1;
 
 impl<D: Disk> Store<D> {
     ghost use Rattle.table.specs.Table.{Row as TableRow, Group as TableGroup};
     ghost use Rattle.table.specs.State.{State};
+    ghost use Rattle.store.specs.Promises.{IsSure};
     ghost use Rattle.store.specs.Stands.{Shows};
     ghost use Rattle.store.specs.Writing.{IsPartRefusal};
     ghost use Rattle.store.specs.Filling.{HasWritten, Adds, Filled, Takes, Ends, AreFine, written_group, EndsWith, Goes};
@@ -42,6 +43,7 @@ impl<D: Disk> Store<D> {
         ensures writes { (D.state self.old.vault.disk).honest → (start : Store D) (s : State) → s.closed ≡ false → AreFine s (rows_view rows.now) → HasWritten D.state start self.old s job [] [] → self.old.next_group ≡ s.next_group
             → EndsWith D.state start self.new s job (rows_view rows.now) result }
         ensures same { self.new ≡ record self.old { vault = self.new.vault; snapshots = self.new.snapshots; next_group = self.new.next_group } }
+        ensures sure { IsSure result }
         ensures counts { (D.state self.old.vault.disk).failures ≤ (D.state self.new.vault.disk).failures }
         ensures honest { (D.state self.old.vault.disk).honest ↔ (D.state self.new.vault.disk).honest }
     {
@@ -66,6 +68,7 @@ impl<D: Disk> Store<D> {
             → Takes D.state start self.new s job (handles_view written.new.items) (map key_rows_view waiting.new.items) (given ++ rows_view rows.now) result }
         ensures same { self.new ≡ record self.old { vault = self.new.vault; snapshots = self.new.snapshots; next_group = self.new.next_group } }
         ensures rises { self.new.next_group ≤ self.old.next_group + length rows.now }
+        ensures sure { IsSure result }
         ensures counts { (D.state self.old.vault.disk).failures ≤ (D.state self.new.vault.disk).failures }
         ensures honest { (D.state self.old.vault.disk).honest ↔ (D.state self.new.vault.disk).honest }
     {
@@ -89,6 +92,7 @@ impl<D: Disk> Store<D> {
             → Takes D.state start self.new s job (handles_view written.new.items) (map key_rows_view waiting.new.items) (given ++ row_view row.now ∷ []) result }
         ensures same { self.new ≡ record self.old { vault = self.new.vault; snapshots = self.new.snapshots; next_group = self.new.next_group } }
         ensures rises { self.new.next_group ≤ self.old.next_group + 1 }
+        ensures sure { IsSure result }
         ensures counts { (D.state self.old.vault.disk).failures ≤ (D.state self.new.vault.disk).failures }
         ensures honest { (D.state self.old.vault.disk).honest ↔ (D.state self.new.vault.disk).honest }
     {
@@ -114,6 +118,7 @@ impl<D: Disk> Store<D> {
             → Filled D.state start self.old s job (handles_view written.old.items) [] (map key_rows_view waiting.now) given
             → Ends D.state start self.new s job (handles_view written.new.items) given result }
         ensures same { self.new ≡ record self.old { vault = self.new.vault; snapshots = self.new.snapshots; next_group = self.new.next_group } }
+        ensures sure { IsSure result }
         ensures counts { (D.state self.old.vault.disk).failures ≤ (D.state self.new.vault.disk).failures }
         ensures honest { (D.state self.old.vault.disk).honest ↔ (D.state self.new.vault.disk).honest }
     {

@@ -56,5 +56,5 @@ pub use jobs::{Appending, OpenCursor, OpenJob, Rewriting, Work};
 pub use laws::{heavy_roots_are_too_much, paths_are_apart};
 pub use opening::{create, open};
 pub use reading_once::{fetches_follow, queries_read_once};
-pub use restart::a_table_can_be_opened_again;
+pub use restart::{a_crash_leaves_a_prefix_of_the_commits, a_table_can_be_opened_again};
 pub use store::Store;

@@ -12,6 +12,8 @@ ghost use Rattle.footer.specs.Writing.{IsOutOfRange, IsTooMuch};
 ghost use Rattle.table.specs.Table.{Row as TableRow};
 ghost use Rattle.vault.specs.Views.{IsNoRoot};
 ghost use Rattle.vault.specs.Calls.{CountsOnce, HasFailed};
+ghost use Rattle.shred.specs.Columns.{column_refs_view};
+ghost use Rattle.store.specs.Wide.{AreFew, HasFewEntries};
 ghost use Rattle.store.specs.Writing.{IsPartFor, IsUnfit};
 
 use crate::store::Store;
@@ -20,7 +22,9 @@ use disk::Disk;
 use footer::{WriteOptions, write_file};
 use manifest::{Group, Manifest};
 use partition::{part_path, part_paths_are_not_roots};
-use schema::{Key, Row};
+use row_group::{MOST_ENTRIES_OF_CHUNK, MOST_ROWS_OF_GROUP};
+use schema::{Key, Row, Schema};
+use shred::{ColumnRef, shred};
 use snapshots::Event;
 use std::alloc::Global;
 use std::rc::Rc;
@@ -112,10 +116,8 @@ impl<D: Disk> Store<D> {
         )
     }
 
-    /// The same of rows that may be more than a group has: its file has one group with all of them.
-    ///
-    /// Where they are too much for one file this is refused as if out of memory, and never Limit: what a limit is said
-    /// to be is told of files whose groups have at most as many rows as the options say.
+    /// The same of rows that may be more than a group has: its file has one group with all of them. Where they are too much
+    /// for it, they are too much for a file with groups as the options say, and it is refused Limit.
     pub(crate) fn make_wide_part(&self, alloc: Global, key: &Key, rows: &[Row]) -> R<Part>
         requires some { 1 ≤ length rows.now }
         requires counter { self.now.next_group < 2 ^ 64 - 1 }
@@ -129,17 +131,21 @@ impl<D: Disk> Store<D> {
         };
         match part_of(alloc, &self.manifest, self.next_group, &options, key, rows) {
             Ok(part) => Ok(part),
-            Err(Refusal::Limit) => Err(Refusal::Memory),
+            Err(Refusal::Limit) => Err(why_too_wide(alloc, self.manifest.stored(), rows)),
             Err(refusal) => Err(refusal),
         }
     }
 }
 
-/// The same options, but for groups of so many rows. None where there are no such.
+/// The same options, but for groups of this many rows. None where a group may not have as many.
 fn wide_options(options: &WriteOptions, rows: usize) -> Option<WriteOptions>
-    ensures { IfSome result (λ o. o.group_rows ≡ rows) }
+    ensures rows { IfSome result (λ o. o.group_rows ≡ rows) }
+    ensures few { IfSome result (λ _. rows ≤ 16777216) }
+    ensures pages { IfSome result (λ o. o.page_rows ≡ options.now.page_rows) }
+    ensures version { IfSome result (λ o. o.page_version ≡ options.now.page_version) }
+    ensures style { IfSome result (λ o. o.style ≡ options.now.style) }
 {
-    if rows > u32::MAX as usize {
+    if rows > MOST_ROWS_OF_GROUP as usize {
         return None;
     }
     Some(WriteOptions {
@@ -148,6 +154,37 @@ fn wide_options(options: &WriteOptions, rows: usize) -> Option<WriteOptions>
         page_version: options.page_version,
         style: options.style,
     })
+}
+
+/// Why rows are not written as one group, where that is refused Limit: Limit; but Memory where a column of them has more
+/// entries than a chunk may have, as no group has that could be read, and where memory runs out here.
+fn why_too_wide(alloc: Global, stored: &Schema, rows: &[Row]) -> Refusal
+    ensures few { result ≡ Refusal.Limit → HasFewEntries stored.now (rows_view rows.now) }
+    ensures which { (result ≡ Refusal.Limit) ⊎ (result ≡ Refusal.Memory) }
+{
+    match has_few_entries(alloc, stored, rows) {
+        Ok(true) => Refusal::Limit,
+        Ok(false) | Err(_) => Refusal::Memory,
+    }
+}
+
+/// Whether no column of the rows has more entries than a chunk may have.
+fn has_few_entries(alloc: Global, stored: &Schema, rows: &[Row]) -> R<bool>
+    ensures { IfOk result (λ few. few ≡ true → HasFewEntries stored.now (rows_view rows.now)) }
+{
+    let columns = shred(alloc, stored, rows)?;
+    Ok(are_few(columns.as_slice()))
+}
+
+fn are_few(columns: &[ColumnRef<'_>]) -> bool
+    ensures { result ≡ true → AreFew (column_refs_view columns.now) }
+{
+    for column in columns {
+        if column.entries.len() > MOST_ENTRIES_OF_CHUNK as usize {
+            return false;
+        }
+    }
+    true
 }
 
 /// The part file of rows of one key in a table under a number, written by these options.

@@ -10,6 +10,7 @@ ghost use Rattle.filter.specs.Test.{tests_in};
 ghost use Rattle.manifest.specs.Groups.{Group as FileGroup, group_view, root_of};
 ghost use Rattle.scan.specs.Faults.{IsDevice};
 ghost use Rattle.table.specs.Table.{Group as TableGroup};
+ghost use Rattle.store.specs.Promises.{IsSure};
 ghost use Rattle.store.specs.Counting.{IsHeld};
 ghost use Rattle.store.specs.Reading.{OnlyReads};
 ghost use Rattle.store.specs.Removing.{AreRemains, those, not_those};
@@ -47,6 +48,7 @@ pub(crate) fn remains_at<D: Disk>(
     ensures only { (D.state vault.old.disk).honest → (f : FileGroup) (g : TableGroup) → slice_get (root_of table.now).groups place ≡ Some f → IsHeld (D.state vault.old.disk) (tests_in filter.now) (root_of table.now) f g
         → RefusedOnly IsDevice result }
     ensures effect { OnlyReads (D.state vault.old.disk) (D.state vault.new.disk) result }
+    ensures sure { IsSure result }
 {
     match table.groups().group_at(place) {
         None => Err(Refusal::Truncated),
@@ -67,6 +69,7 @@ fn remains_of<D: Disk>(
     ensures only { (D.state vault.old.disk).honest → (g : TableGroup) → IsHeld (D.state vault.old.disk) (tests_in filter.now) (root_of table.now) (group_view group.now) g
         → RefusedOnly IsDevice result }
     ensures effect { OnlyReads (D.state vault.old.disk) (D.state vault.new.disk) result }
+    ensures sure { IsSure result }
 {
     // For the proof: no row of a group that is ruled out satisfies.
     scan::ruled_out_groups_hold_none();

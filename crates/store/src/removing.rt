@@ -17,7 +17,9 @@ ghost use Rattle.planning.specs.Replaced.{changes_view, replaced};
 ghost use Rattle.planning.specs.Told.{IsNextOf};
 ghost use Rattle.table.specs.Deciding.{Filter as Terms};
 
+use crate::beginning::MOST_NUMBERS;
 use crate::counting::sum_of;
+use crate::filling::LAST_NUMBER;
 use crate::remaining::{Remains, remains_at};
 use crate::store::Store;
 use bits::{R, Refusal};
@@ -28,12 +30,6 @@ use partition::KeyRows;
 use planning::{Change, next_after};
 use std::alloc::Global;
 use std::rc::Rc;
-
-/// A counter that has come to this gives no more numbers: 2^63.
-const MOST_NUMBERS: u64 = 9223372036854775808;
-
-/// The counter's last values are for no file.
-const LAST_NUMBER: u64 = u64::MAX - 1;
 
 /// What a removal has done so far: what comes in the place of which group, and how many rows went.
 #[derive(Drop)]
@@ -52,7 +48,7 @@ impl<D: Disk> Store<D> {
     ghost use Rattle.table.specs.Views.{answered};
     ghost use Rattle.store.specs.Buffers.{buffer};
     ghost use Rattle.store.specs.Filling.{HasWritten, IsBuffer};
-    ghost use Rattle.store.specs.Promises.{Acts, ActsFrom, HasCause};
+    ghost use Rattle.store.specs.Promises.{Acts, ActsFrom, HasCause, StaysClosed, IsSure, ClosesInDoubt};
     ghost use Rattle.store.specs.Removing.{Puts, HasReplaced, Replaces, ReplacesAll};
     ghost use Rattle.store.specs.Stands.{Shows, Stands};
     ghost use Rattle.store.specs.Writing.{Writes, IsPartRefusal};
@@ -66,12 +62,12 @@ impl<D: Disk> Store<D> {
     /// but for finding each group, which is logarithmic.
     ///
     /// Refused Closed; Full where there are no more group numbers; for the first term that has a fault; Limit for a file
-    /// or a root that is too much; Device, and InDoubt where the root may be the old one or the new one. Where more rows are
-    /// left of a group than `group_rows`, as of one that was written when groups were larger, and they are too much for one
-    /// file, the answer is Memory in place of Limit.
+    /// or a root that is too much; Device, and InDoubt where the root may be the old one or the new one.
     pub fn remove(&mut self, alloc: Global, terms: &[Vec<Term>]) -> R<u64>
         ensures acts { Acts D.state self.old self.new (remove (terms_view terms.now)) (answered done result) }
         ensures cause { HasCause D.state self.old self.new (answered done result) }
+        ensures closed { StaysClosed self.old self.new result }
+        ensures doubt { ClosesInDoubt self.new result }
         ensures counts { (D.state self.old.vault.disk).failures ≤ (D.state self.new.vault.disk).failures }
         ensures honest { (D.state self.old.vault.disk).honest ↔ (D.state self.new.vault.disk).honest }
     {
@@ -91,6 +87,7 @@ impl<D: Disk> Store<D> {
             → ActsFrom D.state self.old self.new (remove terms) (answered done result) s }
         ensures cause { (D.state self.old.vault.disk).honest → (s : State) (terms : Terms) → Stands D.state self.old s → s.closed ≡ false → fault s (remove terms) ≡ None → tests_of (leaves_of s.table.schema) terms ≡ Ok (tests_in filter.now)
             → is_failure (answered done result) ≡ true → HasFailed (D.state self.old.vault.disk) (D.state self.new.vault.disk) }
+        ensures doubt { ClosesInDoubt self.new result }
         ensures counts { (D.state self.old.vault.disk).failures ≤ (D.state self.new.vault.disk).failures }
         ensures honest { (D.state self.old.vault.disk).honest ↔ (D.state self.new.vault.disk).honest }
     {
@@ -110,6 +107,7 @@ impl<D: Disk> Store<D> {
             → HasWritten D.state self.old self.old s None [] [] → self.old.next_group ≡ s.next_group
             → ReplacesAll D.state self.old self.new s (all_satisfied (tests_in filter.now)) result }
         ensures same { self.new ≡ record self.old { vault = self.new.vault; snapshots = self.new.snapshots; next_group = self.new.next_group } }
+        ensures sure { IsSure result }
         ensures counts { (D.state self.old.vault.disk).failures ≤ (D.state self.new.vault.disk).failures }
         ensures honest { (D.state self.old.vault.disk).honest ↔ (D.state self.new.vault.disk).honest }
     {
@@ -136,6 +134,7 @@ impl<D: Disk> Store<D> {
             → place < length (root_of self.old.manifest).groups → HasReplaced D.state start self.old s (all_satisfied (tests_in filter.now)) place removed.old
             → Replaces D.state start self.new s (all_satisfied (tests_in filter.now)) (place + 1) removed.new result }
         ensures same { self.new ≡ record self.old { vault = self.new.vault; snapshots = self.new.snapshots; next_group = self.new.next_group } }
+        ensures sure { IsSure result }
         ensures counts { (D.state self.old.vault.disk).failures ≤ (D.state self.new.vault.disk).failures }
         ensures honest { (D.state self.old.vault.disk).honest ↔ (D.state self.new.vault.disk).honest }
     {
@@ -152,6 +151,7 @@ impl<D: Disk> Store<D> {
             → HasWritten D.state start self.old s None files groups → IsBuffer s.table.schema s.table.keys (key_rows_view remains.now.rest) (buffer (key_view remains.now.rest.key) held)
             → Puts D.state start self.old self.new s files groups held remains.now removed.old removed.new result }
         ensures same { self.new ≡ record self.old { vault = self.new.vault; snapshots = self.new.snapshots; next_group = self.new.next_group } }
+        ensures sure { IsSure result }
         ensures counts { (D.state self.old.vault.disk).failures ≤ (D.state self.new.vault.disk).failures }
         ensures honest { (D.state self.old.vault.disk).honest ↔ (D.state self.new.vault.disk).honest }
     {

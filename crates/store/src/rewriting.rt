@@ -5,7 +5,7 @@ ghost use Rattle.vault.specs.Calls.{HasFailed};
 ghost use Rattle.store.specs.Lookups.{job_at};
 ghost use Rattle.store.specs.Stepping.{is_rewrite, finds_rewrite};
 
-use crate::beginning::can_open;
+use crate::beginning::{MOST_NUMBERS, can_open};
 use crate::jobs::{OpenJob, Rewriting, Work};
 use crate::lookup::find_job;
 use crate::reading_on::push_read;
@@ -17,9 +17,6 @@ use planning::runs_of;
 use std::alloc::Global;
 use table::JobId;
 
-/// A counter that has come to this gives no more numbers: 2^63.
-const MOST_NUMBERS: u64 = 9223372036854775808;
-
 impl<D: Disk> Store<D> {
     ghost use Rattle.table.specs.State.{State};
     ghost use Rattle.table.specs.Checks.{fault};
@@ -27,7 +24,7 @@ impl<D: Disk> Store<D> {
     ghost use Rattle.table.specs.Calls.{begin_rewrite, step_rewrite, job, more};
     ghost use Rattle.table.specs.Views.{answered};
     ghost use Rattle.store.specs.Stands.{Stands};
-    ghost use Rattle.store.specs.Promises.{Acts, ActsFrom, HasCause};
+    ghost use Rattle.store.specs.Promises.{Acts, ActsFrom, HasCause, StaysClosed};
 
     /// Opens a rewrite of the groups of these numbers: `step_rewrite` reads them one by one, and `commit` puts groups of
     /// the same rows in their place. Nothing is read or written yet.
@@ -37,6 +34,7 @@ impl<D: Disk> Store<D> {
     pub fn begin_rewrite(&mut self, alloc: Global, numbers: &[u64]) -> R<JobId>
         ensures acts { Acts D.state self.old self.new (begin_rewrite numbers.now) (answered job result) }
         ensures cause { HasCause D.state self.old self.new (answered job result) }
+        ensures closed { StaysClosed self.old self.new result }
         ensures counts { (D.state self.old.vault.disk).failures ≤ (D.state self.new.vault.disk).failures }
         ensures honest { (D.state self.old.vault.disk).honest ↔ (D.state self.new.vault.disk).honest }
     {
@@ -67,6 +65,7 @@ impl<D: Disk> Store<D> {
     pub fn step_rewrite(&mut self, alloc: Global, job: JobId) -> R<bool>
         ensures acts { Acts D.state self.old self.new (step_rewrite job) (answered more result) }
         ensures cause { HasCause D.state self.old self.new (answered more result) }
+        ensures closed { StaysClosed self.old self.new result }
         ensures counts { (D.state self.old.vault.disk).failures ≤ (D.state self.new.vault.disk).failures }
         ensures honest { (D.state self.old.vault.disk).honest ↔ (D.state self.new.vault.disk).honest }
     {

@@ -32,7 +32,7 @@ impl<D: Disk> Store<D> {
     ghost use Rattle.store.specs.declared.jobs.Rewriting.{Rewriting};
     ghost use Rattle.store.specs.Lookups.{job_at};
     ghost use Rattle.store.specs.Stands.{Stands};
-    ghost use Rattle.store.specs.Promises.{ActsFrom};
+    ghost use Rattle.store.specs.Promises.{ActsFrom, IsSure, ClosesInDoubt};
     ghost use Rattle.store.specs.Filling.{HasWritten};
     ghost use Rattle.store.specs.Rewritten.{IsRewriteAt, AreSources, AreRuns, IsRunIn, RewritesOne, RewritesAll};
 
@@ -42,6 +42,7 @@ impl<D: Disk> Store<D> {
             → ActsFrom D.state self.old self.new (commit job) (answered done result) s }
         ensures cause { (D.state self.old.vault.disk).honest → (s : State) (r : Rewriting) → Stands D.state self.old s → s.closed ≡ false → s.next_group < 2 ^ 63 → IsRewriteAt job self.old.jobs.items r → r.runs.items ≢ []
             → is_failure (answered done result) ≡ true → HasFailed (D.state self.old.vault.disk) (D.state self.new.vault.disk) }
+        ensures doubt { ClosesInDoubt self.new result }
         ensures counts { (D.state self.old.vault.disk).failures ≤ (D.state self.new.vault.disk).failures }
         ensures honest { (D.state self.old.vault.disk).honest ↔ (D.state self.new.vault.disk).honest }
     {
@@ -58,6 +59,7 @@ impl<D: Disk> Store<D> {
         ensures acts { (D.state self.old.vault.disk).honest → (s : State) (r : Rewriting) → Stands D.state self.old s → s.closed ≡ false → IsRewriteAt job self.old.jobs.items r → fault s (commit job) ≡ Some Refusal.Stale
             → ActsFrom D.state self.old self.new (commit job) (answered done result) s }
         ensures cause { is_failure (answered done result) ≡ false }
+        ensures sure { IsSure result }
         ensures counts { (D.state self.old.vault.disk).failures ≤ (D.state self.new.vault.disk).failures }
         ensures honest { (D.state self.old.vault.disk).honest ↔ (D.state self.new.vault.disk).honest }
     {
@@ -74,6 +76,7 @@ impl<D: Disk> Store<D> {
             → fault s (commit job) ≡ None → ActsFrom D.state self.old self.new (commit job) (answered done result) s }
         ensures cause { (D.state self.old.vault.disk).honest → (s : State) (r : Rewriting) → Stands D.state self.old s → s.closed ≡ false → IsRewriteAt job self.old.jobs.items r → r.runs.items ≢ [] → sources_view runs.now ≡ sources_view r.runs.items
             → fault s (commit job) ≡ None → is_failure (answered done result) ≡ true → HasFailed (D.state self.old.vault.disk) (D.state self.new.vault.disk) }
+        ensures doubt { ClosesInDoubt self.new result }
         ensures counts { (D.state self.old.vault.disk).failures ≤ (D.state self.new.vault.disk).failures }
         ensures honest { (D.state self.old.vault.disk).honest ↔ (D.state self.new.vault.disk).honest }
     {
@@ -99,6 +102,7 @@ impl<D: Disk> Store<D> {
             → RewritesAll D.state start self.new s (Some job) (handles_view written.new.items) given result }
         ensures come { IfOk result (λ made. handles_view written.new.items ≡ handles_view written.old.items ++ brought_by (runs_view made.items)) }
         ensures same { self.new ≡ record self.old { vault = self.new.vault; snapshots = self.new.snapshots; next_group = self.new.next_group } }
+        ensures sure { IsSure result }
         ensures counts { (D.state self.old.vault.disk).failures ≤ (D.state self.new.vault.disk).failures }
         ensures honest { (D.state self.old.vault.disk).honest ↔ (D.state self.new.vault.disk).honest }
     {
@@ -127,6 +131,7 @@ impl<D: Disk> Store<D> {
             → RewritesOne D.state start self.new s (Some job) (handles_view written.old.items) (handles_view written.new.items) groups given self.old.next_group result }
         ensures come { IfOk result (λ r. handles_view written.new.items ≡ handles_view written.old.items ++ (run_view r).come) }
         ensures same { self.new ≡ record self.old { vault = self.new.vault; snapshots = self.new.snapshots; next_group = self.new.next_group } }
+        ensures sure { IsSure result }
         ensures counts { (D.state self.old.vault.disk).failures ≤ (D.state self.new.vault.disk).failures }
         ensures honest { (D.state self.old.vault.disk).honest ↔ (D.state self.new.vault.disk).honest }
     {

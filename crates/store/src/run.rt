@@ -128,8 +128,8 @@ pub(crate) fn make<D: Disk>(store: &mut Store<D>, alloc: Global, call: &Call) ->
 }
 
 impl<D: Disk> Store<D> {
-    /// Makes calls one after another, and answers each. As long as one of them is not written, it is not public. Refused for want of memory alone, for the answers, and then no
-    /// call was made.
+    /// Makes calls one after another, and answers each. It is refused only when out of memory for the answers, and then no call
+    /// was made.
     pub fn run(&mut self, alloc: Global, calls: &[Call]) -> R<Vec<Answer>>
         // From each state that the store stands in, the answers are those of a history. A stop at any moment since the
         // start leaves the table after the commits answered before that moment, or after these and the one in progress

@@ -18,6 +18,7 @@ use table::JobId;
 impl<D: Disk> Store<D> {
     ghost use Rattle.table.specs.Table.{Group as TableGroup, rows};
     ghost use Rattle.table.specs.State.{State};
+    ghost use Rattle.store.specs.Promises.{IsSure};
     ghost use Rattle.store.specs.Lookups.{job_at};
     ghost use Rattle.store.specs.Filling.{HasWritten};
     ghost use Rattle.store.specs.Rewritten.{IsSource, AreSources, Reads, kept_at};
@@ -35,6 +36,7 @@ impl<D: Disk> Store<D> {
             → HasWritten D.state start self.old s (Some job) files written → AreSources (D.state start.vault.disk) s (job_at job start.jobs.items) place (handles_view groups.now) run
             → Reads D.state start self.new s (Some job) files written (rows run) result }
         ensures same { self.new ≡ record self.old { vault = self.new.vault } }
+        ensures sure { IsSure result }
         ensures counts { (D.state self.old.vault.disk).failures ≤ (D.state self.new.vault.disk).failures }
         ensures honest { (D.state self.old.vault.disk).honest ↔ (D.state self.new.vault.disk).honest }
     {
@@ -61,6 +63,7 @@ impl<D: Disk> Store<D> {
             → HasWritten D.state start self.old s (Some job) files written → IsSource (D.state start.vault.disk) s (kept_at place (job_at job start.jobs.items)) (group_view (rc_value group.now)) source
             → Reads D.state start self.new s (Some job) files written source.rows result }
         ensures same { self.new ≡ record self.old { vault = self.new.vault } }
+        ensures sure { IsSure result }
         ensures counts { (D.state self.old.vault.disk).failures ≤ (D.state self.new.vault.disk).failures }
         ensures honest { (D.state self.old.vault.disk).honest ↔ (D.state self.new.vault.disk).honest }
     {

@@ -23,6 +23,7 @@ use table::JobId;
 impl<D: Disk> Store<D> {
     ghost use Rattle.table.specs.Table.{Group as TableGroup, IsRowIn};
     ghost use Rattle.table.specs.State.{State};
+    ghost use Rattle.store.specs.Promises.{IsSure};
     ghost use Rattle.store.specs.Filling.{HasWritten, Goes};
     ghost use Rattle.store.specs.Rewritten.{AddsAll, AddsOne};
 
@@ -39,6 +40,7 @@ impl<D: Disk> Store<D> {
             → AddsAll D.state start self.new s (Some job) (handles_view written.old.items) (handles_view written.new.items) groups key (rows_view rows.now) (self.old.next_group + length (rows_view rows.now)) result }
         ensures goes { OnOk result (Goes (handles_view written.old.items) (handles_view written.new.items)) }
         ensures same { self.new ≡ record self.old { vault = self.new.vault; snapshots = self.new.snapshots; next_group = self.new.next_group } }
+        ensures sure { IsSure result }
         ensures counts { (D.state self.old.vault.disk).failures ≤ (D.state self.new.vault.disk).failures }
         ensures honest { (D.state self.old.vault.disk).honest ↔ (D.state self.new.vault.disk).honest }
     {
@@ -69,6 +71,7 @@ impl<D: Disk> Store<D> {
             → AddsOne D.state start self.new s (Some job) (handles_view written.old.items) (handles_view written.new.items) groups self.old.next_group key (rows_view rows.now) result }
         ensures goes { OnOk result (Goes (handles_view written.old.items) (handles_view written.new.items)) }
         ensures same { self.new ≡ record self.old { vault = self.new.vault; snapshots = self.new.snapshots; next_group = self.new.next_group } }
+        ensures sure { IsSure result }
         ensures counts { (D.state self.old.vault.disk).failures ≤ (D.state self.new.vault.disk).failures }
         ensures honest { (D.state self.old.vault.disk).honest ↔ (D.state self.new.vault.disk).honest }
     {

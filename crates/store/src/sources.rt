@@ -6,6 +6,7 @@ ghost use Rattle.schema.specs.Views.{rows_view};
 ghost use Rattle.manifest.specs.Groups.{group_view, root_of};
 ghost use Rattle.scan.specs.Faults.{IsDevice};
 ghost use Rattle.table.specs.Table.{Group as TableGroup};
+ghost use Rattle.store.specs.Promises.{IsSure};
 ghost use Rattle.store.specs.Counting.{IsHeld};
 ghost use Rattle.store.specs.Reading.{OnlyReads};
 ghost use Rattle.store.specs.Stepping.{source_in, next_at, next_in};
@@ -40,6 +41,7 @@ pub(crate) fn whole_rows<D: Disk>(
     ensures only { (D.state vault.old.disk).honest → (held : TableGroup) → IsHeld (D.state vault.old.disk) [] (root_of table.now) (group_view group.now) held
         → RefusedOnly IsDevice result }
     ensures effect { OnlyReads (D.state vault.old.disk) (D.state vault.new.disk) result }
+    ensures sure { IsSure result }
 {
     // For the proof: the rows of a part file fit the table.
     manifest::rows_of_parts_fit();

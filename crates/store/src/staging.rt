@@ -6,7 +6,7 @@ ghost use Rattle.store.specs.Lookups.{job_at};
 ghost use Rattle.store.specs.Staging.{is_append, finds_append};
 
 use crate::append_work::{put_work, waiting_rows, written_with};
-use crate::beginning::can_open;
+use crate::beginning::{MOST_NUMBERS, can_open};
 use crate::jobs::{Appending, OpenJob, Work};
 use crate::lookup::find_job;
 use crate::store::Store;
@@ -16,9 +16,6 @@ use schema::Row;
 use std::alloc::Global;
 use table::JobId;
 
-/// A counter that has come to this gives no more numbers: 2^63.
-const MOST_NUMBERS: u64 = 9223372036854775808;
-
 impl<D: Disk> Store<D> {
     ghost use Rattle.table.specs.State.{State};
     ghost use Rattle.table.specs.Checks.{fault};
@@ -27,7 +24,7 @@ impl<D: Disk> Store<D> {
     ghost use Rattle.schema.specs.Views.{rows_view};
     ghost use Rattle.table.specs.Calls.{begin_append, stage, job, accepted};
     ghost use Rattle.table.specs.Views.{answered};
-    ghost use Rattle.store.specs.Promises.{Acts, ActsFrom, HasCause};
+    ghost use Rattle.store.specs.Promises.{Acts, ActsFrom, HasCause, StaysClosed};
 
     /// Opens an append.
     ///
@@ -35,6 +32,7 @@ impl<D: Disk> Store<D> {
     pub fn begin_append(&mut self, alloc: Global) -> R<JobId>
         ensures acts { Acts D.state self.old self.new begin_append (answered job result) }
         ensures cause { HasCause D.state self.old self.new (answered job result) }
+        ensures closed { StaysClosed self.old self.new result }
         ensures counts { (D.state self.old.vault.disk).failures ≤ (D.state self.new.vault.disk).failures }
         ensures honest { (D.state self.old.vault.disk).honest ↔ (D.state self.new.vault.disk).honest }
     {
@@ -60,6 +58,7 @@ impl<D: Disk> Store<D> {
     pub fn stage(&mut self, alloc: Global, job: JobId, rows: &[Row]) -> R<()>
         ensures acts { Acts D.state self.old self.new (stage job (rows_view rows.now)) (answered (λ _. accepted) result) }
         ensures cause { HasCause D.state self.old self.new (answered (λ _. accepted) result) }
+        ensures closed { StaysClosed self.old self.new result }
         ensures counts { (D.state self.old.vault.disk).failures ≤ (D.state self.new.vault.disk).failures }
         ensures honest { (D.state self.old.vault.disk).honest ↔ (D.state self.new.vault.disk).honest }
     {

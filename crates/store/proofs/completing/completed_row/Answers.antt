@@ -1,8 +1,8 @@
-use Rattle.std.proofs.Common.{◌≡◌, ◌≤◌, ◌<◌, ◌+◌, ℕ, List, [], ◌∷◌, ◌++◌, map, length, refl, sym, ◌∙◌, ap, subst, arith}
+use Rattle.std.proofs.Common.{◌≡◌, ◌+◌, ℕ, List, [], ◌∷◌, ◌++◌, map, length, sym, ◌∙◌, ap, arith}
 use Rattle.std.proofs.lemmas.List.{length-map, length-append, map-append}
 use Rattle.schema.specs.declared.value.Value.{Value, Null as code_null}
 use Rattle.schema.specs.Values.{ValueTree, null, view, trees_of}
-use Rattle.schema.specs.Shape.{Fields, count}
+use Rattle.schema.specs.Shape.{count}
 use Rattle.schema.specs.Fronts.{padded}
 use Rattle.schema.proofs.Few.{count-views}
 use Rattle.schema.proofs.OneLevel.{view_null}

@@ -1,4 +1,4 @@
-use Rattle.std.proofs.Common.{◌≡◌, ◌++◌, map, drop}
+use Rattle.std.proofs.Common.{◌≡◌, ◌++◌, drop}
 use Rattle.schema.specs.Views.{rows_view}
 use Rattle.store.specs.Completing.{completed_rows}
 use Rattle.store.proofs.completing.completed_rows.Given as goal

@@ -3,7 +3,7 @@ use Rattle.bits.specs.declared.refusal.Refusal.{Refusal}
 use Rattle.bits.specs.Refusals.{RefusedOnly}
 use Rattle.schema.specs.declared.row.Row.{Row as CodeRow}
 use Rattle.schema.specs.Shape.{Fields}
-use Rattle.schema.specs.Keys.{KeyColumn, AreKeys, key_columns_view}
+use Rattle.schema.specs.Keys.{KeyColumn, AreKeys}
 use Rattle.vault.proofs.Chained.{refused}
 use Rattle.filter.specs.Test.{tests_in}
 use Rattle.manifest.specs.Groups.{group_view, root_of}

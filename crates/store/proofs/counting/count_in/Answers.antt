@@ -1,4 +1,4 @@
-use Rattle.std.proofs.Common.{◌≡◌, ◌+◌, ℕ, List, [], ◌∷◌, ◌++◌, drop, Result, Ok, Err, refl, sym, ◌∙◌, ap, subst}
+use Rattle.std.proofs.Common.{◌≡◌, ◌+◌, ℕ, List, [], ◌∷◌, ◌++◌, drop, Result, Err, sym, ◌∙◌, ap}
 use Rattle.bits.specs.declared.refusal.Refusal.{Refusal}
 use Rattle.bits.specs.Refusals.{RefusedOnly, HasCause}
 use Rattle.vault.proofs.Chained.{refused}
@@ -9,7 +9,8 @@ use Rattle.std.specs.declared.alloc.Global.{Global}
 use Rattle.manifest.specs.declared.group.Group.{Group as CodeGroup}
 use Rattle.manifest.specs.Groups.{Group as FileGroup, group_view, handles_view, root_of}
 use Rattle.store.specs.Counting.{matching}
-use Rattle.store.proofs.Tallied.{split_so, tally_on, tally_done, one_held, from_one, past_all}
+use Rattle.store.proofs.Buffered.{drop_all}
+use Rattle.store.proofs.Tallied.{split_so, tally_on, tally_done, one_held, from_one}
 use Rattle.scan.specs.Faults.{IsDevice}
 use Rattle.table.specs.Table.{Group}
 use Rattle.store.specs.Reading.{OnlyReads}
@@ -72,4 +73,4 @@ returns-clause-stands g c honest held h =
     let root = root_of c.args.table.now in
     let so_far = c.loop-group.invariant in
     let i = c.loop-group.group-index in
-    tally_done tests root old (handles_view c.args.groups.now) mid _ c.loop-group.found so_far (ap handles_view (past_all c.args.groups.now i c.loop-group-test.false)) honest held h
+    tally_done tests root old (handles_view c.args.groups.now) mid _ c.loop-group.found so_far (ap handles_view (drop_all c.args.groups.now i c.loop-group-test.false)) honest held h

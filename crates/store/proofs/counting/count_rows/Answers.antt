@@ -1,6 +1,6 @@
-use Rattle.std.proofs.Common.{◌≡◌, ◌+◌, ℕ, List, [], ◌∷◌, ◌++◌, drop, Result, Ok, Err, refl, sym, ◌∙◌, ap, subst}
+use Rattle.std.proofs.Common.{◌+◌, ℕ, List, ◌++◌, drop, Result, Err, sym, ◌∙◌, ap, subst}
 use Rattle.bits.specs.declared.refusal.Refusal.{Refusal}
-use Rattle.bits.specs.Refusals.{RefusedOnly, HasCause}
+use Rattle.bits.specs.Refusals.{RefusedOnly}
 use Rattle.vault.proofs.Chained.{refused}
 use Rattle.filter.specs.Test.{tests_in}
 use Rattle.std.specs.declared.rc.Rc.{Rc}
@@ -9,9 +9,9 @@ use Rattle.manifest.specs.declared.block.Block.{Block}
 use Rattle.manifest.specs.declared.group.Group.{Group as CodeGroup}
 use Rattle.manifest.specs.Groups.{Group as FileGroup, handles_view, groups_of_blocks, root_of}
 use Rattle.store.specs.Counting.{AreHeld}
-use Rattle.store.proofs.Tallied.{split_so, tally_on, tally_done, blocks_from, past_all}
+use Rattle.store.proofs.Buffered.{drop_all}
+use Rattle.store.proofs.Tallied.{split_so, tally_on, tally_done, blocks_from}
 use Rattle.scan.specs.Faults.{IsDevice}
-use Rattle.table.specs.Table.{Group}
 use Rattle.store.specs.Reading.{OnlyReads}
 use Rattle.store.proofs.Passed.{reading_ends, reading_on, reading_poor}
 use Rattle.store.proofs.Fetched.{memory_so}
@@ -71,4 +71,4 @@ returns-clause-stands g c honest held h =
     let root = root_of c.args.table.now in
     let so_far = c.loop-block.invariant in
     let i = c.loop-block.block-index in
-    tally_done tests root old (groups_of_blocks c.blocks-block-items.result.now) mid _ c.loop-block.found so_far (ap groups_of_blocks (past_all c.blocks-block-items.result.now i c.loop-block-test.false)) honest held (subst (λ (fs : List FileGroup). AreHeld old tests root fs held) (sym (c.blocks-block-items.ensures ∙ c.groups.ensures.are)) h)
+    tally_done tests root old (groups_of_blocks c.blocks-block-items.result.now) mid _ c.loop-block.found so_far (ap groups_of_blocks (drop_all c.blocks-block-items.result.now i c.loop-block-test.false)) honest held (subst (λ (fs : List FileGroup). AreHeld old tests root fs held) (sym (c.blocks-block-items.ensures ∙ c.groups.ensures.are)) h)

@@ -1,11 +1,10 @@
-use Rattle.std.proofs.Common.{ℕ, List, Option, Some, None}
-use Rattle.std.specs.Prelude.{IfOk, IsErr}
+use Rattle.std.proofs.Common.{Some}
+use Rattle.std.specs.Prelude.{IfOk}
 use Rattle.bits.specs.Refusals.{RefusedOnly}
-use Rattle.schema.specs.Shape.{Fields}
-use Rattle.schema.specs.Keys.{KeyColumn, AreKeys, key_columns_view}
+use Rattle.schema.specs.Keys.{AreKeys, key_columns_view}
 use Rattle.schema.specs.Views.{rows_view}
 use Rattle.filter.specs.Test.{tests_in}
-use Rattle.manifest.specs.Groups.{Group as FileGroup, group_view, root_of}
+use Rattle.manifest.specs.Groups.{group_view, root_of}
 use Rattle.scan.specs.Faults.{IsDevice}
 use Rattle.scan.specs.Selected.{IsOver, Holds, AreSelected}
 use Rattle.snapshots.specs.State.{group_in, version_at}

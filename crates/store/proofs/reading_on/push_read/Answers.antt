@@ -1,7 +1,6 @@
 use Rattle.std.proofs.Common.{◌≡◌, ◌<◌, ℕ, zero, suc, List, [], ◌∷◌, length, get_or, slice_index_or, Some, None, sym, ◌∙◌, ap, subst, arith}
 use Rattle.std.specs.Prelude.{slice_set}
 use Rattle.store.specs.declared.jobs.OpenJob.{OpenJob}
-use Rattle.store.specs.declared.jobs.Work.{Work}
 use Rattle.store.specs.Lookups.{job_at}
 use Rattle.store.specs.Stepping.{HasRead, kept_rows}
 use Rattle.store.proofs.Putting.{put_here, found_at, found_none}

@@ -1,4 +1,4 @@
-use Rattle.std.proofs.Common.{◌≡◌, Some, sym, ◌∙◌, ap, arith}
+use Rattle.std.proofs.Common.{Some, ◌∙◌, ap, arith}
 use Rattle.manifest.specs.declared.group.Group.{Group as CodeGroup}
 use Rattle.manifest.specs.Groups.{group_view}
 use Rattle.store.proofs.SourcePlaces.{source_here, source_later}

@@ -1,14 +1,13 @@
-use Rattle.std.proofs.Common.{◌≡◌, ℕ, List, [], None, Result, Ok, Err, refl, sym, ◌∙◌, ap, subst}
+use Rattle.std.proofs.Common.{◌≡◌, List, [], None, Result, Err, refl, sym, ◌∙◌, ap, subst}
 use Rattle.std.specs.declared.vec.Vec.{Vec}
 use Rattle.std.specs.declared.alloc.Global.{Global}
 use Rattle.bits.specs.declared.refusal.Refusal.{Refusal}
-use Rattle.bits.specs.declared.refusal.Refusal.TheVariants.{Memory}
 use Rattle.bits.specs.Refusals.{RefusedOnly, HasCause}
 use Rattle.schema.specs.declared.row.Row.{Row as CodeRow}
 use Rattle.schema.specs.Shape.{Fields}
 use Rattle.schema.specs.Stripe.{leaves_of}
 use Rattle.schema.specs.Views.{rows_view}
-use Rattle.schema.specs.Keys.{KeyColumn, AreKeys, key_columns_view}
+use Rattle.schema.specs.Keys.{KeyColumn, AreKeys}
 use Rattle.vault.proofs.Chained.{refused}
 use Rattle.filter.specs.Test.{tests_in}
 use Rattle.manifest.specs.Groups.{group_view, root_of}

@@ -1,11 +1,11 @@
 use Rattle.std.proofs.Common.{◌≡◌, List, sym, ◌∙◌, ap, subst}
-use Rattle.schema.specs.Shape.{Field, Fields}
+use Rattle.schema.specs.Shape.{Fields}
 use Rattle.schema.specs.Elements.{elements_view}
 use Rattle.schema.specs.Fronts.{with_field}
 use Rattle.schema.specs.Growing.{IsColumnFor}
 use Rattle.schema.specs.Keys.{KeyColumn, AreKeys}
 use Rattle.schema.proofs.Grown.{keys_stay}
-use Rattle.manifest.specs.Groups.{Root, root_of}
+use Rattle.manifest.specs.Groups.{root_of}
 use Rattle.store.proofs.widening.widened.Goals as goal
 
 pub with_schema-requires : goal.with_schema-requires

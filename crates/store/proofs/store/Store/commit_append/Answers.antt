@@ -1,4 +1,4 @@
-use Rattle.std.proofs.Common.{◌≡◌, ◌≤◌, ◌<◌, ◌⊎◌, ◌+◌, ◌++◌, ℕ, true, List, Err, [], map, ap, sym, ◌∙◌, subst, arith}
+use Rattle.std.proofs.Common.{◌≡◌, ◌≤◌, ◌<◌, ◌⊎◌, ◌+◌, ◌++◌, ℕ, true, List, Err, map, ap, sym, ◌∙◌, subst, arith}
 use Rattle.std.specs.List.{AllByRecursion}
 use Rattle.std.specs.declared.rc.Rc.{Rc}
 use Rattle.std.specs.declared.alloc.Global.{Global}
@@ -18,7 +18,6 @@ use Rattle.table.specs.Views.{answered}
 use Rattle.store.specs.declared.store.Store.{Store}
 use Rattle.store.specs.Completing.{completed_buffers, waiting_at, groups_at}
 use Rattle.store.specs.Dropping.{rows_in}
-use Rattle.store.specs.Filling.{Filled}
 use Rattle.store.specs.Lookups.{job_at}
 use Rattle.store.specs.Promises.{ActsFrom}
 use Rattle.store.proofs.Adding.{failed_since}

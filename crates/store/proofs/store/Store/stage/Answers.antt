@@ -1,4 +1,4 @@
-use Rattle.std.proofs.Common.{◌≡◌, ◌≤◌, ◌<◌, ℕ, true, false, refl, sym, ◌∙◌, ap, arith}
+use Rattle.std.proofs.Common.{◌≡◌, ◌≤◌, ◌<◌, true, false, refl, sym, ◌∙◌, ap, arith}
 use Rattle.schema.specs.Views.{rows_view}
 use Rattle.vault.proofs.Chained.{refused}
 use Rattle.table.specs.Calls.{stage, accepted}

@@ -1,36 +1,25 @@
-use Rattle.std.proofs.Common.{◌≡◌, ◌≤◌, ◌+◌, ◌++◌, ℕ, true, List, Result, Err, [], map, length, refl, ap, sym, ◌∙◌, subst, arith}
+use Rattle.std.proofs.Common.{◌≡◌, ◌≤◌, ◌+◌, ◌++◌, ℕ, true, Err, map, length, refl, ap, sym, ◌∙◌, subst}
 use Rattle.std.proofs.lemmas.List.{length-map}
-use Rattle.std.specs.declared.rc.Rc.{Rc}
-use Rattle.std.specs.declared.alloc.Global.{Global}
 use Rattle.bits.specs.declared.refusal.Refusal.{Refusal}
-use Rattle.schema.specs.Shape.{Fields}
-use Rattle.schema.specs.Keys.{KeyColumn, without_keys}
 use Rattle.schema.specs.Views.{row_view, rows_view}
-use Rattle.disk.specs.State.{State as DiskState}
 use Rattle.vault.specs.Calls.{HasFailed}
 use Rattle.vault.proofs.Chained.{refused}
-use Rattle.partition.specs.Splitting.{KeyRows, key_rows_view}
-use Rattle.manifest.specs.declared.group.Group.{Group as CodeGroup}
-use Rattle.manifest.specs.Groups.{Group as FileGroup, root_of, handles_view}
+use Rattle.partition.specs.Splitting.{key_rows_view}
+use Rattle.manifest.specs.Groups.{handles_view}
 use Rattle.table.specs.Calls.{stage, accepted}
-use Rattle.table.specs.Checks.{fault}
 use Rattle.table.specs.Refusing.{is_failure}
-use Rattle.table.specs.State.{State}
 use Rattle.table.specs.Views.{answered}
 use Rattle.store.specs.declared.store.Store.{Store}
-use Rattle.store.specs.declared.jobs.OpenJob.{OpenJob}
 use Rattle.store.specs.declared.jobs.Work.TheVariants.{Append}
 use Rattle.store.specs.declared.jobs.Appending.{Appending}
-use Rattle.store.specs.Filling.{Filled, Takes, AreFine}
 use Rattle.store.specs.Completing.{completed_buffers, waiting_at, groups_at}
 use Rattle.store.specs.Lookups.{job_at}
-use Rattle.store.specs.Stands.{Stands}
 use Rattle.store.specs.Promises.{ActsFrom}
 use Rattle.store.proofs.Asked.{stage_poor}
 use Rattle.store.proofs.Dropped.{memory_only}
 use Rattle.store.proofs.Putting.{put_back}
-use Rattle.store.proofs.StageOn.{IsThere, append_in}
-use Rattle.store.proofs.StageMore.{filled, wait, stopped, stopped_cause, poor_after, done_so}
+use Rattle.store.proofs.StageOn.{append_in}
+use Rattle.store.proofs.StageMore.{wait, stopped, stopped_cause, poor_after, done_so}
 use Rattle.store.proofs.StageFine.{there_so, fine_so, filled_at}
 use Rattle.store.proofs.store.Store.stage_rows.Goals as goal
 

@@ -10,7 +10,8 @@ use Rattle.table.specs.Table.{Row, IsRowIn}
 use Rattle.footer.specs.declared.options.WriteOptions.{WriteOptions}
 use Rattle.store.specs.declared.store.Store.{Store}
 use Rattle.store.specs.Rewritten.{AddsAll, HasAddedOne, IsHalted}
-use Rattle.store.proofs.RunParts.{goes_on, goes_nowhere, Parts, no_parts, all_parts, none_left, part_some, part_stops, part_more, part_seen, behind_seen, all_taken, all_dropped, not_empty, is_empty_so}
+use Rattle.store.proofs.Counted.{no_terms}
+use Rattle.store.proofs.RunParts.{goes_on, goes_nowhere, Parts, no_parts, all_parts, none_left, part_some, part_stops, part_more, part_seen, behind_seen, all_taken, all_dropped, not_empty}
 use Rattle.store.proofs.store.Store.write_run.Goals as goal
 
 pub loop-init : goal.loop-init
@@ -38,7 +39,7 @@ returns-then-is_empty-clause-writes g c honest start s groups key is_open has ca
     let i = c.loop.counter in
     let left = rows_view c.loop.left.now in
     let p = so_far.fills honest start s groups key is_open has can are_in in
-    all_parts state start s n was groups key given (old.next_group + length given) mid files i left p (is_empty_so row_view c.loop.left.now (sym c.is_empty.ensures ∙ c.if-is_empty.true))
+    all_parts state start s n was groups key given (old.next_group + length given) mid files i left p (no_terms row_view c.loop.left.now (sym c.is_empty.ensures ∙ c.if-is_empty.true))
 
 pub returns-in_err-write_part_of_run-clause-writes : goal.returns-in_err-write_part_of_run-clause-writes
 returns-in_err-write_part_of_run-clause-writes g c honest start s groups key is_open has can are_in =

@@ -1,0 +1,28 @@
+use Rattle.std.proofs.Common.{refl, sym, subst, ◌∙◌, arith}
+use Rattle.std.proofs.lemmas.Bool.{false≢true}
+use Rattle.std.proofs.lemmas.List.{drop_all}
+use Rattle.schema.specs.Orders.{IsAtMost}
+use Rattle.schema.specs.Values.{view}
+use Rattle.upkeep.proofs.Bounding.{rest_is, Each, to_values, from_values}
+use Rattle.upkeep.proofs.bounds.is_minimum.Goals as goal
+
+pub returns-then-not-is_above : goal.returns-then-not-is_above
+returns-then-not-is_above c =
+    let rest = rest_is c.args.entries.now c.loop-entry.entry-index c.entry-item.result (omega arith) c.entry-item.is in (
+      (λ h. absurd (false≢true h)),
+      (λ h. absurd (false≢true (sym c.if-not-is_above.true ∙ c.is_above.ensures.1 (subst (Each (λ v. IsAtMost c.args.order (view c.args.min.now) v)) rest (c.loop-entry.invariant.left (from_values (λ v. IsAtMost c.args.order (view c.args.min.now) v) c.args.entries.now h))).0))),
+    )
+
+pub loop-entry-preserved : goal.loop-entry-preserved
+loop-entry-preserved c =
+    let rest = rest_is c.args.entries.now c.loop-entry.entry-index c.entry-item.result (omega arith) c.entry-item.is in
+    record {
+      whole = λ h. c.loop-entry.invariant.whole (subst (Each (λ v. IsAtMost c.args.order (view c.args.min.now) v)) (sym rest) (c.is_above.ensures.0 c.if-not-is_above.false, h));
+      left = λ h. (subst (Each (λ v. IsAtMost c.args.order (view c.args.min.now) v)) rest (c.loop-entry.invariant.left h)).1;
+    }
+
+pub returns : goal.returns
+returns c = (
+  (λ h. to_values (λ v. IsAtMost c.args.order (view c.args.min.now) v) c.args.entries.now (c.loop-entry.invariant.whole (subst (Each (λ v. IsAtMost c.args.order (view c.args.min.now) v)) (sym (drop_all c.loop-entry.entry-index c.args.entries.now (omega arith))) tt))),
+  (λ h. refl),
+)

@@ -1,0 +1,9 @@
+use Rattle.std.proofs.Common.{◌≡◌, ◌≤◌, ◌+◌, length, take, drop}
+use Rattle.metadata.specs.Views.{column_meta_view}
+use Rattle.upkeep.specs.inner.Columns.{IsTextFrom}
+use Rattle.upkeep.proofs.Filling.{some_map}
+use Rattle.upkeep.proofs.columns.text_from.Goals as goal
+
+pub returns-in-Some : goal.returns-in-Some
+returns-in-Some c =
+    some_map c.range_of.result _ _ (λ range is. record { size = c.in-Some.size; sized = c.in-Some.ensures; there = is.0; here = is.1 }) c.range_of.ensures

@@ -1,0 +1,74 @@
+-- What a walk through the key folders finds.
+use Rattle.std.specs.Prelude.{◌≡◌, ◌⊎◌, ◌<◌, ◌^◌, ℕ, List, take, map, Contains, String, string_bytes, Vec, Some}
+use Rattle.std.specs.List.{slice_get}
+use Rattle.std.specs.declared.alloc.Global.{Global}
+use Rattle.schema.specs.Values.{ValueTree}
+use Rattle.schema.specs.Keys.{KeyColumn}
+use Rattle.disk.specs.Paths.{path_in}
+use Rattle.disk.specs.State.{Image}
+use Rattle.disk.specs.declared.binding.Entry.{Entry}
+use Rattle.disk.specs.declared.binding.Binding.TheVariants.{File}
+use Rattle.disk.specs.declared.binding.Kind.TheVariants as kind
+use Rattle.partition.specs.Folders.{CanPartition, path, part_name_of, part_path_of}
+use Rattle.upkeep.specs.Strays.{IsStray}
+
+abbrev pub paths_of : Vec (String Global) Global → List (List ℕ)
+paths_of v = map string_bytes v.items
+
+-- some key of these columns has this folder
+abbrev pub IsKeyFolder : List KeyColumn → List ℕ → Type 0
+IsKeyFolder columns folder = (key : List ValueTree) × CanPartition columns key × (path columns key ≡ folder)
+
+-- the path of an entry of a folder
+abbrev pub path_at : List ℕ → Entry → List ℕ
+path_at folder entry = path_in folder (string_bytes entry.name)
+
+-- the entry is a folder of a key of these columns, and this is its path
+abbrev pub IsBelow : List KeyColumn → List ℕ → Entry → String Global → Type 0
+IsBelow columns folder entry below = (string_bytes below ≡ path_at folder entry) × IsKeyFolder columns (path_at folder entry)
+
+-- the entry is no folder of a key of these columns
+abbrev pub IsNoneBelow : List KeyColumn → List ℕ → Entry → Type 0
+IsNoneBelow columns folder entry = entry.kind ≡ kind.Folder → IsKeyFolder columns (path_at folder entry) → ⊥
+
+-- the entry is a part file by its name
+abbrev pub IsPartEntry : Entry → Type 0
+IsPartEntry entry = (number : ℕ) × (number < 2 ^ 64) × (string_bytes entry.name ≡ part_name_of number) × (entry.kind ≡ kind.File)
+
+-- the entry of a key folder is a part file that is not named, and this is its path
+abbrev pub IsStrayFile : (List ℕ → Type 0) → List ℕ → Entry → List ℕ → Type 0
+IsStrayFile Named folder entry stray = (stray ≡ path_at folder entry) × IsPartEntry entry × (Named (path_at folder entry) → ⊥)
+
+-- the entry of a key folder is another file, or is named
+abbrev pub IsNoStrayFile : (List ℕ → Type 0) → List ℕ → Entry → Type 0
+IsNoStrayFile Named folder entry = IsPartEntry entry → Named (path_at folder entry)
+
+-- more paths, which all have this
+pub record Adds (Is : List ℕ → Type 0) (old new : List (List ℕ)) : Type 0 where
+  pub keeps : (q : List ℕ) → Contains old q → Contains new q
+  pub only : (q : List ℕ) → Contains new q → Contains old q ⊎ Is q
+
+-- the part file of an entry of a key folder, where it is not named
+pub record FindsFile (Named : List ℕ → Type 0) (folder : List ℕ) (entry : Entry) (old new : List (List ℕ)) : Type 0 where
+  pub adds : Adds (IsStrayFile Named folder entry) old new
+  pub found : IsPartEntry entry → (Named (path_at folder entry) → ⊥) → Contains new (path_at folder entry)
+
+-- those of all entries
+pub record FindsFiles (Named : List ℕ → Type 0) (folder : List ℕ) (entries : List Entry) (old new : List (List ℕ)) : Type 0 where
+  pub adds : Adds (λ q. (i : ℕ) × (entry : Entry) × (slice_get entries i ≡ Some entry) × IsStrayFile Named folder entry q) old new
+  pub found : (i : ℕ) (entry : Entry) → slice_get entries i ≡ Some entry → IsPartEntry entry → (Named (path_at folder entry) → ⊥) → Contains new (path_at folder entry)
+
+-- the part files below this folder, which has those of so many key columns, that are not named
+abbrev pub IsFound : List KeyColumn → (List ℕ → Type 0) → ℕ → List ℕ → Image → List (List ℕ) → Type 0
+IsFound keys Named depth folder image paths = (key : List ValueTree) (number node : ℕ) → CanPartition keys key → number < 2 ^ 64
+    → path (take depth keys) (take depth key) ≡ folder → image.names (part_path_of keys key number) ≡ File node
+    → (Named (part_path_of keys key number) → ⊥) → Contains paths (part_path_of keys key number)
+
+pub record Finds (keys : List KeyColumn) (Named : List ℕ → Type 0) (depth : ℕ) (folder : List ℕ) (image : Image) (old new : List (List ℕ)) : Type 0 where
+  pub adds : Adds (IsStray image keys Named) old new
+  pub found : IsFound keys Named depth folder image new
+
+-- those below an entry of a folder
+pub record FindsBelow (keys : List KeyColumn) (Named : List ℕ → Type 0) (depth : ℕ) (folder : List ℕ) (entry : Entry) (image : Image) (old new : List (List ℕ)) : Type 0 where
+  pub adds : Adds (IsStray image keys Named) old new
+  pub found : entry.kind ≡ kind.Folder → IsFound keys Named depth (path_at folder entry) image new

@@ -1,0 +1,233 @@
+//! The files of a table against its root.
+
+ghost use Rattle.std.specs.Prelude.{◌≡◌, [], ℕ, Some, Ok, IfOk, IfSome, OnOk, length};
+ghost use Rattle.std.specs.List.{slice_get};
+ghost use Rattle.disk.specs.State.{content};
+ghost use Rattle.manifest.specs.Groups.{Group as GroupShown, root_of, group_view};
+ghost use Rattle.manifest.specs.Root.{stored_of};
+ghost use Rattle.upkeep.specs.Intact.{HoldsRows, IsHeldIn, IsIntact};
+ghost use Rattle.upkeep.specs.Reading.{Looks};
+
+use crate::blame::blamed;
+use crate::counting::{Totals, totals_of};
+use crate::findings::{Damage, Finding};
+use crate::naming::part_of_group;
+use crate::part::{Fault, fault_of_part};
+use crate::unnamed::leftovers;
+use bits::{R, Refusal};
+use disk::Disk;
+use manifest::{Group, Manifest};
+use schema::Leaf;
+use std::alloc::Global;
+use vault::Vault;
+
+/// What was checked, and what was found.
+#[derive(Debug, Drop)]
+pub struct Checked {
+    /// What the root says of the table.
+    pub totals: Totals,
+    /// First those of the files that the table names, in its order, at most one a file; then the files too many.
+    pub findings: Vec<Finding>,
+}
+
+/// Who is shown how far a check is.
+pub trait Watch {
+    /// A group with so many rows was checked.
+    fn checked(&mut self, rows: u64);
+}
+
+/// Reads each part file against the root that was read ([`described`](crate::described)): that it is there, is a file of
+/// just the columns that the table says it has, with one row group, whose records and number of rows are the root's; that
+/// its pages fill their chunks; and that the statistics in the root are true of its values. Also lists the key folders for
+/// part files that the root does not name.
+///
+/// Where nothing is found, the table is intact (`IsIntact`). Nothing is changed. Holds one file, and one of its columns, at a
+/// time. Refused Device where the disk failed, Limit where the rows or bytes in all pass 2^64, Key for a group whose key
+/// cannot partition, which no root says, and Memory. Time is linear in the bytes of the files and their entries.
+pub fn check<D: Disk, W: Watch>(
+    alloc: Global,
+    vault: &mut Vault<D>,
+    manifest: &Manifest,
+    watch: &mut W,
+) -> R<Checked>
+    ensures intact { (D.state vault.old.disk).honest
+        → IfOk result (λ x. x.findings.items ≡ [] → IsIntact (D.state vault.old.disk).seen (root_of manifest.now)) }
+    ensures effect { Looks (length (root_of manifest.now).groups) (D.state vault.old.disk) (D.state vault.new.disk) }
+{
+    let totals = totals_of(manifest)?;
+    let mut findings = Vec::new(alloc);
+    check_groups(alloc, vault, manifest, watch, &mut findings)?;
+    let paths = leftovers(alloc, vault, manifest)?;
+    add_leftovers(paths, &mut findings)?;
+    Ok(Checked { totals, findings })
+}
+
+/// Adds a finding for each of these paths.
+fn add_leftovers(paths: Vec<String>, findings: &mut Vec<Finding>) -> R<()>
+    ensures found { OnOk result (findings.new.items ≡ [] → (paths.items ≡ []) × (findings.old.items ≡ [])) }
+{
+    for path in paths {
+        add_finding(path, None, Damage::Leftover, findings)?;
+    }
+    Ok(())
+}
+
+/// Adds a finding.
+fn add_finding(
+    path: String,
+    column: Option<String>,
+    damage: Damage,
+    findings: &mut Vec<Finding>,
+) -> R<()>
+    ensures found { OnOk result (findings.new.items ≡ [] → ⊥) }
+{
+    findings.push(Finding {
+        path,
+        column,
+        damage,
+    })?;
+    Ok(())
+}
+
+/// Adds a finding for each damaged file that the root names.
+fn check_groups<D: Disk, W: Watch>(
+    alloc: Global,
+    vault: &mut Vault<D>,
+    manifest: &Manifest,
+    watch: &mut W,
+    findings: &mut Vec<Finding>,
+) -> R<()>
+    ensures held { (D.state vault.old.disk).honest → OnOk result (findings.new.items ≡ []
+        → (k : ℕ) (g : GroupShown) → slice_get (root_of manifest.now).groups k ≡ Some g → IsHeldIn (D.state vault.old.disk).seen (root_of manifest.now) g) }
+    ensures effect { Looks (length (root_of manifest.now).groups) (D.state vault.old.disk) (D.state vault.new.disk) }
+{
+    for i in 0..manifest.groups().len() {
+        check_group_at(alloc, vault, manifest, watch, i, findings)?;
+    }
+    Ok(())
+}
+
+/// Adds a finding for the file of the group at a place, if it is damaged.
+fn check_group_at<D: Disk, W: Watch>(
+    alloc: Global,
+    vault: &mut Vault<D>,
+    manifest: &Manifest,
+    watch: &mut W,
+    place: usize,
+    findings: &mut Vec<Finding>,
+) -> R<()>
+    ensures held { (D.state vault.old.disk).honest → OnOk result (findings.new.items ≡ [] → (findings.old.items ≡ [])
+        × ((g : GroupShown) → slice_get (root_of manifest.now).groups place ≡ Some g → IsHeldIn (D.state vault.old.disk).seen (root_of manifest.now) g)) }
+    ensures effect { Looks 1 (D.state vault.old.disk) (D.state vault.new.disk) }
+{
+    match manifest.groups().group_at(place) {
+        Some(group) => {
+            watch.checked(group.rows());
+            check_group(alloc, vault, manifest, group, findings)
+        }
+        None => Ok(()),
+    }
+}
+
+/// Adds a finding for the file of a group, if it is damaged.
+fn check_group<D: Disk>(
+    alloc: Global,
+    vault: &mut Vault<D>,
+    manifest: &Manifest,
+    group: &Group,
+    findings: &mut Vec<Finding>,
+) -> R<()>
+    ensures held { (D.state vault.old.disk).honest → OnOk result (findings.new.items ≡ [] → (findings.old.items ≡ [])
+        × IsHeldIn (D.state vault.old.disk).seen (root_of manifest.now) (group_view group.now)) }
+    ensures effect { Looks 1 (D.state vault.old.disk) (D.state vault.new.disk) }
+{
+    let path = part_of_group(alloc, manifest, group)?;
+    match read_part(alloc, vault, path.as_str())? {
+        Some(bytes) => check_bytes(alloc, manifest, group, path, bytes.as_slice(), findings),
+        None => add_finding(path, None, Damage::Missing, findings),
+    }
+}
+
+/// The bytes of a file; None where it is not there.
+fn read_part<D: Disk>(alloc: Global, vault: &mut Vault<D>, path: &str) -> R<Option<Vec<u8>>>
+    ensures stands { (D.state vault.old.disk).honest → IfOk result (λ found. IfSome found (λ bytes. content (D.state vault.old.disk).seen path.now ≡ Some bytes.items)) }
+    ensures effect { Looks 1 (D.state vault.old.disk) (D.state vault.new.disk) }
+{
+    let read = vault.get_range(alloc, path, 0, usize::MAX);
+    unless_absent(read)
+}
+
+/// What was read; None where nothing is there.
+fn unless_absent(read: R<Vec<u8>>) -> R<Option<Vec<u8>>>
+    ensures { IfOk result (λ found. IfSome found (λ bytes. read ≡ Ok bytes)) }
+{
+    match read {
+        Ok(bytes) => Ok(Some(bytes)),
+        Err(Refusal::Truncated) => Ok(None),
+        Err(e) => Err(e),
+    }
+}
+
+/// Adds a finding for the file of a group with these bytes, if it is damaged.
+fn check_bytes(
+    alloc: Global,
+    manifest: &Manifest,
+    group: &Group,
+    path: String,
+    bytes: &[u8],
+    findings: &mut Vec<Finding>,
+) -> R<()>
+    ensures held { OnOk result (findings.new.items ≡ [] → (findings.old.items ≡ [])
+        × HoldsRows (stored_of (root_of manifest.now)) (group_view group.now) bytes.now) }
+{
+    match fault_of_part(alloc, manifest.stored(), group, bytes)? {
+        Some(fault) => add_fault(alloc, manifest, path, bytes, fault, findings),
+        None => Ok(()),
+    }
+}
+
+/// Adds a finding for a file with this fault.
+fn add_fault(
+    alloc: Global,
+    manifest: &Manifest,
+    path: String,
+    bytes: &[u8],
+    fault: Fault,
+    findings: &mut Vec<Finding>,
+) -> R<()>
+    ensures found { OnOk result (findings.new.items ≡ [] → ⊥) }
+{
+    let leaves = manifest.stored().leaves();
+    let leaf = leaf_of(alloc, leaves, bytes, &fault)?;
+    let column = column_of(alloc, leaves, leaf)?;
+    let Fault { damage, .. } = fault;
+    add_finding(path, column, damage, findings)
+}
+
+/// The index of the leaf that is at fault, where it is one.
+fn leaf_of(alloc: Global, leaves: &[Leaf], bytes: &[u8], fault: &Fault) -> R<Option<usize>> {
+    match fault.damage {
+        Damage::Refused(_) => blamed(alloc, leaves, bytes),
+        _ => Ok(fault.leaf),
+    }
+}
+
+/// The names on the way to a leaf, where there is one.
+fn column_of(alloc: Global, leaves: &[Leaf], leaf: Option<usize>) -> R<Option<String>> {
+    match leaf {
+        Some(leaf) if leaf < leaves.len() => Ok(Some(path_text(alloc, &leaves[leaf])?)),
+        _ => Ok(None),
+    }
+}
+
+/// The names on the way to a leaf, with a `.` between two.
+pub(crate) fn path_text(alloc: Global, leaf: &Leaf) -> R<String> {
+    let mut text = String::new(alloc);
+    let mut separator = "";
+    for name in &leaf.path {
+        text.push_str(separator)?;
+        text.push_str(name.as_str())?;
+        separator = ".";
+    }
+    Ok(text)
+}

@@ -1,0 +1,110 @@
+//! Rows, groups and bytes in all.
+
+ghost use Rattle.std.specs.Prelude.{◌≡◌, ◌+◌, sum_by, map, IfOk, IfErr};
+ghost use Rattle.metadata.specs.Views.{chunk_meta_view, column_meta_view};
+ghost use Rattle.metadata.specs.Records.{ChunkMeta as ChunkShown};
+ghost use Rattle.manifest.specs.Groups.{root_of};
+ghost use Rattle.manifest.specs.Laid.{size_by};
+ghost use Rattle.upkeep.specs.Totals.{Counts};
+
+use bits::{R, Refusal};
+use manifest::{Group, Manifest, Version};
+use metadata::{ChunkMeta, ColumnMeta};
+
+/// How much there is of a table, or of a part of it, as its root says.
+#[derive(Clone, Copy, Debug, PartialEq, Eq)]
+pub struct Totals {
+    pub rows: u64,
+    pub groups: u64,
+    /// What the pages of all chunks take.
+    pub bytes: u64,
+}
+
+impl Totals {
+    ghost use Rattle.std.specs.Prelude.{Some};
+    ghost use Rattle.std.specs.List.{slice_get};
+    ghost use Rattle.manifest.specs.Groups.{Group as GroupShown, group_view, groups_in};
+    ghost use Rattle.upkeep.specs.Totals.{CountsOneMore};
+
+    pub const NONE: Totals = Totals {
+        rows: 0,
+        groups: 0,
+        bytes: 0,
+    };
+
+    /// With a group more. Refused Limit for more than a `u64` counts.
+    pub(crate) fn with(self, group: &Group) -> R<Totals>
+        ensures counts { IfOk result (CountsOneMore self (group_view group.now)) }
+        ensures which { IfErr result (λ e. e ≡ Refusal.Limit) }
+    {
+        let rows = sum(self.rows, group.rows())?;
+        let groups = sum(self.groups, 1)?;
+        let size = bytes_of(group.chunks.as_slice())?;
+        let bytes = sum(self.bytes, size)?;
+        Ok(Totals {
+            rows,
+            groups,
+            bytes,
+        })
+    }
+
+    /// With the group at a place more, where one is there.
+    fn with_at(self, groups: &Version, place: usize) -> R<Totals>
+        ensures counts { (g : GroupShown) → slice_get (groups_in groups.now) place ≡ Some g → IfOk result (CountsOneMore self g) }
+        ensures which { IfErr result (λ e. e ≡ Refusal.Limit) }
+    {
+        match groups.group_at(place) {
+            Some(group) => self.with(group),
+            None => Ok(self),
+        }
+    }
+}
+
+/// A sum, refused Limit for more than a `u64` counts.
+fn sum(a: u64, b: u64) -> R<u64>
+    ensures sum { IfOk result (λ n. n ≡ a + b) }
+    ensures which { IfErr result (λ e. e ≡ Refusal.Limit) }
+{
+    match a.checked_add(b) {
+        Some(sum) => Ok(sum),
+        None => Err(Refusal::Limit),
+    }
+}
+
+/// How much there is of a whole table. Refused Limit for more than a `u64` counts. Takes no memory.
+pub(crate) fn totals_of(manifest: &Manifest) -> R<Totals>
+    ensures counts { IfOk result (λ t. Counts t (root_of manifest.now).groups) }
+    ensures which { IfErr result (λ e. e ≡ Refusal.Limit) }
+{
+    let groups = manifest.groups();
+    let mut totals = Totals::NONE;
+    for i in 0..groups.len() {
+        let more = totals.with_at(groups, i)?;
+        totals = more;
+    }
+    Ok(totals)
+}
+
+/// What the pages of these chunks take. Refused Limit for more than a `u64` counts.
+fn bytes_of(chunks: &[ChunkMeta]) -> R<u64>
+    ensures bytes { IfOk result (λ n. n ≡ sum_by (λ (c : ChunkShown). size_by c.meta_data.total_compressed_size) (map chunk_meta_view chunks.now)) }
+    ensures which { IfErr result (λ e. e ≡ Refusal.Limit) }
+{
+    let mut bytes = 0;
+    for chunk in chunks {
+        let size = size_of(&chunk.meta_data);
+        let more = sum(bytes, size)?;
+        bytes = more;
+    }
+    Ok(bytes)
+}
+
+/// What the pages of a chunk take; 0 where its record does not say.
+fn size_of(meta: &ColumnMeta) -> u64
+    ensures { result ≡ size_by (column_meta_view meta.now).total_compressed_size }
+{
+    match meta.total_compressed_size {
+        Some(size) if size >= 0 => size as u64,
+        _ => 0,
+    }
+}

@@ -1,0 +1,75 @@
+//! What is found wrong with the files of a table.
+
+use bits::Refusal;
+use std::fmt::{self, Display};
+
+/// What is wrong with a file.
+#[derive(Debug, PartialEq, Eq, Drop)]
+pub enum Damage {
+    /// The table names it, and it is not there.
+    Missing,
+    /// It is a part file that the table does not name. No row is in danger: the next opening for a change removes it.
+    Leftover,
+    /// Its bytes are refused, as a Parquet file is.
+    Refused(Refusal),
+    /// Its columns are not those that the table says it has.
+    Schema,
+    /// It has so many row groups, and not one.
+    Groups(usize),
+    /// It has another number of rows than the table says.
+    Rows,
+    /// Its own footer and the table describe a column's chunk differently.
+    Record,
+    /// The pages of a column do not fill just the bytes that the table says.
+    Size,
+    /// The statistics that the table has of a column are not true of its values.
+    Statistics,
+}
+
+impl Damage {
+    /// The refusal that it counts as.
+    pub fn into_refusal(self) -> Refusal {
+        match self {
+            Damage::Leftover => Refusal::Exists,
+            Damage::Missing => Refusal::Truncated,
+            Damage::Refused(refusal) => refusal,
+            Damage::Schema => Refusal::Schema,
+            Damage::Groups(_) | Damage::Rows | Damage::Record | Damage::Size | Damage::Statistics =>
+                Refusal::Page,
+        }
+    }
+
+    /// The cause in words, after the number and the name of the refusal that it counts as; none for one that it carries.
+    fn words(&self) -> &'static str {
+        match self {
+            Damage::Missing => "1 Truncated: the table names this file, and it is not there",
+            Damage::Leftover => "24 Exists: the table does not name this file",
+            Damage::Refused(_) => "",
+            Damage::Schema => "4 Schema: its columns are not those that the table says it has",
+            Damage::Groups(_) => "9 Page: it has another number of row groups than one",
+            Damage::Rows => "9 Page: it has another number of rows than the table says",
+            Damage::Record => "9 Page: its footer and the table describe its chunk differently",
+            Damage::Size => "9 Page: its pages do not fill the bytes that the table says",
+            Damage::Statistics => "9 Page: the statistics in the table are not true of its values",
+        }
+    }
+}
+
+impl Display for Damage {
+    fn fmt<W: fmt::Write>(&self, f: &mut fmt::Formatter<W>) -> fmt::Result {
+        match self {
+            Damage::Refused(refusal) => write!(f, "{refusal}: it cannot be read"),
+            _ => f.write_str(self.words()),
+        }
+    }
+}
+
+/// A file of which something is found.
+#[derive(Debug, PartialEq, Eq, Drop)]
+pub struct Finding {
+    /// Seen from the table's folder.
+    pub path: String,
+    /// The names on the way to the column that is at fault, with a `.` between two, where it is one column.
+    pub column: Option<String>,
+    pub damage: Damage,
+}
