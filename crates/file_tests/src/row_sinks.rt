@@ -257,7 +257,7 @@ fn are_sevens(alloc: Global) -> R<bool> {
             return Ok(false);
         }
     }
-    Ok(text.bytes.as_slice() == b"777")
+    Ok(text.bytes.as_slice() == b"777".as_slice())
 }
 
 #[test]
