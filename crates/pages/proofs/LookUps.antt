@@ -1,7 +1,6 @@
 -- Entries of a dictionary that are looked up, and numbers that become values, one by one.
-use Rattle.std.proofs.Common.{◌≡◌, ℕ, zero, suc, ◌+◌, ◌<◌, Bool, true, List, [], ◌∷◌, ◌++◌, length, get_or, map, take, Some, sym, ap, subst, ◌∙◌, arith}
-use Rattle.std.specs.Prelude.{ℤ, pos, All, IsTrue, slice_get}
-use Rattle.std.proofs.Math.ListN.{set}
+use Rattle.std.proofs.Common.{◌≡◌, ℕ, zero, suc, ◌+◌, ◌<◌, Bool, true, List, [], ◌∷◌, ◌++◌, length, get_or, map, take, Some, sym, ap, subst, ◌∙◌, arith, inl, inr}
+use Rattle.std.specs.Prelude.{◌⊎◌, ℤ, pos, All, IsTrue, slice_get}
 use Rattle.std.proofs.lemmas.List.{take_more, map-append}
 use Rattle.std.proofs.lemmas.List.Elements.{All-push}
 use Rattle.schema.specs.declared.value.Kind.{Kind}
@@ -15,20 +14,20 @@ use Rattle.plain.specs.Plain.{IsOfKind}
 use Rattle.dictionary.specs.Entries.{AreEntriesAt}
 use Rattle.pages.specs.inner.Reading.{AllFit}
 
-abbrev Fits : LeafType → ValueRef → Type 0
+abbrev pub Fits : LeafType → ValueRef → Type 0
 Fits t v = IsTrue (fits_leaf t (value_ref_view v))
 
 -- ---- what is marked was checked
 
--- one more place is marked
-pub marks_more : (t : LeafType) (es : List ValueRef) (cs : List Bool) (at k : ℕ) (known v : ValueRef) → (slice_get es k ≡ Some v → slice_get cs k ≡ Some true → Fits t v) → Fits t known → slice_get es at ≡ Some known
-    → slice_get es k ≡ Some v → slice_get (set cs at true) k ≡ Some true → Fits t v
-marks_more t [] cs at k known v old fits here there marked = cc
-marks_more t (e ∷ es) [] at k known v old fits here there marked = cc
-marks_more t (e ∷ es) (c ∷ cs) zero zero known v old fits here there marked = let same : known ≡ v = cc in subst (Fits t) same fits
-marks_more t (e ∷ es) (c ∷ cs) zero (suc k) known v old fits here there marked = old there marked
-marks_more t (e ∷ es) (c ∷ cs) (suc at) zero known v old fits here there marked = old there marked
-marks_more t (e ∷ es) (c ∷ cs) (suc at) (suc k) known v old fits here there marked = marks_more t es cs at k known v old fits here there marked
+-- at most one more place is marked, whose entry fits
+pub marks_more : (t : LeafType) (es : List ValueRef) (old new : List Bool) (at : ℕ) (known : ValueRef) → Fits t known → slice_get es at ≡ Some known
+    → ((k : ℕ) (v : ValueRef) → slice_get es k ≡ Some v → slice_get old k ≡ Some true → Fits t v)
+    → ((k : ℕ) → slice_get new k ≡ Some true → (slice_get old k ≡ Some true) ⊎ (k ≡ at))
+    → (k : ℕ) (v : ValueRef) → slice_get es k ≡ Some v → slice_get new k ≡ Some true → Fits t v
+marks_more t es old new at known fits here before more k v there marked = elim (more k marked) [
+  | inl was ↦ before k v there was
+  | inr same ↦ (let one : known ≡ v = cc in subst (Fits t) one fits)
+]
 
 -- ---- one more value
 

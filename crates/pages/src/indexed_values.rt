@@ -1,6 +1,6 @@
 //! The values of a data page that are indexes into the chunk's dictionary.
 
-ghost use Rattle.std.specs.Prelude.{◌≡◌, ◌⊎◌, ◌<◌, ℕ, All, List, length, map, IfOk, Some};
+ghost use Rattle.std.specs.Prelude.{◌≡◌, ◌⊎◌, ◌<◌, ℕ, All, List, length, map, IfOk, Some, true, slice_get};
 ghost use Rattle.bits.specs.Refusals.{OnFault, RefusedOnly};
 ghost use Rattle.schema.specs.Borrowed.{value_ref_view};
 ghost use Rattle.schema.specs.Values.{ValueTree};
@@ -15,6 +15,10 @@ use bits::{R, Refusal};
 use dictionary::{decode_indexes, one_list};
 use schema::{LeafType, ValueRef};
 use std::alloc::Global;
+
+/// What was checked is marked where a page has at least one index for so many entries of the dictionary: a list of a large
+/// dictionary's size for each of many small pages would take the product of both in time.
+const ENTRIES_MARKED: usize = 16;
 
 /// The entries of the dictionary at the first `count` indexes of the bytes.
 pub fn read_indexed<'a>(
@@ -43,7 +47,7 @@ pub fn read_indexed<'a>(
 }
 
 /// The entries at the indexes. Refused where one of them is not the leaf's, as [`check_value`] refuses
-/// it; each entry is checked once, where it is first met.
+/// it. Each entry is checked where it is first met, and once more where it is met again if a page has few indexes.
 fn look_up<'a>(
     alloc: Global,
     leaf_type: &LeafType,
@@ -57,17 +61,46 @@ fn look_up<'a>(
         → AllFit (leaf_type_view leaf_type.now) ws → ⊥) }
     ensures which { RefusedOnly (λ e. (e ≡ Refusal.Value) ⊎ (e ≡ Refusal.Utf8)) result }
 {
-    let mut checked = Vec::new(alloc);
-    checked.resize(entries.len(), false)?;
+    let mut checked = no_marks(alloc, entries.len(), indexes.len())?;
     let mut values = Vec::with_capacity(alloc, indexes.len())?;
     for index in indexes {
         let at = *index as usize;
         let entry = entries[at];
-        if !checked[at] {
+        if !is_marked(&checked, at) {
             check_value(leaf_type, entry)?;
-            checked[at] = true;
+            mark(&mut checked, at);
         }
         values.push(entry)?;
     }
     Ok(values)
+}
+
+/// A mark for each entry of a dictionary, none of them set; no marks where a page has few indexes.
+fn no_marks(alloc: Global, entries: usize, indexes: usize) -> R<Vec<bool>>
+    ensures unset { IfOk result (λ marks. (k : ℕ) → slice_get marks.items k ≡ Some true → ⊥) }
+    ensures which { RefusedOnly (λ e. ⊥) result }
+{
+    let mut marks = Vec::new(alloc);
+    if indexes >= entries / ENTRIES_MARKED {
+        marks.resize(entries, false)?;
+    }
+    Ok(marks)
+}
+
+/// Whether an entry has its mark.
+#[inline(always)]
+fn is_marked(marks: &[bool], at: usize) -> bool
+    ensures { result ≡ true → slice_get marks.now at ≡ Some true }
+{
+    at < marks.len() && marks[at]
+}
+
+/// Sets the mark of an entry, where there are marks.
+#[inline(always)]
+fn mark(marks: &mut Vec<bool>, at: usize)
+    ensures { (k : ℕ) → slice_get marks.new.items k ≡ Some true → (slice_get marks.old.items k ≡ Some true) ⊎ (k ≡ at) }
+{
+    if at < marks.len() {
+        marks[at] = true;
+    }
 }

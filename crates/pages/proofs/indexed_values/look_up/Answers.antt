@@ -1,19 +1,18 @@
-use Rattle.std.proofs.Common.{◌≡◌, ◌<◌, true, List, length, get_or, Some, refl, ap, subst, ◌∙◌, arith}
+use Rattle.std.proofs.Common.{◌≡◌, ℕ, ◌<◌, true, List, length, get_or, Some, refl, sym, ap, subst}
 use Rattle.std.specs.Prelude.{slice_get, Bool}
-use Rattle.std.proofs.Math.ListN.{set}
-use Rattle.std.proofs.lemmas.List.{length-set}
 use Rattle.std.proofs.lemmas.Option.{slice_get_read}
 use Rattle.bits.specs.Refusals.{IsFault}
 use Rattle.bits.proofs.Passing.{passes}
+use Rattle.schema.specs.declared.borrowed.ValueRef.{ValueRef}
 use Rattle.schema.specs.Borrowed.{value_ref_view}
 use Rattle.schema.specs.Values.{ValueTree}
 use Rattle.schema.specs.Views.{leaf_type_view}
 use Rattle.dictionary.specs.Entries.{AreEntriesAt}
 use Rattle.pages.specs.inner.Reading.{AllFit}
 use Rattle.std.specs.Prelude.{map}
-use Rattle.pages.proofs.LookUps.{marks_more, look_up_more, fits_at}
+use Rattle.pages.proofs.LookUps.{Fits, marks_more, look_up_more, fits_at}
 use Rattle.pages.proofs.indexed_values.look_up.Goals as goal
-use Rattle.pages.proofs.indexed_values.look_up.Goals.{then-not-index+in_ok-check_value, else-not-index}
+use Rattle.pages.proofs.indexed_values.look_up.Goals.{then-not-is_marked+in_ok-check_value, else-not-is_marked}
 
 pub returns-in_err-check_value-clause-only : goal.returns-in_err-check_value-clause-only
 returns-in_err-check_value-clause-only c =
@@ -38,21 +37,15 @@ loop-index-preserved c =
     let inv = c.loop-index.invariant in
     let room : get_or is i 0 < length es = c.requires i 0 c.loop-index-test.true in
     let here : slice_get es (get_or is i 0) ≡ Some v = slice_get_read es (length es) (get_or is i 0) v refl room c.index-entries-at.is in
-    elim c.if-not-index.branch [
-      | then-not-index+in_ok-check_value w ↦
-          (let marked : c.if-not-index.checked.items ≡ set old (get_or is i 0) true = ap (λ x. x.items) w.checked-is in
-          let fits = w.in_ok-check_value.ensures.fit in
-          let more = look_up_more t es is i c.loop-index.values.items c.push.new.self.items v c.loop-index-test.true here fits c.in_ok-push.ensures.items inv.1 inv.2 in (
-            ap length marked ∙ length-set old (get_or is i 0) true ∙ inv.0,
-            more.stand,
-            more.fit,
-            λ k u there mark. marks_more t es old (get_or is i 0) k v u (inv.3 k u) fits here there (subst (λ (cs : List Bool). slice_get cs k ≡ Some true) marked mark),
-          ))
-      | else-not-index w ↦
-          (let same : c.if-not-index.checked.items ≡ old = ap (λ x. x.items) w.checked-is in
-          let room_too : get_or is i 0 < length old = omega (arith, room, inv.0) in
-          let at : slice_get old (get_or is i 0) ≡ Some c.index.result.now = slice_get_read old (length old) (get_or is i 0) c.index.result.now refl room_too c.index.ensures in
-          let fits = inv.3 (get_or is i 0) v here (at ∙ ap (λ (b : Bool). Some b) w.if-not-index.false) in
-          let more = look_up_more t es is i c.loop-index.values.items c.push.new.self.items v c.loop-index-test.true here fits c.in_ok-push.ensures.items inv.1 inv.2 in
-          (ap length same ∙ inv.0, more.stand, more.fit, λ k u there mark. inv.3 k u there (subst (λ (cs : List Bool). slice_get cs k ≡ Some true) same mark)))
+    elim c.if-not-is_marked.branch [
+      | then-not-is_marked+in_ok-check_value w ↦
+          (let fits = w.in_ok-check_value.ensures.fit in
+          let more = look_up_more t es is i c.loop-index.values.items c.push.new.self.items v c.loop-index-test.true here fits c.in_ok-push.ensures.items inv.0 inv.1 in
+          let new : w.mark.new.marks.items ≡ c.if-not-is_marked.checked.items = sym (ap (λ x. x.items) w.checked-is) in
+          (more.stand, more.fit, subst (λ (ns : List Bool). (k : ℕ) (u : ValueRef) → slice_get es k ≡ Some u → slice_get ns k ≡ Some true → Fits t u) new (marks_more t es old w.mark.new.marks.items (get_or is i 0) v fits here inv.2 w.mark.ensures)))
+      | else-not-is_marked w ↦
+          (let same : c.if-not-is_marked.checked.items ≡ old = ap (λ x. x.items) w.checked-is in
+          let fits = inv.2 (get_or is i 0) v here (subst (λ (os : List Bool). slice_get os (get_or is i 0) ≡ Some true) c.deref.ensures.value (c.is_marked.ensures w.if-not-is_marked.false)) in
+          let more = look_up_more t es is i c.loop-index.values.items c.push.new.self.items v c.loop-index-test.true here fits c.in_ok-push.ensures.items inv.0 inv.1 in
+          (more.stand, more.fit, λ k u there mark. inv.2 k u there (subst (λ (cs : List Bool). slice_get cs k ≡ Some true) same mark)))
     ]
