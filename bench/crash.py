@@ -438,6 +438,8 @@ class OfCommand:
             return None
         if last == ["refused 26 InDoubt"]:
             return command.tables if is_root_written(found) else None
+        if "all of it is made, but" in said:
+            return command.tables if command.answers else [command.tables[-1]]
         if is_unprinted or last == []:
             # The commit may be done, and only what is said of it is not.
             return command.tables

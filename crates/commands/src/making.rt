@@ -8,7 +8,7 @@ use crate::folder::{bytes_of, create, disk_of, is_folder, make_folder, open, ref
 use crate::lock::{Access, Lock, Patience, locked};
 use crate::looking::{print_check, print_rows_fit, print_survey};
 use crate::part_reason::is_of_bytes;
-use crate::printing::print_done;
+use crate::printing::{print_done, room_for_done};
 use crate::querying::{print_count, print_groups, print_rows, print_schema, print_schema_of};
 use crate::reason::{Reason, print_reason};
 use crate::running::run_script;
@@ -235,8 +235,13 @@ where
             Task::Create { .. } | Task::Look(_) => Ok(()),
             Task::Ask(question) => ask(self.alloc, &mut store, question, out, why),
             Task::Change(change) => {
+                let mut room = room_for_done(self.alloc)?;
                 let done = make_change(self.alloc, &mut store, change, bytes, why)?;
-                print_done(self.alloc, done, out)
+                let printed = print_done(&mut room, done, out);
+                if printed.is_err() {
+                    *why = Some(Reason::Unprinted);
+                }
+                printed
             }
             Task::Run { .. } => run(self.alloc, &mut store, bytes, out, why),
         }
@@ -352,9 +357,14 @@ fn run<D: Disk, W: Write>(
     why: &mut Option<Reason>,
 ) -> R<()> {
     let text = text_of(bytes)?;
-    let ran = run_script(alloc, store, text, out);
+    let mut has_run = false;
+    let ran = run_script(alloc, store, text, out, &mut has_run);
     if let Err(refusal) = &ran {
-        *why = script_reason(alloc, store, text, refusal);
+        *why = if has_run {
+            Some(Reason::Unprinted)
+        } else {
+            script_reason(alloc, store, text, refusal)
+        };
     }
     ran
 }

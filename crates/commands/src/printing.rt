@@ -9,6 +9,7 @@ ghost use Rattle.jsonrows.specs.SchemaPrinted.{PrintsFields};
 
 use crate::folder::refusal_of;
 use bits::{R, Refusal};
+use itoa::Buffer;
 use jsonrows::{RowPlan, RowText, answer_to, schema_to};
 use schema::{Leaf, Schema, Value};
 use serde::Serialize;
@@ -17,6 +18,9 @@ use simdutf8::basic::from_utf8;
 use std::alloc::Global;
 use std::io::Write;
 use table::{Answer, Batch, GroupInfo};
+
+/// How many bytes the line `done N` has at most.
+const MOST_DONE: usize = 26;
 
 /// How many bytes of lines are gathered before they are written.
 const GATHERED_BYTES: usize = 65_536;
@@ -28,12 +32,22 @@ pub fn write_text<W: Write>(text: &[u8], out: &mut W) -> R<()>
     out.write_all(text).map_err(refusal_of)
 }
 
-/// Prints `done N`, a line. Refused Device where it cannot be written.
-pub fn print_done<W: Write>(alloc: Global, rows: u64, out: &mut W) -> R<()>
+/// Room for the line `done N`, which [`print_done`] takes. It is asked for before a change is made: for want of it no change
+/// is refused after it was made.
+pub fn room_for_done(alloc: Global) -> R<Vec<u8>> {
+    Ok(Vec::with_capacity(alloc, MOST_DONE)?)
+}
+
+/// Prints `done N`, a line, which is gathered in this room. Refused Device where it cannot be written.
+pub fn print_done<W: Write>(room: &mut Vec<u8>, rows: u64, out: &mut W) -> R<()>
     ensures written { OnOk result (Appends (W.contents out.old) (W.contents out.new) (codes "done " ++ decimal rows ++ codes "\n")) }
 {
-    let line = format!(in alloc; "done {rows}\n")?;
-    write_text(line.as_bytes(), out)
+    let mut digits = Buffer::new();
+    room.clear();
+    room.extend_from_slice(b"done ")?;
+    room.extend_from_slice(digits.format(rows).as_bytes())?;
+    room.push(b'\n')?;
+    write_text(room.as_slice(), out)
 }
 
 /// Prints a number, a line. Refused Device where it cannot be written.

@@ -23,6 +23,8 @@ pub enum Reason {
     HasTable,
     /// Whether the change was done is not known. This command shows it.
     InDoubt(&'static str),
+    /// All that was asked is made, and what came of it cannot be printed.
+    Unprinted,
     /// The columns of a file are not those of the table.
     Columns(Difference),
     /// The file is compressed.
@@ -144,6 +146,9 @@ impl Display for Reason {
             Reason::NoColumn(name) => write!(f, "no column is named {name:?}"),
             Reason::Key(name, fault) => write!(f, "the key {name:?} {fault}"),
             Reason::AllKeys => f.write_str("one column at least must be no key"),
+            Reason::Unprinted => {
+                f.write_str("all of it is made, but what came of it could not be printed")
+            }
             Reason::ManyKeys => f.write_str("there can be 8 keys at most"),
             Reason::KeyValue(row, name, fault) => write!(f, "row {row}: the key {name:?} {fault}"),
             _ => Ok(()),

@@ -24,18 +24,20 @@ use table::{Answer, Call};
 /// answered so, and those after it are made.
 ///
 /// Refused as `ScriptReader` refuses the first line that is no call, and then no call was made; Memory, and then none was
-/// made either, or some of the answers are not printed; and Device where the output cannot be written. Room is that of all
-/// calls and all answers.
+/// made either, or some of the answers are not printed; and Device where the output cannot be written. `has_run` becomes true
+/// where the calls are made. Room is that of all calls and all answers.
 pub fn run_script<D: Disk, W: Write>(
     alloc: Global,
     store: &mut Store<D>,
     text: &str,
     out: &mut W,
+    has_run: &mut bool,
 ) -> R<()>
     ensures runs { RunsScript D.state store.old store.new text.now (W.contents out.old) (W.contents out.new) result }
 {
     let calls = calls_of(alloc, store.schema(), text)?;
     let answers = store.run(alloc, calls.as_slice())?;
+    *has_run = true;
     print_answers(alloc, store.schema(), answers.as_slice(), out)
 }
 
