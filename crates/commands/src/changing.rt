@@ -1,6 +1,6 @@
 //! Commands that change a dataset. Each is one commit, and returns how many rows it appended, removed or rewrote.
 
-ghost use Rattle.std.specs.Prelude.{◌≡◌};
+ghost use Rattle.std.specs.Prelude.{◌≡◌, false};
 ghost use Rattle.std.specs.Str.Lines.{lines};
 ghost use Rattle.schema.specs.Elements.{elements_view};
 ghost use Rattle.schema.specs.Listed.{listings};
@@ -16,14 +16,22 @@ use disk::Disk;
 use jsonrows::{filter_from, schema_from};
 use schema::{Element, Schema};
 use std::alloc::Global;
+use std::io::Write;
 use store::Store;
 
 /// Appends the rows of a text, one of each line. Refused as `row_from` refuses the first line that is no row, and then as
-/// `Store::append`.
-pub fn append<D: Disk>(alloc: Global, store: &mut Store<D>, text: &str) -> R<u64>
+/// `Store::append`. Where `shows` says so, `err` shows how many rows were read so far.
+pub fn append<D: Disk, E: Write>(
+    alloc: Global,
+    store: &mut Store<D>,
+    text: &str,
+    err: &mut E,
+    shows: bool,
+) -> R<u64>
     ensures makes { Makes D.state store.old store.new (AsksAppend text.now) (λ fs. AreRefusedRows fs (lines text.now)) result }
+    ensures quiet { shows ≡ false → E.contents err.new ≡ E.contents err.old }
 {
-    let rows = rows_of(alloc, store.schema(), text)?;
+    let rows = rows_of(alloc, store.schema(), text, err, shows)?;
     store.append(alloc, rows.as_slice())
 }
 

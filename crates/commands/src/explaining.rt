@@ -13,6 +13,7 @@ use dataset_words::{Change, Question};
 use disk::Disk;
 use schema::Schema;
 use std::alloc::Global;
+use std::io;
 use store::Store;
 
 /// Why no table is made of a schema and the names of its keys, where there is more to say than the refusal.
@@ -113,7 +114,7 @@ fn append_reason<D: Disk>(
             Ok(line_without_row(alloc, store.schema(), text).map(|line| Reason::Line(line)))
         }
         Refusal::Key => {
-            let rows = rows_of(alloc, store.schema(), text)?;
+            let rows = rows_of(alloc, store.schema(), text, &mut io::sink(), false)?;
             rows_reason(alloc, store.keys(), rows.as_slice())
         }
         _ => Ok(None),

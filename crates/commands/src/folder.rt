@@ -1,14 +1,13 @@
 //! A dataset in a folder of the host.
 
+use crate::tally::Tally;
+use crate::watched::Watched;
 use bits::{R, Refusal};
 use disk::HostDisk;
-use footer::WriteOptions;
-use schema::Schema;
 use std::alloc::Global;
 use std::fs::{self, File, OpenFile};
-use std::io::{self, ErrorKind, Input, Read};
+use std::io::{self, ErrorKind, Input, Read, Write};
 use std::rt::Files;
-use store::Store;
 
 /// Why a file or a writer could not be used: Memory where a growth was refused, else Device.
 pub fn refusal_of(error: io::Error) -> Refusal {
@@ -48,42 +47,17 @@ pub fn is_folder<F: Files>(rt: &F, path: &str) -> bool {
     }
 }
 
-/// The disk of a folder.
-pub fn disk_of<F: Files + Clone + Drop>(rt: &F, alloc: Global, folder: &str) -> R<HostDisk<F>> {
+/// The disk of a folder, with what it read and wrote so far.
+pub fn disk_of<F: Files + Clone + Drop, S: Write + Drop>(
+    rt: &F,
+    alloc: Global,
+    folder: &str,
+    tally: Tally<S>,
+) -> R<Watched<HostDisk<F>, S>> {
     let files = rt.clone()?;
     match HostDisk::new(alloc, files, folder) {
-        Ok(disk) => Ok(disk),
+        Ok(disk) => Ok(Watched::new(disk, tally)),
         Err(_) => Err(Refusal::Memory),
-    }
-}
-
-/// Opens the dataset in a folder. Refused as `store::open`.
-pub fn open<F: Files + Clone + Drop>(
-    rt: &F,
-    alloc: Global,
-    folder: &str,
-    options: WriteOptions,
-) -> R<Store<HostDisk<F>>> {
-    let disk = disk_of(rt, alloc, folder)?;
-    match store::open(alloc, disk, options) {
-        Ok(store) => Ok(store),
-        Err((_, refusal)) => Err(refusal),
-    }
-}
-
-/// Makes a table in a folder that is there. Refused as `store::create`.
-pub fn create<F: Files + Clone + Drop>(
-    rt: &F,
-    alloc: Global,
-    folder: &str,
-    schema: Schema,
-    keys: &[String],
-    options: WriteOptions,
-) -> R<()> {
-    let disk = disk_of(rt, alloc, folder)?;
-    match store::create(alloc, disk, schema, keys, options) {
-        Ok(_) => Ok(()),
-        Err((_, refusal)) => Err(refusal),
     }
 }
 

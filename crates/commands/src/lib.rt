@@ -20,11 +20,14 @@ mod querying;
 mod reason;
 mod row_lines;
 mod running;
+mod tally;
+mod tasks;
 mod texts;
+mod watched;
 
 pub use changing::{add_column, append, remove_rows, rewrite_groups, rewrite_small};
 pub use lock::{Access, Lock};
-pub use looking::{print_check, print_rows_fit, print_survey};
+pub use looking::{Checking, print_check, print_rows_fit, print_survey};
 pub use making::Folders;
 pub use printing::print_done;
 pub use querying::{print_count, print_groups, print_rows, print_schema, print_schema_of};

@@ -1,5 +1,7 @@
 //! Commands that look at a dataset and do not open it: nothing is changed, and nothing that a stop left behind is removed.
 
+ghost use Rattle.std.specs.Prelude.{◌≡◌, false};
+
 use crate::key_reason::rows_reason;
 use crate::printing::write_text;
 use crate::reason::Reason;
@@ -8,7 +10,7 @@ use bits::{R, Refusal};
 use disk::Disk;
 use jsonrows::row_from;
 use manifest::Manifest;
-use reports::{Misfit, of_line};
+use reports::{Misfit, Progress, of_line};
 use schema::Schema;
 use std::alloc::Global;
 use std::io::Write;
@@ -29,23 +31,55 @@ pub fn print_survey<D: Disk, W: Write>(
     write_text(text.as_slice(), out)
 }
 
-/// Who is shown nothing of a check.
+/// Shows on a screen how many rows a check has dealt with.
 #[derive(Drop)]
-struct Nobody;
+pub struct Checking<S: Write + Drop> {
+    progress: Progress,
+    screen: S,
+}
 
-impl Watch for Nobody {
-    fn checked(&mut self, _rows: u64) {}
+impl<S: Write + Drop> Checking<S> {
+    /// A check of a table, of which no row is checked yet.
+    pub fn new(alloc: Global, table: &Manifest, screen: S, is_shown: bool) -> Checking<S>
+        ensures { result.progress.is_shown ≡ is_shown }
+    {
+        let all = if is_shown { Some(rows_in(table)) } else { None };
+        let progress = Progress::new(alloc, "checked", all, is_shown);
+        Checking { progress, screen }
+    }
+}
+
+impl<S: Write + Drop> Watch for Checking<S> {
+    fn checked(&mut self, rows: u64) {
+        self.progress.count_rows(rows, &mut self.screen);
+    }
+}
+
+/// How many rows a table has.
+fn rows_in(table: &Manifest) -> u64 {
+    let groups = table.groups();
+    let mut rows: u64 = 0;
+    for place in 0..groups.len() {
+        if let Some(group) = groups.group_at(place) {
+            rows = rows.saturating_add(group.rows());
+        }
+    }
+    rows
 }
 
 /// Prints `ok` and how much there is, or a line for each file that is not as the table says. Then it is refused as the first
-/// of these counts; else as `check`, and Device where the output cannot be written.
-pub fn print_check<D: Disk, W: Write>(
+/// of these counts; else as `check`, and Device where the output cannot be written. `checking` shows how far it is, and no
+/// longer once that is printed.
+pub fn print_check<D: Disk, W: Write, S: Write + Drop>(
     alloc: Global,
     vault: &mut Vault<D>,
     table: &Manifest,
+    checking: &mut Checking<S>,
     out: &mut W,
 ) -> R<()> {
-    let checked = check(alloc, vault, table, &mut Nobody)?;
+    let checked = check(alloc, vault, table, checking);
+    checking.progress.clear(&mut checking.screen);
+    let checked = checked?;
     let text = text_of_check(alloc, &checked)?;
     write_text(text.as_slice(), out)?;
     first_refusal(checked.findings)
@@ -62,16 +96,20 @@ fn first_refusal(findings: Vec<Finding>) -> R<()> {
 /// Prints `ok N rows`, N the number of lines, where each line of a text is a row that a table takes.
 ///
 /// Refused as `row_from` refuses the first line that is no row, and Key for a row whose key has no folder; then `why` gets
-/// the place and what is wrong there. Nothing is appended.
-pub fn print_rows_fit<W: Write>(
+/// the place and what is wrong there. Nothing is appended. Where `shows` says so, `err` shows how many rows were read so far.
+pub fn print_rows_fit<W: Write, E: Write>(
     alloc: Global,
     table: &Manifest,
     file: &str,
     text: &str,
     out: &mut W,
+    err: &mut E,
+    shows: bool,
     why: &mut Option<Reason>,
-) -> R<()> {
-    let rows = match rows_of(alloc, table.schema(), text) {
+) -> R<()>
+    ensures quiet { shows ≡ false → E.contents err.new ≡ E.contents err.old }
+{
+    let rows = match rows_of(alloc, table.schema(), text, err, shows) {
         Ok(rows) => rows,
         Err(refusal) => {
             *why = misfit_reason(alloc, table.schema(), file, text).unwrap_or(None);

@@ -2,22 +2,24 @@
 
 ghost use Rattle.std.specs.Prelude.{◌≡◌, false, OnOk};
 
-use crate::changing::{add_column, append, remove_rows, rewrite_groups, rewrite_small};
-use crate::explaining::{change_reason, question_reason, script_reason, table_reason};
-use crate::folder::{bytes_of, create, disk_of, is_folder, make_folder, open, refusal_of};
+use crate::explaining::table_reason;
+use crate::folder::{bytes_of, disk_of, is_folder, make_folder, refusal_of};
 use crate::lock::{Access, Lock, Patience, locked};
-use crate::looking::{print_check, print_rows_fit, print_survey};
+use crate::looking::{Checking, print_check, print_rows_fit, print_survey};
 use crate::part_reason::is_of_bytes;
 use crate::printing::{print_done, room_for_done};
-use crate::querying::{print_count, print_groups, print_rows, print_schema, print_schema_of};
+use crate::querying::print_schema_of;
 use crate::reason::{Reason, print_reason};
-use crate::running::run_script;
+use crate::tally::Tally;
+use crate::tasks::{ask, found, make_change, run};
 use crate::texts::{owned, text_of};
+use crate::watched::Watched;
 use bits::{R, Refusal};
 use dataset_words::{Call, Change, Datasets, Look, Question, Task};
-use disk::{Disk, HostDisk};
+use disk::HostDisk;
 use jsonrows::schema_from;
 use partition::key_columns;
+use reports::Terminals;
 use schema::Schema;
 use std::alloc::Global;
 use std::fs;
@@ -29,11 +31,16 @@ use vault::Vault;
 
 /// Datasets in folders of the host.
 #[derive(Drop)]
-pub struct Folders<'a, F: Files + Input + Clock + Clone + Drop> {
+pub struct Folders<'a, F: Files + Input + Clock + Clone + Drop, S: Write + Clone + Drop> {
     pub files: &'a F,
+    /// Standard error, once more: where it is a terminal, a disk shows on it what it reads and writes.
+    pub screen: S,
 }
 
-impl<F: Files + Input + Clock + Clone + Drop, W: Write, E: Write> Datasets<W, E> for Folders<'_, F>
+impl<F: Files + Input + Clock + Clone + Drop, S: Write + Clone + Drop, W: Write, E: Write> Datasets<
+    W,
+    E,
+> for Folders<'_, F, S>
 where
     F::File: Lock,
 {
@@ -41,20 +48,21 @@ where
     /// and the call is made; `create` looks at its JSON before it makes the folder. Refused Device where a file, the folder,
     /// its lock or the output cannot be used, Script for bytes that are no text, and as the store and the readers of JSON
     /// refuse. What was printed before a refusal stays printed. Where there is more to say than the refusal, `err` gets a
-    /// line.
+    /// line. What is shown on the way is gone by then.
     fn make(
         &self,
         alloc: Global,
         call: &Call<'_>,
         out: &mut W,
         err: &mut E,
-        is_terminal: bool,
+        terminals: Terminals,
     ) -> R<()> {
         let making = Making {
             rt: self.files,
+            screen: &self.screen,
             alloc,
             call,
-            is_terminal,
+            terminals,
         };
         let mut why = None;
         let made = making.make(out, err, &mut why);
@@ -73,21 +81,21 @@ where
 
 /// A call that is to be made.
 #[derive(Drop)]
-struct Making<'a, F> {
+struct Making<'a, F, S> {
     rt: &'a F,
+    screen: &'a S,
     alloc: Global,
     call: &'a Call<'a>,
-    /// Whether standard error is a terminal.
-    is_terminal: bool,
+    terminals: Terminals,
 }
 
-impl<F: Files + Input + Clock + Clone + Drop> Making<'_, F>
+impl<F: Files + Input + Clock + Clone + Drop, S: Write + Clone + Drop> Making<'_, F, S>
 where
     F::File: Lock,
 {
     /// Makes the call, and gives a writer what it is to print. Where it is refused, `why` may get the reason.
     fn make<W: Write, E: Write>(&self, out: &mut W, err: &mut E, why: &mut Option<Reason>) -> R<()>
-        ensures quiet { self.now.is_terminal ≡ false → E.contents err.new ≡ E.contents err.old }
+        ensures quiet { self.now.terminals.err ≡ false → E.contents err.new ≡ E.contents err.old }
     {
         let bytes = match self.named_file() {
             Some(path) => bytes_of(self.rt, self.alloc, path)?,
@@ -105,13 +113,13 @@ where
             }
             Task::Look(look) => {
                 let lock = self.lock(Access::Reads, err, why)?;
-                let made = self.look(look, bytes, out, why);
+                let made = self.look(look, bytes, out, err, why);
                 drop(lock);
                 made
             }
             task => {
                 let lock = self.lock(access_of(task), err, why)?;
-                let made = self.make_on_store(bytes, out, why);
+                let made = self.make_on_store(bytes, out, err, why);
                 drop(lock);
                 made
             }
@@ -139,11 +147,11 @@ where
 
     /// Locks the folder.
     fn lock<E: Write>(&self, access: Access, err: &mut E, why: &mut Option<Reason>) -> R<F::File>
-        ensures quiet { self.now.is_terminal ≡ false → E.contents err.new ≡ E.contents err.old }
+        ensures quiet { self.now.terminals.err ≡ false → E.contents err.new ≡ E.contents err.old }
     {
         let patience = Patience {
             waits: self.call.waits,
-            shows: self.is_terminal,
+            shows: self.terminals.err,
         };
         locked(self.rt, self.call.folder, access, patience, err, why)
     }
@@ -157,7 +165,7 @@ where
         err: &mut E,
         why: &mut Option<Reason>,
     ) -> R<()>
-        ensures quiet { self.now.is_terminal ≡ false → E.contents err.new ≡ E.contents err.old }
+        ensures quiet { self.now.terminals.err ≡ false → E.contents err.new ≡ E.contents err.old }
     {
         let alloc = self.alloc;
         let schema = schema_from(alloc, text_of(bytes)?)?;
@@ -186,27 +194,33 @@ where
     /// Makes a table in the folder, which is there.
     fn make_table_in_folder(&self, schema: &Schema, keys: &[String]) -> R<()> {
         let schema = Schema::new(self.alloc, schema.elements())?;
-        create(
-            self.rt,
-            self.alloc,
-            self.call.folder,
-            schema,
-            keys,
-            self.call.options,
-        )
+        let disk = self.disk(false)?;
+        match store::create(self.alloc, disk, schema, keys, self.call.options) {
+            Ok(_) => Ok(()),
+            Err((_, refusal)) => Err(refusal),
+        }
+    }
+
+    /// The disk of the folder. Where `shows` says so, the screen shows what it reads and writes.
+    fn disk(&self, shows: bool) -> R<Watched<HostDisk<F>, S>> {
+        let screen = self.screen.clone()?;
+        let tally = Tally::new(self.alloc, screen, shows);
+        disk_of(self.rt, self.alloc, self.call.folder, tally)
     }
 
     /// Looks at the dataset, which is not opened.
-    fn look<W: Write>(
+    fn look<W: Write, E: Write>(
         &self,
         look: &Look<'_>,
         bytes: &[u8],
         out: &mut W,
+        err: &mut E,
         why: &mut Option<Reason>,
-    ) -> R<()> {
-        let alloc = self.alloc;
-        let disk = disk_of(self.rt, alloc, self.call.folder)?;
-        let mut vault = Vault::start(disk);
+    ) -> R<()>
+        ensures quiet { self.now.terminals.err ≡ false → E.contents err.new ≡ E.contents err.old }
+    {
+        let (alloc, shows) = (self.alloc, self.terminals.err);
+        let mut vault = Vault::start(self.disk(false)?);
         let table = match described(alloc, &mut vault) {
             Ok(table) => table,
             Err(refusal) => {
@@ -216,44 +230,66 @@ where
         };
         match look {
             Look::Survey { min_rows } => print_survey(alloc, &mut vault, &table, *min_rows, out),
-            Look::Files => print_check(alloc, &mut vault, &table, out),
+            Look::Files => {
+                let screen = self.screen.clone()?;
+                let mut checking = Checking::new(alloc, &table, screen, shows);
+                print_check(alloc, &mut vault, &table, &mut checking, out)
+            }
             Look::Rows { rows } => {
-                print_rows_fit(alloc, &table, rows, text_of(bytes)?, out, why)
+                print_rows_fit(alloc, &table, rows, text_of(bytes)?, out, err, shows, why)
             }
         }
     }
 
     /// Opens the dataset and makes the call on it.
-    fn make_on_store<W: Write>(
+    fn make_on_store<W: Write, E: Write>(
         &self,
         bytes: &[u8],
         out: &mut W,
+        err: &mut E,
         why: &mut Option<Reason>,
-    ) -> R<()> {
+    ) -> R<()>
+        ensures quiet { self.now.terminals.err ≡ false → E.contents err.new ≡ E.contents err.old }
+    {
+        let (alloc, terminals) = (self.alloc, self.terminals);
         let mut store = self.open(why)?;
         match &self.call.task {
             Task::Create { .. } | Task::Look(_) => Ok(()),
-            Task::Ask(question) => ask(self.alloc, &mut store, question, out, why),
+            Task::Ask(question) => {
+                let shows = terminals.shows_beside_output();
+                ask(alloc, &mut store, question, out, err, shows, why)
+            }
             Task::Change(change) => {
-                let mut room = room_for_done(self.alloc)?;
-                let done = make_change(self.alloc, &mut store, change, bytes, why)?;
-                let printed = print_done(&mut room, done, out);
+                let mut room = room_for_done(alloc)?;
+                let done = make_change(alloc, &mut store, change, bytes, err, terminals.err, why);
+                let mut disk = store.into_disk();
+                disk.clear();
+                let printed = print_done(&mut room, done?, out);
                 if printed.is_err() {
                     *why = Some(Reason::Unprinted);
                 }
                 printed
             }
-            Task::Run { .. } => run(self.alloc, &mut store, bytes, out, why),
+            Task::Run { .. } => run(alloc, &mut store, bytes, out, why),
         }
     }
 
-    /// Opens the dataset.
-    fn open(&self, why: &mut Option<Reason>) -> R<Store<HostDisk<F>>> {
-        let opened = open(self.rt, self.alloc, self.call.folder, self.call.options);
-        if let Err(refusal) = &opened {
-            *why = root_reason(refusal);
+    /// Opens the dataset. Where its rows are to be changed, the screen shows what the disk reads and writes.
+    fn open(&self, why: &mut Option<Reason>) -> R<Store<Watched<HostDisk<F>, S>>> {
+        let shows = match &self.call.task {
+            Task::Change(Change::AddColumn { .. }) => false,
+            Task::Change(_) => self.terminals.err,
+            _ => false,
+        };
+        match store::open(self.alloc, self.disk(shows)?, self.call.options) {
+            Ok(store) => Ok(store),
+            Err((disk, refusal)) => {
+                let mut disk = disk;
+                disk.clear();
+                *why = root_reason(&refusal);
+                Err(refusal)
+            }
         }
-        opened
     }
 }
 
@@ -272,99 +308,4 @@ fn access_of(task: &Task<'_>) -> Access {
         Task::Ask(_) => Access::Reads,
         _ => Access::Writes,
     }
-}
-
-/// A reason that was found; none where there was no memory to find it.
-fn found(reason: R<Option<Reason>>) -> Option<Reason> {
-    reason.unwrap_or(None)
-}
-
-/// Prints what is asked of a store. Where that is refused, `why` may get the reason.
-fn ask<D: Disk, W: Write>(
-    alloc: Global,
-    store: &mut Store<D>,
-    question: &Question<'_>,
-    out: &mut W,
-    why: &mut Option<Reason>,
-) -> R<()> {
-    let answered = answer(alloc, store, question, out);
-    if let Err(refusal) = &answered {
-        *why = found(question_reason(alloc, store, question, refusal));
-    }
-    answered
-}
-
-/// Prints what is asked of a store.
-fn answer<D: Disk, W: Write>(
-    alloc: Global,
-    store: &mut Store<D>,
-    question: &Question<'_>,
-    out: &mut W,
-) -> R<()> {
-    match question {
-        Question::Query { filter, columns } if columns.is_empty() => {
-            print_rows(alloc, store, *filter, None, out)
-        }
-        Question::Query { filter, columns } => {
-            let names = owned(alloc, columns.as_slice())?;
-            print_rows(alloc, store, *filter, Some(names.as_slice()), out)
-        }
-        Question::Count { filter } => print_count(alloc, store, *filter, out),
-        Question::Groups => print_groups(alloc, store, out),
-        Question::Schema => print_schema(alloc, store, out),
-    }
-}
-
-/// Changes a store, with the bytes of the file that the change names. Where that is refused, `why` may get the reason.
-fn make_change<D: Disk>(
-    alloc: Global,
-    store: &mut Store<D>,
-    change: &Change<'_>,
-    bytes: &[u8],
-    why: &mut Option<Reason>,
-) -> R<u64> {
-    let changed = change_store(alloc, store, change, bytes);
-    if let Err(refusal) = &changed {
-        *why = found(change_reason(alloc, store, change, bytes, refusal));
-    }
-    changed
-}
-
-/// Changes a store, with the bytes of the file that the change names.
-fn change_store<D: Disk>(
-    alloc: Global,
-    store: &mut Store<D>,
-    change: &Change<'_>,
-    bytes: &[u8],
-) -> R<u64> {
-    match change {
-        Change::Append { .. } => append(alloc, store, text_of(bytes)?),
-        Change::Import { .. } => store.import(alloc, bytes),
-        Change::AddColumn { .. } => add_column(alloc, store, text_of(bytes)?),
-        Change::Remove { filter } => remove_rows(alloc, store, filter),
-        Change::RemoveGroups { numbers } => store.remove_groups(alloc, numbers.as_slice()),
-        Change::Rewrite { numbers } => rewrite_groups(alloc, store, numbers.as_slice()),
-        Change::RewriteSmall { min_rows } => rewrite_small(alloc, store, *min_rows),
-    }
-}
-
-/// Makes the calls of a script on a store. Where it is refused, `why` may get the reason.
-fn run<D: Disk, W: Write>(
-    alloc: Global,
-    store: &mut Store<D>,
-    bytes: &[u8],
-    out: &mut W,
-    why: &mut Option<Reason>,
-) -> R<()> {
-    let text = text_of(bytes)?;
-    let mut has_run = false;
-    let ran = run_script(alloc, store, text, out, &mut has_run);
-    if let Err(refusal) = &ran {
-        *why = if has_run {
-            Some(Reason::Unprinted)
-        } else {
-            script_reason(alloc, store, text, refusal)
-        };
-    }
-    ran
 }

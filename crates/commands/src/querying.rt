@@ -1,6 +1,6 @@
 //! Commands that read a dataset.
 
-ghost use Rattle.std.specs.Prelude.{◌∷◌, [], ◌++◌, IfOk, IfErr, OnOk, option_map};
+ghost use Rattle.std.specs.Prelude.{◌≡◌, ◌∷◌, [], ◌++◌, false, IfOk, IfErr, OnOk, option_map};
 ghost use Rattle.std.specs.Io.KnownBytes.{Appends};
 ghost use Rattle.serde_json.specs.Data.{Items, array};
 ghost use Rattle.serde_json.specs.Written.{compact_text};
@@ -17,6 +17,7 @@ use disk::Disk;
 use filter::Term;
 use footer::read_footer;
 use jsonrows::filter_from;
+use reports::Progress;
 use schema::Schema;
 use std::alloc::Global;
 use std::io::Write;
@@ -37,32 +38,65 @@ pub fn filter_of<D: Disk>(alloc: Global, store: &Store<D>, text: Option<&str>) -
 /// Prints the rows that satisfy a filter, a line each, in table order: objects of the columns of these names, or of all.
 ///
 /// Refused as `filter_from` refuses the text; as `Store::query` and `Store::fetch`; and Device where the output cannot be
-/// written. Where a later group is refused, the rows of those before it are printed. Room is that of one group.
-pub fn print_rows<D: Disk, W: Write>(
+/// written. Where a later group is refused, the rows of those before it are printed. Room is that of one group. Where
+/// `shows` says so, `err` shows how many rows were printed so far.
+pub fn print_rows<D: Disk, W: Write, E: Write>(
     alloc: Global,
     store: &mut Store<D>,
     filter: Option<&str>,
     columns: Option<&[String]>,
     out: &mut W,
-) -> R<()> {
+    err: &mut E,
+    shows: bool,
+) -> R<()>
+    ensures quiet { shows ≡ false → E.contents err.new ≡ E.contents err.old }
+{
     let terms = filter_of(alloc, store, filter)?;
+    let mut progress = printing_of(alloc, store, terms.as_slice(), shows);
     let cursor = store.query(alloc, terms.as_slice(), columns)?;
-    let printed = print_batches(alloc, store, cursor, out);
+    let printed = print_batches(alloc, store, cursor, out, err, &mut progress);
+    progress.clear(err);
     let closed = store.close(alloc, cursor);
     printed?;
     closed
 }
 
-/// Prints the rows that a cursor still gives.
-fn print_batches<D: Disk, W: Write>(
+/// The progress of printing the rows that satisfy a filter, of which none is printed yet. How many there are is known of
+/// all rows alone.
+fn printing_of<D: Disk>(
+    alloc: Global,
+    store: &mut Store<D>,
+    terms: &[Vec<Term>],
+    shows: bool,
+) -> Progress
+    ensures { result.is_shown ≡ shows }
+{
+    let all = if shows && terms.is_empty() {
+        store.count(alloc, terms).ok()
+    } else {
+        None
+    };
+    Progress::new(alloc, "printed", all, shows)
+}
+
+/// Prints the rows that a cursor still gives, and counts them.
+fn print_batches<D: Disk, W: Write, E: Write>(
     alloc: Global,
     store: &mut Store<D>,
     cursor: CursorId,
     out: &mut W,
-) -> R<()> {
-    for _ in 0..u64::MAX {
+    err: &mut E,
+    progress: &mut Progress,
+) -> R<()>
+    ensures quiet { progress.old.is_shown ≡ false → E.contents err.new ≡ E.contents err.old }
+    ensures same { progress.new.is_shown ≡ progress.old.is_shown }
+{
+    'batches: for _ in 0..u64::MAX {
         match store.fetch(alloc, cursor)? {
-            Fetched::Batch(batch) => print_batch(alloc, store.schema(), &batch, out)?,
+            Fetched::Batch(batch) => {
+                print_batch(alloc, store.schema(), &batch, out)?;
+                progress.count_rows(batch.rows.len() as u64, err);
+            }
             Fetched::End => return Ok(()),
         }
     }

@@ -1,6 +1,6 @@
 //! Rows as lines of JSON, to rows.
 
-ghost use Rattle.std.specs.Prelude.{◌≡◌, IfOk, IfErr};
+ghost use Rattle.std.specs.Prelude.{◌≡◌, false, IfOk, IfErr};
 ghost use Rattle.std.specs.Str.Lines.{lines};
 ghost use Rattle.bits.specs.Refusals.{RefusedOnly};
 ghost use Rattle.schema.specs.Views.{row_view, rows_view};
@@ -9,21 +9,51 @@ ghost use Rattle.commands.specs.Lines.{IsRowText, IsRefusedLine, AreRowTexts, Ar
 
 use bits::{R, Refusal};
 use jsonrows::Reader;
+use reports::Progress;
 use schema::{Row, Schema};
 use std::alloc::Global;
+use std::io::Write;
 
-/// The rows of a text, one of each line; a last line needs no line feed.
+/// The rows of a text, one of each line; a last line needs no line feed. Where `shows` says so, `err` shows how many were
+/// read so far.
 ///
 /// Refused as `row_from` refuses the first line that is no row. Time and room are linear in the text.
-pub fn rows_of(alloc: Global, schema: &Schema, text: &str) -> R<Vec<Row>>
+pub fn rows_of<E: Write>(
+    alloc: Global,
+    schema: &Schema,
+    text: &str,
+    err: &mut E,
+    shows: bool,
+) -> R<Vec<Row>>
     ensures stands { IfOk result (λ rows. AreRowTexts schema.now (lines text.now) (rows_view rows.items)) }
     ensures which { IfErr result (AreRefusedRows schema.now (lines text.now)) }
+    ensures quiet { shows ≡ false → E.contents err.new ≡ E.contents err.old }
+{
+    let mut progress = Progress::new(alloc, "read", None, shows);
+    let rows = read_rows(alloc, schema, text, err, &mut progress);
+    progress.clear(err);
+    rows
+}
+
+/// The rows of a text, in the same way. Each is counted.
+fn read_rows<E: Write>(
+    alloc: Global,
+    schema: &Schema,
+    text: &str,
+    err: &mut E,
+    progress: &mut Progress,
+) -> R<Vec<Row>>
+    ensures stands { IfOk result (λ rows. AreRowTexts schema.now (lines text.now) (rows_view rows.items)) }
+    ensures which { IfErr result (AreRefusedRows schema.now (lines text.now)) }
+    ensures quiet { progress.old.is_shown ≡ false → E.contents err.new ≡ E.contents err.old }
+    ensures same { progress.new.is_shown ≡ progress.old.is_shown }
 {
     let mut reader = Reader::new(alloc, schema)?;
     let mut rows = Vec::new(alloc);
     for line in text.lines() {
         let row = read_row(&mut reader, line)?;
         rows.push(row)?;
+        progress.count_row(err);
     }
     Ok(rows)
 }

@@ -28,6 +28,14 @@ pub fn no_wait_flag<'a>(alloc: Global) -> Arg<'a> {
         .help("Is refused 25 where another command is using DIR, in place of waiting")
 }
 
+/// The flag by which no progress is shown.
+pub fn quiet_flag<'a>(alloc: Global) -> Arg<'a> {
+    Arg::new(alloc, "quiet")
+        .long("quiet")
+        .action(ArgAction::SetTrue)
+        .help("Shows no progress where standard error is a terminal")
+}
+
 /// A command on the dataset in a folder, which is its first word.
 fn on_dataset<'a>(alloc: Global, word: &'a str) -> Result<Command<'a>, AllocError> {
     let command = Command::new(alloc, word).arg(folder_named(alloc))?;
@@ -86,7 +94,8 @@ fn append_command<'a>(alloc: Global) -> Result<Command<'a>, Error> {
         .long_about(help::APPEND_LONG)
         .after_help(help::APPEND_EXAMPLE)
         .arg(named(alloc, "ROWS", ROWS_HELP))?;
-    with_options(alloc, append)
+    let append = with_options(alloc, append)?.arg(quiet_flag(alloc))?;
+    Ok(append)
 }
 
 fn import_command<'a>(alloc: Global) -> Result<Command<'a>, Error> {
@@ -95,7 +104,8 @@ fn import_command<'a>(alloc: Global) -> Result<Command<'a>, Error> {
         .long_about(help::IMPORT_LONG)
         .after_help(help::IMPORT_EXAMPLE)
         .arg(named(alloc, "FILE", "The Parquet file with the rows"))?;
-    with_options(alloc, import)
+    let import = with_options(alloc, import)?.arg(quiet_flag(alloc))?;
+    Ok(import)
 }
 
 fn query_command<'a>(alloc: Global) -> Result<Command<'a>, Error> {
@@ -108,7 +118,8 @@ fn query_command<'a>(alloc: Global) -> Result<Command<'a>, Error> {
             alloc,
             "COLUMN",
             "The columns to print; all where none is named",
-        ))?;
+        ))?
+        .arg(quiet_flag(alloc))?;
     Ok(query)
 }
 
@@ -152,7 +163,8 @@ fn remove_command<'a>(alloc: Global) -> Result<Command<'a>, Error> {
         .arg(filter_option(alloc, "Removes the rows that satisfy this filter"))?
         .arg(numbers_named(alloc, "The numbers of the groups to remove"))?
         .group(either(alloc, "filter", "NUMBER")?)?;
-    with_options(alloc, remove)
+    let remove = with_options(alloc, remove)?.arg(quiet_flag(alloc))?;
+    Ok(remove)
 }
 
 /// The number of rows below which a group is small.
@@ -176,7 +188,8 @@ fn rewrite_command<'a>(alloc: Global) -> Result<Command<'a>, Error> {
         ))?
         .arg(numbers_named(alloc, "The numbers of the groups to rewrite"))?
         .group(either(alloc, "min-rows", "NUMBER")?)?;
-    with_options(alloc, rewrite)
+    let rewrite = with_options(alloc, rewrite)?.arg(quiet_flag(alloc))?;
+    Ok(rewrite)
 }
 
 fn run_command<'a>(alloc: Global) -> Result<Command<'a>, Error> {

@@ -29,6 +29,9 @@ Appends the rows of ROWS, a file with a line of JSON for each row, and prints `d
 All of them come in or none, and once `done` is printed they stay. That this holds after a crash too is proved for a disk that
 keeps the rules of docs/DISK.md; whether yours does is not known to the program.
 
+Where standard error is a terminal, it shows after each 100000 rows how many were read, and then how much was read from the
+disk and written to it so far; at the end that is removed. With --quiet it is not shown.
+
 Refused 14 or 29 for the first line that is no row, after a line that has its number; 17 Key for a row whose key has no folder
 (an empty text, or a longer name than 255 bytes), after a line that says which; 23 NoTable where DIR has no dataset.
 
@@ -67,6 +70,9 @@ dataset, with the key columns among them, in their order: name, repetition, type
 a line that shows the first column that differs, in the file and in the dataset. `pqds schema` prints all columns of both. The
 file is read as decode reads it, and refused as it refuses it; what the file says of itself besides its rows is not used.
 
+Where standard error is a terminal, it shows how much was read from the disk and written to it so far; at the end that is
+removed. With --quiet it is not shown.
+
 Refused 5 Codec for a compressed file: write it with compression=\"none\". Refused 6 Float or 7 Int96 for a column of such a
 type: cast it to integers, decimals or texts (6), or to timestamps of microseconds (7). 17, 23 and 26 are as of append.";
 
@@ -90,6 +96,9 @@ A filter is an array of ANDs, each an array of triples [column, operator, value]
 AND hold. One AND may stand alone, as an array of triples; the empty filter [] holds for every row. Operators: == (also =), !=,
 <, <=, >, >=, in, not in. A column is a name, or an array of the names on its path. A null satisfies no triple. A group of which
 the statistics show that no row satisfies is not read, nor are columns that are neither printed nor in the filter.
+
+Where standard error is a terminal and standard output is not, standard error shows after each 100000 rows how many were
+printed; at the end that is removed. With --quiet it is not shown.
 
 A reader that closes the output early, as head does, ends the call with `refused 25 Device`.
 
@@ -173,6 +182,9 @@ Removes the rows that satisfy a filter (query says what a filter is; [] holds fo
 (groups prints them), and prints `done N`, N the number of rows. All of them go or none, as append says it. A group of which
 some rows go is written anew under a new number; one of which none goes stays as it is.
 
+Where standard error is a terminal, it shows how much was read from the disk and written to it so far; at the end that is
+removed. With --quiet it is not shown.
+
 Refused 14, 15, 16 or 29 for the filter, as query says it; 18 NoGroup for a number that no group has; 26 InDoubt as append: all
 of them are gone, or none. With both a filter and numbers, or neither, it is a wrong call.";
 
@@ -200,6 +212,9 @@ become groups of `--group-rows` rows, the last of them with the rest; the rows s
 these groups (groups prints the numbers); with --min-rows N with those that have fewer than N rows, and next to them a group of
 the same key that has fewer too. Where there are none, nothing is written: `done 0`. All of it is done or nothing, as append
 says it.
+
+Where standard error is a terminal, it shows how much was read from the disk and written to it so far; at the end that is
+removed. With --quiet it is not shown.
 
 Refused 18 NoGroup for a number that no group has; 26 InDoubt as append: `pqds groups DIR` shows whether it is done. With both,
 or neither, it is a wrong call.";

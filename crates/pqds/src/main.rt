@@ -20,7 +20,10 @@ fn run(rt: &HostRuntime) -> R<u8> {
         err: rt.stderr().is_terminal(),
     };
     let mut err = rt.stderr();
-    let datasets = Folders { files: rt };
+    let datasets = Folders {
+        files: rt,
+        screen: rt.stderr(),
+    };
     let words = words.as_slice();
     let status = work(rt, alloc, words, &mut out, &mut err, terminals, &datasets);
     // What could not be written is not tried once more.

@@ -9,8 +9,8 @@ use bits::{R, Refusal};
 use clap::error::ErrorKind;
 use clap::{Arg, ArgAction, ArgMatches, Command, Error};
 use dataset_words::{
-    Look, look_call, min_rows_in, min_rows_option, no_wait_flag, options_in, with_commands,
-    with_options,
+    Look, look_call, min_rows_in, min_rows_option, no_wait_flag, options_in, quiet_flag,
+    with_commands, with_options,
 };
 use footer::WriteOptions;
 use std::alloc::Global;
@@ -72,14 +72,6 @@ fn file_named<'a>(alloc: Global, name: &'a str, help: &'a str) -> Arg<'a> {
         .required(true)
         .action(ArgAction::Set)
         .help(help)
-}
-
-/// The flag by which no progress is shown.
-fn quiet_flag<'a>(alloc: Global) -> Arg<'a> {
-    Arg::new(alloc, "quiet")
-        .long("quiet")
-        .action(ArgAction::SetTrue)
-        .help("Shows no progress where standard error is a terminal")
 }
 
 fn decode_command<'a>(alloc: Global) -> Result<Command<'a>, Error> {
@@ -149,7 +141,8 @@ fn check_command<'a>(alloc: Global) -> Result<Command<'a>, Error> {
             "The file with the columns, as JSON, or the folder of a dataset",
         ))?
         .arg(rows_named(alloc))?
-        .arg(no_wait_flag(alloc))?;
+        .arg(no_wait_flag(alloc))?
+        .arg(quiet_flag(alloc))?;
     Ok(check)
 }
 

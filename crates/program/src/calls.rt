@@ -43,8 +43,8 @@ pub fn refuse<E: Write>(err: &mut E, refusal: &Refusal) -> u8
 /// has nothing new where the file itself was refused, and no file was made. Status 2: the arguments are no call of
 /// the program, or ask for help, and `err` has the text on its use.
 ///
-/// `terminals` says which of both are terminals. Where `err` is one, and `--quiet` is not among the arguments, `decode`
-/// and `encode` show on it how many rows they have dealt with, and take that away again at the end; and a call on a
+/// `terminals` says which of both are terminals. Where `err` is one, and `--quiet` is not among the arguments, `decode`,
+/// `encode` and calls on a dataset show on it how far they are, and take that away again at the end; and a call on a
 /// dataset says there what it waits for. `datasets` makes the calls on datasets.
 pub fn work<F: Files, W: Write, E: Write, M: Datasets<W, E>>(
     rt: &F,
@@ -118,16 +118,16 @@ fn make<F: Files, W: Write, E: Write, M: Datasets<W, E>>(
         }
         Call::Encode { sources, file } => encode(rt, alloc, sources, file, err, terminals.err),
         Call::Inspect { file, table, .. } if is_folder(rt, file) => {
-            datasets.make(alloc, table, out, err, terminals.err)
+            datasets.make(alloc, table, out, err, terminals)
         }
         Call::Inspect { file, as_json, .. } => {
             let bytes = bytes_of(rt, alloc, file)?;
             inspect(alloc, bytes.as_slice(), *as_json, out)
         }
         Call::Check { sources, table } if is_folder(rt, sources.schema) => {
-            datasets.make(alloc, table, out, err, terminals.err)
+            datasets.make(alloc, table, out, err, terminals)
         }
         Call::Check { sources, .. } => check(rt, alloc, sources, out, err),
-        Call::Dataset { call } => datasets.make(alloc, call, out, err, terminals.err),
+        Call::Dataset { call } => datasets.make(alloc, call, out, err, terminals),
     }
 }

@@ -212,7 +212,10 @@ Where SCHEMA is the folder of a dataset, and there is no ROWS, it reads each par
 can be read, that it has the columns and rows that the dataset says, that its footer and the dataset describe its
 column chunks alike, and that the statistics are true of its values. No other part file may be there. Prints `ok` and how
 much there is; or a line for each file with what is wrong in it, and is then refused as the first of them counts. Rows
-of ROWS are rows that append would take. Nothing is changed.";
+of ROWS are rows that append would take. Nothing is changed.
+
+Of a dataset, where standard error is a terminal, it shows after each 100000 rows how many were checked, or read of ROWS; at
+the end that is removed. With --quiet it is not shown.";
 
 pub const CHECK_REFUSALS: &str = "\
 The files are refused, with status 1, as encode refuses them, but for 24:

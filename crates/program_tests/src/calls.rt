@@ -56,7 +56,7 @@ impl<W: Write, E: Write> Datasets<W, E> for NoDatasets {
         _call: &Call<'_>,
         _out: &mut W,
         _err: &mut E,
-        _is_terminal: bool,
+        _terminals: Terminals,
     ) -> R<()> {
         Err(Refusal::Device)
     }
