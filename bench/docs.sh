@@ -58,7 +58,7 @@ def called(command):
 def run(place, command, before="", shown=None):
     """Runs a command as typed, and returns what it printed, after what was printed before; where the document shows what is
     printed, that is it."""
-    is_program = command.startswith(("./pqds", "rt version", "find ", "bench/killed_at.sh "))
+    is_program = command.startswith(("./pqds", "n=$(./pqds", "rt version", "find ", "bench/killed_at.sh "))
     if command in LONG or command.startswith("rt all ") or only_program and not is_program:
         print(f"left    {place}: {command}", flush=True)
         return before
