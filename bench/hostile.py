@@ -12,16 +12,20 @@ CALLS = ("decode", "inspect", "import")
 SMALL = "rows_of_the_file_announced"
 KINDS = ("numbers", "nulls", "lists", "booleans", "texts", "long", "structs")
 
-# The bound of memory: what the program takes for a file of two rows and so many bytes for each byte of the file, each
-# byte of Thrift structs (the footer, and page headers), each entry of the largest page, and each byte of the longest row.
+# The bound of memory: what the program takes for a file of two rows, SLACK, and so many bytes for each of these (see
+# `File` of hostile_files.py): bytes of the file, bytes of the footer, bytes of the largest page header, entries of the
+# pages that are held side by side, bytes of the longest row, pages that are listed, values of all rows, bytes of all rows.
 BOUNDS = {
-    "decode": {"bytes": 1, "structs": 160, "page": 48, "row": 3},
-    "inspect": {"bytes": 1, "structs": 160, "page": 0, "row": 0},
-    "import": {"bytes": 1, "structs": 160, "page": 400, "row": 6},
+    "decode": {"bytes": 1, "structs": 160, "header": 160, "held": 48, "row": 3},
+    "inspect": {"bytes": 1, "structs": 160, "header": 160, "listed": 300},
+    "import": {"bytes": 1, "structs": 320, "header": 160, "held": 48, "values": 200, "written": 3},
 }
 SLACK = 4 << 20
-# The bound of time: so many times that of an honest file with as many entries, or with as much text, and a second for
-# what no entry counts.
+# The bound of address space: so many times what memory may rise above that of a small file. A list that grows has room
+# for up to twice its items, of which only what is used is memory.
+ROOM = 2
+# The bound of time: so many times that of honest files with as many entries (or as much text) and with as many bytes of
+# Thrift structs, each chunk by itself, and a second for what neither counts.
 TIMES, SECONDS = 10, 1.0
 
 
@@ -123,22 +127,20 @@ def outcome(facts, call, ran):
     return "rows" if call != "inspect" else "said", True
 
 
-def bound(bench, facts, call):
-    weights = BOUNDS[call]
-    structs = facts["structs"] + facts["headers"]
-    of_file = facts["bytes"] * weights["bytes"] + structs * weights["structs"]
-    return bench.base[call] + SLACK + of_file + facts["page"] * weights["page"] + facts["row"] * weights["row"]
+def rise(facts, call):
+    """How much more memory a call may take than for a file of two rows."""
+    return SLACK + sum(facts[fact] * weight for fact, weight in BOUNDS[call].items())
 
 
 def honest_time(bench, facts, call):
-    """The time of an honest file with as many entries; of long texts with as much text, of structs with as many bytes."""
-    return measure(facts, facts["like"]) * bench.rate[facts["like"], call]
+    """The time of honest files with as many entries, or as much text, and with as many bytes of structs."""
+    return sum(measure(facts, kind) * bench.rate[kind, call] for kind in {facts["like"], "structs"})
 
 
 def under_limits(bench, facts, call, name, limits):
     """What is neither what comes without a limit nor a refusal for memory; and under how many limits memory was refused.
     Under a limit that leaves room for the bound it may not be: so room that is asked for and not used is seen too."""
-    own = bench.least + ((bound(bench, facts, call) - bench.base[call]) >> 10)
+    own = bench.least + (ROOM * rise(facts, call) >> 10)
     short = 0
     for limit in sorted(limits + [own]):
         ran = bench.call(call, name, limit)
@@ -152,7 +154,7 @@ def under_limits(bench, facts, call, name, limits):
 def row_of(bench, facts, call, name, limits):
     ran = bench.call(call, name)
     said, well = outcome(facts, call, ran)
-    most, honest = bound(bench, facts, call), honest_time(bench, facts, call)
+    most, honest = bench.base[call] + rise(facts, call), honest_time(bench, facts, call)
     faults = [] if well else ["OUTCOME"]
     if ran.peak > most:
         faults.append("MEMORY")

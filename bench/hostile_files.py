@@ -15,6 +15,7 @@ PLAIN, RLE, DELTA_BINARY_PACKED, DELTA_LENGTH_BYTE_ARRAY, DELTA_BYTE_ARRAY, RLE_
 MIB = 1 << 20
 MOST = 2**31 - 1
 MOST_ENTRIES = 16_777_216
+MOST_LISTED = 100_000
 ONE = struct.pack("<q", 1)
 ENTRIES = 1_000_000
 
@@ -86,17 +87,19 @@ def framed(front, footer, length=None):
 class File:
     """A file and what is to come of it: a number of rows, or the number of a refusal.
 
-    `page` is how many entries its largest page has, dictionaries too, `pages` how many those of all columns of a group
-    have that are read side by side, `row` how many bytes the text of its largest row has, `entries` how many entries all
-    chunks have as they are read, `like` which honest file has such entries, `written` how many bytes the rows have as
-    text, `structs` how many bytes the footer has, `headers` how many the page headers have."""
+    `held` is how many entries the largest page of a column and its dictionary have, summed over the columns of a group,
+    whose pages are read side by side. `row` is how many bytes the text of the largest row has, `written` how many the
+    text of all rows has, `values` how many values the rows have, groups and lists among them. `entries` is how many
+    entries all chunks have as they are read, and `like` which honest file has such entries. `structs` is how many bytes
+    the footer has, `header` how many the largest page header has, and `headers` how many all page headers have as they
+    are read, those of each chunk by itself. `listed` is how many pages `inspect` lists."""
 
     def __init__(self, bytes, structs, fields, **facts):
         self.bytes = bytes
         self.fields = fields
-        self.facts = {"rows": None, "refused": None, "path": "", "inspected": None, "structs": structs, "headers": 64}
-        self.facts |= {"page": 0, "row": 0, "entries": facts.get("rows") or 0, "like": "numbers", "written": 0} | facts
-        self.facts.setdefault("pages", self.facts["page"])
+        self.facts = {"rows": None, "refused": None, "path": "", "inspected": None, "structs": structs, "header": 64, "headers": 64, "listed": 2}
+        self.facts |= {"held": 0, "row": 0, "entries": facts.get("rows") or 0, "like": "numbers", "written": 0} | facts
+        self.facts.setdefault("values", self.facts["entries"])
 
 
 def field(name, rep, type, **more):
@@ -147,8 +150,8 @@ def shared_by_columns():
     group_of_all = row_group([chunk(INT64, [name], rows, 4) for name in names], rows)
     ends = footer([root(columns)] + [leaf(name, INT64, OPTIONAL) for name in names], [group_of_all], rows)
     row = sum(len(name) + 8 for name in names) + 2
-    return File(framed(page, ends), len(ends), [field(name.decode(), "optional", "int64") for name in names], rows=rows, page=rows,
-                pages=rows * columns, row=row, entries=rows * columns, like="nulls", written=rows * row)
+    return File(framed(page, ends), len(ends), [field(name.decode(), "optional", "int64") for name in names], rows=rows,
+                held=rows * columns, listed=columns, row=row, entries=rows * columns, like="nulls", written=rows * row)
 
 
 def shared_by_groups():
@@ -157,7 +160,8 @@ def shared_by_groups():
     page = data_page(count, PLAIN, nulls(count))
     record = row_group([chunk(INT64, [b"x"], count, 4)], count)
     ends = footer([root(1), leaf(b"x", INT64, OPTIONAL)], [record] * groups, count * groups)
-    return File(framed(page, ends), len(ends), X_OPTIONAL, rows=count * groups, page=count, row=NULL_ROW, like="nulls", written=count * groups * NULL_ROW)
+    return File(framed(page, ends), len(ends), X_OPTIONAL, rows=count * groups, held=count, headers=groups * 32,
+                listed=groups, row=NULL_ROW, like="nulls", written=count * groups * NULL_ROW)
 
 
 def each_a_page_less():
@@ -167,7 +171,8 @@ def each_a_page_less():
     records = [row_group([chunk(INT64, [b"x"], pages - first, 4 + first * len(page))], pages - first) for first in range(pages)]
     rows = pages * (pages + 1) // 2
     ends = footer([root(1), leaf(b"x", INT64, REQUIRED)], records, rows)
-    return File(framed(page * pages, ends), len(ends), X_INT64, rows=rows, page=1, row=8, written=rows * 8)
+    return File(framed(page * pages, ends), len(ends), X_INT64, rows=rows, held=1, headers=rows * (len(page) - len(ONE)), listed=min(rows, MOST_LISTED),
+                row=8, written=rows * 8)
 
 
 def texts_of_nothing(count):
@@ -183,8 +188,8 @@ def dictionary_shared_by_columns():
     group_of_all = row_group([chunk(BYTE_ARRAY, [name], 1, 4, len(before)) for name in names], 1)
     ends = footer([root(columns)] + [leaf(name, BYTE_ARRAY, REQUIRED, UTF8) for name in names], [group_of_all], 1)
     row = sum(len(name) + 6 for name in names) + 2
-    return File(framed(page, ends), len(ends), texts_of(names), rows=1, page=size, pages=size * columns,
-                row=row, entries=size * columns, like="texts", written=row)
+    return File(framed(page, ends), len(ends), texts_of(names), rows=1, held=size * columns + columns,
+                listed=2 * columns, row=row, entries=size * columns, values=columns, like="texts", written=row)
 
 
 def dictionary_shared_by_groups():
@@ -194,7 +199,8 @@ def dictionary_shared_by_groups():
     page = before + data_page(1, RLE_DICTIONARY, b"\x00")
     record = row_group([chunk(BYTE_ARRAY, [b"x"], 1, 4, len(before))], 1)
     ends = footer([root(1), leaf(b"x", BYTE_ARRAY, REQUIRED, UTF8)], [record] * groups, groups)
-    return File(framed(page, ends), len(ends), X_TEXT, rows=groups, page=size, row=9, entries=groups * size, like="texts", written=9 * groups)
+    return File(framed(page, ends), len(ends), X_TEXT, rows=groups, held=size + 1, headers=groups * 64, listed=2 * groups, row=9,
+                entries=groups * size, values=groups, like="texts", written=9 * groups)
 
 
 # ---- pages that announce many entries in a few bytes
@@ -203,12 +209,12 @@ def dictionary_shared_by_groups():
 def run_of_nulls():
     """Nulls in one run of levels."""
     page = data_page(ENTRIES, PLAIN, nulls(ENTRIES))
-    return one_column(page, INT64, OPTIONAL, ENTRIES, ENTRIES, X_OPTIONAL, rows=ENTRIES, page=ENTRIES, row=NULL_ROW, like="nulls", written=ENTRIES * NULL_ROW)
+    return one_column(page, INT64, OPTIONAL, ENTRIES, ENTRIES, X_OPTIONAL, rows=ENTRIES, held=ENTRIES, row=NULL_ROW, like="nulls", written=ENTRIES * NULL_ROW)
 
 
 def run_of_nulls_in_version_2():
     page = page_of_version_2(ENTRIES, PLAIN, b"", run(ENTRIES, 0, 1), b"")
-    return one_column(page, INT64, OPTIONAL, ENTRIES, ENTRIES, X_OPTIONAL, rows=ENTRIES, page=ENTRIES, row=NULL_ROW, like="nulls", written=ENTRIES * NULL_ROW)
+    return one_column(page, INT64, OPTIONAL, ENTRIES, ENTRIES, X_OPTIONAL, rows=ENTRIES, held=ENTRIES, row=NULL_ROW, like="nulls", written=ENTRIES * NULL_ROW)
 
 
 def one_row_of_a_run():
@@ -216,53 +222,53 @@ def one_row_of_a_run():
     body = sized(run(1, 0, 1) + run(ENTRIES - 1, 1, 1)) + sized(run(ENTRIES, 1, 1)) + sized(run(ENTRIES, 1, 1))
     page = data_page(ENTRIES, RLE, body)
     row = ENTRIES * 5 + len('{"x":[]}')
-    return one_column(page, BOOLEAN, REPEATED, ENTRIES, 1, X_BOOLEANS, rows=1, page=ENTRIES, row=row, entries=ENTRIES, like="lists", written=row)
+    return one_column(page, BOOLEAN, REPEATED, ENTRIES, 1, X_BOOLEANS, rows=1, held=ENTRIES, row=row, entries=ENTRIES, like="lists", written=row)
 
 
 def run_of_empty_lists():
     body = sized(run(ENTRIES, 0, 1)) + sized(run(ENTRIES, 0, 1))
-    return one_column(data_page(ENTRIES, PLAIN, body), INT64, REPEATED, ENTRIES, ENTRIES, X_NUMBERS, rows=ENTRIES, page=ENTRIES, row=9, like="lists", written=ENTRIES * 9)
+    return one_column(data_page(ENTRIES, PLAIN, body), INT64, REPEATED, ENTRIES, ENTRIES, X_NUMBERS, rows=ENTRIES, held=ENTRIES, row=9, like="lists", written=ENTRIES * 9)
 
 
 def indexes_of_no_bits():
     """A dictionary of one number, and indexes of width 0."""
     before = dictionary_page(1, ONE)
     page = before + data_page(ENTRIES, RLE_DICTIONARY, b"\x00")
-    return one_column(page, INT64, REQUIRED, ENTRIES, ENTRIES, X_INT64, len(before), rows=ENTRIES, page=ENTRIES, row=8, written=ENTRIES * 8)
+    return one_column(page, INT64, REQUIRED, ENTRIES, ENTRIES, X_INT64, len(before), rows=ENTRIES, held=ENTRIES, row=8, written=ENTRIES * 8)
 
 
 def run_of_indexes():
     before = dictionary_page(1, ONE)
     page = before + data_page(ENTRIES, RLE_DICTIONARY, b"\x01" + run(2**62, 0, 1))
-    return one_column(page, INT64, REQUIRED, ENTRIES, ENTRIES, X_INT64, len(before), rows=ENTRIES, page=ENTRIES, row=8, written=ENTRIES * 8)
+    return one_column(page, INT64, REQUIRED, ENTRIES, ENTRIES, X_INT64, len(before), rows=ENTRIES, held=ENTRIES, row=8, written=ENTRIES * 8)
 
 
 def run_of_booleans():
     page = data_page(ENTRIES, RLE, sized(run(2**62, 1, 1)))
-    return one_column(page, BOOLEAN, REQUIRED, ENTRIES, ENTRIES, X_BOOLEAN, rows=ENTRIES, page=ENTRIES, row=11, like="booleans", written=ENTRIES * 11)
+    return one_column(page, BOOLEAN, REQUIRED, ENTRIES, ENTRIES, X_BOOLEAN, rows=ENTRIES, held=ENTRIES, row=11, like="booleans", written=ENTRIES * 11)
 
 
 def differences_of_no_bits():
     page = data_page(ENTRIES, DELTA_BINARY_PACKED, deltas(0, [1], ENTRIES))
-    return one_column(page, INT64, REQUIRED, ENTRIES, ENTRIES, X_INT64, rows=ENTRIES, page=ENTRIES, row=14, written=ENTRIES * 13)
+    return one_column(page, INT64, REQUIRED, ENTRIES, ENTRIES, X_INT64, rows=ENTRIES, held=ENTRIES, row=14, written=ENTRIES * 13)
 
 
 def lengths_of_no_bits():
     """Empty texts, whose lengths are announced at once."""
     page = data_page(ENTRIES, DELTA_LENGTH_BYTE_ARRAY, deltas(0, [0], ENTRIES))
-    return one_column(page, BYTE_ARRAY, REQUIRED, ENTRIES, ENTRIES, X_TEXT, annotation=UTF8, rows=ENTRIES, page=ENTRIES, row=9, like="texts", written=ENTRIES * 9)
+    return one_column(page, BYTE_ARRAY, REQUIRED, ENTRIES, ENTRIES, X_TEXT, annotation=UTF8, rows=ENTRIES, held=ENTRIES, row=9, like="texts", written=ENTRIES * 9)
 
 
 def prefixes_of_no_bits():
     """Empty texts that share nothing with one another."""
     page = data_page(ENTRIES, DELTA_BYTE_ARRAY, deltas(0, [0], ENTRIES) + deltas(0, [0], ENTRIES))
-    return one_column(page, BYTE_ARRAY, REQUIRED, ENTRIES, ENTRIES, X_TEXT, annotation=UTF8, rows=ENTRIES, page=ENTRIES, row=9, like="texts", written=ENTRIES * 9)
+    return one_column(page, BYTE_ARRAY, REQUIRED, ENTRIES, ENTRIES, X_TEXT, annotation=UTF8, rows=ENTRIES, held=ENTRIES, row=9, like="texts", written=ENTRIES * 9)
 
 
 def runs_of_nothing():
     """A section of levels that begins with many runs of no numbers."""
     body = sized(bytes(2 * ENTRIES) + run(1, 1, 1)) + ONE
-    return one_column(data_page(1, PLAIN, body), INT64, OPTIONAL, 1, 1, X_OPTIONAL, rows=1, page=1, row=8, entries=ENTRIES, like="nulls", written=8)
+    return one_column(data_page(1, PLAIN, body), INT64, OPTIONAL, 1, 1, X_OPTIONAL, rows=1, held=1, row=8, entries=ENTRIES, values=1, like="nulls", written=8)
 
 
 # ---- long values that few bytes stand for
@@ -273,7 +279,7 @@ def long_text_in_many_rows():
     count, size = max(2, ENTRIES // 4000), ENTRIES
     before = dictionary_page(1, plain(BYTE_ARRAY, [b"a" * size]))
     page = before + data_page(count, RLE_DICTIONARY, b"\x00")
-    return one_column(page, BYTE_ARRAY, REQUIRED, count, count, X_TEXT, len(before), UTF8, rows=count, page=count, row=size + 9, like="long", written=count * (size + 9))
+    return one_column(page, BYTE_ARRAY, REQUIRED, count, count, X_TEXT, len(before), UTF8, rows=count, held=count, row=size + 9, like="long", written=count * (size + 9))
 
 
 def long_text_in_one_row():
@@ -282,7 +288,7 @@ def long_text_in_one_row():
     before = dictionary_page(1, plain(BYTE_ARRAY, [b"a" * size]))
     body = sized(run(1, 0, 1) + run(count - 1, 1, 1)) + sized(run(count, 1, 1)) + b"\x00"
     row = count * (size + 3) + 8
-    return one_column(before + data_page(count, RLE_DICTIONARY, body), BYTE_ARRAY, REPEATED, count, 1, X_TEXTS, len(before), UTF8, rows=1, page=count,
+    return one_column(before + data_page(count, RLE_DICTIONARY, body), BYTE_ARRAY, REPEATED, count, 1, X_TEXTS, len(before), UTF8, rows=1, held=count,
                       row=row, entries=count, like="long", written=row)
 
 
@@ -294,8 +300,8 @@ def long_text_in_each_column():
     group_of_all = row_group([chunk(BYTE_ARRAY, [name], 1, 4, len(before)) for name in names], 1)
     ends = footer([root(columns)] + [leaf(name, BYTE_ARRAY, REQUIRED, UTF8) for name in names], [group_of_all], 1)
     row = sum(len(name) + 6 + size for name in names) + 2
-    return File(framed(before + data_page(1, RLE_DICTIONARY, b"\x00"), ends), len(ends), texts_of(names), rows=1, page=1,
-                pages=columns, row=row, entries=columns, like="long", written=row)
+    return File(framed(before + data_page(1, RLE_DICTIONARY, b"\x00"), ends), len(ends), texts_of(names), rows=1,
+                held=2 * columns, listed=2 * columns, row=row, entries=columns, like="long", written=row)
 
 
 def same_prefix():
@@ -308,7 +314,7 @@ def same_prefix():
     prefixes = before + i(0) + i(0) + bytes([width, 0, 0, 0]) + packed([size] + [0] * 31, width) + blocks
     suffixes = before + i(size) + i(-size) + bytes([width] * 4) + packed([0] + [size] * 127, width) + blocks
     return one_column(data_page(count, DELTA_BYTE_ARRAY, prefixes + suffixes + b"a" * size), BYTE_ARRAY, REQUIRED, count, count, X_TEXT, annotation=UTF8,
-                      rows=count, page=count, row=size + 9, like="long", written=count * (size + 9))
+                      rows=count, held=count, row=size + 9, like="long", written=count * (size + 9))
 
 
 def growing_prefixes():
@@ -316,7 +322,7 @@ def growing_prefixes():
     count = max(2, ENTRIES // 50)
     body = deltas(0, [1], count) + deltas(1, [0], count) + b"a" * count
     written = count * 9 + count * (count + 1) // 2
-    return one_column(data_page(count, DELTA_BYTE_ARRAY, body), BYTE_ARRAY, REQUIRED, count, count, X_TEXT, annotation=UTF8, rows=count, page=count,
+    return one_column(data_page(count, DELTA_BYTE_ARRAY, body), BYTE_ARRAY, REQUIRED, count, count, X_TEXT, annotation=UTF8, rows=count, held=count,
                       row=count + 9, like="long", written=written)
 
 
@@ -324,8 +330,8 @@ def dictionary_of_bits():
     """A dictionary of booleans, eight to a byte, of which one is used."""
     before = dictionary_page(ENTRIES, bytes((ENTRIES + 7) // 8))
     page = before + data_page(1, RLE_DICTIONARY, b"\x00")
-    return one_column(page, BOOLEAN, REQUIRED, 1, 1, X_BOOLEAN, len(before), rows=1, page=ENTRIES, row=12, entries=ENTRIES, like="booleans",
-                      written=12)
+    return one_column(page, BOOLEAN, REQUIRED, 1, 1, X_BOOLEAN, len(before), rows=1, held=ENTRIES + 1, row=12, entries=ENTRIES, values=1,
+                      like="booleans", written=12)
 
 
 def large_dictionary_and_small_pages():
@@ -333,15 +339,15 @@ def large_dictionary_and_small_pages():
     pages = max(1, ENTRIES // 100)
     before = dictionary_page(ENTRIES, bytes((ENTRIES + 7) // 8))
     page = before + data_page(1, RLE_DICTIONARY, b"\x00") * pages
-    return one_column(page, BOOLEAN, REQUIRED, pages, pages, X_BOOLEAN, len(before), rows=pages, page=ENTRIES, row=12, entries=ENTRIES + pages,
-                      like="booleans", written=12 * pages)
+    return one_column(page, BOOLEAN, REQUIRED, pages, pages, X_BOOLEAN, len(before), rows=pages, held=ENTRIES + 1, headers=32 * pages, listed=pages + 1,
+                      row=12, entries=ENTRIES + pages, values=pages, like="booleans", written=12 * pages)
 
 
 def large_split_value():
     """BYTE_STREAM_SPLIT of one value, of 4 MB."""
     size = 4 * ENTRIES
     return one_column(data_page(1, BYTE_STREAM_SPLIT, b"\x61" * size), FIXED, REQUIRED, 1, 1, [field("x", "required", "fixed", length=size)], length=size,
-                      rows=1, page=1, row=2 * size + 9, entries=size // 50, like="texts", written=2 * size + 9)
+                      rows=1, held=1, row=2 * size + 9, entries=size // 50, values=1, like="texts", written=2 * size + 9)
 
 
 # ---- numbers that nothing stands behind
@@ -352,7 +358,7 @@ def of_two_rows(page=None, entries=2, rows=2, file_rows=2, refused=None, start=4
     page = data_page(2, PLAIN, ONE * 2) if page is None else page
     ends = footer([root(1), leaf(b"x", INT64, REQUIRED)], [row_group([chunk(INT64, [b"x"], entries, start, dictionary)], rows)], file_rows)
     rows = None if refused else 2
-    return File(framed(page, ends), len(ends), X_INT64, rows=rows, refused=refused, page=2, row=8, entries=2, written=16)
+    return File(framed(page, ends), len(ends), X_INT64, rows=rows, refused=refused, held=2, row=8, entries=2, written=16)
 
 
 def rows_of_the_file_announced():
@@ -415,42 +421,42 @@ def offset_of_the_dictionary_negative():
 def dictionary_announced():
     before = dictionary_page(MOST, ONE)
     page = before + data_page(2, RLE_DICTIONARY, b"\x00")
-    return one_column(page, INT64, REQUIRED, 2, 2, X_INT64, len(before), refused=TRUNCATED, page=2)
+    return one_column(page, INT64, REQUIRED, 2, 2, X_INT64, len(before), refused=TRUNCATED, held=2)
 
 
 def texts_announced():
     """Texts by their lengths, of 16 MiB each, and none of their bytes."""
     page = data_page(ENTRIES, DELTA_LENGTH_BYTE_ARRAY, deltas(16 * MIB, [0], ENTRIES))
-    return one_column(page, BYTE_ARRAY, REQUIRED, ENTRIES, ENTRIES, X_TEXT, annotation=UTF8, refused=TRUNCATED, page=ENTRIES, entries=ENTRIES, like="texts")
+    return one_column(page, BYTE_ARRAY, REQUIRED, ENTRIES, ENTRIES, X_TEXT, annotation=UTF8, refused=TRUNCATED, held=ENTRIES, entries=ENTRIES, like="texts")
 
 
 def text_above_the_limit():
     page = data_page(1, PLAIN, struct.pack("<I", 2**32 - 1))
-    return one_column(page, BYTE_ARRAY, REQUIRED, 1, 1, X_TEXT, annotation=UTF8, refused=LIMIT, page=1)
+    return one_column(page, BYTE_ARRAY, REQUIRED, 1, 1, X_TEXT, annotation=UTF8, refused=LIMIT, held=1)
 
 
 def blocks_announced():
     """Blocks of 2^62 numbers in 2^57 miniblocks."""
     body = varint(2**62) + varint(2**57) + varint(2) + i(1) + i(0) + bytes(8)
-    return one_column(data_page(2, DELTA_BINARY_PACKED, body), INT64, REQUIRED, 2, 2, X_INT64, refused=TRUNCATED, page=2)
+    return one_column(data_page(2, DELTA_BINARY_PACKED, body), INT64, REQUIRED, 2, 2, X_INT64, refused=TRUNCATED, held=2)
 
 
 def levels_announced():
     """A section of levels that announces 4 GiB of its own."""
     page = data_page(2, PLAIN, struct.pack("<I", 2**32 - 1) + run(2, 1, 1) + ONE * 2)
-    return one_column(page, INT64, OPTIONAL, 2, 2, X_OPTIONAL, refused=TRUNCATED, page=2)
+    return one_column(page, INT64, OPTIONAL, 2, 2, X_OPTIONAL, refused=TRUNCATED, held=2)
 
 
 def levels_of_version_2_announced():
     """A length of levels of 2^31 - 1 in the header."""
     page = page_of_version_2(2, PLAIN, b"", run(2, 1, 1), ONE * 2).replace(b"\x15\x04\x15\x00\x12", b"\x15" + i(MOST) + b"\x15\x00\x12")
-    return one_column(page, INT64, OPTIONAL, 2, 2, X_OPTIONAL, refused=TRUNCATED, page=2)
+    return one_column(page, INT64, OPTIONAL, 2, 2, X_OPTIONAL, refused=TRUNCATED, held=2)
 
 
 def fixed_length_announced():
     """Values of a fixed length of 2^31 - 1 bytes."""
     page = data_page(1, PLAIN, ONE)
-    return one_column(page, FIXED, REQUIRED, 1, 1, [field("x", "required", "fixed", length=8)], length=MOST, refused=LIMIT, page=1)
+    return one_column(page, FIXED, REQUIRED, 1, 1, [field("x", "required", "fixed", length=8)], length=MOST, refused=LIMIT, held=1)
 
 
 def of_footer(ends, refused, **facts):
@@ -522,14 +528,14 @@ def header_of_structs():
     """A page header with as many structs."""
     count = ENTRIES // 2
     page = HEADER_OF_ONE + b"\x00\x09\xc8\x01" + listed([b"\x11\x00"] * count) + b"\x00" + ONE
-    return one_column(page, INT64, REQUIRED, 1, 1, X_INT64, headers=len(page), rows=1, page=1, row=8, like="structs", written=8)
+    return one_column(page, INT64, REQUIRED, 1, 1, X_INT64, header=len(page), headers=len(page), rows=1, held=1, row=8, like="structs", written=8)
 
 
 def statistics_of_a_page():
     """A page header with a bound of 4 MB."""
     bound = b"\x18" + text(b"\x01" * (4 * ENTRIES))
     page = HEADER_OF_ONE + b"\x1c" + bound + b"\x00\x00\x00" + ONE
-    return one_column(page, INT64, REQUIRED, 1, 1, X_INT64, headers=len(page), rows=1, page=1, row=8, entries=1, written=8)
+    return one_column(page, INT64, REQUIRED, 1, 1, X_INT64, header=len(page), headers=len(page), rows=1, held=1, row=8, entries=1, written=8)
 
 
 def statistics_of_a_chunk():
@@ -538,7 +544,7 @@ def statistics_of_a_chunk():
     page = data_page(1, PLAIN, plain(BYTE_ARRAY, [b"a"]))
     record = chunk(BYTE_ARRAY, [b"x"], 1, 4, 0, b"\x58" + bound + b"\x18" + bound + b"\x00")
     ends = footer([root(1), leaf(b"x", BYTE_ARRAY, REQUIRED, UTF8)], [row_group([record], 1)], 1)
-    return File(framed(page, ends), len(ends), X_TEXT, rows=1, page=1, row=10, written=10)
+    return File(framed(page, ends), len(ends), X_TEXT, rows=1, held=1, row=10, written=10)
 
 
 def key_values():
@@ -559,7 +565,7 @@ def encodings_of_a_chunk():
     page = data_page(1, PLAIN, ONE)
     record = b"\x26\x00\x1c\x15\x04\x19" + listed([b"\x0c"] * count, 5) + b"\x19\x18\x01x\x15\x00\x16\x02\x46\x08\x00\x00"
     ends = footer([root(1), leaf(b"x", INT64, REQUIRED)], [row_group([record], 1)], 1)
-    return File(framed(page, ends), len(ends), X_INT64, rows=1, page=1, row=8, like="structs", written=8)
+    return File(framed(page, ends), len(ends), X_INT64, rows=1, held=1, row=8, like="structs", written=8)
 
 
 def groups_without_rows():
@@ -571,14 +577,14 @@ def pages_without_entries():
     """Pages of no entries, and then one of one."""
     count = ENTRIES // 10
     page = data_page(0, PLAIN, b"") * count + data_page(1, PLAIN, ONE)
-    return one_column(page, INT64, REQUIRED, 1, 1, X_INT64, headers=len(page), rows=1, page=1, row=8, like="structs", written=8)
+    return one_column(page, INT64, REQUIRED, 1, 1, X_INT64, headers=len(page), listed=count + 1, rows=1, held=1, row=8, like="structs", written=8)
 
 
 def pages_of_an_index():
     """Pages that are skipped, and then one of one entry."""
     count = ENTRIES // 10
     page = b"\x15\x02\x15\x00\x15\x00\x00" * count + data_page(1, PLAIN, ONE)
-    return one_column(page, INT64, REQUIRED, 1, 1, X_INT64, headers=len(page), rows=1, page=1, row=8, like="structs", written=8)
+    return one_column(page, INT64, REQUIRED, 1, 1, X_INT64, headers=len(page), listed=count + 1, rows=1, held=1, row=8, like="structs", written=8)
 
 
 def groups_in_groups():
@@ -605,7 +611,34 @@ def columns_repeated_in_groups():
         fields.append({"name": name.decode(), "rep": "repeated", "fields": [below]})
     ends = footer(elements, [row_group(records, 1)], 1)
     row = sum(len(name) + 6 for name in names) + 2
-    return File(framed(page, ends), len(ends), fields, rows=1, page=1, pages=columns, row=row, entries=columns * 32, like="lists", written=row)
+    return File(framed(page, ends), len(ends), fields, rows=1, held=columns, listed=columns, row=row, entries=columns * 32,
+                values=columns, like="lists", written=row)
+
+
+def values_below(element, repetition, body, text, json, values):
+    """Rows of one boolean below 31 fields of this repetition, each of one field more: so many values in each row."""
+    count, name = max(1, ENTRIES // 64), b"g"
+    elements = [root(1)] + [element] * 31 + [leaf(name, BOOLEAN, repetition)]
+    ends = footer(elements, [row_group([chunk(BOOLEAN, [name] * 32, count, 4)], count)], count)
+    below = field("g", json, "boolean")
+    for _ in range(31):
+        below = {"name": "g", "rep": json, "fields": [below]}
+    row = len(text) + 1
+    return File(framed(data_page(count, RLE, body(count)), ends), len(ends), [below], rows=count, held=count, row=row, values=count * values, like="lists",
+                written=count * row)
+
+
+def values_below_groups():
+    """Rows of one boolean below 31 required groups: each group is a value that `import` holds."""
+    text = '{"g":' * 32 + "true" + "}" * 32
+    return values_below(group(b"g", REQUIRED, 1), REQUIRED, lambda count: sized(run(count, 1, 1)), text, "required", 32)
+
+
+def values_below_lists():
+    """Rows of one boolean below 31 repeated groups: a list of one item in each group."""
+    text = '{"g":[' * 32 + "true" + "]}" * 32
+    return values_below(group(b"g", REPEATED, 1), REPEATED, lambda count: sized(run(count, 0, 6)) + sized(run(count, 32, 6)) + sized(run(count, 1, 1)), text,
+                        "repeated", 64)
 
 
 def long_name_in_each_item():
@@ -616,7 +649,7 @@ def long_name_in_each_item():
     ends = footer([root(1), group(b"g", REPEATED, 1), leaf(name, BOOLEAN, REQUIRED)], [row_group([chunk(BOOLEAN, [b"g", name], count, 4)], 1)], 1)
     fields = [{"name": "g", "rep": "repeated", "fields": [field(name.decode(), "required", "boolean")]}]
     row = count * (size + 10) + 8
-    return File(framed(data_page(count, RLE, body), ends), len(ends), fields, rows=1, page=count, row=row, entries=count, like="long", written=row)
+    return File(framed(data_page(count, RLE, body), ends), len(ends), fields, rows=1, held=count, row=row, entries=count, like="long", written=row)
 
 
 def name_in_each_problem():
@@ -624,7 +657,7 @@ def name_in_each_problem():
     name, pages = b"\x01" * ENTRIES, 200
     page = data_page(1, 77, ONE) * pages
     ends = footer([root(1), leaf(name, INT64, REQUIRED)], [row_group([chunk(INT64, [name], pages, 4)], pages)], pages)
-    return File(framed(page, ends), len(ends), X_INT64, refused=ENCODING, page=1, entries=pages)
+    return File(framed(page, ends), len(ends), X_INT64, refused=ENCODING, held=1, headers=32 * pages, listed=pages, entries=pages)
 
 
 def float_below_long_names():
@@ -712,7 +745,8 @@ NAMES = [
     text_above_the_limit, blocks_announced, levels_announced, levels_of_version_2_announced, fixed_length_announced, elements_announced,
     lists_in_lists_announced, key_values_announced, key_value_announced, footer_announced, children_announced, structs_of_one_field, structs_in_structs,
     structs_too_deep, header_of_structs, statistics_of_a_page, statistics_of_a_chunk, key_values, elements_of_three_bytes, encodings_of_a_chunk,
-    groups_without_rows, pages_without_entries, pages_of_an_index, groups_in_groups, columns_repeated_in_groups, long_name_in_each_item,
+    groups_without_rows, pages_without_entries, pages_of_an_index, groups_in_groups, columns_repeated_in_groups, values_below_groups,
+    values_below_lists, long_name_in_each_item,
     name_in_each_problem, float_below_long_names,
 ]
 

@@ -21,6 +21,9 @@ const UNCOMPRESSED: i32 = 0;
 /// How many problems are named.
 const MOST_PROBLEMS: usize = 100;
 
+/// How many characters of a column's path a problem shows. The path of an honest file is shorter.
+const MOST_CHARACTERS: usize = 1_000;
+
 /// The problems that were found, at most [`MOST_PROBLEMS`].
 #[derive(Drop)]
 pub struct Problems {
@@ -48,7 +51,7 @@ impl Problems {
             return Ok(());
         }
         let column = match column {
-            Some(column) => Some(String::from_str(self.alloc, column)?),
+            Some(column) => Some(named_shortly(self.alloc, column)?),
             None => None,
         };
         self.found.push(Problem {
@@ -135,6 +138,17 @@ impl Problems {
         }
         Ok(())
     }
+}
+
+/// A column's path; of one with more than [`MOST_CHARACTERS`] only so many, and then how many bytes it has. Each problem
+/// has its own, so a path of megabytes would be repeated for each of them.
+fn named_shortly(alloc: Global, path: &str) -> Result<String, AllocError> {
+    if path.chars().nth(MOST_CHARACTERS).is_none() {
+        return String::from_str(alloc, path);
+    }
+    let start: String = path.chars().take(MOST_CHARACTERS).collect(alloc)?;
+    let bytes = path.len();
+    format!(in alloc; "{start}.. ({bytes} bytes)")
 }
 
 /// What `decode` refuses of a file, in the order of its groups and chunks; `schema` is what its list of elements
