@@ -15,7 +15,7 @@ use std::io::{self, Write};
 
 /// What a call says.
 #[derive(Drop)]
-struct Said {
+struct Answered {
     /// What it prints.
     out: Vec<u8>,
     /// What it writes to standard error.
@@ -33,14 +33,14 @@ fn words_of(alloc: Global, line: &str) -> R<Vec<String>> {
 }
 
 /// What the call of a line says. Standard output is no terminal, and standard error is one where `is_seen` says so.
-fn call(rt: &HostRuntime, line: &str, is_seen: bool) -> R<Said> {
+fn call(rt: &HostRuntime, line: &str, is_seen: bool) -> R<Answered> {
     let alloc = rt.alloc();
     let words = words_of(alloc, line)?;
     let written = RefCell::new(Vec::new(alloc));
     let mut out = Vec::new(alloc);
     let screen = Screen { written: &written };
     let status = status_of(rt, words.as_slice(), &mut out, screen, is_seen);
-    Ok(Said {
+    Ok(Answered {
         out,
         err: written.into_inner(),
         status,
@@ -67,7 +67,7 @@ fn status_of(
 /// What a call says: what it prints, then its lines on standard error, each after `! `, then its status unless it is 0.
 fn said(rt: &HostRuntime, line: &str) -> R<Vec<u8>> {
     let alloc = rt.alloc();
-    let Said { out, err, status } = call(rt, line, false)?;
+    let Answered { out, err, status } = call(rt, line, false)?;
     let mut out = out;
     // Of a wrong call the status is enough: its text is that of the parser of the command line.
     if status < 2 && !err.as_slice().is_empty() {
@@ -84,8 +84,11 @@ fn said(rt: &HostRuntime, line: &str) -> R<Vec<u8>> {
 /// What a call writes to a terminal, and how many lines it prints to standard output, which is none.
 fn seen(rt: &HostRuntime, line: &str) -> R<String> {
     let alloc = rt.alloc();
-    let Said { out, err, status } = call(rt, line, true)?;
+    let Answered { out, err, status } = call(rt, line, true)?;
     let lines = out.as_slice().iter().filter(|byte| **byte == b'\n').count();
+    if err.as_slice().is_empty() {
+        return Ok(format!(in alloc; "{lines} lines, status {status}")?);
+    }
     let text = shown(alloc, err.as_slice())?;
     Ok(format!(in alloc; "! {text}\n{lines} lines, status {status}")?)
 }
