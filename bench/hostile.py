@@ -7,7 +7,7 @@ import subprocess
 import sys
 import time
 
-CALLS = ("decode", "inspect", "import")
+CALLS = ("decode", "inspect", "inspect --json", "import")
 # A file of two rows.
 SMALL = "rows_of_the_file_announced"
 KINDS = ("numbers", "nulls", "lists", "booleans", "texts", "long", "structs")
@@ -16,10 +16,11 @@ KINDS = ("numbers", "nulls", "lists", "booleans", "texts", "long", "structs")
 # `File` of hostile_files.py): bytes of the file, bytes of the footer, bytes of the largest page header, entries of the
 # pages that are held side by side, bytes of the longest row, pages that are listed, values of all rows, bytes of all rows.
 BOUNDS = {
-    "decode": {"bytes": 1, "structs": 160, "header": 160, "held": 48, "row": 3},
-    "inspect": {"bytes": 1, "structs": 160, "header": 160, "listed": 300},
-    "import": {"bytes": 1, "structs": 320, "header": 160, "held": 48, "values": 200, "written": 3},
+    "decode": {"bytes": 1, "structs": 160, "header": 160, "held": 48, "row": 2},
+    "inspect": {"bytes": 1, "structs": 200, "header": 160, "listed": 400},
+    "import": {"bytes": 1, "structs": 320, "header": 160, "held": 48, "values": 256, "written": 4},
 }
+BOUNDS["inspect --json"] = BOUNDS["inspect"]
 SLACK = 4 << 20
 # The bound of address space: so many times what memory may rise above that of a small file. A list that grows has room
 # for up to twice its items, of which only what is used is memory.
@@ -74,7 +75,7 @@ class Bench:
         """Makes one call of the file; `import` into a new dataset."""
         file, limit = f"{self.room}/{name}.parquet", limit or self.most
         if call != "import":
-            return self.run([call, file], limit)
+            return self.run([*call.split(), file], limit)
         table = f"{self.room}/table"
         shutil.rmtree(table, ignore_errors=True)
         made = self.run(["create", table, f"{self.room}/{name}.schema.json"], self.most)
@@ -112,7 +113,7 @@ def measure(facts, kind):
 
 def wanted(facts, call):
     """The number of the refusal that is to come, or none."""
-    return facts["inspected"] if call == "inspect" else facts["refused"]
+    return facts["inspected"] if call.startswith("inspect") else facts["refused"]
 
 
 def outcome(facts, call, ran):
@@ -124,7 +125,7 @@ def outcome(facts, call, ran):
         return f"refused {refused}", facts["path"] in ran.told
     if call == "decode" and ran.lines != facts["rows"]:
         return f"{ran.lines} rows, and not {facts['rows']}", False
-    return "rows" if call != "inspect" else "said", True
+    return "said" if call.startswith("inspect") else "rows", True
 
 
 def rise(facts, call):
@@ -168,7 +169,7 @@ def row_of(bench, facts, call, name, limits):
     if share > bench.greatest.get(call, (0, ""))[0]:
         bench.greatest[call] = (share, name)
     measured = f"{ran.peak / 1e6:9.1f}{most / 1e6:9.1f}{ran.seconds:8.2f}{honest:8.2f}"
-    print(f"{name:38}{facts['bytes']:9} {call:8}{said:12}{measured}  {limited:18}{' '.join(faults)}", flush=True)
+    print(f"{name:38}{facts['bytes']:9} {call:15}{said:12}{measured}  {limited:18}{' '.join(faults)}", flush=True)
 
 
 def names_in(top, only):
@@ -183,7 +184,7 @@ def main(top, room, program, entries, most, more, only):
     limits = [bench.least + (int(mib) << 10) for mib in more.split()]
     bench.measure_honest()
     under = f"under limits of {', '.join(str(limit >> 10) for limit in limits)} MiB" if limits else ""
-    print(f"{'file':38}{'bytes':>9} {'call':8}{'outcome':12}{'peak, MB':>9}{'bound':>9}{'s':>8}{'honest':>8}  {under}")
+    print(f"{'file':38}{'bytes':>9} {'call':15}{'outcome':12}{'peak, MB':>9}{'bound':>9}{'s':>8}{'honest':>8}  {under}")
     for name in names_in(top, only.split()):
         facts = bench.make(name)
         for call in CALLS:

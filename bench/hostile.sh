@@ -1,9 +1,9 @@
 #!/bin/sh
-# Decodes, inspects and imports files that are made to cost as much as they can (bench/hostile_files.py), and prints for each
-# what came of it, the most memory beside its bound, and the processor time beside that of an honest file with as many
-# entries. Each call is then made under limits of memory (`ulimit -v`), and must end as before or with `refused 28`; as before
-# where the limit leaves room for its bound. The status is 1 where one does not end as it should, or takes more memory or
-# time than its bound; docs/FORMAT.md has the bounds.
+# Decodes, inspects (as text and as JSON) and imports files that are made to cost as much as they can (bench/hostile_files.py),
+# and prints for each what came of it, the most memory beside its bound, and the processor time beside that of an honest file
+# with as many entries. Each call is then made under limits of address space (`ulimit -v`), and must end as before or with
+# `refused 28`; as before where the limit is twice its bound. The status is 1 where one does not end as it should, or takes
+# more memory or time than its bound; docs/FORMAT.md has the bounds.
 #
 #     bench/hostile.sh [--program PROGRAM] [--entries N] [--most MIB] [--limits 'MIB ..'] [NAME]...
 #

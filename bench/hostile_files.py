@@ -243,6 +243,15 @@ def run_of_indexes():
     return one_column(page, INT64, REQUIRED, ENTRIES, ENTRIES, X_INT64, len(before), rows=ENTRIES, held=ENTRIES, row=8, written=ENTRIES * 8)
 
 
+def indexes_below_lists():
+    """The same below a list: an entry has two levels, an index and a value."""
+    before = dictionary_page(1, ONE)
+    body = sized(run(ENTRIES, 0, 1)) + sized(run(ENTRIES, 1, 1)) + b"\x00"
+    row = len('{"x":[1]}') + 1
+    return one_column(before + data_page(ENTRIES, RLE_DICTIONARY, body), INT64, REPEATED, ENTRIES, ENTRIES, X_NUMBERS, len(before), rows=ENTRIES,
+                      held=ENTRIES + 1, row=row, entries=ENTRIES, values=2 * ENTRIES, like="lists", written=ENTRIES * row)
+
+
 def run_of_booleans():
     page = data_page(ENTRIES, RLE, sized(run(2**62, 1, 1)))
     return one_column(page, BOOLEAN, REQUIRED, ENTRIES, ENTRIES, X_BOOLEAN, rows=ENTRIES, held=ENTRIES, row=11, like="booleans", written=ENTRIES * 11)
@@ -269,6 +278,15 @@ def runs_of_nothing():
     """A section of levels that begins with many runs of no numbers."""
     body = sized(bytes(2 * ENTRIES) + run(1, 1, 1)) + ONE
     return one_column(data_page(1, PLAIN, body), INT64, OPTIONAL, 1, 1, X_OPTIONAL, rows=1, held=1, row=8, entries=ENTRIES, values=1, like="nulls", written=8)
+
+
+def rows_that_wait():
+    """Rows of one short text, one fewer than a group of a table has."""
+    count = min(ENTRIES, 131_071)
+    before = dictionary_page(1, plain(BYTE_ARRAY, [b"a"]))
+    row = len('{"x":"a"}') + 1
+    return one_column(before + data_page(count, RLE_DICTIONARY, b"\x00"), BYTE_ARRAY, REQUIRED, count, count, X_TEXT, len(before), UTF8, rows=count,
+                      held=count + 1, row=row, like="texts", written=count * row)
 
 
 # ---- long values that few bytes stand for
@@ -736,18 +754,18 @@ HONEST = [honest_numbers, honest_nulls, honest_lists, honest_booleans, honest_te
 
 NAMES = [
     shared_by_columns, shared_by_groups, each_a_page_less, dictionary_shared_by_columns, dictionary_shared_by_groups, run_of_nulls,
-    run_of_nulls_in_version_2, one_row_of_a_run, run_of_empty_lists, indexes_of_no_bits, run_of_indexes, run_of_booleans, differences_of_no_bits,
-    lengths_of_no_bits, prefixes_of_no_bits, runs_of_nothing, long_text_in_many_rows, long_text_in_one_row, long_text_in_each_column, same_prefix,
-    growing_prefixes, dictionary_of_bits, large_dictionary_and_small_pages, large_split_value, rows_of_the_file_announced, rows_of_the_group_announced,
-    rows_of_the_group_above_the_limit, rows_of_the_group_negative, entries_of_the_chunk_announced, entries_of_the_chunk_above_the_limit,
-    entries_of_the_page_announced, entries_of_both_announced, entries_of_the_page_negative, size_of_the_page_announced, size_of_the_page_negative,
-    offset_of_the_chunk_announced, offset_of_the_chunk_negative, offset_of_the_dictionary_negative, dictionary_announced, texts_announced,
-    text_above_the_limit, blocks_announced, levels_announced, levels_of_version_2_announced, fixed_length_announced, elements_announced,
-    lists_in_lists_announced, key_values_announced, key_value_announced, footer_announced, children_announced, structs_of_one_field, structs_in_structs,
-    structs_too_deep, header_of_structs, statistics_of_a_page, statistics_of_a_chunk, key_values, elements_of_three_bytes, encodings_of_a_chunk,
-    groups_without_rows, pages_without_entries, pages_of_an_index, groups_in_groups, columns_repeated_in_groups, values_below_groups,
-    values_below_lists, long_name_in_each_item,
-    name_in_each_problem, float_below_long_names,
+    run_of_nulls_in_version_2, one_row_of_a_run, run_of_empty_lists, indexes_of_no_bits, run_of_indexes, indexes_below_lists, run_of_booleans,
+    differences_of_no_bits, lengths_of_no_bits, prefixes_of_no_bits, runs_of_nothing, rows_that_wait, long_text_in_many_rows, long_text_in_one_row,
+    long_text_in_each_column, same_prefix, growing_prefixes, dictionary_of_bits, large_dictionary_and_small_pages, large_split_value,
+    rows_of_the_file_announced, rows_of_the_group_announced, rows_of_the_group_above_the_limit, rows_of_the_group_negative,
+    entries_of_the_chunk_announced, entries_of_the_chunk_above_the_limit, entries_of_the_page_announced, entries_of_both_announced,
+    entries_of_the_page_negative, size_of_the_page_announced, size_of_the_page_negative, offset_of_the_chunk_announced, offset_of_the_chunk_negative,
+    offset_of_the_dictionary_negative, dictionary_announced, texts_announced, text_above_the_limit, blocks_announced, levels_announced,
+    levels_of_version_2_announced, fixed_length_announced, elements_announced, lists_in_lists_announced, key_values_announced, key_value_announced,
+    footer_announced, children_announced, structs_of_one_field, structs_in_structs, structs_too_deep, header_of_structs, statistics_of_a_page,
+    statistics_of_a_chunk, key_values, elements_of_three_bytes, encodings_of_a_chunk, groups_without_rows, pages_without_entries, pages_of_an_index,
+    groups_in_groups, columns_repeated_in_groups, values_below_groups, values_below_lists, long_name_in_each_item, name_in_each_problem,
+    float_below_long_names,
 ]
 
 

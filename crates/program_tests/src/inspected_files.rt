@@ -106,6 +106,47 @@ fn what_decode_refuses_is_named(rt: HostRuntime) -> Result<(), Fail> {
     Ok(())
 }
 
+/// A file without rows whose one column, of DOUBLE, has a name of this many letters; `length` and `footer` are the lengths
+/// of the name and of the footer, as they stand in the file.
+fn of_long_name(alloc: Global, letters: usize, length: [u8; 2], footer: [u8; 2]) -> R<Vec<u8>> {
+    let start = b"PAR1\x15\x02\x19\x2cH\x06schema\x15\x02\x00\x15\x0a\x25\x00\x18";
+    let end = b"\x00\x16\x00\x19\x0c\x28\x04pqds\x19\x1c\x1c\x00\x00\x00";
+    let mut bytes = Vec::from_slice(alloc, start)?;
+    bytes.extend_from_slice(&length)?;
+    for _ in 0..letters {
+        bytes.push(b'n')?;
+    }
+    bytes.extend_from_slice(end)?;
+    bytes.extend_from_slice(&footer)?;
+    bytes.extend_from_slice(b"\x00\x00PAR1")?;
+    Ok(bytes)
+}
+
+#[test]
+fn a_long_name_is_shown_by_its_beginning(rt: HostRuntime) -> Result<(), Fail> {
+    let table: [(usize, [u8; 2], [u8; 2], &str); 2] = [
+        (1000, [232, 7], [15, 4], ""),
+        (1001, [233, 7], [16, 4], ".. (1001 bytes)"),
+    ];
+    let mut name = String::new(rt.alloc());
+    for _ in 0..1000 {
+        name.push('n')?;
+    }
+    for (letters, length, footer, after) in table {
+        let bytes = of_long_name(rt.alloc(), letters, length, footer)?;
+        fs::write(&rt, "long.parquet", bytes.as_slice())?;
+        let said = answer_to(&rt, &["inspect", "long.parquet"])?;
+        fs::remove_file(&rt, "long.parquet")?;
+        let text = std::str::from_utf8(said.out.as_slice())?;
+        let wanted = format!(in rt.alloc();
+            "\n  column {name}{after}: FLOAT, DOUBLE and FLOAT16 are not read\n"
+        )?;
+        assert_eq!(rt; (said.status, said.err.len()), (0, 0));
+        assert!(rt; text.ends_with(wanted.as_str()), "{text}");
+    }
+    Ok(())
+}
+
 #[test]
 fn a_file_whose_footer_is_refused_has_no_description(rt: HostRuntime) -> Result<(), Fail> {
     let table: [(&[u8], &str); 3] = [
