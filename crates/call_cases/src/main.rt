@@ -1,12 +1,14 @@
-//! Calls of the program on files in a folder of its own, as a transcript: standard input has the calls and the files that
-//! they need, and what is printed is each call with what it says. README.md lists the lines.
+//! Calls of the program on files in a folder of its own, as a transcript: standard input has the calls and what is done to
+//! the files between them, and what is printed is each call with what it says. README.md lists the lines.
 #![tactic(auto)]
 
+mod calls;
+mod changing;
+mod looking;
+
 use bits::R;
-use commands::Folders;
-use program::{Terminals, work};
-use std::alloc::Global;
-use std::fs::File;
+use case_words::{word, words_from};
+use program::Terminals;
 use std::io::{self, Write};
 
 /// No output is a terminal.
@@ -15,73 +17,48 @@ const NO_TERMINALS: Terminals = Terminals {
     err: false,
 };
 
-/// The words of a line, parted by spaces.
-fn words_of(alloc: Global, line: &str) -> R<Vec<String>> {
-    let mut words = Vec::new(alloc);
-    for word in line.split(' ') {
-        words.push(String::from_str(alloc, word)?)?;
+/// The terminals that a line names.
+fn terminals_in(words: &[&str]) -> Terminals {
+    Terminals {
+        out: words.iter().any(|word| *word == "out"),
+        err: words.iter().any(|word| *word == "err"),
     }
-    Ok(words)
 }
 
-/// What a call says: what it prints, then its lines on standard error, each after `! `, then its status unless it is 0.
-fn said(rt: &HostRuntime, line: &str) -> R<Vec<u8>> {
+/// What a line prints: a call with what it says, a look at a file with its outcome, of a change of files nothing, and
+/// any other line as it is.
+fn played(rt: &HostRuntime, terminals: &mut Terminals, line: &str) -> R<String> {
     let alloc = rt.alloc();
-    let words = words_of(alloc, line)?;
-    let mut out = Vec::new(alloc);
-    let mut err = Vec::new(alloc);
-    let datasets = Folders { files: rt };
+    let words: Vec<&str> = line.split(' ').collect(alloc)?;
     let words = words.as_slice();
-    let status = work(
-        rt,
-        alloc,
-        words,
-        &mut out,
-        &mut err,
-        NO_TERMINALS,
-        &datasets,
-    );
-    // Of a wrong call the status is enough: its text is that of the parser of the command line.
-    if status < 2 && !err.as_slice().is_empty() {
-        out.extend_from_slice(b"! ")?;
-        out.extend_from_slice(err.as_slice())?;
-    }
-    if status > 0 {
-        let last = format!(in alloc; "status {status}\n")?;
-        out.extend_from_slice(last.as_bytes())?;
-    }
-    Ok(out)
-}
-
-/// Puts a line at the end of a file.
-fn put_line(rt: &HostRuntime, path: &str, line: &str) -> io::Result<()> {
-    let mut file = File::options().create(true).append(true).open(rt, path)?;
-    file.write_all(line.as_bytes())?;
-    file.write_all(b"\n")
-}
-
-/// A line of the transcript: a call, or a line that goes to the end of a file.
-fn play(rt: &HostRuntime, line: &str) -> io::Result<()> {
-    if let Some(call) = line.strip_prefix("pqds ") {
-        println!(rt; "$ {line}")?;
-        return match said(rt, call) {
-            Ok(text) => rt.stdout().write_all(text.as_slice()),
-            Err(refusal) => println!(rt; "{refusal}"),
-        };
-    }
-    match line.strip_prefix("put ") {
-        Some(rest) => match rest.split_once(' ') {
-            Some((path, text)) => put_line(rt, path, text),
-            None => put_line(rt, rest, ""),
-        },
-        None => println!(rt; "{line}"),
+    let outcome = match word(words, 0)? {
+        "pqds" => return calls::told(rt, *terminals, line, true),
+        "ask" => return calls::told(rt, *terminals, line, false),
+        "terminals" => {
+            *terminals = terminals_in(words_from(words, 1));
+            Ok(String::new(alloc))
+        }
+        "put" | "times" | "bytes" | "copy" | "change" | "cut" | "remove" | "folder" => {
+            changing::done(rt, words, line)
+        }
+        "same" | "has" | "last" | "length" | "list" => looking::seen(rt, words, line),
+        _ => return Ok(format!(in alloc; "{line}\n")?),
+    };
+    match outcome {
+        Ok(text) if text.is_empty() => Ok(text),
+        Ok(text) => Ok(format!(in alloc; "{line} = {text}\n")?),
+        Err(refusal) => Ok(format!(in alloc; "{line} = refused {refusal}\n")?),
     }
 }
 
 fn main(rt: HostRuntime) -> io::Result<()> {
+    let mut terminals = NO_TERMINALS;
     for line in rt.lines(rt.alloc()) {
         let line = line?;
-        play(&rt, line.as_str())?;
+        match played(&rt, &mut terminals, line.as_str()) {
+            Ok(text) => rt.stdout().write_all(text.as_bytes())?,
+            Err(refusal) => println!(rt; "{refusal}")?,
+        }
     }
     Ok(())
 }
