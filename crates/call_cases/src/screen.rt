@@ -1,7 +1,5 @@
 //! A terminal, and what was written to it.
 
-use bits::R;
-use std::alloc::Global;
 use std::cell::RefCell;
 use std::io::{self, Write};
 
@@ -20,18 +18,4 @@ impl Write for Screen<'_> {
     fn flush(&mut self) -> io::Result<()> {
         Ok(())
     }
-}
-
-/// What was written, with a name for each control character.
-pub fn shown(alloc: Global, written: &[u8]) -> R<String> {
-    let mut text = String::new(alloc);
-    for byte in written {
-        match *byte {
-            b'\r' => text.push_str("\\r")?,
-            b'\n' => text.push_str("\\n")?,
-            0x1b => text.push_str("\\e")?,
-            byte => text.push(byte as char)?,
-        }
-    }
-    Ok(text)
 }
