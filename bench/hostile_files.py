@@ -411,6 +411,42 @@ def entries_of_both_announced():
     return of_two_rows(data_page(MOST_ENTRIES, PLAIN, ONE * 2), entries=MOST_ENTRIES, rows=MOST_ENTRIES, refused=TRUNCATED)
 
 
+def of_most_entries(kind, rep, encoding, body, fields, before=b"", annotation=None):
+    """One column that announces the most entries that a chunk may have, and bytes for two of them or fewer."""
+    page = before + data_page(MOST_ENTRIES, encoding, body)
+    return one_column(page, kind, rep, MOST_ENTRIES, MOST_ENTRIES, fields, len(before), annotation, refused=TRUNCATED, held=2, entries=2)
+
+
+def levels_for_all_announced():
+    return of_most_entries(INT64, OPTIONAL, PLAIN, sized(run(2, 1, 1)) + ONE * 2, X_OPTIONAL)
+
+
+def indexes_for_all_announced():
+    return of_most_entries(INT64, REQUIRED, RLE_DICTIONARY, b"\x01" + run(2, 0, 1), X_INT64, dictionary_page(1, ONE))
+
+
+def booleans_for_all_announced():
+    return of_most_entries(BOOLEAN, REQUIRED, PLAIN, b"\x03", X_BOOLEAN)
+
+
+def texts_for_all_announced():
+    return of_most_entries(BYTE_ARRAY, REQUIRED, PLAIN, plain(BYTE_ARRAY, [b"a", b"b"]), X_TEXT, annotation=UTF8)
+
+
+def differences_for_all_announced():
+    return of_most_entries(INT64, REQUIRED, DELTA_BINARY_PACKED, varint(128) + varint(4) + varint(MOST_ENTRIES) + i(0), X_INT64)
+
+
+def lengths_for_all_announced():
+    body = varint(128) + varint(4) + varint(MOST_ENTRIES) + i(1)
+    return of_most_entries(BYTE_ARRAY, REQUIRED, DELTA_LENGTH_BYTE_ARRAY, body + b"ab", X_TEXT, annotation=UTF8)
+
+
+def prefixes_for_all_announced():
+    body = varint(128) + varint(4) + varint(MOST_ENTRIES) + i(0)
+    return of_most_entries(BYTE_ARRAY, REQUIRED, DELTA_BYTE_ARRAY, body + b"ab", X_TEXT, annotation=UTF8)
+
+
 def entries_of_the_page_negative():
     return of_two_rows(data_page(-1, PLAIN, ONE * 2), refused=PAGE)
 
@@ -759,7 +795,8 @@ NAMES = [
     long_text_in_each_column, same_prefix, growing_prefixes, dictionary_of_bits, large_dictionary_and_small_pages, large_split_value,
     rows_of_the_file_announced, rows_of_the_group_announced, rows_of_the_group_above_the_limit, rows_of_the_group_negative,
     entries_of_the_chunk_announced, entries_of_the_chunk_above_the_limit, entries_of_the_page_announced, entries_of_both_announced,
-    entries_of_the_page_negative, size_of_the_page_announced, size_of_the_page_negative, offset_of_the_chunk_announced, offset_of_the_chunk_negative,
+    levels_for_all_announced, indexes_for_all_announced, booleans_for_all_announced, texts_for_all_announced, differences_for_all_announced,
+    lengths_for_all_announced, prefixes_for_all_announced, entries_of_the_page_negative, size_of_the_page_announced, size_of_the_page_negative, offset_of_the_chunk_announced, offset_of_the_chunk_negative,
     offset_of_the_dictionary_negative, dictionary_announced, texts_announced, text_above_the_limit, blocks_announced, levels_announced,
     levels_of_version_2_announced, fixed_length_announced, elements_announced, lists_in_lists_announced, key_values_announced, key_value_announced,
     footer_announced, children_announced, structs_of_one_field, structs_in_structs, structs_too_deep, header_of_structs, statistics_of_a_page,
