@@ -97,7 +97,11 @@ impl Told {
 
 /// `rows`: all rows of the table, by a query that is closed again.
 pub fn rows(alloc: Global, cases: &mut Cases) -> R<String> {
-    let store = open_store(cases)?;
+    rows_of(alloc, open_store(cases)?)
+}
+
+/// All rows of the table of a store.
+pub fn rows_of(alloc: Global, store: &mut Store<MemDisk>) -> R<String> {
     let cursor = store.query(alloc, &[], None)?;
     let text = fetched_rows(alloc, store, cursor);
     store.close(alloc, cursor)?;

@@ -9,7 +9,8 @@ use std::alloc::Global;
 /// How deep folders are looked into.
 const DEPTH: usize = 4;
 
-fn refusal_of(fault: Fault) -> Refusal {
+/// What a fault of the disk is refused as.
+pub fn refusal_of(fault: Fault) -> Refusal {
     match fault {
         Fault::Memory => Refusal::Memory,
         _ => Refusal::Device,
@@ -55,17 +56,41 @@ fn put_entries(
     Ok(())
 }
 
-/// `files`: the paths of all files, in byte order.
-pub fn files(alloc: Global, cases: &mut Cases) -> R<String> {
-    let disk = disk_of(cases)?;
+/// The paths of all files and of all folders of a disk, in byte order.
+fn paths_on(alloc: Global, disk: &mut MemDisk) -> R<(Vec<String>, Vec<String>)> {
     let mut files = Vec::new(alloc);
     let mut folders = Vec::new(alloc);
-    folders.push(String::new(alloc))?;
+    let mut level = Vec::new(alloc);
+    level.push(String::new(alloc))?;
     for _ in 0..DEPTH {
-        folders = look_into(alloc, disk, folders.as_slice(), &mut files)?;
+        level = look_into(alloc, disk, level.as_slice(), &mut files)?;
+        for folder in &level {
+            folders.push(folder.clone()?)?;
+        }
     }
     files.sort()?;
+    folders.sort()?;
+    Ok((files, folders))
+}
+
+/// `files`: the paths of all files, in byte order.
+pub fn files(alloc: Global, cases: &mut Cases) -> R<String> {
+    let (files, _) = paths_on(alloc, disk_of(cases)?)?;
     joined(alloc, files.as_slice())
+}
+
+/// `folders`: the paths of all folders, in byte order.
+pub fn folders(alloc: Global, cases: &mut Cases) -> R<String> {
+    let (_, folders) = paths_on(alloc, disk_of(cases)?)?;
+    joined(alloc, folders.as_slice())
+}
+
+/// All files and folders of a disk, as text.
+pub fn all_on(alloc: Global, disk: &mut MemDisk) -> R<String> {
+    let (files, folders) = paths_on(alloc, disk)?;
+    let files = joined(alloc, files.as_slice())?;
+    let folders = joined(alloc, folders.as_slice())?;
+    Ok(format!(in alloc; "{files} in {folders}")?)
 }
 
 /// Texts with a space between them; `none` where there are none.

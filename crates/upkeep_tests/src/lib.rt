@@ -1,9 +1,5 @@
-//! Tests of `upkeep`, over tables of real part files on a disk in memory.
+//! Tests of `upkeep` that no line of `store_cases` can say: what is printed of a table of thousands of groups.
 #![tactic(auto)]
 
 #[cfg(test)]
-mod checked_tables;
-#[cfg(test)]
 mod surveyed_tables;
-#[cfg(test)]
-mod tables;
