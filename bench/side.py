@@ -335,6 +335,22 @@ def pruned(it):
     shutil.rmtree(folder)
 
 
+def large_root(it):
+    """A count of all rows of a table of 1,000 groups of 20 columns, by those who read `_metadata`."""
+    folder, columns = it.file("large_root"), FLAT["20 numbers"]
+    it.pqds("create", folder, it.schema("table.json", pa.schema([pa.field(name, pa.int64(), False) for name in columns])))
+    it.pqds("append", folder, write_lines(it.file("rows.jsonl"), columns, range(1000)), "--group-rows", "1")
+
+    def by_pyarrow():
+        assert ds.parquet_dataset(f"{folder}/_metadata").count_rows(use_threads=False) == 1000
+
+    def by_fastparquet():
+        assert fast.fastparquet.ParquetFile(folder).count() == 1000
+
+    row("count of 1,000 groups of 20 columns", least({"pqds": lambda: it.pqds("count", folder), "pyarrow": lambda: within(by_pyarrow), "fastparquet": lambda: within(by_fastparquet)}))
+    shutil.rmtree(folder)
+
+
 # ---- rewriting ----
 
 def rewritten(it):
@@ -387,5 +403,6 @@ def run(path, room, tell):
     head("questions, rewriting, start")
     one_key(it, tables)
     pruned(it)
+    large_root(it)
     rewritten(it)
     starts(it)
