@@ -284,26 +284,27 @@ def appends(it):
 
 # ---- questions ----
 
-def one_key(it, tables):
-    """The rows of one key of a hundred, of the dataset of a million rows that pqds made: as lines of JSON by the two programs, as
-    a table in memory by the other two."""
+def queried(it, tables, what, wanted, key):
+    """Rows of the dataset of a million rows that pqds made, all or those of one key of a hundred: as lines of JSON by the two
+    programs, as a table in memory by the other two."""
     folder, ours, theirs = tables.folder("pqds"), it.file("ours.jsonl"), it.file("theirs.jsonl")
-    asked = '[["k","==","key 42"]]'
+    asked = ["--filter", json.dumps([["k", "==", key]])] if key else []
+    where = f"WHERE k = '{key}'" if key else ""
     named = f"read_parquet('{folder}/**/*.parquet', hive_partitioning=true, hive_types={{'k': 'VARCHAR'}})"
-    wanted = MILLION // 100
 
     def by_pyarrow():
-        found = ds.parquet_dataset(f"{folder}/_metadata", partitioning=HIVE).to_table(filter=ds.field("k") == "key 42", use_threads=False)
+        found = ds.parquet_dataset(f"{folder}/_metadata", partitioning=HIVE).to_table(filter=ds.field("k") == key if key else None, use_threads=False)
         assert found.num_rows == wanted
 
     def by_fastparquet():
-        assert len(fast.fastparquet.ParquetFile(folder).to_pandas(filters=[("k", "==", "key%2042")])) == wanted
+        filters = [("k", "==", key.replace(" ", "%20"))] if key else []
+        assert len(fast.fastparquet.ParquetFile(folder).to_pandas(filters=filters)) == wanted
 
-    works = {"pqds": lambda: it.pqds("query", folder, "--filter", asked, out=ours),
-             "DuckDB": lambda: it.duckdb(f"COPY (SELECT k, n, t FROM {named} WHERE k = 'key 42') TO '{theirs}' (FORMAT json)"),
+    works = {"pqds": lambda: it.pqds("query", folder, *asked, out=ours),
+             "DuckDB": lambda: it.duckdb(f"COPY (SELECT k, n, t FROM {named} {where}) TO '{theirs}' (FORMAT json)"),
              "pyarrow": lambda: within(by_pyarrow), "fastparquet": lambda: within(by_fastparquet)}
-    row(f"{wanted:,} rows of one key of 100", least(works))
-    same_bytes(it, "one key", [ours, theirs])
+    row(what, least(works))
+    same_bytes(it, what, [ours, theirs])
 
 
 def pruned(it):
@@ -332,6 +333,22 @@ def pruned(it):
         if who in ("pqds", "DuckDB") and int(open(out).read()) != high - low:
             it.tell(f"side, count by {who}: {open(out).read()}")
     row(f"count of {high - low:,} of 10,000,000 rows in {len(glob.glob(f'{folder}/*.parquet'))} groups", least(works, after=after))
+    shutil.rmtree(folder)
+
+
+def large_root(it):
+    """A count of all rows of a table of 1,000 groups of 20 columns, by those who read `_metadata`."""
+    folder, columns = it.file("large_root"), FLAT["20 numbers"]
+    it.pqds("create", folder, it.schema("table.json", pa.schema([pa.field(name, pa.int64(), False) for name in columns])))
+    it.pqds("append", folder, write_lines(it.file("rows.jsonl"), columns, range(1000)), "--group-rows", "1")
+
+    def by_pyarrow():
+        assert ds.parquet_dataset(f"{folder}/_metadata").count_rows(use_threads=False) == 1000
+
+    def by_fastparquet():
+        assert fast.fastparquet.ParquetFile(folder).count() == 1000
+
+    row("count of 1,000 groups of 20 columns", least({"pqds": lambda: it.pqds("count", folder), "pyarrow": lambda: within(by_pyarrow), "fastparquet": lambda: within(by_fastparquet)}))
     shutil.rmtree(folder)
 
 
@@ -385,7 +402,9 @@ def run(path, room, tell):
     both_ways(it)
     tables = appends(it)
     head("questions, rewriting, start")
-    one_key(it, tables)
+    queried(it, tables, f"{MILLION // 100:,} rows of one key of 100", MILLION // 100, "key 42")
+    queried(it, tables, f"all {MILLION:,} rows of 100 keys", MILLION, "")
     pruned(it)
+    large_root(it)
     rewritten(it)
     starts(it)
