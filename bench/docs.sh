@@ -22,7 +22,8 @@ top, copy, words = sys.argv[1], sys.argv[2], sys.argv[3:]
 only_program = "--program" in words
 named = [it for it in words if it != "--program"]
 LONG = {"rt ci", ".ci/run", "bench/gate.sh", "bench/edits.sh", "bench/docs.sh", "bench/crash.sh", "bench/crash.sh --syncs",
-        "bench/allocations.sh", "bench/stops.sh", "bench/locks.sh", "bench/prebuilt.sh", "bench/peers.sh ROOM", "./pqds --prove"}
+        "bench/allocations.sh", "bench/stops.sh", "bench/locks.sh", "bench/prebuilt.sh", "bench/peers.sh ROOM", "bench/peers.sh ROOM PROGRAM side",
+        "bench/peers.sh ROOM PROGRAM sums", "bench/table.sh", "./pqds --prove"}
 CALL = re.compile(r"`((?:\./pqds|rt|bench/\w+\.sh|\.ci/run|\(cd crates/\w+ && rt)(?: [^`]*|\w[^`]*)?)`(?: prints `([^`]*)`)?")
 HELP = re.compile(r"## `pqds ?([\w-]*)`$")
 failed = 0
