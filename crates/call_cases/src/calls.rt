@@ -1,9 +1,10 @@
 //! Calls of the program.
 
+use crate::refusals::refusal_of;
 use crate::screen::Screen;
 use bits::{R, Refusal};
 use commands::Folders;
-use program::{Terminals, refusal_of, work};
+use program::{Terminals, work};
 use std::alloc::Global;
 use std::cell::RefCell;
 use std::fs;

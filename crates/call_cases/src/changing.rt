@@ -1,8 +1,8 @@
 //! What is done to files.
 
+use crate::refusals::refusal_of;
 use bits::{R, Refusal};
 use case_words::{bytes, count, natural, word};
-use program::refusal_of;
 use std::fs::{self, File};
 use std::io::Write;
 

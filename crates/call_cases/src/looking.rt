@@ -1,9 +1,10 @@
 //! What is in files and folders.
 
 use crate::changing::after;
+use crate::refusals::refusal_of;
 use bits::{R, Refusal};
 use case_words::{word, yes_or_no};
-use program::{refusal_of, text_of};
+use program::text_of;
 use std::alloc::Global;
 use std::fs;
 

@@ -5,6 +5,7 @@
 mod calls;
 mod changing;
 mod looking;
+mod refusals;
 mod screen;
 
 use bits::R;
