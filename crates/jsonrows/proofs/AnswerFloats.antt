@@ -180,3 +180,6 @@ answer_whole fs (Refused r) =
 
 pub answer_none : (fs : Fields) (a : Answer) (d : Data) → answer_json fs a ≡ Ok d → has_float d ≡ false
 answer_none fs a d e = subst IsWhole e (answer_whole fs a)
+
+pub group_none_of : (g : GroupInfo) (d : Data) → group_json g ≡ Ok d → has_float d ≡ false
+group_none_of g d e = subst IsWhole e (group_none g)

@@ -34,6 +34,19 @@ pub fn answer_to(alloc: Global, schema: &Schema, answer: &Answer) -> R<String>
     Ok(text)
 }
 
+/// The text of what `groups` tells of one group: a compact JSON object (RFC 8259) of its `bytes`, its `key`, its `number` and its
+/// `rows`, as it stands in the text of that answer.
+///
+/// Refused RowShape for a key with a value that no key column has.
+pub fn group_to(alloc: Global, group: &GroupInfo) -> R<String>
+    ensures stands { IfOk result (λ text. (d : Data) × (group_json group.now ≡ Ok d) × (string_bytes text ≡ compact_text d)) }
+    ensures which { RefusedOnly (λ e. group_json group.now ≡ Err e) result }
+{
+    let shown = group_json(alloc, group)?;
+    let text = shown.to_string(alloc)?;
+    Ok(text)
+}
+
 /// The JSON value of an answer.
 fn answer_json(alloc: Global, fields: &[Field], answer: &Answer) -> R<Json>
     ensures shown { IfOk result (λ shown. answer_json (field_views fields.now) answer.now ≡ Ok (view shown)) }

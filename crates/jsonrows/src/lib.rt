@@ -20,7 +20,7 @@ mod schema_reading;
 mod script_reader;
 mod value_json;
 
-pub use answer_printing::answer_to;
+pub use answer_printing::{answer_to, group_to};
 pub use call_reading::call_from;
 pub use filter_reading::filter_from;
 pub use laws::schemas_read_back;

@@ -39,7 +39,7 @@ impl Group {
     ghost use Rattle.manifest.specs.Written.{IsPartOf};
 
     /// The group of a part file: of this key and number, with the records of the file's own footer, in a table whose files
-    /// have these fields.
+    /// have these fields. It is the caller's duty that a number stands behind this one in 64 bits.
     ///
     /// Of a file that [`footer::write_file`] made of rows of one group it is refused only for memory, and Limit only
     /// where the rows are too much for a file: a name has 2^32 bytes and more. Other bytes are refused as
