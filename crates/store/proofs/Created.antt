@@ -40,7 +40,7 @@ same_keys schema names valid one other are also = one_list schema one other vali
 not_created : (schema : Fields) (names : List (List ℕ)) (o : WriteOptions) (disk : DiskState) (keys : List KeyColumn) → AreNamedKeys schema names keys → (e : Refusal) → IsNotFirst o (empty_table schema keys) disk e → IsNotCreated schema names o disk e
 not_created schema names o disk keys named Exists h = ((keys, named), h)
 not_created schema names o disk keys named Limit h = (keys, named, h.0, h.1)
-not_created schema names o disk keys named Device h = tt
+not_created schema names o disk keys named Device h = (keys, named)
 not_created schema names o disk keys named InDoubt h = ((keys, named), h)
 not_created schema names o disk keys named Memory h = tt
 not_created schema names o disk keys named e h = absurd h

@@ -1,12 +1,12 @@
 -- Where a disk stands after a new table was put, or was to be.
-use Rattle.std.proofs.Common.{◌≡◌, ◌≢◌, ◌⊎◌, ℕ, List, Some, None, Result, Ok, Err, refl, sym, ◌∙◌, ap, subst, arith, inl, inr, ⊎_elim}
+use Rattle.std.proofs.Common.{◌≡◌, ◌≢◌, ◌⊎◌, ◌≤◌, ℕ, List, Some, None, Result, Ok, Err, refl, sym, ◌∙◌, ap, subst, arith, inl, inr, ⊎_elim}
 use Rattle.std.specs.Prelude.{IfErr}
 use Rattle.bits.specs.declared.refusal.Refusal.{Refusal}
 use Rattle.bits.specs.declared.refusal.Refusal.TheVariants.{Limit, Exists, Device, InDoubt, Memory}
 use Rattle.bits.specs.Refusals.{HasCause, RefusedOnly}
 use Rattle.schema.specs.Shape.{Fields}
 use Rattle.schema.specs.Keys.{KeyColumn}
-use Rattle.disk.specs.State.{Image, State as DiskState, content}
+use Rattle.disk.specs.State.{Image, State as DiskState, content, may_leave}
 use Rattle.vault.specs.Views.{LeavesAfter, AllBut, root_path, next_path}
 use Rattle.vault.specs.Ways.{IsClearIn}
 use Rattle.vault.specs.Calls.{HasFailed, LeavesAll, SwapsRoot}
@@ -62,6 +62,7 @@ module _ (schema : Fields) (keys : List KeyColumn) (first : First) (is : IsFirst
       each = λ m c lo hi at.
           let was = swaps.moments.each m c lo hi at in
           ⊎_elim (λ same. inl (same ∙ none was.0 was.1)) (λ put. inr (holds_first c put (λ path place. swaps.clear path (off_place keys apart path place) (room path place) m c lo hi at))) was.2.either;
+      room = λ m c lo hi at path place. swaps.clear path (off_place keys apart path place) (room path place) m c lo hi at;
     }
 
     pub swap_refused : (e : Refusal) → result ≡ Err e → HasNoRoot old → e ≢ InDoubt → HasNoRoot new
@@ -90,28 +91,45 @@ limit_refusal t Limit h over = over refl
 limit_refusal t Memory h over = tt
 limit_refusal t e h over = absurd (cc)
 
+-- ---- a disk that is as it was
+
+pub unmoved : (t : Table) (disk : DiskState) → HasRoom t.keys disk → HasNoRoot disk → LeavesNoneOr t disk disk
+unmoved t disk room none = record {
+  past = record { later = omega arith; history = λ m c l left. left; keeps = λ m c l left. left };
+  each = λ m c lo hi at. inl (none c (now m c lo hi at));
+  room = λ m c lo hi at path place. room path place c (now m c lo hi at);
+}
+  where
+    now : (m : ℕ) (c : Image) → disk.moment ≤ m → m ≤ disk.moment → disk.images m c → may_leave disk c
+    now m c lo hi at = let same : m ≡ disk.moment = omega (arith, lo, hi) in subst (λ (k : ℕ). disk.images k c) same at
+
 -- ---- a disk that is only read before
 
 module _ (old mid : DiskState) (left : LeavesAll old mid) where
   pub none_on : HasNoRoot old → HasNoRoot mid
   none_on none c may = let was = left.moments.each mid.moment c left.moments.later (omega arith) may in was.2 root_path ∙ none was.0 was.1
 
-  pub read_leaves : (t : Table) → HasNoRoot old → LeavesNoneOr t old mid
-  read_leaves t none = record {
+  pub read_leaves : (t : Table) → HasRoom t.keys old → HasNoRoot old → LeavesNoneOr t old mid
+  read_leaves t room none = record {
     past = past_of old mid left.moments;
     each = λ m c lo hi at. let was = left.moments.each m c lo hi at in inl (was.2 root_path ∙ none was.0 was.1);
+    room = λ m c lo hi at path place. left.clear path (room path place) m c lo hi at;
   }
 
   pub read_room : (keys : List KeyColumn) → HasRoom keys old → HasRoom keys mid
   read_room keys room path place c may = left.clear path (room path place) mid.moment c left.moments.later (omega arith) may
 
   module _ (new : DiskState) where
-    pub leaves_on : (t : Table) → HasNoRoot old → LeavesNoneOr t mid new → LeavesNoneOr t old new
-    leaves_on t none then = record {
+    pub leaves_on : (t : Table) → HasRoom t.keys old → HasNoRoot old → LeavesNoneOr t mid new → LeavesNoneOr t old new
+    leaves_on t room none then = record {
       past = past_on old mid new (past_of old mid left.moments) then.past;
       each = λ m c lo hi at. ⊎_elim
-          (λ early. (read_leaves t none).each m c lo early (then.past.history m c early at))
+          (λ early. (read_leaves t room none).each m c lo early (then.past.history m c early at))
           (λ late. then.each m c (omega (arith, late)) hi at)
+          (le_or mid.moment m);
+      room = λ m c lo hi at path place. ⊎_elim
+          (λ early. (read_leaves t room none).room m c lo early (then.past.history m c early at) path place)
+          (λ late. then.room m c (omega (arith, late)) hi at path place)
           (le_or mid.moment m);
     }
 

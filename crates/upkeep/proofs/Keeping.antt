@@ -1,6 +1,6 @@
 -- What is kept in mind while a table is checked.
-use Rattle.std.proofs.Common.{◌≡◌, ◌<◌, ◌≤◌, ◌+◌, ◌-◌, ◌^◌, ◌↔◌, ℕ, zero, suc, List, [], ◌∷◌, length, take, drop, get_or, Some, refl, sym, ap, subst, ◌∙◌, arith, ⊎_elim}
-use Rattle.std.specs.Prelude.{Contains, Option, None, Result, Ok, Err, IfOk, IfErr}
+use Rattle.std.proofs.Common.{◌≡◌, ◌<◌, ◌+◌, ◌↔◌, ℕ, zero, suc, List, [], ◌∷◌, length, take, drop, Some, refl, sym, ap, subst, ◌∙◌, arith, ⊎_elim}
+use Rattle.std.specs.Prelude.{Option, Result, Ok, Err, IfOk, IfErr}
 use Rattle.bits.specs.declared.refusal.Refusal.{Refusal}
 use Rattle.bits.specs.declared.refusal.Refusal.TheVariants.{Device, Memory}
 use Rattle.bits.specs.Refusals.{HasCause, RefusedOnly}
@@ -9,14 +9,14 @@ use Rattle.manifest.specs.Faults.{HasRootFault}
 use Rattle.upkeep.specs.Reading.{IsNotDescribed}
 use Rattle.std.specs.List.{slice_get}
 use Rattle.std.proofs.lemmas.Bool.{cases_lt}
-use Rattle.std.proofs.lemmas.Option.{slice_get-get_or, slice_get_within}
+use Rattle.std.proofs.lemmas.Option.{slice_get-get_or}
 use Rattle.schema.specs.Keys.{KeyColumn}
 use Rattle.disk.specs.State.{Image, State, content}
-use Rattle.vault.specs.Calls.{LeavesAll}
+use Rattle.vault.specs.Calls.{HasFailed, IsDeviceFailure, LeavesAll}
 use Rattle.manifest.specs.Groups.{Group, Root, root_of}
 use Rattle.manifest.specs.Root.{stored_of, RootMeans}
 use Rattle.manifest.specs.Table.{path_of_group}
-use Rattle.upkeep.specs.Strays.{IsStray, AreStrays}
+use Rattle.upkeep.specs.Strays.{AreStrays}
 use Rattle.upkeep.specs.Intact.{HoldsRows, IsNamed, IsHeldIn, IsIntact}
 
 pub strays_are : (image : Image) (ks keys : List KeyColumn) (P Q : List ℕ → Type 0) (paths : List (List ℕ)) → ks ≡ keys → ((q : List ℕ) → P q ↔ Q q) → AreStrays image ks P paths → AreStrays image keys Q paths
@@ -70,3 +70,12 @@ take_short (x ∷ xs) (suc n) lt = ap (λ ys. x ∷ ys) (take_short xs n (omega 
 
 pub whole_read : (whole read : List ℕ) (most : ℕ) → read ≡ take most (drop 0 whole) → length read < most → read ≡ whole
 whole_read whole read most is short = is ∙ take_short whole most (let P : ℕ → Type 0 = λ k. k < most in subst P (ap length is) short)
+
+-- a disk that could not be read has failed
+pub device_failed : (old new : State) (e : Refusal) → HasCause (IsDeviceFailure old new) e → e ≡ Device → HasFailed old new
+device_failed old new e cause same = (subst (λ (f : Refusal). HasCause (IsDeviceFailure old new) f) same cause).1
+
+-- no bytes are refused so
+pub never_of_bytes : {T : Type 0} (P : Type 0) (bytes : List ℕ) (result : Result T Refusal) → RefusedOnly (HasRootFault bytes) result → IfErr result (λ e. e ≡ Device → P)
+never_of_bytes P bytes (Ok x) which = tt
+never_of_bytes P bytes (Err e) which = λ same. absurd (subst (λ (f : Refusal). HasCause (HasRootFault bytes) f) same which)
