@@ -427,7 +427,6 @@ class OfCommand:
     def allowed(self, status, out, said, found):
         """The tables that a run may leave that ended so, or None where it may not end so."""
         command, last = self.command, said.splitlines()[-1:]
-        is_unprinted = any(it.name == "write" and (it.result or 0) < 0 and re.match("1<", it.raw) for it in found or [])
         if status == 0:
             if command.answers and out != command.done:
                 return self.allowed_by_answers(out)
@@ -440,8 +439,8 @@ class OfCommand:
             return command.tables if is_root_written(found) else None
         if "all of it is made, but" in said:
             return command.tables if command.answers else [command.tables[-1]]
-        if is_unprinted or last == []:
-            # The commit may be done, and only what is said of it is not.
+        if last == []:
+            # Nothing could be said: the commit may be done.
             return command.tables
         return [command.tables[0]] if last in (["refused 25 Device"], ["refused 28 Memory"]) else None
 

@@ -10,6 +10,7 @@
 # - With --no-wait a command beside another one is refused 25, after a line that says why, and changes nothing.
 # - A command that is killed while it has the folder leaves it free.
 # - A command says on a terminal what it waits for, and nothing elsewhere.
+# - An append that waits while another folder comes in the place of the dataset's waits for that one, and changes it alone.
 top=$(CDPATH='' cd -- "$(dirname -- "$0")/.." && pwd) || exit 1
 program=${1:-$top/pqds}
 case $program in
@@ -114,6 +115,22 @@ os.close(its)
 said = os.read(terminal, 1000)
 tell("a command says on a terminal what it waits for", said == b"waiting for another command on slow\r\n", said)
 tell("it is done then", waiting.returncode == 0 and has_rows("slow", 4 * ROWS))
+
+new_dataset("place", "many.jsonl")
+new_dataset("next", "more.jsonl")
+query, _ = slow_query("place")
+waiting = begin("append", "place", "more.jsonl")
+time.sleep(2.5)
+os.rename("place", "before")
+os.rename("next", "place")
+later, _ = slow_query("place")
+end(query)
+time.sleep(2.5)
+waits = waiting.poll() is None
+status, rest, err = end(later)
+ended = end(waiting)
+tell("a folder that came in the place is locked", waits and (status, err) == (0, "") and ended == (0, f"done {ROWS}\n", ""), (waits, status, err, ended))
+tell("only that one is changed", has_rows("place", 2 * ROWS) and has_rows("before", ROWS))
 print("all well" if not failed else f"{failed} failed")
 sys.exit(failed > 0)
 PYTHON

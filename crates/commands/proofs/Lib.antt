@@ -1,3 +1,12 @@
 mod Told
 mod Called
 mod Answered
+mod OneByOne
+mod Wanted
+mod Selected
+mod Batched
+mod OkThen
+mod Among
+mod ColumnLeaves
+mod GatheredLines
+mod Counted

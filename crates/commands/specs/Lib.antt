@@ -1,2 +1,4 @@
 pub mod Lines
 pub mod Making
+pub mod Querying
+pub mod inner

@@ -1,5 +1,5 @@
--- The lines of a text as rows and as calls, and the lines that answers have.
-use Rattle.std.specs.Prelude.{◌≡◌, ℕ, List, [], ◌∷◌, ◌++◌, Some, None, Ok}
+-- The lines of a text as rows and as calls, and the lines that are printed of answers and of groups.
+use Rattle.std.specs.Prelude.{◌≡◌, ℕ, List, [], ◌∷◌, ◌++◌, Some, None, Result, Ok}
 use Rattle.serde_json.specs.Data.{Data, Members}
 use Rattle.serde_json.specs.Read.{read}
 use Rattle.serde_json.specs.Written.{compact_text}
@@ -11,9 +11,10 @@ use Rattle.schema.specs.Shape.{Fields}
 use Rattle.rowtext.specs.Reading.{row_of, line_of, members_read}
 use Rattle.table.specs.Calls.{Call}
 use Rattle.table.specs.declared.answer.Answer.{Answer}
+use Rattle.table.specs.declared.answer.GroupInfo.{GroupInfo}
 use Rattle.jsonrows.specs.Calls.{IsCallText, IsRefusedCall}
 use Rattle.jsonrows.specs.Scripts.{IsAfter}
-use Rattle.jsonrows.specs.Answers.{answer_json}
+use Rattle.jsonrows.specs.Answers.{answer_json, group_json}
 
 -- ---- rows
 
@@ -70,10 +71,17 @@ pub record HasFirstFaultOfCalls (fs : Fields) (texts : List (List ℕ)) (e : Ref
 abbrev pub AreRefusedCalls : Fields → List (List ℕ) → Refusal → Type 0
 AreRefusedCalls fs texts e = HasCause (HasFirstFaultOfCalls fs texts) e
 
--- ---- answers
+-- ---- what is printed
 
--- these are the lines of answers over a schema, each with its line feed
+-- these are the lines of some things, each with its line feed: the JSON of what is shown of each
+abbrev pub AreShownLines : {A : Type 0} → (A → Result Data Refusal) → List A → List ℕ → Type 0
+AreShownLines shown [] text = text ≡ []
+AreShownLines shown (x ∷ xs) text = (d : Data) × (rest : List ℕ) × (shown x ≡ Ok d) × (text ≡ (compact_text d ++ 10 ∷ []) ++ rest) × AreShownLines shown xs rest
+
+-- the lines of answers over a schema
 abbrev pub AreAnswerLines : Fields → List Answer → List ℕ → Type 0
-AreAnswerLines fs [] text = text ≡ []
-AreAnswerLines fs (answer ∷ answers) text =
-    (d : Data) × (rest : List ℕ) × (answer_json fs answer ≡ Ok d) × (text ≡ (compact_text d ++ 10 ∷ []) ++ rest) × AreAnswerLines fs answers rest
+AreAnswerLines fs answers text = AreShownLines (answer_json fs) answers text
+
+-- the lines of groups, each what the store tells of it
+abbrev pub AreGroupLines : List GroupInfo → List ℕ → Type 0
+AreGroupLines groups text = AreShownLines group_json groups text

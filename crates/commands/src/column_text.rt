@@ -1,6 +1,6 @@
 //! A column as text.
 
-use crate::printing::leaves_at;
+use crate::printing::columns_at;
 use bits::R;
 use jsonrows::schema_to;
 use schema::Schema;
@@ -8,11 +8,9 @@ use std::alloc::Global;
 
 /// The column at this place of a schema, as the object that it is in the JSON of a schema; none where there is none.
 pub fn column_text(alloc: Global, schema: &Schema, place: usize) -> R<Option<String>> {
-    let leaves = leaves_at(alloc, schema, &[place])?;
-    if leaves.is_empty() {
+    let Some(column) = columns_at(alloc, schema, &[place])? else {
         return Ok(None);
-    }
-    let column = schema.cut(alloc, leaves.as_slice())?;
+    };
     let text = schema_to(alloc, &column)?;
     let object = text.as_str().trim_start_matches('[').trim_end_matches(']');
     Ok(Some(String::from_str(alloc, object)?))

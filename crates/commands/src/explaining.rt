@@ -3,18 +3,22 @@
 use crate::filter_reason::filter_fault;
 use crate::import_reason::import_reason;
 use crate::key_reason::{keys_reason, rows_reason};
-use crate::part_reason::{damaged_part, is_of_bytes};
+use crate::part_reason::{damaged_part, is_of_bytes, unread_part, unread_part_of};
 use crate::reason::Reason;
 use crate::row_lines::{line_without_row, rows_of};
 use crate::running::line_without_call;
-use crate::texts::text_of;
+use crate::texts::{line_without_text, text_of};
 use bits::{R, Refusal};
 use dataset_words::{Change, Question};
 use disk::Disk;
+use jsonrows::schema_from;
+use manifest::Manifest;
+use reports::of_schema;
 use schema::Schema;
 use std::alloc::Global;
 use std::io;
 use store::Store;
+use vault::Vault;
 
 /// Why no table is made of a schema and the names of its keys, where there is more to say than the refusal.
 pub fn table_reason(
@@ -25,10 +29,28 @@ pub fn table_reason(
 ) -> R<Option<Reason>> {
     match refusal {
         Refusal::Key => keys_reason(alloc, schema, names),
-        Refusal::Exists => Ok(Some(Reason::HasTable)),
+        Refusal::Exists => Ok(Some(Reason::HasRoot)),
         Refusal::InDoubt => Ok(Some(Reason::InDoubt("count"))),
         _ => Ok(None),
     }
+}
+
+/// What is wrong with the schema of a file, if something is.
+pub fn schema_reason(alloc: Global, file: &str, bytes: &[u8]) -> R<Option<Reason>> {
+    let Ok(text) = text_of(bytes) else {
+        return Ok(line_without_text(bytes).map(|line| Reason::Line(line)));
+    };
+    let Err(refusal) = schema_from(alloc, text) else {
+        return Ok(None);
+    };
+    let misfit = of_schema(alloc, text, &refusal)?;
+    let (path, what) = (&misfit.path, &misfit.what);
+    let told = if path.is_empty() {
+        format!(in alloc; "{file}: {what}")?
+    } else {
+        format!(in alloc; "{file}: {path}: {what}")?
+    };
+    Ok(Some(Reason::Misfit(told)))
 }
 
 /// Why a question is refused, in the same way. Where a part file cannot be read, the files before it are read once more.
@@ -38,8 +60,8 @@ pub fn question_reason<D: Disk>(
     question: &Question<'_>,
     refusal: &Refusal,
 ) -> R<Option<Reason>> {
-    if is_of_bytes(refusal) {
-        return part_reason(alloc, store);
+    if is_of_parts(refusal) {
+        return part_reason(alloc, store, refusal);
     }
     match question {
         Question::Query { filter, columns } => {
@@ -65,15 +87,19 @@ pub fn change_reason<D: Disk>(
         return Ok(Some(Reason::InDoubt(shown_by(change))));
     }
     match change {
-        Change::Append { .. } => append_reason(alloc, store, text_of(bytes)?, refusal),
+        Change::Append { .. } => match text_of(bytes) {
+            Ok(text) => append_reason(alloc, store, text, refusal),
+            Err(_) => Ok(line_without_text(bytes).map(|line| Reason::Line(line))),
+        },
+        Change::AddColumn { schema } => schema_reason(alloc, schema, bytes),
         Change::Import { .. } => {
             import_reason(alloc, store.schema(), store.keys(), bytes, refusal)
         }
-        Change::Remove { filter } if !is_of_bytes(refusal) => {
+        Change::Remove { filter } if !is_of_parts(refusal) => {
             filter_reason(alloc, store.schema(), Some(filter))
         }
         Change::Remove { .. } | Change::Rewrite { .. } | Change::RewriteSmall { .. }
-            if is_of_bytes(refusal) => { part_reason(alloc, store) }
+            if is_of_parts(refusal) => { part_reason(alloc, store, refusal) }
         _ => Ok(None),
     }
 }
@@ -82,9 +108,12 @@ pub fn change_reason<D: Disk>(
 pub fn script_reason<D: Disk>(
     alloc: Global,
     store: &Store<D>,
-    text: &str,
+    bytes: &[u8],
     refusal: &Refusal,
 ) -> Option<Reason> {
+    let Ok(text) = text_of(bytes) else {
+        return line_without_text(bytes).map(|line| Reason::Line(line));
+    };
     match refusal {
         Refusal::Script | Refusal::RowShape => {
             line_without_call(alloc, store.schema(), text).map(|line| Reason::Line(line))
@@ -141,8 +170,35 @@ fn columns_reason(alloc: Global, schema: &Schema, names: &[&str]) -> R<Option<Re
     Ok(None)
 }
 
-/// The first part file that cannot be read.
-fn part_reason<D: Disk>(alloc: Global, store: &mut Store<D>) -> R<Option<Reason>> {
+/// Whether a refusal can be one of a part file: of its bytes, or of the disk.
+fn is_of_parts(refusal: &Refusal) -> bool {
+    is_of_bytes(refusal) || *refusal == Refusal::Device
+}
+
+/// The first part file that is damaged; or where the disk failed, the first of which it gives nothing, if there is one.
+fn part_reason<D: Disk>(
+    alloc: Global,
+    store: &mut Store<D>,
+    refusal: &Refusal,
+) -> R<Option<Reason>> {
+    if *refusal == Refusal::Device {
+        let path = unread_part_of(alloc, store)?;
+        return Ok(path.map(|path| Reason::Unread(path)));
+    }
     let path = damaged_part(alloc, store)?;
     Ok(path.map(|path| Reason::Part(path)))
+}
+
+/// Why a table is not checked: the first part file of which the disk gives nothing, where the disk failed.
+pub fn check_reason<D: Disk>(
+    alloc: Global,
+    vault: &mut Vault<D>,
+    table: &Manifest,
+    refusal: &Refusal,
+) -> R<Option<Reason>> {
+    if *refusal != Refusal::Device {
+        return Ok(None);
+    }
+    let path = unread_part(alloc, vault, table)?;
+    Ok(path.map(|path| Reason::Unread(path)))
 }

@@ -27,18 +27,31 @@ pub fn filter_fault(alloc: Global, schema: &Schema, text: &str) -> R<Option<Filt
     let Json::Array(items) = &json else {
         return Ok(Some(FilterFault::NoArray));
     };
-    match items.as_slice() {
-        [Json::Array(first), ..] if !is_triple(first.as_slice()) => {
-            first_fault_of_ands(alloc, schema, items.as_slice())
-        }
-        terms => first_fault(alloc, schema, terms),
+    let items = items.as_slice();
+    match (items.iter().any(is_list), items.iter().any(is_triple)) {
+        (true, true) => Ok(Some(FilterFault::Mixed)),
+        (true, false) => first_fault_of_ands(alloc, schema, items),
+        (false, _) => first_fault(alloc, schema, items),
     }
 }
 
-/// Whether these are a column, an operator and a value.
-fn is_triple(members: &[Json]) -> bool {
-    match members {
-        [_, operator, _] => matches!(operator, Json::String(_)),
+/// Whether this is a list of a column, an operator and a value.
+fn is_triple(json: &Json) -> bool {
+    match json {
+        Json::Array(members) => matches!(members.as_slice(), [_, Json::String(_), _]),
+        _ => false,
+    }
+}
+
+/// Whether this is a list of lists that is no triple, as a list of terms is.
+fn is_list(json: &Json) -> bool {
+    match json {
+        Json::Array(members) => {
+            !is_triple(json)
+                && members
+                    .iter()
+                    .all(|member| matches!(member, Json::Array(_)))
+        }
         _ => false,
     }
 }
@@ -60,7 +73,12 @@ fn first_fault_of_ands(alloc: Global, schema: &Schema, ands: &[Json]) -> R<Optio
 /// What is wrong with the first of some terms that has a fault, if one has.
 fn first_fault(alloc: Global, schema: &Schema, terms: &[Json]) -> R<Option<FilterFault>> {
     for term in terms {
-        if let Some(fault) = term_fault(alloc, schema, term)? {
+        let fault = if is_triple(term) {
+            term_fault(alloc, schema, term)?
+        } else {
+            Some(TermFault::Form)
+        };
+        if let Some(fault) = fault {
             return Ok(Some(FilterFault::Term {
                 term: shown(alloc, term)?,
                 fault,

@@ -1,5 +1,7 @@
 //! A dataset in a folder of the host.
 
+ghost use Rattle.std.specs.Prelude.{◌≡◌, ◌⊎◌};
+
 use crate::tally::Tally;
 use crate::watched::Watched;
 use bits::{R, Refusal};
@@ -10,7 +12,9 @@ use std::io::{self, ErrorKind, Input, Read, Write};
 use std::rt::Files;
 
 /// Why a file or a writer could not be used: Memory where a growth was refused, else Device.
-pub fn refusal_of(error: io::Error) -> Refusal {
+pub fn refusal_of(error: io::Error) -> Refusal
+    ensures which { (result ≡ Refusal.Memory) ⊎ (result ≡ Refusal.Device) }
+{
     match error.kind() {
         ErrorKind::OutOfMemory => Refusal::Memory,
         _ => Refusal::Device,

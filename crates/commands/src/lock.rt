@@ -5,8 +5,9 @@ ghost use Rattle.std.specs.Prelude.{◌≡◌, false, OnOk};
 use crate::folder::{is_folder, refusal_of};
 use crate::reason::Reason;
 use bits::{R, Refusal};
-use std::fs::{File, TryLockError};
+use std::fs::{self, File, OpenFile, TryLockError};
 use std::io::{self, Write};
+use std::os::unix::fs::MetadataExt;
 use std::rt::{Clock, Files};
 use std::thread;
 use std::time::Duration;
@@ -62,10 +63,11 @@ pub struct Patience {
 /// The time after which a command says that it waits.
 const SILENT_SECONDS: u64 = 1;
 
-/// Opens a folder and locks it; the lock is held until what is returned goes.
+/// Opens a folder and locks it; the lock is held until what is returned goes. Where another folder has come in its place by
+/// then, that one is opened and locked.
 ///
-/// Refused Device where it is no folder or cannot be opened; where it cannot be locked; and where another command has it and there is no
-/// patience. Of the last two `why` says which.
+/// Refused Device where it is no folder or cannot be opened; where it cannot be locked; and where another command has it and
+/// there is no patience, or it is exchanged again and again. Of the last three `why` says which.
 pub fn locked<F: Files + Clock, E: Write>(
     rt: &F,
     folder: &str,
@@ -78,13 +80,36 @@ where
     F::File: Lock,
     ensures quiet { patience.shows ≡ false → E.contents err.new ≡ E.contents err.old }
 {
+    if let Some(opened) = locked_once(rt, folder, access, patience, err, why)? {
+        return Ok(opened);
+    }
+    if let Some(opened) = locked_once(rt, folder, access, patience, err, why)? {
+        return Ok(opened);
+    }
+    *why = Some(Reason::InUse);
+    Err(Refusal::Device)
+}
+
+/// The same; none where another folder has come in its place.
+fn locked_once<F: Files + Clock, E: Write>(
+    rt: &F,
+    folder: &str,
+    access: Access,
+    patience: Patience,
+    err: &mut E,
+    why: &mut Option<Reason>,
+) -> R<Option<F::File>>
+where
+    F::File: Lock,
+    ensures quiet { patience.shows ≡ false → E.contents err.new ≡ E.contents err.old }
+{
     // A pipe of this name would be waited for.
     if !is_folder(rt, folder) {
         return Err(Refusal::Device);
     }
     let opened = File::open(rt, folder).map_err(refusal_of)?;
     match take(rt, &opened, folder, access, patience, err) {
-        Ok(true) => Ok(opened),
+        Ok(true) => Ok(is_at(rt, &opened, folder).then_some(opened)),
         Ok(false) => {
             *why = Some(Reason::InUse);
             Err(Refusal::Device)
@@ -93,6 +118,14 @@ where
             *why = Some(Reason::NoLocks);
             Err(Refusal::Device)
         }
+    }
+}
+
+/// Whether what is open is what stands at a path.
+fn is_at<F: Files>(rt: &F, opened: &F::File, path: &str) -> bool {
+    match (opened.metadata(), fs::metadata(rt, path)) {
+        (Ok(own), Ok(there)) => own.dev() == there.dev() && own.ino() == there.ino(),
+        _ => false,
     }
 }
 

@@ -1,6 +1,13 @@
 //! Commands that look at a dataset and do not open it: nothing is changed, and nothing that a stop left behind is removed.
 
-ghost use Rattle.std.specs.Prelude.{◌≡◌, false};
+ghost use Rattle.std.specs.Prelude.{◌≡◌, ◌++◌, [], List, false, codes, decimal, length, OnOk};
+ghost use Rattle.std.specs.Io.KnownBytes.{Appends};
+ghost use Rattle.std.specs.Str.Lines.{lines};
+ghost use Rattle.schema.specs.Values.{ValueTrees};
+ghost use Rattle.manifest.specs.Groups.{root_of};
+ghost use Rattle.upkeep.specs.Intact.{IsIntact};
+ghost use Rattle.upkeep.specs.Reading.{Looks};
+ghost use Rattle.commands.specs.Lines.{AreRowTexts};
 
 use crate::key_reason::rows_reason;
 use crate::printing::write_text;
@@ -25,7 +32,9 @@ pub fn print_survey<D: Disk, W: Write>(
     table: &Manifest,
     min_rows: u64,
     out: &mut W,
-) -> R<()> {
+) -> R<()>
+    ensures effect { Looks (length (root_of table.now).groups) (D.state vault.old.disk) (D.state vault.new.disk) }
+{
     let survey = survey_of(alloc, vault, table, min_rows)?;
     let text = text_of_survey(alloc, &survey)?;
     write_text(text.as_slice(), out)
@@ -76,7 +85,10 @@ pub fn print_check<D: Disk, W: Write, S: Write + Drop>(
     table: &Manifest,
     checking: &mut Checking<S>,
     out: &mut W,
-) -> R<()> {
+) -> R<()>
+    ensures intact { (D.state vault.old.disk).honest → OnOk result (IsIntact (D.state vault.old.disk).seen (root_of table.now)) }
+    ensures effect { Looks (length (root_of table.now).groups) (D.state vault.old.disk) (D.state vault.new.disk) }
+{
     let checked = check(alloc, vault, table, checking);
     checking.progress.clear(&mut checking.screen);
     let checked = checked?;
@@ -86,11 +98,14 @@ pub fn print_check<D: Disk, W: Write, S: Write + Drop>(
 }
 
 /// Refused as the first of these findings counts; Ok where there are none.
-fn first_refusal(findings: Vec<Finding>) -> R<()> {
-    for finding in findings {
-        return Err(finding.damage.into_refusal());
+fn first_refusal(findings: Vec<Finding>) -> R<()>
+    ensures none { OnOk result (findings.items ≡ []) }
+{
+    let mut left = findings.into_iter();
+    match left.next() {
+        Some(finding) => Err(finding.damage.into_refusal()),
+        None => Ok(()),
     }
-    Ok(())
 }
 
 /// Prints `ok N rows`, N the number of lines, where each line of a text is a row that a table takes.
@@ -107,6 +122,8 @@ pub fn print_rows_fit<W: Write, E: Write>(
     shows: bool,
     why: &mut Option<Reason>,
 ) -> R<()>
+    ensures fit { OnOk result ((rows : List ValueTrees) × AreRowTexts (root_of table.now).schema (lines text.now) rows
+        × Appends (W.contents out.old) (W.contents out.new) (codes "ok " ++ decimal (length rows) ++ codes " rows\n")) }
     ensures quiet { shows ≡ false → E.contents err.new ≡ E.contents err.old }
 {
     let rows = match rows_of(alloc, table.schema(), text, err, shows) {

@@ -2,22 +2,23 @@
 
 ghost use Rattle.std.specs.Prelude.{◌≡◌, false, OnOk};
 
-use crate::explaining::table_reason;
+use crate::explaining::{check_reason, schema_reason, table_reason};
 use crate::folder::{bytes_of, disk_of, is_folder, make_folder, refusal_of};
 use crate::lock::{Access, Lock, Patience, locked};
 use crate::looking::{Checking, print_check, print_rows_fit, print_survey};
 use crate::part_reason::is_of_bytes;
-use crate::printing::{print_done, room_for_done};
+use crate::printing::print_done;
 use crate::querying::print_schema_of;
 use crate::reason::{Reason, print_reason};
 use crate::tally::Tally;
 use crate::tasks::{ask, found, make_change, run};
-use crate::texts::{owned, text_of};
+use crate::texts::{line_without_text, owned, text_of};
 use crate::watched::Watched;
 use bits::{R, Refusal};
 use dataset_words::{Call, Change, Datasets, Look, Question, Task};
-use disk::HostDisk;
+use disk::{Disk, HostDisk};
 use jsonrows::schema_from;
+use manifest::Manifest;
 use partition::key_columns;
 use reports::Terminals;
 use schema::Schema;
@@ -26,7 +27,7 @@ use std::fs;
 use std::io::{Input, Write};
 use std::rt::{Clock, Files};
 use store::Store;
-use upkeep::described;
+use upkeep::{described, leftovers};
 use vault::Vault;
 
 /// Datasets in folders of the host.
@@ -44,6 +45,9 @@ impl<F: Files + Input + Clock + Clone + Drop, S: Write + Clone + Drop, W: Write,
 where
     F::File: Lock,
 {
+    // A real folder keeps no model of a disk for certain, so that nothing is said of what it gives.
+    ghost prints = { λ folders call old new. Unit {0} };
+
     /// The file that a call names is read first. Then the folder is locked, the dataset is opened, the JSON is looked at,
     /// and the call is made; `create` looks at its JSON before it makes the folder. Refused Device where a file, the folder,
     /// its lock or the output cannot be used, Script for bytes that are no text, and as the store and the readers of JSON
@@ -168,7 +172,14 @@ where
         ensures quiet { self.now.terminals.err ≡ false → E.contents err.new ≡ E.contents err.old }
     {
         let alloc = self.alloc;
-        let schema = schema_from(alloc, text_of(bytes)?)?;
+        let schema = match schema_in(alloc, bytes) {
+            Ok(schema) => schema,
+            Err(refusal) => {
+                let file = self.named_file().unwrap_or("");
+                *why = found(schema_reason(alloc, file, bytes));
+                return Err(refusal);
+            }
+        };
         let keys = owned(alloc, keys)?;
         if let Err(refusal) = key_columns(alloc, &schema, keys.as_slice()) {
             *why = found(table_reason(alloc, &schema, keys.as_slice(), &refusal));
@@ -177,7 +188,7 @@ where
         let is_new = make_folder(self.rt, alloc, self.call.folder)?;
         let lock = self.lock(Access::Writes, err, why);
         let made = match &lock {
-            Ok(_) => self.make_table_in_folder(&schema, keys.as_slice()),
+            Ok(_) => self.make_table_in_folder(&schema, keys.as_slice(), why),
             Err(_) => Err(Refusal::Device),
         };
         if is_new && made.is_err() {
@@ -185,19 +196,29 @@ where
             let _ = fs::remove_dir(self.rt, self.call.folder);
         }
         drop(lock?);
-        if let Err(refusal) = &made {
-            *why = found(table_reason(alloc, &schema, keys.as_slice(), refusal));
-        }
         made
     }
 
-    /// Makes a table in the folder, which is there.
-    fn make_table_in_folder(&self, schema: &Schema, keys: &[String]) -> R<()> {
-        let schema = Schema::new(self.alloc, schema.elements())?;
-        let disk = self.disk(false)?;
-        match store::create(self.alloc, disk, schema, keys, self.call.options) {
+    /// Makes a table in the folder, which is there. Refused Exists also where part files are in it that a new table would
+    /// remove.
+    fn make_table_in_folder(
+        &self,
+        schema: &Schema,
+        keys: &[String],
+        why: &mut Option<Reason>,
+    ) -> R<()> {
+        let mut vault = Vault::start(self.disk(false)?);
+        if let Some(path) = loose_part(self.alloc, &mut vault, schema, keys)? {
+            *why = Some(Reason::LoosePart(path));
+            return Err(Refusal::Exists);
+        }
+        let own = Schema::new(self.alloc, schema.elements())?;
+        match store::create(self.alloc, vault.into_disk(), own, keys, self.call.options) {
             Ok(_) => Ok(()),
-            Err((_, refusal)) => Err(refusal),
+            Err((_, refusal)) => {
+                *why = found(table_reason(self.alloc, schema, keys, &refusal));
+                Err(refusal)
+            }
         }
     }
 
@@ -233,11 +254,19 @@ where
             Look::Files => {
                 let screen = self.screen.clone()?;
                 let mut checking = Checking::new(alloc, &table, screen, shows);
-                print_check(alloc, &mut vault, &table, &mut checking, out)
+                let checked = print_check(alloc, &mut vault, &table, &mut checking, out);
+                if let Err(refusal) = &checked {
+                    *why = found(check_reason(alloc, &mut vault, &table, refusal));
+                }
+                checked
             }
-            Look::Rows { rows } => {
-                print_rows_fit(alloc, &table, rows, text_of(bytes)?, out, err, shows, why)
-            }
+            Look::Rows { rows } => match text_of(bytes) {
+                Ok(text) => print_rows_fit(alloc, &table, rows, text, out, err, shows, why),
+                Err(refusal) => {
+                    *why = line_without_text(bytes).map(|line| Reason::Line(line));
+                    Err(refusal)
+                }
+            },
         }
     }
 
@@ -260,15 +289,14 @@ where
                 ask(alloc, &mut store, question, out, err, shows, why)
             }
             Task::Change(change) => {
-                let mut room = room_for_done(alloc)?;
                 let done = make_change(alloc, &mut store, change, bytes, err, terminals.err, why);
                 let mut disk = store.into_disk();
                 disk.clear();
-                let printed = print_done(&mut room, done?, out);
-                if printed.is_err() {
+                let told = tell_done(done?, out);
+                if told.is_err() {
                     *why = Some(Reason::Unprinted);
                 }
-                printed
+                told
             }
             Task::Run { .. } => run(alloc, &mut store, bytes, out, why),
         }
@@ -291,6 +319,35 @@ where
             }
         }
     }
+}
+
+/// Prints `done N`, and passes all that was printed on. Refused Device where that cannot be done.
+fn tell_done<W: Write>(rows: u64, out: &mut W) -> R<()> {
+    print_done(rows, out)?;
+    out.flush().map_err(refusal_of)
+}
+
+/// The schema that the text of a file is.
+fn schema_in(alloc: Global, bytes: &[u8]) -> R<Schema> {
+    schema_from(alloc, text_of(bytes)?)
+}
+
+/// A part file in a folder that a table of these keys would be made in: it would remove it. None where there is none, or a root
+/// is there.
+fn loose_part<D: Disk>(
+    alloc: Global,
+    vault: &mut Vault<D>,
+    schema: &Schema,
+    names: &[String],
+) -> R<Option<String>> {
+    if vault.root(alloc)?.is_some() {
+        return Ok(None);
+    }
+    let schema = Schema::new(alloc, schema.elements())?;
+    let keys = key_columns(alloc, &schema, names)?;
+    let table = Manifest::new(alloc, schema, keys)?;
+    let mut paths = leftovers(alloc, vault, &table)?;
+    Ok(paths.pop())
 }
 
 /// Why no table is described, where there is more to say than the refusal.

@@ -3,9 +3,12 @@
 use bits::{R, Refusal};
 use disk::Disk;
 use footer::{MOST_BYTES_OF_FILE, read_file};
+use manifest::Manifest;
 use partition::part_path;
+use schema::{Key, KeyColumn};
 use std::alloc::Global;
 use store::Store;
+use vault::Vault;
 
 /// Whether a refusal is one of the bytes of a file.
 pub fn is_of_bytes(refusal: &Refusal) -> bool {
@@ -52,4 +55,61 @@ fn is_whole<D: Disk>(alloc: Global, store: &mut Store<D>, path: &str, rows: u64)
         Err(Refusal::Memory) => Err(Refusal::Memory),
         Err(_) => Ok(false),
     }
+}
+
+/// The path of the first part file of a table, in its order, of which the disk gives nothing; none where there is none, or
+/// the disk did not fail. All files before it are read.
+pub fn unread_part<D: Disk>(
+    alloc: Global,
+    vault: &mut Vault<D>,
+    table: &Manifest,
+) -> R<Option<String>> {
+    if vault.disk().failures() == 0 {
+        return Ok(None);
+    }
+    for place in 0..table.groups().len() {
+        let Some(group) = table.groups().group_at(place) else {
+            continue;
+        };
+        let path = path_if_unread(alloc, vault, table.keys(), &group.key, group.number)?;
+        if path.is_some() {
+            return Ok(path);
+        }
+    }
+    Ok(None)
+}
+
+/// The same of the groups of a store.
+pub fn unread_part_of<D: Disk>(alloc: Global, store: &mut Store<D>) -> R<Option<String>> {
+    if store.vault.disk().failures() == 0 {
+        return Ok(None);
+    }
+    let groups = store.groups(alloc)?;
+    for group in groups.iter() {
+        let path = part_path(alloc, store.keys(), &group.key, group.number)?;
+        if is_unread(alloc, &mut store.vault, path.as_str()) {
+            return Ok(Some(path));
+        }
+    }
+    Ok(None)
+}
+
+/// The path of the part file of a group, where the disk gives nothing of it.
+fn path_if_unread<D: Disk>(
+    alloc: Global,
+    vault: &mut Vault<D>,
+    keys: &[KeyColumn],
+    key: &Key,
+    number: u64,
+) -> R<Option<String>> {
+    let path = part_path(alloc, keys, key, number)?;
+    Ok(is_unread(alloc, vault, path.as_str()).then_some(path))
+}
+
+/// Whether the disk fails where a file is read.
+fn is_unread<D: Disk>(alloc: Global, vault: &mut Vault<D>, path: &str) -> bool {
+    matches!(
+        vault.get_range(alloc, path, 0, MOST_BYTES_OF_FILE),
+        Err(Refusal::Device)
+    )
 }

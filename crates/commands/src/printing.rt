@@ -1,26 +1,29 @@
 //! What the commands print.
 
-ghost use Rattle.std.specs.Prelude.{◌≡◌, ◌∷◌, [], ◌++◌, Ok, codes, decimal, OnOk};
+ghost use Rattle.std.specs.Prelude.{◌≡◌, ◌∷◌, [], ◌++◌, ℕ, List, Option, Ok, codes, decimal, map, IfOk, OnOk};
 ghost use Rattle.std.specs.Io.KnownBytes.{Appends};
 ghost use Rattle.serde_json.specs.Data.{Data, Items, array};
 ghost use Rattle.serde_json.specs.Written.{compact_text};
-ghost use Rattle.jsonrows.specs.Answers.{answer_json};
+ghost use Rattle.bits.specs.Refusals.{RefusedOnly, RefusedMemoryOnly};
+ghost use Rattle.bits.specs.declared.refusal.Refusal.TheVariants.{Device};
+ghost use Rattle.schema.specs.Values.{ValueTrees};
+ghost use Rattle.schema.specs.Shape.{Fields, no_fields};
+ghost use Rattle.schema.specs.Fits.{RowsFit};
+ghost use Rattle.schema.specs.Views.{leaf_view, rows_view};
+ghost use Rattle.table.specs.Views.{batch_view};
+ghost use Rattle.jsonrows.specs.Answers.{answer_json, group_json};
 ghost use Rattle.jsonrows.specs.SchemaPrinted.{PrintsFields};
+ghost use Rattle.commands.specs.Querying.{fields_in, fields_at, row_lines, batch_lines};
+ghost use Rattle.commands.specs.inner.Gathering.{is_at, leaves_among, AreGathered};
 
 use crate::folder::refusal_of;
-use bits::{R, Refusal};
+use bits::R;
 use itoa::Buffer;
-use jsonrows::{RowPlan, RowText, answer_to, schema_to};
-use schema::{Leaf, Schema, Value};
-use serde::Serialize;
-use serde_json::{Number, Value as Json};
-use simdutf8::basic::from_utf8;
+use jsonrows::{RowPlan, RowText, answer_to, group_to, schema_to};
+use schema::{Leaf, Row, Schema};
 use std::alloc::Global;
 use std::io::Write;
 use table::{Answer, Batch, GroupInfo};
-
-/// How many bytes the line `done N` has at most.
-const MOST_DONE: usize = 26;
 
 /// How many bytes of lines are gathered before they are written.
 const GATHERED_BYTES: usize = 65_536;
@@ -28,26 +31,21 @@ const GATHERED_BYTES: usize = 65_536;
 /// Writes all of a text. Refused Device where it cannot be written.
 pub fn write_text<W: Write>(text: &[u8], out: &mut W) -> R<()>
     ensures written { OnOk result (Appends (W.contents out.old) (W.contents out.new) text.now) }
+    ensures which { RefusedOnly (λ e. e ≡ Device) result }
 {
     out.write_all(text).map_err(refusal_of)
 }
 
-/// Room for the line `done N`, which [`print_done`] takes. It is asked for before a change is made: for want of it no change
-/// is refused after it was made.
-pub fn room_for_done(alloc: Global) -> R<Vec<u8>> {
-    Ok(Vec::with_capacity(alloc, MOST_DONE)?)
-}
-
-/// Prints `done N`, a line, which is gathered in this room. Refused Device where it cannot be written.
-pub fn print_done<W: Write>(room: &mut Vec<u8>, rows: u64, out: &mut W) -> R<()>
+/// Prints `done N`, a line, and takes no memory of its own: for want of it no change is refused after it was made. Refused
+/// Device where it cannot be written.
+pub fn print_done<W: Write>(rows: u64, out: &mut W) -> R<()>
     ensures written { OnOk result (Appends (W.contents out.old) (W.contents out.new) (codes "done " ++ decimal rows ++ codes "\n")) }
+    ensures which { RefusedOnly (λ e. e ≡ Device) result }
 {
     let mut digits = Buffer::new();
-    room.clear();
-    room.extend_from_slice(b"done ")?;
-    room.extend_from_slice(digits.format(rows).as_bytes())?;
-    room.push(b'\n')?;
-    write_text(room.as_slice(), out)
+    write_text(b"done ", out)?;
+    write_text(digits.format(rows).as_bytes(), out)?;
+    write_text(b"\n", out)
 }
 
 /// Prints a number, a line. Refused Device where it cannot be written.
@@ -78,92 +76,123 @@ pub fn print_columns<W: Write>(alloc: Global, schema: &Schema, out: &mut W) -> R
     write_text(text.as_bytes(), out)
 }
 
+/// Prints the rows of a batch, a line each, as objects of the columns at its places. Refused Device where they cannot be
+/// written.
+pub fn print_batch<W: Write>(alloc: Global, schema: &Schema, batch: &Batch, out: &mut W) -> R<()>
+    ensures printed { RowsFit (fields_at batch.now.places.items 0 schema.now) (rows_view batch.now.rows.items)
+        → OnOk result (Appends (W.contents out.old) (W.contents out.new) (batch_lines schema.now (batch_view batch.now))) }
+    ensures which { RefusedOnly (λ e. e ≡ Device) result }
+{
+    print_rows_at(
+        alloc,
+        schema,
+        batch.places.as_slice(),
+        batch.rows.as_slice(),
+        out,
+    )
+}
+
 /// Whether the leaf is of a column at one of these places.
-fn is_at(leaf: &Leaf, places: &[usize]) -> bool {
+fn is_at(leaf: &Leaf, places: &[usize]) -> bool
+    ensures { result ≡ is_at places.now (leaf_view leaf.now) }
+{
     match leaf.steps.first() {
         Some(step) => places.contains(&step.place),
         None => false,
     }
 }
 
-/// The leaves of the columns at these places of a schema.
-pub fn leaves_at(alloc: Global, schema: &Schema, places: &[usize]) -> R<Vec<usize>> {
-    let mut leaves = Vec::new(alloc);
-    for (index, leaf) in schema.leaves().iter().enumerate() {
-        if is_at(leaf, places) {
-            leaves.push(index)?;
-        }
+/// The columns at these places of a schema, in its order, as a schema; none where there are no such columns. It fails only
+/// when out of memory.
+pub fn columns_at(alloc: Global, schema: &Schema, places: &[usize]) -> R<Option<Schema>>
+    ensures columns { IfOk result (λ columns. fields_in columns ≡ fields_at places.now 0 schema.now) }
+    ensures which { RefusedMemoryOnly result }
+{
+    let leaves = leaves_among(alloc, schema.leaves(), places)?;
+    if leaves.is_empty() {
+        return Ok(None);
     }
-    Ok(leaves)
+    let columns = schema.cut(alloc, leaves.as_slice())?;
+    Ok(Some(columns))
 }
 
-/// Prints the rows of a batch, a line each, as objects of the columns at its places. Refused Device where they cannot be
-/// written.
-pub fn print_batch<W: Write>(alloc: Global, schema: &Schema, batch: &Batch, out: &mut W) -> R<()> {
-    let leaves = leaves_at(alloc, schema, batch.places.as_slice())?;
-    if leaves.is_empty() {
-        return print_empty_rows(batch.rows.len(), out);
-    }
-    let shown = schema.cut(alloc, leaves.as_slice())?;
-    let plan = RowPlan::new(alloc, &shown)?;
-    let mut text = RowText::new(alloc, &plan);
-    for row in batch.rows.iter() {
-        text.put_line(row)?;
-        if text.lines().len() >= GATHERED_BYTES {
-            write_text(text.lines(), out)?;
-            text.clear_lines();
+/// Which of these leaves are of columns at these places.
+fn leaves_among(alloc: Global, leaves: &[Leaf], places: &[usize]) -> R<Vec<usize>>
+    ensures among { IfOk result (λ among. among.items ≡ leaves_among places.now 0 (map leaf_view leaves.now)) }
+    ensures which { RefusedMemoryOnly result }
+{
+    let mut among = Vec::new(alloc);
+    for (index, leaf) in leaves.iter().enumerate() {
+        if is_at(leaf, places) {
+            among.push(index)?;
         }
+    }
+    Ok(among)
+}
+
+/// Prints rows of the columns at these places of a schema, a line each, as objects of these columns. Refused Device where
+/// they cannot be written.
+fn print_rows_at<W: Write>(
+    alloc: Global,
+    schema: &Schema,
+    places: &[usize],
+    rows: &[Row],
+    out: &mut W,
+) -> R<()>
+    ensures printed { RowsFit (fields_at places.now 0 schema.now) (rows_view rows.now)
+        → OnOk result (Appends (W.contents out.old) (W.contents out.new) (row_lines (fields_at places.now 0 schema.now) (rows_view rows.now))) }
+    ensures which { RefusedOnly (λ e. e ≡ Device) result }
+{
+    match columns_at(alloc, schema, places)? {
+        Some(columns) => print_lines(alloc, &columns, rows, out),
+        None => print_empty_rows(rows, out),
+    }
+}
+
+/// Prints rows of a schema, a line each. Refused Device where they cannot be written.
+fn print_lines<W: Write>(alloc: Global, schema: &Schema, rows: &[Row], out: &mut W) -> R<()>
+    ensures printed { RowsFit schema.now (rows_view rows.now) → OnOk result (Appends (W.contents out.old) (W.contents out.new) (row_lines schema.now (rows_view rows.now))) }
+    ensures which { RefusedOnly (λ e. e ≡ Device) result }
+{
+    let plan = RowPlan::new(alloc, schema)?;
+    let mut text = RowText::new(alloc, &plan);
+    for row in rows {
+        text.put_line(row)?;
+        write_full(&mut text, out)?;
     }
     write_text(text.lines(), out)
 }
 
-/// Prints rows without columns.
-fn print_empty_rows<W: Write>(rows: usize, out: &mut W) -> R<()> {
-    for _ in 0..rows {
+/// Writes the lines that were gathered once they are many, and forgets them. Refused Device where they cannot be written.
+fn write_full<W: Write>(text: &mut RowText<'_>, out: &mut W) -> R<()>
+    ensures gathered { (fs : Fields) (rows : List ValueTrees) (old : Option (List ℕ)) → AreGathered fs rows text.old old (W.contents out.old)
+        → OnOk result (AreGathered fs rows text.new old (W.contents out.new)) }
+    ensures which { RefusedOnly (λ e. e ≡ Device) result }
+{
+    if text.lines().len() < GATHERED_BYTES {
+        return Ok(());
+    }
+    write_text(text.lines(), out)?;
+    text.clear_lines();
+    Ok(())
+}
+
+/// Prints rows without columns, a line each. Refused Device where they cannot be written.
+fn print_empty_rows<W: Write>(rows: &[Row], out: &mut W) -> R<()>
+    ensures printed { OnOk result (Appends (W.contents out.old) (W.contents out.new) (row_lines no_fields (rows_view rows.now))) }
+    ensures which { RefusedOnly (λ e. e ≡ Device) result }
+{
+    for _ in rows {
         write_text(b"{}\n", out)?;
     }
     Ok(())
 }
 
-/// A key value as JSON: a boolean, a number, or a text.
-fn json_of(alloc: Global, value: &Value) -> R<Json> {
-    match value {
-        Value::Bool(b) => Ok(Json::Bool(*b)),
-        Value::Int(n) => Ok(Json::Number(Number::from(*n))),
-        Value::Bytes(bytes) => match from_utf8(bytes.as_slice()) {
-            Ok(text) => Ok(Json::String(String::from_str(alloc, text)?)),
-            Err(_) => Ok(Json::Null),
-        },
-        _ => Ok(Json::Null),
-    }
-}
-
-/// What is printed of a group, in the order of the names.
-#[derive(Drop, Serialize)]
-struct GroupLine {
-    bytes: u64,
-    key: Vec<Json>,
-    number: u64,
-    rows: u64,
-}
-
-/// Prints what a group is, a line of JSON.
-pub fn print_group<W: Write>(alloc: Global, group: &GroupInfo, out: &mut W) -> R<()> {
-    let mut key = Vec::new(alloc);
-    for value in group.key.values.iter() {
-        key.push(json_of(alloc, value)?)?;
-    }
-    let line = GroupLine {
-        bytes: group.bytes,
-        key,
-        number: group.number,
-        rows: group.rows,
-    };
-    match serde_json::to_vec(alloc, &line) {
-        Ok(text) => {
-            write_text(text.as_slice(), out)?;
-            write_text(b"\n", out)
-        }
-        Err(_) => Err(Refusal::Memory),
-    }
+/// Prints what a group is, a line of JSON: its bytes, its key, its number, its rows.
+pub fn print_group<W: Write>(alloc: Global, group: &GroupInfo, out: &mut W) -> R<()>
+    ensures written { OnOk result ((d : Data) × (group_json group.now ≡ Ok d) × Appends (W.contents out.old) (W.contents out.new) (compact_text d ++ 10 ∷ [])) }
+{
+    let mut text = group_to(alloc, group)?;
+    text.push('\n')?;
+    write_text(text.as_bytes(), out)
 }

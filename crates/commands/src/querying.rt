@@ -1,18 +1,24 @@
 //! Commands that read a dataset.
 
-ghost use Rattle.std.specs.Prelude.{◌≡◌, ◌∷◌, [], ◌++◌, false, IfOk, IfErr, OnOk, option_map};
+ghost use Rattle.std.specs.Prelude.{◌≡◌, ◌∷◌, [], ◌++◌, ℕ, List, false, codes, decimal, IfOk, IfErr, OnOk, option_map};
 ghost use Rattle.std.specs.Io.KnownBytes.{Appends};
 ghost use Rattle.serde_json.specs.Data.{Items, array};
 ghost use Rattle.serde_json.specs.Written.{compact_text};
+ghost use Rattle.schema.specs.Shape.{Fields};
 ghost use Rattle.schema.specs.Stripe.{leaves_of};
 ghost use Rattle.filter.specs.Terms.{terms_view};
+ghost use Rattle.table.specs.Plans.{row_count};
 ghost use Rattle.table.specs.State.{State};
+ghost use Rattle.table.specs.Views.{names_view};
 ghost use Rattle.jsonrows.specs.SchemaPrinted.{PrintsFields};
 ghost use Rattle.store.specs.Stands.{Stands};
+ghost use Rattle.commands.specs.Lines.{AreGroupLines};
 ghost use Rattle.commands.specs.Making.{IsAskedFilter, IsRefusedFilterOf};
+ghost use Rattle.commands.specs.Querying.{Reads, query_lines, ListsGroups, IsSchemaOfFile};
+ghost use Rattle.commands.specs.inner.Batches.{PrintsSelected, PrintsLeft};
 
 use crate::printing::{print_batch, print_columns, print_group, print_number};
-use bits::R;
+use bits::{R, Refusal};
 use disk::Disk;
 use filter::Term;
 use footer::read_footer;
@@ -22,7 +28,7 @@ use schema::Schema;
 use std::alloc::Global;
 use std::io::Write;
 use store::Store;
-use table::{CursorId, Fetched};
+use table::{CursorId, Fetched, GroupInfo, queries_give_all};
 
 /// The filter of a text; without one the filter that every row satisfies.
 pub fn filter_of<D: Disk>(alloc: Global, store: &Store<D>, text: Option<&str>) -> R<Vec<Vec<Term>>>
@@ -49,19 +55,26 @@ pub fn print_rows<D: Disk, W: Write, E: Write>(
     err: &mut E,
     shows: bool,
 ) -> R<()>
+    ensures prints { Reads D.state store.old store.new (option_map (λ t. t.now) filter.entry)
+        (λ terms table. Appends (W.contents out.old) (W.contents out.new) (query_lines terms (names_view columns.entry) table)) (W.contents out.new ≡ W.contents out.old) result }
     ensures quiet { shows ≡ false → E.contents err.new ≡ E.contents err.old }
 {
     let terms = filter_of(alloc, store, filter)?;
     let mut progress = printing_of(alloc, store, terms.as_slice(), shows);
-    let cursor = store.query(alloc, terms.as_slice(), columns)?;
-    let printed = print_batches(alloc, store, cursor, out, err, &mut progress);
+    let printed = print_selected(
+        alloc,
+        store,
+        terms.as_slice(),
+        columns,
+        out,
+        err,
+        &mut progress,
+    );
     progress.clear(err);
-    let closed = store.close(alloc, cursor);
-    printed?;
-    closed
+    printed
 }
 
-/// The progress of printing the rows that satisfy a filter, of which none is printed yet. How many there are is known of
+/// The progress of printing the rows that satisfy terms, of which none is printed yet. How many there are is known of
 /// all rows alone.
 fn printing_of<D: Disk>(
     alloc: Global,
@@ -69,14 +82,52 @@ fn printing_of<D: Disk>(
     terms: &[Vec<Term>],
     shows: bool,
 ) -> Progress
-    ensures { result.is_shown ≡ shows }
+    ensures shown { result.is_shown ≡ shows }
+    ensures same { store.new ≡ store.old }
 {
     let all = if shows && terms.is_empty() {
-        store.count(alloc, terms).ok()
+        rows_in(alloc, store)
     } else {
         None
     };
     Progress::new(alloc, "printed", all, shows)
+}
+
+/// How many rows a table has. None where there is no memory to ask.
+fn rows_in<D: Disk>(alloc: Global, store: &mut Store<D>) -> Option<u64>
+    ensures same { store.new ≡ store.old }
+{
+    let Ok(groups) = store.groups(alloc) else {
+        return None;
+    };
+    let mut rows: u64 = 0;
+    for group in groups.iter() {
+        rows = rows.saturating_add(group.rows);
+    }
+    Some(rows)
+}
+
+/// Prints the rows that satisfy terms, as a cursor gives them, which is closed then.
+fn print_selected<D: Disk, W: Write, E: Write>(
+    alloc: Global,
+    store: &mut Store<D>,
+    terms: &[Vec<Term>],
+    columns: Option<&[String]>,
+    out: &mut W,
+    err: &mut E,
+    progress: &mut Progress,
+) -> R<()>
+    ensures prints { (D.state store.old.vault.disk).honest → (s : State) → Stands D.state store.old s
+        → PrintsSelected D.state store.old store.new (terms_view terms.now) (names_view columns.entry) (W.contents out.old) (W.contents out.new) result s }
+    ensures quiet { progress.old.is_shown ≡ false → E.contents err.new ≡ E.contents err.old }
+    ensures same { progress.new.is_shown ≡ progress.old.is_shown }
+{
+    queries_give_all();
+    let cursor = store.query(alloc, terms, columns)?;
+    let printed = print_batches(alloc, store, cursor, out, err, progress);
+    let closed = store.close(alloc, cursor);
+    printed?;
+    closed
 }
 
 /// Prints the rows that a cursor still gives, and counts them.
@@ -88,6 +139,9 @@ fn print_batches<D: Disk, W: Write, E: Write>(
     err: &mut E,
     progress: &mut Progress,
 ) -> R<()>
+    ensures prints { (D.state store.old.vault.disk).honest → (s : State) → Stands D.state store.old s
+        → PrintsLeft D.state store.old store.new cursor (W.contents out.old) (W.contents out.new) result s }
+    ensures honest { (D.state store.old.vault.disk).honest → (D.state store.new.vault.disk).honest }
     ensures quiet { progress.old.is_shown ≡ false → E.contents err.new ≡ E.contents err.old }
     ensures same { progress.new.is_shown ≡ progress.old.is_shown }
 {
@@ -100,53 +154,41 @@ fn print_batches<D: Disk, W: Write, E: Write>(
             Fetched::End => return Ok(()),
         }
     }
-    Ok(())
+    Err(Refusal::Limit)
 }
 
-/// Prints how many rows there are, or how many satisfy a filter: then only its columns are read. Refused as `filter_from`
-/// refuses the text, as `Store::count`, `Store::query` and `Store::fetch`, and Device where the output cannot be written.
+/// Prints how many rows satisfy a filter; without one, how many there are. Of a filter only its columns are read.
+///
+/// Refused as `filter_from` refuses the text, as `Store::count`, and Device where the output cannot be written.
 pub fn print_count<D: Disk, W: Write>(
     alloc: Global,
     store: &mut Store<D>,
     filter: Option<&str>,
     out: &mut W,
-) -> R<()> {
+) -> R<()>
+    ensures prints { Reads D.state store.old store.new (option_map (λ t. t.now) filter.entry)
+        (λ terms table. Appends (W.contents out.old) (W.contents out.new) (decimal (row_count terms table) ++ codes "\n")) (W.contents out.new ≡ W.contents out.old) result }
+{
     let terms = filter_of(alloc, store, filter)?;
-    let count = if terms.is_empty() {
-        store.count(alloc, terms.as_slice())?
-    } else {
-        count_satisfying(alloc, store, terms.as_slice())?
-    };
+    let count = store.count(alloc, terms.as_slice())?;
     print_number(alloc, count, out)
-}
-
-/// How many rows satisfy a filter: those of a query that wants no column.
-fn count_satisfying<D: Disk>(alloc: Global, store: &mut Store<D>, terms: &[Vec<Term>]) -> R<u64> {
-    let cursor = store.query(alloc, terms, Some(&[]))?;
-    let counted = count_batches(alloc, store, cursor);
-    let closed = store.close(alloc, cursor);
-    let count = counted?;
-    closed?;
-    Ok(count)
-}
-
-/// How many rows a cursor still gives.
-fn count_batches<D: Disk>(alloc: Global, store: &mut Store<D>, cursor: CursorId) -> R<u64> {
-    let mut count: u64 = 0;
-    for _ in 0..u64::MAX {
-        match store.fetch(alloc, cursor)? {
-            Fetched::Batch(batch) => count = count.saturating_add(batch.rows.len() as u64),
-            Fetched::End => return Ok(count),
-        }
-    }
-    Ok(count)
 }
 
 /// Prints what each group is, a line of JSON each, in table order: the bytes of its chunks, its key, its number, its
 /// rows. Refused Device where the output cannot be written.
-pub fn print_groups<D: Disk, W: Write>(alloc: Global, store: &mut Store<D>, out: &mut W) -> R<()> {
+pub fn print_groups<D: Disk, W: Write>(alloc: Global, store: &mut Store<D>, out: &mut W) -> R<()>
+    ensures prints { ListsGroups D.state store.old (W.contents out.old) (W.contents out.new) result }
+    ensures same { store.new ≡ store.old }
+{
     let groups = store.groups(alloc)?;
-    for group in groups.iter() {
+    print_each_group(alloc, groups.as_slice(), out)
+}
+
+/// Prints what groups are, a line of JSON each.
+fn print_each_group<W: Write>(alloc: Global, groups: &[GroupInfo], out: &mut W) -> R<()>
+    ensures printed { OnOk result ((printed : List ℕ) × AreGroupLines groups.now printed × Appends (W.contents out.old) (W.contents out.new) printed) }
+{
+    for group in groups {
         print_group(alloc, group, out)?;
     }
     Ok(())
@@ -163,7 +205,10 @@ pub fn print_schema<D: Disk, W: Write>(alloc: Global, store: &Store<D>, out: &mu
 
 /// Prints the columns of a Parquet file in the same way. Refused as `read_footer` and `Schema::new` refuse the file, and
 /// Device where the output cannot be written.
-pub fn print_schema_of<W: Write>(alloc: Global, bytes: &[u8], out: &mut W) -> R<()> {
+pub fn print_schema_of<W: Write>(alloc: Global, bytes: &[u8], out: &mut W) -> R<()>
+    ensures printed { OnOk result ((fs : Fields) × IsSchemaOfFile bytes.now fs
+        × ((ds : Items) × PrintsFields fs ds × Appends (W.contents out.old) (W.contents out.new) (compact_text (array ds) ++ 10 ∷ []))) }
+{
     let record = read_footer(alloc, bytes)?;
     let schema = Schema::new(alloc, record.schema.as_slice())?;
     print_columns(alloc, &schema, out)

@@ -19,8 +19,10 @@ pub enum Reason {
     NoLocks,
     /// `_metadata` is no description of a table.
     Root,
-    /// A table is in the folder.
-    HasTable,
+    /// The folder has a `_metadata`.
+    HasRoot,
+    /// The folder has part files that are no dataset's: this one.
+    LoosePart(String),
     /// Whether the change was done is not known. This command shows it.
     InDoubt(&'static str),
     /// All that was asked is made, and what came of it cannot be printed.
@@ -35,8 +37,10 @@ pub enum Reason {
     Filter(FilterFault),
     /// No column has this name.
     NoColumn(String),
-    /// The part file at this path cannot be read.
+    /// The part file at this path is damaged or absent.
     Part(String),
+    /// The disk gives nothing of the part file at this path.
+    Unread(String),
     /// The key of this name is none.
     Key(String, KeyFault),
     /// As many keys are named as there are columns, or more.
@@ -62,6 +66,8 @@ pub enum FilterFault {
     NoJson { column: usize },
     /// It is no array.
     NoArray,
+    /// It has terms and lists of terms.
+    Mixed,
     /// This term is none.
     Term { term: String, fault: TermFault },
 }
@@ -121,8 +127,15 @@ impl Display for Told<'_> {
                 "{folder} cannot be locked, as its file system has no locks"
             ),
             Reason::Root => write!(f, "{folder}/_metadata is damaged: it describes no table"),
-            Reason::HasTable => write!(f, "a dataset is in {folder} already, and stays as it is"),
+            Reason::HasRoot => {
+                write!(f, "{folder}/_metadata is there already, and stays as it is")
+            }
+            Reason::LoosePart(path) => write!(
+                f,
+                "{folder}/{path} is there already: a new dataset would remove it, as it removes each such file that it does not name"
+            ),
             Reason::Part(path) => write!(f, "{folder}/{path} is damaged or absent"),
+            Reason::Unread(path) => write!(f, "{folder}/{path} cannot be read"),
             Reason::InDoubt(word) => write!(
                 f,
                 "the disk failed at the commit: all of it is done, or nothing; `pqds {word} {folder}` shows which"
@@ -175,6 +188,7 @@ impl Display for FilterFault {
                 write!(f, "the filter is no JSON, at column {column}")
             }
             FilterFault::NoArray => f.write_str("the filter is no array of terms"),
+            FilterFault::Mixed => f.write_str("the filter has terms beside lists of terms"),
             FilterFault::Term { term, fault } => write!(f, "the term {term} {fault}"),
         }
     }

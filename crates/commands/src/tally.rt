@@ -2,6 +2,7 @@
 
 ghost use Rattle.std.specs.Prelude.{◌≡◌, false};
 
+use footer::read_footer;
 use reports::with_commas;
 use std::alloc::{AllocError, Global};
 use std::io::Write;
@@ -15,15 +16,18 @@ const CALLS_BETWEEN: u64 = 64;
 /// Takes the line off the screen: back to its begin, and erased from there.
 const ERASED: &[u8] = b"\r\x1b[K";
 
+/// How the path of a part file ends.
+const PART_ENDING: &str = ".parquet";
+
 /// What a call of a disk did.
 #[derive(Clone, Copy)]
-pub enum Work {
+pub enum Work<'a> {
     /// It read so many bytes.
     Read(usize),
     /// It made a file.
     Made,
-    /// It wrote so many bytes.
-    Wrote(usize),
+    /// It wrote these bytes to the file at a path.
+    Wrote { path: &'a str, bytes: &'a [u8] },
 }
 
 /// What was read and written so far.
@@ -36,6 +40,7 @@ pub struct Tally<S: Write + Drop> {
     calls: u64,
     read: u64,
     files: u64,
+    rows: u64,
     written: u64,
     /// Whether a line is on the screen.
     is_on: bool,
@@ -53,6 +58,7 @@ impl<S: Write + Drop> Tally<S> {
             calls: 0,
             read: 0,
             files: 0,
+            rows: 0,
             written: 0,
             is_on: false,
         }
@@ -63,8 +69,11 @@ impl<S: Write + Drop> Tally<S> {
         let alloc = self.alloc;
         let read = with_commas(alloc, self.read)?;
         let files = with_commas(alloc, self.files)?;
+        let rows = with_commas(alloc, self.rows)?;
         let written = with_commas(alloc, self.written)?;
-        format!(in alloc; "\rread {read} bytes, written {files} files, {written} bytes")
+        format!(in alloc;
+            "\rread {read} bytes, written {files} files, {rows} rows, {written} bytes"
+        )
     }
 
     /// How many lines are due by now.
@@ -76,7 +85,7 @@ impl<S: Write + Drop> Tally<S> {
 
     /// Counts what a call did, and shows a line after some mebibytes and calls. Where that cannot be written, or there is
     /// no memory for it, nothing is shown.
-    pub fn count(&mut self, work: Work)
+    pub fn count(&mut self, work: Work<'_>)
         ensures quiet { self.old.is_shown ≡ false → S.contents self.new.screen ≡ S.contents self.old.screen }
         ensures same { self.new.is_shown ≡ self.old.is_shown }
     {
@@ -86,7 +95,7 @@ impl<S: Write + Drop> Tally<S> {
     }
 
     /// Counts where that is shown.
-    fn count_shown(&mut self, work: Work)
+    fn count_shown(&mut self, work: Work<'_>)
         ensures same { self.new.is_shown ≡ self.old.is_shown }
     {
         let due = self.lines_due();
@@ -101,14 +110,17 @@ impl<S: Write + Drop> Tally<S> {
     }
 
     /// Counts, and shows nothing.
-    fn add(&mut self, work: Work)
+    fn add(&mut self, work: Work<'_>)
         ensures same { self.new.is_shown ≡ self.old.is_shown }
     {
         self.calls = self.calls.saturating_add(1);
         match work {
             Work::Read(bytes) => self.read = self.read.saturating_add(bytes as u64),
             Work::Made => self.files = self.files.saturating_add(1),
-            Work::Wrote(bytes) => self.written = self.written.saturating_add(bytes as u64),
+            Work::Wrote { path, bytes } => {
+                self.rows = self.rows.saturating_add(rows_in(self.alloc, path, bytes));
+                self.written = self.written.saturating_add(bytes.len() as u64);
+            }
         }
     }
 
@@ -120,5 +132,17 @@ impl<S: Write + Drop> Tally<S> {
             let _ = self.screen.write_all(ERASED);
             self.is_on = false;
         }
+    }
+}
+
+/// How many rows a part file has, as its footer says; none where the file is no part file, or there is no memory to read its
+/// footer. A part file is written whole by one call.
+fn rows_in(alloc: Global, path: &str, bytes: &[u8]) -> u64 {
+    if !path.ends_with(PART_ENDING) {
+        return 0;
+    }
+    match read_footer(alloc, bytes) {
+        Ok(record) => u64::try_from(record.num_rows.unwrap_or(0)).unwrap_or(0),
+        Err(_) => 0,
     }
 }

@@ -4,6 +4,7 @@ ghost use Rattle.std.specs.Prelude.{◌≡◌, false};
 
 use crate::changing::{add_column, append, remove_rows, rewrite_groups, rewrite_small};
 use crate::explaining::{change_reason, question_reason, script_reason};
+use crate::folder::refusal_of;
 use crate::querying::{print_count, print_groups, print_rows, print_schema};
 use crate::reason::Reason;
 use crate::running::run_script;
@@ -123,15 +124,26 @@ pub fn run<D: Disk, W: Write>(
     out: &mut W,
     why: &mut Option<Reason>,
 ) -> R<()> {
-    let text = text_of(bytes)?;
     let mut has_run = false;
-    let ran = run_script(alloc, store, text, out, &mut has_run);
+    let ran = run_all(alloc, store, bytes, out, &mut has_run);
     if let Err(refusal) = &ran {
         *why = if has_run {
             Some(Reason::Unprinted)
         } else {
-            script_reason(alloc, store, text, refusal)
+            script_reason(alloc, store, bytes, refusal)
         };
     }
     ran
+}
+
+/// Makes the calls of a script, and passes all that was printed on. `has_run` becomes true where the calls are made.
+fn run_all<D: Disk, W: Write>(
+    alloc: Global,
+    store: &mut Store<D>,
+    bytes: &[u8],
+    out: &mut W,
+    has_run: &mut bool,
+) -> R<()> {
+    run_script(alloc, store, text_of(bytes)?, out, has_run)?;
+    out.flush().map_err(refusal_of)
 }

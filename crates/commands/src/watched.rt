@@ -73,7 +73,7 @@ impl<D: Disk, S: Write + Drop> Disk for Watched<D, S> {
     fn append(&mut self, path: &str, bytes: &[u8]) -> Result<(), Fault> {
         let answer = self.disk.append(path, bytes);
         if answer.is_ok() {
-            self.tally.count(Work::Wrote(bytes.len()));
+            self.tally.count(Work::Wrote { path, bytes });
         }
         answer
     }

@@ -1,6 +1,7 @@
 //! Who makes the calls.
 
-ghost use Rattle.std.specs.Prelude.{◌≡◌, false, OnOk};
+ghost use Rattle.std.specs.Prelude.{◌≡◌, ℕ, List, Option, false, OnOk};
+ghost use Rattle.dataset_words.specs.declared.call.Call.{Call};
 
 use crate::call::Call;
 use bits::R;
@@ -10,6 +11,9 @@ use std::io::Write;
 
 /// Makes calls on datasets, and prints to two writers.
 pub trait Datasets<W: Write, E: Write> {
+    /// What a call prints that is done: by what `out` had, and what it has then.
+    ghost prints: { Self → Call → Option (List ℕ) → Option (List ℕ) → Type 0 };
+
     /// Makes a call, and prints what it is to print to `out`. Where it is refused, `err` may get a line that says why.
     /// `terminals` says which of both are terminals: where `err` is one, it may get a line that says what is waited for, and
     /// show how far the call is.
@@ -21,5 +25,6 @@ pub trait Datasets<W: Write, E: Write> {
         err: &mut E,
         terminals: Terminals,
     ) -> R<()>
+        ensures done { OnOk result (prints self.now call.now (W.contents out.old) (W.contents out.new)) }
         ensures quiet { terminals.err ≡ false → OnOk result (E.contents err.new ≡ E.contents err.old) };
 }

@@ -12,9 +12,9 @@ datasets of other tools. pyarrow, DuckDB, Dask and fastparquet were seen to read
 
 DIR is made once SCHEMA and the KEYs are accepted, and the folder above it is synced. That folder must be there.
 
-Refused 24 Exists where DIR has a dataset already, which stays as it is; 17 Key for a KEY that is no such column, comes
-twice, or for all columns as keys; 4, 6 and 29 for the schema; 25 Device where DIR cannot be made, or is a file. The line
-before 17 says which KEY and why.";
+Refused 24 Exists where DIR has a dataset already, which stays as it is, or part files that a new dataset would remove; 17 Key
+for a KEY that is no such column, comes twice, or for all columns as keys; 4, 6 and 29 for the schema; 25 Device where DIR
+cannot be made, or is a file. The line before 17 and 24 says which KEY or file, and why.";
 
 pub const CREATE_EXAMPLE: &str = "\
 Example, at the top of the repository:

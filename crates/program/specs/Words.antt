@@ -2,7 +2,7 @@
 use Rattle.std.specs.Prelude.{◌≡◌, ◌⊎◌, ℕ, Bool, List, [], ◌∷◌, Option, Some, None, String, string_bytes, codes, bytes_eq, if◌then◌else◌}
 use Rattle.std.specs.List.{list_any}
 use Rattle.footer.specs.declared.options.WriteOptions.{WriteOptions}
-use Rattle.dataset_words.specs.declared.call.Task.{Task}
+use Rattle.dataset_words.specs.declared.call.Call.{Call as DatasetCall}
 use Rattle.dataset_words.specs.Words.{task_word}
 use Rattle.program.specs.declared.arguments.Call.{Call}
 use Rattle.program.specs.declared.arguments.Call.TheVariants.{Decode, Encode, Inspect, Check, Dataset}
@@ -33,20 +33,25 @@ Decodes old new = (bytes : List ℕ) × WritesRowsOf bytes old new
 abbrev pub Inspects : Option (List ℕ) → Option (List ℕ) → Type 0
 Inspects old new = (bytes : List ℕ) × WritesReportOf bytes old new
 
--- What a call that is done does to standard output: `encode` writes nothing to it, and by its options some texts have a file.
--- What is printed of a dataset, also where `inspect` and `check` are given its folder, no clause says.
-abbrev pub Does : Call → Option (List ℕ) → Option (List ℕ) → Type 0
-Does (Decode file) old new = Decodes old new
-Does (Encode sources file) old new = (new ≡ old) × HaveFile sources.options
-Does (Inspect file as_json table) old new = Inspects old new ⊎ Unit {0}
-Does (Check sources table) old new = WritesCount sources.options old new ⊎ Unit {0}
-Does (Dataset call) old new = Unit {0}
+-- what is printed of a call on a dataset
+abbrev pub Printing : Type 1
+Printing = DatasetCall → Option (List ℕ) → Option (List ℕ) → Type 0
+
+-- What a call that is done does to standard output: `encode` writes nothing to it, and by its options some texts have a file. What
+-- is printed of a dataset, also where `inspect` and `check` are given its folder, is for another to say.
+abbrev pub Does : Printing → Call → Option (List ℕ) → Option (List ℕ) → Type 0
+Does Prints (Decode file) old new = Decodes old new
+Does Prints (Encode sources file) old new = (new ≡ old) × HaveFile sources.options
+Does Prints (Inspect file as_json table) old new = Inspects old new ⊎ Prints table old new
+Does Prints (Check sources table) old new = WritesCount sources.options old new ⊎ Prints table old new
+Does Prints (Dataset call) old new = Prints call old new
 
 -- the same, by the first word
-pub data IsDone {A : Type 0} (words : List (String A)) (old new : Option (List ℕ)) : Type 0 where
-  decoded : first_word words ≡ Some (codes "decode") → Decodes old new → IsDone words old new
-  encoded : first_word words ≡ Some (codes "encode") → new ≡ old → IsDone words old new
-  inspected : first_word words ≡ Some (codes "inspect") → Inspects old new → IsDone words old new
-  -- what is printed of a dataset, no clause says
-  on_dataset : (task : Task) → first_word words ≡ Some (task_word task) → IsDone words old new
-  checked : (options : WriteOptions) → first_word words ≡ Some (codes "check") → WritesCount options old new → IsDone words old new
+pub data IsDone {A : Type 0} (Prints : Printing) (words : List (String A)) (old new : Option (List ℕ)) : Type 0 where
+  decoded : first_word words ≡ Some (codes "decode") → Decodes old new → IsDone Prints words old new
+  encoded : first_word words ≡ Some (codes "encode") → new ≡ old → IsDone Prints words old new
+  inspected : first_word words ≡ Some (codes "inspect") → Inspects old new → IsDone Prints words old new
+  inspected_folder : (call : DatasetCall) → first_word words ≡ Some (codes "inspect") → Prints call old new → IsDone Prints words old new
+  checked : (options : WriteOptions) → first_word words ≡ Some (codes "check") → WritesCount options old new → IsDone Prints words old new
+  checked_folder : (call : DatasetCall) → first_word words ≡ Some (codes "check") → Prints call old new → IsDone Prints words old new
+  on_dataset : (call : DatasetCall) → first_word words ≡ Some (task_word call.task) → Prints call old new → IsDone Prints words old new

@@ -56,7 +56,7 @@ pub fn work<F: Files, W: Write, E: Write, M: Datasets<W, E>>(
     datasets: &M,
 ) -> u8
     ensures status { result ≤ 2 }
-    ensures done { result ≡ 0 → IsDone words.now (W.contents out.old) (W.contents out.new) }
+    ensures done { result ≡ 0 → IsDone (M.prints datasets.now) words.now (W.contents out.old) (W.contents out.new) }
     ensures silent { first_word words.now ≡ Some (codes "encode") → W.contents out.new ≡ W.contents out.old }
     ensures quiet { terminals.err ≡ false → result ≡ 0 → E.contents err.new ≡ E.contents err.old }
     ensures silenced { has_word (codes "--quiet") words.now ≡ true → result ≡ 0 → E.contents err.new ≡ E.contents err.old }
@@ -106,7 +106,7 @@ fn make<F: Files, W: Write, E: Write, M: Datasets<W, E>>(
     terminals: Terminals,
     datasets: &M,
 ) -> R<()>
-    ensures done { OnOk result (Does call.now (W.contents out.old) (W.contents out.new)) }
+    ensures done { OnOk result (Does (M.prints datasets.now) call.now (W.contents out.old) (W.contents out.new)) }
     ensures silent { word_of call.now ≡ codes "encode" → W.contents out.new ≡ W.contents out.old }
     ensures quiet { terminals.err ≡ false → OnOk result (E.contents err.new ≡ E.contents err.old) }
 {

@@ -1,6 +1,6 @@
 use Rattle.std.proofs.Common.{ℕ, List, refl, subst}
 use Rattle.vault.proofs.Chained.{refused}
-use Rattle.table.specs.Calls.{Answer, plan_rewrite, planned, refused as refused_answer}
+use Rattle.table.specs.Calls.{plan_rewrite, planned, refused as refused_answer}
 use Rattle.store.specs.declared.store.Store.{Store}
 use Rattle.store.specs.Promises.{ActsFrom}
 use Rattle.commands.specs.Making.{RewritesPlannedFrom, RewritesFrom, not_planned, planned_so}

@@ -1,4 +1,4 @@
-use Rattle.std.proofs.Common.{◌≡◌, ℕ, List, Option, OnOk, map, refl, sym, subst}
+use Rattle.std.proofs.Common.{List, OnOk, map, refl, sym, subst}
 use Rattle.std.specs.Str.Lines.{lines}
 use Rattle.vault.proofs.Chained.{refused}
 use Rattle.bits.specs.declared.refusal.Refusal.{Refusal}
@@ -6,6 +6,7 @@ use Rattle.schema.specs.Shape.{Fields}
 use Rattle.table.specs.declared.answer.Answer.{Answer}
 use Rattle.table.specs.declared.call.Call.{Call}
 use Rattle.table.specs.Views.{call_view, calls_view, answer_view}
+use Rattle.jsonrows.specs.Answers.{answer_json}
 use Rattle.store.specs.Running.{RunsFrom}
 use Rattle.commands.specs.Lines.{AreRefusedCalls}
 use Rattle.commands.specs.Making.{RunsScriptFrom, ran, not_run}
@@ -46,7 +47,7 @@ returns g c = record {
       let after = g.W.Write.contents c.print_answers.new.out in
       let runs : RunsFrom g.D.Disk.state old new calls (map answer_view answers) s =
       subst (λ (xs : List Call). RunsFrom g.D.Disk.state old new (map call_view xs) (map answer_view answers) s) c.as_slice.ensures.value (c.in_ok-answers.ensures.headline honest s stands) in
-      let of_slice = subst (λ (xs : List Answer). OnOk c.print_answers.result (ArePrinted c.schema-2.result.now xs before after)) c.as_slice-2.ensures.value c.print_answers.ensures.printed in
-      let printed = subst (λ (t : Fields). OnOk c.print_answers.result (ArePrinted t answers before after)) (c.schema-2.ensures runs.after runs.stands) of_slice in
+      let of_slice = subst (λ (xs : List Answer). OnOk c.print_answers.result (ArePrinted (answer_json c.schema-2.result.now) xs before after)) c.as_slice-2.ensures.value c.print_answers.ensures.printed in
+      let printed = subst (λ (t : Fields). OnOk c.print_answers.result (ArePrinted (answer_json t) answers before after)) (c.schema-2.ensures runs.after runs.stands) of_slice in
       ran calls told.0 answers (rw (← is) told.1) runs printed;
 }

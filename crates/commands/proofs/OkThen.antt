@@ -1,0 +1,7 @@
+-- What holds in any case holds of a result that is Ok.
+use Rattle.std.proofs.Common.{Result, Ok, Err, OnOk}
+use Rattle.bits.specs.declared.refusal.Refusal.{Refusal}
+
+pub ok_always : {T A : Type 0} (result : Result T Refusal) → A → OnOk result A
+ok_always (Ok x) holds = holds
+ok_always (Err e) holds = tt
