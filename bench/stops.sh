@@ -4,15 +4,17 @@
 #
 # Runs the program of the crate stop_cases, which is proved and built first; where STOP_CASES names one that is built already, that
 # one. Prints each line with what the loop came to; the status is 1 where a line is not as counted by hand (docs/DISK.md). LOOP is
-# creations, columns, stops, failures or reopenings; all where none is named.
+# creations, creation-failures, creation-reopenings, columns, stops, failures or reopenings; all where none is named.
 top=$(CDPATH='' cd -- "$(dirname -- "$0")/.." && pwd) || exit 1
 room=$(mktemp -d) || exit 1
 trap 'rm -rf "$room"' EXIT
-[ $# -gt 0 ] || set -- creations columns failures stops reopenings
+[ $# -gt 0 ] || set -- creations creation-failures creation-reopenings columns failures stops reopenings
 for loop; do
     for pick in 0 1 2; do
         case $loop in
         creations) echo "creations $pick = 8 stops, 144 images, not allowed: 0" ;;
+        creation-failures) echo "creation-failures $pick = 8 failures, 2 in doubt, not allowed: 0" ;;
+        creation-reopenings) echo "creation-reopenings $pick $(seq -s ' ' 0 17) = 144 openings, stops in each, not allowed: 0" ;;
         columns) echo "columns $pick = 7 stops, 126 images, not allowed: 0" ;;
         failures) echo "failures $pick = 85 failures, not allowed: 0" ;;
         stops) echo "stops $pick = 85 stops, 1530 images, not allowed: 0" ;;

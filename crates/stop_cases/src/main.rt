@@ -11,7 +11,7 @@ mod reopenings;
 mod script;
 mod stops;
 
-use crate::reopenings::Stops;
+use crate::reopenings::{Stops, Work};
 use bits::{R, Refusal};
 use case_words::{natural, word};
 use std::alloc::Global;
@@ -29,18 +29,23 @@ fn lists_of(alloc: Global, words: &[&str]) -> R<Vec<u64>> {
     Ok(lists)
 }
 
+/// What the stops within openings saw.
+fn within_openings(alloc: Global, words: &[&str], pick: u64, work: Work) -> R<String> {
+    let lists = lists_of(alloc, words)?;
+    let lists = lists.as_slice();
+    reopenings::reopenings(alloc, Stops { work, pick, lists })
+}
+
 /// What a loop saw; Script where there is no such loop.
 fn outcome(alloc: Global, words: &[&str]) -> R<String> {
     let pick = natural(word(words, 1)?)?;
     match word(words, 0)? {
         "stops" => stops::stops(alloc, pick),
-        "reopenings" => {
-            let lists = lists_of(alloc, words)?;
-            let lists = lists.as_slice();
-            reopenings::reopenings(alloc, Stops { pick, lists })
-        }
+        "reopenings" => within_openings(alloc, words, pick, Work::Calls),
         "failures" => failures::failures(alloc, pick),
         "creations" => makings::creations(alloc, pick),
+        "creation-failures" => makings::creation_failures(alloc, pick),
+        "creation-reopenings" => within_openings(alloc, words, pick, Work::Creation),
         "columns" => makings::columns(alloc, pick),
         "allocations" => allocations::allocations(alloc, pick),
         _ => Err(Refusal::Script),

@@ -1,5 +1,6 @@
 //! Stops while a table is opened again after a stop.
 
+use crate::makings;
 use crate::script::{self, STEPS};
 use crate::stops::{Seen, crashed};
 use bits::R;
@@ -7,9 +8,17 @@ use disk::Disk;
 use mem_disk::MemDisk;
 use std::alloc::Global;
 
-/// What a failed call has done, and which lists of words say what the two stops leave.
+/// What the first stop is in: the making of a table, or the list of calls.
+#[derive(Clone, Copy)]
+pub enum Work {
+    Creation,
+    Calls,
+}
+
+/// What is stopped, what a failed call has done, and which lists of words say what the two stops leave.
 #[derive(Clone, Copy)]
 pub struct Stops<'a> {
+    pub work: Work,
     pub pick: u64,
     pub lists: &'a [u64],
 }
@@ -23,19 +32,28 @@ fn shown(alloc: Global, image: &MemDisk) -> R<Option<String>> {
     }
 }
 
-/// Whether each list leaves, of a disk whose opening was stopped, a table that shows these rows.
+/// Whether the disk may have no table: only where the making of it was stopped, and it can be made there.
+fn may_have_none(alloc: Global, disk: MemDisk, work: Work) -> R<bool> {
+    match work {
+        Work::Creation => makings::can_be_made(alloc, disk),
+        Work::Calls => Ok(false),
+    }
+}
+
+/// Whether each list leaves, of a disk whose opening was stopped, a table that shows these rows, or none as before.
 fn is_kept(
     alloc: Global,
     disk: &MemDisk,
     rows: &Option<String>,
-    lists: &[u64],
+    stops: Stops<'_>,
     seen: &mut Seen,
 ) -> R<()> {
-    for list in lists {
+    for list in stops.lists {
         let image = crashed(alloc, disk, *list)?;
         let now = shown(alloc, &image)?;
         let right = match (&now, rows) {
             (Some(now), Some(rows)) => now.as_str() == rows.as_str(),
+            (None, None) => may_have_none(alloc, image, stops.work)?,
             _ => false,
         };
         seen.add(right);
@@ -53,7 +71,7 @@ fn stop_at(alloc: Global, image: &MemDisk, k: u64, stops: Stops<'_>, seen: &mut 
         return Ok(false);
     }
     seen.stops = seen.stops.saturating_add(1);
-    is_kept(alloc, &disk, &rows, stops.lists, seen)?;
+    is_kept(alloc, &disk, &rows, stops, seen)?;
     Ok(true)
 }
 
@@ -67,8 +85,8 @@ fn stop_everywhere(alloc: Global, image: &MemDisk, stops: Stops<'_>, seen: &mut 
     Ok(())
 }
 
-/// The disk that the calls leave where it fails from the call `k` on, and whether it failed.
-fn stopped_disk(alloc: Global, k: u64, pick: u64) -> R<Option<MemDisk>> {
+/// The disk that the list of calls leaves where it fails from the call `k` on; none where it did not fail.
+fn stopped_calls(alloc: Global, k: u64, pick: u64) -> R<Option<MemDisk>> {
     let mut store = script::new_store(alloc)?;
     store.vault.disk.fuse(k, pick);
     for step in &STEPS {
@@ -83,13 +101,21 @@ fn stopped_disk(alloc: Global, k: u64, pick: u64) -> R<Option<MemDisk>> {
     Ok(Some(store.into_disk()))
 }
 
-/// `reopenings PICK LIST ..`: a stop at each call of the disk, and then one at each call of the opening of what it leaves. (How
-/// many calls an opening makes depends on what it removes, so they are not told.)
+/// The disk that a stop after `k` calls leaves; none where it did not fail.
+fn stopped_disk(alloc: Global, k: u64, stops: Stops<'_>) -> R<Option<MemDisk>> {
+    match stops.work {
+        Work::Creation => makings::stopped_creation(alloc, k, stops.pick),
+        Work::Calls => stopped_calls(alloc, k, stops.pick),
+    }
+}
+
+/// `reopenings PICK LIST ..` and `creation-reopenings PICK LIST ..`: a stop at each call of the disk, and then one at each call
+/// of the opening of what it leaves. (How many calls an opening makes depends on what it removes, so they are not told.)
 pub fn reopenings(alloc: Global, stops: Stops<'_>) -> R<String> {
     let mut seen = Seen::new();
     let mut images: u64 = 0;
     for k in 0..u64::MAX {
-        let Some(disk) = stopped_disk(alloc, k, stops.pick)? else {
+        let Some(disk) = stopped_disk(alloc, k, stops)? else {
             break;
         };
         for list in stops.lists {

@@ -34,18 +34,28 @@ fn are_longest(values: &mut Prefixed<'_>) -> R<bool> {
     Ok(values.next()?.is_none())
 }
 
+/// Whether a chain of values of the greatest size is read to its end.
+fn are_read(alloc: Global) -> R<bool> {
+    let bytes = chain(alloc, 0)?;
+    let (mut values, used) = decode_prefixes(alloc, &bytes, COUNT)?;
+    Ok(used == bytes.len() && are_longest(&mut values)?)
+}
+
 #[test]
 fn a_long_chain_of_long_values_is_read_in_little_memory(rt: HostRuntime) -> Result<(), Fail> {
-    let bytes = chain(rt.alloc(), 0)?;
-    let (mut values, used) = decode_prefixes(rt.alloc(), &bytes, COUNT)?;
-    assert!(rt; used == bytes.len() && are_longest(&mut values)?);
+    assert!(rt; are_read(rt.alloc())?);
     Ok(())
+}
+
+/// Whether a chain whose last value is longer is refused.
+fn is_too_long(alloc: Global) -> R<bool> {
+    let bytes = chain(alloc, 1)?;
+    let refused = decode_prefixes(alloc, &bytes, COUNT);
+    Ok(matches!(refused, Err(Refusal::Limit)))
 }
 
 #[test]
 fn a_value_beyond_the_greatest_size_is_over_the_limit(rt: HostRuntime) -> Result<(), Fail> {
-    let bytes = chain(rt.alloc(), 1)?;
-    let refused = decode_prefixes(rt.alloc(), &bytes, COUNT);
-    assert!(rt; matches!(refused, Err(Refusal::Limit)));
+    assert!(rt; is_too_long(rt.alloc())?);
     Ok(())
 }

@@ -3,43 +3,21 @@
 ghost use Rattle.std.specs.Prelude.{option_map};
 ghost use Rattle.bits.specs.Faults.{refusal_of};
 
+use crate::schemas::{EntryRow, FieldRow, INT32, REPEATED, REQUIRED, entries_of, schema_of};
 use assemble::{EntrySource, assemble_from, next_row};
 use bits::{Fault, R, Refusal};
-use schema::{Element, Entry, EntryRef, Schema, Value};
+use schema::{Entry, EntryRef, Schema};
 use std::alloc::Global;
 use std::test::*;
 
-/// An element of this repetition; a leaf of INT32 where it has no children.
-fn element(alloc: Global, repetition: i32, children: Option<i32>) -> R<Element> {
-    Ok(Element {
-        kind: if children.is_some() { None } else { Some(1) },
-        type_length: None,
-        repetition_type: Some(repetition),
-        name: Vec::from_slice(alloc, b"xs".as_slice())?,
-        num_children: children,
-        converted_type: None,
-        scale: None,
-        precision: None,
-        field_id: None,
-        logical_type: None,
-    })
-}
-
 /// `repeated int32 xs`
-fn numbers(alloc: Global) -> R<Schema> {
-    let mut elements = Vec::new(alloc);
-    elements.push(element(alloc, 0, Some(1))?)?;
-    elements.push(element(alloc, 2, None)?)?;
-    Schema::new(alloc, elements.as_slice())
-}
+const NUMBERS: &[FieldRow] = &[
+    ("root", REQUIRED, None, Some(1)),
+    ("xs", REPEATED, Some(INT32), None),
+];
 
-fn entry(repetition: u32, definition: u32, value: Option<Value>) -> Entry {
-    Entry {
-        repetition,
-        definition,
-        value,
-    }
-}
+/// Two rows of numbers: 1 and 2, and none.
+const TWO_ROWS: &[EntryRow] = &[(0, 1, Some(1)), (1, 1, Some(2)), (0, 0, None)];
 
 /// Gives some entries, and then is refused.
 #[derive(Drop)]
@@ -85,50 +63,55 @@ impl<'a> EntrySource for Failing<'a> {
     fn one_list(&self) {}
 }
 
-/// Two rows of numbers: 1 and 2, and none.
-fn two_rows(alloc: Global) -> R<Vec<Entry>> {
-    let mut entries = Vec::new(alloc);
-    entries.push(entry(0, 1, Some(Value::Int(1))))?;
-    entries.push(entry(1, 1, Some(Value::Int(2))))?;
-    entries.push(entry(0, 0, None))?;
-    Ok(entries)
+/// A source of the first entries, which then is refused.
+fn sources_of(alloc: Global, entries: &[Entry], count: usize) -> R<Vec<Failing<'_>>> {
+    let mut sources = Vec::new(alloc);
+    sources.push(Failing {
+        before: entries.get(..count).unwrap_or(entries),
+        refused: None,
+    })?;
+    Ok(sources)
+}
+
+/// Whether the refusal of a source is returned after so many entries, and stays.
+fn is_refused_after(alloc: Global, schema: &Schema, entries: &[Entry], count: usize) -> R<bool> {
+    let mut sources = sources_of(alloc, entries, count)?;
+    let all = assemble_from(alloc, schema, sources.as_mut_slice());
+    let next = next_row(alloc, schema, sources.as_mut_slice());
+    Ok(matches!(all, Err(Refusal::Page)) && matches!(next, Err(Refusal::Page)))
+}
+
+/// Whether the refusal of a source is returned wherever it comes, and stays.
+fn is_always_refused(alloc: Global) -> R<bool> {
+    let schema = schema_of(alloc, NUMBERS)?;
+    let entries = entries_of(alloc, TWO_ROWS)?;
+    for count in 0..=3 {
+        if !is_refused_after(alloc, &schema, entries.as_slice(), count)? {
+            return Ok(false);
+        }
+    }
+    Ok(true)
 }
 
 #[test]
 fn a_refusal_of_a_source_is_returned_and_stays(rt: HostRuntime) -> Result<(), Fail> {
-    let alloc = rt.alloc();
-    let schema = numbers(alloc)?;
-    let entries = two_rows(alloc)?;
-    for k in 0..=3 {
-        let (before, _) = entries.as_slice().split_at(k.min(entries.len()));
-        let mut sources = Vec::new(alloc);
-        sources.push(Failing {
-            before,
-            refused: None,
-        })?;
-        let all = assemble_from(alloc, &schema, sources.as_mut_slice());
-        assert!(rt; matches!(all, Err(Refusal::Page)));
-        let next = next_row(alloc, &schema, sources.as_mut_slice());
-        assert!(rt; matches!(next, Err(Refusal::Page)));
-    }
+    assert!(rt; is_always_refused(rt.alloc())?);
     Ok(())
+}
+
+/// Whether the rows before a refusal are returned, and then the refusal.
+fn are_returned_before(alloc: Global) -> R<bool> {
+    let schema = schema_of(alloc, NUMBERS)?;
+    let entries = entries_of(alloc, TWO_ROWS)?;
+    let mut sources = sources_of(alloc, entries.as_slice(), 3)?;
+    let first = next_row(alloc, &schema, sources.as_mut_slice())?.is_some();
+    let second = next_row(alloc, &schema, sources.as_mut_slice())?.is_some();
+    let third = next_row(alloc, &schema, sources.as_mut_slice());
+    Ok(first && second && matches!(third, Err(Refusal::Page)))
 }
 
 #[test]
 fn rows_before_a_refusal_are_returned(rt: HostRuntime) -> Result<(), Fail> {
-    let alloc = rt.alloc();
-    let schema = numbers(alloc)?;
-    let entries = two_rows(alloc)?;
-    let mut sources = Vec::new(alloc);
-    sources.push(Failing {
-        before: entries.as_slice(),
-        refused: None,
-    })?;
-    let first = next_row(alloc, &schema, sources.as_mut_slice())?;
-    assert!(rt; matches!(first, Some(_)));
-    let second = next_row(alloc, &schema, sources.as_mut_slice())?;
-    assert!(rt; matches!(second, Some(_)));
-    let third = next_row(alloc, &schema, sources.as_mut_slice());
-    assert!(rt; matches!(third, Err(Refusal::Page)));
+    assert!(rt; are_returned_before(rt.alloc())?);
     Ok(())
 }

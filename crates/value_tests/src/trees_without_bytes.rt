@@ -1,13 +1,11 @@
 //! Structs that no bytes have.
 
+use crate::schemas::{FieldRow, INT32, REQUIRED, element};
 use bits::{R, Refusal};
-use schema::{Element, Schema, kept_structs_have_bytes};
+use schema::Schema;
 use std::alloc::Global;
 use std::test::*;
-use thrift_compact::{
-    ElementType, Field, Node, Tree, has_bytes, one_struct, what_is_written_is_read_again,
-    write_struct,
-};
+use thrift_compact::{ElementType, Field, Node, Tree, has_bytes, write_struct};
 
 /// A struct of one field.
 fn tree_of(alloc: Global, id: i16, value: Node) -> R<Tree> {
@@ -28,55 +26,62 @@ fn is_not_written(alloc: Global, tree: &Tree) -> R<bool> {
     )
 }
 
-#[test]
-fn a_list_of_other_values_than_it_says_is_not_written(rt: HostRuntime) -> Result<(), Fail> {
-    let mut values = Vec::new(rt.alloc());
+/// Whether a list of numbers with a boolean in it is not written.
+fn is_mixed(alloc: Global) -> R<bool> {
+    let mut values = Vec::new(alloc);
     values.push(Node::I32(1))?;
     values.push(Node::Bool(true))?;
-    let tree = tree_of(rt.alloc(), 1, Node::List(ElementType::I32, values))?;
-    assert!(rt; is_not_written(rt.alloc(), &tree)?);
+    let tree = tree_of(alloc, 1, Node::List(ElementType::I32, values))?;
+    is_not_written(alloc, &tree)
+}
+
+#[test]
+fn a_list_of_other_values_than_it_says_is_not_written(rt: HostRuntime) -> Result<(), Fail> {
+    assert!(rt; is_mixed(rt.alloc())?);
     Ok(())
+}
+
+/// The codes of types: of two by their names, of a known and of an unknown one under no name.
+const CODES: &[(ElementType, u8)] = &[
+    (ElementType::I32, 5),
+    (ElementType::Struct, 12),
+    (ElementType::Other(5), 21),
+    (ElementType::Other(14), 14),
+];
+
+/// Whether types have their codes, and a list whose type is a known code under no name is not written.
+fn is_no_type(alloc: Global) -> R<bool> {
+    let none = Node::List(ElementType::Other(5), Vec::new(alloc));
+    let is_refused = is_not_written(alloc, &tree_of(alloc, 1, none)?)?;
+    Ok(is_refused && CODES.iter().all(|(kind, code)| kind.code() == *code))
 }
 
 #[test]
 fn a_known_code_under_no_name_is_no_type(rt: HostRuntime) -> Result<(), Fail> {
-    assert!(rt; ElementType::I32.code() == 5 && ElementType::Struct.code() == 12);
-    assert!(rt; ElementType::Other(5).code() == 21 && ElementType::Other(14).code() == 14);
-    let none = Node::List(ElementType::Other(5), Vec::new(rt.alloc()));
-    assert!(rt; is_not_written(rt.alloc(), &tree_of(rt.alloc(), 1, none)?)?);
+    assert!(rt; is_no_type(rt.alloc())?);
     Ok(())
 }
 
-/// A REQUIRED element.
-fn element(alloc: Global, children: Option<i32>, logical_type: Option<Tree>) -> R<Element> {
-    Ok(Element {
-        kind: if children.is_some() { None } else { Some(1) },
-        type_length: None,
-        repetition_type: Some(0),
-        name: Vec::from_slice(alloc, b"x".as_slice())?,
-        num_children: children,
-        converted_type: None,
-        scale: None,
-        precision: None,
-        field_id: None,
-        logical_type,
-    })
+/// required int32 x
+const ONE_NUMBER: [FieldRow; 2] = [
+    ("root", REQUIRED, None, Some(1)),
+    ("x", REQUIRED, Some(INT32), None),
+];
+
+/// Whether a schema whose leaf keeps a struct that no bytes have is refused.
+fn is_not_kept(alloc: Global) -> R<bool> {
+    let [root, number] = ONE_NUMBER;
+    let mut leaf = element(alloc, number)?;
+    leaf.logical_type = Some(tree_of(alloc, 99, Node::Flag(1))?);
+    let mut elements = Vec::new(alloc);
+    elements.push(element(alloc, root)?)?;
+    elements.push(leaf)?;
+    let refused = Schema::new(alloc, elements.as_slice());
+    Ok(matches!(refused, Err(Refusal::Schema)))
 }
 
 #[test]
 fn a_schema_keeps_no_struct_that_no_bytes_have(rt: HostRuntime) -> Result<(), Fail> {
-    let kept = tree_of(rt.alloc(), 99, Node::Flag(1))?;
-    let mut elements = Vec::new(rt.alloc());
-    elements.push(element(rt.alloc(), Some(1), None)?)?;
-    elements.push(element(rt.alloc(), None, Some(kept))?)?;
-    let answer = Schema::new(rt.alloc(), elements.as_slice());
-    assert!(rt; matches!(answer, Err(Refusal::Schema)));
+    assert!(rt; is_not_kept(rt.alloc())?);
     Ok(())
-}
-
-#[test]
-fn laws_are_calls_that_do_nothing() {
-    one_struct();
-    what_is_written_is_read_again();
-    kept_structs_have_bytes();
 }

@@ -3,71 +3,38 @@
 ghost use Rattle.std.specs.Prelude.{◌≡◌, None};
 ghost use Rattle.schema.specs.declared.value.Kind.TheVariants.{Int64};
 
+use crate::schemas::{
+    EntryRow, FieldRow, INT64, OPTIONAL, REPEATED, REQUIRED, entries_of, schema_of,
+};
 use assemble::{Cursor, Discard, EntrySource, RowSink, assemble, count_rows, next_row_to};
 use bits::{Fault, R, Refusal};
 use footer::{FileReader, WriteOptions, write_file};
-use schema::{Column, Element, Entry, EntryRef, Kind, LeafType, Schema, Value, ValueRef};
+use schema::{Column, EntryRef, Kind, LeafType, ValueRef};
 use std::alloc::{AllocError, Global};
 use std::test::*;
 
-const REQUIRED: i32 = 0;
-
-const OPTIONAL: i32 = 1;
-
-const REPEATED: i32 = 2;
-
-const INT64: i32 = 2;
-
-/// A field: a leaf of INT64 where it has no children, and otherwise a group.
-fn element(alloc: Global, name: &str, repetition: i32, children: i32) -> R<Element> {
-    let is_leaf = children == 0;
-    Ok(Element {
-        kind: is_leaf.then_some(INT64),
-        type_length: None,
-        repetition_type: Some(repetition),
-        name: Vec::from_slice(alloc, name.as_bytes())?,
-        num_children: (!is_leaf).then_some(children),
-        converted_type: None,
-        scale: None,
-        precision: None,
-        field_id: None,
-        logical_type: None,
-    })
-}
-
 /// required int64 id; optional group xs { repeated group list { optional int64 element } }
-fn lists(alloc: Global) -> R<Schema> {
-    let mut elements = Vec::new(alloc);
-    elements.push(element(alloc, "root", REQUIRED, 2)?)?;
-    elements.push(element(alloc, "id", REQUIRED, 0)?)?;
-    elements.push(element(alloc, "xs", OPTIONAL, 1)?)?;
-    elements.push(element(alloc, "list", REPEATED, 1)?)?;
-    elements.push(element(alloc, "element", OPTIONAL, 0)?)?;
-    Schema::new(alloc, elements.as_slice())
-}
-
-fn entry(repetition: u32, definition: u32, value: Option<i64>) -> Entry {
-    Entry {
-        repetition,
-        definition,
-        value: value.map(Value::Int),
-    }
-}
+const LISTS: &[FieldRow] = &[
+    ("root", REQUIRED, None, Some(2)),
+    ("id", REQUIRED, Some(INT64), None),
+    ("xs", OPTIONAL, None, Some(1)),
+    ("list", REPEATED, None, Some(1)),
+    ("element", OPTIONAL, Some(INT64), None),
+];
 
 /// Three rows: a list of 7 and a null, an empty list, and no list.
+const COLUMNS: [&[EntryRow]; 2] = [
+    &[(0, 0, Some(1)), (0, 0, Some(2)), (0, 0, Some(3))],
+    &[(0, 3, Some(7)), (1, 2, None), (0, 1, None), (0, 0, None)],
+];
+
+/// The columns of the three rows.
 fn columns(alloc: Global) -> R<Vec<Column>> {
-    let mut ids = Vec::new(alloc);
-    for id in 1..4 {
-        ids.push(entry(0, 0, Some(id)))?;
-    }
-    let mut elements = Vec::new(alloc);
-    elements.push(entry(0, 3, Some(7)))?;
-    elements.push(entry(1, 2, None))?;
-    elements.push(entry(0, 1, None))?;
-    elements.push(entry(0, 0, None))?;
     let mut columns = Vec::new(alloc);
-    columns.push(Column { entries: ids })?;
-    columns.push(Column { entries: elements })?;
+    for rows in COLUMNS {
+        let entries = entries_of(alloc, rows)?;
+        columns.push(Column { entries })?;
+    }
     Ok(columns)
 }
 
@@ -135,7 +102,7 @@ const SHOWN: &[u8] = b"1([(7)(-)]) 2([]) 3- . ";
 
 /// Whether the rows of columns are shown to a sink in their order, and nothing after the last one.
 fn are_shown(alloc: Global) -> R<bool> {
-    let schema = lists(alloc)?;
+    let schema = schema_of(alloc, LISTS)?;
     let columns = columns(alloc)?;
     let mut sources = cursors(alloc, columns.as_slice())?;
     let mut text = Text {
@@ -156,7 +123,7 @@ fn a_sink_is_shown_rows_in_order(rt: HostRuntime) -> Result<(), Fail> {
 
 /// A file of the rows, two in a group.
 fn file(alloc: Global) -> R<Vec<u8>> {
-    let schema = lists(alloc)?;
+    let schema = schema_of(alloc, LISTS)?;
     let rows = assemble(alloc, &schema, columns(alloc)?.as_slice())?;
     let options = WriteOptions {
         group_rows: 2,
@@ -189,7 +156,7 @@ fn a_sink_is_shown_the_rows_of_a_file(rt: HostRuntime) -> Result<(), Fail> {
 
 /// Whether three rows are counted, and then none; and whether fewer columns are refused.
 fn are_counted(alloc: Global) -> R<bool> {
-    let schema = lists(alloc)?;
+    let schema = schema_of(alloc, LISTS)?;
     let columns = columns(alloc)?;
     let mut sources = cursors(alloc, columns.as_slice())?;
     let all = count_rows(&schema, sources.as_mut_slice())?;
@@ -236,16 +203,14 @@ impl EntrySource for Sevens {
 }
 
 /// required int64 id
-fn one_number(alloc: Global) -> R<Schema> {
-    let mut elements = Vec::new(alloc);
-    elements.push(element(alloc, "root", REQUIRED, 1)?)?;
-    elements.push(element(alloc, "id", REQUIRED, 0)?)?;
-    Schema::new(alloc, elements.as_slice())
-}
+const ONE_NUMBER: &[FieldRow] = &[
+    ("root", REQUIRED, None, Some(1)),
+    ("id", REQUIRED, Some(INT64), None),
+];
 
 /// Whether the numbers of a source that promises that they fit are shown, to each of two sinks in turn.
 fn are_sevens(alloc: Global) -> R<bool> {
-    let schema = one_number(alloc)?;
+    let schema = schema_of(alloc, ONE_NUMBER)?;
     let mut sources = Vec::new(alloc);
     sources.push(Sevens)?;
     let mut text = Text {

@@ -4,7 +4,7 @@ use crate::folders::{host_disk, own_folder};
 use bits::R;
 use disk::HostDisk;
 use std::fs;
-use std::test::Fail;
+use std::test::*;
 use vault::Vault;
 
 type HostVault = Vault<HostDisk<HostRuntime>>;

@@ -45,6 +45,8 @@ impl Write for Closed {
 struct NoDatasets;
 
 impl<W: Write, E: Write> Datasets<W, E> for NoDatasets {
+    ghost prints = { λ nobody call old new. Unit {0} };
+
     fn make(
         &self,
         _alloc: Global,

@@ -2,7 +2,7 @@
 
 use bits::R;
 use std::alloc::Global;
-use std::test::Fail;
+use std::test::*;
 use upkeep::{KeyReport, Survey, Totals, text_of_survey};
 
 /// A table of 1,000 keys with 10 groups each, of which the last has most bytes, and 1,000 leftovers.

@@ -1,12 +1,12 @@
 //! Each call on a real folder, and the calls that it refuses.
 
-use crate::folders::{has_names, has_range, host_disk, own_folder};
+use crate::folders::{check_folder, check_own_folder, has_range, host_disk, own_folder};
 use crate::rows::{Row, check_calls};
 use disk::Fault::{Absent, Exists, Failed};
-use disk::{Disk, HostDisk, Kind};
+use disk::{Disk, HostDisk, path_in};
 use std::fs;
 use std::os::unix::fs::{MetadataExt, PermissionsExt};
-use std::test::Fail;
+use std::test::*;
 
 /// Names that come and go.
 const NAMES: &[Row] = &[
@@ -25,12 +25,7 @@ const NAMES: &[Row] = &[
 
 #[test]
 fn names_come_and_go_on_a_real_folder(rt: HostRuntime) -> Result<(), Fail> {
-    let folder = own_folder(&rt, "names")?;
-    let mut disk = host_disk(&rt, folder.as_str())?;
-    check_calls(&rt, rt.alloc(), &mut disk, NAMES);
-    assert!(rt; disk.failures() == 0);
-    fs::remove_dir_all(&rt, folder.as_str())?;
-    Ok(())
+    check_own_folder(&rt, "names", NAMES, 0)
 }
 
 /// Calls that cannot be done at all, on a folder with the file `a` and the folder `k=1`.
@@ -71,24 +66,60 @@ const REFUSED: &[Row] = &[
     ("sync-folder", "a", "", Some(Absent)),
     ("sync-folder", "k=2", "", Some(Absent)),
     ("length", "k=1", "", Some(Absent)),
+    ("holds", "a", "hello", None),
+    ("names", "", "a k=1/", None),
+    ("names", "k=1", "", None),
 ];
 
 #[test]
 fn a_real_folder_refuses_what_cannot_be_done_and_changes_nothing(
     rt: HostRuntime,
 ) -> Result<(), Fail> {
-    let folder = own_folder(&rt, "refused")?;
-    let mut disk = host_disk(&rt, folder.as_str())?;
-    check_calls(&rt, rt.alloc(), &mut disk, REFUSED);
-    let names = [("a", Kind::File), ("k=1", Kind::Folder)];
-    assert!(rt;
-        disk.failures() == 0
-            && disk.length("a") == Ok(5)
-            && has_names(&mut disk, rt.alloc(), "", &names)
-            && has_names(&mut disk, rt.alloc(), "k=1", &[])
-    );
-    fs::remove_dir_all(&rt, folder.as_str())?;
-    Ok(())
+    check_own_folder(&rt, "refused", REFUSED, 0)
+}
+
+/// A root, and the next one that takes its place.
+const ROOTS: &[Row] = &[
+    ("folder", "k=a", "", None),
+    ("create", "_metadata", "", None),
+    ("append", "_metadata", "old", None),
+    ("create", "_metadata.new", "", None),
+    ("append", "_metadata.new", "new", None),
+    ("names", "", "k=a/ _metadata _metadata.new", None),
+    ("rename", "_metadata.new", "_metadata", None),
+    ("rename", "_metadata.new", "_metadata", Some(Absent)),
+    ("list", "k=c", "", Some(Absent)),
+    ("holds", "_metadata", "new", None),
+    ("names", "", "k=a/ _metadata", None),
+    ("names", "k=a", "", None),
+];
+
+#[test]
+fn a_rename_takes_the_place_of_its_target_and_a_listing_has_each_name(
+    rt: HostRuntime,
+) -> Result<(), Fail> {
+    check_own_folder(&rt, "root", ROOTS, 0)
+}
+
+/// Paths that mean nothing in a dataset's folder, or lead out of it.
+const OUTSIDE: &[Row] = &[
+    ("folder", "k=a", "", None),
+    ("leads-out", "..", "", None),
+    ("leads-out", ".", "", None),
+    ("leads-out", "../escaped", "", None),
+    ("leads-out", "k=a/../escaped", "", None),
+    ("leads-out", "k=a/./escaped", "", None),
+    ("leads-out", "k=a//escaped", "", None),
+    ("leads-out", "/escaped", "", None),
+    ("leads-out", "k=a/", "", None),
+    ("leads-out", "nul\0", "", None),
+    ("names", "", "k=a/", None),
+    ("names", "k=a", "", None),
+];
+
+#[test]
+fn no_path_leaves_its_folder(rt: HostRuntime) -> Result<(), Fail> {
+    check_own_folder(&rt, "paths", OUTSIDE, 6 * 9)
 }
 
 /// Bytes that are appended and synced.
@@ -132,97 +163,18 @@ fn bytes_are_appended_and_synced_and_a_range_is_as_much_as_is_there(
 ) -> Result<(), Fail> {
     let folder = own_folder(&rt, "bytes")?;
     let mut disk = host_disk(&rt, folder.as_str())?;
-    check_calls(&rt, rt.alloc(), &mut disk, BYTES);
+    check_calls(rt.alloc(), &mut disk, BYTES)?;
     assert!(rt; are_ranges(&rt, &mut disk));
-    fs::remove_dir_all(&rt, folder.as_str())?;
-    Ok(())
+    Ok(fs::remove_dir_all(&rt, folder.as_str())?)
 }
 
-/// A root and the next one.
-const ROOTS: &[Row] = &[
+/// A file in a folder.
+const PART: &[Row] = &[
     ("folder", "k=a", "", None),
-    ("create", "_metadata", "", None),
-    ("append", "_metadata", "old", None),
-    ("create", "_metadata.new", "", None),
-    ("append", "_metadata.new", "new", None),
+    ("create", "k=a/part", "", None),
 ];
 
-/// The next root takes the place of the root.
-const TURN: &[Row] = &[
-    ("rename", "_metadata.new", "_metadata", None),
-    ("rename", "_metadata.new", "_metadata", Some(Absent)),
-    ("list", "k=c", "", Some(Absent)),
-];
-
-#[test]
-fn a_rename_takes_the_place_of_its_target_and_a_listing_has_each_name(
-    rt: HostRuntime,
-) -> Result<(), Fail> {
-    let alloc = rt.alloc();
-    let folder = own_folder(&rt, "root")?;
-    let mut disk = host_disk(&rt, folder.as_str())?;
-    check_calls(&rt, alloc, &mut disk, ROOTS);
-    let names = [
-        ("k=a", Kind::Folder),
-        ("_metadata", Kind::File),
-        ("_metadata.new", Kind::File),
-    ];
-    assert!(rt; has_names(&mut disk, alloc, "", &names));
-    check_calls(&rt, alloc, &mut disk, TURN);
-    assert!(rt;
-        has_range(&mut disk, alloc, "_metadata", (0, 9, "new"))
-            && has_names(&mut disk, alloc, "", &names[..2])
-            && has_names(&mut disk, alloc, "k=a", &[])
-            && disk.failures() == 0
-    );
-    fs::remove_dir_all(&rt, folder.as_str())?;
-    Ok(())
-}
-
-/// Paths that mean nothing in a dataset's folder, or lead out of it.
-const OUTSIDE: &[&str] = &[
-    "..",
-    ".",
-    "../escaped",
-    "k=a/../escaped",
-    "k=a/./escaped",
-    "k=a//escaped",
-    "/escaped",
-    "k=a/",
-    "nul\0",
-];
-
-/// Whether each call at a path fails.
-fn is_refused(disk: &mut HostDisk<HostRuntime>, rt: &HostRuntime, path: &str) -> bool {
-    let faults = [
-        disk.create(path),
-        disk.make_folder(path),
-        disk.append(path, b"x"),
-        disk.read_range(rt.alloc(), path, 0, 1).map(drop),
-        disk.rename("k=a", path),
-        disk.sync_folder(path),
-    ];
-    faults.iter().all(|fault| *fault == Err(Failed))
-}
-
-#[test]
-fn no_path_leaves_its_folder(rt: HostRuntime) -> Result<(), Fail> {
-    let folder = own_folder(&rt, "paths")?;
-    let mut disk = host_disk(&rt, folder.as_str())?;
-    disk.make_folder("k=a")?;
-    for path in OUTSIDE {
-        assert!(rt; is_refused(&mut disk, &rt, path), "{path}");
-    }
-    assert!(rt;
-        disk.failures() == 6 * OUTSIDE.len() as u64
-            && has_names(&mut disk, rt.alloc(), "", &[("k=a", Kind::Folder)])
-            && has_names(&mut disk, rt.alloc(), "k=a", &[])
-    );
-    fs::remove_dir_all(&rt, folder.as_str())?;
-    Ok(())
-}
-
-/// Calls that a folder refuses that may not be written, and one that may not be looked into.
+/// Calls that a folder refuses that may not be written, and that may not be looked into.
 const UNWRITTEN: &[Row] = &[
     ("create", "k=a/other", "", Some(Failed)),
     ("remove", "k=a/part", "", Some(Failed)),
@@ -234,25 +186,32 @@ const UNSEEN: &[Row] = &[
     ("list", "k=a", "", Some(Failed)),
 ];
 
+/// The file that was refused goes.
+const GONE: &[Row] = &[("remove", "k=a/part", "", None)];
+
+/// Goes through the rows where the folder `k=a` has these permissions.
+fn check_closed(
+    rt: &HostRuntime,
+    folder: &str,
+    mode: u32,
+    rows: &[Row],
+    failures: u64,
+) -> Result<(), Fail> {
+    let closed = path_in(rt.alloc(), folder, "k=a")?;
+    fs::set_permissions(rt, closed.as_str(), fs::Permissions::from_mode(mode))?;
+    check_folder(rt, folder, rows, failures)
+}
+
 #[test]
 fn a_folder_without_permission_is_a_counted_failure(rt: HostRuntime) -> Result<(), Fail> {
-    let alloc = rt.alloc();
     let folder = own_folder(&rt, "closed")?;
+    let folder = folder.as_str();
+    check_folder(&rt, folder, PART, 0)?;
     // The system refuses the superuser nothing.
-    let is_root = fs::metadata(&rt, folder.as_str())?.uid() == 0;
-    let mut disk = host_disk(&rt, folder.as_str())?;
-    disk.make_folder("k=a")?;
-    disk.create("k=a/part")?;
-    let closed = format!(in alloc; "{folder}/k=a")?;
-    fs::set_permissions(&rt, closed.as_str(), fs::Permissions::from_mode(0o500))?;
-    if !is_root {
-        check_calls(&rt, alloc, &mut disk, UNWRITTEN);
-        fs::set_permissions(&rt, closed.as_str(), fs::Permissions::from_mode(0o000))?;
-        check_calls(&rt, alloc, &mut disk, UNSEEN);
-        assert!(rt; disk.failures() == 5);
+    if fs::metadata(&rt, folder)?.uid() != 0 {
+        check_closed(&rt, folder, 0o500, UNWRITTEN, 3)?;
+        check_closed(&rt, folder, 0o000, UNSEEN, 2)?;
     }
-    fs::set_permissions(&rt, closed.as_str(), fs::Permissions::from_mode(0o700))?;
-    assert!(rt; disk.remove("k=a/part").is_ok());
-    fs::remove_dir_all(&rt, folder.as_str())?;
-    Ok(())
+    check_closed(&rt, folder, 0o700, GONE, 0)?;
+    Ok(fs::remove_dir_all(&rt, folder)?)
 }

@@ -1,25 +1,22 @@
-//! A file system on which a write, a read or a sync fails in the midst.
+//! A host without links, on which a write, a read or a sync fails in the midst.
 
-use crate::folders::{has_range, own_folder};
-use crate::rows::{Row, check_calls};
-use disk::Fault::Failed;
-use disk::{Disk, HostDisk};
 use std::alloc::Allocator;
 use std::fs::{self, File, Files, Metadata, OpenFile, OpenOptions};
 use std::io::{self, ErrorKind, Read, Seek, SeekFrom, Write};
-use std::test::Fail;
 
-/// The host's files, of which each gives and takes only a few bytes and then fails, and each sync fails.
+/// The host's files without its links. Each that is opened gives and takes so many bytes and then fails, and is synced or not.
 #[derive(Clone, Drop)]
-struct Faulty {
-    rt: HostRuntime,
-    room: usize,
+pub(crate) struct Faulty {
+    pub rt: HostRuntime,
+    pub room: usize,
+    pub syncs: bool,
 }
 
 #[derive(Drop)]
-struct FaultyFile {
+pub(crate) struct FaultyFile {
     file: File,
     room: usize,
+    syncs: bool,
 }
 
 impl Files for Faulty {
@@ -32,6 +29,7 @@ impl Files for Faulty {
         Ok(FaultyFile {
             file,
             room: self.room,
+            syncs: self.syncs,
         })
     }
 
@@ -115,47 +113,14 @@ impl OpenFile for FaultyFile {
     }
 
     fn sync_all(&self) -> io::Result<()> {
-        Err(ErrorKind::Other.into())
+        if self.syncs {
+            self.file.sync_all()
+        } else {
+            Err(ErrorKind::Other.into())
+        }
     }
 
     fn sync_data(&self) -> io::Result<()> {
-        Err(ErrorKind::Other.into())
+        self.sync_all()
     }
-}
-
-/// A file for which there is room, up to a last append of which a part has.
-const APPENDS: &[Row] = &[
-    ("create", "part", "", None),
-    ("append", "part", "hello,", None),
-    ("append", "part", " world", None),
-    ("append", "part", " and more", Some(Failed)),
-];
-
-/// A read of more than comes, and syncs.
-const FAILURES: &[Row] = &[
-    ("read", "part", "", Some(Failed)),
-    ("sync", "part", "", Some(Failed)),
-    ("sync-folder", "", "", Some(Failed)),
-];
-
-#[test]
-fn a_full_disk_and_a_failed_sync_are_counted_once_each(rt: HostRuntime) -> Result<(), Fail> {
-    let alloc = rt.alloc();
-    let folder = own_folder(&rt, "full")?;
-    let files = Faulty {
-        rt: rt.clone()?,
-        room: 6,
-    };
-    let mut disk = HostDisk::new(alloc, files, folder.as_str())?;
-    check_calls(&rt, alloc, &mut disk, APPENDS);
-    // The bytes for which there was room are in the file.
-    assert!(rt;
-        disk.failures() == 1
-            && disk.length("part") == Ok(18)
-            && has_range(&mut disk, alloc, "part", (6, 6, " world"))
-    );
-    check_calls(&rt, alloc, &mut disk, FAILURES);
-    assert!(rt; disk.failures() == 4 && disk.reads() == 2);
-    fs::remove_dir_all(&rt, folder.as_str())?;
-    Ok(())
 }
