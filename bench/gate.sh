@@ -1,72 +1,73 @@
 #!/bin/sh
-# Prints what the gate costs: for each crate the processor minutes of its proof, of its must-fail edits and of its tests, all
-# from nothing and by one job, and the sums. It runs in a copy of what is committed, one crate after the other, and leaves
-# nothing there.
+# Prints what the gate costs: runs `rt ci` in a copy of what is committed, and asks each second which of its processes there are
+# and how much processor time each has used. A table: for each crate the processor minutes of its proof, of its must-fail edits,
+# of its tests and of building and running its programs, and the sums; then the minutes that the whole run took.
 #
-#     bench/gate.sh [CRATE]...         these crates only; those below them are taken as they are proved in out/
+#     bench/gate.sh [--anew] [CRATE]...     these crates only, with those below them
+#
+# What this machine has kept of earlier runs costs nothing and is not in the table: --anew proves all of it again, and so does a
+# machine that has kept nothing. The clock counts what else the machine does; processor minutes rise by a tenth to a half where it
+# is busy. Processes that end within a second are missed.
 top=$(CDPATH='' cd -- "$(dirname -- "$0")/.." && pwd) || exit 1
 room=$(mktemp -d) || exit 1
 trap 'rm -rf "$room"' EXIT
 trap 'exit 130' INT TERM HUP
-git -C "$top" archive HEAD | tar -x -C "$room" || exit 1
-python3 - "$top" "$room" "$@" <<'PYTHON'
-import os, resource, subprocess, sys
+git clone -q "$top" "$room/copy" || exit 1
+python3 - "$room/copy" "$@" <<'PYTHON'
+import collections, os, re, subprocess, sys, time
 
-top, room, named = sys.argv[1], sys.argv[2], sys.argv[3:]
-lines = [it for it in open(f"{room}/crates.txt").read().splitlines() if it.strip() and not it.startswith("#")]
-uses = {it.split(":")[0].split()[0]: it.split(":")[1].split() for it in lines}
-log = open(f"{room}/log", "w")
-
-
-def below(name):
-    """The crates of the repository that this one stands on."""
-    found = set()
-    for it in uses[name]:
-        if it in uses:
-            found |= {it} | below(it)
-    return found
+copy, words = sys.argv[1], sys.argv[2:]
+started = time.time()
+log = open(f"{copy}/../log", "w")
+run = subprocess.Popen(["rt", "ci", *words], cwd=copy, stdin=subprocess.DEVNULL, stdout=log, stderr=log, start_new_session=True)
+TICKS = os.sysconf("SC_CLK_TCK")
+KINDS = ("proof", "edits", "tests", "builds")
+seen = {}
 
 
-def minutes(words, folder):
-    """The processor minutes of a command, and whether it did what it should."""
-    before = resource.getrusage(resource.RUSAGE_CHILDREN)
-    ran = subprocess.run(words, cwd=folder, stdin=subprocess.DEVNULL, stdout=log, stderr=subprocess.STDOUT)
-    after = resource.getrusage(resource.RUSAGE_CHILDREN)
-    used = after.ru_utime + after.ru_stime - before.ru_utime - before.ru_stime
-    if ran.returncode:
-        print(f"{' '.join(words)} in {folder}:\n" + "\n".join(open(f"{room}/log").read().split("\n")[-20:]), file=sys.stderr)
-    return used / 60, ran.returncode == 0
+def text_of(path):
+    with open(path, "rb") as file:
+        return file.read().decode(errors="replace")
 
 
-def take_below(names):
-    """Copies what is proved of the crates below these, or proves it, uncounted."""
-    for name in sorted(set().union(*[below(it) for it in names]) - set(names), key=lambda it: len(below(it))):
-        if os.path.isdir(f"{top}/crates/{name}/out"):
-            subprocess.run(["cp", "-a", f"{top}/crates/{name}/out", f"{room}/crates/{name}/"], check=True)
-        minutes(["rt", "lib", "--jobs", "1"], f"{room}/crates/{name}")
+def kind_of(folder, call):
+    """What a process is for."""
+    if "/rt-edit-" in folder or "/rt-edit-" in call:
+        return "edits"
+    if " --test " in call or "_tests" in call:
+        return "tests"
+    return "proof" if re.search(r"rattle (build|check) ", call) else "builds"
 
 
-def has_tests(folder):
-    return subprocess.run(["grep", "-rqE", r"#\[(cfg\()?test", f"{folder}/src"]).returncode == 0
+def sample():
+    """Notes the processor time of each process of the run."""
+    for number in filter(str.isdigit, os.listdir("/proc")):
+        try:
+            fields = text_of(f"/proc/{number}/stat").rpartition(")")[2].split()
+            call = text_of(f"/proc/{number}/cmdline").replace("\0", " ")
+            folder = os.readlink(f"/proc/{number}/cwd")
+        except OSError:
+            continue
+        if int(fields[3]) != run.pid:
+            continue
+        crate = re.search(r"--crate-name (\w+)", call) or re.search(r"crates/(\w+)", folder + " " + call)
+        name = crate[1] if crate else "(rt itself)"
+        seen[number, fields[19]] = name, kind_of(folder, call), (int(fields[11]) + int(fields[12])) / TICKS / 60
 
 
-if set(named) - set(uses):
-    sys.exit("no such crate: " + " ".join(sorted(set(named) - set(uses))))
-take_below(named)
-print("| crate | proof | edits | tests | sum |")
-print("|---|---|---|---|---|", flush=True)
-sums = [0.0, 0.0, 0.0]
-# A crate comes after those below it.
-for name in sorted([it for it in uses if not named or it in named], key=lambda it: len(below(it))):
-    folder = f"{room}/crates/{name}"
-    edits = len(os.listdir(f"{folder}/must-fail")) if os.path.isdir(f"{folder}/must-fail") else 0
-    program = os.path.isfile(f"{folder}/src/main.rt")
-    parts = [minutes(["rt", "check" if program else "lib", "--jobs", "1"], folder)]
-    parts.append(minutes(["rt", "must-fail", name], room) if edits else (0.0, True))
-    parts.append(minutes(["rt", "test", "--jobs", "1"], folder) if has_tests(folder) else (0.0, True))
-    sums = [a + b[0] for a, b in zip(sums, parts)]
-    cells = [f"{used:.1f}" + ("" if done else " (failed)") for used, done in parts]
-    cells[1] += f" ({edits})" if edits else ""
-    print(f"| `{name}` | {' | '.join(cells)} | {sum(used for used, _ in parts):.1f} |", flush=True)
+while run.poll() is None:
+    sample()
+    time.sleep(1)
+
+costs = collections.defaultdict(collections.Counter)
+for name, kind, minutes in seen.values():
+    costs[name][kind] += minutes
+order = [it.split(":")[0].split()[0] for it in text_of(f"{copy}/crates.txt").splitlines() if it.strip() and not it.startswith("#")]
+print(f"| crate | {' | '.join(KINDS)} | sum |\n|{'---|' * (len(KINDS) + 2)}")
+for name in [it for it in [*order, "(rt itself)"] if it in costs]:
+    print(f"| `{name}` | {' | '.join(f'{costs[name][it]:.1f}' for it in KINDS)} | {sum(costs[name].values()):.1f} |")
+sums = [sum(it[kind] for it in costs.values()) for kind in KINDS]
 print(f"| all | {' | '.join(f'{it:.1f}' for it in sums)} | {sum(sums):.1f} |")
+print(f"{(time.time() - started) / 60:.0f} minutes; {text_of(f'{copy}/../log').strip().splitlines()[-1]}")
+sys.exit(run.returncode)
 PYTHON
