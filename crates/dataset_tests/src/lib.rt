@@ -15,19 +15,27 @@ mod faulty_files;
 #[cfg(test)]
 mod folders;
 #[cfg(test)]
+mod foreign_names;
+#[cfg(test)]
 mod full_disks;
 #[cfg(test)]
 mod groups;
 #[cfg(test)]
+mod last_failures;
+#[cfg(test)]
 mod links;
 #[cfg(test)]
 mod new_files;
+#[cfg(test)]
+mod odd_names;
 #[cfg(test)]
 mod real_folders;
 #[cfg(test)]
 mod rows;
 #[cfg(test)]
 mod surveyed_tables;
+#[cfg(test)]
+mod swapping_files;
 #[cfg(test)]
 mod vault_calls;
 #[cfg(test)]

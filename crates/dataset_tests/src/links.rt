@@ -39,7 +39,6 @@ const LINKED: &[Row] = &[
     ("create", "folder/escaped", "", Some(Failed)),
     ("read", "folder/kept", "", Some(Failed)),
     ("remove", "folder/kept", "", Some(Failed)),
-    ("list", "", "", Some(Failed)),
 ];
 
 /// Calls where another kind of node stands than they ask for, which is no failure.
@@ -48,10 +47,11 @@ const OTHERS: &[Row] = &[
     ("append", "k=a", "x", Some(Absent)),
     ("sync-folder", "plain", "", Some(Absent)),
     ("create", "plain/below", "", Some(Absent)),
+    ("names", "", "plain k=a/", None),
 ];
 
 /// Whether a link is made in a folder, by its name and where it leads.
-fn is_linked(rt: &HostRuntime, folder: &str, name: &str, target: &str) -> bool {
+pub(crate) fn is_linked(rt: &HostRuntime, folder: &str, name: &str, target: &str) -> bool {
     match path_in(rt.alloc(), folder, name) {
         Ok(path) => symlink(rt, target, path.as_str()).is_ok(),
         Err(_) => false,

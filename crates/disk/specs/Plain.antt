@@ -1,9 +1,11 @@
 -- What a real folder is asked for, and what its errors mean.
-use Rattle.std.specs.Prelude.{◌≡◌, ◌≢◌, ◌⊎◌, ◌==◌, ℕ, List, [], ◌∷◌, All, codes, Bool, false}
-use Rattle.std.specs.List.{slice_split}
+use Rattle.std.specs.Prelude.{◌≡◌, ◌≢◌, ◌⊎◌, ◌==◌, ◌||◌, ◌&&◌, ℕ, List, [], ◌∷◌, All, codes, Bool, false, Result, Ok, Err, IsErrAnd}
+use Rattle.std.specs.List.{slice_split, list_any, starts_with, ends_with}
+use Rattle.std.specs.Str.{bytes_eq}
 use Rattle.disk.specs.Paths.{slash, path_in}
 use Rattle.disk.specs.State.{State, IsLawful}
 use Rattle.disk.specs.declared.binding.Binding.TheVariants.{Nothing}
+use Rattle.disk.specs.declared.cause.Cause.{Cause}
 use Rattle.disk.specs.declared.fault.Fault.{Fault}
 use Rattle.disk.specs.declared.fault.Fault.TheVariants.{Absent, Failed, Memory}
 use Rattle.std.specs.declared.io.ErrorKind.{ErrorKind}
@@ -35,6 +37,20 @@ abbrev pub fault_of : ErrorKind → Bool → Fault
 fault_of NotFound from_system = Absent
 fault_of OutOfMemory false = Memory
 fault_of _ _ = Failed
+
+-- the call is not done, for this fault
+abbrev pub FailsWith : {T : Type 0} → Result T Cause → Fault → Type 0
+FailsWith result fault = IsErrAnd result (λ c. c.fault ≡ fault)
+
+-- what was done, or the fault only
+abbrev pub fault_alone : {T : Type 0} → Result T Cause → Result T Fault
+fault_alone (Ok done) = Ok done
+fault_alone (Err c) = Err c.fault
+
+-- a name that a dataset could have given: of its root, of the next root, of a key folder (`name=value`) or of a part file
+abbrev pub is_dataset_name : List ℕ → Bool
+is_dataset_name name = bytes_eq name (codes "_metadata") || (bytes_eq name (codes "_metadata.new") || (list_any (λ b. b == 61) name
+    || (starts_with (λ a b. a == b) name (codes "part.") && ends_with (λ a b. a == b) name (codes ".parquet"))))
 
 -- what is claimed of a real folder: its counters, and nothing else
 abbrev pub host_state : ℕ → ℕ → State

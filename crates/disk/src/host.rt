@@ -4,15 +4,17 @@ ghost use Rattle.std.specs.Prelude.{◌≡◌, ◌≢◌, ◌⊎◌, ◌≤◌, 
 ghost use Rattle.disk.specs.Paths.{folder_of};
 ghost use Rattle.disk.specs.State.{IsOneMore};
 ghost use Rattle.disk.specs.Calls.{CountsFailure};
-ghost use Rattle.disk.specs.Plain.{IsProper, folder_or_dot, host_path, host_state, host_lawful};
+ghost use Rattle.disk.specs.Plain.{IsProper, FailsWith, fault_alone, folder_or_dot, host_path, host_state, host_lawful};
 
 use crate::binding::Entry;
+use crate::cause::Cause;
 use crate::counts::{counted, one_more};
 use crate::disk::Disk;
+use crate::failure::Failure;
 use crate::fault::Fault;
-use crate::host_calls as calls;
 use crate::paths::folder_of;
 use crate::reach::{is_path, reach};
+use crate::{host_calls as calls, listing};
 use std::alloc::Global;
 use std::fs::Files;
 
@@ -21,6 +23,9 @@ use std::fs::Files;
 /// That the file system keeps the model of [`Disk`] is a premise of whoever uses it: of what it holds nothing is
 /// promised here. `docs/DISK.md` says which file systems are meant. What is promised is which faults are returned, the
 /// counts of failures and of reads, and that it stays the folder that it was made of (`same_folder`).
+///
+/// It keeps what its last failure and its last absence were about, for messages ([`HostDisk::last_failure`],
+/// [`HostDisk::last_absence`]).
 ///
 /// No call leaves the folder: a path with an empty part, `.` or `..` is refused Failed (`outside`), and so is one with
 /// a link, a pipe or another kind of node on its way or at its end.
@@ -31,6 +36,8 @@ pub struct HostDisk<R: Files + Clone + Drop> {
     folder: String,
     failures: u64,
     reads: u64,
+    last_failure: Option<Failure>,
+    last_absence: Option<Failure>,
 }
 
 impl<R: Files + Clone + Drop> HostDisk<R> {
@@ -49,28 +56,42 @@ impl<R: Files + Clone + Drop> HostDisk<R> {
             folder,
             failures: 0,
             reads: 0,
+            last_failure: None,
+            last_absence: None,
         })
     }
 
+    /// The last call that failed ([`Fault::Failed`]), with its path and the error; None if none has. Later calls that are
+    /// done or refused leave it.
+    pub fn last_failure(&self) -> Option<&Failure> {
+        self.last_failure.as_ref()
+    }
+
+    /// The last call that found nothing at its path ([`Fault::Absent`]), with the error; None if none has. Later calls that
+    /// are done, fail or are refused otherwise leave it.
+    pub fn last_absence(&self) -> Option<&Failure> {
+        self.last_absence.as_ref()
+    }
+
     /// Where a path stands on the host: below the folder, since the path is proper.
-    fn reach(&self, path: &str) -> Result<String, Fault>
+    fn reach(&self, path: &str) -> Result<String, Cause>
         ensures inside { IfOk result (λ place. string_bytes place ≡ host_path (string_bytes self.now.folder) path.now) }
-        ensures outside { (IsProper path.now → ⊥) → IsErrOf result Fault.Failed }
-        ensures top { path.now ≡ [] → IfErr result (λ e. e ≡ Fault.Memory) }
-        ensures which { IfErr result (λ e. e ≢ Fault.Exists) }
+        ensures outside { (IsProper path.now → ⊥) → FailsWith result Fault.Failed }
+        ensures top { path.now ≡ [] → IfErr result (λ e. e.fault ≡ Fault.Memory) }
+        ensures which { IfErr result (λ e. e.fault ≢ Fault.Exists) }
     {
         reach(&self.files, self.alloc, self.folder.as_str(), path)
     }
 
-    fn try_create(&self, path: &str) -> Result<(), Fault>
-        ensures outside { (IsProper path.now → ⊥) → IsErrOf result Fault.Failed }
+    fn try_create(&self, path: &str) -> Result<(), Cause>
+        ensures outside { (IsProper path.now → ⊥) → FailsWith result Fault.Failed }
     {
         let place = self.reach(path)?;
         calls::create(&self.files, place.as_str())
     }
 
-    fn try_make_folder(&self, path: &str) -> Result<(), Fault>
-        ensures outside { (IsProper path.now → ⊥) → IsErrOf result Fault.Failed }
+    fn try_make_folder(&self, path: &str) -> Result<(), Cause>
+        ensures outside { (IsProper path.now → ⊥) → FailsWith result Fault.Failed }
     {
         let place = self.reach(path)?;
         calls::make_folder(&self.files, place.as_str())
@@ -82,63 +103,63 @@ impl<R: Files + Clone + Drop> HostDisk<R> {
         path: &str,
         from: u64,
         len: usize,
-    ) -> Result<Vec<u8>, Fault>
-        ensures outside { (IsProper path.now → ⊥) → IsErrOf result Fault.Failed }
+    ) -> Result<Vec<u8>, Cause>
+        ensures outside { (IsProper path.now → ⊥) → FailsWith result Fault.Failed }
         ensures at_most { IfOk result (λ bytes. length bytes.items ≤ len) }
-        ensures which { IfErr result (λ e. e ≢ Fault.Exists) }
+        ensures which { IfErr result (λ e. e.fault ≢ Fault.Exists) }
     {
         let place = self.reach(path)?;
         calls::read_range(&self.files, alloc, place.as_str(), from, len)
     }
 
-    fn try_length(&self, path: &str) -> Result<u64, Fault>
-        ensures outside { (IsProper path.now → ⊥) → IsErrOf result Fault.Failed }
-        ensures which { IfErr result (λ e. e ≢ Fault.Exists) }
+    fn try_length(&self, path: &str) -> Result<u64, Cause>
+        ensures outside { (IsProper path.now → ⊥) → FailsWith result Fault.Failed }
+        ensures which { IfErr result (λ e. e.fault ≢ Fault.Exists) }
     {
         let place = self.reach(path)?;
         calls::length(&self.files, place.as_str())
     }
 
-    fn try_list(&self, alloc: Global, folder: &str) -> Result<Vec<Entry>, Fault>
-        ensures outside { (IsProper folder.now → ⊥) → IsErrOf result Fault.Failed }
-        ensures which { IfErr result (λ e. e ≢ Fault.Exists) }
+    fn try_list(&self, alloc: Global, folder: &str) -> Result<Vec<Entry>, Cause>
+        ensures outside { (IsProper folder.now → ⊥) → FailsWith result Fault.Failed }
+        ensures which { IfErr result (λ e. e.fault ≢ Fault.Exists) }
     {
         let place = self.reach(folder)?;
-        calls::list(&self.files, alloc, place.as_str())
+        listing::list(&self.files, alloc, place.as_str())
     }
 
-    fn try_append(&self, path: &str, bytes: &[u8]) -> Result<(), Fault>
-        ensures outside { (IsProper path.now → ⊥) → IsErrOf result Fault.Failed }
-        ensures which { IfErr result (λ e. e ≢ Fault.Exists) }
+    fn try_append(&self, path: &str, bytes: &[u8]) -> Result<(), Cause>
+        ensures outside { (IsProper path.now → ⊥) → FailsWith result Fault.Failed }
+        ensures which { IfErr result (λ e. e.fault ≢ Fault.Exists) }
     {
         let place = self.reach(path)?;
         calls::append(&self.files, place.as_str(), bytes)
     }
 
-    fn try_sync(&self, path: &str) -> Result<(), Fault>
-        ensures outside { (IsProper path.now → ⊥) → IsErrOf result Fault.Failed }
-        ensures which { IfErr result (λ e. e ≢ Fault.Exists) }
+    fn try_sync(&self, path: &str) -> Result<(), Cause>
+        ensures outside { (IsProper path.now → ⊥) → FailsWith result Fault.Failed }
+        ensures which { IfErr result (λ e. e.fault ≢ Fault.Exists) }
     {
         let place = self.reach(path)?;
         calls::sync(&self.files, place.as_str())
     }
 
-    fn try_sync_folder(&self, folder: &str) -> Result<(), Fault>
-        ensures outside { (IsProper folder.now → ⊥) → IsErrOf result Fault.Failed }
-        ensures which { IfErr result (λ e. e ≢ Fault.Exists) }
+    fn try_sync_folder(&self, folder: &str) -> Result<(), Cause>
+        ensures outside { (IsProper folder.now → ⊥) → FailsWith result Fault.Failed }
+        ensures which { IfErr result (λ e. e.fault ≢ Fault.Exists) }
     {
         let place = self.reach(folder)?;
         calls::sync_folder(&self.files, place.as_str())
     }
 
-    fn try_rename(&self, source: &str, target: &str) -> Result<(), Fault>
-        ensures outside { (IsProper source.now → ⊥) → IsErrOf result Fault.Failed }
-        ensures onto { (IsProper target.now → ⊥) → IsErrOf result Fault.Failed }
+    fn try_rename(&self, source: &str, target: &str) -> Result<(), Cause>
+        ensures outside { (IsProper source.now → ⊥) → FailsWith result Fault.Failed }
+        ensures onto { (IsProper target.now → ⊥) → FailsWith result Fault.Failed }
         ensures apart { source.now ≡ target.now → IfOk result (λ _. ⊥) }
         ensures beside { folder_of source.now ≢ folder_of target.now → IfOk result (λ _. ⊥) }
     {
         if !is_path(target) {
-            return Err(Fault::Failed);
+            return Err(Cause::refused("an empty part, `.` or `..` in a path"));
         }
         let from = self.reach(source)?;
         if source == target || folder_of(source) != folder_of(target) {
@@ -148,21 +169,58 @@ impl<R: Files + Clone + Drop> HostDisk<R> {
         calls::rename(&self.files, from.as_str(), to.as_str())
     }
 
-    fn try_remove(&self, path: &str) -> Result<(), Fault>
-        ensures outside { (IsProper path.now → ⊥) → IsErrOf result Fault.Failed }
+    fn try_remove(&self, path: &str) -> Result<(), Cause>
+        ensures outside { (IsProper path.now → ⊥) → FailsWith result Fault.Failed }
     {
         let place = self.reach(path)?;
         calls::remove(&self.files, place.as_str())
     }
+
+    /// The answer of a call at a path, with its fault only. A failure is counted; a failure and an absence are kept.
+    fn noted<T: Drop>(&mut self, path: &str, answer: Result<T, Cause>) -> Result<T, Fault>
+        ensures same { result ≡ fault_alone answer }
+        ensures counts { CountsFailure result self.old.failures self.new.failures }
+        ensures reads { self.new.reads ≡ self.old.reads }
+        ensures same_folder { self.new.folder ≡ self.old.folder }
+    {
+        match answer {
+            Ok(done) => Ok(done),
+            Err(cause) => {
+                self.note(path, cause);
+                counted(&mut self.failures, Err(cause.fault))
+            }
+        }
+    }
+
+    /// Keeps what a failure or an absence was about.
+    #[cold]
+    fn note(&mut self, path: &str, cause: Cause)
+        ensures failures { self.new.failures ≡ self.old.failures }
+        ensures reads { self.new.reads ≡ self.old.reads }
+        ensures same_folder { self.new.folder ≡ self.old.folder }
+    {
+        match cause.fault {
+            Fault::Failed => self.last_failure = Some(Failure::at(self.alloc, path, cause)),
+            Fault::Absent => self.last_absence = Some(Failure::at(self.alloc, path, cause)),
+            Fault::Exists | Fault::Memory => {}
+        }
+    }
 }
 
 /// Out of memory reported as a failure, for the calls that never return Memory.
-fn memory_is_failure(answer: Result<(), Fault>) -> Result<(), Fault>
-    ensures told { IsErrOf answer Fault.Memory → IsErrOf result Fault.Failed }
-    ensures others { (IsErrOf answer Fault.Memory → ⊥) → result ≡ answer }
+fn memory_is_failure(answer: Result<(), Cause>) -> Result<(), Cause>
+    ensures failed { FailsWith answer Fault.Failed → FailsWith result Fault.Failed }
+    ensures refused { IfOk answer (λ _. ⊥) → IfOk result (λ _. ⊥) }
+    ensures absent { IfErr answer (λ e. e.fault ≢ Fault.Exists) → IfErr result (λ e. (e.fault ≡ Fault.Absent) ⊎ (e.fault ≡ Fault.Failed)) }
+    ensures which { IfErr result (λ e. e.fault ≢ Fault.Memory) }
 {
     match answer {
-        Err(Fault::Memory) => Err(Fault::Failed),
+        Err(
+            Cause {
+                fault: Fault::Memory,
+                error,
+            },
+        ) => Err(Cause::failed(error)),
         _ => answer,
     }
 }
@@ -180,7 +238,7 @@ impl<R: Files + Clone + Drop> Disk for HostDisk<R> {
         ensures same_folder { self.new.folder ≡ self.old.folder }
     {
         let answer = self.try_create(path);
-        counted(&mut self.failures, answer)
+        self.noted(path, answer)
     }
 
     fn make_folder(&mut self, path: &str) -> Result<(), Fault>
@@ -190,7 +248,7 @@ impl<R: Files + Clone + Drop> Disk for HostDisk<R> {
         ensures same_folder { self.new.folder ≡ self.old.folder }
     {
         let answer = self.try_make_folder(path);
-        counted(&mut self.failures, answer)
+        self.noted(path, answer)
     }
 
     fn read_range(
@@ -209,7 +267,7 @@ impl<R: Files + Clone + Drop> Disk for HostDisk<R> {
     {
         self.reads = one_more(self.reads);
         let answer = self.try_read_range(alloc, path, from, len);
-        counted(&mut self.failures, answer)
+        self.noted(path, answer)
     }
 
     fn length(&mut self, path: &str) -> Result<u64, Fault>
@@ -220,7 +278,7 @@ impl<R: Files + Clone + Drop> Disk for HostDisk<R> {
         ensures same_folder { self.new.folder ≡ self.old.folder }
     {
         let answer = self.try_length(path);
-        counted(&mut self.failures, answer)
+        self.noted(path, answer)
     }
 
     fn list(&mut self, alloc: Global, folder: &str) -> Result<Vec<Entry>, Fault>
@@ -231,7 +289,7 @@ impl<R: Files + Clone + Drop> Disk for HostDisk<R> {
         ensures same_folder { self.new.folder ≡ self.old.folder }
     {
         let answer = self.try_list(alloc, folder);
-        counted(&mut self.failures, answer)
+        self.noted(folder, answer)
     }
 
     fn append(&mut self, path: &str, bytes: &[u8]) -> Result<(), Fault>
@@ -242,7 +300,7 @@ impl<R: Files + Clone + Drop> Disk for HostDisk<R> {
         ensures same_folder { self.new.folder ≡ self.old.folder }
     {
         let answer = self.try_append(path, bytes);
-        counted(&mut self.failures, answer)
+        self.noted(path, answer)
     }
 
     fn sync(&mut self, path: &str) -> Result<(), Fault>
@@ -253,7 +311,7 @@ impl<R: Files + Clone + Drop> Disk for HostDisk<R> {
         ensures same_folder { self.new.folder ≡ self.old.folder }
     {
         let answer = self.try_sync(path);
-        counted(&mut self.failures, answer)
+        self.noted(path, answer)
     }
 
     fn sync_folder(&mut self, folder: &str) -> Result<(), Fault>
@@ -264,7 +322,7 @@ impl<R: Files + Clone + Drop> Disk for HostDisk<R> {
         ensures same_folder { self.new.folder ≡ self.old.folder }
     {
         let answer = memory_is_failure(self.try_sync_folder(folder));
-        counted(&mut self.failures, answer)
+        self.noted(folder, answer)
     }
 
     fn rename(&mut self, source: &str, target: &str) -> Result<(), Fault>
@@ -278,7 +336,7 @@ impl<R: Files + Clone + Drop> Disk for HostDisk<R> {
         ensures same_folder { self.new.folder ≡ self.old.folder }
     {
         let answer = memory_is_failure(self.try_rename(source, target));
-        counted(&mut self.failures, answer)
+        self.noted(source, answer)
     }
 
     fn remove(&mut self, path: &str) -> Result<(), Fault>
@@ -288,7 +346,7 @@ impl<R: Files + Clone + Drop> Disk for HostDisk<R> {
         ensures same_folder { self.new.folder ≡ self.old.folder }
     {
         let answer = self.try_remove(path);
-        counted(&mut self.failures, answer)
+        self.noted(path, answer)
     }
 
     fn failures(&self) -> u64 {

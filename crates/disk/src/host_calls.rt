@@ -2,53 +2,56 @@
 
 ghost use Rattle.std.specs.Prelude.{◌≡◌, ◌≢◌, ◌≤◌, IfOk, IfErr, length};
 
-use crate::binding::{Entry, Kind};
+use crate::cause::Cause;
 use crate::fault::Fault;
-use crate::reach::{Found, found_at};
+use crate::reach::{Found, found_at, found_in};
 use std::alloc::Global;
 use std::fs::{self, File, Files, OpenFile, OpenOptions};
-use std::io::{self, Read, Seek, SeekFrom, Write};
+use std::io::{ErrorKind, Read, Seek, SeekFrom, Write};
 
 /// The length of the file at a place. Absent where no file is there, Failed where another kind of node is.
-pub fn length<R: Files>(files: &R, place: &str) -> Result<u64, Fault>
-    ensures which { IfErr result (λ e. e ≢ Fault.Exists) }
+pub fn length<R: Files>(files: &R, place: &str) -> Result<u64, Cause>
+    ensures which { IfErr result (λ e. e.fault ≢ Fault.Exists) }
 {
     match found_at(files, place)? {
         Found::File(length) => Ok(length),
-        Found::Other => Err(Fault::Failed),
-        Found::Nothing | Found::Folder => Err(Fault::Absent),
+        Found::Other => Err(Cause::other_node()),
+        Found::Nothing | Found::Folder => Err(Cause::absent()),
     }
 }
 
-pub fn create<R: Files>(files: &R, place: &str) -> Result<(), Fault> {
+pub fn create<R: Files>(files: &R, place: &str) -> Result<(), Cause> {
     match File::create_new(files, place) {
         Ok(_) => Ok(()),
-        Err(e) if e.kind() == io::ErrorKind::AlreadyExists => Err(Fault::Exists),
-        Err(e) => Err(Fault::from(e)),
+        Err(e) if e.kind() == ErrorKind::AlreadyExists => Err(Cause::exists()),
+        Err(e) => Err(Cause::from(e)),
     }
 }
 
-pub fn make_folder<R: Files>(files: &R, place: &str) -> Result<(), Fault> {
+pub fn make_folder<R: Files>(files: &R, place: &str) -> Result<(), Cause> {
     match found_at(files, place)? {
         Found::Nothing => Ok(fs::create_dir(files, place)?),
         Found::Folder => Ok(()),
-        Found::File(_) => Err(Fault::Exists),
-        Found::Other => Err(Fault::Failed),
+        Found::File(_) => Err(Cause::exists()),
+        Found::Other => Err(Cause::other_node()),
     }
 }
 
+/// At most `len` bytes of the file at a place, from `from` on. What stands there is looked at first, since to open a pipe
+/// would wait; the length is that of the file that was opened, so another file may take the name at any moment.
 pub fn read_range<R: Files>(
     files: &R,
     alloc: Global,
     place: &str,
     from: u64,
     len: usize,
-) -> Result<Vec<u8>, Fault>
+) -> Result<Vec<u8>, Cause>
     ensures at_most { IfOk result (λ bytes. length bytes.items ≤ len) }
-    ensures which { IfErr result (λ e. e ≢ Fault.Exists) }
+    ensures which { IfErr result (λ e. e.fault ≢ Fault.Exists) }
 {
-    let there = length(files, place)?.saturating_sub(from).min(len as u64);
+    length(files, place)?;
     let mut file = File::open(files, place)?;
+    let there = open_length(&file)?.saturating_sub(from).min(len as u64);
     let mut bytes = vec![in alloc; 0u8; there as usize]?;
     if there > 0 {
         file.seek(SeekFrom::Start(from))?;
@@ -57,101 +60,78 @@ pub fn read_range<R: Files>(
     Ok(bytes)
 }
 
-/// The names in a folder. Fails at a name that is no file or folder, or no UTF-8.
-pub fn list<R: Files + Clone + Drop>(
-    files: &R,
-    alloc: Global,
-    place: &str,
-) -> Result<Vec<Entry>, Fault>
-    ensures which { IfErr result (λ e. e ≢ Fault.Exists) }
+/// The length of an open file. Failed for another kind of node.
+fn open_length<F: OpenFile>(file: &F) -> Result<u64, Cause>
+    ensures which { IfErr result (λ e. e.fault ≢ Fault.Exists) }
 {
-    check_folder(files, place)?;
-    let mut entries = Vec::new(alloc);
-    for entry in fs::read_dir(&(files.clone()?, alloc), place)? {
-        let entry = entry?;
-        let kind = entry.file_type()?;
-        let kind = if kind.is_file() {
-            Kind::File
-        } else if kind.is_dir() {
-            Kind::Folder
-        } else {
-            return Err(Fault::Failed);
-        };
-        let name = String::from_str(alloc, entry.file_name())?;
-        entries.push(Entry { name, kind })?;
+    match found_in(file.metadata())? {
+        Found::File(length) => Ok(length),
+        Found::Nothing | Found::Folder | Found::Other => Err(Cause::other_node()),
     }
-    Ok(entries)
 }
 
-pub fn append<R: Files>(files: &R, place: &str, bytes: &[u8]) -> Result<(), Fault>
-    ensures which { IfErr result (λ e. e ≢ Fault.Exists) }
+pub fn append<R: Files>(files: &R, place: &str, bytes: &[u8]) -> Result<(), Cause>
+    ensures which { IfErr result (λ e. e.fault ≢ Fault.Exists) }
 {
     length(files, place)?;
     let mut file = OpenOptions::new().append(true).open(files, place)?;
-    file.write_all(bytes).map_err(failed)
+    file.write_all(bytes).map_err(Cause::failed)
 }
 
-pub fn sync<R: Files>(files: &R, place: &str) -> Result<(), Fault>
-    ensures which { IfErr result (λ e. e ≢ Fault.Exists) }
+pub fn sync<R: Files>(files: &R, place: &str) -> Result<(), Cause>
+    ensures which { IfErr result (λ e. e.fault ≢ Fault.Exists) }
 {
     length(files, place)?;
-    File::open(files, place)?.sync_all().map_err(failed)
+    File::open(files, place)?.sync_all().map_err(Cause::failed)
 }
 
-pub fn sync_folder<R: Files>(files: &R, place: &str) -> Result<(), Fault>
-    ensures which { IfErr result (λ e. e ≢ Fault.Exists) }
+pub fn sync_folder<R: Files>(files: &R, place: &str) -> Result<(), Cause>
+    ensures which { IfErr result (λ e. e.fault ≢ Fault.Exists) }
 {
     check_folder(files, place)?;
-    File::open(files, place)?.sync_all().map_err(failed)
+    File::open(files, place)?.sync_all().map_err(Cause::failed)
 }
 
-pub fn rename<R: Files>(files: &R, source: &str, target: &str) -> Result<(), Fault> {
+pub fn rename<R: Files>(files: &R, source: &str, target: &str) -> Result<(), Cause> {
     match (found_at(files, source)?, found_at(files, target)?) {
-        (Found::Nothing, _) => Err(Fault::Absent),
-        (Found::Other, _) | (_, Found::Other) => Err(Fault::Failed),
-        (Found::Folder, _) | (_, Found::Folder) => Err(Fault::Exists),
+        (Found::Nothing, _) => Err(Cause::absent()),
+        (Found::Other, _) | (_, Found::Other) => Err(Cause::other_node()),
+        (Found::Folder, _) | (_, Found::Folder) => Err(Cause::exists()),
         (Found::File(_), Found::File(_) | Found::Nothing) => fs::rename(
             files, source, target,
-        ).map_err(failed),
+        ).map_err(Cause::failed),
     }
 }
 
 /// Refuses a rename that cannot be, by what stands at its source: Absent where nothing does, Failed where another kind
 /// of node does, else Exists.
-pub fn refuse_rename<R: Files>(files: &R, source: &str) -> Result<(), Fault>
+pub fn refuse_rename<R: Files>(files: &R, source: &str) -> Result<(), Cause>
     ensures refused { IfOk result (λ _. ⊥) }
 {
     match found_at(files, source)? {
-        Found::Nothing => Err(Fault::Absent),
-        Found::Other => Err(Fault::Failed),
-        Found::File(_) | Found::Folder => Err(Fault::Exists),
+        Found::Nothing => Err(Cause::absent()),
+        Found::Other => Err(Cause::other_node()),
+        Found::File(_) | Found::Folder => Err(Cause::exists()),
     }
 }
 
 /// Removes a file's name. Absent where no name is there, Exists where it is a folder's.
-pub fn remove<R: Files>(files: &R, place: &str) -> Result<(), Fault> {
+pub fn remove<R: Files>(files: &R, place: &str) -> Result<(), Cause> {
     match found_at(files, place)? {
-        Found::File(_) => fs::remove_file(files, place).map_err(failed),
-        Found::Nothing => Err(Fault::Absent),
-        Found::Folder => Err(Fault::Exists),
-        Found::Other => Err(Fault::Failed),
+        Found::File(_) => fs::remove_file(files, place).map_err(Cause::failed),
+        Found::Nothing => Err(Cause::absent()),
+        Found::Folder => Err(Cause::exists()),
+        Found::Other => Err(Cause::other_node()),
     }
 }
 
 /// That a folder is there: Absent where none is, Failed where another kind of node is.
-fn check_folder<R: Files>(files: &R, place: &str) -> Result<(), Fault>
-    ensures which { IfErr result (λ e. e ≢ Fault.Exists) }
+pub fn check_folder<R: Files>(files: &R, place: &str) -> Result<(), Cause>
+    ensures which { IfErr result (λ e. e.fault ≢ Fault.Exists) }
 {
     match found_at(files, place)? {
         Found::Folder => Ok(()),
-        Found::Other => Err(Fault::Failed),
-        Found::Nothing | Found::File(_) => Err(Fault::Absent),
+        Found::Other => Err(Cause::other_node()),
+        Found::Nothing | Found::File(_) => Err(Cause::absent()),
     }
-}
-
-/// What the system refuses in the midst of a call: the call may have taken effect, not, or in part.
-fn failed(_e: io::Error) -> Fault
-    ensures { result ≡ Fault.Failed }
-{
-    Fault::Failed
 }

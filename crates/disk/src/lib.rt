@@ -5,16 +5,20 @@
 #![tactic(auto)]
 
 mod binding;
+mod cause;
 mod counts;
 mod disk;
+mod failure;
 mod fault;
 mod host;
 mod host_calls;
+mod listing;
 mod paths;
 mod reach;
 
 pub use binding::{Binding, Entry, Kind};
 pub use disk::Disk;
+pub use failure::Failure;
 pub use fault::Fault;
 pub use host::HostDisk;
 pub use paths::{folder_of, one_folder, path_in, way_up};

@@ -9,7 +9,7 @@ use bits::{R, Refusal};
 use case_words::{natural, word, words_from};
 use mem_disk::MemDisk;
 use std::alloc::Global;
-use vault::{NewFile, Vault, commit};
+use vault::Vault;
 
 /// Whether a path is none of the root's two, so that a file may be put there.
 fn is_no_root(path: &str) -> bool
@@ -70,6 +70,13 @@ pub fn names(alloc: Global, vault: &mut Vault<MemDisk>, words: &[&str]) -> R<Out
     }
 }
 
+/// A file that a commit writes.
+#[derive(Drop)]
+struct NewFile {
+    path: String,
+    bytes: Vec<u8>,
+}
+
 /// The files that a commit writes: the words `+ PATH BYTES`.
 fn new_files(alloc: Global, words: &[&str]) -> R<Vec<NewFile>> {
     let mut files = Vec::new(alloc);
@@ -96,7 +103,37 @@ fn gone_paths(alloc: Global, words: &[&str]) -> R<Vec<String>> {
     Ok(gone)
 }
 
-/// `commit ROOT + PATH BYTES .. ! PATH ..`: puts the files, swaps the root, and lets the paths behind `!` go. Script where
+/// Puts the files, in order, up to the first that is refused.
+fn put_all(vault: &mut Vault<MemDisk>, files: &[NewFile]) -> R<()> {
+    for file in files {
+        let path = file.path.as_str();
+        if !is_no_root(path) {
+            return Err(Refusal::Script);
+        }
+        vault.put(path, file.bytes.as_slice())?;
+    }
+    Ok(())
+}
+
+/// Lets the paths go. What the disk does not remove stays.
+fn forget_all(vault: &mut Vault<MemDisk>, gone: &[String]) {
+    for path in gone {
+        let path = path.as_str();
+        if is_no_root(path) {
+            let _ = vault.forget(path);
+        }
+    }
+}
+
+/// Puts the files, swaps the root for this one, and lets the paths go.
+fn commit(vault: &mut Vault<MemDisk>, files: &[NewFile], root: &[u8], gone: &[String]) -> R<()> {
+    put_all(vault, files)?;
+    vault.swap_root(root)?;
+    forget_all(vault, gone);
+    Ok(())
+}
+
+/// `commit ROOT + PATH BYTES .. ! PATH ..`: puts the files, swaps the root, and lets the paths after `!` go. Script where
 /// one of them is one of the root's two.
 pub fn commit_all(alloc: Global, vault: &mut Vault<MemDisk>, words: &[&str]) -> R<Outcome> {
     let root = bytes(alloc, words, 1)?;

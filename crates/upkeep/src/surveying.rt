@@ -127,8 +127,8 @@ fn columns_of(alloc: Global, manifest: &Manifest) -> R<Vec<ColumnReport>> {
         columns.push(ColumnReport {
             path,
             kind: kind_name(leaf.leaf_type.kind),
-            repetition: repetition_name(leaf.steps.last()),
-            is_key: is_key(manifest, leaf.steps.first()),
+            repetition: repetition_name(leaf.steps.as_slice().last()),
+            is_key: is_key(manifest, leaf.steps.as_slice().first()),
         })?;
     }
     Ok(columns)

@@ -2,18 +2,12 @@
 use Rattle.std.proofs.Common.{◌≡◌, ◌<◌, ◌≤◌, ◌-◌, ◌^◌, ◌⊎◌, ◌↔◌, ℕ, sym, subst, Result, Ok, Err}
 use Rattle.std.specs.Prelude.{IsErrAnd}
 use Rattle.bits.specs.declared.refusal.Refusal.{Refusal}
-use Rattle.bits.specs.declared.refusal.Refusal.TheVariants.{Memory}
-use Rattle.bits.specs.Refusals.{HasCause}
 use Rattle.disk.specs.State.{State}
 use Rattle.vault.specs.Calls.{HasFailed}
 
 -- a failure since the first call, where the calls so far met none
 pub failed_since : (old mid new : State) → mid.failures ≡ old.failures → HasFailed mid new → HasFailed old new
 failed_since old mid new same failed = subst (λ (k : ℕ). (k < new.failures) ⊎ (2 ^ 64 - 1 ≤ k)) same failed
-
-pub cause_since : (old mid new : State) (e : Refusal) → mid.failures ≡ old.failures → HasCause (λ _. HasFailed mid new) e → HasCause (λ _. HasFailed old new) e
-cause_since old mid new Memory same cause = tt
-cause_since old mid new e same cause = failed_since old mid new same cause
 
 pub both : {A B C : Type 0} → A ↔ B → B ↔ C → A ↔ C
 both f g = (λ a. g.0 (f.0 a), λ c. f.1 (g.1 c))

@@ -6,7 +6,4 @@ pub mod Names
 pub mod Turning
 pub mod Calls
 pub mod Chained
-pub mod Plurals
-pub mod Puts
-pub mod Committed
 pub mod Slashes

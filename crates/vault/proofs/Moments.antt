@@ -2,7 +2,7 @@
 use Rattle.std.proofs.Common.{◌≡◌, ◌<◌, ◌≤◌, ◌⊎◌, ℕ, zero, suc, List, ⊎_elim, inl, inr, arith, refl, sym, ◌∙◌, subst}
 use Rattle.disk.specs.State.{Image, State, content, may_leave}
 use Rattle.disk.specs.Calls.{Passes, Stays, IsStill}
-use Rattle.vault.specs.Views.{Same, View, LeavesAfter, LeavesNow, IsRooted, IsRootedAt, StaysRooted, IsKept, AllBut, Swaps}
+use Rattle.vault.specs.Views.{Same, View, LeavesAfter, IsRooted, IsRootedAt, StaysRooted, IsKept, AllBut, Swaps}
 use Rattle.vault.specs.Ways.{IsClearWay, StaysClear}
 
 pub le_or : (n k : ℕ) → (k ≤ n) ⊎ (n < k)
@@ -45,9 +45,6 @@ module _ (S R Q : View → View → Type 0) (Mid : View → Type 0) (old mid new
   from c came =
       let start = first.each mid.moment came.0 first.later (omega arith) came.1 in
       (start.0, start.1, both (content start.0) (content came.0) (content c) (known came.0 came.1) start.2 came.2)
-
-  pub now_by : LeavesNow Q old new
-  now_by c may = from c (second.each new.moment c second.later (omega arith) may)
 
   pub joins_at : ((u v : View) → S u v → Q u v) → LeavesAfter Q old new
   joins_at wider = record {

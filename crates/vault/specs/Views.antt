@@ -1,6 +1,5 @@
 -- What stands above the disk's model: which bytes each path has in each image that a stop may leave.
 use Rattle.std.specs.Prelude.{◌≡◌, ◌≢◌, ◌≤◌, ◌⊎◌, ℕ, List, Option, Some, None, Vec, codes}
-use Rattle.std.specs.List.{All}
 use Rattle.std.specs.declared.alloc.Global.{Global}
 use Rattle.disk.specs.State.{Image, State, content, may_leave}
 use Rattle.disk.specs.declared.binding.Binding.TheVariants.{Nothing, Folder, File}
@@ -90,10 +89,6 @@ pub record LeavesAfter (Change : View → View → Type 0) (old new : State) : T
   pub keeps : (m : ℕ) (c : Image) → m ≤ old.moment → old.images m c → new.images m c
   pub each : (m : ℕ) (c : Image) → old.moment ≤ m → m ≤ new.moment → new.images m c → (d : Image) × may_leave old d × Change (content d) (content c)
 
--- what a stop may leave at new comes by this change from what one could have left at old
-abbrev pub LeavesNow : (View → View → Type 0) → State → State → Type 0
-LeavesNow Change old new = (c : Image) → may_leave new c → (d : Image) × may_leave old d × Change (content d) (content c)
-
 -- the disk reads this change, or none
 abbrev pub ReadsAs : (View → View → Type 0) → State → State → Type 0
 ReadsAs Change old new = Change (content old.seen) (content new.seen)
@@ -101,11 +96,3 @@ ReadsAs Change old new = Change (content old.seen) (content new.seen)
 -- the disk reads the same names but for one
 abbrev pub LeavesNames : List ℕ → State → State → Type 0
 LeavesNames path old new = (q : List ℕ) → q ≢ path → new.seen.names q ≡ old.seen.names q
-
--- none of these paths is this one
-abbrev pub IsBeside : {T : Type 0} → (T → List ℕ) → List T → List ℕ → Type 0
-IsBeside path_of items q = All (λ t. q ≢ path_of t) items
-
--- all but these paths have what they had
-abbrev pub AllButThese : {T : Type 0} → (T → List ℕ) → List T → View → View → Type 0
-AllButThese path_of items u v = (q : List ℕ) → IsBeside path_of items q → v q ≡ u q

@@ -1,6 +1,5 @@
 -- Where a file can stand, and what keeps the way to it clear.
 use Rattle.std.specs.Prelude.{◌≢◌, ◌≤◌, ℕ, List}
-use Rattle.std.specs.List.{All}
 use Rattle.disk.specs.Paths.{IsOnTheWay}
 use Rattle.disk.specs.State.{Image, State, may_leave}
 use Rattle.disk.specs.declared.binding.Binding.TheVariants.{Folder, File}
@@ -53,7 +52,3 @@ LeavesClear path old new = (q : List ℕ) → AreApart path q → IsClearWay old
 pub record IsOffTheRoots (q : List ℕ) : Type 0 where
   pub root : IsOnTheWay root_path q → ⊥
   pub next : IsOnTheWay next_path q → ⊥
-
--- none of these paths is on the way to this one, nor this one on the way to any of them
-abbrev pub AreApartFrom : {T : Type 0} → (T → List ℕ) → List T → List ℕ → Type 0
-AreApartFrom path_of items q = All (λ t. AreApart (path_of t) q) items

@@ -1,3 +1,2 @@
 -- Definitions for private functions only.
 pub mod Files
-pub mod Lists

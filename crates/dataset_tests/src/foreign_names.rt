@@ -1,0 +1,72 @@
+//! Folders in which other programs have left links, pipes and names that are not UTF-8.
+
+use crate::folders::{check_folder, own_folder};
+use crate::links::is_linked;
+use crate::odd_names::Odd;
+use crate::rows::{Row, check_calls};
+use disk::Fault::Failed;
+use disk::{Disk, HostDisk, path_in};
+use std::fs;
+use std::test::*;
+
+/// A root, and a key folder with a part file.
+const FILES: &[Row] = &[
+    ("create", "_metadata", "", None),
+    ("folder", "k=a", "", None),
+    ("create", "k=a/part.0.parquet", "", None),
+    ("create", "k=a/notes", "", None),
+];
+
+/// A listing passes over links, pipes and names that are not UTF-8.
+const LISTED: &[Row] = &[
+    ("names", "", "_metadata k=a/", None),
+    ("names", "k=a", "part.0.parquet notes", None),
+];
+
+/// Links that other programs have made, in the dataset's folder and in a key folder.
+const LINKS: &[&str] = &[
+    "link",
+    "_lock",
+    "part",
+    "k=a/link",
+    "k=a/part.0.parquet.tmp",
+];
+
+/// Names of a dataset, at each of which a link makes the listing fail.
+const OWN_NAMES: &[&str] = &[
+    "_metadata.new",
+    "part.7.parquet",
+    "part.x.parquet",
+    "k=b",
+    "other=",
+];
+
+/// Whether the listing of a folder fails, once, while a link has this name in it.
+fn fails_at(rt: &HostRuntime, folder: &str, name: &str) -> Result<bool, Fail> {
+    let path = path_in(rt.alloc(), folder, name)?;
+    let made = is_linked(rt, folder, name, "nowhere");
+    let mut disk = HostDisk::new(rt.alloc(), rt.clone()?, folder)?;
+    let failed = disk.list(rt.alloc(), "").err() == Some(Failed) && disk.failures() == 1;
+    fs::remove_file(rt, path.as_str())?;
+    Ok(made && failed)
+}
+
+#[test]
+fn a_listing_passes_over_what_no_dataset_has_made(rt: HostRuntime) -> Result<(), Fail> {
+    let folder = own_folder(&rt, "foreign")?;
+    let folder = folder.as_str();
+    check_folder(&rt, folder, FILES, 0)?;
+    assert!(rt;
+        LINKS
+            .iter()
+            .all(|name| is_linked(&rt, folder, name, "nowhere"))
+    );
+    let files = Odd { rt: rt.clone()? };
+    let mut disk = HostDisk::new(rt.alloc(), files, folder)?;
+    check_calls(rt.alloc(), &mut disk, LISTED)?;
+    assert!(rt; disk.failures() == 0);
+    for name in OWN_NAMES {
+        assert!(rt; fails_at(&rt, folder, name)?);
+    }
+    Ok(fs::remove_dir_all(&rt, folder)?)
+}
