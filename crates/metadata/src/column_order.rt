@@ -1,12 +1,12 @@
 //! ColumnOrder: the union, how it is read and how it is written.
 
-ghost use Rattle.std.specs.Prelude.{◌≡◌, IfOk};
+ghost use Rattle.std.specs.Prelude.{◌≡◌, map, replicate, IfOk};
 ghost use Rattle.bits.specs.Refusals.{RefusedMemoryOnly};
 ghost use Rattle.thrift_compact.specs.View.{field_views, tree_view};
 ghost use Rattle.metadata.specs.FieldValues.{record_by};
 ghost use Rattle.metadata.specs.ToTree.{column_order_fields, record_as, STRUCT};
 ghost use Rattle.metadata.specs.FromTree.{column_order};
-ghost use Rattle.metadata.specs.Records.{ColumnOrder as ColumnOrderShown};
+ghost use Rattle.metadata.specs.Records.{ColumnOrder as ColumnOrderShown, type_order};
 ghost use Rattle.metadata.specs.Views.{column_order_view};
 ghost use Rattle.metadata.specs.Answers.{IsRecordOf};
 
@@ -108,4 +108,16 @@ impl ToElement for ColumnOrder {
     fn element_type() -> ElementType {
         ElementType::Struct
     }
+}
+
+/// The order of its type, for each of this many columns. It fails only when out of memory.
+pub fn type_orders(alloc: Global, columns: usize) -> R<Vec<ColumnOrder>>
+    ensures orders_are { IfOk result (λ orders. map column_order_view orders.items ≡ replicate columns type_order) }
+    ensures which { RefusedMemoryOnly result }
+{
+    let mut orders = Vec::with_capacity(alloc, columns)?;
+    for _ in 0..columns {
+        orders.push(ColumnOrder::TypeOrder)?;
+    }
+    Ok(orders)
 }

@@ -34,7 +34,7 @@ mod statistics;
 
 pub use chunk_meta::ChunkMeta;
 pub use column_meta::ColumnMeta;
-pub use column_order::ColumnOrder;
+pub use column_order::{ColumnOrder, type_orders};
 pub use data_page_header::DataPageHeader;
 pub use data_page_header_v2::DataPageHeaderV2;
 pub use dictionary_page_header::DictionaryPageHeader;

@@ -10,10 +10,10 @@ ghost use Rattle.schema.specs.Keys.{key_column_view, key_columns_view, key_of_ro
 ghost use Rattle.partition.specs.Folders.{is_plain, is_filled, escaped, is_key_value, value_text, CanPartition};
 ghost use Rattle.partition.specs.inner.Checks.{clashes, are_apart, are_key_columns, has_folder, have_folders, escaped_size, IsRoomAfter};
 
-use schema::{Annotation, ConvertedType, Key, KeyColumn, KeyKind, Kind, LeafType, Row, Value};
-
-/// The most key columns that a table has.
-const MOST_COLUMNS: usize = 8;
+use schema::{
+    Annotation, ConvertedType, Key, KeyColumn, KeyKind, Kind, LeafType, MOST_KEY_COLUMNS, Row,
+    Value,
+};
 
 /// The most bytes of a folder's name, escapes included.
 const MOST_FOLDER_BYTES: usize = 255;
@@ -22,7 +22,7 @@ const MOST_FOLDER_BYTES: usize = 255;
 pub(crate) fn are_key_columns(columns: &[KeyColumn]) -> bool
     ensures { result ≡ are_key_columns (key_columns_view columns.now) }
 {
-    columns.len() <= MOST_COLUMNS && are_apart(columns)
+    columns.len() <= MOST_KEY_COLUMNS && are_apart(columns)
 }
 
 /// Whether a key can partition: there are at most eight columns, each with a name, no name or place comes twice, each

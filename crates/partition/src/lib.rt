@@ -20,6 +20,6 @@ pub use laws::{
     part_paths_name_parts, paths_name_keys, schema_keys_can_partition,
 };
 pub use order::{compare_keys, same_keys};
-pub use parts::{part_name, part_number, part_path};
+pub use parts::{part_name, part_number, part_path, read_unsigned};
 pub use paths::{key_of, path_of};
 pub use splitting::{KeyRows, split_by_key};

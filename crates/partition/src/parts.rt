@@ -1,11 +1,11 @@
 //! The names of part files.
 
-ghost use Rattle.std.specs.Prelude.{◌≡◌, ◌<◌, ◌^◌, ℕ, IfOk, OnOk, IfSome, MatchOption, string_bytes};
+ghost use Rattle.std.specs.Prelude.{◌≡◌, ◌<◌, ◌^◌, ℕ, Some, IfOk, OnOk, IfSome, MatchOption, decimal, string_bytes};
 ghost use Rattle.bits.specs.Refusals.{OnFault, RefusedOnly, RefusedMemoryOnly};
 ghost use Rattle.schema.specs.Views.{key_view};
 ghost use Rattle.schema.specs.Keys.{key_columns_view};
 ghost use Rattle.partition.specs.Folders.{part_name_of, part_path_of, CanPartition};
-ghost use Rattle.partition.specs.inner.Reading.{IsMiddle, ReadsUnsigned};
+ghost use Rattle.partition.specs.inner.Reading.{IsMiddle};
 
 use crate::paths::path_of;
 use bits::{R, Refusal};
@@ -78,9 +78,10 @@ fn middle(name: &[u8]) -> Option<&[u8]>
     Some(middle)
 }
 
-/// The number that this text is read as; more is read than is written.
-fn read_unsigned(text: &[u8]) -> Option<u64>
-    ensures { ReadsUnsigned text.now result }
+/// The number that a text is read as. A number below 2^64 in plain decimal is read as that number; other texts
+/// may be read as one too. Takes no memory; the time is linear in the text.
+pub fn read_unsigned(text: &[u8]) -> Option<u64>
+    ensures { (n : ℕ) → n < 2 ^ 64 → text.now ≡ decimal n → result ≡ Some n }
 {
     match std::str::from_utf8(text) {
         Ok(text) => text.parse::<u64>().ok(),

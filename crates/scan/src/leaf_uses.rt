@@ -71,7 +71,7 @@ fn use_of(
 pub fn place_of(leaf: &Leaf) -> usize
     ensures { result ≡ place_of (leaf_view leaf.now).steps }
 {
-    match leaf.steps.first() {
+    match leaf.steps.as_slice().first() {
         Some(step) => step.place,
         None => 0,
     }

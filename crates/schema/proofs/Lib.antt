@@ -40,3 +40,4 @@ pub mod FieldViews
 pub mod TableFields
 pub mod TableLeaves
 pub mod KeyChecks
+pub mod AsciiLanes

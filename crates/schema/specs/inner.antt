@@ -5,3 +5,4 @@ pub mod Code
 pub mod Built
 pub mod Grown
 pub mod Keyed
+pub mod Ascii

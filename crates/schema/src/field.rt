@@ -6,6 +6,7 @@ ghost use Rattle.schema.specs.Views.{field_view};
 
 use crate::annotation::{GroupAnnotation, LeafType};
 use crate::value::Repetition;
+use smallvec::SmallVec;
 use std::rc::RcStr;
 
 /// A field of a schema, and what is below it.
@@ -37,7 +38,7 @@ impl Field {
 }
 
 /// A field on the path to a leaf: its place in its group, and its repetition.
-#[derive(Debug, Clone, Copy, PartialEq, Eq)]
+#[derive(Debug, Clone, Copy, PartialEq, Eq, Default)]
 pub struct Step {
     pub place: usize,
     pub repetition: Repetition,
@@ -48,8 +49,8 @@ pub struct Step {
 pub struct Leaf {
     /// The names of the fields on the path to it, the leaf's own last; leaves below a field share its name.
     pub path: Vec<RcStr>,
-    /// The places and repetitions of the same fields.
-    pub steps: Vec<Step>,
+    /// The places and repetitions of the same fields. Up to eight lie in the leaf itself.
+    pub steps: SmallVec<Step, 8>,
     pub leaf_type: LeafType,
     /// How many of the fields on the path are REPEATED.
     pub greatest_repetition: u32,

@@ -1,65 +1,15 @@
 //! Which values and rows fit a schema.
 
-ghost use Rattle.std.specs.Prelude.{◌≡◌, ◌==◌, ◌&&◌, true, length};
-ghost use Rattle.std.specs.Option.{option_map_or};
-ghost use Rattle.std.specs.Str.{is_utf8};
+ghost use Rattle.std.specs.Prelude.{◌≡◌};
 ghost use Rattle.schema.specs.Values.{view, views};
-ghost use Rattle.schema.specs.Fits.{fits_kind, fits_leaf, fits_inside, fits, fits_each, is_valid_text, are_bytes};
+ghost use Rattle.schema.specs.Fits.{fits_leaf, fits_inside, fits, fits_each};
 ghost use Rattle.schema.specs.Views.{leaf_type_view, field_view, field_views, row_view};
 
 use crate::annotation::LeafType;
+use crate::borrowed::ValueRef;
 use crate::field::Field;
 use crate::row::Row;
-use crate::value::{Kind, Repetition, Value};
-
-/// Whether bytes are of the wanted length, where one is.
-fn has_length(bytes: &[u8], wanted: Option<u32>) -> bool
-    ensures { result ≡ (option_map_or (λ n. length bytes.now == n) wanted true && are_bytes bytes.now) }
-{
-    match wanted {
-        Some(wanted) => bytes.len() as u64 == u64::from(wanted),
-        None => true,
-    }
-}
-
-impl Kind {
-    /// Whether a value is of this type: numbers within its bits, bytes of its length. Takes no memory.
-    fn fits(self, value: &Value) -> bool
-        ensures { result ≡ fits_kind self (view value.now) }
-    {
-        match (self, value) {
-            (Kind::Boolean, Value::Bool(_)) => true,
-            (Kind::Int32, Value::Int(number)) => i32::try_from(*number).is_ok(),
-            (Kind::Int64, Value::Int(number)) => {
-                // For the proof: it is within 64 bits.
-                let _number = *number;
-                true
-            }
-            (Kind::ByteArray, Value::Bytes(bytes)) => has_length(bytes.as_slice(), None),
-            (Kind::FixedLenByteArray(length), Value::Bytes(bytes)) => {
-                has_length(bytes.as_slice(), Some(length))
-            }
-            _ => false,
-        }
-    }
-}
-
-/// Whether bytes are UTF-8.
-fn is_utf8(bytes: &[u8]) -> bool
-    ensures { result ≡ is_utf8 bytes.now }
-{
-    std::str::from_utf8(bytes).is_ok()
-}
-
-/// Whether a value is text.
-fn is_text(value: &Value) -> bool
-    ensures { result ≡ is_valid_text (view value.now) }
-{
-    match value {
-        Value::Bytes(bytes) => is_utf8(bytes.as_slice()),
-        _ => false,
-    }
-}
+use crate::value::{Repetition, Value};
 
 impl LeafType {
     /// Whether a value is a leaf's, its repetition aside: of the physical type, and UTF-8 where it is
@@ -67,7 +17,7 @@ impl LeafType {
     pub fn fits(&self, value: &Value) -> bool
         ensures { result ≡ fits_leaf (leaf_type_view self.now) (view value.now) }
     {
-        self.kind.fits(value) && (!self.is_text() || is_text(value))
+        self.fits_ref(ValueRef::of(value))
     }
 }
 

@@ -15,7 +15,7 @@ use crate::schema::Schema;
 use crate::value::{Kind, Repetition};
 
 /// The most key columns that a table has.
-const MOST_COLUMNS: usize = 8;
+pub const MOST_KEY_COLUMNS: usize = 8;
 
 impl Schema {
     /// Whether these are key columns that can partition a table with this schema: at most eight, each with a name and
@@ -25,7 +25,7 @@ impl Schema {
         ensures { IsTrue result ↔ AreKeys (key_columns_view keys.now) self.now }
     {
         let fields = self.fields();
-        if keys.len() > MOST_COLUMNS {
+        if keys.len() > MOST_KEY_COLUMNS {
             return false;
         }
         if keys.len() >= fields.len() {
@@ -52,8 +52,8 @@ fn are_distinct(keys: &[KeyColumn]) -> bool
     true
 }
 
-/// Whether there is a key column at a place.
-fn has_place(keys: &[KeyColumn], place: usize) -> bool
+/// Whether there is a key column at a place. Takes no memory; the time is linear in the keys.
+pub fn has_place(keys: &[KeyColumn], place: usize) -> bool
     ensures { result ≡ is_among (places_of (key_columns_view keys.now)) place }
 {
     for key in keys {

@@ -4,7 +4,7 @@ ghost use Rattle.std.specs.Prelude.{◌≡◌, ◌+◌, ◌<◌, ◌≤◌, ◌^
 ghost use Rattle.std.specs.Rc.{rc_str_bytes};
 ghost use Rattle.bits.specs.Refusals.{RefusedMemoryOnly};
 ghost use Rattle.schema.specs.Stripe.{definitions, repetitions, greatest_definition, greatest_repetition, leaf_at, leaves, leaves_from, leaves_of};
-ghost use Rattle.schema.specs.Reading.{tall, tallest};
+ghost use Rattle.schema.specs.Reading.{tall, tallest, count_leaves, count_leaves_each};
 ghost use Rattle.schema.specs.inner.LeafPaths.{leaves_along};
 ghost use Rattle.schema.specs.Views.{annotation_view, leaf_type_view, field_view, field_views, step_view, leaf_view};
 
@@ -12,6 +12,7 @@ use crate::annotation::{Annotation, LeafType};
 use crate::field::{Field, Leaf, Step};
 use crate::value::Repetition;
 use bits::R;
+use smallvec::SmallVec;
 use std::alloc::Global;
 use std::rc::RcStr;
 
@@ -97,11 +98,11 @@ fn path_down(alloc: Global, path: &[RcStr], name: &str) -> R<Vec<RcStr>>
 }
 
 /// The steps, and one more.
-fn steps_down(alloc: Global, steps: &[Step], step: Step) -> R<Vec<Step>>
+fn steps_down(alloc: Global, steps: &[Step], step: Step) -> R<SmallVec<Step, 8>>
     ensures steps_are { IfOk result (λ down. down.items ≡ steps.now ++ step ∷ []) }
     ensures which { RefusedMemoryOnly result }
 {
-    let mut down = Vec::from_slice(alloc, steps)?;
+    let mut down = SmallVec::from_slice(alloc, steps)?;
     down.push(step)?;
     Ok(down)
 }
@@ -112,7 +113,7 @@ fn push_leaves(
     alloc: Global,
     out: &mut Vec<Leaf>,
     path: Vec<RcStr>,
-    steps: Vec<Step>,
+    steps: SmallVec<Step, 8>,
     field: &Field,
 ) -> R<()>
     requires deep { length steps.items + tall (field_view field.now) ≤ 33 }
@@ -140,7 +141,12 @@ fn push_leaves(
 }
 
 /// The leaf at the end of a path.
-fn leaf_of(alloc: Global, path: Vec<RcStr>, steps: Vec<Step>, leaf_type: &LeafType) -> R<Leaf>
+fn leaf_of(
+    alloc: Global,
+    path: Vec<RcStr>,
+    steps: SmallVec<Step, 8>,
+    leaf_type: &LeafType,
+) -> R<Leaf>
     requires { length steps.items < 2 ^ 32 }
     ensures leaf_is { IfOk result (λ l. leaf_view l ≡ leaf_at (map rc_str_bytes path.items) (map step_view steps.items) (leaf_type_view leaf_type.now)) }
     ensures which { RefusedMemoryOnly result }
@@ -199,4 +205,28 @@ fn definitions(repetition: Repetition) -> u32
         Repetition::Required => 0,
         Repetition::Optional | Repetition::Repeated => 1,
     }
+}
+
+/// How many leaves are at and below a field. Takes no memory; the time is linear in the fields.
+#[cycle(counting)]
+pub fn count_leaves(field: &Field) -> usize
+    requires { count_leaves (field_view field.now) < 2 ^ 64 }
+    ensures { result ≡ count_leaves (field_view field.now) }
+{
+    match field {
+        Field::Leaf { .. } => 1,
+        Field::Group { fields, .. } => count_leaves_each(fields.as_slice()),
+    }
+}
+
+#[cycle(counting)]
+fn count_leaves_each(fields: &[Field]) -> usize
+    requires { count_leaves_each (field_views fields.now) < 2 ^ 64 }
+    ensures { result ≡ count_leaves_each (field_views fields.now) }
+{
+    let mut count = 0;
+    for field in fields {
+        count += count_leaves(field);
+    }
+    count
 }

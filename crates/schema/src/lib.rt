@@ -9,6 +9,7 @@
 #![tactic(auto)]
 
 mod annotation;
+mod ascii_text;
 mod borrowed;
 mod building;
 mod cutting;
@@ -34,6 +35,7 @@ mod reading;
 mod row;
 mod schema;
 mod value;
+mod value_checks;
 
 pub use annotation::{Annotation, ConvertedType, GroupAnnotation, LeafType};
 pub use borrowed::{EntryRef, ValueRef};
@@ -47,12 +49,14 @@ pub use fronts_laws::{
     padded_rows_have_columns, padding_composes, whole_rows_are_padded,
 };
 pub use key::{Key, KeyColumn, KeyKind};
+pub use key_checks::{MOST_KEY_COLUMNS, has_place};
 pub use key_laws::{a_row_is_its_key_and_the_rest, rows_without_keys_fit};
 pub use laws::{
     annotations_are_kept, at_most_laws, columns_determine_rows, entries_are_of_leaves,
     levels_are_of_steps, orders_are_total, rows_begin_once, unsigned_order_is_of_bits,
     worked_examples,
 };
+pub use leaves::count_leaves;
 pub use listing_laws::{
     a_list_means_one_schema, a_schema_is_its_elements, kept_structs_have_bytes,
 };
@@ -60,3 +64,4 @@ pub use order::{Order, compare, compare_by, compare_refs};
 pub use row::{Column, Entry, Row};
 pub use schema::Schema;
 pub use value::{Kind, Repetition, Value, copied_values, same};
+pub use value_checks::{is_of_kind, is_text, is_utf8};

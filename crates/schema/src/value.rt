@@ -10,8 +10,9 @@ use bits::R;
 use std::alloc::{AllocError, Global};
 
 /// How often a field stands in its group (`parquet.thrift`, FieldRepetitionType).
-#[derive(Debug, Clone, Copy, PartialEq, Eq)]
+#[derive(Debug, Clone, Copy, PartialEq, Eq, Default)]
 pub enum Repetition {
+    #[default]
     Required,
     Optional,
     Repeated,

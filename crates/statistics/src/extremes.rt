@@ -23,7 +23,7 @@ use std::alloc::Global;
 use std::cmp::Ordering;
 
 /// How many bytes a value that is kept as a bound has at most.
-const MOST_BYTES_OF_BOUND: usize = 64;
+pub const MOST_BYTES_OF_BOUND: usize = 64;
 
 /// The statistics of a column: its minimum and its maximum in the leaf's order, and how many entries have
 /// no value (`parquet.thrift`, Statistics).

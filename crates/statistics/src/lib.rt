@@ -13,5 +13,5 @@ mod text;
 
 pub use bytes::{BoundBytes, kept_bounds_are_short, one_bound};
 pub use entry::HasValue;
-pub use extremes::{bounds, bounds_of, bounds_of_values};
+pub use extremes::{MOST_BYTES_OF_BOUND, bounds, bounds_of, bounds_of_values};
 pub use stats::{GroupStats, Stats};

@@ -10,6 +10,7 @@ use schema::{
     Annotation, GroupAnnotation, Kind, Leaf, LeafType, Schema, ValueRef, compare, compare_refs,
     same,
 };
+use smallvec::SmallVec;
 use std::alloc::Global;
 use std::cmp::Ordering;
 
@@ -118,7 +119,7 @@ fn has_keys(alloc: Global, words: &[&str]) -> R<String> {
 fn leaf_of(alloc: Global, kind: Kind, converted_type: Option<i32>) -> Leaf {
     Leaf {
         path: Vec::new(alloc),
-        steps: Vec::new(alloc),
+        steps: SmallVec::new(alloc),
         leaf_type: LeafType {
             kind,
             annotation: Annotation::of_element(kind, converted_type, None),

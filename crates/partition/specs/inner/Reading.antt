@@ -37,9 +37,6 @@ abbrev pub IsMiddle : List ℕ → Option (Bor (List ℕ)) → Type 0
 IsMiddle name result = (middle : List ℕ) → name ≡ codes "part." ++ (middle ++ codes ".parquet") → MatchOption result ⊥ (λ found. found.now ≡ middle)
 
 -- a number in plain decimal is read as that number
-abbrev pub ReadsUnsigned : List ℕ → Option ℕ → Type 0
-ReadsUnsigned text found = (n : ℕ) → n < 2 ^ 64 → text ≡ decimal n → found ≡ Some n
-
 abbrev pub ReadsSigned : List ℕ → Option ℤ → Type 0
 ReadsSigned text found = (z : ℤ) → FitsSigned w64 z → text ≡ signed_decimal z → found ≡ Some z
 

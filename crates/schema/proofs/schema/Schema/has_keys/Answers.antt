@@ -9,9 +9,9 @@ use Rattle.schema.proofs.Few.{count-views}
 use Rattle.schema.proofs.KeyChecks.{to_distinct, from_distinct, to_named, to_there, from_both}
 use Rattle.schema.proofs.schema.Schema.has_keys.Goals as goal
 
-pub returns-then-keys-gt-MOST_COLUMNS : goal.returns-then-keys-gt-MOST_COLUMNS
-returns-then-keys-gt-MOST_COLUMNS c =
-    ((λ h. absurd (false≢true h)), (λ h. let few = h.few in let many = length-map c.args.keys.now key_column_view in absurd (omega (arith, few, many, c.if-keys-gt-MOST_COLUMNS.true))))
+pub returns-then-keys-gt-MOST_KEY_COLUMNS : goal.returns-then-keys-gt-MOST_KEY_COLUMNS
+returns-then-keys-gt-MOST_KEY_COLUMNS c =
+    ((λ h. absurd (false≢true h)), (λ h. let few = h.few in let many = length-map c.args.keys.now key_column_view in absurd (omega (arith, few, many, c.if-keys-gt-MOST_KEY_COLUMNS.true))))
 
 pub returns-then-keys-fields : goal.returns-then-keys-fields
 returns-then-keys-fields c = (
@@ -40,7 +40,7 @@ returns c =
       (λ h.
           let each = subst (λ (x : Fields). AllByRecursion (IsKeyOf x) keys) c.fields-fields.ensures (c.are_there.ensures.0 h) in
           record {
-            few = omega (arith, many, c.if-keys-gt-MOST_COLUMNS.false);
+            few = omega (arith, many, c.if-keys-gt-MOST_KEY_COLUMNS.false);
             rest = omega (arith, many, size, same, c.if-keys-fields.false);
             distinct = to_distinct (places_of keys) (sym c.are_distinct.ensures ∙ c.if-not-are_distinct.false);
             named = to_named fs keys each;

@@ -1,6 +1,6 @@
 use Rattle.std.proofs.Common.{sym, nat_eq, length}
 use Rattle.schema.proofs.Texts.{all_bytes, and_true}
-use Rattle.schema.proofs.fits.has_length.Goals as goal
+use Rattle.schema.proofs.value_checks.has_length.Goals as goal
 
 pub returns-in-None : goal.returns-in-None
 returns-in-None c = rw (c.in-None.is, all_bytes _ c.type_inv.bytes)
