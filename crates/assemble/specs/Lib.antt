@@ -5,4 +5,5 @@ pub mod Columns
 pub mod Standing
 pub mod RowsOf
 pub mod Flat
+pub mod RowSources
 pub mod inner

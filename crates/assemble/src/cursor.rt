@@ -28,6 +28,8 @@ impl<'a> EntrySource for Cursor<'a> {
 
     ghost refused = { λ _. None };
 
+    ghost cause = { λ _ _. ⊥ };
+
     #[inline(always)]
     fn peek(&mut self) -> R<Option<(u32, u32)>> {
         match self.entries.first() {

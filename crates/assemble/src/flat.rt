@@ -65,6 +65,7 @@ pub fn next_flat_row_to<S: EntrySource, K: RowSink>(
         (λ fs. ShowsFirst (StandForRows S.stands sources.new fs) (K.shows sink.old) (K.shows sink.new))) }
     ensures known { IfErr result (λ f. OfFlatRows S.stands sources.old (λ _ _. f ≡ Fault.Memory)) }
     ensures causes_stay { CausesStay (HaveCause S.cause) sources.old sources.new }
+    ensures base_stays { K.base sink.new ≡ K.base sink.old }
 {
     for i in 0..sources.len() {
         show_first(&mut sources[i], sink)?;
@@ -79,6 +80,7 @@ fn show_first<S: EntrySource, K: RowSink>(source: &mut S, sink: &mut K) -> Resul
         (λ v. Precede (entry 0 0 (Some v)) (S.stands source.old) (S.stands source.new))) }
     ensures known { IfErr result (λ f. (es : List Entry) → S.stands source.old es → BeginsWithValue es → f ≡ Fault.Memory) }
     ensures causes_stay { CausesStay S.cause source.old source.new }
+    ensures base_stays { K.base sink.new ≡ K.base sink.old }
 {
     if let Some(value) = source.next_value() {
         return show(value, sink);
@@ -93,6 +95,7 @@ fn show_first_entry<S: EntrySource, K: RowSink>(source: &mut S, sink: &mut K) ->
         (λ v. Precede (entry 0 0 (Some v)) (S.stands source.old) (S.stands source.new))) }
     ensures known { IfErr result (λ f. (es : List Entry) → S.stands source.old es → BeginsWithValue es → f ≡ Fault.Memory) }
     ensures causes_stay { CausesStay S.cause source.old source.new }
+    ensures base_stays { K.base sink.new ≡ K.base sink.old }
 {
     match source.next()? {
         Some(entry) if entry.repetition == 0 && entry.definition == 0 => match &entry.value {

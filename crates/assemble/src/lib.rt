@@ -6,13 +6,13 @@
 #![tactic(auto)]
 
 mod cursor;
-mod fits;
 mod flat;
 mod missing;
 mod place;
 mod reading;
 mod row_builder;
 mod row_showing;
+mod row_source;
 mod rows;
 mod sink;
 mod source;
@@ -21,6 +21,7 @@ pub use cursor::Cursor;
 pub use flat::{flat_columns_have_rows, is_flat, next_flat_row_to};
 pub use row_builder::RowBuilder;
 pub use row_showing::show_row;
+pub use row_source::RowSource;
 pub use rows::{assemble, assemble_from, count_rows, next_known_row_to, next_row, next_row_to};
 pub use sink::{Discard, RowSink};
 pub use source::EntrySource;

@@ -1,9 +1,7 @@
 //! Values that are missing, of OPTIONAL and REPEATED fields: the columns below have an entry without a value each.
 
-ghost use Rattle.std.specs.Prelude.{◌≡◌, ◌<◌, ◌≤◌, ◌^◌, length, map, None, IfOk, OnOk, IfErr};
-ghost use Rattle.schema.specs.Views.{field_view, field_views};
+ghost use Rattle.std.specs.Prelude.{◌≡◌, ◌<◌, ◌≤◌, length, map, None, IfOk, OnOk, IfErr};
 ghost use Rattle.schema.specs.Stripe.{entry};
-ghost use Rattle.schema.specs.Reading.{count_leaves, count_leaves_each};
 ghost use Rattle.assemble.specs.Sources.{Precede, CausesStay};
 ghost use Rattle.assemble.specs.Sinks.{Adds, tokens};
 ghost use Rattle.assemble.specs.Columns.{Columns, Fronts};
@@ -15,7 +13,7 @@ use crate::place::Place;
 use crate::sink::RowSink;
 use crate::source::EntrySource;
 use bits::{R, Refusal};
-use schema::{Field, Repetition, ValueRef};
+use schema::{Repetition, ValueRef};
 use std::alloc::AllocError;
 
 /// Whether the value of an OPTIONAL or REPEATED field is missing at this definition level.
@@ -65,33 +63,10 @@ fn read_absent<S: EntrySource>(place: Place, source: &mut S) -> R<()>
     }
 }
 
-/// How many leaves are at and below a field.
-#[cycle(count)]
-pub fn count_leaves(field: &Field) -> usize
-    requires { count_leaves (field_view field.now) < 2 ^ 64 }
-    ensures { result ≡ count_leaves (field_view field.now) }
-{
-    match field {
-        Field::Leaf { .. } => 1,
-        Field::Group { fields, .. } => count_leaves_each(fields.as_slice()),
-    }
-}
-
-#[cycle(count)]
-fn count_leaves_each(fields: &[Field]) -> usize
-    requires { count_leaves_each (field_views fields.now) < 2 ^ 64 }
-    ensures { result ≡ count_leaves_each (field_views fields.now) }
-{
-    let mut count = 0;
-    for field in fields {
-        count += count_leaves(field);
-    }
-    count
-}
-
 /// Shows the value of an OPTIONAL or REPEATED field that is missing.
 pub fn show_missing<K: RowSink>(repetition: Repetition, sink: &mut K) -> Result<(), AllocError>
     ensures shown { OnOk result (Adds (K.shows sink.old) (K.shows sink.new) (tokens (missing_value repetition))) }
+    ensures base_stays { K.base sink.new ≡ K.base sink.old }
 {
     match repetition {
         Repetition::Repeated => {

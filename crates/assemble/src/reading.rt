@@ -14,13 +14,12 @@ ghost use Rattle.assemble.specs.Standing.{AllStand, AllSame, HaveCause, IsRefuse
 ghost use Rattle.assemble.specs.inner.ReadValues.{ReadsField, ReadsInside, ReadsItems, ReadsEach, IsFieldFaulty, IsInsideFaulty, AreItemsFaulty, AreEachFaulty};
 ghost use Rattle.assemble.specs.inner.Steps.{IsMemory, ReadsLeaf, ReadsOptional, is_single, IsSourceRefusedFor, IsLeafFaulty, IsOptionalFaulty, HasItem, first_of};
 
-use crate::fits::fits;
-use crate::missing::{count_leaves, is_missing, show_missing, skip};
+use crate::missing::{is_missing, show_missing, skip};
 use crate::place::Place;
 use crate::sink::RowSink;
 use crate::source::EntrySource;
 use bits::{Fault, R, Refusal};
-use schema::{Field, LeafType, Repetition, ValueRef};
+use schema::{Field, LeafType, Repetition, ValueRef, count_leaves};
 use std::alloc::AllocError;
 
 /// Whether another item follows, of the list whose own level this is.
@@ -59,6 +58,7 @@ pub fn read_fields<S: EntrySource, K: RowSink>(
     ensures kept { OnOk result (map S.refused sources.new ≡ map S.refused sources.old) }
     ensures causes_stay { CausesStay (HaveCause S.cause) sources.old sources.new }
     ensures used { IfOk result (λ used. used ≡ count_leaves_each (field_views fields.now)) }
+    ensures base_stays { K.base sink.new ≡ K.base sink.old }
 {
     let mut used = 0;
     for field in fields {
@@ -88,6 +88,7 @@ fn read_leaf<S: EntrySource, K: RowSink>(
         (IsLeafFaulty place.repetition place.definition (leaf_type_view leaf_type.now)) (refusal_of f)) }
     ensures kept { OnOk result (S.refused source.new ≡ S.refused source.old) }
     ensures causes_stay { CausesStay S.cause source.old source.new }
+    ensures base_stays { K.base sink.new ≡ K.base sink.old }
 {
     if place.repetition == 0 && place.definition == 0 && source.has_checked(leaf_type) {
         if let Some(value) = source.next_value() {
@@ -110,11 +111,12 @@ fn read_leaf_entry<S: EntrySource, K: RowSink>(
         (IsLeafFaulty place.repetition place.definition (leaf_type_view leaf_type.now)) (refusal_of f)) }
     ensures kept { OnOk result (S.refused source.new ≡ S.refused source.old) }
     ensures causes_stay { CausesStay S.cause source.old source.new }
+    ensures base_stays { K.base sink.new ≡ K.base sink.old }
 {
     let is_checked = source.has_checked(leaf_type);
     match source.next()? {
         Some(entry) if place.is_of(&entry) => match &entry.value {
-            Some(value) if is_checked || fits(leaf_type, value) => show(*value, sink),
+            Some(value) if is_checked || leaf_type.fits_ref(*value) => show(*value, sink),
             _ => Err(Fault::Value),
         },
         _ => Err(Fault::Levels),
@@ -136,6 +138,7 @@ fn read_optional<S: EntrySource, K: RowSink>(
         (IsOptionalFaulty place.repetition place.definition (leaf_type_view leaf_type.now)) (refusal_of f)) }
     ensures kept { OnOk result (S.refused source.new ≡ S.refused source.old) }
     ensures causes_stay { CausesStay S.cause source.old source.new }
+    ensures base_stays { K.base sink.new ≡ K.base sink.old }
 {
     let there = Place {
         repetition: place.repetition,
@@ -145,7 +148,7 @@ fn read_optional<S: EntrySource, K: RowSink>(
     let is_checked = source.has_checked(leaf_type);
     match source.next()? {
         Some(entry) if there.is_of(&entry) => match &entry.value {
-            Some(value) if is_checked || fits(leaf_type, value) => show(*value, sink),
+            Some(value) if is_checked || leaf_type.fits_ref(*value) => show(*value, sink),
             _ => Err(Fault::Value),
         },
         Some(entry) if place.is_of(&entry) => match entry.value {
@@ -185,6 +188,7 @@ fn read_single<S: EntrySource, K: RowSink>(
     ensures refused { IfErr result (λ f. IsRefusedFor S.stands S.refused S.cause sources.old sources.new (IsFieldFaulty (field_view field.now) place) (refusal_of f)) }
     ensures kept { OnOk result (map S.refused sources.new ≡ map S.refused sources.old) }
     ensures causes_stay { CausesStay (HaveCause S.cause) sources.old sources.new }
+    ensures base_stays { K.base sink.new ≡ K.base sink.old }
 {
     if let Field::Leaf { leaf_type, .. } = field {
         match field.repetition() {
@@ -201,6 +205,7 @@ fn read_single<S: EntrySource, K: RowSink>(
 pub fn show<K: RowSink>(value: ValueRef<'_>, sink: &mut K) -> Result<(), Fault>
     ensures shown { OnOk result (Adds (K.shows sink.old) (K.shows sink.new) (single (value_ref_view value.entry) ∷ [])) }
     ensures memory { IfErr result (λ f. f ≡ Fault.Memory) }
+    ensures base_stays { K.base sink.new ≡ K.base sink.old }
 {
     match show_kind(value, sink) {
         Ok(()) => Ok(()),
@@ -212,6 +217,7 @@ pub fn show<K: RowSink>(value: ValueRef<'_>, sink: &mut K) -> Result<(), Fault>
 #[inline(always)]
 fn show_kind<K: RowSink>(value: ValueRef<'_>, sink: &mut K) -> Result<(), AllocError>
     ensures shown { OnOk result (Adds (K.shows sink.old) (K.shows sink.new) (single (value_ref_view value.entry) ∷ [])) }
+    ensures base_stays { K.base sink.new ≡ K.base sink.old }
 {
     match value {
         ValueRef::Int(number) => sink.int(number),
@@ -238,6 +244,7 @@ fn read_inside<S: EntrySource, K: RowSink>(
     ensures kept { OnOk result (map S.refused sources.new ≡ map S.refused sources.old) }
     ensures causes_stay { CausesStay (HaveCause S.cause) sources.old sources.new }
     ensures used { IfOk result (λ used. used ≡ count_leaves (field_view field.now)) }
+    ensures base_stays { K.base sink.new ≡ K.base sink.old }
 {
     match field {
         Field::Leaf { leaf_type, .. } => {
@@ -271,6 +278,7 @@ fn read_items<S: EntrySource, K: RowSink>(
     ensures kept { OnOk result (map S.refused sources.new ≡ map S.refused sources.old) }
     ensures causes_stay { CausesStay (HaveCause S.cause) sources.old sources.new }
     ensures used { IfOk result (λ used. used ≡ count_leaves (field_view field.now)) }
+    ensures base_stays { K.base sink.new ≡ K.base sink.old }
 {
     let definition = place.definition + 1;
     let own = place.own + 1;
@@ -313,6 +321,7 @@ fn read_field<S: EntrySource, K: RowSink>(
     ensures kept { OnOk result (map S.refused sources.new ≡ map S.refused sources.old) }
     ensures causes_stay { CausesStay (HaveCause S.cause) sources.old sources.new }
     ensures used { IfOk result (λ used. used ≡ count_leaves (field_view field.now)) }
+    ensures base_stays { K.base sink.new ≡ K.base sink.old }
 {
     let repetition = field.repetition();
     if let Repetition::Required = repetition {

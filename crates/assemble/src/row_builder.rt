@@ -104,6 +104,14 @@ impl RowBuilder {
 impl RowSink for RowBuilder {
     ghost shows = { builder_shows };
 
+    ghost base = { λ _. tt };
+
+    ghost goes_back = { λ _ _. ⊥ };
+
+    fn begin_row(&mut self) {}
+
+    fn drop_row(&mut self) {}
+
     fn value(&mut self, value: ValueRef<'_>) -> Result<(), AllocError> {
         match value.to_value(self.alloc) {
             Ok(owned) => self.push(owned),

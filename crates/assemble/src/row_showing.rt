@@ -1,6 +1,6 @@
 //! Rows that are shown to a sink.
 
-ghost use Rattle.std.specs.Prelude.{OnOk};
+ghost use Rattle.std.specs.Prelude.{◌≡◌, OnOk};
 ghost use Rattle.schema.specs.Values.{view, views};
 ghost use Rattle.schema.specs.Views.{row_view};
 ghost use Rattle.assemble.specs.Sinks.{Adds, tokens, tokens_each};
@@ -13,6 +13,7 @@ use std::alloc::AllocError;
 /// shown some of them. The time is linear in the row.
 pub fn show_row<K: RowSink>(row: &Row, sink: &mut K) -> Result<(), AllocError>
     ensures shown { OnOk result (Adds (K.shows sink.old) (K.shows sink.new) (tokens_each (row_view row.now))) }
+    ensures base_stays { K.base sink.new ≡ K.base sink.old }
 {
     show_values(row.values.as_slice(), sink)
 }
@@ -21,6 +22,7 @@ pub fn show_row<K: RowSink>(row: &Row, sink: &mut K) -> Result<(), AllocError>
 #[cycle(show)]
 fn show_values<K: RowSink>(values: &[Value], sink: &mut K) -> Result<(), AllocError>
     ensures shown { OnOk result (Adds (K.shows sink.old) (K.shows sink.new) (tokens_each (views values.now))) }
+    ensures base_stays { K.base sink.new ≡ K.base sink.old }
 {
     for value in values {
         show_value(value, sink)?;
@@ -32,6 +34,7 @@ fn show_values<K: RowSink>(values: &[Value], sink: &mut K) -> Result<(), AllocEr
 #[cycle(show)]
 fn show_value<K: RowSink>(value: &Value, sink: &mut K) -> Result<(), AllocError>
     ensures shown { OnOk result (Adds (K.shows sink.old) (K.shows sink.new) (tokens (view value.now))) }
+    ensures base_stays { K.base sink.new ≡ K.base sink.old }
 {
     match value {
         Value::Group(values) => {

@@ -35,6 +35,7 @@ pub fn next_row_to<S: EntrySource, K: RowSink>(
 ) -> R<bool>
     ensures row { NextRowTo S.stands S.refused S.cause K.shows schema.now sources.old sources.new sink.old sink.new result }
     ensures causes_stay { CausesStay (HaveCause S.cause) sources.old sources.new }
+    ensures base_stays { K.base sink.new ≡ K.base sink.old }
 {
     let leaves = schema.leaves();
     if sources.len() != leaves.len() || sources.is_empty() {
@@ -68,6 +69,7 @@ pub fn next_known_row_to<S: EntrySource, K: RowSink>(
     ensures row { OnOk result (Visits (K.shows sink.old) (K.shows sink.new) tokens_each (IsNextRow S.stands schema.now sources.old sources.new)) }
     ensures known { IfErr result (λ f. (rows : List ValueTrees) → StandForRows S.stands sources.old schema.now rows → 0 < length rows → f ≡ Fault.Memory) }
     ensures causes_stay { CausesStay (HaveCause S.cause) sources.old sources.new }
+    ensures base_stays { K.base sink.new ≡ K.base sink.old }
 {
     if sources.len() != schema.leaves().len() {
         return Err(Fault::Levels);

@@ -25,8 +25,8 @@ pub trait EntrySource {
     ghost refused: { Self → Option Refusal };
 
     /// What has to be so for it to be refused with this refusal. A cause after a call was one before it. A
-    /// source that says nothing of its causes leaves this out.
-    ghost cause: { Self → Refusal → Type 0 } = { λ _ _. Unit {0} };
+    /// source that is refused only when out of memory has no causes.
+    ghost cause: { Self → Refusal → Type 0 };
 
     /// Whether the values that it gives fit this leaf type.
     ghost checked: { Self → LeafType → Type 0 } = { λ _ _. ⊥ };

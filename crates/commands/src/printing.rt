@@ -96,7 +96,7 @@ pub fn print_batch<W: Write>(alloc: Global, schema: &Schema, batch: &Batch, out:
 fn is_at(leaf: &Leaf, places: &[usize]) -> bool
     ensures { result ≡ is_at places.now (leaf_view leaf.now) }
 {
-    match leaf.steps.first() {
+    match leaf.steps.as_slice().first() {
         Some(step) => places.contains(&step.place),
         None => false,
     }

@@ -38,6 +38,7 @@ fn show_digits<K: RowSink>(
     sink: &mut K,
 ) -> Result<(), AllocError>
     ensures shown { OnOk result (Adds (K.shows sink.old) (K.shows sink.new) (single (bytes (bytes_of_pairs digits.now)) ∷ [])) }
+    ensures base_stays { K.base sink.new ≡ K.base sink.old }
 {
     let count = digits.len() / 2;
     make_room(buffer, count)?;
@@ -53,6 +54,7 @@ fn show_escaped<K: RowSink>(
     sink: &mut K,
 ) -> Result<(), AllocError>
     ensures shown { OnOk result (Adds (K.shows sink.old) (K.shows sink.new) (single (bytes (unescape content.now)) ∷ [])) }
+    ensures base_stays { K.base sink.new ≡ K.base sink.old }
 {
     unescape(content.as_bytes(), buffer)?;
     sink.bytes(buffer.as_slice())
@@ -65,6 +67,7 @@ fn show_piece<K: RowSink>(
     sink: &mut K,
 ) -> Result<(), AllocError>
     ensures shown { OnOk result (Adds (K.shows sink.old) (K.shows sink.new) (token_of piece.entry ∷ [])) }
+    ensures base_stays { K.base sink.new ≡ K.base sink.old }
 {
     match piece {
         Piece::Null => sink.value(ValueRef::Null),
@@ -88,6 +91,7 @@ pub fn show_pieces<K: RowSink>(
     sink: &mut K,
 ) -> Result<(), AllocError>
     ensures shown { OnOk result (Adds (K.shows sink.old) (K.shows sink.new) (tokens_of pieces.now)) }
+    ensures base_stays { K.base sink.new ≡ K.base sink.old }
 {
     for piece in pieces {
         show_piece(*piece, buffer, sink)?;

@@ -178,6 +178,7 @@ impl<'a> Reader<'a> {
         ensures script { result ≡ Err Script → line_of text.now ≡ None }
         ensures which { IfErr result (λ e. (e ≡ RowShape) ⊎ (e ≡ Script) ⊎ (e ≡ Memory)) }
         ensures same { schema_of self.new ≡ schema_of self.old }
+        ensures base_stays { K.base sink.new ≡ K.base sink.old }
     {
         let mut pieces = Pieces::new(self.alloc);
         pieces.reserve(self.room)?;

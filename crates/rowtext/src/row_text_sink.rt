@@ -19,6 +19,14 @@ const SHORT: usize = 32;
 impl<'a> RowSink for RowText<'a> {
     ghost shows = { text_shows };
 
+    ghost base = { λ _. tt };
+
+    ghost goes_back = { λ _ _. ⊥ };
+
+    fn begin_row(&mut self) {}
+
+    fn drop_row(&mut self) {}
+
     // Inlined, this and the two after it would keep the loops that read the values from being inlined.
     #[inline(never)]
     fn value(&mut self, value: ValueRef<'_>) -> Result<(), AllocError> {

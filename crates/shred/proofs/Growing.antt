@@ -1,10 +1,12 @@
 -- Columns with more entries at their ends.
 use Rattle.std.proofs.Common.{ℕ, zero, suc, ◌≡◌, ◌+◌, ◌<◌, ◌≤◌, List, [], ◌∷◌, ◌++◌, map, length, get_or, take, drop, refl, ap, sym, ◌∙◌, arith, add-one, append_assoc}
 use Rattle.std.proofs.Math.ListN.{set}
-use Rattle.std.proofs.lemmas.List.{append-nil, map-append, length-map}
+use Rattle.std.proofs.lemmas.List.{append-nil, map-append, length-map, length-take-le, take_more}
 use Rattle.std.proofs.lemmas.Simd.{map-map}
 use Rattle.schema.specs.Shape.{Field, Fields, field}
-use Rattle.schema.specs.Stripe.{Entry, Leaf, below, leaves, leaves_from}
+use Rattle.std.proofs.lemmas.Grind.{flat_map-append}
+use Rattle.schema.specs.Values.{ValueTrees, group}
+use Rattle.schema.specs.Stripe.{Entry, Leaf, below, leaves, leaves_from, stripe, column}
 use Rattle.schema.specs.Reading.{count_leaves}
 use Rattle.schema.proofs.CutSteps.{count_is}
 use Rattle.shred.specs.declared.column.ColumnRef.{ColumnRef}
@@ -14,7 +16,7 @@ use Rattle.shred.specs.inner.Growing.{Columns, grown, nils}
 same_cons : (x y : List Entry) (xs ys : Columns) → x ≡ y → xs ≡ ys → x ∷ xs ≡ y ∷ ys
 same_cons x y xs ys h k = cc
 
-grown_by_none : (cs : Columns) → grown cs [] ≡ cs
+pub grown_by_none : (cs : Columns) → grown cs [] ≡ cs
 grown_by_none [] = refl
 grown_by_none (c ∷ cs) = refl
 
@@ -111,3 +113,19 @@ pub same_at : {A B : Type 0} (f : A → B) (x y : A) (xs : List A) (i : ℕ) →
 same_at f x y [] i lt h = absurd (omega (arith, lt))
 same_at {B = B} f x y (z ∷ xs) zero lt h = ap (λ (t : B). t ∷ map f xs) h
 same_at {B = B} f x y (z ∷ xs) (suc i) lt h = ap (λ (t : List B). f z ∷ t) (same_at f x y xs i (omega (arith, lt)) h)
+
+-- one column more, each of which is longer by one of others
+pub grown_more : {A : Type 0} (f : A → List Entry) (os : List A) (i : ℕ) (o : A) (cs xs ys : Columns) → i < length os → o ≡ get_or os i o → xs ≡ grown cs (map f (take i os)) → ys ≡ grown xs (nils i ++ f o ∷ [])
+    → ys ≡ grown cs (map f (take (i + 1) os))
+grown_more {A = A} f os i o cs xs ys lt is before now =
+    let size : i ≡ 0 + length (map f (take i os)) = omega (arith, length-map (take i os) f, length-take-le i os (omega (arith, lt))) in
+    now ∙ ap (λ (t : Columns). grown t (nils i ++ f o ∷ [])) before ∙ grown_next 0 i (map f (take i os)) (f o ∷ []) cs size
+    ∙ ap (grown cs) (sym (map-append f (take i os) (o ∷ [])))
+    ∙ ap (λ (t : A). grown cs (map f (take i os ++ t ∷ []))) is
+    ∙ ap (λ (t : List A). grown cs (map f t)) (sym (take_more os i o lt))
+
+-- the columns of rows, and then those of others
+pub grown_columns : (ls : List Leaf) (rows more : List ValueTrees)
+    → grown (map (λ (l : Leaf). column rows l.steps) ls) (map (λ (l : Leaf). column more l.steps) ls) ≡ map (λ (l : Leaf). column (rows ++ more) l.steps) ls
+grown_columns [] rows more = refl
+grown_columns (l ∷ ls) rows more = same_cons _ _ _ _ (sym (flat_map-append (λ (row : ValueTrees). stripe l.steps (group row) 0 0 0) rows more)) (grown_columns ls rows more)

@@ -115,6 +115,46 @@ still_in_plain kind bs new count m n v k has joined =
       first = ap (λ (ws : List ValueTree). length (flat_map (spelling kind) ws)) (still_first kind bs new count m n v k has joined) ∙ k.first;
     }
 
+-- ---- more values
+
+all_more : (P : ValueTree → Type 0) (vs ws : List ValueTree) → AllByRecursion P vs → AllByRecursion P ws → AllByRecursion P (vs ++ ws)
+all_more P [] ws all more = more
+all_more P (v ∷ vs) ws all more = (all.0, all_more P vs ws all.1 more)
+
+more_bytes : (kind : Kind) (bs cs new : List ℕ) (count more m n i j : ℕ) → Spelled kind bs count m n → Spelled kind cs more i j → new ≡ bs ++ cs
+    → new ≡ flat_map (spelling kind) (values_from kind count 0 bs ++ values_from kind more 0 cs)
+more_bytes kind bs cs new count more m n i j k l joined =
+    let vs = values_from kind count 0 bs in
+    joined ∙ ap (λ (t : List ℕ). t ++ cs) k.are ∙ ap (λ (t : List ℕ). flat_map (spelling kind) vs ++ t) l.are ∙ sym (flat_map-append (spelling kind) vs (values_from kind more 0 cs))
+
+values_taken : (kind : Kind) (bs cs new : List ℕ) (count more m n i j : ℕ) → Spelled kind bs count m n → Spelled kind cs more i j → new ≡ bs ++ cs
+    → values_from kind (count + more) 0 new ≡ values_from kind count 0 bs ++ values_from kind more 0 cs
+values_taken kind bs cs new count more m n i j k l joined =
+    let vs = values_from kind count 0 bs in
+    let ws = values_from kind more 0 cs in
+    let size : length (vs ++ ws) ≡ count + more = omega (arith, length-append vs ws, count_from kind count 0 bs, count_from kind more 0 cs) in
+    ap (λ (c : ℕ). values_from kind c 0 new) (sym size) ∙ ap (λ (t : List ℕ). values_from kind (length (vs ++ ws)) 0 t) (more_bytes kind bs cs new count more m n i j k l joined)
+    ∙ spelled_values kind (vs ++ ws) (all_more (HasSpelling kind) vs ws k.has l.has)
+
+still_first_taken : (kind : Kind) (bs cs new : List ℕ) (count more m n i j : ℕ) → Spelled kind bs count m n → Spelled kind cs more i j → new ≡ bs ++ cs
+    → take m (values_from kind (count + more) 0 new) ≡ take m (values_from kind count 0 bs)
+still_first_taken kind bs cs new count more m n i j k l joined =
+    ap (take m) (values_taken kind bs cs new count more m n i j k l joined)
+    ∙ take-append-le m (values_from kind count 0 bs) (values_from kind more 0 cs) (omega (arith, k.within, count_from kind count 0 bs))
+
+still_in_plain_taken : (kind : Kind) (bs cs new : List ℕ) (count more m n i j : ℕ) → Spelled kind bs count m n → Spelled kind cs more i j → new ≡ bs ++ cs → Spelled kind new (count + more) m n
+still_in_plain_taken kind bs cs new count more m n i j k l joined =
+    let vs = values_from kind count 0 bs in
+    let ws = values_from kind more 0 cs in
+    let is = values_taken kind bs cs new count more m n i j k l joined in
+    record {
+      whole_bytes = k.whole_bytes;
+      has = subst (AllByRecursion (HasSpelling kind)) (sym is) (all_more (HasSpelling kind) vs ws k.has l.has);
+      are = more_bytes kind bs cs new count more m n i j k l joined ∙ ap (flat_map (spelling kind)) (sym is);
+      within = omega (arith, k.within);
+      first = ap (λ (us : List ValueTree). length (flat_map (spelling kind) us)) (still_first_taken kind bs cs new count more m n i j k l joined) ∙ k.first;
+    }
+
 -- ---- values that are marked
 
 pub all_first : (kind : Kind) (bs : List ℕ) (count : ℕ) → take count (values_from kind count 0 bs) ≡ values_from kind count 0 bs
@@ -175,6 +215,17 @@ pub put_in_plain : (kind : Kind) (bs new : List ℕ) (count m n : ℕ) (v : Valu
 put_in_plain kind bs new count m n v k has joined =
     let s = to_spelled kind bs count m n k in
     (from_spelled kind new (count + 1) m n (still_in_plain kind bs new count m n v s has joined), value_put kind bs new count m n v s has joined, still_first kind bs new count m n v s has joined)
+
+pub taken_in_plain : (kind other : Kind) (bs cs new : List ℕ) (count more m n i j : ℕ) → other ≡ kind → AreInPlain kind bs count m n → AreInPlain other cs more i j → new ≡ bs ++ cs
+    → AreInPlain kind new (count + more) m n × (values_from kind (count + more) 0 new ≡ values_from kind count 0 bs ++ values_from other more 0 cs)
+    × (take m (values_from kind (count + more) 0 new) ≡ take m (values_from kind count 0 bs))
+taken_in_plain kind other bs cs new count more m n i j same k l joined =
+    let s = to_spelled kind bs count m n k in
+    let t = to_spelled kind cs more i j (subst (λ (x : Kind). AreInPlain x cs more i j) same l) in (
+      from_spelled kind new (count + more) m n (still_in_plain_taken kind bs cs new count more m n i j s t joined),
+      values_taken kind bs cs new count more m n i j s t joined ∙ ap (λ (x : Kind). values_from kind count 0 bs ++ values_from x more 0 cs) (sym same),
+      still_first_taken kind bs cs new count more m n i j s t joined,
+    )
 
 pub marked_in_plain : (kind : Kind) (bs : List ℕ) (count m n : ℕ) → AreInPlain kind bs count m n → AreInPlain kind bs count count (length bs)
 marked_in_plain kind bs count m n k = from_spelled kind bs count count (length bs) (all_marked_in_plain kind bs count m n (to_spelled kind bs count m n k))

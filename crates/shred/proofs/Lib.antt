@@ -7,3 +7,5 @@ pub mod Openings
 pub mod ShownSteps
 pub mod ShownRuns
 pub mod ShownRows
+pub mod DroppedRows
+pub mod TakenRows

@@ -1,5 +1,5 @@
 -- What columns hold after the values of a row that fits.
-use Rattle.std.proofs.Common.{◌≡◌, ℕ, ℤ, suc, ◌+◌, Bool, true, false, true≢false, ◌&&◌, List, [], ◌∷◌, ◌++◌, map, length, Option, Some, refl, ap, ap₂, sym, ◌∙◌}
+use Rattle.std.proofs.Common.{◌≡◌, ℕ, suc, ◌+◌, Bool, true, false, true≢false, ◌&&◌, List, [], ◌∷◌, ◌++◌, map, length, Option, Some, refl, ap, ap₂, sym, ◌∙◌}
 use Rattle.std.proofs.lemmas.List.{append-nil, length-map}
 use Rattle.std.proofs.lemmas.Grind.{flat_map-append}
 use Rattle.schema.specs.declared.value.Repetition.{Repetition}
@@ -11,7 +11,7 @@ use Rattle.schema.specs.Annotations.{LeafType}
 use Rattle.schema.specs.Values.{ValueTree, null, boolean, integer, bytes, group, list, ValueTrees, no_values, value, each, member_at}
 use Rattle.schema.specs.Shape.{Field, leaf, fields, Fields, no_fields, field, repetition_of}
 use Rattle.schema.specs.Fits.{fits_kind, fits_leaf, fits_as, is_group, fits, fits_each}
-use Rattle.schema.specs.Stripe.{Entry, entry, Leaf, leaves, leaves_of, stripe, stripe_as, list_items, later_items, column, columns}
+use Rattle.schema.specs.Stripe.{Entry, Leaf, leaves, leaves_of, stripe, stripe_as, list_items, later_items, column, columns}
 use Rattle.assemble.specs.Sinks.{group_ends, list_ends, tokens, tokens_each}
 use Rattle.shred.specs.declared.field.Levels.{Levels}
 use Rattle.shred.specs.inner.Growing.{Columns, grown, nils, levels_at, stripes, stripes_inside, stripes_items, stripes_later, stripes_each, absences}

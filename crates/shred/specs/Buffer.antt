@@ -1,12 +1,12 @@
 -- The rows that a buffer holds as columns, and what it was shown of the next one.
-use Rattle.std.specs.Prelude.{◌≡◌, ◌≤◌, ◌^◌, List, [], ◌∷◌, length}
+use Rattle.std.specs.Prelude.{◌≡◌, ℕ, ◌≤◌, ◌^◌, List, [], ◌∷◌, length}
 use Rattle.schema.specs.Values.{ValueTrees}
 use Rattle.schema.specs.Shape.{Fields}
-use Rattle.schema.specs.Stripe.{columns}
+use Rattle.schema.specs.Stripe.{Entry, columns}
 use Rattle.schema.specs.Fits.{RowsFit}
 use Rattle.assemble.specs.Sinks.{Token, tokens_each}
 use Rattle.shred.specs.declared.row_buffer.RowBuffer.{RowBuffer}
-use Rattle.shred.specs.inner.Filling.{state_of, run, root}
+use Rattle.shred.specs.inner.Filling.{state_of, marked_of, run, root}
 use Rattle.shred.specs.inner.Opening.{schema_token, rows_token, rows_said}
 
 abbrev pub schema_of : RowBuffer → Fields
@@ -35,3 +35,31 @@ BeginsRow buffer fs rows = buffer_shows buffer (schema_token fs ∷ rows_token r
 -- it holds these rows of the schema, and was shown the values of the next one
 abbrev pub ShowsRow : RowBuffer → Fields → List ValueTrees → ValueTrees → Type 0
 ShowsRow buffer fs rows values = buffer_shows buffer (schema_token fs ∷ rows_token rows ∷ tokens_each values)
+
+-- ---- a row that is dropped
+
+-- what a buffer keeps of the rows before the one that it is shown
+pub record Base : Type 0 where
+  pub schema : Fields
+  pub count : ℕ
+  pub marked : List (List Entry)
+
+abbrev pub base_of : RowBuffer → Base
+base_of buffer = record { schema = schema_of buffer; count = buffer.count; marked = marked_of buffer.filling }
+
+-- These rows, which fit, are held once the row is dropped that is shown.
+pub record HoldsBelow (base : Base) (rows : List ValueTrees) : Type 0 where
+  pub fit : RowsFit base.schema rows
+  pub counted : base.count ≡ length rows
+  pub countable : base.count ≤ 2 ^ 62
+  pub marked : base.marked ≡ columns base.schema rows
+
+-- it was shown the schema and the rows before, and nothing of the next one
+abbrev pub shows_whole : RowBuffer → List Token → Type 0
+shows_whole buffer (t ∷ u ∷ []) = (t ≡ schema_token (schema_of buffer)) × holds buffer (rows_said u)
+shows_whole buffer _ = ⊥
+
+-- it was shown so once the row is dropped that is shown
+abbrev pub goes_back : Base → List Token → Type 0
+goes_back base (t ∷ u ∷ []) = (t ≡ schema_token base.schema) × HoldsBelow base (rows_said u)
+goes_back base _ = ⊥

@@ -6,12 +6,17 @@ use Rattle.shred.specs.declared.kept_column.KeptColumn.{KeptColumn}
 use Rattle.shred.specs.Slots.{entries_in}
 use Rattle.shred.specs.Waiting.{waiting, waiting_marked}
 use Rattle.shred.specs.inner.Roomy.{list_of}
-use Rattle.shred.specs.inner.Packed.{unpacked_each}
+use Rattle.shred.specs.inner.Packed.{unpacked_each, absent}
+
+-- the entries that do not wait in PLAIN: the last ones are without value
+abbrev pub others_view : KeptColumn → List Entry
+others_view c = entries_in (list_of c.bytes) (unpacked_each (list_of c.entries)) ++ absent c.run
 
 -- first the values in PLAIN, then the other entries
 abbrev pub kept_view : KeptColumn → List Entry
-kept_view c = flat_entries (waiting c.plain) ++ entries_in (list_of c.bytes) (unpacked_each (list_of c.entries))
+kept_view c = flat_entries (waiting c.plain) ++ others_view c
 
 -- what it showed when it was marked
 abbrev pub marked_view : KeptColumn → List Entry
-marked_view c = flat_entries (waiting_marked c.plain) ++ entries_in (take c.marked_bytes (list_of c.bytes)) (take c.marked (unpacked_each (list_of c.entries)))
+marked_view c = flat_entries (waiting_marked c.plain)
+    ++ (entries_in (take c.marked_bytes (list_of c.bytes)) (unpacked_each (take c.marked (list_of c.entries))) ++ absent c.marked_run)

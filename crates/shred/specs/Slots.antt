@@ -5,6 +5,8 @@ use Rattle.schema.specs.Stripe.{Entry}
 use Rattle.shred.specs.declared.slot.Slot.{Slot}
 use Rattle.shred.specs.declared.slot.Slot.TheVariants.{Missing, Null, Bool, Int, Bytes}
 use Rattle.shred.specs.declared.slot.KeptEntry.{KeptEntry}
+use Rattle.shred.specs.declared.slot.PackedEntry.{PackedEntry}
+use Rattle.shred.specs.inner.Packed.{unpacked_each}
 
 -- how many bytes a value has
 abbrev pub slot_size : Slot → ℕ
@@ -30,7 +32,7 @@ entries_in bs [] = []
 entries_in bs (e ∷ es) = record { repetition = e.repetition; definition = e.definition; value = slot_value e.slot bs } ∷ entries_in (drop (slot_size e.slot) bs) es
 
 -- the bytes are those of the entries, and the first ones are those of the entries that are marked
-pub record AreKept (entries : List KeptEntry) (bytes : List ℕ) (marked size : ℕ) : Type 0 where
-  pub filled : total_size entries ≡ length bytes
-  pub within : marked ≤ length entries
-  pub first : total_size (take marked entries) ≡ size
+pub record AreKept (packed : List PackedEntry) (bytes : List ℕ) (marked size : ℕ) : Type 0 where
+  pub filled : total_size (unpacked_each packed) ≡ length bytes
+  pub within : marked ≤ length packed
+  pub first : total_size (unpacked_each (take marked packed)) ≡ size

@@ -10,11 +10,11 @@ ghost use Rattle.plain.specs.Flat.{flat_entries};
 ghost use Rattle.plain.specs.ValuesLeft.{values_left, kind_of};
 ghost use Rattle.assemble.specs.Sinks.{single, group_begins, group_ends, list_begins, list_ends};
 ghost use Rattle.shred.specs.inner.Growing.{nils, levels_at, absences, absences_each};
-ghost use Rattle.shred.specs.inner.Filling.{next, next_view, state_of, marked_of, begun, given, single_stripes, left, closed_at, step, root};
+ghost use Rattle.shred.specs.inner.Filling.{next, next_view, state_of, marked_of, begun, given, single_stripes, left, closed_at, step, root, taken};
 
 use crate::field::Levels;
 use crate::kept_column::KeptColumn;
-use crate::kept_columns::{clear_each, cut_each, mark_each, put_entry};
+use crate::kept_columns::{clear_each, cut_each, mark_each, put_entry, take_each};
 use crate::level::{Level, Next, deeper, inside, item_levels, items};
 use crate::single::Single;
 use bits::R;
@@ -58,6 +58,17 @@ impl<'a> Filling<'a> {
         self.at = 0;
         self.here = Level::of_row(fields);
         self.outer.clear();
+    }
+
+    /// Puts the entries of each column of another one after those of the column here, one for one; where the next value
+    /// stands is left as it is. It fails only when out of memory; what is marked stays.
+    ///
+    /// The time is linear in the entries and in the bytes of the values that are taken over.
+    pub(crate) fn take_over(&mut self, other: &Filling<'_>) -> Result<(), AllocError>
+        ensures taken { OnOk result (state_of self.new ≡ taken (state_of self.old) (state_of other.now).columns) }
+        ensures marked { marked_of self.new ≡ marked_of self.old }
+    {
+        take_each(self.columns.as_mut_slice(), other.columns.as_slice())
     }
 
     /// Marks what the columns hold.

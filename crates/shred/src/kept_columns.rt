@@ -29,6 +29,30 @@ pub(crate) fn put_entry<V: Single>(
     Ok(())
 }
 
+/// Puts the entries of another column after those of a column, if there is one at this index. It fails only when out of
+/// memory.
+fn take_column(columns: &mut [KeptColumn], at: usize, other: &KeptColumn) -> Result<(), AllocError>
+    ensures grown { OnOk result (map kept_view columns.new ≡ grown (map kept_view columns.old) (nils at ++ kept_view other.now ∷ [])) }
+    ensures marked { map marked_view columns.new ≡ map marked_view columns.old }
+{
+    if at < columns.len() {
+        columns[at].take_over(other)?;
+    }
+    Ok(())
+}
+
+/// Puts the entries of other columns after those of the columns, one for one. It fails only when out of memory; what is
+/// marked stays.
+pub(crate) fn take_each(columns: &mut [KeptColumn], others: &[KeptColumn]) -> Result<(), AllocError>
+    ensures grown { OnOk result (map kept_view columns.new ≡ grown (map kept_view columns.old) (map kept_view others.now)) }
+    ensures marked { map marked_view columns.new ≡ map marked_view columns.old }
+{
+    for (i, other) in others.iter().enumerate() {
+        take_column(columns, i, other)?;
+    }
+    Ok(())
+}
+
 /// Marks what each column holds.
 pub(crate) fn mark_each(columns: &mut [KeptColumn])
     ensures marked { map marked_view columns.new ≡ map kept_view columns.old }

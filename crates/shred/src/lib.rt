@@ -15,6 +15,7 @@ mod roomy_list;
 mod row_buffer;
 mod row_values;
 mod rows;
+mod run;
 mod single;
 mod slot;
 

@@ -1,6 +1,6 @@
 //! Values that wait in PLAIN.
 
-ghost use Rattle.std.specs.Prelude.{◌≡◌, ◌≢◌, ◌++◌, ◌∷◌, [], map, IfOk, OnOk, OnErr};
+ghost use Rattle.std.specs.Prelude.{◌≡◌, ◌≢◌, ◌++◌, ◌∷◌, [], length, map, IfOk, OnOk, OnErr};
 ghost use Rattle.bits.specs.Refusals.{RefusedMemoryOnly};
 ghost use Rattle.schema.specs.Borrowed.{entry_ref_view};
 ghost use Rattle.plain.specs.Flat.{flat_entries};
@@ -68,6 +68,32 @@ impl PlainValues {
             self.count = count;
         }
         Ok(is_put)
+    }
+
+    /// Puts the values of another leaf after the others, and returns whether they are of the same type: no others are
+    /// put. It fails only when out of memory, and then leaves them as they are.
+    pub(crate) fn take_over(&mut self, other: &PlainValues) -> Result<bool, AllocError>
+        ensures put { IfOk result (λ put. AppendsIf put (plain_view self.old) (plain_view other.now) (plain_view self.new)) }
+        ensures unchanged { OnErr result (plain_view self.new ≡ plain_view self.old) }
+        ensures marked { plain_marked self.new ≡ plain_marked self.old }
+    {
+        if self.kind != other.kind {
+            return Ok(false);
+        }
+        let Some(count) = self.count.checked_add(other.count) else {
+            // Never reached: there is no memory for as many values.
+            return Err(AllocError);
+        };
+        self.bytes.append(other.bytes.as_slice())?;
+        self.count = count;
+        Ok(true)
+    }
+
+    /// How many values there are.
+    pub(crate) fn len(&self) -> usize
+        ensures { result ≡ length (plain_view self.now) }
+    {
+        self.count
     }
 
     /// Marks the values that are there.

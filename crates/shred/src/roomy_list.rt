@@ -9,10 +9,15 @@ use plain::{place_byte_array, place_int32, place_int64, place_text};
 use schema::Kind;
 use std::alloc::{AllocError, Global};
 
-/// For how many more items room is made at a time, at least.
-const STEP: usize = 4096;
+/// For how many items room is made first, at least.
+const FIRST_ROOM: usize = 4;
 
-/// A list with items after it that mean nothing: to put one more item is a store where room was made, and no call.
+/// For how many more items room is made at a time, at most. The room is written when it is made, so a long list would
+/// take twice its items if it doubled.
+const MOST_ROOM: usize = 4096;
+
+/// A list with items after it that mean nothing: to put one more item is a store where room was made, and no call. The
+/// room doubles from a few items on, and then grows by a few thousand.
 #[derive(Debug, Drop)]
 pub(crate) struct RoomyList<T> {
     items: Vec<T>,
@@ -73,7 +78,8 @@ impl<T: Copy> RoomyList<T> {
         ensures count { self.new.count ≡ self.old.count }
         ensures room { OnOk result (self.new.count + more ≤ length self.new.items.items) }
     {
-        let Some(wanted) = self.items.len().checked_add(more.max(STEP)) else {
+        let step = self.items.len().max(FIRST_ROOM).min(MOST_ROOM);
+        let Some(wanted) = self.items.len().checked_add(more.max(step)) else {
             return Err(AllocError);
         };
         self.items.resize(wanted, filler)
@@ -94,6 +100,7 @@ impl RoomyList<PackedEntry> {
             let filler = PackedEntry::Missing {
                 repetition: 0,
                 definition: 0,
+                count: 0,
             };
             self.make_room(1, filler)?;
         }

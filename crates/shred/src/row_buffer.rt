@@ -25,7 +25,8 @@ const MOST_ROWS: usize = 1 << 62;
 /// its values.
 ///
 /// Rows are added whole ([`push`](RowBuffer::push)), or value by value: the buffer is a sink, which is shown the
-/// values of a row, and then its end ([`end_row`](RowBuffer::end_row)).
+/// values of a row, and then its end ([`end_row`](RowBuffer::end_row)). A row that was begun
+/// ([`begin_row`](RowBuffer::begin_row)) and has not ended can be dropped ([`drop_row`](RowBuffer::drop_row)).
 #[derive(Drop)]
 pub struct RowBuffer<'a> {
     schema: &'a Schema,
@@ -118,6 +119,37 @@ impl<'a> RowBuffer<'a> {
         Ok(())
     }
 
+    /// Adds the rows of another buffer of the same schema, in their order. What was shown of a next row is dropped.
+    ///
+    /// It fails only when out of memory; the buffer then has the rows that it had. The time is linear in the leaves, in
+    /// the entries and in the bytes of the values that are taken over.
+    pub fn take_over(&mut self, other: &RowBuffer<'_>) -> R<()>
+        requires same { schema_of self.old ≡ schema_of other.now }
+        ensures stands { OnOk result ((rows others : List ValueTrees) → holds self.old rows → holds other.now others → holds self.new (rows ++ others)) }
+        ensures which { RefusedMemoryOnly result }
+        ensures unchanged { OnErr result ((rows : List ValueTrees) → holds self.old rows → holds self.new rows) }
+        ensures same_schema { schema_of self.new ≡ schema_of self.old }
+    {
+        let count = self.count.saturating_add(other.count);
+        if count > MOST_ROWS {
+            // Never reached: there is no memory for as many rows.
+            return Err(Refusal::Memory);
+        }
+        self.filling.mark();
+        match self.filling.take_over(&other.filling) {
+            Ok(()) => {
+                self.filling.restart(self.schema.fields());
+                self.count = count;
+                Ok(())
+            }
+            Err(_) => {
+                self.filling.cut();
+                self.filling.restart(self.schema.fields());
+                Err(Refusal::Memory)
+            }
+        }
+    }
+
     /// The values of a leaf, given by its index among the leaves of the schema, where they wait in PLAIN: each is that
     /// of an entry with both levels 0, and no other entries wait. None where the column waits as entries. Takes
     /// constant time.
@@ -152,9 +184,40 @@ impl<'a> RowBuffer<'a> {
 }
 
 impl<'a> RowSink for RowBuffer<'a> {
-    ghost use Rattle.shred.specs.Buffer.{buffer_shows};
+    ghost use Rattle.shred.specs.Buffer.{buffer_shows, shows_whole, goes_back, Base, base_of, schema_of, holds, BeginsRow, HoldsBelow};
+    ghost use Rattle.assemble.specs.Sinks.{Token};
 
     ghost shows = { buffer_shows };
+
+    ghost Base = { Base };
+
+    ghost base = { base_of };
+
+    ghost whole = { shows_whole };
+
+    ghost goes_back = { goes_back };
+
+    /// Begins a row, which may be dropped later. The buffer holds the same rows. Takes time linear in the leaves.
+    fn begin_row(&mut self)
+        ensures whole { (ts : List Token) → shows_whole self.old ts → shows_whole self.new ts × goes_back (base_of self.new) ts }
+        ensures shows { (ts : List Token) → buffer_shows self.old ts → buffer_shows self.new ts }
+        ensures begins { (rows : List ValueTrees) → holds self.old rows → holds self.new rows
+            × (BeginsRow self.new (schema_of self.old) rows × HoldsBelow (base_of self.new) rows) }
+        ensures same_schema { schema_of self.new ≡ schema_of self.old }
+    {
+        self.filling.mark();
+    }
+
+    /// Drops the row that was begun last, of which a part or all was shown, also where a call failed: the buffer holds
+    /// the rows that it held when it began. Takes time linear in the leaves and in what was shown.
+    fn drop_row(&mut self)
+        ensures whole { (ts : List Token) → goes_back (base_of self.old) ts → shows_whole self.new ts × buffer_shows self.new ts }
+        ensures dropped { (rows : List ValueTrees) → HoldsBelow (base_of self.old) rows → holds self.new rows }
+        ensures same_schema { schema_of self.new ≡ schema_of self.old }
+    {
+        self.filling.cut();
+        self.filling.restart(self.schema.fields());
+    }
 
     #[inline(always)]
     fn value(&mut self, value: ValueRef<'_>) -> Result<(), AllocError> {

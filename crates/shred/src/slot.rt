@@ -1,14 +1,11 @@
 //! Entries whose bytes lie one after the other.
 
-ghost use Rattle.std.specs.Prelude.{◌≡◌, ◌≤◌, ℕ, List, length, drop, IfOk, OnErr, option_map};
+ghost use Rattle.std.specs.Prelude.{◌≡◌, ◌≤◌, ℕ, List, ◌∷◌, [], length, drop, IfOk, option_map};
 ghost use Rattle.schema.specs.Borrowed.{value_ref_view};
 ghost use Rattle.shred.specs.Slots.{slot_size, slot_value};
-ghost use Rattle.shred.specs.inner.Packed.{entry_at, unpacked};
-ghost use Rattle.shred.specs.inner.Put.{IsPut};
-ghost use Rattle.shred.specs.inner.Roomy.{list_of};
+ghost use Rattle.shred.specs.inner.Packed.{entry_at, entry_of, many, run_entries, unpacked};
 
-use crate::roomy_list::RoomyList;
-use crate::single::Single;
+use crate::run::Run;
 use schema::ValueRef;
 use std::alloc::AllocError;
 
@@ -31,12 +28,14 @@ pub(crate) struct KeptEntry {
     pub(crate) slot: Slot,
 }
 
-/// An entry in 16 bytes: its levels stand in the variant, next to its tag.
+/// An entry in 16 bytes, or as many entries without value as `count` says: the levels stand in the variant, next to its
+/// tag.
 #[derive(Debug, Clone, Copy)]
 pub(crate) enum PackedEntry {
     Missing {
         repetition: u8,
         definition: u8,
+        count: usize,
     },
     Null {
         repetition: u8,
@@ -62,7 +61,7 @@ pub(crate) enum PackedEntry {
 /// The entry in 16 bytes. Levels that a byte does not hold are never reached: no schema nests so deep.
 #[inline(always)]
 pub(crate) fn packed(entry: KeptEntry) -> Result<PackedEntry, AllocError>
-    ensures { IfOk result (λ packed. unpacked packed ≡ entry) }
+    ensures { IfOk result (λ packed. unpacked packed ≡ entry ∷ []) }
 {
     if entry.repetition > 255 || entry.definition > 255 {
         return Err(AllocError);
@@ -73,6 +72,7 @@ pub(crate) fn packed(entry: KeptEntry) -> Result<PackedEntry, AllocError>
         Slot::Missing => PackedEntry::Missing {
             repetition,
             definition,
+            count: 1,
         },
         Slot::Null => PackedEntry::Null {
             repetition,
@@ -96,11 +96,37 @@ pub(crate) fn packed(entry: KeptEntry) -> Result<PackedEntry, AllocError>
     })
 }
 
-/// The entry that was packed.
+/// The entries of a run in 16 bytes. Levels that a byte does not hold are never reached: no schema nests so deep.
+#[inline(always)]
+pub(crate) fn packed_run(run: Run) -> Result<PackedEntry, AllocError>
+    ensures { IfOk result (λ packed. unpacked packed ≡ run_entries run) }
+{
+    if run.repetition > 255 || run.definition > 255 {
+        return Err(AllocError);
+    }
+    Ok(PackedEntry::Missing {
+        repetition: run.repetition as u8,
+        definition: run.definition as u8,
+        count: run.count,
+    })
+}
+
+/// How many entries were packed.
+#[inline(always)]
+pub(crate) fn many(packed: PackedEntry) -> usize
+    ensures { result ≡ many packed }
+{
+    match packed {
+        PackedEntry::Missing { count, .. } => count,
+        _ => 1,
+    }
+}
+
+/// The entry that was packed, or each of the entries that were.
 // Numbers and bytes are looked for first: a test of all variants at once would be a jump by a table.
 #[inline(always)]
-pub(crate) fn unpacked(packed: PackedEntry) -> KeptEntry
-    ensures { result ≡ unpacked packed }
+pub(crate) fn entry_of(packed: PackedEntry) -> KeptEntry
+    ensures { result ≡ entry_of packed }
 {
     if let PackedEntry::Bytes {
         repetition,
@@ -118,18 +144,19 @@ pub(crate) fn unpacked(packed: PackedEntry) -> KeptEntry
     {
         return kept_entry(repetition, definition, Slot::Int(value));
     }
-    any_unpacked(packed)
+    any_entry_of(packed)
 }
 
-/// The entry that was packed, whatever its value.
+/// The same, whatever its value.
 #[inline(never)]
-fn any_unpacked(packed: PackedEntry) -> KeptEntry
-    ensures { result ≡ unpacked packed }
+fn any_entry_of(packed: PackedEntry) -> KeptEntry
+    ensures { result ≡ entry_of packed }
 {
     match packed {
         PackedEntry::Missing {
             repetition,
             definition,
+            ..
         } => kept_entry(repetition, definition, Slot::Missing),
         PackedEntry::Null {
             repetition,
@@ -162,22 +189,6 @@ fn kept_entry(repetition: u8, definition: u8, slot: Slot) -> KeptEntry
         repetition: u32::from(repetition),
         definition: u32::from(definition),
         slot,
-    }
-}
-
-/// Puts the bytes of a leaf's value, if it has any, after the bytes of others, and returns its slot.
-/// It fails only when out of memory, and then leaves the bytes as they are.
-#[inline(always)]
-pub(crate) fn put_value<V: Single>(
-    value: Option<V>,
-    bytes: &mut RoomyList<u8>,
-) -> Result<Slot, AllocError>
-    ensures stands { IfOk result (λ slot. IsPut slot (option_map V.meant value) (list_of bytes.old) (list_of bytes.new)) }
-    ensures unchanged { OnErr result (list_of bytes.new ≡ list_of bytes.old) }
-{
-    match value {
-        None => Ok(Slot::Missing),
-        Some(value) => value.put_bytes(bytes),
     }
 }
 

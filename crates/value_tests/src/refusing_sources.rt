@@ -31,6 +31,9 @@ impl<'a> EntrySource for Failing<'a> {
 
     ghost refused = { λ s. option_map refusal_of s.refused };
 
+    // Nothing is said of its causes.
+    ghost cause = { λ _ _. Unit {0} };
+
     fn peek(&mut self) -> R<Option<(u32, u32)>> {
         if let Some(fault) = self.refused {
             return Err(Refusal::from(fault));

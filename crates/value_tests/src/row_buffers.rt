@@ -3,7 +3,7 @@
 use crate::schemas::{
     BOOLEAN, BYTE_ARRAY, FieldRow, INT64, OPTIONAL, REPEATED, REQUIRED, schema_of,
 };
-use assemble::show_row;
+use assemble::{RowSink, show_row};
 use bits::{R, Refusal};
 use schema::{EntryRef, Row, Value, ValueRef};
 use shred::RowBuffer;
@@ -187,6 +187,35 @@ fn are_shown(alloc: Global) -> R<bool> {
 #[test]
 fn rows_that_are_shown_have_their_entries(rt: HostRuntime) -> Result<(), Fail> {
     assert!(rt; are_shown(rt.alloc())?);
+    Ok(())
+}
+
+/// Shows a sink a row and a part of a further value, and drops both.
+fn drop_shown<K: RowSink>(sink: &mut K, row: &Row) -> R<()> {
+    sink.begin_row();
+    show_row(row, sink)?;
+    sink.begin_list()?;
+    sink.drop_row();
+    Ok(())
+}
+
+/// Whether rows that are dropped leave those before them, and take none from those after them.
+fn are_dropped(alloc: Global) -> R<bool> {
+    let schema = schema_of(alloc, OF_ALL_KINDS)?;
+    let mut buffer = RowBuffer::new(alloc, &schema)?;
+    drop_shown(&mut buffer, &row(alloc, 7)?)?;
+    let is_empty = are_held(alloc, &buffer, 0)?;
+    for n in 0..6 {
+        buffer.begin_row();
+        show(&mut buffer, &row(alloc, n)?)?;
+        drop_shown(&mut buffer, &row(alloc, 7)?)?;
+    }
+    Ok(is_empty && are_held(alloc, &buffer, 6)?)
+}
+
+#[test]
+fn rows_that_are_dropped_leave_those_before_them(rt: HostRuntime) -> Result<(), Fail> {
+    assert!(rt; are_dropped(rt.alloc())?);
     Ok(())
 }
 

@@ -66,6 +66,14 @@ impl Text {
 impl RowSink for Text {
     ghost shows = { λ _ _. Unit {0} };
 
+    ghost base = { λ _. tt };
+
+    ghost goes_back = { λ _ _. ⊥ };
+
+    fn begin_row(&mut self) {}
+
+    fn drop_row(&mut self) {}
+
     fn value(&mut self, value: ValueRef<'_>) -> Result<(), AllocError> {
         let byte = match value {
             ValueRef::Null => b'-',
@@ -180,6 +188,9 @@ impl EntrySource for Sevens {
     ghost stands = { λ _ _. ⊥ };
 
     ghost refused = { λ _. None };
+
+    // It is never refused.
+    ghost cause = { λ _ _. ⊥ };
 
     ghost checked = { λ _ t. t.kind ≡ Int64 };
 

@@ -141,6 +141,10 @@ run s (t ∷ ts) = run (step s t) ts
 abbrev pub root : Fields → Columns → State
 root fs columns = held columns 0 (in_group fs (levels_at 0 0 0)) []
 
+-- the columns become these ones longer
+abbrev pub taken : State → Columns → State
+taken s cs = held (grown s.columns cs) s.at s.here s.outer
+
 -- ---- what the code holds
 
 abbrev pub level_view : CodeLevel → Level

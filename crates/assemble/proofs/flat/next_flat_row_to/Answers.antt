@@ -1,4 +1,4 @@
-use Rattle.std.proofs.Common.{rules, ◌≡◌, ◌<◌, length, arith}
+use Rattle.std.proofs.Common.{refl, ◌∙◌, rules, ◌≡◌, ◌<◌, length, arith}
 use Rattle.bits.specs.declared.fault.Fault.TheVariants.{Memory}
 use Rattle.assemble.specs.Flat.{OfFlatRows}
 use Rattle.assemble.proofs.FlatShown.{shown_none, shown_more, shows_row, only_memory}
@@ -6,7 +6,7 @@ use Rattle.assemble.proofs.Standing.{causes_set}
 use Rattle.assemble.proofs.flat.next_flat_row_to.Goals as goal
 
 pub loop-i-init : goal.loop-i-init
-loop-i-init g c = record { size = search rules; stay = λ _ h. h; shown = shown_none g.S.EntrySource.stands c.args.sources.now (g.K.RowSink.shows c.args.sink.now) }
+loop-i-init g c = record { size = search rules; stay = λ _ h. h; shown = shown_none g.S.EntrySource.stands c.args.sources.now (g.K.RowSink.shows c.args.sink.now); base = refl }
 
 pub loop-i-preserved : goal.loop-i-preserved
 loop-i-preserved g c =
@@ -19,6 +19,7 @@ loop-i-preserved g c =
       size = search rules;
       stay = λ e h. c.loop-i.invariant.stay e (causes_set g.S.EntrySource.cause xs i c.index-sources-i.result c.show_first.new.source here c.show_first.ensures.causes_stay e h);
       shown = shown_more S i c.args.sources.now xs c.index-sources-i.result c.show_first.new.source (shows c.args.sink.now) (shows c.loop-i.sink) (shows c.show_first.new.sink) here c.loop-i.invariant.shown c.in_ok-show_first.ensures.shows;
+      base = c.show_first.ensures.base_stays ∙ c.loop-i.invariant.base;
     }
 
 pub returns-in_err-show_first-clause-known : goal.returns-in_err-show_first-clause-known

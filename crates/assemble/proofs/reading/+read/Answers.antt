@@ -77,6 +77,7 @@ read_field-returns-in_err-is_missing g t c =
       used = none_ok _ c.from_residual.result e c.from_residual.ensures.1;
       kept = none_ok _ c.from_residual.result e c.from_residual.ensures.1;
       causes_stay = c.is_missing.ensures.causes_stay;
+      base_stays = refl;
     }
 
 pub read_field-returns-in_err-skip : goal.read_field-returns-in_err-skip
@@ -98,6 +99,7 @@ read_field-returns-in_err-skip g t c =
       used = none_ok _ c.from_residual-in_err-skip.result e c.from_residual-in_err-skip.ensures.1;
       kept = none_ok _ c.from_residual-in_err-skip.result e c.from_residual-in_err-skip.ensures.1;
       causes_stay = λ e h. c.is_missing.ensures.causes_stay e (c.skip.ensures.causes_stay e h);
+      base_stays = refl;
     }
 
 pub read_field-returns-then-branch : goal.read_field-returns-then-branch
@@ -123,6 +125,7 @@ read_field-returns-then-branch g t c =
       used = c.count_leaves-count.ensures;
       kept = c.in_ok-skip.ensures.kept ∙ c.in_ok-is_missing.ensures.kept;
       causes_stay = λ e h. c.is_missing.ensures.causes_stay e (c.skip.ensures.causes_stay e h);
+      base_stays = c.show_missing.ensures.base_stays;
     }
 
 pub read_field-returns-in_err-used : goal.read_field-returns-in_err-used
@@ -143,6 +146,7 @@ read_field-returns-in_err-used g t c =
       used = none_ok _ c.from_residual-in_err-used.result e c.from_residual-in_err-used.ensures.1;
       kept = none_ok _ c.from_residual-in_err-used.result e c.from_residual-in_err-used.ensures.1;
       causes_stay = λ e h. c.is_missing.ensures.causes_stay e (c.read_items.ensures.causes_stay e h);
+      base_stays = c.read_items.ensures.base_stays ∙ c.begin_list.ensures.base_stays;
     }
 
 pub read_field-returns-in-Repeated : goal.read_field-returns-in-Repeated
@@ -161,6 +165,7 @@ read_field-returns-in-Repeated g t c =
       used = c.in_ok-used.ensures.used;
       kept = c.in_ok-used.ensures.kept ∙ c.in_ok-is_missing.ensures.kept;
       causes_stay = λ e h. c.is_missing.ensures.causes_stay e (c.read_items.ensures.causes_stay e h);
+      base_stays = c.end_list.ensures.base_stays ∙ c.read_items.ensures.base_stays ∙ c.begin_list.ensures.base_stays;
     }
 
 pub read_field-returns : goal.read_field-returns
@@ -184,6 +189,7 @@ read_field-returns g t c =
       used = c.read_inside-2.ensures.used;
       kept = IfOk-weaker res _ _ (λ x h. h ∙ c.in_ok-is_missing.ensures.kept) c.read_inside-2.ensures.kept;
       causes_stay = λ e h. c.is_missing.ensures.causes_stay e (c.read_inside-2.ensures.causes_stay e h);
+      base_stays = c.read_inside-2.ensures.base_stays;
     }
 
 pub read_fields-loop-field-init : goal.read_fields-loop-field-init
@@ -200,6 +206,7 @@ read_fields-loop-field-init g t c =
       kept = refl;
       stay = λ _ h. h;
       size = refl;
+      base = refl;
     }
 
 pub read_fields-returns-in_err-read_single-clause-refused : goal.read_fields-returns-in_err-read_single-clause-refused
@@ -350,6 +357,7 @@ read_fields-loop-field-preserved-then-is_single g t c =
       kept = map_kept g.S.EntrySource.refused used xs ys room c.in_ok-read_single.ensures.kept ∙ c.loop-field.invariant.kept;
       stay = λ e h. c.loop-field.invariant.stay e (causes_put g.S.EntrySource.cause used xs ys room c.read_single.ensures.causes_stay e h);
       size = search rules;
+      base = c.read_single.ensures.base_stays ∙ c.loop-field.invariant.base;
     }
 
 pub read_fields-loop-field-preserved : goal.read_fields-loop-field-preserved
@@ -391,6 +399,7 @@ read_fields-loop-field-preserved g t c =
       kept = map_kept g.S.EntrySource.refused used xs ys room c.in_ok-used.ensures.kept ∙ c.loop-field.invariant.kept;
       stay = λ e h. c.loop-field.invariant.stay e (causes_put g.S.EntrySource.cause used xs ys room c.read_field.ensures.causes_stay e h);
       size = search rules;
+      base = c.read_field.ensures.base_stays ∙ c.loop-field.invariant.base;
     }
 
 pub read_fields-returns-clause-reads : goal.read_fields-returns-clause-reads
@@ -514,6 +523,7 @@ read_items-more-init g t c =
       kept = c.in_ok-used.ensures.kept;
       stay = c.read_inside.ensures.causes_stay;
       size = search rules;
+      base = c.read_inside.ensures.base_stays;
     }
 
 pub read_items-has_item-requires : goal.read_items-has_item-requires
@@ -595,4 +605,5 @@ read_items-more-preserved g t c =
       kept = c.in_ok-read_inside.ensures.kept ∙ c.in_ok-has_item.ensures.kept ∙ c.more.invariant.kept;
       stay = λ e h. c.more.invariant.stay e (c.has_item.ensures.causes_stay e (c.read_inside-in-more.ensures.causes_stay e h));
       size = search rules;
+      base = c.read_inside-in-more.ensures.base_stays ∙ c.more.invariant.base;
     }

@@ -27,6 +27,7 @@ invariant-read_fields-loop-field g l = record {
   kept : map g.S.EntrySource.refused l.sources ≡ map g.S.EntrySource.refused l.fn.sources;
   stay : CausesStay (HaveCause g.S.EntrySource.cause) l.fn.sources l.sources;
   size : length l.sources ≡ length l.fn.sources;
+  base : g.K.RowSink.base l.sink ≡ g.K.RowSink.base l.fn.sink;
 }
 
 abbrev pub invariant-read_items-more : goal.invariant-read_items-more
@@ -41,4 +42,5 @@ invariant-read_items-more g l = record {
   kept : map g.S.EntrySource.refused l.sources ≡ map g.S.EntrySource.refused l.fn.sources;
   stay : CausesStay (HaveCause g.S.EntrySource.cause) l.fn.sources l.sources;
   size : length l.sources ≡ length l.fn.sources;
+  base : g.K.RowSink.base l.sink ≡ g.K.RowSink.base l.fn.sink;
 }

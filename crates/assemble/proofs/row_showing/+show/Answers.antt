@@ -15,5 +15,8 @@ show_values-loop-value-preserved g t c =
     let next : tokens_each (views (take (i + 1) vs)) ≡ tokens_each (views (take i vs)) ++ tokens (view v) =
     ap (λ xs. tokens_each (views xs)) (take_more vs i v (omega arith) ∙ ap (λ x. take i vs ++ x ∷ []) (sym c.value-item.is))
     ∙ ap tokens_each (views-push (take i vs) v) ∙ tokens_snoc (views (take i vs)) (view v) in
-    subst (Adds (K c.args.sink.now) (K c.show_value.new.sink)) (sym next)
-    (adds_then (K c.args.sink.now) (K c.loop-value.sink) (K c.show_value.new.sink) (tokens_each (views (take i vs))) (tokens (view v)) c.loop-value.invariant c.in_ok-show_value.ensures.shown)
+    record {
+      shown = subst (Adds (K c.args.sink.now) (K c.show_value.new.sink)) (sym next)
+          (adds_then (K c.args.sink.now) (K c.loop-value.sink) (K c.show_value.new.sink) (tokens_each (views (take i vs))) (tokens (view v)) c.loop-value.invariant.shown c.in_ok-show_value.ensures.shown);
+      base = c.show_value.ensures.base_stays ∙ c.loop-value.invariant.base;
+    }

@@ -38,6 +38,7 @@ returns-then-sources-leaves g c =
         ),
       );
       causes_stay = λ _ h. h;
+      base_stays = refl;
     }
 
 pub returns-in_err-check_ended : goal.returns-in_err-check_ended
@@ -54,6 +55,7 @@ returns-in_err-check_ended g c =
       row = next_to_err S R g.S.EntrySource.cause g.K.RowSink.shows fs old new c.args.sink.now c.args.sink.now c.from_residual-in_err-check_ended.result e c.from_residual-in_err-check_ended.ensures.1
           (refused_same S R g.S.EntrySource.cause old mid new (λ cs. Tells (Filled cs) ⊥) (HasFault fs) e c.has_item.ensures.same c.in_ok-has_item.ensures.kept c.has_item.ensures.causes_stay (λ cs s. not_ended fs (has_leaves fs c.leaves-leaves.ensures.valid) cs e (nothing_first (first_of cs) (none cs s))) c.in_err-check_ended.ensures.refused);
       causes_stay = λ e h. c.has_item.ensures.causes_stay e (c.check_ended.ensures.causes_stay e h);
+      base_stays = refl;
     }
 
 pub returns-then-not-branch : goal.returns-then-not-branch
@@ -69,6 +71,7 @@ returns-then-not-branch g c =
     record {
       row = (c.in_ok-check_ended.ensures.kept ∙ c.in_ok-has_item.ensures.kept, (stand_back S xs mid _ c.has_item.ensures.same ended, (same_then S xs mid c.check_ended.new.sources c.has_item.ensures.same c.check_ended.ensures.same, refl)));
       causes_stay = λ e h. c.has_item.ensures.causes_stay e (c.check_ended.ensures.causes_stay e h);
+      base_stays = refl;
     }
 
 pub read_fields-requires-clause-room : goal.read_fields-requires-clause-room
@@ -103,6 +106,7 @@ returns-in_err-read_fields g c =
       row = next_to_err S R g.S.EntrySource.cause g.K.RowSink.shows fs old new c.args.sink.now c.read_fields.new.sink c.from_residual-in_err-read_fields.result e c.from_residual-in_err-read_fields.ensures.1
           (refused_same S R g.S.EntrySource.cause old mid new (IsFaulty (FitEach fs) (stripes_each fs 0 0 0) 0 (wants_each fs 0)) (HasFault fs) e c.has_item.ensures.same c.in_ok-has_item.ensures.kept c.has_item.ensures.causes_stay (λ cs s. faulty_row fs (has_leaves fs c.leaves-leaves.ensures.valid) cs e (more cs s)) told);
       causes_stay = λ e h. c.has_item.ensures.causes_stay e (c.read_fields.ensures.causes_stay e h);
+      base_stays = c.read_fields.ensures.base_stays;
     }
 
 pub returns : goal.returns
@@ -133,4 +137,5 @@ returns g c =
         ),
       );
       causes_stay = λ e h. c.has_item.ensures.causes_stay e (c.read_fields.ensures.causes_stay e h);
+      base_stays = c.read_fields.ensures.base_stays;
     }

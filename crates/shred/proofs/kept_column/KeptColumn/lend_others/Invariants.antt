@@ -8,6 +8,6 @@ use Rattle.shred.proofs.kept_column.KeptColumn.lend_others.Given as goal
 -- with the entries that are left they are as wanted; the bytes that are left are those of their values
 abbrev pub invariant-loop-packed : goal.invariant-loop-packed
 invariant-loop-packed l = record {
-  lent : map entry_ref_view l.entries.items ++ entries_in l.rest (drop l.packed-index (unpacked_each (list_of l.self.entries))) ≡ map entry_ref_view l.fn.entries.items ++ entries_in (list_of l.self.bytes) (unpacked_each (list_of l.self.entries));
-  filled : total_size (drop l.packed-index (unpacked_each (list_of l.self.entries))) ≡ length l.rest;
+  lent : map entry_ref_view l.entries.items ++ entries_in l.rest (unpacked_each (drop l.packed-index (list_of l.self.entries))) ≡ map entry_ref_view l.fn.entries.items ++ entries_in (list_of l.self.bytes) (unpacked_each (list_of l.self.entries));
+  filled : total_size (unpacked_each (drop l.packed-index (list_of l.self.entries))) ≡ length l.rest;
 }

@@ -1,6 +1,0 @@
-use Rattle.std.proofs.Common.{◌∙◌}
-use Rattle.schema.proofs.Texts.{is_text_just_where}
-use Rattle.assemble.proofs.fits.is_utf8.Goals as goal
-
-pub returns : goal.returns
-returns c = c.is_ok.ensures.value ∙ is_text_just_where _ _ _ _ c.from_utf8.ensures.cases
