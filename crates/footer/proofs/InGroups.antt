@@ -106,7 +106,6 @@ goes_on fs o rows rest out new metas g some there so p taken =
     record {
       before = so.before ++ take size rest;
       split = so.split ∙ ap (λ (t : List ValueTrees). so.before ++ t) (sym (take-append-drop size rest)) ∙ sym (append_assoc so.before (take size rest) (drop size rest));
-      there = let was = so.there in omega (arith, was, longer);
       stands = λ last gs q. subst (λ (ms : List GroupMeta). AppendsGroups fs (chunk_options o) magic last ms (groups_of size rows)) (sym (append_assoc metas (g ∷ []) gs))
           (so.stands last (g ∷ gs) (subst (AppendsGroups fs (chunk_options o) out last (g ∷ gs)) (sym next) (new, p, q)));
       taken = λ more. so.taken (subst (AllByRecursion (AreTaken fs)) (sym next) (taken, more));
@@ -122,7 +121,6 @@ goes_on fs o rows rest out new metas g some there so p taken =
 pub too_much : (fs : Fields) (o : WriteOptions) (rows rest : List ValueTrees) (out : List ℕ) (metas : List GroupMeta) → AreInRange o → 0 < length rest
     → IsBegun fs o rows rest out metas → IsGroupTooMuch fs (chunk_options o) (length out) (take o.group_rows rest) → IsTooMuch fs o rows
 too_much fs o rows rest out metas range there so (group_limit.empty_pages h) = let some = range.pages in absurd (omega (arith, some, h))
-too_much fs o rows rest out metas range there so (group_limit.at_the_front h begins) = let some = so.there in absurd (omega (arith, some, h))
 too_much fs o rows rest out metas range there so (group_limit.many_rows h) = let few = range.few in absurd (omega (ints, arith, few, h, length-take o.group_rows rest))
 too_much fs o rows rest out metas range there so (group_limit.many_entries h) =
     many_entries (so.large (subst (HasLargeColumn fs) (sym (next_group o.group_rows rest range.some there)) (0, take o.group_rows rest, omega arith, refl, h)))

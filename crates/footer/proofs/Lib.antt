@@ -12,5 +12,7 @@ pub mod Weighed
 pub mod Whole
 pub mod Written
 pub mod ShownWriter
+pub mod DroppedRow
 pub mod WrittenWithin
 pub mod OneMeaning
+pub mod AskedDictionaries

@@ -51,7 +51,7 @@ one_options o q same = sym (options_back o) ∙ ap options_said same ∙ options
 -- ---- rows that are shown
 
 -- what the buffer was shown, where the writer was shown these tokens of a row
-buffer_shown : (w : FileWriter) (rows : List ValueTrees) (ts : List Token) (so : IsShown w rows ts) → buffer_shows w.waiting (schema_token (schema_of w) ∷ rows_token so.waiting ∷ ts)
+pub buffer_shown : (w : FileWriter) (rows : List ValueTrees) (ts : List Token) (so : IsShown w rows ts) → buffer_shows w.waiting (schema_token (schema_of w) ∷ rows_token so.waiting ∷ ts)
 buffer_shown w rows ts so = (refl, subst (λ (rs : List ValueTrees). Holds w.waiting rs ts) (sym (rows_back so.waiting)) so.held)
 
 -- one token more, of which the buffer was shown

@@ -33,7 +33,6 @@ pub none_written : (fs : Fields) (o : WriteOptions) (rows : List ValueTrees) →
 none_written fs o rows = record {
   before = [];
   split = refl;
-  there = omega arith;
   stands = λ new gs p. p;
   taken = λ h. h;
   weighs = omega arith;

@@ -1,9 +1,31 @@
--- That a file means at most one list of rows, also where nobody has read it.
-use Rattle.std.specs.Prelude.{◌≡◌, ℕ, List}
+-- That a file means at most one list of rows, also where nobody has read it; and that a written file has the dictionaries asked for.
+use Rattle.std.specs.Prelude.{◌≡◌, ℕ, List, ◌∷◌, None}
 use Rattle.schema.specs.Values.{ValueTrees}
 use Rattle.schema.specs.Shape.{Fields}
+use Rattle.schema.specs.Stripe.{Leaf, Entry, leaves_of, columns}
+use Rattle.metadata.specs.Records.{ChunkMeta, GroupMeta}
+use Rattle.row_group.specs.Styles.{SuitsDictionary}
+use Rattle.row_group.specs.declared.options.Style.{Style}
+use Rattle.footer.specs.declared.options.WriteOptions.{WriteOptions}
 use Rattle.footer.specs.File.{FileMeans}
+use Rattle.footer.specs.Writing.{groups_of}
+use Rattle.footer.specs.Own.{IsLaidOut}
 
 -- at most one schema, and at most one list of rows
 abbrev pub FilesMeanOneList : Type 0
 FilesMeanOneList = (bytes : List ℕ) (fs gs : Fields) (rows others : List ValueTrees) → FileMeans bytes fs rows → FileMeans bytes gs others → (fs ≡ gs) × (rows ≡ others)
+
+-- each chunk whose entries suit a dictionary has one, by its record
+abbrev pub HaveDictionaries : Style → List Leaf → List (List Entry) → List ChunkMeta → Type 0
+HaveDictionaries s (leaf ∷ leaves) (es ∷ cols) (c ∷ cs) =
+    (SuitsDictionary s leaf.leaf_type.kind es → c.meta_data.dictionary_page_offset ≡ None → ⊥) × HaveDictionaries s leaves cols cs
+HaveDictionaries s leaves cols cs = Unit {0}
+
+-- so it is in each of these groups
+abbrev pub GroupsHaveDictionaries : Fields → Style → List GroupMeta → List (List ValueTrees) → Type 0
+GroupsHaveDictionaries fs s (g ∷ gs) (rows ∷ groups) = HaveDictionaries s (leaves_of fs) (columns fs rows) g.columns × GroupsHaveDictionaries fs s gs groups
+GroupsHaveDictionaries fs s gs groups = Unit {0}
+
+-- in a file as the store lays it out, whose chunks begin after `PAR1`
+abbrev pub FilesHaveDictionaries : Type 0
+FilesHaveDictionaries = (o : WriteOptions) (fs : Fields) (rows : List ValueTrees) (bytes : List ℕ) → (file : IsLaidOut o fs rows bytes) → GroupsHaveDictionaries fs o.style file.metas (groups_of o.group_rows rows)

@@ -6,7 +6,7 @@ use Rattle.schema.specs.Shape.{Fields}
 use Rattle.metadata.specs.Records.{GroupMeta}
 use Rattle.metadata.specs.Views.{group_meta_view}
 use Rattle.assemble.specs.Sinks.{Token, single, tokens_each}
-use Rattle.shred.specs.Buffer.{Holds, holds}
+use Rattle.shred.specs.Buffer.{Holds, holds, HoldsBelow}
 use Rattle.shred.specs.Buffer as buffer
 use Rattle.shred.specs.inner.Opening.{schema_token, rows_token, rows_said}
 use Rattle.row_group.specs.declared.options.Style.{Style}
@@ -24,7 +24,6 @@ use Rattle.footer.specs.Own.{AppendsGroups}
 pub record IsBegun (fs : Fields) (o : WriteOptions) (rows rest : List ValueTrees) (out : List ℕ) (metas : List GroupMeta) : Type 0 where
   pub before : List ValueTrees
   pub split : rows ≡ before ++ rest
-  pub there : 0 < length out
   pub stands : (new : List ℕ) (gs : List GroupMeta) → AppendsGroups fs (chunk_options o) out new gs (groups_of o.group_rows rest)
       → AppendsGroups fs (chunk_options o) magic new (metas ++ gs) (groups_of o.group_rows rows)
   pub taken : AllByRecursion (AreTaken fs) (groups_of o.group_rows rest) → AllByRecursion (AreTaken fs) (groups_of o.group_rows rows)
@@ -92,3 +91,33 @@ BeginsRow writer fs o rows = writer_shows writer (schema_token fs ∷ rows_token
 -- it was given these rows, and was shown the values of the next one
 abbrev pub ShowsRow : FileWriter → Fields → WriteOptions → List ValueTrees → ValueTrees → Type 0
 ShowsRow writer fs o rows values = writer_shows writer (schema_token fs ∷ rows_token rows ∷ options_token o ∷ tokens_each values)
+
+-- ---- a row that is dropped
+
+-- what a writer keeps of the rows before the one that it is shown
+pub record Base : Type 0 where
+  pub waiting : buffer.Base
+  pub options : WriteOptions
+  pub bytes : List ℕ
+  pub groups : List GroupMeta
+  pub written : ℕ
+
+abbrev pub base_of : FileWriter → Base
+base_of writer = record { waiting = buffer.base_of writer.waiting; options = options_of writer; bytes = writer.bytes.items; groups = map group_meta_view writer.groups.items; written = writer.written }
+
+-- The writer was given these rows once the row is dropped that is shown, and its next group is not full.
+pub record HasBelow (base : Base) (rows : List ValueTrees) : Type 0 where
+  pub waiting : List ValueTrees
+  pub held : HoldsBelow base.waiting waiting
+  pub given : AreGiven base.waiting.schema base.options base.bytes base.groups waiting base.written rows
+  pub few : length waiting < base.options.group_rows
+
+-- it was shown the schema, the rows before and the options, and nothing of the next row
+abbrev pub shows_whole : FileWriter → List Token → Type 0
+shows_whole writer (t ∷ u ∷ o ∷ []) = (t ≡ schema_token (schema_of writer)) × ((o ≡ options_token (options_of writer)) × IsShown writer (rows_said u) [])
+shows_whole writer _ = ⊥
+
+-- it was shown so once the row is dropped that is shown
+abbrev pub goes_back : Base → List Token → Type 0
+goes_back base (t ∷ u ∷ o ∷ []) = (t ≡ schema_token base.waiting.schema) × ((o ≡ options_token base.options) × HasBelow base (rows_said u))
+goes_back base _ = ⊥

@@ -35,7 +35,8 @@ const MOST_ROWS: usize = 1 << 62;
 /// are the bytes so far, and the rows of one group, as columns.
 ///
 /// A row is given whole ([`push`](FileWriter::push)), or value by value: the writer is a sink, which is shown the
-/// values of a row between [`begin_row`](FileWriter::begin_row) and [`end_row`](FileWriter::end_row).
+/// values of a row between [`begin_row`](FileWriter::begin_row) and [`end_row`](FileWriter::end_row). Such a row can
+/// be dropped ([`RowSink::drop_row`]) where it was begun as a sink's, too ([`RowSink::begin_row`], after `begin_row`).
 #[derive(Drop)]
 pub struct FileWriter<'a> {
     alloc: Global,
@@ -213,9 +214,36 @@ impl<'a> FileWriter<'a> {
 }
 
 impl<'a> RowSink for FileWriter<'a> {
-    ghost use Rattle.footer.specs.Writer.{writer_shows};
+    ghost use Rattle.footer.specs.Writer.{writer_shows, shows_whole, goes_back, Base, base_of, HasBelow, has_rows, schema_of, options_of};
+    ghost use Rattle.assemble.specs.Sinks.{Token};
 
     ghost shows = { writer_shows };
+
+    ghost Base = { Base };
+
+    ghost base = { base_of };
+
+    ghost whole = { shows_whole };
+
+    ghost goes_back = { goes_back };
+
+    /// Makes that the row can be dropped that [`begin_row`](FileWriter::begin_row) has begun, of which nothing was
+    /// shown yet. The writer has the same rows. Takes time linear in the leaves; a writer of rows that are never
+    /// dropped needs no such call.
+    fn begin_row(&mut self) {
+        self.waiting.begin_row();
+    }
+
+    /// Drops the row that was begun last as a sink's, of which a part or all was shown, also where a call failed: the
+    /// writer has the rows that it had when it began. Takes time linear in the leaves and in what was shown.
+    fn drop_row(&mut self)
+        ensures whole { (ts : List Token) → goes_back (base_of self.old) ts → shows_whole self.new ts × writer_shows self.new ts }
+        ensures dropped { (rows : List ValueTrees) → HasBelow (base_of self.old) rows → has_rows self.new rows }
+        ensures same_schema { schema_of self.new ≡ schema_of self.old }
+        ensures same_options { options_of self.new ≡ options_of self.old }
+    {
+        self.waiting.drop_row();
+    }
 
     #[inline(always)]
     fn value(&mut self, value: ValueRef<'_>) -> Result<(), AllocError> {

@@ -1,6 +1,6 @@
 //! What holds of the definitions.
 
-ghost use Rattle.footer.specs.Laws.{FilesMeanOneList};
+ghost use Rattle.footer.specs.Laws.{FilesMeanOneList, FilesHaveDictionaries};
 
 use metadata::one_footer;
 use row_group::one_meaning;
@@ -15,3 +15,9 @@ pub fn one_list_of_rows()
     a_list_means_one_schema();
     one_meaning();
 }
+
+/// In a file as the store lays it out, each chunk has a dictionary whose style asks for one and whose entries suit it. A
+/// chunk has none at offset 0, where no file has one: before the first chunk there is `PAR1`.
+pub fn chunks_have_the_dictionaries_asked_for()
+    ensures { FilesHaveDictionaries }
+{}

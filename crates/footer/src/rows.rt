@@ -7,7 +7,7 @@ ghost use Rattle.schema.specs.Views.{rows_view};
 ghost use Rattle.row_group.specs.Left.{TakesRow, TakesRowTo};
 
 use crate::groups_left::GroupsLeft;
-use assemble::{RowBuilder, RowSink};
+use assemble::{RowBuilder, RowSink, RowSource};
 use bits::{Fault, R, Refusal};
 use schema::Row;
 use std::alloc::Global;
@@ -36,6 +36,7 @@ impl<'a> Rows<'a> {
     pub fn next_to<K: RowSink>(&mut self, sink: &mut K) -> R<bool>
         ensures takes { TakesRowTo (rows_stand self.old) (rows_stand self.new) (K.shows sink.old) (K.shows sink.new) result }
         ensures unshown { result ≡ Ok false → sink.new ≡ sink.old }
+        ensures base_stays { K.base sink.new ≡ K.base sink.old }
     {
         match self.show_next(sink) {
             Ok(is_shown) => Ok(is_shown),
@@ -50,6 +51,7 @@ impl<'a> Rows<'a> {
     pub fn show_next<K: RowSink>(&mut self, sink: &mut K) -> Result<bool, Fault>
         ensures takes { TakesRowTo (rows_stand self.old) (rows_stand self.new) (K.shows sink.old) (K.shows sink.new) (with_refusal result) }
         ensures unshown { result ≡ Ok false → sink.new ≡ sink.old }
+        ensures base_stays { K.base sink.new ≡ K.base sink.old }
     {
         if self.next_of_group(sink)? {
             return Ok(true);
@@ -64,6 +66,7 @@ impl<'a> Rows<'a> {
     fn show_of_others<K: RowSink>(&mut self, sink: &mut K) -> Result<bool, Fault>
         ensures takes { TakesRowTo (others_hold self.old) (rows_stand self.new) (K.shows sink.old) (K.shows sink.new) (with_refusal result) }
         ensures unshown { result ≡ Ok false → sink.new ≡ sink.old }
+        ensures base_stays { K.base sink.new ≡ K.base sink.old }
     {
         while self.begin_group()? {
             if self.next_of_group(sink)? {
@@ -94,6 +97,7 @@ impl<'a> Rows<'a> {
     fn next_of_group<K: RowSink>(&mut self, sink: &mut K) -> Result<bool, Fault>
         ensures takes { TakesOfGroup self.old self.new (K.shows sink.old) (K.shows sink.new) (with_refusal result) }
         ensures unshown { result ≡ Ok false → sink.new ≡ sink.old }
+        ensures base_stays { K.base sink.new ≡ K.base sink.old }
         ensures kept { self.new.others ≡ self.old.others }
     {
         match &mut self.group {
@@ -131,5 +135,19 @@ impl<'a> Rows<'a> {
         }
         // Never reached: no vector has as many rows.
         Err(Refusal::Memory)
+    }
+}
+
+impl<'a> RowSource for Rows<'a> {
+    ghost use Rattle.footer.specs.Left.{rows_stand};
+
+    ghost stands = { rows_stand };
+
+    #[inline]
+    fn next_to<K: RowSink>(&mut self, sink: &mut K) -> R<bool> {
+        match self.show_next(sink) {
+            Ok(is_shown) => Ok(is_shown),
+            Err(fault) => Err(Refusal::from(fault)),
+        }
     }
 }

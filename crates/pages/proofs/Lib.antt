@@ -2,7 +2,6 @@ pub mod Framed
 pub mod PlainValues
 pub mod Passed
 pub mod Texts
-pub mod AsciiLanes
 pub mod LevelLists
 pub mod WrittenEntries
 pub mod WrittenHeaders

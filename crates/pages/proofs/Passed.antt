@@ -19,6 +19,11 @@ pub passes_over : {X : Type 0} (Over : Type 0) (r : Result X Refusal) (e : Refus
 passes_over {X} Over (Ok x) e is over same = absurd is
 passes_over {X} Over (Err f) e is over same = let here : f ≡ Limit = cc in over (sym is ∙ here)
 
+-- two facts of what is answered give one more
+pub on_ok_both : {X : Type 0} {P Q R : Type 0} (r : Result X Refusal) → (P → Q → R) → OnOk r P → OnOk r Q → OnOk r R
+on_ok_both (Ok x) both p q = both p q
+on_ok_both (Err e) both p q = tt
+
 -- three facts of what is answered give one more
 pub on_ok_all : {X : Type 0} {P Q R S : Type 0} (r : Result X Refusal) → (P → Q → R → S) → OnOk r P → OnOk r Q → OnOk r R → OnOk r S
 on_ok_all (Ok x) all p q r = all p q r

@@ -1,8 +1,7 @@
 -- Which values are text.
 use Rattle.std.proofs.Common.{ℕ, ◌≡◌, Bool, true, false, cond, List, [], ◌∷◌, Result, Ok, Err, refl, sym}
-use Rattle.std.specs.Prelude.{is_ok, MatchResult, IsUtf8, IsTrue, ◌&&◌, ◌↔◌, map}
+use Rattle.std.specs.Prelude.{IsTrue, ◌&&◌, ◌↔◌, map}
 use Rattle.std.specs.List.{AllByRecursion, list_all}
-use Rattle.std.specs.Str.{is_utf8}
 use Rattle.schema.specs.declared.value.Kind.{Kind}
 use Rattle.schema.specs.declared.row.Entry.{Entry}
 use Rattle.schema.specs.Annotations.{LeafType, is_text}
@@ -10,16 +9,6 @@ use Rattle.schema.specs.Fits.{fits_leaf, fits_kind, is_valid_text}
 use Rattle.schema.specs.Values.{ValueTree}
 use Rattle.plain.specs.Plain.{IsOfKind}
 use Rattle.plain.specs.Held.{entry_value}
-use Rattle.std.proofs.lemmas.Str.{IsUtf8-from_is_utf8, is_utf8-from_IsUtf8}
-
-not_true : (b : Bool) → (b ≡ true → ⊥) → b ≡ false
-not_true true h = absurd (h refl)
-not_true false h = refl
-
--- what is read as text is UTF-8
-pub is_text_just_where : {X E : Type 0} (P : X → Type 0) (r : Result X E) (s : List ℕ) → MatchResult r (λ x. P x × IsUtf8 s) (λ e. ¬ (IsUtf8 s)) → is_ok r ≡ is_utf8 s
-is_text_just_where P (Ok x) s h = sym (is_utf8-from_IsUtf8 s h.1)
-is_text_just_where P (Err e) s h = sym (not_true (is_utf8 s) (λ t. h (IsUtf8-from_is_utf8 s t)))
 
 both : (a b : Bool) → a ≡ true → b ≡ true → a && b ≡ true
 both true true p q = refl

@@ -102,11 +102,11 @@ written_page leaf V2 encoding Are es bytes used d each p spelled =
 pub values_stand : (d : Option (List ValueTree)) (kind : Kind) (encoding : Encoding) (vs : List ValueTree) (text : List ℕ) → AreValuesIn kind encoding vs text → AreValues d kind (Some encoding) text vs
 values_stand d kind Plain vs text p = (length text, p.0)
 values_stand d Boolean Rle vs text p = record { bools = p.bools; inside = p.inside; rest = p.rest; used = length p.inside; are = p.are; prefixed = p.prefixed; packed = p.packed }
-values_stand d Int32 DeltaBinaryPacked vs text p = (p.0, length text, p.1, p.2)
-values_stand d Int64 DeltaBinaryPacked vs text p = (p.0, length text, p.1, p.2)
-values_stand d ByteArray DeltaLengthByteArray vs text p = (length text, p)
-values_stand d ByteArray DeltaByteArray vs text p = (length text, p)
-values_stand d (FixedLenByteArray n) DeltaByteArray vs text p = (length text, p)
+values_stand d Int32 DeltaBinaryPacked vs text p = (p.numbers, length text, p.are, p.stand)
+values_stand d Int64 DeltaBinaryPacked vs text p = (p.numbers, length text, p.are, p.stand)
+values_stand d ByteArray DeltaLengthByteArray vs text p = (length text, p.stand)
+values_stand d ByteArray DeltaByteArray vs text p = (length text, p.stand)
+values_stand d (FixedLenByteArray n) DeltaByteArray vs text p = (length text, p.stand)
 values_stand d kind ByteStreamSplit vs text p = (length text, p)
 values_stand d kind encoding vs text p = absurd p
 

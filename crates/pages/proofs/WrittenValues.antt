@@ -13,7 +13,10 @@ use Rattle.bits.specs.declared.refusal.Refusal.TheVariants.{Limit, Memory, Value
 use Rattle.bits.specs.Refusals.{IsFault, HasCause, OnFault, RefusedOnly, LimitJustWhere}
 use Rattle.bits.specs.Codec.{Appends}
 use Rattle.hybrid_rle.specs.Hybrid.{IsHybrid}
-use Rattle.delta.specs.Delta.{IsDelta}
+use Rattle.delta.specs.Delta.{IsDelta, most_bytes}
+use Rattle.delta.specs.Written.{IsWrittenDelta, AppendsWrittenDelta}
+use Rattle.delta.specs.ByteDeltas.{IsByteLengths, IsPrefixed as IsSharedPrefixes, StandForBytes}
+use Rattle.delta.specs.WrittenBytes.{IsWrittenLengths, IsWrittenPrefixes}
 use Rattle.schema.specs.declared.value.Kind.{Kind}
 use Rattle.schema.specs.declared.value.Kind.TheVariants.{Boolean, Int32, Int64, ByteArray, FixedLenByteArray}
 use Rattle.schema.specs.Values.{ValueTree, boolean, integer, bytes as byte_value}
@@ -21,13 +24,13 @@ use Rattle.plain.specs.Plain.{IsPlain, HasZeroPadding, IsOfKind, IsTooLong, plai
 use Rattle.plain.proofs.Seen.{none_any}
 use Rattle.pages.specs.declared.encoding.Encoding.{Encoding}
 use Rattle.pages.specs.declared.encoding.Encoding.TheVariants.{Plain, Rle}
-use Rattle.pages.specs.WrittenValues.{AreDeltasIn, AreWritten}
+use Rattle.pages.specs.WrittenValues.{AreDeltasIn, AreLengthsIn, ArePrefixesIn, AreWritten}
 use Rattle.pages.specs.inner.Put.{most_of_values}
 use Rattle.pages.proofs.WrittenLevels.{seen_same}
 
--- two facts of what is written
-pub appends_and : (P Q : List ℕ → ℕ → Type 0) (most : ℕ) (old new : List ℕ) → Appends P most old new → Appends Q most old new → Appends (λ bytes used. P bytes used × Q bytes used) most old new
-appends_and P Q most old new p q =
+-- two facts of what is written, with the bound of the first
+pub appends_both : (P Q : List ℕ → ℕ → Type 0) (few most : ℕ) (old new : List ℕ) → Appends P few old new → Appends Q most old new → Appends (λ bytes used. P bytes used × Q bytes used) few old new
+appends_both P Q few most old new p q =
     let same : q.text ≡ p.text = append_cancel_left old q.text p.text (sym q.joined ∙ p.joined) in
     record {
       text = p.text;
@@ -60,7 +63,7 @@ plain_light (FixedLenByteArray k) vs are = omega (arith, fixed_size k vs (recurs
 pub plain_put : (kind : Kind) (vs : List ValueTree) (old new : List ℕ) → All (IsOfKind kind) vs → Appends (λ bytes. IsPlain kind (length vs) bytes vs) (plain_size kind vs) old new → Appends (HasZeroPadding kind (length vs)) (plain_size kind vs) old new
     → Appends (AreWritten kind Plain vs) (most_of_values vs) old new
 plain_put kind vs old new are p q =
-    let both = appends_and (λ bytes used. IsPlain kind (length vs) bytes vs used) (HasZeroPadding kind (length vs)) (plain_size kind vs) old new p q in
+    let both = appends_both (λ bytes used. IsPlain kind (length vs) bytes vs used) (HasZeroPadding kind (length vs)) (plain_size kind vs) (plain_size kind vs) old new p q in
     appends_within (λ bytes used. IsPlain kind (length vs) bytes vs used × HasZeroPadding kind (length vs) bytes used) (AreWritten kind Plain vs) (plain_size kind vs) (most_of_values vs) old new (λ bytes used x. x) (plain_light kind vs are) both
 
 -- ---- DELTA_BINARY_PACKED
@@ -70,9 +73,27 @@ no_text [] = refl
 no_text (z ∷ zs) = no_text zs
 
 pub deltas_put : (w : Width) (numbers : List ℤ) (vs : List ValueTree) (most : ℕ) (old new : List ℕ) → map integer numbers ≡ vs → most ≤ 298 + 9 * length numbers → Appends (λ bytes. IsDelta w bytes (length numbers) numbers) most old new
-    → Appends (AreDeltasIn w vs) (most_of_values vs) old new
-deltas_put w numbers vs most old new are few p =
-    appends_within (λ bytes. IsDelta w bytes (length numbers) numbers) (AreDeltasIn w vs) most (most_of_values vs) old new (λ bytes used x. (numbers, sym are, x)) (omega (arith, few, ap length are, length-map numbers integer)) p
+    → AppendsWrittenDelta w numbers old new → Appends (AreDeltasIn w vs) (most_of_values vs) old new
+deltas_put w numbers vs most old new are few p q =
+    appends_within (λ bytes used. IsDelta w bytes (length numbers) numbers used × IsWrittenDelta w numbers bytes used) (AreDeltasIn w vs) most (most_of_values vs) old new
+    (λ bytes used x. record { numbers = numbers; are = sym are; stand = x.0; written = x.1 }) (omega (arith, few, ap length are, length-map numbers integer))
+    (appends_both (λ bytes. IsDelta w bytes (length numbers) numbers) (IsWrittenDelta w numbers) most (most_bytes w (length numbers)) old new p q)
+
+-- ---- DELTA_LENGTH_BYTE_ARRAY and DELTA_BYTE_ARRAY
+
+pub lengths_put : (vs : List ValueTree) (old new : List ℕ) → Appends (λ bytes. StandForBytes (IsByteLengths bytes (length vs)) vs) (170 + 5 * length vs + text_size vs) old new
+    → Appends (λ bytes. StandForBytes (IsWrittenLengths bytes) vs) (170 + 5 * length vs + text_size vs) old new → Appends (AreLengthsIn vs) (most_of_values vs) old new
+lengths_put vs old new p q =
+    appends_within (λ bytes used. StandForBytes (IsByteLengths bytes (length vs)) vs used × StandForBytes (IsWrittenLengths bytes) vs used) (AreLengthsIn vs) (170 + 5 * length vs + text_size vs) (most_of_values vs) old new
+    (λ bytes used x. record { stand = x.0; written = x.1 }) (omega arith)
+    (appends_both (λ bytes. StandForBytes (IsByteLengths bytes (length vs)) vs) (λ bytes. StandForBytes (IsWrittenLengths bytes) vs) (170 + 5 * length vs + text_size vs) (170 + 5 * length vs + text_size vs) old new p q)
+
+pub prefixes_put : (vs : List ValueTree) (old new : List ℕ) → Appends (λ bytes. StandForBytes (IsSharedPrefixes bytes (length vs)) vs) (340 + 10 * length vs + text_size vs) old new
+    → Appends (λ bytes. StandForBytes (IsWrittenPrefixes bytes) vs) (340 + 10 * length vs + text_size vs) old new → Appends (ArePrefixesIn vs) (most_of_values vs) old new
+prefixes_put vs old new p q =
+    appends_within (λ bytes used. StandForBytes (IsSharedPrefixes bytes (length vs)) vs used × StandForBytes (IsWrittenPrefixes bytes) vs used) (ArePrefixesIn vs) (340 + 10 * length vs + text_size vs) (most_of_values vs) old new
+    (λ bytes used x. record { stand = x.0; written = x.1 }) (omega arith)
+    (appends_both (λ bytes. StandForBytes (IsSharedPrefixes bytes (length vs)) vs) (λ bytes. StandForBytes (IsWrittenPrefixes bytes) vs) (340 + 10 * length vs + text_size vs) (340 + 10 * length vs + text_size vs) old new p q)
 
 -- the same, where the type and the encoding are known to be these
 pub as_written : (k l : Kind) (e f : Encoding) (vs : List ValueTree) (old new : List ℕ) → k ≡ l → e ≡ f → Appends (AreWritten l f vs) (most_of_values vs) old new → Appends (AreWritten k e vs) (most_of_values vs) old new

@@ -1,6 +1,6 @@
 //! From entries and their indexes into a dictionary to pages.
 
-ghost use Rattle.std.specs.Prelude.{◌≡◌, ◌<◌, ◌≤◌, ◌+◌, All, map, length, OnOk, OnErr, Err};
+ghost use Rattle.std.specs.Prelude.{◌≡◌, ◌<◌, ◌≤◌, ◌+◌, All, [], map, length, OnOk, OnErr, Err};
 ghost use Rattle.std.specs.List.{AllByRecursion};
 ghost use Rattle.bits.specs.Refusals.{OnFault, RefusedOnly};
 ghost use Rattle.bits.specs.Codec.{Appends};
@@ -32,6 +32,7 @@ use std::alloc::Global;
 /// Refused Levels or Value only where an entry is none of the leaf's, where there are more or fewer indexes
 /// than values, or where an index is past the dictionary's end. Refused Limit only where the page weighs
 /// more than [`MOST_BYTES_OF_PAGE`](crate::MOST_BYTES_OF_PAGE). After a refusal `out` is unchanged.
+/// `scratch` is empty after each result, as after `write_page`.
 pub fn write_index_page(
     alloc: Global,
     leaf: &Leaf,
@@ -55,11 +56,43 @@ pub fn write_index_page(
     ensures limit { result ≡ Err Refusal.Limit → IsPageTooMuch (map entry_ref_view entries.now) }
     ensures which { RefusedOnly IsOfEntries result }
     ensures unchanged { OnErr result (out.new.items ≡ out.old.items) }
+    ensures emptied { scratch.new.items ≡ [] }
 {
+    scratch.clear();
     check_entries(leaf, entries)?;
     if count_values(entries) != indexes.len() {
         return Err(Refusal::Value);
     }
+    let done = put_entries(alloc, leaf, version, entries, indexes, size, scratch, out);
+    scratch.clear();
+    done
+}
+
+/// Writes the entries, which are the leaf's, by an index for each of their values.
+fn put_entries(
+    alloc: Global,
+    leaf: &Leaf,
+    version: PageVersion,
+    entries: &[EntryRef<'_>],
+    indexes: &[u32],
+    size: usize,
+    scratch: &mut Vec<u8>,
+    out: &mut Vec<u8>,
+) -> R<()>
+    requires entries { AllByRecursion (IsEntryOf (leaf_view leaf.now)) (map entry_ref_view entries.now) }
+    requires count { length indexes.now ≡ length (values (map entry_ref_view entries.now)) }
+    requires few { length indexes.now ≤ length entries.now }
+    ensures written { let es = map entry_ref_view entries.now in
+        OnOk result (Appends (IsWrittenPage (leaf_view leaf.now) version RleDictionary (AreIndexesIn size indexes.now) es)
+        (index_weight (length es)) out.old.items out.new.items) }
+    ensures indexes { OnOk result (AreIndexesFor size indexes.now (map entry_ref_view entries.now)) }
+    ensures size { OnOk result (length out.new.items ≤ length out.old.items + 2147484671) }
+    ensures only { OnFault result (AreIndexesFor size indexes.now (map entry_ref_view entries.now)
+        → AllByRecursion (IsEntryOf (leaf_view leaf.now)) (map entry_ref_view entries.now) → ⊥) }
+    ensures limit { result ≡ Err Refusal.Limit → IsPageTooMuch (map entry_ref_view entries.now) }
+    ensures which { RefusedOnly IsOfEntries result }
+    ensures unchanged { OnErr result (out.new.items ≡ out.old.items) }
+{
     let sections = put_sections(alloc, leaf, entries, scratch)?;
     encode_indexes(size, indexes, scratch)?;
     let head = DataPageHead {

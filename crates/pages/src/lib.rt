@@ -8,7 +8,6 @@
 //! have. `specs/Worked.antt` has pages made by hand.
 #![tactic(auto)]
 
-mod ascii_text;
 mod body_reading;
 mod data_page;
 mod dictionary_page_writing;

@@ -1,6 +1,6 @@
 //! From entries to pages.
 
-ghost use Rattle.std.specs.Prelude.{◌≡◌, ◌⊎◌, ◌<◌, ◌≤◌, ◌+◌, All, map, length, OnOk, OnErr, Err};
+ghost use Rattle.std.specs.Prelude.{◌≡◌, ◌⊎◌, ◌<◌, ◌≤◌, ◌+◌, All, [], map, length, OnOk, OnErr, Err};
 ghost use Rattle.std.specs.List.{Any, AllByRecursion};
 ghost use Rattle.bits.specs.Refusals.{OnFault, RefusedOnly};
 ghost use Rattle.bits.specs.Codec.{Appends};
@@ -33,8 +33,8 @@ use std::alloc::Global;
 ///
 /// Levels are in the encoding RLE, as few bits each as the leaf's greatest level has; a section whose greatest
 /// level is 0 is absent. No statistics, no checksum and no compression are written, and no field that is
-/// not the header's. `scratch` is a buffer for the work: what it held is lost, and its room is kept
-/// for the next page. The time is linear in the entries and the bytes of their values.
+/// not the header's. `scratch` is a buffer for the work. After each result, a refusal too, it is empty and
+/// keeps its room for the next page. The time is linear in the entries and the bytes of their values.
 ///
 /// Refused Levels or Value only where an entry is none of the leaf's: a level is above its greatest, or a
 /// value is missing, is there and should not be, or does not fit. Refused Encoding only where values of
@@ -65,14 +65,16 @@ pub fn write_page(
     ensures limit { result ≡ Err Refusal.Limit → IsPageTooMuch (map entry_ref_view entries.now) }
     ensures which { RefusedOnly (IsOfWriting leaf.now.leaf_type.kind encoding) result }
     ensures unchanged { OnErr result (out.new.items ≡ out.old.items) }
+    ensures emptied { scratch.new.items ≡ [] }
 {
     what_is_of_a_kind_fits_it();
+    scratch.clear();
     check_entries(leaf, entries)?;
     if has_known_size(leaf, encoding) {
         return put_full_entries(alloc, leaf, version, encoding, entries, out);
     }
     let values = values_of(alloc, entries)?;
-    put_entries(
+    let done = put_entries(
         alloc,
         leaf,
         version,
@@ -81,7 +83,9 @@ pub fn write_page(
         values.as_slice(),
         scratch,
         out,
-    )
+    );
+    scratch.clear();
+    done
 }
 
 /// Writes entries without levels in PLAIN: each begins a row and has a value, which is written from where it

@@ -11,10 +11,9 @@ ghost use Rattle.pages.specs.inner.Reading.{StandInAnyChunk, StandInNoChunk, Rul
 use crate::encoding::Encoding;
 use crate::page_values::PageValues;
 use crate::standing::Standing;
-use crate::value_checks::is_utf8;
 use bits::{R, Refusal};
 use plain::{Values, one_list, size_of_byte_array, what_is_of_a_kind_fits_it};
-use schema::LeafType;
+use schema::{LeafType, is_utf8};
 
 /// The first `count` values of the bytes, in PLAIN. They stay in the bytes and take no memory: one pass
 /// finds where byte values end, and checks those that should be text. Where they are known to stand, none

@@ -11,9 +11,8 @@ ghost use Rattle.schema.specs.Views.{leaf_type_view, leaf_view};
 ghost use Rattle.pages.specs.Headers.{rows_in};
 ghost use Rattle.pages.specs.Page.{repetitions, definitions, values};
 
-use crate::value_checks::{is_of_kind, is_text};
 use bits::{R, Refusal};
-use schema::{EntryRef, Kind, Leaf, LeafType, ValueRef};
+use schema::{EntryRef, Kind, Leaf, LeafType, ValueRef, is_of_kind, is_text};
 use std::alloc::Global;
 
 /// Refused Levels or Value exactly when an entry is none of the leaf's.

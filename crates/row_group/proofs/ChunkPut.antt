@@ -21,7 +21,7 @@ use Rattle.row_group.specs.declared.chunk_pages.ChunkPages.{ChunkPages}
 use Rattle.row_group.specs.declared.options.ChunkOptions.{ChunkOptions}
 use Rattle.row_group.specs.Chunks.{first_page, IsChunkOf}
 use Rattle.row_group.specs.Greatest.{most_entries}
-use Rattle.row_group.specs.Styles.{encoding_of, HasDictionary, numbers_with_levels}
+use Rattle.row_group.specs.Styles.{encoding_of, SuitsDictionary, HasDictionary, numbers_with_levels}
 use Rattle.row_group.specs.Paged.{ArePages, ArePagesOf}
 use Rattle.row_group.specs.Spelled.{IsValuePage, IsIndexPage, AreStatisticsOf}
 use Rattle.row_group.specs.Spelled as spelled
@@ -101,7 +101,7 @@ values_held leaf size es parts bytes used cut short p = record {
 pub value_pages : (leaf : Leaf) (o : ChunkOptions) (es : List Entry) (pages : ChunkPages) (old new : List ℕ) (parts : List (List Entry)) (Each : List ℕ → List Entry → ℕ → Type 0)
     → ((t : List ℕ) (part : List Entry) (u : ℕ) → Each t part u → IsValuePage leaf o.page_version (encoding_of o.style leaf.leaf_type.kind) t part u)
     → ((t : List ℕ) (part : List Entry) (u : ℕ) → Each t part u → IsPage leaf None t (entries part) u)
-    → (HasDictionary o.style leaf.leaf_type.kind es → ⊥) → AreShort es → ArePagesOf o.page_rows es parts → Appends (λ bytes. InTurn Each bytes parts) (sum_by page_weight parts) old new
+    → (HasDictionary o.style leaf.leaf_type.kind (length old) es → ⊥) → AreShort es → ArePagesOf o.page_rows es parts → Appends (λ bytes. InTurn Each bytes parts) (sum_by page_weight parts) old new
     → pages.encodings.items ≡ numbers_with_levels (encoding_of o.style leaf.leaf_type.kind) → pages.dictionary_page_offset ≡ None → pages.data_page_offset ≡ pos (length old)
     → AppendsPages leaf o old new pages es
 value_pages leaf o es pages old new parts Each written read none small cut p encodings dictionary_offset data_offset = record {
@@ -152,19 +152,19 @@ begins_first start size some more =
     let b : nat_lt start (start + size) ≡ true = grind (arith, nat_tests) in
     rw (a, b) refl
 
-pub some_entries : (es : List Entry) → 0 < length (values es) → 0 < length es
+some_entries : (es : List Entry) → 0 < length (values es) → 0 < length es
 some_entries es some = omega (arith, some, nulls_and_values es)
 
 -- the page of the dictionary and the pages of indexes are those of a chunk
 pub index_pages : (leaf : Leaf) (o : ChunkOptions) (es : List Entry) (vs : List ValueTree) (is : List ℕ) (pages : ChunkPages) (old mid new : List ℕ) (parts : List (List Entry)) (Each : List ℕ → List Entry → ℕ → Type 0)
     → ((t : List ℕ) (part : List Entry) (u : ℕ) → Each t part u → IsIndexPage leaf o.page_version vs t part u)
     → ((t : List ℕ) (part : List Entry) (u : ℕ) → Each t part u → IsPage leaf (Some vs) t (entries part) u)
-    → 0 < length old → HasDictionary o.style leaf.leaf_type.kind es → IsIndexed (values es) vs is → (Any IsTooLong vs → ⊥) → AreShort es → ArePagesOf o.page_rows es parts
+    → 0 < length old → SuitsDictionary o.style leaf.leaf_type.kind es → IsIndexed (values es) vs is → (Any IsTooLong vs → ⊥) → AreShort es → ArePagesOf o.page_rows es parts
     → Appends (IsWrittenDictionary leaf.leaf_type.kind vs) (dictionary_weight vs) old mid → Appends (StandsAsDictionary leaf.leaf_type.kind vs) (dictionary_weight vs) old mid
     → Appends (λ bytes. InTurn Each bytes parts) (sum_by (λ part. index_weight (length part)) parts) mid new
     → pages.encodings.items ≡ pos 0 ∷ pos 3 ∷ pos 8 ∷ [] → pages.dictionary_page_offset ≡ Some (pos (length old)) → pages.data_page_offset ≡ pos (length mid)
     → AppendsPages leaf o old new pages es
-index_pages leaf o es vs is pages old mid new parts Each written read begun has indexed none small cut w s q encodings dictionary_offset data_offset =
+index_pages leaf o es vs is pages old mid new parts Each written read begun suits indexed none small cut w s q encodings dictionary_offset data_offset =
     let kind = leaf.leaf_type.kind in
     let d = both_forms (IsWrittenDictionary kind vs) (StandsAsDictionary kind vs) (dictionary_weight vs) (dictionary_weight vs) old mid w s in
     let text = d.text ++ q.text in
@@ -181,14 +181,14 @@ index_pages leaf o es vs is pages old mid new parts Each written read begun has 
       joined = q.joined ∙ ap (λ (t : List ℕ). t ++ q.text) d.joined ∙ append_assoc old d.text q.text;
       paged = cut;
       held = λ more. subst (λ (k : ℕ). IsShortChunk leaf (text ++ more) es k) (sym long)
-          (indexes_held leaf vs o es parts (text ++ more) (length d.text) (length q.text) (some_entries es has.some) cut none small ((first more).1 leaf (Some vs) refl)
+          (indexes_held leaf vs o es parts (text ++ more) (length d.text) (length q.text) (some_entries es suits.some) cut none small ((first more).1 leaf (Some vs) refl)
           (turn_as Each (λ t part u. IsPage leaf (Some vs) t (entries part) u) read parts (drop (length d.text) (text ++ more)) (length q.text) (rest more)));
       starts = λ m says. record {
         page = length old + length d.text;
         data_page = says.data_offset ∙ data_offset ∙ ap pos after;
         begins = rw (says.dictionary_offset ∙ dictionary_offset) (begins_first (length old) (length d.text) begun some);
       };
-      spelled = λ m says more. spelled.of_indexes has (record {
+      spelled = λ m says more. spelled.of_indexes (record { suits = suits; begun = begun }) (record {
         dictionary = vs;
         indexes = is;
         indexed = indexed;
@@ -201,7 +201,7 @@ index_pages leaf o es vs is pages old mid new parts Each written read begun has 
         data_offset = says.data_offset ∙ data_offset ∙ ap pos after;
         encodings = says.numbers ∙ ap (λ (ns : List ℤ). Some ns) encodings;
       });
-      short = omega (arith, long, d.short, q.short, indexes_weigh parts es cut.joined, with_dictionary o.style leaf.leaf_type.kind es vs is (length parts) has indexed);
+      short = omega (arith, long, d.short, q.short, indexes_weigh parts es cut.joined, with_dictionary o.style leaf.leaf_type.kind es vs is (length parts) suits indexed);
     }
 
 -- ---- the record

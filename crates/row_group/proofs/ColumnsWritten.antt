@@ -2,30 +2,23 @@
 use Rattle.std.proofs.Common.{◌≡◌, ℕ, zero, suc, ◌+◌, ◌<◌, ◌≤◌, List, [], ◌∷◌, ◌++◌, map, length, get_or, take, Some, refl, sym, ap, subst, ◌∙◌, arith}
 use Rattle.std.specs.Prelude.{pos, ◌<ℤ◌}
 use Rattle.std.specs.List.{AllByRecursion}
-use Rattle.std.proofs.lemmas.List.{take_more, length-append, append-nil, nil_from_length}
-use Rattle.bits.specs.Codec.{InTurn}
+use Rattle.std.proofs.lemmas.List.{take_more, length-append}
 use Rattle.schema.specs.Values.{ValueTrees}
 use Rattle.schema.specs.Shape.{Fields}
 use Rattle.schema.specs.Fits.{RowsFit}
 use Rattle.schema.specs.Stripe.{Leaf, Entry, column, columns, leaves_of}
 use Rattle.schema.specs.Law.{IsEntryOf, EntriesAreOfLeaves, RowsBeginOnce}
 use Rattle.schema.proofs.Kept.{all_joined}
-use Rattle.metadata.specs.Records.{ColumnMeta, ChunkMeta, GroupMeta}
-use Rattle.pages.specs.Page.{Page, IsPage}
-use Rattle.pages.specs.Chunk.{IsChunk, all_entries}
-use Rattle.pages.specs.Headers.{rows_in}
+use Rattle.metadata.specs.Records.{ChunkMeta, GroupMeta}
 use Rattle.pages.specs.Writing.{AreShort}
-use Rattle.pages.proofs.Framed.{no_page_of_no_bytes}
 use Rattle.row_group.specs.Greatest.{most_entries, most_rows}
 use Rattle.row_group.specs.declared.options.ChunkOptions.{ChunkOptions}
 use Rattle.row_group.specs.Paged.{parts_of, chunk_weight, columns_weight}
-use Rattle.row_group.specs.Styles.{HasDictionary}
 use Rattle.row_group.specs.Writing as group_limit
-use Rattle.row_group.specs.Writing.{IsOwnChunk, AppendsChunk, AppendsEach, AppendsGroup, BeginsWithDictionary, IsChunkTooMuch, IsGroupTooMuch}
+use Rattle.row_group.specs.Writing.{IsOwnChunk, AppendsChunk, AppendsGroup, IsChunkTooMuch, IsGroupTooMuch}
 use Rattle.row_group.specs.inner.Columns.{AreColumnsOf, HasRows, AppendsChunks, AreTooMuch}
-use Rattle.row_group.proofs.Laid.{each_short, each_more, each_kept, each_joined}
-use Rattle.row_group.proofs.PageCounts.{some_begun, few_pages, columns_have_rows}
-use Rattle.row_group.proofs.ChunkPut.{some_entries}
+use Rattle.row_group.proofs.Laid.{each_short, each_more, each_joined}
+use Rattle.row_group.proofs.PageCounts.{few_pages, columns_have_rows}
 
 -- ---- columns and leaves
 
@@ -92,45 +85,9 @@ columns_before o n (l ∷ leaves) (c ∷ cols) (suc i) leaf es lt lc e f =
     let rest = columns_before o n leaves cols i leaf es (omega (arith, lt)) (omega (arith, lc)) e f in
     omega (arith, rest)
 
--- a chunk of no bytes has no entries
-no_entries : (leaf : Leaf) (o : ChunkOptions) (old new : List ℕ) (m : ColumnMeta) (es : List Entry) → (p : AppendsChunk leaf o old new m es) → length p.text ≡ 0 → es ≡ []
-no_entries leaf o old new m es p none = by chunk.pages spelled chunk.joined
-  where
-    chunk : IsChunk leaf (p.text ++ []) (length es) es (length p.text)
-    chunk = (p.fills []).held
-
-    spelled : InTurn (IsPage leaf chunk.dictionary_values) [] chunk.pages (length p.text)
-    spelled = subst (λ (t : List ℕ). InTurn (IsPage leaf chunk.dictionary_values) t chunk.pages (length p.text)) (append-nil p.text ∙ nil_from_length p.text none) chunk.spelled
-
-    by : (pages : List Page) → InTurn (IsPage leaf chunk.dictionary_values) [] pages (length p.text) → es ≡ all_entries pages → es ≡ []
-    by [] turn joined = joined
-    by (page ∷ pages) turn joined = absurd (no_page_of_no_bytes leaf chunk.dictionary_values page turn.0 turn.2)
-
--- a chunk with entries, before which nothing stands, is the first one, as each column has as many rows
-first_one : (o : ChunkOptions) (n : ℕ) (leaves : List Leaf) (cols : List (List Entry)) (i : ℕ) (leaf : Leaf) (es : List Entry) (old mid : List ℕ) (cs : List ChunkMeta) → i < length leaves → i < length cols
-    → leaf ≡ get_or leaves i leaf → es ≡ get_or cols i es → AppendsEach o (take i leaves) (take i cols) old mid cs → length mid ≡ 0 → HasDictionary o.style leaf.leaf_type.kind es → AllByRecursion (HasRows n) cols
-    → BeginsWithDictionary o leaves cols
-first_one o n [] cols i leaf es old mid cs lt lc e f p none has rows = absurd (omega (arith, lt))
-first_one o n (l ∷ leaves) [] i leaf es old mid cs lt lc e f p none has rows = absurd (omega (arith, lc))
-first_one o n (l ∷ leaves) (c ∷ cols) zero leaf es old mid cs lt lc e f p none has rows =
-    subst (λ (x : Leaf). HasDictionary o.style x.leaf_type.kind c) e (subst (λ (t : List Entry). HasDictionary o.style leaf.leaf_type.kind t) f has)
-first_one o n (l ∷ leaves) (c ∷ cols) (suc i) leaf es old mid [] lt lc e f p none has rows = absurd p
-first_one o n (l ∷ leaves) (c ∷ cols) (suc i) leaf es old mid (m ∷ cs) lt lc e f p none has rows =
-    let kept = each_kept o (take i leaves) (take i cols) p.0 mid cs p.3 in
-    let nothing : length p.1.text ≡ 0 = omega (arith, kept.1, none, ap length p.1.joined, length-append old p.1.text) in
-    let empty : rows_in c ≡ 0 = ap rows_in (no_entries l o old p.0 m.meta_data c p.1 nothing) in
-    let counted = rows.0.count in
-    let here : HasRows n es = at_index (HasRows n) (c ∷ cols) (suc i) es lc f rows in
-    let count = here.count in
-    let some = some_begun es (here.first (some_entries es has.some)) in
-    absurd (omega (arith, empty, counted, count, some))
-
 pub too_much : (o : ChunkOptions) (leaves : List Leaf) (cols : List (List Entry)) (i : ℕ) (leaf : Leaf) (es : List Entry) (old mid : List ℕ) (cs : List ChunkMeta) → i < length leaves → i < length cols
     → leaf ≡ get_or leaves i leaf → es ≡ get_or cols i es → AppendsChunks o (take i leaves) (take i cols) old mid cs → IsChunkTooMuch leaf o (length mid) es → AreTooMuch o leaves (length old) cols
 too_much o leaves cols i leaf es old mid cs lt lc e f so_far (IsChunkTooMuch.empty_pages h) = AreTooMuch.empty_pages h
-too_much o leaves cols i leaf es old mid cs lt lc e f so_far (IsChunkTooMuch.at_the_front h has) =
-    let kept = each_kept o (take i leaves) (take i cols) old mid cs so_far.each in
-    AreTooMuch.at_the_front (omega (arith, h, kept.1)) (λ n rows. first_one o n leaves cols i leaf es old mid cs lt lc e f so_far.each h has rows)
 too_much o leaves cols i leaf es old mid cs lt lc e f so_far (IsChunkTooMuch.many_entries h) = AreTooMuch.many_entries (i, es, lc, sym f, h)
 too_much o leaves cols i leaf es old mid cs lt lc e f so_far (IsChunkTooMuch.long_value h) = AreTooMuch.long_value (i, es, lc, sym f, h)
 too_much o leaves cols i leaf es old mid cs lt lc e f so_far (IsChunkTooMuch.heavy parts paged over) =
@@ -162,7 +119,6 @@ group_written law fs o rows old new g size fit filled count few says p =
 
 pub group_too_much : RowsBeginOnce → (fs : Fields) (o : ChunkOptions) (before : ℕ) (rows : List ValueTrees) → RowsFit fs rows → AreTooMuch o (leaves_of fs) before (columns fs rows) → IsGroupTooMuch fs o before rows
 group_too_much law fs o before rows fit (AreTooMuch.empty_pages h) = group_limit.empty_pages h
-group_too_much law fs o before rows fit (AreTooMuch.at_the_front h begins) = group_limit.at_the_front h (begins (length rows) (columns_have_rows law fs rows fit))
 group_too_much law fs o before rows fit (AreTooMuch.many_entries h) = group_limit.many_entries h
 group_too_much law fs o before rows fit (AreTooMuch.long_value h) = group_limit.long_value h
 group_too_much law fs o before rows fit (AreTooMuch.heavy h) = group_limit.heavy (h (length rows) (columns_have_rows law fs rows fit))

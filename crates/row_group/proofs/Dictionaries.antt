@@ -17,14 +17,14 @@ use Rattle.pages.specs.Page.{values}
 use Rattle.pages.proofs.WrittenPages.{kinds_in}
 use Rattle.row_group.specs.declared.options.Style.{Style}
 use Rattle.row_group.specs.declared.options.Style.TheVariants as style
-use Rattle.row_group.specs.Styles.{HasDictionary}
+use Rattle.row_group.specs.Styles.{SuitsDictionary}
 
 pub fault_weaker : {X : Type 0} {P Q : Type 0} (r : Result X Refusal) → (P → Q) → OnFault r P → OnFault r Q
 fault_weaker (Ok x) f p = tt
 fault_weaker (Err e) f p = λ fault. f (p fault)
 
 pub found_some : (s : Style) (kind : Kind) (es : List Entry) (vs : List ValueTree) (r : Result (Option Dictionary) Refusal) → (s ≡ style.Dictionary) × (kind ≢ Boolean) → vs ≡ values es → 0 < length vs
-    → IfOk r (λ built. IfSome built (λ d. AreMoreThan 65536 vs → ⊥)) → IfOk r (λ found. IfSome found (λ d. HasDictionary s kind es))
+    → IfOk r (λ built. IfSome built (λ d. AreMoreThan 65536 vs → ⊥)) → IfOk r (λ found. IfSome found (λ d. SuitsDictionary s kind es))
 found_some s kind es vs (Err e) may shown some few = tt
 found_some s kind es vs (Ok None) may shown some few = tt
 found_some s kind es vs (Ok (Some d)) may shown some few = record {
@@ -39,7 +39,7 @@ found_indexed vs ws same (Err e) p = tt
 found_indexed vs ws same (Ok None) p = tt
 found_indexed vs ws same (Ok (Some d)) p = subst (λ (t : List ValueTree). IsIndexed t (entries_of d) (indexes_of d)) same p
 
-pub found_none : (s : Style) (kind : Kind) (es : List Entry) (vs : List ValueTree) → vs ≡ values es → (r : Result (Option Dictionary) Refusal) → IfOk r (λ built. IfNone built (AreMoreThan 65536 vs)) → IfOk r (λ found. IfNone found (HasDictionary s kind es → ⊥))
+pub found_none : (s : Style) (kind : Kind) (es : List Entry) (vs : List ValueTree) → vs ≡ values es → (r : Result (Option Dictionary) Refusal) → IfOk r (λ built. IfNone built (AreMoreThan 65536 vs)) → IfOk r (λ found. IfNone found (SuitsDictionary s kind es → ⊥))
 found_none s kind es vs shown (Err e) p = tt
 found_none s kind es vs shown (Ok (Some d)) p = tt
 found_none s kind es vs shown (Ok None) p = λ has. has.few (subst (AreMoreThan 65536) shown p)

@@ -38,7 +38,7 @@ none_begun : (es : List Entry) → AllByRecursion (λ e. 0 < e.repetition) es �
 none_begun [] h = refl
 none_begun (e ∷ es) h = not_begun e es h.0 ∙ none_begun es h.1
 
-pub some_begun : (es : List Entry) → BeginsRow es → 1 ≤ rows_in es
+some_begun : (es : List Entry) → BeginsRow es → 1 ≤ rows_in es
 some_begun [] h = absurd h
 some_begun (e ∷ es) h = omega (arith, begun e es h)
 

@@ -17,7 +17,7 @@ use Rattle.pages.specs.Writing.{page_weight, index_weight, dictionary_weight}
 use Rattle.pages.proofs.WrittenPages.{nulls_and_values}
 use Rattle.row_group.specs.declared.options.Style.{Style}
 use Rattle.row_group.specs.declared.options.Style.TheVariants as style
-use Rattle.row_group.specs.Styles.{HasDictionary}
+use Rattle.row_group.specs.Styles.{SuitsDictionary}
 use Rattle.row_group.specs.Paged.{most_dictionaries, chunk_weight}
 
 -- ---- pages
@@ -139,7 +139,7 @@ pub shorter_entries : (vs es : List ValueTree) (is : List ℕ) → IsIndexed vs 
 shorter_entries vs es is p = omega (arith, texts_are es, texts_are vs, lighter size_of vs es is p)
 
 -- a chunk that has a dictionary has one by its weight
-pub one_dictionary : (s : Style) (kind : Kind) (es : List Entry) → HasDictionary s kind es → most_dictionaries s kind (values es) ≡ 1
+pub one_dictionary : (s : Style) (kind : Kind) (es : List Entry) → SuitsDictionary s kind es → most_dictionaries s kind (values es) ≡ 1
 one_dictionary s kind es has = subst (λ (t : Style). most_dictionaries t kind (values es) ≡ 1) (sym has.style) (by (values es) kind has.some has.not_boolean)
   where
     by : (vs : List ValueTree) (k : Kind) → 0 < length vs → (k ≡ Boolean → ⊥) → most_dictionaries style.Dictionary k vs ≡ 1
@@ -151,6 +151,6 @@ one_dictionary s kind es has = subst (λ (t : Style). most_dictionaries t kind (
     by (v ∷ vs) (FixedLenByteArray n) some other = refl
 
 -- and its bytes are at most its weight
-pub with_dictionary : (s : Style) (kind : Kind) (es : List Entry) (vs : List ValueTree) (is : List ℕ) (n : ℕ) → HasDictionary s kind es → IsIndexed (values es) vs is
+pub with_dictionary : (s : Style) (kind : Kind) (es : List Entry) (vs : List ValueTree) (is : List ℕ) (n : ℕ) → SuitsDictionary s kind es → IsIndexed (values es) vs is
     → dictionary_weight vs + (1024 * n + 32 * length es) ≤ chunk_weight s kind n es
 with_dictionary s kind es vs is n has p = omega (arith, one_dictionary s kind es has, fewer_entries (values es) vs is p, shorter_entries (values es) vs is p, nulls_and_values es)

@@ -24,7 +24,7 @@ use Rattle.row_group.specs.declared.options.Style.TheVariants as style
 use Rattle.row_group.specs.declared.options.ChunkOptions.{ChunkOptions}
 use Rattle.row_group.specs.declared.pages_in_turn.PageValues.{PageValues}
 use Rattle.row_group.specs.declared.pages_in_turn.PageValues.TheVariants.{Encoded}
-use Rattle.row_group.specs.Styles.{encoding_of, HasDictionary}
+use Rattle.row_group.specs.Styles.{encoding_of, SuitsDictionary}
 use Rattle.row_group.specs.Writing.{IsChunkTooMuch, long_value, heavy}
 use Rattle.row_group.specs.inner.Parts.{part_weight, ArePartsTooMuch, long, heavy_page, heavy_parts}
 use Rattle.row_group.proofs.Cuts.{some_cut}
@@ -65,7 +65,7 @@ values_much leaf o before encoding es large (heavy_page h) =
 values_much leaf o before encoding es large (heavy_parts parts cut h) = heavy parts cut (omega (arith, h, values_weigh parts es cut.joined))
 
 pub indexes_much : (leaf : Leaf) (o : ChunkOptions) (vs : PageValues) (before mid : ℕ) (es : List Entry) (ds : List ValueTree) (is : List ℕ)
-    → ((parts : List (List Entry)) → sum_by (part_weight vs) parts ≡ sum_by (λ part. index_weight (length part)) parts) → 0 < o.page_rows → HasDictionary o.style leaf.leaf_type.kind es → IsIndexed (values es) ds is
+    → ((parts : List (List Entry)) → sum_by (part_weight vs) parts ≡ sum_by (λ part. index_weight (length part)) parts) → 0 < o.page_rows → SuitsDictionary o.style leaf.leaf_type.kind es → IsIndexed (values es) ds is
     → mid ≤ before + dictionary_weight ds → ArePartsTooMuch mid o.page_rows vs es → IsChunkTooMuch leaf o before es
 indexes_much leaf o vs before mid es ds is weigh large has indexed near (long any) = long_value any
 indexes_much leaf o vs before mid es ds is weigh large has indexed near (heavy_page h) =
@@ -92,7 +92,7 @@ any_at P xs i x h p = (i, x, slice_get_within xs i x h, is_at xs i x x h, p)
 at_any : {X : Type 0} (P : X → Type 0) (xs : List X) → (any : Any P xs) → slice_get xs any.0 ≡ Some any.1
 at_any {X} P xs any = got xs any.0 any.1 any.2 ∙ ap (λ (x : X). Some x) any.3
 
-pub dictionary_much : (leaf : Leaf) (o : ChunkOptions) (before : ℕ) (es : List Entry) (ds : List ValueTree) (is : List ℕ) → 0 < o.page_rows → HasDictionary o.style leaf.leaf_type.kind es → IsIndexed (values es) ds is
+pub dictionary_much : (leaf : Leaf) (o : ChunkOptions) (before : ℕ) (es : List Entry) (ds : List ValueTree) (is : List ℕ) → 0 < o.page_rows → SuitsDictionary o.style leaf.leaf_type.kind es → IsIndexed (values es) ds is
     → IsDictionaryTooMuch ds → IsChunkTooMuch leaf o before es
 dictionary_much leaf o before es ds is large has indexed (inl any) =
     let c = get_from_contains (values es) any.1 (entry_comes (values es) ds is indexed any.0 any.1 (at_any IsTooLong ds any)) in

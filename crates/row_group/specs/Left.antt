@@ -12,10 +12,10 @@ use Rattle.schema.specs.Stripe.{Leaf, Entry}
 use Rattle.schema.specs.Law.{IsSchema}
 use Rattle.schema.specs.Views.{leaf_view, row_view}
 use Rattle.metadata.specs.Records.{ColumnMeta}
-use Rattle.assemble.specs.Sinks.{Token}
 use Rattle.assemble.specs.RowsOf.{StandForRows}
 use Rattle.assemble.specs.Flat.{is_flat}
 pub use Rattle.assemble.specs.Flat.{ShowsFirst}
+pub use Rattle.assemble.specs.RowSources.{TakesRowTo}
 use Rattle.row_group.specs.declared.chunk_reader.ChunkReader.{ChunkReader}
 use Rattle.row_group.specs.declared.rows.Rows.{Rows}
 use Rattle.row_group.specs.Chunks.{ChunkMeans}
@@ -73,12 +73,6 @@ abbrev pub TakesRow : (List ValueTrees → Type 0) → (List ValueTrees → Type
 TakesRow S T (Ok (Some row)) = (rows : List ValueTrees) → S rows → (rest : List ValueTrees) × (rows ≡ row_view row ∷ rest) × T rest
 TakesRow S T (Ok None) = (rows : List ValueTrees) → S rows → (rows ≡ []) × T []
 TakesRow S T (Err e) = (rows : List ValueTrees) → S rows → e ≡ Memory
-
--- as TakesRow, by what a sink was shown before and after
-abbrev pub TakesRowTo : (List ValueTrees → Type 0) → (List ValueTrees → Type 0) → (List Token → Type 0) → (List Token → Type 0) → Result Bool Refusal → Type 0
-TakesRowTo S T from to (Ok true) = (rows : List ValueTrees) → S rows → ShowsFirst T from to rows
-TakesRowTo S T from to (Ok false) = (rows : List ValueTrees) → S rows → (rows ≡ []) × T []
-TakesRowTo S T from to (Err e) = (rows : List ValueTrees) → S rows → e ≡ Memory
 
 -- what is returned, with a refusal in place of a fault
 abbrev pub with_refusal : Result Bool Fault → Result Bool Refusal

@@ -52,8 +52,8 @@ pub record HasIndexPages (leaf : Leaf) (o : ChunkOptions) (es : List Entry) (par
 
 -- the pages of a chunk, as its style has them
 pub data HasPages (leaf : Leaf) (o : ChunkOptions) (es : List Entry) (parts : List (List Entry)) (m : ColumnMeta) (start : ℕ) (bytes : List ℕ) (used : ℕ) : Type 0 where
-  of_values : (HasDictionary o.style leaf.leaf_type.kind es → ⊥) → HasValuePages leaf o parts m start bytes used → HasPages leaf o es parts m start bytes used
-  of_indexes : HasDictionary o.style leaf.leaf_type.kind es → HasIndexPages leaf o es parts m start bytes used → HasPages leaf o es parts m start bytes used
+  of_values : (HasDictionary o.style leaf.leaf_type.kind start es → ⊥) → HasValuePages leaf o parts m start bytes used → HasPages leaf o es parts m start bytes used
+  of_indexes : HasDictionary o.style leaf.leaf_type.kind start es → HasIndexPages leaf o es parts m start bytes used → HasPages leaf o es parts m start bytes used
 
 -- the statistics that are written: the number of nulls, and the bytes of the bounds that are there
 abbrev pub written_statistics : ℕ → Option (List ℕ) → Option (List ℕ) → record_of.Statistics

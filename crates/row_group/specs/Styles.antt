@@ -1,5 +1,5 @@
 -- Which encodings a chunk is written in: parquet.thrift, Encoding; parquet-format, Encodings.md. The choice is the store's own.
-use Rattle.std.specs.Prelude.{◌≡◌, ◌≢◌, ◌<◌, ℤ, pos, List, [], ◌∷◌, length}
+use Rattle.std.specs.Prelude.{◌≡◌, ◌≢◌, ℕ, ◌<◌, ℤ, pos, List, [], ◌∷◌, length}
 use Rattle.schema.specs.declared.value.Kind.{Kind}
 use Rattle.schema.specs.declared.value.Kind.TheVariants.{Boolean, Int32, Int64, ByteArray, FixedLenByteArray}
 use Rattle.schema.specs.Stripe.{Entry}
@@ -30,13 +30,18 @@ encoding_of style.Split ByteArray = Plain
 encoding_of style.Split (FixedLenByteArray n) = ByteStreamSplit
 encoding_of s kind = Plain
 
--- The chunk of these entries has a dictionary: its style says so, its values are not BOOLEAN, there are some, and at most 65,536
--- different ones.
-pub record HasDictionary (s : Style) (kind : Kind) (es : List Entry) : Type 0 where
+-- These entries suit a dictionary: the style asks for one, the values are not BOOLEAN, there are some, and at most 65,536 different ones.
+pub record SuitsDictionary (s : Style) (kind : Kind) (es : List Entry) : Type 0 where
   pub style : s ≡ style.Dictionary
   pub not_boolean : kind ≢ Boolean
   pub some : 0 < length (values es)
   pub few : AreMoreThan 65536 (values es) → ⊥
+
+-- The chunk of these entries, which starts at this offset of its file, has a dictionary. At offset 0, where no file has a chunk, it has
+-- none: a record cannot say that the page of a dictionary is there.
+pub record HasDictionary (s : Style) (kind : Kind) (start : ℕ) (es : List Entry) : Type 0 where
+  pub suits : SuitsDictionary s kind es
+  pub begun : 0 < start
 
 -- the encodings of a chunk's values and of its levels, which are RLE, as numbers, rising, each once
 abbrev pub numbers_with_levels : Encoding → List ℤ

@@ -17,7 +17,6 @@ use Rattle.row_group.specs.Limits.{IsChunkOver}
 use Rattle.row_group.specs.declared.options.ChunkOptions.{ChunkOptions}
 use Rattle.row_group.specs.Paged.{ArePagesOf, chunk_weight, group_weight}
 use Rattle.row_group.specs.Spelled.{HasPages, AreStatisticsOf}
-use Rattle.row_group.specs.Styles.{HasDictionary}
 
 -- The bytes of `new` are those of `old` and a chunk of these entries, which starts right after `old` and whose pages fill
 -- exactly what was written, whatever follows it; so says its record. It goes beyond no limit of a reader. Each page has its rows, as the options say, and is written as
@@ -36,11 +35,9 @@ pub record AppendsChunk (leaf : Leaf) (o : ChunkOptions) (old new : List ℕ) (m
   pub statistics : AreStatisticsOf leaf es m.statistics
   pub short : length text ≤ chunk_weight o.style leaf.leaf_type.kind (length parts) es
 
--- Why entries are too much for a chunk with these options after this many bytes. (A dictionary's page at the front of a file has the
--- offset 0, which says in the record that there is none.)
+-- why entries are too much for a chunk with these options after this many bytes
 pub data IsChunkTooMuch (leaf : Leaf) (o : ChunkOptions) (before : ℕ) (es : List Entry) : Type 0 where
   empty_pages : o.page_rows ≡ 0 → IsChunkTooMuch leaf o before es
-  at_the_front : before ≡ 0 → HasDictionary o.style leaf.leaf_type.kind es → IsChunkTooMuch leaf o before es
   many_entries : most_entries <ℤ pos (length es) → IsChunkTooMuch leaf o before es
   long_value : Any IsTooLong (values es) → IsChunkTooMuch leaf o before es
   heavy : (parts : List (List Entry)) → ArePagesOf o.page_rows es parts
@@ -75,15 +72,9 @@ pub record AreTaken (fs : Fields) (rows : List ValueTrees) : Type 0 where
   pub few : AllByRecursion (λ es. most_entries <ℤ pos (length es) → ⊥) (columns fs rows)
   pub values_short : AllByRecursion AreShort (columns fs rows)
 
--- the chunk of the first column has a dictionary
-abbrev pub BeginsWithDictionary : ChunkOptions → List Leaf → List (List Entry) → Type 0
-BeginsWithDictionary o (leaf ∷ leaves) (es ∷ cols) = HasDictionary o.style leaf.leaf_type.kind es
-BeginsWithDictionary o _ _ = ⊥
-
 -- why rows are too much for a group with these options after this many bytes
 pub data IsGroupTooMuch (fs : Fields) (o : ChunkOptions) (before : ℕ) (rows : List ValueTrees) : Type 0 where
   empty_pages : o.page_rows ≡ 0 → IsGroupTooMuch fs o before rows
-  at_the_front : before ≡ 0 → BeginsWithDictionary o (leaves_of fs) (columns fs rows) → IsGroupTooMuch fs o before rows
   many_rows : most_rows <ℤ pos (length rows) → IsGroupTooMuch fs o before rows
   many_entries : Any (λ es. most_entries <ℤ pos (length es)) (columns fs rows) → IsGroupTooMuch fs o before rows
   long_value : Any (λ es. Any IsTooLong (values es)) (columns fs rows) → IsGroupTooMuch fs o before rows

@@ -11,7 +11,7 @@ ghost use Rattle.plain.specs.ValuesLeft.{values_left, kind_of};
 ghost use Rattle.dictionary.specs.Entries.{IsIndexed, entries_of, indexes_of};
 ghost use Rattle.pages.specs.Page.{values as values_in};
 ghost use Rattle.pages.specs.Writing.{AreShort, IsOfEntries};
-ghost use Rattle.row_group.specs.Styles.{HasDictionary};
+ghost use Rattle.row_group.specs.Styles.{SuitsDictionary};
 ghost use Rattle.row_group.specs.Writing.{IsChunkTooMuch};
 ghost use Rattle.row_group.specs.inner.Copied.{IsCopied};
 ghost use Rattle.row_group.specs.inner.Parts.{AppendsPages};
@@ -34,8 +34,9 @@ pub(crate) struct ChunkPages {
     pub data_page_offset: i64,
 }
 
-/// Writes the pages of a chunk, after the page of a dictionary where it has one. After a refusal some of them
-/// may stand after what was there.
+/// Writes the pages of a chunk, after the page of a dictionary where it has one. At offset 0 it has none, since the
+/// offset of a dictionary's page counts in a record only above 0. After a refusal some of the pages may stand after
+/// what was there.
 pub(crate) fn put_chunk_pages(
     alloc: Global,
     leaf: &Leaf,
@@ -51,14 +52,11 @@ pub(crate) fn put_chunk_pages(
     ensures which { RefusedOnly IsOfEntries result }
     ensures front { OnErr result (take (length out.old.items) out.new.items ≡ out.old.items) }
 {
+    if out.is_empty() {
+        return put_value_pages(alloc, leaf, options, entries, out);
+    }
     match dictionary_of(alloc, leaf, options.style, entries)? {
-        Some(dictionary) => {
-            // The record cannot say that a dictionary's page is at the front of a file: its offset counts only above 0.
-            if out.is_empty() {
-                return Err(Refusal::Limit);
-            }
-            put_index_pages(alloc, leaf, options, &dictionary, entries, out)
-        }
+        Some(dictionary) => put_index_pages(alloc, leaf, options, &dictionary, entries, out),
         None => put_value_pages(alloc, leaf, options, entries, out),
     }
 }
@@ -72,7 +70,7 @@ fn put_value_pages(
     out: &mut Vec<u8>,
 ) -> R<ChunkPages>
     requires rows { 0 < options.page_rows }
-    requires none { HasDictionary options.style leaf.now.leaf_type.kind (map entry_ref_view entries.now) → ⊥ }
+    requires none { 0 < length out.old.items → SuitsDictionary options.style leaf.now.leaf_type.kind (map entry_ref_view entries.now) → ⊥ }
     ensures stands { IfOk result (λ pages. AppendsPages (leaf_view leaf.now) options out.old.items out.new.items pages (map entry_ref_view entries.now)) }
     ensures within_limits { OnOk result (AreShort (map entry_ref_view entries.now)) }
     ensures only { OnFault result (AllByRecursion (IsEntryOf (leaf_view leaf.now)) (map entry_ref_view entries.now) → ⊥) }
@@ -138,7 +136,7 @@ fn put_index_pages(
 ) -> R<ChunkPages>
     requires rows { 0 < options.page_rows }
     requires begun { 0 < length out.old.items }
-    requires has { HasDictionary options.style leaf.now.leaf_type.kind (map entry_ref_view entries.now) }
+    requires suits { SuitsDictionary options.style leaf.now.leaf_type.kind (map entry_ref_view entries.now) }
     requires indexed { IsIndexed (values_in (map entry_ref_view entries.now)) (entries_of dictionary.now) (indexes_of dictionary.now) }
     ensures stands { IfOk result (λ pages. AppendsPages (leaf_view leaf.now) options out.old.items out.new.items pages (map entry_ref_view entries.now)) }
     ensures within_limits { OnOk result (AreShort (map entry_ref_view entries.now)) }

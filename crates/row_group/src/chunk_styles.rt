@@ -10,7 +10,7 @@ ghost use Rattle.schema.specs.Views.{leaf_view};
 ghost use Rattle.dictionary.specs.Entries.{IsIndexed, entries_of, indexes_of};
 ghost use Rattle.pages.specs.Headers.{number_of};
 ghost use Rattle.pages.specs.Page.{values as values_in};
-ghost use Rattle.row_group.specs.Styles.{encoding_of, HasDictionary, numbers_with_levels};
+ghost use Rattle.row_group.specs.Styles.{encoding_of, SuitsDictionary, numbers_with_levels};
 
 use crate::options::Style;
 use bits::{R, Refusal};
@@ -69,10 +69,10 @@ pub(crate) fn dictionary_of(
     style: Style,
     entries: &[EntryRef<'_>],
 ) -> R<Option<Dictionary>>
-    ensures some { IfOk result (λ found. IfSome found (λ _. HasDictionary style leaf.now.leaf_type.kind (map entry_ref_view entries.now))) }
+    ensures some { IfOk result (λ found. IfSome found (λ _. SuitsDictionary style leaf.now.leaf_type.kind (map entry_ref_view entries.now))) }
     ensures indexed { let vs = values_in (map entry_ref_view entries.now) in
         IfOk result (λ found. IfSome found (λ d. IsIndexed vs (entries_of d) (indexes_of d))) }
-    ensures none { IfOk result (λ found. IfNone found (HasDictionary style leaf.now.leaf_type.kind (map entry_ref_view entries.now) → ⊥)) }
+    ensures none { IfOk result (λ found. IfNone found (SuitsDictionary style leaf.now.leaf_type.kind (map entry_ref_view entries.now) → ⊥)) }
     ensures only { OnFault result (AllByRecursion (IsEntryOf (leaf_view leaf.now)) (map entry_ref_view entries.now) → ⊥) }
     ensures which { RefusedOnly (λ e. e ≡ Refusal.Value) result }
 {
@@ -101,7 +101,7 @@ fn allows_dictionary(style: Style, kind: Kind) -> bool
 /// Whether chunks of a type are PLAIN and have no dictionary under a style, whatever their values are.
 pub(crate) fn is_plain(style: Style, kind: Kind) -> bool
     ensures encoding { result ≡ true → encoding_of style kind ≡ Encoding.Plain }
-    ensures dictionary { result ≡ true → (es : List Entry) → HasDictionary style kind es → ⊥ }
+    ensures dictionary { result ≡ true → (es : List Entry) → SuitsDictionary style kind es → ⊥ }
 {
     match encoding_of(style, kind) {
         Encoding::Plain => !allows_dictionary(style, kind),

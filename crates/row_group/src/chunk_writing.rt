@@ -33,15 +33,15 @@ use std::rc::RcStr;
 /// Writes the entries at the end of a file's bytes, as a chunk of the leaf, and returns its record
 /// (`parquet.thrift`, ColumnMetaData). The chunk starts where the bytes ended, and its pages follow each
 /// other: the page of a dictionary where its style has one, then data pages of `page_rows` rows each, the
-/// last with the rest. The encodings are those of the style ([`Style`](crate::Style)); both sizes in the
+/// last with the rest. The encodings are those of the style ([`Style`](crate::Style)). Into an empty `out`, where no
+/// file has a chunk, the style `Dictionary` writes PLAIN: a record cannot say that the page of a dictionary has
+/// the offset 0. Both sizes in the
 /// record are those of the bytes that were written; its statistics are those of the entries. Where there are
 /// no entries there is no page.
 ///
 /// Refused Levels or Value only where an entry is none of the leaf's. Refused Limit only where `page_rows` is
-/// 0, where `out` is empty and the chunk has a dictionary (the offset of its page is then 0, which says in a
-/// record that there is none), where there are more than 16,777,216 entries, where a value has more than
-/// 16 MiB, or where what was there and the chunk weigh more than 2^31 - 1 bytes. After a refusal `out` is as
-/// it was.
+/// 0, where there are more than 16,777,216 entries, where a value has more than 16 MiB, or where what was there
+/// and the chunk weigh more than 2^31 - 1 bytes. After a refusal `out` is as it was.
 pub fn write_chunk(
     alloc: Global,
     leaf: &Leaf,

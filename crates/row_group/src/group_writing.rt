@@ -27,9 +27,9 @@ use std::alloc::Global;
 /// its record. (`parquet.thrift`, RowGroup.)
 ///
 /// Refused RowShape only where a row does not fit the schema. Refused Limit only where `page_rows` is 0, where
-/// `out` is empty and the chunk of the first leaf has a dictionary, where there are more than 16,777,216 rows,
-/// or entries in a column, where a value has more than 16 MiB, or where what was there and the group weigh more
-/// than 2^31 - 1 bytes. Where both are so, either may come. After a refusal `out` is as it was.
+/// there are more than 16,777,216 rows, or entries in a column, where a value has more than 16 MiB, or where what
+/// was there and the group weigh more than 2^31 - 1 bytes. Where both are so, either may come. After a refusal
+/// `out` is as it was.
 ///
 /// The rows are shredded once, into entries that borrow their values; beside the rows and `out` these stand in
 /// memory. The time is linear in the entries and in the bytes of the values.

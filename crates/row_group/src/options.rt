@@ -8,7 +8,7 @@ pub enum Style {
     /// PLAIN for all.
     Plain,
     /// A dictionary for all but BOOLEAN, which is PLAIN; PLAIN too where a chunk has no value, or more than
-    /// 65,536 different ones.
+    /// 65,536 different ones, or would start at offset 0, where no file has a chunk.
     Dictionary,
     /// DELTA_BINARY_PACKED for numbers, DELTA_BYTE_ARRAY for both byte types, RLE for BOOLEAN.
     Delta,

@@ -17,7 +17,7 @@ use crate::group_chunks::{check_chunks, readers_of};
 use crate::laws::one_meaning;
 use crate::limits::MOST_ROWS_OF_GROUP;
 use assemble::{
-    RowBuilder, RowSink, count_rows, flat_columns_have_rows, is_flat, next_flat_row_to,
+    RowBuilder, RowSink, RowSource, count_rows, flat_columns_have_rows, is_flat, next_flat_row_to,
     next_known_row_to,
 };
 use bits::{Fault, R, Refusal};
@@ -115,6 +115,7 @@ impl<'a> Rows<'a> {
     pub fn next_to<K: RowSink>(&mut self, sink: &mut K) -> R<bool>
         ensures takes { TakesRowTo (rows_stand self.old) (rows_stand self.new) (K.shows sink.old) (K.shows sink.new) result }
         ensures unshown { result ≡ Ok false → sink.new ≡ sink.old }
+        ensures base_stays { K.base sink.new ≡ K.base sink.old }
         ensures breaks { result ≡ Err Refusal.Memory → is_broken self.new ≡ true }
         ensures broken { is_broken self.old ≡ true → result ≡ Err Refusal.Memory }
     {
@@ -131,6 +132,7 @@ impl<'a> Rows<'a> {
     pub fn show_next<K: RowSink>(&mut self, sink: &mut K) -> Result<bool, Fault>
         ensures takes { TakesRowTo (rows_stand self.old) (rows_stand self.new) (K.shows sink.old) (K.shows sink.new) (with_refusal result) }
         ensures unshown { result ≡ Ok false → sink.new ≡ sink.old }
+        ensures base_stays { K.base sink.new ≡ K.base sink.old }
         ensures breaks { IfErr result (λ _. is_broken self.new ≡ true) }
         ensures broken { is_broken self.old ≡ true → result ≡ Err Fault.Memory }
     {
@@ -153,6 +155,7 @@ impl<'a> Rows<'a> {
         requires flat { self.old.is_flat ≡ true }
         ensures takes { TakesRowTo (rows_stand self.old) (rows_stand self.new) (K.shows sink.old) (K.shows sink.new) (with_refusal result) }
         ensures unshown { result ≡ Ok false → sink.new ≡ sink.old }
+        ensures base_stays { K.base sink.new ≡ K.base sink.old }
         ensures breaks { IfErr result (λ _. is_broken self.new ≡ true) }
     {
         match next_flat_row_to(self.readers.as_mut_slice(), sink) {
@@ -174,6 +177,7 @@ impl<'a> Rows<'a> {
         requires some { self.old.left ≢ 0 }
         ensures takes { TakesRowTo (rows_stand self.old) (rows_stand self.new) (K.shows sink.old) (K.shows sink.new) (with_refusal result) }
         ensures unshown { result ≡ Ok false → sink.new ≡ sink.old }
+        ensures base_stays { K.base sink.new ≡ K.base sink.old }
         ensures breaks { IfErr result (λ _. is_broken self.new ≡ true) }
     {
         match next_known_row_to(self.schema, self.readers.as_mut_slice(), sink) {
@@ -223,6 +227,18 @@ impl<'a> Rows<'a> {
         }
         // Never reached: no vector has as many rows.
         Err(Refusal::Memory)
+    }
+}
+
+impl<'a> RowSource for Rows<'a> {
+    ghost stands = { rows_stand };
+
+    #[inline]
+    fn next_to<K: RowSink>(&mut self, sink: &mut K) -> R<bool> {
+        match self.show_next(sink) {
+            Ok(is_shown) => Ok(is_shown),
+            Err(fault) => Err(Refusal::from(fault)),
+        }
     }
 }
 

@@ -11,7 +11,7 @@ use Rattle.pages.specs.Writing.{AreShort}
 use Rattle.row_group.specs.Greatest.{most_entries, most_bytes_before}
 use Rattle.row_group.specs.declared.options.ChunkOptions.{ChunkOptions}
 use Rattle.row_group.specs.Paged.{BeginsRow, columns_weight}
-use Rattle.row_group.specs.Writing.{AppendsChunk, IsOwnChunk, AppendsEach, BeginsWithDictionary}
+use Rattle.row_group.specs.Writing.{AppendsChunk, IsOwnChunk, AppendsEach}
 
 -- for each leaf, a column of its entries
 abbrev pub AreColumnsOf : List Leaf → List (List Entry) → Type 0
@@ -33,7 +33,6 @@ pub record AppendsChunks (o : ChunkOptions) (leaves : List Leaf) (cols : List (L
 -- why columns are too much for a group with these options after this many bytes, where they have as many rows
 pub data AreTooMuch (o : ChunkOptions) (leaves : List Leaf) (before : ℕ) (cols : List (List Entry)) : Type 0 where
   empty_pages : o.page_rows ≡ 0 → AreTooMuch o leaves before cols
-  at_the_front : before ≡ 0 → ((n : ℕ) → AllByRecursion (HasRows n) cols → BeginsWithDictionary o leaves cols) → AreTooMuch o leaves before cols
   many_entries : Any (λ es. most_entries <ℤ pos (length es)) cols → AreTooMuch o leaves before cols
   long_value : Any (λ es. Any IsTooLong (values es)) cols → AreTooMuch o leaves before cols
   heavy : ((n : ℕ) → AllByRecursion (HasRows n) cols → most_bytes_before < before + columns_weight o n leaves cols) → AreTooMuch o leaves before cols

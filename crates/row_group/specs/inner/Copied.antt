@@ -5,7 +5,7 @@ use Rattle.schema.specs.declared.value.Kind.TheVariants.{Boolean}
 use Rattle.schema.specs.Stripe.{Leaf, Entry}
 use Rattle.pages.specs.declared.encoding.Encoding.TheVariants.{Plain}
 use Rattle.row_group.specs.declared.options.Style.{Style}
-use Rattle.row_group.specs.Styles.{encoding_of, HasDictionary}
+use Rattle.row_group.specs.Styles.{encoding_of, SuitsDictionary}
 
 -- The pages of a chunk of the leaf have values of this type as they are in PLAIN, and nothing else: the leaf has no levels, they are of its
 -- type and no BOOLEANs, and their style writes them in PLAIN without a dictionary.
@@ -15,4 +15,4 @@ pub record IsCopied (leaf : Leaf) (style : Style) (kind : Kind) : Type 0 where
   pub same_kind : kind ≡ leaf.leaf_type.kind
   pub whole_bytes : kind ≢ Boolean
   pub encoding : encoding_of style leaf.leaf_type.kind ≡ Plain
-  pub no_dictionary : (es : List Entry) → HasDictionary style leaf.leaf_type.kind es → ⊥
+  pub no_dictionary : (es : List Entry) → SuitsDictionary style leaf.leaf_type.kind es → ⊥

@@ -1,52 +1,10 @@
-use Rattle.std.proofs.Common.{◌≡◌, ◌+◌, ◌-◌, ◌*◌, ◌∙◌, [], length, map, arith, sym}
-use Rattle.std.proofs.lemmas.List.{length-map}
+use Rattle.std.proofs.Common.{map}
 use Rattle.std.proofs.lemmas.Result.{on_ok_weaker}
 use Rattle.schema.specs.Borrowed.{entry_ref_view}
 use Rattle.schema.specs.Views.{leaf_view}
-use Rattle.dictionary.specs.IndexPages.{IsWrittenIndexPage}
-use Rattle.pages.specs.declared.encoding.Encoding.TheVariants.{RleDictionary}
-use Rattle.pages.specs.declared.header_writing.DataPageHead.{DataPageHead}
-use Rattle.pages.specs.Page.{values}
-use Rattle.pages.specs.Writing.{index_weight}
-use Rattle.pages.specs.WrittenValues.{AreIndexesIn}
-use Rattle.pages.proofs.WrittenParts.{page_size}
-use Rattle.pages.proofs.WrittenPages.{entries_written, parts_are, fills, nulls_and_values, page_stands_by_indexes}
+use Rattle.pages.proofs.WrittenPages.{page_stands_by_indexes}
 use Rattle.pages.proofs.index_page_writing.write_index_page.Goals as goal
-
-pub returns-clause-written : goal.returns-clause-written
-returns-clause-written c =
-    let leaf = leaf_view c.args.leaf.now in
-    let es = map entry_ref_view c.args.entries.now in
-    let is = c.args.indexes.now in
-    let size = c.args.size in
-    let mid = c.put_sections.new.scratch.items in
-    let sections = c.in_ok-sections.ensures.stands in
-    let p = c.in_ok-encode_indexes.ensures.written in
-    let entries : length c.args.entries.now ≡ length es = sym (length-map c.args.entries.now entry_ref_view) in
-    let count : length is ≡ length (values es) = omega (arith, c.count_values.ensures.count, c.if-count_values-indexes.false) in
-    let parts = parts_are leaf es mid c.as_slice.result.now p.text c.in_ok-sections.sections sections (c.as_slice.ensures.value ∙ p.joined) in
-    on_ok_weaker c.put_data_page.result
-    (entries_written leaf (record { version = c.args.version; encoding = RleDictionary; entries = length c.args.entries.now; nulls = length c.args.entries.now - length is; rows = c.count_rows.result }) es (AreIndexesIn size is) (index_weight (length es)) sections.repetition_bytes sections.definition_bytes p.text c.args.out.now.items c.put_data_page.new.out.items
-    entries (omega (arith, entries, count, nulls_and_values es)) c.count_rows.ensures.rows sections.first sections.second (fills (λ bytes. IsWrittenIndexPage size bytes (length is) is) (81 + 9 * length is) mid c.encode_indexes.new.out.items p) (omega (arith, sections.first_short, sections.second_short, p.short, count, entries, c.count_values.ensures.count, c.count_values.ensures.few)))
-    (c.put_data_page.ensures.stands sections.repetition_bytes sections.definition_bytes p.text parts)
 
 pub returns-clause-stands : goal.returns-clause-stands
 returns-clause-stands c =
-    on_ok_weaker c.put_data_page.result (page_stands_by_indexes (leaf_view c.args.leaf.now) c.args.version c.args.size c.args.indexes.now (map entry_ref_view c.args.entries.now) c.args.out.now.items c.put_data_page.new.out.items c.in_ok-check_entries.ensures.are) (returns-clause-written c)
-
-pub returns-clause-indexes : goal.returns-clause-indexes
-returns-clause-indexes c =
-    let es = map entry_ref_view c.args.entries.now in
-    let count : length c.args.indexes.now ≡ length (values es) = omega (arith, c.count_values.ensures.count, c.if-count_values-indexes.false) in
-    on_ok_weaker c.put_data_page.result (λ p. (count, (c.in_ok-encode_indexes.ensures.stands.stands []).within)) (returns-clause-written c)
-
-pub returns-clause-size : goal.returns-clause-size
-returns-clause-size c =
-    let leaf = leaf_view c.args.leaf.now in
-    let es = map entry_ref_view c.args.entries.now in
-    let sections = c.in_ok-sections.ensures.stands in
-    let p = c.in_ok-encode_indexes.ensures.written in
-    let parts = parts_are leaf es c.put_sections.new.scratch.items c.as_slice.result.now p.text c.in_ok-sections.sections sections (c.as_slice.ensures.value ∙ p.joined) in
-    let head : DataPageHead = record { version = c.args.version; encoding = RleDictionary; entries = length c.args.entries.now; nulls = length c.args.entries.now - length c.args.indexes.now; rows = c.count_rows.result } in
-    on_ok_weaker c.put_data_page.result (page_size leaf head sections.repetition_bytes sections.definition_bytes p.text c.args.out.now.items c.put_data_page.new.out.items)
-    (c.put_data_page.ensures.stands sections.repetition_bytes sections.definition_bytes p.text parts)
+    on_ok_weaker c.put_entries-done.result (page_stands_by_indexes (leaf_view c.args.leaf.now) c.args.version c.args.size c.args.indexes.now (map entry_ref_view c.args.entries.now) c.args.out.now.items c.put_entries-done.new.out.items c.in_ok-check_entries.ensures.are) c.put_entries-done.ensures.written

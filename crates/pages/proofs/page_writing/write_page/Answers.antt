@@ -10,19 +10,19 @@ use Rattle.pages.specs.Page.{values}
 use Rattle.pages.proofs.WrittenPages.{kinds_in, all_short, page_stands}
 use Rattle.pages.proofs.page_writing.write_page.Goals as goal
 
-pub put_entries-requires-clause-of_kind : goal.put_entries-requires-clause-of_kind
-put_entries-requires-clause-of_kind c =
+pub put_entries-done-requires-clause-of_kind : goal.put_entries-done-requires-clause-of_kind
+put_entries-done-requires-clause-of_kind c =
     let leaf = leaf_view c.args.leaf.now in
     let es = map entry_ref_view c.args.entries.now in
     subst (All (IsOfKind leaf.leaf_type.kind)) (sym (ap (map value_ref_view) c.as_slice.ensures.value ∙ c.in_ok-values.ensures.are)) (kinds_in leaf es c.what_is_of_a_kind_fits_it.ensures c.in_ok-check_entries.ensures.are)
 
 pub returns-clause-stands : goal.returns-clause-stands
 returns-clause-stands c =
-    on_ok_weaker c.put_entries.result (page_stands (leaf_view c.args.leaf.now) c.args.version c.args.encoding (map entry_ref_view c.args.entries.now) c.args.out.now.items c.put_entries.new.out.items c.in_ok-check_entries.ensures.are) c.put_entries.ensures.written
+    on_ok_weaker c.put_entries-done.result (page_stands (leaf_view c.args.leaf.now) c.args.version c.args.encoding (map entry_ref_view c.args.entries.now) c.args.out.now.items c.put_entries-done.new.out.items c.in_ok-check_entries.ensures.are) c.put_entries-done.ensures.written
 
 pub returns-clause-within_limits : goal.returns-clause-within_limits
 returns-clause-within_limits c =
-    on_ok_weaker c.put_entries.result (λ p. all_short (values (map entry_ref_view c.args.entries.now)) (subst (λ (t : List ValueTree). Any IsTooLong t → ⊥) (ap (map value_ref_view) c.as_slice.ensures.value ∙ c.in_ok-values.ensures.are) p)) c.put_entries.ensures.within_limits
+    on_ok_weaker c.put_entries-done.result (λ p. all_short (values (map entry_ref_view c.args.entries.now)) (subst (λ (t : List ValueTree). Any IsTooLong t → ⊥) (ap (map value_ref_view) c.as_slice.ensures.value ∙ c.in_ok-values.ensures.are) p)) c.put_entries-done.ensures.within_limits
 
 pub put_full_entries-requires-clause-of_kind : goal.put_full_entries-requires-clause-of_kind
 put_full_entries-requires-clause-of_kind c = kinds_in (leaf_view c.args.leaf.now) (map entry_ref_view c.args.entries.now) c.what_is_of_a_kind_fits_it.ensures c.in_ok-check_entries.ensures.are

@@ -30,5 +30,5 @@ returns-clause-stands c = λ all.
     let a = c.in_ok-put_plain_pages.ensures.stands all in
     let start : to_z w64 c.len-start.result ≡ pos (length old) = to_z_pos w64 c.len-start.result (omega (arith, c.len-start.ensures, c.args.out.now.ok.0, c.args.out.now.small)) ∙ ap pos (omega (arith, c.len-start.ensures, c.args.out.now.ok.0)) in
     value_pages leaf o es _ old c.put_plain_pages.new.out.items a.parts (IsPart leaf o.page_version (Encoded Plain))
-    (λ t part u p. subst (λ (e : Encoding). IsValuePage leaf o.page_version e t part u) (sym copied.encoding) p.written) (λ t part u p. p.read) (copied.no_dictionary es) c.in_ok-put_plain_pages.ensures.within_limits a.paged a.written
+    (λ t part u p. subst (λ (e : Encoding). IsValuePage leaf o.page_version e t part u) (sym copied.encoding) p.written) (λ t part u p. p.read) (λ has. copied.no_dictionary es has.suits) c.in_ok-put_plain_pages.ensures.within_limits a.paged a.written
     (c.in_ok-encodings.ensures.numbers ∙ ap numbers_with_levels (sym copied.encoding)) refl start

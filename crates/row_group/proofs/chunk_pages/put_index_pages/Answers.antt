@@ -31,7 +31,7 @@ returns-in_err-write_dictionary_page-clause-only c =
 pub returns-in_err-write_dictionary_page-clause-limit : goal.returns-in_err-write_dictionary_page-clause-limit
 returns-in_err-write_dictionary_page-clause-limit c = λ limit.
     let d = c.args.dictionary.now in
-    dictionary_much (leaf_view c.args.leaf.now) c.args.options (length c.args.out.now.items) (map entry_ref_view c.args.entries.now) (entries_of d) (indexes_of d) c.requires.rows c.requires.has c.requires.indexed
+    dictionary_much (leaf_view c.args.leaf.now) c.args.options (length c.args.out.now.items) (map entry_ref_view c.args.entries.now) (entries_of d) (indexes_of d) c.requires.rows c.requires.suits c.requires.indexed
     (c.in_err-write_dictionary_page.ensures.limit (passed c.from_residual-in_err-write_dictionary_page.result c.in_err-write_dictionary_page.field-0.0 _ c.from_residual-in_err-write_dictionary_page.ensures.1 limit))
 
 pub returns-in_err-put_pages-clause-limit : goal.returns-in_err-put_pages-clause-limit
@@ -40,7 +40,7 @@ returns-in_err-put_pages-clause-limit c = λ limit.
     let w = c.in_ok-write_dictionary_page.ensures.written in
     let old = c.args.out.now.items in
     let mid = c.write_dictionary_page.new.out.items in
-    indexes_much (leaf_view c.args.leaf.now) c.args.options (Indexed c.args.dictionary) (length old) (length mid) (map entry_ref_view c.args.entries.now) (entries_of d) (indexes_of d) (λ parts. refl) c.requires.rows c.requires.has c.requires.indexed
+    indexes_much (leaf_view c.args.leaf.now) c.args.options (Indexed c.args.dictionary) (length old) (length mid) (map entry_ref_view c.args.entries.now) (entries_of d) (indexes_of d) (λ parts. refl) c.requires.rows c.requires.suits c.requires.indexed
     (omega (arith, ap length w.joined, length-append old w.text, w.short))
     (c.in_err-put_pages.ensures.limit (passed c.from_residual-in_err-put_pages.result c.in_err-put_pages.field-0.0 _ c.from_residual-in_err-put_pages.ensures.1 limit))
 
@@ -67,6 +67,6 @@ returns-clause-stands c =
     let behind : to_z w64 c.len-data.result ≡ pos (length mid.items) = to_z_pos w64 c.len-data.result (omega (arith, c.len-data.ensures, mid.ok.0, mid.small)) ∙ ap pos (omega (arith, c.len-data.ensures, mid.ok.0)) in
     let numbers : c.in_ok-encodings.encodings.items ≡ pos 0 ∷ pos 3 ∷ pos 8 ∷ [] = c.in_ok-encodings.ensures.numbers in
     index_pages leaf o (map entry_ref_view c.args.entries.now) (entries_of d) (indexes_of d) _ old mid.items c.put_pages.new.out.items a.parts (IsPart leaf o.page_version (Indexed c.args.dictionary))
-    (λ t part u p. p.written) (λ t part u p. p.read) c.requires.begun c.requires.has c.requires.indexed short
+    (λ t part u p. p.written) (λ t part u p. p.read) c.requires.begun c.requires.suits c.requires.indexed short
     (entries_short (map entry_ref_view c.args.entries.now) (entries_of d) (indexes_of d) c.requires.indexed short) a.paged
     c.in_ok-write_dictionary_page.ensures.written c.in_ok-write_dictionary_page.ensures.stands a.written numbers (ap (λ (z : ℤ). Some z) start) behind

@@ -30,5 +30,5 @@ returns-clause-stands c =
     let a = c.in_ok-put_pages.ensures.stands in
     let start : to_z w64 c.len-start.result ≡ pos (length old) = to_z_pos w64 c.len-start.result (omega (arith, c.len-start.ensures, c.args.out.now.ok.0, c.args.out.now.small)) ∙ ap pos (omega (arith, c.len-start.ensures, c.args.out.now.ok.0)) in
     value_pages leaf o (map entry_ref_view c.args.entries.now) _ old c.put_pages.new.out.items a.parts (IsPart leaf o.page_version (Encoded c.encoding_of-encoding.result))
-    (λ t part u p. subst (λ (e : Encoding). IsValuePage leaf o.page_version e t part u) c.encoding_of-encoding.ensures p.written) (λ t part u p. p.read) c.requires.none c.in_ok-put_pages.ensures.within_limits a.paged a.written
+    (λ t part u p. subst (λ (e : Encoding). IsValuePage leaf o.page_version e t part u) c.encoding_of-encoding.ensures p.written) (λ t part u p. p.read) (λ has. c.requires.none has.begun has.suits) c.in_ok-put_pages.ensures.within_limits a.paged a.written
     (c.in_ok-encodings.ensures.numbers ∙ ap numbers_with_levels c.encoding_of-encoding.ensures) refl start

@@ -5,6 +5,7 @@ use Rattle.schema.specs.Values.{integer}
 use Rattle.assemble.specs.Sinks.{Adds, single}
 use Rattle.shred.specs.Buffer.{buffer_shows}
 use Rattle.footer.proofs.ShownWriter.{shown_more}
+use Rattle.footer.proofs.DroppedRow.{same_base}
 use Rattle.footer.proofs.file_writer.FileWriterRowSink.int.Goals as goal
 
 pub returns : goal.returns
@@ -13,4 +14,5 @@ returns c =
     record {
       shown = on_ok_weaker c.int.result (λ adds. shown_more c.args.self.now _ (single (integer c.args.number)) refl refl refl refl
           (subst (λ (z : ℤ). Adds (buffer_shows c.args.self.now.waiting) (buffer_shows c.int.new.self) (single (integer z) ∷ [])) number adds)) c.int.ensures.shown;
+      base_stays = same_base c.args.self.now _ _ c.int.ensures.base_stays;
     }

@@ -20,3 +20,6 @@ returns-clause-takes g c =
     let others : (rows : List ValueTrees) → S rows → R rows = rw c.if-branch.false at c.in_ok-next_of_group.ensures.takes in
     let same : c.next_of_group.new.sink ≡ c.args.sink.now = c.in_ok-next_of_group.ensures.unshown (ap Ok c.if-branch.false) in
     takes_later S R T (shows c.args.sink.now) to r others (subst (λ sink. TakesRowTo R T (shows sink) to r) same c.show_of_others.ensures.takes)
+
+pub returns-clause-base_stays : goal.returns-clause-base_stays
+returns-clause-base_stays g c = c.show_of_others.ensures.base_stays ∙ c.next_of_group.ensures.base_stays

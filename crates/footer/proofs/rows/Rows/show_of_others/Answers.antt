@@ -1,4 +1,4 @@
-use Rattle.std.proofs.Common.{List}
+use Rattle.std.proofs.Common.{List, ap, ◌∙◌}
 use Rattle.std.specs.Prelude.{false, Ok}
 use Rattle.schema.specs.Values.{ValueTrees}
 use Rattle.footer.specs.Left.{rows_stand, others_hold, BeginsGroup}
@@ -20,3 +20,12 @@ pub returns-clause-takes : goal.returns-clause-takes
 returns-clause-takes g c =
     let begins : BeginsGroup c.loop-self.self c.begin_group.new.self (Ok false) = rw c.if-branch.false at c.in_ok-begin_group.ensures.begins in
     λ rows s. begins rows (c.loop-self.invariant.held rows s)
+
+pub returns-in_err-begin_group-clause-base_stays : goal.returns-in_err-begin_group-clause-base_stays
+returns-in_err-begin_group-clause-base_stays g c = ap g.K.RowSink.base c.loop-self.invariant.unshown
+
+pub returns-in_err-next_of_group-clause-base_stays : goal.returns-in_err-next_of_group-clause-base_stays
+returns-in_err-next_of_group-clause-base_stays g c = c.next_of_group.ensures.base_stays ∙ ap g.K.RowSink.base c.loop-self.invariant.unshown
+
+pub returns-clause-base_stays : goal.returns-clause-base_stays
+returns-clause-base_stays g c = ap g.K.RowSink.base c.loop-self.invariant.unshown

@@ -1,6 +1,0 @@
-use Rattle.std.proofs.Common.{arith}
-use Rattle.pages.proofs.AsciiLanes.{ascii_from_lanes}
-use Rattle.pages.proofs.ascii_text.are_16_ascii.Goals as goal
-
-pub returns : goal.returns
-returns c = ascii_from_lanes c.args.bytes.now c.args.at 16 c.requires (omega arith)

@@ -1,5 +1,0 @@
-use Rattle.pages.specs.inner.Ascii.{AreAsciiBetween}
-use Rattle.pages.proofs.ascii_text.are_few_ascii.Given as goal
-
-abbrev pub invariant-loop-byte : goal.invariant-loop-byte
-invariant-loop-byte l = AreAsciiBetween l.bytes 0 l.byte-index
