@@ -11,4 +11,6 @@ pub mod CutTests
 pub mod Made
 pub mod Places
 pub mod LeafValues
+pub mod Renewing
 pub mod Completing
+pub mod Texts

@@ -1,11 +1,13 @@
 -- The test of equality decides it.
-use Rattle.std.proofs.Common.{◌≡◌, Bool, true, false, IsTrue, refl, ap}
-use Rattle.std.specs.Prelude.{◌↔◌}
+use Rattle.std.proofs.Common.{◌≡◌, ◌<◌, ◌+◌, ℕ, suc, Bool, true, false, IsTrue, List, [], ◌∷◌, length, get_or, drop, refl, ap, sym, ◌∙◌}
+use Rattle.std.specs.Prelude.{◌↔◌, ◌&&◌}
 use Rattle.std.specs.Cmp.{signed_Decides}
 use Rattle.std.specs.Cmp.Lexicographic.{bytes_decides}
 use Rattle.std.proofs.lemmas.Bool.{false≢true, and_parts}
+use Rattle.std.proofs.lemmas.List.{drop_more}
 use mathlib.Core.Bool.{beq}
-use Rattle.schema.specs.Values.{ValueTree, null, boolean, integer, bytes, group, list, ValueTrees, no_values, value as item}
+use Rattle.schema.specs.declared.value.Value.{Value}
+use Rattle.schema.specs.Values.{ValueTree, null, boolean, integer, bytes, group, list, ValueTrees, no_values, value as item, view, views}
 use Rattle.filter.specs.Same.{same, same_each}
 use Rattle.filter.proofs.Tests.{not_true}
 
@@ -58,3 +60,24 @@ same_from v w e = rw (← e) (same_itself v)
 pub decides_same : (r : Bool) (v w : ValueTree) → (IsTrue r ↔ (v ≡ w)) → r ≡ same v w
 decides_same true v w h = rw (same_from v w (h.0 refl)) refl
 decides_same false v w h = rw (not_true (same v w) (λ s. false≢true (h.1 (same_is v w s)))) refl
+
+-- ---- one value after another
+
+pub each_differs : (vs ws : List Value) → (length vs ≡ length ws → ⊥) → same_each (views vs) (views ws) ≡ false
+each_differs [] [] ne = absurd (ne refl)
+each_differs [] (w ∷ ws) ne = refl
+each_differs (v ∷ vs) [] ne = refl
+each_differs (v ∷ vs) (w ∷ ws) ne = by (same (view v) (view w)) (each_differs vs ws (λ e. ne (ap suc e)))
+  where
+    by : (b : Bool) → same_each (views vs) (views ws) ≡ false → (b && same_each (views vs) (views ws)) ≡ false
+    by true h = h
+    by false h = refl
+
+pub each_here : (vs ws : List Value) (i : ℕ) (x y : Value) → i < length vs → i < length ws → x ≡ get_or vs i x → y ≡ get_or ws i y
+    → same_each (views (drop i vs)) (views (drop i ws)) ≡ (same (view x) (view y) && same_each (views (drop (i + 1) vs)) (views (drop (i + 1) ws)))
+each_here vs ws i x y few fewer left right =
+    let rest = same_each (views (drop (i + 1) vs)) (views (drop (i + 1) ws)) in
+    ap (λ (xs : List Value). same_each (views xs) (views (drop i ws))) (drop_more vs i x few)
+    ∙ ap (λ (ys : List Value). same_each (views (get_or vs i x ∷ drop (i + 1) vs)) (views ys)) (drop_more ws i y fewer)
+    ∙ ap (λ (v : Value). same (view v) (view (get_or ws i y)) && rest) (sym left)
+    ∙ ap (λ (w : Value). same (view x) (view w) && rest) (sym right)

@@ -3,6 +3,7 @@ pub mod Satisfies
 pub mod Same
 pub mod Deciding
 pub mod Terms
+pub mod Verdicts
 pub mod RuledOut
 pub mod Law
 pub mod inner

@@ -1,3 +1,4 @@
 -- Definitions for private functions only.
 pub mod Excluded
 pub mod Sets
+pub mod Judging

@@ -1,7 +1,8 @@
 //! Filters.
 
-ghost use Rattle.std.specs.Prelude.{◌≡◌, ◌↔◌, Ok, Err, IfOk, IsTrue};
-ghost use Rattle.bits.specs.Refusals.{RefusedOnly};
+ghost use Rattle.std.specs.Prelude.{◌≡◌, ◌↔◌, [], Ok, Err, IfOk, IsTrue};
+ghost use Rattle.bits.specs.Refusals.{RefusedOnly, RefusedMemoryOnly};
+ghost use Rattle.schema.specs.Borrowed.{value_ref_view};
 ghost use Rattle.schema.specs.Keys.{places_of, key_columns_view};
 ghost use Rattle.schema.specs.Stripe.{leaves_of};
 ghost use Rattle.schema.specs.Values.{ValueTrees, views};
@@ -11,15 +12,17 @@ ghost use Rattle.filter.specs.RuledOut.{RuledOut};
 ghost use Rattle.filter.specs.Satisfies.{Satisfies};
 ghost use Rattle.filter.specs.Terms.{terms_view, tests_of};
 ghost use Rattle.filter.specs.Test.{tests_in, looks_at, AreLeafValues};
+ghost use Rattle.filter.specs.Verdicts.{verdicts_in, verdicts_of, IsPutAt};
 
 use crate::holding::{some_holds, some_holds_at};
+use crate::judging::{Verdicts, look_in_all, some_are_true, verdicts_at};
 use crate::looking::some_looks_at;
 use crate::making::all_ands;
 use crate::pruning::all_out;
 use crate::term::Term;
 use crate::test::Test;
 use bits::R;
-use schema::{Key, KeyColumn, Row, Schema, Value};
+use schema::{Key, KeyColumn, Row, Schema, Value, ValueRef};
 use statistics::GroupStats;
 use std::alloc::Global;
 
@@ -67,6 +70,51 @@ impl Filter {
         ensures { (row : ValueTrees) → AreLeafValues (tests_in self.now) (views leaves.now) row → IsTrue result ↔ Satisfies (tests_in self.now) row }
     {
         self.ands.is_empty() || some_holds_at(self.ands.as_slice(), leaves)
+    }
+
+    /// Whether the filter is empty: then every row satisfies it.
+    pub fn is_empty(&self) -> bool
+        ensures { IsTrue result ↔ (tests_in self.now ≡ []) }
+    {
+        self.ands.is_empty()
+    }
+
+    /// Whether each term is true of these values of a row's leaves, as [`satisfied_by`](Filter::satisfied_by) takes
+    /// them. From then on [`look`](Filter::look) takes the value of one leaf at a time.
+    ///
+    /// It fails only when out of memory. Time and room are linear in the terms.
+    pub fn verdicts(&self, alloc: Global, leaves: &[Value]) -> R<Verdicts>
+        ensures stands { IfOk result (λ v. verdicts_in v ≡ verdicts_of (tests_in self.now) (views leaves.now)) }
+        ensures which { RefusedMemoryOnly result }
+    {
+        let mut ands = Vec::with_capacity(alloc, self.ands.len())?;
+        for terms in &self.ands {
+            ands.push(verdicts_at(alloc, terms.as_slice(), leaves)?)?;
+        }
+        Ok(Verdicts { ands })
+    }
+
+    /// Takes the value of one more leaf, the one with this index: the verdicts of the terms at it are made anew, and
+    /// the others stay. The value is borrowed, and nothing is copied.
+    pub fn look(&self, leaf: usize, value: ValueRef<'_>, verdicts: &mut Verdicts)
+        ensures { (before after : ValueTrees) → verdicts_in verdicts.old ≡ verdicts_of (tests_in self.now) before
+            → IsPutAt leaf (value_ref_view value.entry) before after → verdicts_in verdicts.new ≡ verdicts_of (tests_in self.now) after }
+    {
+        look_in_all(
+            self.ands.as_slice(),
+            leaf,
+            value,
+            verdicts.ands.as_mut_slice(),
+        );
+    }
+
+    /// Whether a row satisfies the filter, by the verdicts of the values of its leaves: as
+    /// [`satisfied_by`](Filter::satisfied_by) of these values.
+    pub fn satisfied_in(&self, verdicts: &Verdicts) -> bool
+        ensures { (leaves row : ValueTrees) → verdicts_in verdicts.now ≡ verdicts_of (tests_in self.now) leaves
+            → AreLeafValues (tests_in self.now) leaves row → IsTrue result ↔ Satisfies (tests_in self.now) row }
+    {
+        self.ands.is_empty() || some_are_true(verdicts.ands.as_slice())
     }
 
     /// Whether a term is at the leaf with this index. Takes no memory; the time is linear in the terms.

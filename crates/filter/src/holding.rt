@@ -2,14 +2,17 @@
 
 ghost use Rattle.std.specs.Prelude.{◌≡◌, map, MatchOption};
 ghost use Rattle.std.specs.List.{list_any, list_all};
+ghost use Rattle.schema.specs.Borrowed.{value_ref_view};
+ghost use Rattle.schema.specs.Orders.{compared};
 ghost use Rattle.schema.specs.Values.{null, view, views, member, member_at};
 ghost use Rattle.filter.specs.Test.{way_view, test_view, ands_view, value_at, value_of};
 ghost use Rattle.filter.specs.Deciding.{passes, holds};
 
-use crate::equality::same;
+use crate::equality::same_as;
 use crate::term::Op;
 use crate::test::Test;
-use schema::{Step, Value, compare_by};
+use schema::{Step, Value, ValueRef, compare_refs};
+use std::cmp::Ordering;
 
 /// Whether one of the ANDs has all its terms true.
 pub fn some_holds(ands: &[Vec<Test>], row: &[Value]) -> bool
@@ -61,11 +64,11 @@ fn all_hold_at(terms: &[Test], leaves: &[Value]) -> bool
 
 impl Test {
     /// Whether the term is true of the value of its leaf.
-    fn holds_at(&self, leaves: &[Value]) -> bool
+    pub fn holds_at(&self, leaves: &[Value]) -> bool
         ensures { result ≡ holds (test_view self.now) (member_at (test_view self.now).leaf (views leaves.now)) }
     {
         match member_at(leaves, self.leaf) {
-            Some(value) => self.holds(value),
+            Some(value) => self.holds(ValueRef::of(value)),
             None => false,
         }
     }
@@ -76,7 +79,7 @@ impl Test {
     {
         match member_at(row, self.first.place) {
             Some(value) => match value_at(self.rest.as_slice(), value) {
-                Some(value) => self.holds(value),
+                Some(value) => self.holds(ValueRef::of(value)),
                 None => false,
             },
             None => false,
@@ -84,27 +87,34 @@ impl Test {
     }
 
     /// Whether the term is true of a value.
-    pub fn holds(&self, value: &Value) -> bool
-        ensures { result ≡ holds (test_view self.now) (view value.now) }
+    pub fn holds(&self, value: ValueRef<'_>) -> bool
+        ensures { result ≡ holds (test_view self.now) (value_ref_view value.entry) }
     {
-        !matches!(value, Value::Null) && self.passes(value)
+        !matches!(value, ValueRef::Null) && self.passes(value)
     }
 
     /// Whether the operator is true of a value that is not null.
-    fn passes(&self, value: &Value) -> bool
-        ensures { result ≡ passes (test_view self.now).order (test_view self.now).op (view value.now) (test_view self.now).operand }
+    fn passes(&self, value: ValueRef<'_>) -> bool
+        ensures { result ≡ passes (test_view self.now).order (test_view self.now).op (value_ref_view value.entry) (test_view self.now).operand }
     {
         let operand = &self.operand.value;
         match self.op {
-            Op::Equal => same(value, operand),
-            Op::NotEqual => !same(value, operand),
-            Op::Less => compare_by(self.order, value, operand).is_some_and(|o| o.is_lt()),
-            Op::LessOrEqual => compare_by(self.order, value, operand).is_some_and(|o| o.is_le()),
-            Op::Greater => compare_by(self.order, value, operand).is_some_and(|o| o.is_gt()),
-            Op::GreaterOrEqual => compare_by(self.order, value, operand).is_some_and(|o| o.is_ge()),
+            Op::Equal => same_as(value, operand),
+            Op::NotEqual => !same_as(value, operand),
+            Op::Less => self.compared(value).is_some_and(|o| o.is_lt()),
+            Op::LessOrEqual => self.compared(value).is_some_and(|o| o.is_le()),
+            Op::Greater => self.compared(value).is_some_and(|o| o.is_gt()),
+            Op::GreaterOrEqual => self.compared(value).is_some_and(|o| o.is_ge()),
             Op::In => self.operand.lists(value),
             Op::NotIn => !self.operand.lists(value),
         }
+    }
+
+    /// How a value compares with the operand, in the leaf's order.
+    fn compared(&self, value: ValueRef<'_>) -> Option<Ordering>
+        ensures { result ≡ compared (test_view self.now).order (value_ref_view value.entry) (test_view self.now).operand }
+    {
+        compare_refs(self.order, value, ValueRef::of(&self.operand.value))
     }
 }
 

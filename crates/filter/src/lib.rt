@@ -8,6 +8,7 @@
 mod equality;
 mod filter;
 mod holding;
+mod judging;
 mod laws;
 mod listed;
 mod looking;
@@ -18,5 +19,8 @@ mod term;
 mod test;
 
 pub use filter::Filter;
+pub use judging::Verdicts;
 pub use laws::{completed_is_the_same, cut_filters_agree, ruled_out_holds_no_row, tests_decide};
+pub use making::is_path;
+pub use pruning::key_at;
 pub use term::{Op, Term};

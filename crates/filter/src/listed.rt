@@ -1,13 +1,12 @@
 //! The numbers and the byte strings of lists.
 
-ghost use Rattle.std.specs.Prelude.{◌≡◌, ◌||◌, ℤ, ℕ, List, Vec, IfOk, OnOk, MatchOption, false};
-ghost use Rattle.std.specs.declared.alloc.Global.{Global as Alloc};
+ghost use Rattle.std.specs.Prelude.{◌≡◌, ◌||◌, ℤ, ℕ, List, IfOk, OnOk, MatchOption, false};
 ghost use Rattle.std.specs.List.{list_any};
 ghost use Rattle.std.specs.Str.{bytes_eq};
 ghost use Rattle.bits.specs.Refusals.{RefusedMemoryOnly};
 ghost use Rattle.schema.specs.Values.{view, integer, bytes};
 ghost use Rattle.filter.specs.Same.{same};
-ghost use Rattle.filter.specs.inner.Sets.{HasNumbers, HasTexts, same_text};
+ghost use Rattle.filter.specs.inner.Sets.{HasNumbers, HasTexts, is_text};
 
 use bits::R;
 use schema::Value;
@@ -66,8 +65,8 @@ fn text_of(value: &Value) -> Option<&[u8]>
 
 /// Inserts a copy of a byte string.
 fn insert_text(alloc: Global, texts: &mut HashSet<Vec<u8>>, text: &[u8]) -> R<()>
-    ensures inserted { OnOk result ((q : Vec ℕ Alloc)
-        → list_any (same_text q) texts.new.keys ≡ (bytes_eq q.items text.now || list_any (same_text q) texts.old.keys)) }
+    ensures inserted { OnOk result ((q : List ℕ)
+        → list_any (is_text q) texts.new.keys ≡ (bytes_eq q text.now || list_any (is_text q) texts.old.keys)) }
     ensures which { RefusedMemoryOnly result }
 {
     let copy = Vec::from_slice(alloc, text)?;

@@ -102,8 +102,8 @@ fn place_of(leaves: &[Leaf], names: &[String]) -> Option<usize>
     None
 }
 
-/// Whether a path has these names.
-fn is_path(path: &[RcStr], names: &[String]) -> bool
+/// Whether a path has these names, in order. Takes no memory; the time is linear in the names.
+pub fn is_path(path: &[RcStr], names: &[String]) -> bool
     ensures { IsTrue result ↔ (map rc_str_bytes path.now ≡ names_of names.now) }
 {
     if path.len() != names.len() {

@@ -3,6 +3,7 @@
 ghost use Rattle.std.specs.Prelude.{◌≡◌, Vec, IfOk};
 ghost use Rattle.std.specs.HashSet.{contains};
 ghost use Rattle.bits.specs.Refusals.{RefusedMemoryOnly};
+ghost use Rattle.schema.specs.Borrowed.{value_ref_view};
 ghost use Rattle.schema.specs.Values.{view};
 ghost use Rattle.filter.specs.Same.{is_listed};
 ghost use Rattle.filter.specs.inner.Sets.{HasNumbers, HasTexts};
@@ -10,7 +11,7 @@ ghost use Rattle.filter.specs.inner.Sets.{HasNumbers, HasTexts};
 use crate::equality::is_among;
 use crate::listed::{numbers_in, texts_in};
 use bits::R;
-use schema::Value;
+use schema::{Value, ValueRef};
 use std::alloc::Global;
 use std::collections::HashSet;
 
@@ -42,12 +43,12 @@ impl Operand {
     }
 
     /// Whether a value is in the list.
-    pub fn lists(&self, value: &Value) -> bool
-        ensures { result ≡ is_listed (view value.now) (view self.now.value) }
+    pub fn lists(&self, value: ValueRef<'_>) -> bool
+        ensures { result ≡ is_listed (value_ref_view value.entry) (view self.now.value) }
     {
         match value {
-            Value::Int(number) => self.numbers.contains(number),
-            Value::Bytes(text) => self.texts.contains(text),
+            ValueRef::Int(number) => self.numbers.contains(&number),
+            ValueRef::Bytes(text) => self.texts.contains(text),
             _ => is_among(value, &self.value),
         }
     }

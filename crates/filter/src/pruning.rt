@@ -13,7 +13,7 @@ ghost use Rattle.filter.specs.inner.Excluded.{is_outside, are_outside, excludes,
 use crate::equality::same;
 use crate::term::Op;
 use crate::test::Test;
-use schema::{KeyColumn, Order, Value, compare_by};
+use schema::{KeyColumn, Order, Value, ValueRef, compare_by};
 use statistics::{GroupStats, Stats};
 use std::cmp::Ordering;
 
@@ -49,7 +49,7 @@ impl Test {
         ensures { result ≡ is_out (places_of (key_columns_view keys.now)) (map view key.now) (known_of known.now) (test_view self.now) }
     {
         match key_at(keys, key, self.first.place) {
-            Some(value) => !self.holds(value),
+            Some(value) => !self.holds(ValueRef::of(value)),
             None => match statistics_at(keys, known, self) {
                 Some(stats) => self.is_out_by(stats, known.rows),
                 // Each row has a null there.
@@ -85,7 +85,7 @@ impl Test {
             ),
             Op::In => are_outside(order, stats, operand),
             Op::NotIn => match (&stats.min, &stats.max) {
-                (Some(min), Some(max)) => same(min, max) && self.operand.lists(min),
+                (Some(min), Some(max)) => same(min, max) && self.operand.lists(ValueRef::of(min)),
                 _ => false,
             },
         }
@@ -127,8 +127,9 @@ fn compare_bound(order: Option<Order>, bound: &Option<Value>, operand: &Value) -
     }
 }
 
-/// The value of the key column at a place, where there is one.
-fn key_at<'a>(keys: &[KeyColumn], key: &'a [Value], place: usize) -> Option<&'a Value>
+/// The value of the key column at a place of the table, if there is one. Takes no memory; the time is linear in
+/// the keys.
+pub fn key_at<'a>(keys: &[KeyColumn], key: &'a [Value], place: usize) -> Option<&'a Value>
     ensures { option_map (λ v. view v.now) result ≡ key_at (places_of (key_columns_view keys.now)) (map view key.now) place }
 {
     for (i, column) in keys.iter().enumerate() {

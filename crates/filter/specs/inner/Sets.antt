@@ -11,9 +11,10 @@ use Rattle.filter.specs.Same.{is_listed}
 abbrev pub HasNumbers : List ℤ → ValueTree → Type 0
 HasNumbers keys values = (z : ℤ) → list_any (int_eq z) keys ≡ is_listed (integer z) values
 
-abbrev pub same_text : Vec ℕ Global → Vec ℕ Global → Bool
-same_text a b = bytes_eq a.items b.items
+-- a key is this byte string
+abbrev pub is_text : List ℕ → Vec ℕ Global → Bool
+is_text text key = bytes_eq text key.items
 
 -- the keys of a set are the byte strings in a list
 abbrev pub HasTexts : List (Vec ℕ Global) → ValueTree → Type 0
-HasTexts keys values = (text : Vec ℕ Global) → list_any (same_text text) keys ≡ is_listed (bytes text.items) values
+HasTexts keys values = (text : List ℕ) → list_any (is_text text) keys ≡ is_listed (bytes text) values
