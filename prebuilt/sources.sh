@@ -1,4 +1,4 @@
-# For the launcher and bench/prebuilt.sh, which read this file; `top` is the top of the repository.
+# For the launcher and bench/tools/prebuilt.sh, which read this file; `top` is the top of the repository.
 
 # The crates that the program stands on, lowest first, and the program.
 crates_of_the_program() {
