@@ -1,0 +1,31 @@
+#!/bin/sh
+# Commands on a real folder that are killed, that meet errors, and whose power is cut: bench/faults/crash.sh [--syncs] [COMMAND]...
+#
+# Each command (of bench/faults/crash.py, or those named) is run under strace on a folder that is made anew for it:
+#   - killed at the Nth call of each system call, for each N until it ends by itself;
+#   - with EIO and with ENOSPC at the Nth call, once, and at all from there on, for each N, of each call that can fail so;
+#   - after each recorded call the folder is also made anew as a power failure may leave it: each name that its folder's sync
+#     has not made durable there or not, bytes that their file's sync has not made durable there, absent, cut, or zeros in part
+#     (all choices together, or where they are more than 256 all old, all new and each by itself). DIR itself is such a name.
+# Each folder is then opened by `query` and by `groups`. They must find the table before the command or the one after it (both
+# by hand in bench/faults/crash.py), and after status 0 the one after it alone; after `refused 25` and `refused 28` the one before it,
+# but where the line before says that all of it is made: then the one after it alone (of a script, whose answers are lost, any);
+# `refused 26` may come only when the next root was durable. No file may be left that the table does not name, and others stay.
+# Where the table is the one before it, the command is made once more, which must be done, also if the power is cut then.
+#
+# With --syncs each sync is left out of the record of a command, one at a time: which of them a power failure shows to be needed.
+#
+# Takes some minutes. It needs strace and python3, and runs the program of this tree (./pqds), or where PROGRAM is set that one
+# (words with spaces between them). Prints a line for each command, and one for each thing that may not be; the status is 1 then.
+top=$(CDPATH='' cd -- "$(dirname -- "$0")/../.." && pwd) || exit 1
+command -v strace >/dev/null || { echo 'crash.sh: strace is not on the path' >&2; exit 1; }
+mode=
+if [ "$1" = --syncs ]; then
+    mode=--syncs
+    shift
+fi
+if [ -z "$PROGRAM" ]; then
+    PROGRAM=$("$top/bench/tools/program.sh") || exit 1
+fi
+# shellcheck disable=SC2086
+exec python3 "$top/bench/faults/crash.py" --jobs "${JOBS:-2}" $mode $PROGRAM -- "$@"

@@ -1,0 +1,410 @@
+"""Side by side, for bench/peers/peers.py: the same work by pqds, DuckDB, pyarrow and fastparquet, each with one thread.
+
+Each time is the least of some runs in turn, of whose results the counts (or the bytes) are compared. pqds and DuckDB are
+programs, so the start of the process is in their times; pyarrow and fastparquet are measured within a process that has
+imported them. A cell has seconds and processor seconds, and in brackets what pqds takes in times of these. Of what writes a dataset, `synced` is
+the time of all files and folders written and synced: pqds never does it otherwise, the others leave it to the caller."""
+import glob, json, os, shutil, subprocess, time
+
+import pyarrow as pa
+import pyarrow.dataset as ds
+import pyarrow.json
+import pyarrow.parquet as pq
+
+import fast
+from outside import isolated
+
+TIMES = 5
+MILLION = 1_000_000
+WHO = ("pqds", "DuckDB", "pyarrow", "fastparquet")
+KEYED = pa.schema([pa.field("k", pa.string(), False), pa.field("n", pa.int64(), False), pa.field("t", pa.string(), False)])
+BARE = pa.schema(list(KEYED)[1:])
+HIVE = ds.partitioning(pa.schema([KEYED.field("k")]), flavor="hive")
+UNPACKED = "FORMAT parquet, COMPRESSION uncompressed"
+pd = fast.pd
+
+
+# ---- measuring ----
+
+class Side:
+    """The program, a folder to work in, and the function that tells of a difference."""
+
+    def __init__(self, path, room, tell):
+        self.path, self.room, self.tell = path, room, tell
+        os.makedirs(room)
+        pa.set_cpu_count(1)
+        pa.set_io_thread_count(1)
+
+    def file(self, name):
+        return f"{self.room}/{name}"
+
+    def pqds(self, *words, out=None):
+        """Runs the program as ./pqds does; seconds and processor seconds."""
+        tunables = {**os.environ, "GLIBC_TUNABLES": "glibc.malloc.hugetlb=1"}
+        return ran([self.path, *words], out, tunables)
+
+    def duckdb(self, text, out=None):
+        return ran(["duckdb", "-bail", "-csv", "-noheader", "-c", f"SET threads=1; {text}"], out, None)
+
+    def schema(self, name, schema):
+        """A schema as a file of JSON for pqds."""
+        kinds = {pa.int64(): {"type": "int64"}, pa.string(): {"type": "bytes", "note": "utf8"}}
+        json.dump([{"name": it.name, "rep": "required", **kinds[it.type]} for it in schema], open(self.file(name), "w"))
+        return self.file(name)
+
+
+def ran(words, out, environment):
+    """Seconds and processor seconds of a process."""
+    with open(out or os.devnull, "wb") as sink:
+        begun = time.perf_counter()
+        child = subprocess.Popen(words, stdout=sink, stderr=subprocess.PIPE, env=environment)
+        said = child.stderr.read().decode().strip()
+        _, status, used = os.wait4(child.pid, 0)
+        seconds = time.perf_counter() - begun
+    child.returncode = os.waitstatus_to_exitcode(status)
+    if status:
+        raise RuntimeError(f"{' '.join(words)[:200]}: {said}")
+    return seconds, used.ru_utime + used.ru_stime
+
+
+def within(work, *given):
+    """Seconds and processor seconds of a call, in a process of its own that has imported all."""
+    def measured():
+        begun, used = time.perf_counter(), time.process_time()
+        work(*given)
+        return time.perf_counter() - begun, time.process_time() - used
+    found, error = isolated(measured)
+    if error:
+        raise RuntimeError(error)
+    return tuple(found)
+
+
+def sync_new(folder, since):
+    """Syncs the files and folders in a folder, itself among them, that have changed since then; returns the seconds and the
+    processor seconds."""
+    names = [folder, *glob.glob(f"{folder}/**", recursive=True)]
+    changed = [name for name in names if os.stat(name).st_mtime_ns >= since]
+    begun, used = time.perf_counter(), time.process_time()
+    for name in changed:
+        it = os.open(name, os.O_RDONLY)
+        os.fsync(it)
+        os.close(it)
+    return time.perf_counter() - begun, time.process_time() - used
+
+
+def remove_all(files):
+    """Removes files; returns the seconds and the processor seconds."""
+    begun, used = time.perf_counter(), time.process_time()
+    for file in files:
+        os.remove(file)
+    return time.perf_counter() - begun, time.process_time() - used
+
+
+def summed(times, more):
+    return tuple(map(sum, zip(times, more)))
+
+
+def least(works, before=lambda who: None, after=lambda who: None):
+    """Runs each of the works in turn, some times; the least seconds and processor seconds of each."""
+    found = {}
+    for _ in range(TIMES):
+        for who, work in works.items():
+            before(who)
+            os.sync()
+            times = work()
+            after(who)
+            found[who] = [min(pair) for pair in zip(times, found.get(who, times))]
+    return found
+
+
+def row(what, found):
+    """Prints a line of a table: of each the seconds and the processor seconds, and pqds in times of them."""
+    cells = []
+    for who in WHO:
+        if who not in found:
+            cells.append("")
+            continue
+        ratio = "" if who == "pqds" else " (" + ", ".join(f"{ours / theirs:.2g}" for ours, theirs in zip(found["pqds"], found[who])) + ")"
+        cells.append(" / ".join(f"{it:.3g}" for it in found[who]) + ratio)
+    print(f"| {what} | " + " | ".join(cells) + " |", flush=True)
+
+
+def head(title):
+    print(f"\n| {title} | " + " | ".join(WHO) + " |\n|" + "---|" * (1 + len(WHO)))
+
+
+# ---- decode and encode ----
+
+def spread(i):
+    """Numbers spread over all of 64 bits."""
+    return (i * 0x9E3779B97F4A7C15) % 2**64 - 2**63
+
+
+def text_of(i):
+    return f"row {i:08}" + "x" * (i % 8)
+
+
+FLAT = {
+    "two numbers": {"a": lambda i: spread(i), "n": lambda i: i},
+    "two texts": {"s": lambda i: f"text {i % 1000}", "t": text_of},
+    "a number and a text": {"n": lambda i: spread(i), "t": text_of},
+    "20 numbers": {f"c{at:02}": lambda i, at=at: i * 7 + at for at in range(20)},
+}
+
+
+def write_lines(path, columns, places):
+    with open(path, "w") as it:
+        for i in places:
+            it.write(json.dumps({name: make(i) for name, make in columns.items()}, separators=(",", ":")) + "\n")
+    return path
+
+
+def same_bytes(it, what, files):
+    if subprocess.run(["cmp", *files]).returncode:
+        it.tell(f"side, {what}: the lines differ")
+
+
+def is_removed(file):
+    if os.path.exists(file):
+        os.remove(file)
+
+
+def both_ways(it):
+    """Files of a million rows to lines of JSON, and lines of JSON to files."""
+    head(f"{MILLION:,} rows")
+    for what, columns in FLAT.items():
+        lines, file, other = write_lines(it.file("rows.jsonl"), columns, range(MILLION)), it.file("ours.parquet"), it.file("theirs.parquet")
+        sample = {name: make(0) for name, make in columns.items()}
+        names = {name: "BIGINT" if isinstance(value, int) else "VARCHAR" for name, value in sample.items()}
+        schema = it.schema("schema.json", pa.schema([pa.field(name, pa.int64() if kind == "BIGINT" else pa.string()) for name, kind in names.items()]))
+        typed = "{" + ", ".join(f"'{name}': '{kind}'" for name, kind in names.items()) + "}"
+        made = {"pqds": lambda: it.pqds("encode", schema, lines, file),
+                "DuckDB": lambda: it.duckdb(f"COPY (FROM read_json('{lines}', format='newline_delimited', columns={typed})) TO '{other}' ({UNPACKED})")}
+        row(f"encode {what}", least(made, lambda who: is_removed(file if who == "pqds" else other)))
+        ours, theirs = it.file("ours.jsonl"), it.file("theirs.jsonl")
+        read = {"pqds": lambda: it.pqds("decode", file, out=ours), "DuckDB": lambda: it.duckdb(f"COPY (FROM read_parquet('{file}')) TO '{theirs}' (FORMAT json)")}
+        row(f"decode {what}", least(read))
+        same_bytes(it, what, [lines, ours])
+        same_bytes(it, what, [lines, theirs])
+
+
+# ---- datasets of each ----
+
+def key_of(i):
+    return f"key {i % 100:02}"
+
+
+COLUMNS = {"k": key_of, "n": lambda i: i, "t": text_of}
+
+
+class Tables:
+    """A dataset of each of the four, with a key or without one."""
+
+    def __init__(self, it, keyed):
+        self.it, self.keyed, self.made = it, keyed, 0
+        self.columns = COLUMNS if keyed else {name: make for name, make in COLUMNS.items() if name != "k"}
+        self.schema = KEYED if keyed else BARE
+        self.json = it.schema("table.json", self.schema)
+        self.typed = "{" + ", ".join(f"'{one.name}': '{'BIGINT' if one.type == pa.int64() else 'VARCHAR'}'" for one in self.schema) + "}"
+
+    def folder(self, who):
+        return self.it.file(f"table_of_{who}")
+
+    def clear(self, who):
+        """An empty dataset; only pqds must make it first."""
+        shutil.rmtree(self.folder(who), ignore_errors=True)
+        if who == "pqds":
+            self.it.pqds("create", self.folder(who), self.json, *(["k"] if self.keyed else []))
+
+    def works(self, lines):
+        return {"pqds": lambda: self.it.pqds("append", self.folder("pqds"), lines), "DuckDB": lambda: self.by_duckdb(lines),
+                "pyarrow": lambda: within(self.by_pyarrow, lines), "fastparquet": lambda: within(self.by_fastparquet, lines)}
+
+    def by_duckdb(self, lines):
+        folder, self.made = self.folder("DuckDB"), self.made + 1
+        os.makedirs(folder, exist_ok=True)
+        target, parts = (folder, ", PARTITION_BY (k), APPEND") if self.keyed else (f"{folder}/part.{self.made}.parquet", "")
+        return self.it.duckdb(f"COPY (FROM read_json('{lines}', format='newline_delimited', columns={self.typed})) TO '{target}' ({UNPACKED}{parts})")
+
+    def by_pyarrow(self, lines):
+        table = pyarrow.json.read_json(lines, pyarrow.json.ReadOptions(use_threads=False), pyarrow.json.ParseOptions(explicit_schema=self.schema))
+        options = ds.ParquetFileFormat().make_write_options(compression="NONE")
+        ds.write_dataset(table, self.folder("pyarrow"), format="parquet", partitioning=HIVE if self.keyed else None, file_options=options, use_threads=False,
+                         basename_template=f"part-{time.time_ns()}-{{i}}.parquet", existing_data_behavior="overwrite_or_ignore")
+
+    def by_fastparquet(self, lines):
+        frame, folder = pd.read_json(lines, lines=True), self.folder("fastparquet")
+        fast.fastparquet.write(folder, frame, compression=None, file_scheme="hive", partition_on=["k"] if self.keyed else [], write_index=False,
+                               append=os.path.exists(folder), has_nulls=False, object_encoding="utf8")
+
+    def rows(self, who):
+        found = glob.glob(f"{self.folder(who)}/**/*.parquet", recursive=True)
+        return sum(pq.read_metadata(file).num_rows for file in found), len(found)
+
+
+def appended(it, tables, rows, onto):
+    """Appends rows to datasets with so many rows; prints what it took, and what it took with all files synced."""
+    lines = write_lines(it.file("more.jsonl"), tables.columns, range(onto, onto + rows))
+    base = write_lines(it.file("base.jsonl"), tables.columns, range(onto)) if onto else None
+    works, synced, parts = tables.works(lines), {}, {}
+
+    def before(who):
+        tables.clear(who)
+        if base:
+            tables.works(base)[who]()
+
+    def timed(who):
+        def work():
+            begun = time.time_ns() - 10**7      # the clock of files has steps of some milliseconds
+            times = works[who]()
+            whole = times if who == "pqds" else summed(times, sync_new(tables.folder(who), begun))
+            synced[who] = [min(pair) for pair in zip(whole, synced.get(who, whole))]
+            return times
+        return work
+
+    def after(who):
+        found, parts[who] = tables.rows(who)
+        if found != onto + rows:
+            it.tell(f"side, append of {rows} by {who}: {found} rows")
+
+    what = f"{rows:,} rows, {'100 keys' if tables.keyed else 'no key'}, onto {onto:,}"
+    row(what, least({who: timed(who) for who in works}, before, after))
+    row(f"{what}, synced", synced)
+    print("| files then | " + " | ".join(str(parts[who]) for who in WHO) + " |")
+
+
+def appends(it):
+    head("append of lines of JSON")
+    for keyed in (False, True):
+        tables = Tables(it, keyed)
+        appended(it, tables, 1000, 100_000)
+        appended(it, tables, MILLION, 0)
+    return tables
+
+
+# ---- questions ----
+
+def queried(it, tables, what, wanted, key):
+    """Rows of the dataset of a million rows that pqds made, all or those of one key of a hundred: as lines of JSON by the two
+    programs, as a table in memory by the other two."""
+    folder, ours, theirs = tables.folder("pqds"), it.file("ours.jsonl"), it.file("theirs.jsonl")
+    asked = ["--filter", json.dumps([["k", "==", key]])] if key else []
+    where = f"WHERE k = '{key}'" if key else ""
+    named = f"read_parquet('{folder}/**/*.parquet', hive_partitioning=true, hive_types={{'k': 'VARCHAR'}})"
+
+    def by_pyarrow():
+        found = ds.parquet_dataset(f"{folder}/_metadata", partitioning=HIVE).to_table(filter=ds.field("k") == key if key else None, use_threads=False)
+        assert found.num_rows == wanted
+
+    def by_fastparquet():
+        filters = [("k", "==", key.replace(" ", "%20"))] if key else []
+        assert len(fast.fastparquet.ParquetFile(folder).to_pandas(filters=filters)) == wanted
+
+    works = {"pqds": lambda: it.pqds("query", folder, *asked, out=ours),
+             "DuckDB": lambda: it.duckdb(f"COPY (SELECT k, n, t FROM {named} {where}) TO '{theirs}' (FORMAT json)"),
+             "pyarrow": lambda: within(by_pyarrow), "fastparquet": lambda: within(by_fastparquet)}
+    row(what, least(works))
+    same_bytes(it, what, [ours, theirs])
+
+
+def pruned(it):
+    """Counts by a filter that all groups but one are ruled out by, of ten million rows without a key."""
+    folder, file = it.file("ten_million"), it.file("part.parquet")
+    it.pqds("create", folder, it.schema("table.json", BARE))
+    for part in range(10):
+        places = range(part * MILLION, (part + 1) * MILLION)
+        pq.write_table(pa.table([list(places), [text_of(i) for i in places]], schema=BARE), file, compression="NONE")
+        it.pqds("import", folder, file)
+    low, high, out = 5_000_000, 5_001_000, it.file("count")
+
+    def by_pyarrow():
+        asked = (ds.field("n") >= low) & (ds.field("n") < high)
+        assert ds.parquet_dataset(f"{folder}/_metadata").count_rows(filter=asked, use_threads=False) == high - low
+
+    def by_fastparquet():
+        found = fast.fastparquet.ParquetFile(folder).to_pandas(columns=["n"], filters=[[("n", ">=", low), ("n", "<", high)]], row_filter=True)
+        assert len(found) == high - low
+
+    works = {"pqds": lambda: it.pqds("count", folder, "--filter", f'[["n",">=",{low}],["n","<",{high}]]', out=out),
+             "DuckDB": lambda: it.duckdb(f"SELECT count(*) FROM read_parquet('{folder}/*.parquet') WHERE n >= {low} AND n < {high}", out=out),
+             "pyarrow": lambda: within(by_pyarrow), "fastparquet": lambda: within(by_fastparquet)}
+
+    def after(who):
+        if who in ("pqds", "DuckDB") and int(open(out).read()) != high - low:
+            it.tell(f"side, count by {who}: {open(out).read()}")
+    row(f"count of {high - low:,} of 10,000,000 rows in {len(glob.glob(f'{folder}/*.parquet'))} groups", least(works, after=after))
+    shutil.rmtree(folder)
+
+
+def large_root(it):
+    """A count of all rows of a table of 1,000 groups of 20 columns, by those who read `_metadata`."""
+    folder, columns = it.file("large_root"), FLAT["20 numbers"]
+    it.pqds("create", folder, it.schema("table.json", pa.schema([pa.field(name, pa.int64(), False) for name in columns])))
+    it.pqds("append", folder, write_lines(it.file("rows.jsonl"), columns, range(1000)), "--group-rows", "1")
+
+    def by_pyarrow():
+        assert ds.parquet_dataset(f"{folder}/_metadata").count_rows(use_threads=False) == 1000
+
+    def by_fastparquet():
+        assert fast.fastparquet.ParquetFile(folder).count() == 1000
+
+    row("count of 1,000 groups of 20 columns", least({"pqds": lambda: it.pqds("count", folder), "pyarrow": lambda: within(by_pyarrow), "fastparquet": lambda: within(by_fastparquet)}))
+    shutil.rmtree(folder)
+
+
+# ---- rewriting ----
+
+def rewritten(it):
+    """500 files of 200 rows into one: by pqds in one commit, by the others read and written, and the old files removed."""
+    first, lines = it.file("small"), write_lines(it.file("rows.jsonl"), {"n": COLUMNS["n"], "t": text_of}, range(100_000))
+    it.pqds("create", first, it.schema("table.json", BARE))
+    it.pqds("append", first, lines, "--group-rows", "200")
+    folder, after = it.file("again"), it.file("again/all.parquet")
+
+    def before(who):
+        shutil.rmtree(folder, ignore_errors=True)
+        shutil.copytree(first, folder)
+
+    def without_old(write):
+        old = glob.glob(f"{folder}/part.*.parquet")
+        write()
+        remove_all(old)
+
+    def by_pyarrow():
+        pq.write_table(ds.dataset(glob.glob(f"{folder}/part.*.parquet"), format="parquet").to_table(use_threads=False), after, compression="NONE")
+
+    def by_fastparquet():
+        frame = fast.fastparquet.ParquetFile(folder).to_pandas()
+        fast.fastparquet.write(after, frame, compression=None, write_index=False, has_nulls=False, object_encoding="utf8")
+
+    def by_duckdb():
+        old = glob.glob(f"{folder}/part.*.parquet")
+        return summed(it.duckdb(f"COPY (FROM read_parquet('{folder}/part.*.parquet')) TO '{after}' ({UNPACKED})"), remove_all(old))
+
+    def check(who):
+        found = glob.glob(f"{folder}/*.parquet")
+        if len(found) != 1 or pq.read_metadata(found[0]).num_rows != 100_000:
+            it.tell(f"side, rewrite by {who}: {len(found)} files")
+
+    works = {"pqds": lambda: it.pqds("rewrite", folder, "--min-rows", "131072"), "DuckDB": by_duckdb,
+             "pyarrow": lambda: within(without_old, by_pyarrow), "fastparquet": lambda: within(without_old, by_fastparquet)}
+    row("500 files of 200 rows into one", least(works, before, check))
+
+
+def starts(it):
+    """What a process that does nothing takes."""
+    sample = os.path.join(os.path.dirname(os.path.abspath(__file__)), "sample/two_rows.parquet")
+    row("start of the process", least({"pqds": lambda: it.pqds("schema", sample), "DuckDB": lambda: it.duckdb("SELECT 1")}))
+
+
+def run(path, room, tell):
+    it = Side(path, room, tell)
+    both_ways(it)
+    tables = appends(it)
+    head("questions, rewriting, start")
+    queried(it, tables, f"{MILLION // 100:,} rows of one key of 100", MILLION // 100, "key 42")
+    queried(it, tables, f"all {MILLION:,} rows of 100 keys", MILLION, "")
+    pruned(it)
+    large_root(it)
+    rewritten(it)
+    starts(it)
