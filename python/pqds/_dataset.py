@@ -1,0 +1,524 @@
+"""A table in a folder: the commands of the program as methods."""
+
+from __future__ import annotations
+
+import json
+import os
+import re
+import tempfile
+from contextlib import contextmanager
+from dataclasses import dataclass
+from typing import Any, Dict, Iterable, Iterator, List, Mapping, NamedTuple, Optional, Sequence, Tuple, Union
+
+from . import _tables
+from ._errors import Limit, NoTable, PqdsError, Refused, Schema, WrongCall
+from ._filters import Filters, filter_json, filter_text
+from ._program import FIND_OUT, PathLike, call, lines, path_word
+from ._schema import Field, JsonField, fields_of, leaf_at, schema_text, with_reps
+from ._values import RowReader, RowWriter, raise_refused, raw_parts
+
+# A word of a call has at most 131,071 bytes on Linux; a longer filter goes by a script.
+_LONGEST_WORD = 100_000
+# All words of a call have at most 2 MiB; so many numbers of groups fit.
+_MOST_WORDS = 50_000
+
+
+class Whole(NamedTuple):
+    """How much an undamaged table has: rows, groups, and bytes in the columns."""
+
+    rows: int
+    groups: int
+    bytes: int
+
+
+@dataclass(frozen=True)
+class Group:
+    """A group of rows, which is one part file.
+
+    `number` is in the name of the file and is never given to another group. `bytes` is the size of its columns. `key`
+    has the value of each key column.
+    """
+
+    number: int
+    rows: int
+    bytes: int
+    key: Dict[str, Any]
+
+
+class Dataset:
+    """A table in a folder. `pqds.open` and `pqds.create` make one.
+
+    Each method that changes the table is one commit: all of it is made, or nothing. A refusal is an exception of
+    `pqds.Refused`, and leaves the table as it was; after `pqds.InDoubt` the change is made as a whole or not at all.
+
+    Nothing is kept open between the calls, so an object can be used by several threads and be sent to other processes.
+    """
+
+    def __init__(
+        self,
+        path: PathLike,
+        *,
+        wait: bool = True,
+        style: Optional[str] = None,
+        group_rows: Optional[int] = None,
+        page_rows: Optional[int] = None,
+        page_version: Optional[int] = None,
+    ) -> None:
+        self.path = path_word(path)
+        self._patience = [] if wait else ["--no-wait"]
+        self._file_words: List[str] = []
+        for option, value in (
+            ("--style", style),
+            ("--group-rows", group_rows),
+            ("--page-rows", page_rows),
+            ("--page-version", page_version),
+        ):
+            if value is not None:
+                self._file_words += [option, str(value)]
+        self._key_names: Optional[Tuple[str, ...]] = None
+
+    def __repr__(self) -> str:
+        return f"pqds.open({self.path!r})"
+
+    # ---- what the table is ----
+
+    def schema(self) -> List[JsonField]:
+        """The columns, keys among them, as the JSON fields that `pqds.create` takes."""
+        return list(json.loads(self._call("schema")))
+
+    def keys(self) -> Tuple[str, ...]:
+        """The names of the key columns, in the order of the folders."""
+        if self._key_names is None:
+            said = json.loads(call("inspect", ["--json", "--", f"{self.path}/_metadata"]))
+            pairs = [it["value"] for it in said["key_values"] if it["key"] == "pqds.keys"]
+            if not pairs:
+                raise NoTable(f"{self.path}/_metadata names no keys")
+            self._key_names = tuple(it["name"] for it in json.loads(pairs[0]))
+        return self._key_names
+
+    def count(self, filters: Optional[Filters] = None) -> int:
+        """How many rows there are, or how many satisfy the filters.
+
+        Without filters no part file is read. Raises `NoColumn`, `RowShape`, `Unordered` or `Script` for the filters.
+        """
+        wanted = self._filter(filters)
+        if _is_long(wanted):
+            return self._answer({"call": "count", "filter": wanted}, "count")
+        return int(self._call("count", _filter_words(wanted)))
+
+    def groups(self) -> List[Group]:
+        """The groups of rows, in the order of the rows. No part file is read."""
+        keys = self.keys()
+        printed = [json.loads(it) for some in lines("groups", self._words()) for it in some]
+        return [Group(it["number"], it["rows"], it["bytes"], dict(zip(keys, it["key"]))) for it in printed]
+
+    def check(self) -> Whole:
+        """Reads every part file, and returns how much there is if all of it is as the table says.
+
+        Raises `Refused`, of the first damaged file; its `reason` has a line for each finding.
+        """
+        said = self._call("check").decode()
+        found = re.fullmatch(r"ok: rows ([\d,]+), groups ([\d,]+), bytes ([\d,]+)\n", said)
+        if found is None:
+            raise WrongCall(f"pqds check printed {said!r}")
+        return Whole(*(int(it.replace(",", "")) for it in found.groups()))
+
+    def inspect(self, min_rows: Optional[int] = None) -> str:
+        """A text that says what the table has: columns, keys, sizes, and files that it does not name.
+
+        `min_rows` is for its line on small groups.
+        """
+        options = [] if min_rows is None else ["--min-rows", str(min_rows)]
+        return self._call("inspect", options).decode()
+
+    # ---- rows out ----
+
+    def rows(
+        self,
+        filters: Optional[Filters] = None,
+        columns: Optional[Sequence[str]] = None,
+        limit: Optional[int] = None,
+        *,
+        raw: bool = False,
+    ) -> Iterator[Dict[str, Any]]:
+        """The rows that satisfy the filters, one after another, as dicts.
+
+        They come in the order of their keys, and within a key as they were appended, and are read as they are used.
+        A change of the table waits until the iterator ends or is closed. A loop that changes the table takes
+        `list(table.rows())` first: it would wait for itself, and the change raises `WrongCall`.
+
+        `columns` are the names of the columns wanted, all without it. `limit` is the greatest number of rows. With
+        `raw` the values are as the program prints them: dates and times as numbers, bytes as hexadecimal digits.
+
+        Raises as `count` does, and `Refused` for a damaged part file, after the rows before it.
+        """
+        wanted = self._selection(filters, columns)
+        if raw:
+            return (row for some in self._batches(wanted, limit) for row in some)
+        of_row = RowReader(wanted.fields).row
+        return (of_row(row) for some in self._batches(wanted, limit) for row in some)
+
+    def to_arrow(
+        self,
+        filters: Optional[Filters] = None,
+        columns: Optional[Sequence[str]] = None,
+        limit: Optional[int] = None,
+    ) -> Any:
+        """The rows as a `pyarrow.Table`, with the types of the columns. Takes and raises what `rows` does."""
+        wanted = self._selection(filters, columns)
+        return _tables.arrow_table(wanted.fields, self._batches(wanted, limit))
+
+    def to_pandas(
+        self,
+        filters: Optional[Filters] = None,
+        columns: Optional[Sequence[str]] = None,
+        limit: Optional[int] = None,
+    ) -> Any:
+        """The rows as a `pandas.DataFrame`. Takes and raises what `rows` does.
+
+        OPTIONAL integers and booleans have pandas' nullable types, timestamps are in UTC, and dates, times, decimals,
+        bytes, lists, maps and groups are Python's objects.
+        """
+        wanted = self._selection(filters, columns)
+        return _tables.frame(wanted.fields, self._batches(wanted, limit))
+
+    # ---- changes ----
+
+    def append(self, data: Any, *, floats: Optional[Mapping[str, int]] = None, raw: bool = False) -> int:
+        """Appends rows in one commit, and returns how many.
+
+        `data` is a DataFrame, a `pyarrow.Table`, record batches, or dicts: a list or any iterable, which is read as the
+        program takes it. Columns are taken by their names; an absent OPTIONAL one is null. `floats` names columns whose
+        floats are taken as decimals, with so many places. With `raw` the dicts are as the program prints rows.
+
+        Raises `RowShape` for a row that is none of the table, `Float` for floats that are not in `floats`, and `Key`.
+        If `data` raises an exception, nothing is appended.
+        """
+        if raw:
+            return self._put(Prepared("append", "-", raw_parts(data)))
+        with prepared(data, self.schema(), floats or {}) as rows:
+            return self._put(rows)
+
+    def import_files(self, files: Union[PathLike, Iterable[PathLike]]) -> int:
+        """Appends the rows of Parquet files, and returns how many.
+
+        The columns of a file are those of the table, with the keys, in their order. Each file is a commit of its own:
+        if one is refused, those before it are in the table, and the text of the exception says how many.
+
+        Raises `Schema` for other columns, `Codec` for compressed files, `Float` and `Int96` for such columns.
+        """
+        paths: List[PathLike] = [files] if isinstance(files, (str, os.PathLike)) else list(files)
+        rows = 0
+        for number, path in enumerate(paths):
+            try:
+                rows += self._done("import", self._file_words, [path_word(path)])
+            except Refused as refused:
+                if len(paths) > 1:
+                    before = f"{path_word(path)}, after {number} files with {rows} rows, which are in the table"
+                    raise type(refused)(f"{before}: {refused.reason}", refused.column) from None
+                raise
+        return rows
+
+    def remove(self, filters: Optional[Filters] = None, *, groups: Optional[Iterable[Union[int, Group]]] = None) -> int:
+        """Removes the rows that satisfy the filters, or whole groups, and returns how many rows.
+
+        `filters=[]` removes every row. Raises as `count` does, and `NoGroup`.
+        """
+        if (filters is None) == (groups is None):
+            raise TypeError("remove takes filters or groups")
+        if groups is not None:
+            numbers = _numbers(groups)
+            if len(numbers) > _MOST_WORDS:
+                return self._answer({"call": "remove_groups", "numbers": [*map(int, numbers)]}, "done")
+            return self._done("remove", self._file_words, numbers) if numbers else 0
+        wanted = self._filter(filters) or []
+        if _is_long(wanted):
+            return self._answer({"call": "remove", "filter": wanted}, "done")
+        return self._done("remove", [*self._file_words, "--filter", filter_text(wanted)])
+
+    def rewrite(self, *, min_rows: Optional[int] = None, groups: Optional[Iterable[Union[int, Group]]] = None) -> int:
+        """Writes groups anew, joins those of one key that are next to each other, and returns how many rows.
+
+        `min_rows` takes the groups with fewer rows that have such a neighbour. The rows and their order stay the same.
+        Raises `NoGroup`, and `Limit` for more than 50,000 groups by their numbers.
+        """
+        if (min_rows is None) == (groups is None):
+            raise TypeError("rewrite takes min_rows or groups")
+        if groups is not None:
+            numbers = _numbers(groups)
+            if len(numbers) > _MOST_WORDS:
+                raise Limit(f"{len(numbers)} groups are more than the {_MOST_WORDS} of one call: use min_rows")
+            return self._done("rewrite", self._file_words, numbers) if numbers else 0
+        return self._done("rewrite", [*self._file_words, "--min-rows", str(min_rows)])
+
+    def add_column(self, column: Any) -> None:
+        """Puts an OPTIONAL column at the end. Rows that are there are null in it; their files stay as they are.
+
+        `column` is a JSON field, such as `{"name": "note", "type": "bytes", "note": "utf8"}`, or a `pyarrow.Field`.
+        Raises `Schema` for a name that is taken, or a column that is not OPTIONAL.
+        """
+        said = column if isinstance(column, Mapping) else _tables.field_json(column)
+        self._done("add-column", [], ["-"], [schema_text([{"rep": "optional", **said}])])
+
+    def run(self, calls: Iterable[Mapping[str, Any]]) -> List[Dict[str, Any]]:
+        """Makes the calls of a script on one opening of the table, and returns the answer of each.
+
+        A call is a dict, such as `{"call": "count", "filter": [("n", ">", 1)]}`; `pqds run --help` has all of them.
+        Values of rows and filters are those of Python, and so are the rows of a batch. No other command comes between
+        the calls.
+
+        A call that is refused does not end the script: its answer has `refused`, the number, and `name`, and the calls
+        after it are made. Raises `RowShape`, `NoColumn` or `Script` if a call is none; then no call is made.
+        """
+        fields = list(fields_of(self.schema()))
+        made = [_call_json(fields, it) for it in calls]
+        return [_answer(fields, it) for it in self._script(made)]
+
+    # ---- the program ----
+
+    def _words(self, options: Sequence[str] = (), more: Sequence[str] = ()) -> List[str]:
+        return [*self._patience, *options, "--", self.path, *more]
+
+    def _call(self, command: str, options: Sequence[str] = (), more: Sequence[str] = ()) -> bytes:
+        return call(command, self._words(options, more))
+
+    def _done(
+        self,
+        command: str,
+        options: Sequence[str],
+        more: Sequence[str] = (),
+        given: Optional[Iterable[bytes]] = None,
+    ) -> int:
+        """Makes a change, and returns the number that the program printed."""
+        said = call(command, self._words(options, more), given).decode()
+        if not said.startswith("done "):
+            raise WrongCall(f"pqds {command} printed {said!r}")
+        return int(said[5:])
+
+    def _answer(self, made: Mapping[str, Any], word: str) -> int:
+        """Makes one call by a script, and returns the number in its answer."""
+        answer = self._script([made])[0]
+        raise_refused(answer, FIND_OUT.get(made["call"], ""))
+        return int(answer[word])
+
+    def _put(self, rows: Prepared) -> int:
+        return self._done(rows.command, self._file_words, [rows.file], rows.parts)
+
+    def _script(self, calls: Sequence[Mapping[str, Any]]) -> List[Dict[str, Any]]:
+        return [json.loads(it) for it in self._script_lines(calls)]
+
+    def _script_lines(self, calls: Sequence[Mapping[str, Any]]) -> Iterator[bytes]:
+        text = "\n".join(json.dumps(it, ensure_ascii=False, separators=(",", ":")) for it in calls)
+        for some in lines("run", self._words(self._file_words, ["-"]), text.encode()):
+            yield from some
+
+    def _filter(self, filters: Optional[Filters]) -> Optional[List[Any]]:
+        return None if filters is None else filter_json(fields_of(self.schema()), filters)
+
+    def _selection(self, filters: Optional[Filters], columns: Optional[Sequence[str]]) -> Selection:
+        fields = fields_of(self.schema())
+        if columns is not None:
+            if isinstance(columns, str):
+                raise TypeError("columns is a list of names")
+            fields_by_name = {it.name: it for it in fields}
+            chosen = tuple(fields_by_name.get(it) or leaf_at(fields, it) for it in columns)
+        else:
+            chosen = fields
+        return Selection(chosen, filter_json(fields, filters))
+
+    def _batches(self, wanted: Selection, limit: Optional[int] = None) -> Iterator[List[Any]]:
+        """The rows that the program prints, some at a time."""
+        left = limit
+        for some in self._printed(wanted):
+            if left is None:
+                yield some
+            elif left > 0:
+                yield some[:left]
+                left -= len(some)
+            if left is not None and left <= 0:
+                return
+
+    def _printed(self, wanted: Selection) -> Iterator[List[Any]]:
+        if _is_long(wanted.filter):
+            yield from self._by_groups(wanted)
+            return
+        names = [it.name for it in wanted.fields]
+        if not names:
+            yield [{}] * int(self._call("count", _filter_words(wanted.filter)))
+            return
+        for some in lines("query", self._words(_filter_words(wanted.filter), names)):
+            yield json.loads(b"[%b]" % b",".join(some))
+
+    def _by_groups(self, wanted: Selection) -> Iterator[List[Any]]:
+        """The rows of each group that has some, by a script, whose answers the program has in memory all at once."""
+        names = [it.name for it in wanted.fields]
+        fetches = len(self.groups()) + 1
+        while True:
+            query = {"call": "query", "columns": names, "filter": wanted.filter or []}
+            printed = self._script_lines([query, *[{"call": "fetch", "cursor": 0}] * fetches])
+            raise_refused(json.loads(next(printed)))
+            batches, ended = [], False
+            for line in printed:
+                answer = json.loads(line)
+                raise_refused(answer)
+                ended = "end" in answer
+                if not ended:
+                    batches.append(answer["batch"])
+            if ended:
+                yield from batches
+                return
+            # Groups came between the two calls.
+            fetches = 2 * fetches
+
+
+class Selection(NamedTuple):
+    """What is asked of a table: columns, and a filter in JSON, None for every row."""
+
+    fields: Tuple[Field, ...]
+    filter: Optional[List[Any]]
+
+
+class Prepared(NamedTuple):
+    """How rows go to a table: the command, its file, and the parts of its standard input where the file is `-`."""
+
+    command: str
+    file: str
+    parts: Optional[Iterable[bytes]]
+
+
+@contextmanager
+def prepared(
+    data: Any, said: List[JsonField], floats: Mapping[str, int], *, is_whole: bool = False
+) -> Iterator[Prepared]:
+    """Rows for a table with these columns, while they are used.
+
+    With `is_whole` every row is looked at first; otherwise rows that go by lines are looked at as the program takes
+    them. Raises what `Dataset.append` raises for rows.
+    """
+    fields = fields_of(said)
+    checked_floats(fields, floats)
+    data = _tables.settled(data)
+    table = _tables.importable(data, fields, floats)
+    if table is not None:
+        with table as file:
+            # Notes that no type of pyarrow has, such as enum, are not in the file; then the rows go by lines.
+            if file_schema(file) == said:
+                yield Prepared("import", file, None)
+                return
+    parts = RowWriter(fields, floats).parts(_tables.rows_of(data, fields, floats))
+    if not is_whole:
+        yield Prepared("append", "-", parts)
+        return
+    with tempfile.NamedTemporaryFile(prefix="pqds-") as lines_file:
+        lines_file.writelines(parts)
+        lines_file.flush()
+        yield Prepared("append", lines_file.name, None)
+
+
+def open(  # noqa: A001
+    path: PathLike,
+    *,
+    wait: bool = True,
+    style: Optional[str] = None,
+    group_rows: Optional[int] = None,
+    page_rows: Optional[int] = None,
+    page_version: Optional[int] = None,
+) -> Dataset:
+    """The table in a folder.
+
+    With `wait=False` a call raises `Device` at once if another command uses the table, instead of waiting for it. The
+    other options are for the files that its changes write: `style` is plain, dictionary, delta, lengths or split;
+    `group_rows` the greatest number of rows of a group, `page_rows` of a page, and `page_version` 1 or 2.
+
+    Raises `NoTable` if the folder has no table, and `Device` if there is no folder.
+    """
+    table = Dataset(path, wait=wait, style=style, group_rows=group_rows, page_rows=page_rows, page_version=page_version)
+    table.schema()
+    return table
+
+
+def create(
+    path: PathLike,
+    schema: Any,
+    keys: Sequence[str] = (),
+    *,
+    required: Sequence[str] = (),
+    floats: Optional[Mapping[str, int]] = None,
+    wait: bool = True,
+    style: Optional[str] = None,
+    group_rows: Optional[int] = None,
+    page_rows: Optional[int] = None,
+    page_version: Optional[int] = None,
+) -> Dataset:
+    """Makes a table without rows, and returns it. The folder above `path` must be there.
+
+    `schema` is a list of JSON fields, a `pyarrow.Schema`, or a DataFrame or `pyarrow.Table` whose columns are taken. Of
+    these last two each column is OPTIONAL, except the keys and those in `required`. `keys` are the columns by whose
+    values the rows are put into folders. `floats` names columns of floats that become decimals with so many places.
+    The other options are those of `open`.
+
+    Raises `Exists` if there is a table, `Key` for keys that cannot be, `Schema` and `Float` for columns that cannot be.
+    """
+    keys = names_of(keys)
+    said = with_reps(_tables.schema_json(schema, floats or {}), keys, required)
+    table = Dataset(path, wait=wait, style=style, group_rows=group_rows, page_rows=page_rows, page_version=page_version)
+    call("create", [*table._patience, "--", table.path, "-", *keys], [schema_text(said)])
+    return table
+
+
+def names_of(keys: Union[str, Sequence[str]]) -> List[str]:
+    """The names of key columns; one name may stand by itself."""
+    return [keys] if isinstance(keys, str) else list(keys)
+
+
+def file_schema(file: PathLike) -> List[JsonField]:
+    """The columns of a Parquet file, as the JSON fields that `create` takes. Raises `Refused` as `decode` does."""
+    return list(json.loads(call("schema", ["--", path_word(file)])))
+
+
+def checked_floats(fields: Sequence[Field], floats: Mapping[str, int]) -> None:
+    """Raises `Schema` if a column in `floats` cannot hold decimals with so many places."""
+    for name, places in floats.items():
+        field = leaf_at(fields, name)
+        if field.meaning != "decimal" or field.scale < places:
+            raise Schema(f"floats: column {name} is no decimal with {places} places")
+
+
+def _is_long(wanted: Optional[List[Any]]) -> bool:
+    return wanted is not None and len(filter_text(wanted).encode()) > _LONGEST_WORD
+
+
+def _filter_words(wanted: Optional[List[Any]]) -> List[str]:
+    return [] if wanted is None else ["--filter", filter_text(wanted)]
+
+
+def _numbers(groups: Iterable[Union[int, Group]]) -> List[str]:
+    return [str(it.number if isinstance(it, Group) else it) for it in groups]
+
+
+def _call_json(fields: List[Field], said: Mapping[str, Any]) -> Dict[str, Any]:
+    """A call of a script in JSON. A column that it adds is one of those after it."""
+    made = dict(said)
+    if "rows" in made:
+        writer = RowWriter(fields, {})
+        made["rows"] = [writer.members(row, number) for number, row in enumerate(made["rows"], 1)]
+    if "filter" in made:
+        made["filter"] = filter_json(fields, made["filter"]) or []
+    if isinstance(made.get("bytes"), bytes):
+        made["bytes"] = made["bytes"].hex()
+    if "field" in made:
+        made["field"] = {"rep": "optional", **made["field"]}
+        fields += [it for it in fields_of([made["field"]]) if it.name not in {one.name for one in fields}]
+    return made
+
+
+def _answer(fields: Sequence[Field], answer: Dict[str, Any]) -> Dict[str, Any]:
+    """An answer of a script, with the rows of a batch as those of Python."""
+    if answer.get("batch"):
+        names = answer["batch"][0]
+        of_row = RowReader([it for it in fields if it.name in names]).row
+        answer["batch"] = [of_row(it) for it in answer["batch"]]
+    return answer
+
+
+__all__ = ["Dataset", "Group", "PqdsError", "Whole", "create", "file_schema", "open"]

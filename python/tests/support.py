@@ -1,0 +1,47 @@
+"""What the tests share: the module of this folder, the program, and a room for each test."""
+
+from __future__ import annotations
+
+import os
+import sys
+import tempfile
+import unittest
+from pathlib import Path
+from typing import Any, Dict, List
+
+TOP = Path(__file__).resolve().parents[2]
+sys.path.insert(0, str(TOP / "python"))
+
+
+def _program() -> str:
+    built = TOP / "crates/pqds/out/pqds"
+    return str(built if built.exists() else TOP / "pqds")
+
+
+os.environ.setdefault("PQDS", _program())
+
+ORDERS: List[Dict[str, Any]] = [
+    {"name": "region", "rep": "required", "type": "bytes", "note": "utf8"},
+    {"name": "order", "rep": "required", "type": "int64"},
+    {"name": "cents", "rep": "optional", "type": "int64"},
+]
+
+
+class RoomCase(unittest.TestCase):
+    """A test that runs in an empty folder of its own."""
+
+    def setUp(self) -> None:
+        room = tempfile.TemporaryDirectory()
+        self.addCleanup(room.cleanup)
+        before = Path.cwd()
+        self.addCleanup(os.chdir, before)
+        os.chdir(room.name)
+
+    def fake(self, script: str) -> None:
+        """Puts a shell script in the program's place."""
+        file = Path("fake")
+        file.write_text(f"#!/bin/sh\n{script}\n")
+        file.chmod(0o755)
+        before = os.environ["PQDS"]
+        self.addCleanup(os.environ.__setitem__, "PQDS", before)
+        os.environ["PQDS"] = str(file.resolve())

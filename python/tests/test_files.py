@@ -1,0 +1,70 @@
+"""Single files: made, read, looked into, and brought into a table."""
+
+from __future__ import annotations
+
+import unittest
+from pathlib import Path
+
+from support import ORDERS, TOP, RoomCase
+
+import pqds
+
+ROWS = [{"region": "north", "order": 1, "cents": None}, {"region": "", "order": 2, "cents": 5}]
+
+
+class Files(RoomCase):
+    def test_encode_and_decode(self) -> None:
+        pqds.encode(ORDERS, ROWS, "f.parquet", style="delta", page_version=2)
+        self.assertEqual(list(pqds.decode("f.parquet")), ROWS)
+        self.assertEqual(pqds.file_schema(Path("f.parquet")), ORDERS)
+        self.assertEqual(pqds.inspect("f.parquet")["rows"], 2)
+        self.assertEqual(sorted(next(pqds.decode("f.parquet", raw=True))), ["cents", "order", "region"])
+
+    def test_encode_replaces_no_file(self) -> None:
+        Path("f.parquet").write_text("mine")
+        with self.assertRaises(pqds.Exists):
+            pqds.encode(ORDERS, ROWS, "f.parquet")
+        self.assertEqual(Path("f.parquet").read_text(), "mine")
+
+    def test_encode_makes_nothing_of_wrong_rows(self) -> None:
+        with self.assertRaises(pqds.RowShape):
+            pqds.encode(ORDERS, [*ROWS, {"region": "x"}], "f.parquet")
+        self.assertFalse(Path("f.parquet").exists())
+
+    def test_decode_refuses(self) -> None:
+        Path("f.parquet").write_text("no Parquet file at all")
+        with self.assertRaises(pqds.Magic):
+            list(pqds.decode("f.parquet"))
+        with self.assertRaises(pqds.Device):
+            pqds.inspect("nowhere")
+
+    def test_files_of_other_tools(self) -> None:
+        rows = list(pqds.decode(TOP / "sample/pyarrow.parquet"))
+        self.assertEqual(rows[0], {"id": 1, "note": "axle", "tags": ["a", None]})
+        rows = list(pqds.decode(TOP / "sample/nested.parquet"))
+        self.assertEqual((rows[0]["l"], rows[0]["m"]), ([5, None], [("a", 1), ("b", None)]))
+
+    def test_import_files(self) -> None:
+        table = pqds.create("t", ORDERS)
+        pqds.encode(ORDERS, ROWS, "one")
+        pqds.encode(ORDERS, ROWS[:1], "two")
+        self.assertEqual(table.import_files("one"), 2)
+        self.assertEqual(table.import_files(Path("two")), 1)
+        self.assertEqual(table.import_files(["one", "two"]), 3)
+        self.assertEqual(table.import_files([]), 0)
+        self.assertEqual(table.count(), 6)
+
+    def test_import_says_which_file_was_refused(self) -> None:
+        table = pqds.create("t", ORDERS)
+        pqds.encode(ORDERS, ROWS, "one")
+        pqds.encode(ORDERS[1:], [{"order": 1}], "other")
+        with self.assertRaises(pqds.Schema) as caught:
+            table.import_files(["one", "other", "one"])
+        self.assertIn("other, after 1 files with 2 rows", caught.exception.reason)
+        self.assertEqual(table.count(), 2)
+        with self.assertRaises(pqds.Device):
+            table.import_files("nowhere")
+
+
+if __name__ == "__main__":
+    unittest.main()
