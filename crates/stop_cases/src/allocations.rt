@@ -1,6 +1,6 @@
 //! Calls while one allocation of the run is refused.
 //!
-//! A program cannot refuse one to itself: `bench/allocations.sh` runs this one with the Nth allocation refused, for each N.
+//! A program cannot refuse one to itself: `bench/faults/allocations.sh` runs this one with the Nth allocation refused, for each N.
 //! With ample memory each call goes as ever.
 
 use crate::changes::{CHANGED, CHANGES};
