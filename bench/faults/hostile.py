@@ -7,19 +7,30 @@ import subprocess
 import sys
 import time
 
-CALLS = ("decode", "inspect", "inspect --json", "import")
+# The calls of a file, of a root in a folder, and of lines of JSON.
+CALLS = {
+    "file": ("decode", "inspect", "inspect --json", "import"),
+    "root": ("count", "query", "check", "create"),
+    "rows": ("append", "encode"),
+}
 # A file of two rows.
 SMALL = "rows_of_the_file_announced"
-KINDS = ("numbers", "nulls", "lists", "booleans", "texts", "long", "structs")
+KINDS = ("numbers", "nulls", "lists", "booleans", "texts", "long", "structs", "keys", "lines")
 
 # The bound of memory: what the program takes for a file of two rows, SLACK, and so many bytes for each of these (see
 # `File` of hostile_files.py): bytes of the file, bytes of the footer, bytes of the largest page header, entries of the
-# pages that are held side by side, bytes of the longest row, pages that are listed, values of all rows, bytes of all rows.
+# pages that are held side by side, bytes of the longest row, pages that are listed, values of all rows, bytes of all rows, new
+# groups of the table, and columns of all of these.
 BOUNDS = {
     "decode": {"bytes": 1, "structs": 160, "header": 160, "held": 48, "row": 2},
     "inspect": {"bytes": 1, "structs": 200, "header": 160, "listed": 400},
-    "import": {"bytes": 1, "structs": 320, "header": 160, "held": 48, "values": 256, "written": 4},
+    "import": {"bytes": 1, "structs": 320, "header": 160, "held": 48, "values": 256, "written": 4, "groups": 1024, "cells": 200},
+    "count": {"bytes": 1, "structs": 400},
+    "append": {"bytes": 8, "values": 160},
+    "encode": {"bytes": 80, "fields": 2048},
 }
+for call in ("query", "check", "create"):
+    BOUNDS[call] = BOUNDS["count"]
 BOUNDS["inspect --json"] = BOUNDS["inspect"]
 SLACK = 4 << 20
 # The bound of address space: so many times what memory may rise above that of a small file. A list that grows has room
@@ -72,31 +83,54 @@ class Bench:
         return Ran(os.waitstatus_to_exitcode(status), used.ru_utime + used.ru_stime, used.ru_maxrss << 10, lines, told)
 
     def call(self, call, name, limit=None):
-        """Makes one call of the file; `import` into a new dataset."""
+        """Makes one call of the file: `import` and `append` into a new dataset, `encode` into a new file, and of a root in a
+        folder of its own."""
         file, limit = f"{self.room}/{name}.parquet", limit or self.most
-        if call != "import":
+        if call in CALLS["root"]:
+            return self.run([call, self.folder_of_root(file), *([f"{self.room}/{name}.schema.json"] if call == "create" else [])], limit)
+        if call == "encode":
+            out = f"{self.room}/out.parquet"
+            if os.path.exists(out):
+                os.remove(out)
+            return self.run(["encode", f"{self.room}/{name}.schema.json", file, out], limit)
+        if call not in ("import", "append"):
             return self.run([*call.split(), file], limit)
+        return self.run([call, self.new_table(name), file], limit)
+
+    def folder_of_root(self, file):
+        """A folder with this file as its root."""
+        folder = f"{self.room}/root"
+        os.makedirs(folder, exist_ok=True)
+        shutil.copyfile(file, f"{folder}/_metadata")
+        return folder
+
+    def new_table(self, name):
+        """A table without rows, of the file's columns and keys."""
         table = f"{self.room}/table"
         shutil.rmtree(table, ignore_errors=True)
-        made = self.run(["create", table, f"{self.room}/{name}.schema.json"], self.most)
+        with open(f"{self.room}/{name}.facts") as file:
+            keys = json.load(file)["keys"]
+        made = self.run(["create", table, f"{self.room}/{name}.schema.json", *keys], self.most)
         if made.status:
             sys.exit(f"{name}: its table is not made: {made.told[:300]}")
-        return self.run(["import", table, file], limit)
+        return table
 
     def least_limit(self):
         """The least limit in KiB, in steps of 4 MiB, under which each call of a small file ends as without one."""
         for mib in range(4, 1024, 4):
-            if all(self.call(call, SMALL, mib << 10).status == 0 for call in CALLS):
+            if all(self.call(call, SMALL, mib << 10).status == 0 for call in CALLS["file"]):
                 return mib << 10
         sys.exit("no call ends under a limit of 1 GiB")
 
     def measure_honest(self):
         """The memory of a small file, and how long an entry of each kind of honest file takes, and a byte of long texts."""
-        for call in CALLS:
+        for call in CALLS["file"]:
             self.base[call] = self.call(call, SMALL).peak
+        for call in (*CALLS["root"], *CALLS["rows"]):
+            self.base[call] = self.base["import"]
         for kind in KINDS:
             facts = self.make("honest_" + kind)
-            for call in CALLS:
+            for call in CALLS[facts["kind"]]:
                 ran = self.call(call, "honest_" + kind)
                 if ran.status:
                     sys.exit(f"honest_{kind}: {call}: {ran.told}")
@@ -108,6 +142,10 @@ def measure(facts, kind):
     """What the time is set beside: how many entries, or how many bytes of long texts or of structs."""
     if kind == "long":
         return facts["written"]
+    if kind == "keys":
+        return facts["groups"]
+    if kind == "lines":
+        return facts["bytes"] + facts["values"]
     return facts["structs"] + facts["headers"] if kind == "structs" else facts["entries"]
 
 
@@ -119,6 +157,9 @@ def wanted(facts, call):
 def outcome(facts, call, ran):
     """What came, and whether it is what was to come."""
     refused, expected = ran.refusal(), wanted(facts, call)
+    if facts["kind"] == "root":
+        # Which fault of a root is named is not looked at here, and one of an empty table has none.
+        return f"refused {refused}" if refused else "rows", refused is None or isinstance(refused, int)
     if refused != expected:
         return f"{refused or 'rows'}, and not {expected or 'rows'}", False
     if refused is not None:
@@ -135,7 +176,10 @@ def rise(facts, call):
 
 def honest_time(bench, facts, call):
     """The time of honest files with as many entries, or as much text, and with as many bytes of structs."""
-    return sum(measure(facts, kind) * bench.rate[kind, call] for kind in {facts["like"], "structs"})
+    if facts["kind"] == "root":
+        # A root is read as the footer of a file is.
+        call = "inspect"
+    return sum(measure(facts, kind) * bench.rate[kind, call] for kind in {facts["like"], "structs"} if (kind, call) in bench.rate)
 
 
 def under_limits(bench, facts, call, name, limits):
@@ -187,7 +231,7 @@ def main(top, room, program, entries, most, more, only):
     print(f"{'file':38}{'bytes':>9} {'call':15}{'outcome':12}{'peak, MB':>9}{'bound':>9}{'s':>8}{'honest':>8}  {under}")
     for name in names_in(top, only.split()):
         facts = bench.make(name)
-        for call in CALLS:
+        for call in CALLS[facts["kind"]]:
             row_of(bench, facts, call, name, limits)
         os.remove(f"{room}/{name}.parquet")
     for call, (share, name) in bench.greatest.items():

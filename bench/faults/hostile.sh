@@ -1,5 +1,6 @@
 #!/bin/sh
 # Decodes, inspects (as text and as JSON) and imports files that are made to cost as much as they can (bench/faults/hostile_files.py),
+# gives such files as the root of a dataset to count, query, check and create, and lines of JSON to append and encode,
 # and prints for each what came of it, the most memory beside its bound, and the processor time beside that of an honest file
 # with as many entries. Each call is then made under limits of address space (`ulimit -v`), and must end as before or with
 # `refused 28`; as before where the limit is twice its bound. The status is 1 where one does not end as it should, or takes

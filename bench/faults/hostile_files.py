@@ -94,12 +94,15 @@ class File:
     text of all rows has, `values` how many values the rows have, groups and lists among them. `entries` is how many
     entries all chunks have as they are read, and `like` which honest file has such entries. `structs` is how many bytes
     the footer has, `header` how many the largest page header has, and `headers` how many all page headers have as they
-    are read, those of each chunk by itself. `listed` is how many pages `inspect` lists."""
+    are read, those of each chunk by itself. `listed` is how many pages `inspect` lists. `keys` are the key columns of the
+    table that it is imported into, `groups` how many groups the table then has, and `cells` how many columns these have.
+    `kind` is what it is given as: a Parquet `file`, the `root` of a dataset, or `rows` as lines of JSON."""
 
     def __init__(self, bytes, structs, fields, **facts):
         self.bytes = bytes
         self.fields = fields
         self.facts = {"rows": None, "refused": None, "path": "", "inspected": None, "structs": structs, "header": 64, "headers": 64, "listed": 2}
+        self.facts |= {"kind": "file", "keys": [], "groups": 0, "cells": 0, "fields": len(fields)}
         self.facts |= {"held": 0, "row": 0, "entries": facts.get("rows") or 0, "like": "numbers", "written": 0} | facts
         self.facts.setdefault("values", self.facts["entries"])
 
@@ -289,6 +292,47 @@ def rows_that_wait():
     row = len('{"x":"a"}') + 1
     return one_column(before + data_page(count, RLE_DICTIONARY, b"\x00"), BYTE_ARRAY, REQUIRED, count, count, X_TEXT, len(before), UTF8, rows=count,
                       held=count + 1, row=row, like="texts", written=count * row)
+
+
+def of_keys(numbers, encoding, count):
+    """Rows of a key and a boolean, each with a key of its own: a table has a group for each."""
+    pages = data_page(count, encoding, numbers) + data_page(count, RLE, sized(run(count, 1, 1)))
+    second = 4 + len(data_page(count, encoding, numbers))
+    group_of_both = row_group([chunk(INT64, [b"x"], count, 4), chunk(BOOLEAN, [b"y"], count, second)], count)
+    ends = footer([root(2), leaf(b"x", INT64, REQUIRED), leaf(b"y", BOOLEAN, REQUIRED)], [group_of_both], count)
+    row = len('{"x":1234,"y":true}') + 1
+    return File(framed(pages, ends), len(ends), X_INT64 + [field("y", "required", "boolean")], rows=count, held=2 * count, row=row, entries=2 * count,
+                written=count * row, keys=["x"], groups=count, cells=2 * count, like="keys")
+
+
+def key_in_each_row():
+    """Keys by differences without bits: some 200 bytes in all."""
+    count = max(1, ENTRIES // 500)
+    return of_keys(deltas(0, [1], count), DELTA_BINARY_PACKED, count)
+
+
+# ---- what is read before something is refused
+
+
+def nulls_before_a_damaged_group():
+    """10 groups over one page of nulls, and then one that has a row less than it announces."""
+    count = max(1, ENTRIES // 10)
+    page = data_page(count, PLAIN, nulls(count))
+    record = row_group([chunk(INT64, [b"x"], count, 4)], count)
+    damaged = row_group([chunk(INT64, [b"x"], count, 4)], count + 1)
+    ends = footer([root(1), leaf(b"x", INT64, OPTIONAL)], [record] * 10 + [damaged], 11 * count + 1)
+    return File(framed(page, ends), len(ends), X_OPTIONAL, refused=LEVELS, held=count, headers=11 * 32, listed=11, row=NULL_ROW, entries=11 * count,
+                values=10 * count, like="nulls", written=10 * count * NULL_ROW)
+
+
+def skipped_pages_shared_by_groups():
+    """Groups that share a row of pages that are skipped, and then one of one entry."""
+    groups = max(1, ENTRIES // 10_000)
+    page = b"\x15\x02\x15\x00\x15\x00\x00" * (ENTRIES * 7 // 1000) + data_page(1, PLAIN, ONE)
+    record = row_group([chunk(INT64, [b"x"], 1, 4)], 1)
+    ends = footer([root(1), leaf(b"x", INT64, REQUIRED)], [record] * groups, groups)
+    return File(framed(page, ends), len(ends), X_INT64, headers=groups * len(page), listed=min(groups * (ENTRIES * 7 // 1000 + 1), MOST_LISTED), rows=groups, held=1,
+                row=8, like="structs", written=groups * 8)
 
 
 # ---- long values that few bytes stand for
@@ -724,6 +768,68 @@ def float_below_long_names():
     return File(framed(b"", ends), len(ends), X_INT64, refused=FLOAT, path=".".join([name.decode()] * 31 + ["x"]), row=len(ends))
 
 
+# ---- roots of datasets
+
+
+def as_root(make):
+    """The same file as the `_metadata` of a dataset: it describes no table."""
+    def root_of():
+        made = make()
+        return File(made.bytes, made.facts["structs"], X_INT64, kind="root", like="structs", header=made.facts["header"])
+
+    root_of.__name__ = "root_of_" + make.__name__
+    return root_of
+
+
+def pair(key, value):
+    return b"\x18" + text(key) + b"\x18" + text(value) + b"\x00"
+
+
+def root_of_deep_columns():
+    """An empty table of 1024 columns, each below 31 repeated groups."""
+    columns, inner = 1024, b"g"
+    elements = [root(columns)]
+    for name in names_of(columns):
+        elements += [group(name, REPEATED, 1)] + [group(inner, REPEATED, 1)] * 30 + [leaf(inner, INT64, REPEATED)]
+    pairs = b"\x19" + listed([pair(b"pqds.keys", b"[]"), pair(b"pqds.next", b"0")])
+    orders = b"\x29" + listed([b"\x1c\x00\x00"] * columns)
+    ends = footer(elements, [], 0, pairs + orders)
+    return File(framed(b"", ends), len(ends), X_INT64, kind="root", like="structs")
+
+
+ROOTS = [root_of_deep_columns] + [as_root(it) for it in (elements_of_three_bytes, structs_of_one_field, structs_in_structs, key_values, encodings_of_a_chunk, groups_without_rows,
+                                columns_repeated_in_groups, statistics_of_a_chunk, groups_in_groups)]
+
+
+# ---- lines of JSON
+
+
+def of_lines(line, count, fields, values):
+    """Rows of this line."""
+    return File((line + "\n").encode() * count, 0, fields, kind="rows", rows=count, like="lines", entries=count * values, values=count * values)
+
+
+def lines_of_nothing():
+    """`{}` over 1,024 OPTIONAL columns: each line is as many nulls."""
+    fields = [field(f"c{number}", "optional", "int64") for number in range(1024)]
+    return of_lines("{}", max(1, ENTRIES // 1000), fields, 1024)
+
+
+def list_in_one_line():
+    """A list of numbers of one digit: two bytes each."""
+    count = max(1, ENTRIES // 4)
+    return of_lines('{"x":[' + ",".join("1" * count) + "]}", 1, X_NUMBERS, count)
+
+
+def lists_of_nothing():
+    """Empty lists below a group, in a line each."""
+    fields = [{"name": "g", "rep": "repeated", "fields": X_NUMBERS}]
+    return of_lines('{"g":[' + ",".join(['{"x":[]}'] * 100) + "]}", max(1, ENTRIES // 1000), fields, 200)
+
+
+ROWS = [lines_of_nothing, list_in_one_line, lists_of_nothing]
+
+
 # ---- honest files, whose time is set beside that of the others
 
 
@@ -788,7 +894,20 @@ def honest_structs():
     return File(framed(page * count, ends), len(ends), X_INT64, rows=count, headers=count * (len(page) - 8))
 
 
-HONEST = [honest_numbers, honest_nulls, honest_lists, honest_booleans, honest_texts, honest_long, honest_structs]
+def honest_keys():
+    """Each row has a key of its own, in 8 bytes."""
+    count = max(1, ENTRIES // 2000)
+    return of_keys(numbers_of(0, count), PLAIN, count)
+
+
+def honest_lines():
+    """Rows of four numbers, as lines of JSON."""
+    count = max(1, ENTRIES // 4)
+    line = '{"a":1000001,"b":1000002,"c":1000003,"d":1000004}'
+    return of_lines(line, count, [field(it, "required", "int64") for it in "abcd"], 4)
+
+
+HONEST = [honest_numbers, honest_nulls, honest_lists, honest_booleans, honest_texts, honest_long, honest_structs, honest_keys, honest_lines]
 
 NAMES = [
     shared_by_columns, shared_by_groups, each_a_page_less, dictionary_shared_by_columns, dictionary_shared_by_groups, run_of_nulls,
@@ -804,7 +923,7 @@ NAMES = [
     footer_announced, children_announced, structs_of_one_field, structs_in_structs, structs_too_deep, header_of_structs, statistics_of_a_page,
     statistics_of_a_chunk, key_values, elements_of_three_bytes, encodings_of_a_chunk, groups_without_rows, pages_without_entries, pages_of_an_index,
     groups_in_groups, columns_repeated_in_groups, values_below_groups, values_below_lists, long_name_in_each_item, name_in_each_problem,
-    float_below_long_names,
+    float_below_long_names, key_in_each_row, nulls_before_a_damaged_group, skipped_pages_shared_by_groups, *ROOTS, *ROWS,
 ]
 
 

@@ -9,6 +9,8 @@ import os
 import re
 import sys
 
+import headline
+
 TOP = os.path.dirname(os.path.dirname(os.path.dirname(os.path.abspath(__file__))))
 CRATES = os.path.join(TOP, "crates")
 TESTS = re.compile(r"_(cases|tests|bodies)$|^case_words$")
@@ -141,6 +143,30 @@ def long_lines():
     return sum(len(line) > COLUMNS for part, ending in (("src", ".rt"), ("specs", ".antt")) for _, _, text in files(part, ending) for line in text.split("\n"))
 
 
+def undescribed():
+    """Public definitions at the top level of specs/ with no comment above them."""
+    found = []
+    for _, file, text in files("specs", ".antt"):
+        lines = text.split("\n")
+        for above, line in zip([""] + lines, lines):
+            if re.match(r"(abbrev pub|pub data|pub record|pub)\s+(?!mod\b|use\b)\S", line) and not above.lstrip().startswith("--"):
+                found.append(f"{file}: {line[:40]}")
+    return found
+
+
+def versions():
+    """The version as the program, the Python module and the changelog have it."""
+    def found(pattern, *path):
+        match = re.search(pattern, read(*path), re.M)
+        return match[1] if match else "none"
+
+    return {
+        "the program": found(r'VERSION: &str = "(.*)"', "crates", "program", "src", "help.rt"),
+        "the module": found(r'^__version__ = "(.*)"$', "python", "pqds", "__init__.py"),
+        "the changelog": found(r"^## ([\d.]+)", "CHANGELOG.md"),
+    }
+
+
 def renewed(text):
     """The table of proof files: what no other crate cites goes, and what is missing stands in a row of its own."""
     begin = text.index("| crate | files of `proofs/` that crates above cite")
@@ -198,6 +224,10 @@ def main():
     for document in ("README.md", "docs/PROMISES.md"):
         names = set(re.findall(r"`([a-zA-Z]\w+)`", read(document)))
         check(f"names in {document} that no source has", ", ".join(sorted(names - words)))
+    check("names that docs/HEADLINE.md explains and its contracts do not reach", ", ".join(headline.foreign_names(headline.reached())))
+    check("public definitions without a line that says what they are", "; ".join(undescribed()))
+    named = versions()
+    check("one version", "" if len(set(named.values())) == 1 else ", ".join(f"{who} has {it}" for who, it in named.items()))
     for what, counted in (("lines of more than 165 columns", long_lines), ("definitions of one name in two crates", definitions),
                           ("statements that stand twice", statements), ("bodies that stand twice", bodies)):
         now = counted()

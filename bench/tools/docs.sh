@@ -1,6 +1,7 @@
 #!/bin/sh
 # Runs the commands of README.md, docs/ and crates/*/README.md as typed, in a copy of the repository, and compares what they
-# print with what the documents show. Prints a line for each command; the status is 1 where one fails.
+# print with what the documents show. Prints a line for each command; the last line is `N passed, M failed`, the status 1
+# where M is not 0.
 #
 #     bench/tools/docs.sh [--program] [FILE]...      these documents only; with --program only calls of ./pqds
 #
@@ -20,12 +21,12 @@ import glob, os, re, shutil, subprocess, sys
 top, copy, program, words = sys.argv[1], sys.argv[2], sys.argv[3], sys.argv[4:]
 only_program = "--program" in words
 named = [it for it in words if it != "--program"]
-LONG = {"rt ci", ".ci/run", "./test", "bench/tools/gate.sh", "bench/tools/edits.sh", "bench/tools/docs.sh", "bench/faults/crash.sh", "bench/faults/crash.sh --syncs",
+LONG = {"rt ci", ".ci/run", "./test", "./test --quick", "bench/tools/gate.sh", "bench/tools/edits.sh", "bench/tools/docs.sh", "bench/faults/crash.sh", "bench/faults/crash.sh --syncs",
         "bench/faults/allocations.sh", "bench/faults/stops.sh", "bench/faults/locks.sh", "bench/tools/prebuilt.sh", "bench/peers/peers.sh ROOM", "bench/peers/peers.sh ROOM PROGRAM side",
         "bench/peers/peers.sh ROOM PROGRAM sums", "bench/speed/table.sh", "./pqds --prove"}
 CALL = re.compile(r"`((?:\./pqds|rt|bench/\w+/\w+\.sh|\.ci/run|\(cd crates/\w+ && rt)(?: [^`]*|\w[^`]*)?)`(?: prints `([^`]*)`)?")
 HELP = re.compile(r"## `pqds ?([\w-]*)`$")
-failed = 0
+passed = failed = 0
 done = set()
 
 
@@ -46,7 +47,8 @@ def copy_built():
 
 
 def tell(what, well, why):
-    global failed
+    global passed, failed
+    passed += well
     failed += not well
     print(f"ran     {what}" if well else f"FAILED  {what}\n{why}", flush=True)
 
@@ -162,6 +164,6 @@ def check(document):
 copy_repository()
 for document in named or ["README.md"] + sorted(glob.glob("docs/*.md")) + sorted(glob.glob("crates/*/README.md")):
     check(document)
-print("all ran" if not failed else f"{failed} failed")
+print(f"{passed} passed, {failed} failed")
 sys.exit(failed > 0)
 PYTHON

@@ -1,9 +1,13 @@
 #!/bin/sh
-# bench/tools/program.sh: prints the path of the program of this tree, for the scripts here. It is the one that was built, if no
-# source is newer; else the one of prebuilt/, if it was made of these sources. Otherwise it says so, and ends with status 1: it
-# builds nothing, since that proves every crate and takes hours.
+# bench/tools/program.sh: prints the path of the program of this tree, for the scripts here. It is the one that the variable PQDS
+# names, if it is set; else the one that was built, if no source is newer; else the one of prebuilt/, if it was made of these
+# sources. Otherwise it says so, and ends with status 1: it builds nothing, since that proves every crate and takes hours.
 top=$(CDPATH='' cd -- "$(dirname -- "$0")/../.." && pwd) || exit 1
 . "$top/prebuilt/sources.sh"
+if [ -n "$PQDS" ]; then
+    printf '%s\n' "$PQDS"
+    exit 0
+fi
 built=$top/crates/pqds/out/pqds
 unpacked=$top/prebuilt/.pqds
 

@@ -56,7 +56,7 @@ from ._filters import Filters
 from ._program import program
 from ._schema import JsonField
 
-__version__ = "0.1.0"
+__version__ = "0.2.0"
 
 __all__ = [
     "REFUSALS",

@@ -8,14 +8,18 @@ import re
 import tempfile
 from contextlib import contextmanager
 from dataclasses import dataclass
-from typing import Any, Dict, Iterable, Iterator, List, Mapping, NamedTuple, Optional, Sequence, Tuple, Union
+from typing import TYPE_CHECKING, Any, Dict, Iterable, Iterator, List, Mapping, NamedTuple, Optional, Sequence, Tuple, Union
 
 from . import _tables
 from ._errors import Limit, NoTable, PqdsError, Refused, Schema, WrongCall
 from ._filters import Filters, filter_json, filter_text
+from ._options import FileOptions, file_words
 from ._program import FIND_OUT, PathLike, call, lines, path_word
 from ._schema import Field, JsonField, fields_of, leaf_at, schema_text, with_reps
 from ._values import RowReader, RowWriter, raise_refused, raw_parts
+
+if TYPE_CHECKING:
+    from typing_extensions import Unpack
 
 # A word of a call has at most 131,071 bytes on Linux; a longer filter goes by a script.
 _LONGEST_WORD = 100_000
@@ -54,27 +58,10 @@ class Dataset:
     Nothing is kept open between the calls, so an object can be used by several threads and be sent to other processes.
     """
 
-    def __init__(
-        self,
-        path: PathLike,
-        *,
-        wait: bool = True,
-        style: Optional[str] = None,
-        group_rows: Optional[int] = None,
-        page_rows: Optional[int] = None,
-        page_version: Optional[int] = None,
-    ) -> None:
+    def __init__(self, path: PathLike, *, wait: bool = True, **files: Unpack[FileOptions]) -> None:
         self.path = path_word(path)
         self._patience = [] if wait else ["--no-wait"]
-        self._file_words: List[str] = []
-        for option, value in (
-            ("--style", style),
-            ("--group-rows", group_rows),
-            ("--page-rows", page_rows),
-            ("--page-version", page_version),
-        ):
-            if value is not None:
-                self._file_words += [option, str(value)]
+        self._file_words = file_words(files)
         self._key_names: Optional[Tuple[str, ...]] = None
 
     def __repr__(self) -> str:
@@ -415,15 +402,7 @@ def prepared(
         yield Prepared("append", lines_file.name, None)
 
 
-def open(  # noqa: A001
-    path: PathLike,
-    *,
-    wait: bool = True,
-    style: Optional[str] = None,
-    group_rows: Optional[int] = None,
-    page_rows: Optional[int] = None,
-    page_version: Optional[int] = None,
-) -> Dataset:
+def open(path: PathLike, *, wait: bool = True, **files: Unpack[FileOptions]) -> Dataset:  # noqa: A001
     """The table in a folder.
 
     With `wait=False` a call raises `Device` at once if another command uses the table, instead of waiting for it. The
@@ -432,7 +411,7 @@ def open(  # noqa: A001
 
     Raises `NoTable` if the folder has no table, and `Device` if there is no folder.
     """
-    table = Dataset(path, wait=wait, style=style, group_rows=group_rows, page_rows=page_rows, page_version=page_version)
+    table = Dataset(path, wait=wait, **files)
     table.schema()
     return table
 
@@ -445,10 +424,7 @@ def create(
     required: Sequence[str] = (),
     floats: Optional[Mapping[str, int]] = None,
     wait: bool = True,
-    style: Optional[str] = None,
-    group_rows: Optional[int] = None,
-    page_rows: Optional[int] = None,
-    page_version: Optional[int] = None,
+    **files: Unpack[FileOptions],
 ) -> Dataset:
     """Makes a table without rows, and returns it. The folder above `path` must be there.
 
@@ -461,7 +437,7 @@ def create(
     """
     keys = names_of(keys)
     said = with_reps(_tables.schema_json(schema, floats or {}), keys, required)
-    table = Dataset(path, wait=wait, style=style, group_rows=group_rows, page_rows=page_rows, page_version=page_version)
+    table = Dataset(path, wait=wait, **files)
     call("create", [*table._patience, "--", table.path, "-", *keys], [schema_text(said)])
     return table
 

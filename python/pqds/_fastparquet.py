@@ -2,15 +2,19 @@
 
 from __future__ import annotations
 
-from typing import Any, Dict, Iterable, Iterator, List, Mapping, Optional, Sequence, Tuple, Union
+from typing import TYPE_CHECKING, Any, Dict, Iterable, Iterator, List, Mapping, Optional, Sequence, Tuple, Union
 
 from . import _pandas, _tables
 from ._dataset import Dataset, Group, create, names_of, prepared
 from ._files import inspect
 from ._filters import Filters
+from ._options import FileOptions
 from ._program import PathLike
 from ._schema import fields_of, leaves_of, with_reps
 from ._values import bound_reader
+
+if TYPE_CHECKING:
+    from typing_extensions import Unpack
 
 
 def write(
@@ -22,15 +26,14 @@ def write(
     write_index: Optional[bool] = None,
     required: Sequence[str] = (),
     floats: Optional[Mapping[str, int]] = None,
-    style: Optional[str] = None,
-    group_rows: Optional[int] = None,
+    **files: Unpack[FileOptions],
 ) -> int:
     """Writes a frame, or a `pyarrow.Table`, as a table in a folder, and returns how many rows.
 
     `partition_on` are the key columns. With `append` the rows come to the table that is there; without it a new table
     is made first, and `Exists` is raised if there is one. `write_index=True` makes the index of a frame a column,
     `False` leaves it out; without a word an index of its own is an error. `required` and `floats` are those of
-    `pqds.create`, `style` and `group_rows` those of `pqds.open`.
+    `pqds.create`, the other options those of `pqds.open`.
 
     Raises what `create` and `append` raise. The rows are looked at before the table is made. If the program refuses one
     all the same, as for a key that cannot name a folder, the new table stays, without rows.
@@ -38,11 +41,11 @@ def write(
     if write_index is not None:
         data = data.reset_index(drop=not write_index)
     if append:
-        return Dataset(path, style=style, group_rows=group_rows).append(data, floats=floats)
+        return Dataset(path, **files).append(data, floats=floats)
     keys = names_of(partition_on)
     said = with_reps(_tables.schema_json(data, floats or {}), keys, required)
     with prepared(data, said, floats or {}, is_whole=True) as rows:
-        return create(path, said, keys, style=style, group_rows=group_rows)._put(rows)
+        return create(path, said, keys, **files)._put(rows)
 
 
 # The words of fastparquet for what is known of a chunk, and the program's.

@@ -5,13 +5,17 @@ from __future__ import annotations
 import json
 import os
 import tempfile
-from typing import Any, Dict, Iterable, Iterator, Mapping, Optional, Sequence
+from typing import TYPE_CHECKING, Any, Dict, Iterable, Iterator, Mapping, Optional, Sequence
 
 from . import _tables
 from ._dataset import file_schema
+from ._options import FileOptions, file_words
 from ._program import PathLike, call, lines, path_word
 from ._schema import fields_of, schema_text
 from ._values import RowReader, RowWriter, raw_parts
+
+if TYPE_CHECKING:
+    from typing_extensions import Unpack
 
 
 def decode(file: PathLike, *, raw: bool = False) -> Iterator[Dict[str, Any]]:
@@ -33,10 +37,7 @@ def encode(
     *,
     floats: Optional[Mapping[str, int]] = None,
     raw: bool = False,
-    style: Optional[str] = None,
-    group_rows: Optional[int] = None,
-    page_rows: Optional[int] = None,
-    page_version: Optional[int] = None,
+    **files: Unpack[FileOptions],
 ) -> None:
     """Makes a Parquet file of rows, which are dicts.
 
@@ -49,21 +50,12 @@ def encode(
     with tempfile.TemporaryDirectory(prefix="pqds-") as folder:
         _put(os.path.join(folder, "schema"), [schema_text(said)])
         _put(os.path.join(folder, "rows"), parts)
-        options = _options(
-            ("style", style), ("group-rows", group_rows), ("page-rows", page_rows), ("page-version", page_version)
-        )
-        call("encode", [*options, "--", os.path.join(folder, "schema"), os.path.join(folder, "rows"), path_word(out)])
+        call("encode", [*file_words(files), "--", os.path.join(folder, "schema"), os.path.join(folder, "rows"), path_word(out)])
 
 
 def inspect(file: PathLike) -> Dict[str, Any]:
     """What a Parquet file is, from its footer and page headers: the object that `pqds inspect --json` prints."""
     return dict(json.loads(call("inspect", ["--json", "--", path_word(file)])))
-
-
-def _options(*named: Sequence[Any]) -> Iterator[str]:
-    for name, value in named:
-        if value is not None:
-            yield from (f"--{name}", str(value))
 
 
 def _put(file: str, parts: Iterable[bytes]) -> None:

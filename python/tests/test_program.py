@@ -71,6 +71,11 @@ class Ends(RoomCase):
         super().setUp()
         self._real = os.environ["PQDS"]
 
+    def fake_change(self, script: str) -> None:
+        """A program that does this, but tells the schema as the real one does."""
+        self.fake(f'[ "$1" = schema ] && exec "$REAL" "$@"; {script}')
+        os.environ["REAL"] = self._real
+
     def test_a_wrong_call(self) -> None:
         self.fake("echo 'error: unexpected' >&2; exit 2")
         with self.assertRaises(pqds.WrongCall) as caught:
@@ -79,8 +84,7 @@ class Ends(RoomCase):
 
     def test_in_doubt_says_how_to_find_out(self) -> None:
         table = pqds.create("t", ORDERS)
-        self.fake('[ "$1" = schema ] && exec "$REAL" "$@"; cat >/dev/null; echo "refused 26 InDoubt" >&2; exit 1')
-        os.environ["REAL"] = self._real
+        self.fake_change('cat >/dev/null; echo "refused 26 InDoubt" >&2; exit 1')
         with self.assertRaises(pqds.InDoubt) as caught:
             table.append([{"region": "x", "order": 1}])
         self.assertIn("compare count()", caught.exception.reason)
@@ -102,8 +106,7 @@ class Ends(RoomCase):
 
     def test_a_change_that_is_killed_before_its_input_ends_changes_nothing(self) -> None:
         table = pqds.create("t", ORDERS)
-        self.fake('[ "$1" = schema ] && exec "$REAL" "$@"; kill -9 $$')
-        os.environ["REAL"] = self._real
+        self.fake_change("kill -9 $$")
         with self.assertRaises(pqds.WrongCall) as caught:
             table.append({"region": "x" * 1000, "order": it} for it in range(10_000))
         self.assertIn("it has changed nothing", str(caught.exception))
@@ -112,9 +115,7 @@ class Ends(RoomCase):
 
     def test_ctrl_c_after_the_input(self) -> None:
         pqds.create("t", ORDERS)
-        self.fake(
-            '[ "$1" = schema ] && exec "$REAL" "$@"; cat >/dev/null; echo begun >&2; kill -INT $PPID; exec sleep 60'
-        )
+        self.fake_change("cat >/dev/null; echo begun >&2; kill -INT $PPID; exec sleep 60")
         script = (
             "import pqds\n"
             "try:\n"
@@ -122,15 +123,14 @@ class Ends(RoomCase):
             "except KeyboardInterrupt as error:\n"
             "    print(error)\n"
         )
-        environment = {**os.environ, "PYTHONPATH": str(TOP / "python"), "REAL": self._real}
+        environment = {**os.environ, "PYTHONPATH": str(TOP / "python")}
         words = [sys.executable, "-B", "-c", script]
         done = subprocess.run(words, capture_output=True, env=environment, text=True, check=True)
         self.assertIn("append was stopped; all rows are there or none", done.stdout)
 
     def test_a_program_that_does_not_read_its_input(self) -> None:
         table = pqds.create("t", ORDERS)
-        self.fake('[ "$1" = schema ] && exec "$REAL" "$@"; echo "why" >&2; echo "refused 23 NoTable" >&2; exit 1')
-        os.environ["REAL"] = self._real
+        self.fake_change('echo "why" >&2; echo "refused 23 NoTable" >&2; exit 1')
         with self.assertRaises(pqds.NoTable):
             table.append({"region": "x" * 1000, "order": it} for it in range(10_000))
 

@@ -7,6 +7,7 @@ use Rattle.schema.specs.Annotations.{LeafType}
 use Rattle.schema.specs.Fits.{fits_leaf}
 use Rattle.schema.specs.Stripe.{Entry}
 
+-- columns, each as the list of its entries
 abbrev pub Columns : Type 0
 Columns = List (List Entry)
 
@@ -29,6 +30,7 @@ pub record Want : Type 0 where
   pub full : ℕ
   pub leaf_type : LeafType
 
+-- an entry has a value, which fits the type, and the greatest definition level; or it has no value, and a lower one
 abbrev pub Suits : Want → Entry → Type 0
 Suits w e = MatchOption e.value (e.definition < w.full) (λ v. (e.definition ≡ w.full) × (fits_leaf w.leaf_type v ≡ true))
 
@@ -37,14 +39,14 @@ abbrev pub AllSuit : List Want → Columns → Type 0
 AllSuit (w ∷ ws) (c ∷ cs) = AllByRecursion (Suits w) c × AllSuit ws cs
 AllSuit _ _ = Unit {0}
 
--- Levels says the one, Value the other, Memory nothing, and no other refusal comes
+-- what a refusal says: Levels the first, Value the second, Memory nothing; no other refusal comes
 abbrev pub Tells : Type 0 → Type 0 → Refusal → Type 0
 Tells of_levels of_value refusal.Levels = of_levels
 Tells of_levels of_value refusal.Value = of_value
 Tells of_levels of_value refusal.Memory = Unit {0}
 Tells of_levels of_value _ = ⊥
 
--- this refusal is one of those
+-- the refusal is one of those in the list
 abbrev pub IsAmong : Refusal → List (Option Refusal) → Type 0
 IsAmong e [] = ⊥
 IsAmong e (o ∷ os) = (o ≡ Some e) ⊎ IsAmong e os

@@ -15,7 +15,7 @@ abbrev pub is_required_leaf : Field → Bool
 is_required_leaf (leaf n Required t) = true
 is_required_leaf _ = false
 
--- each of the fields is one
+-- each of the fields is a REQUIRED leaf
 abbrev pub is_flat : Fields → Bool
 is_flat no_fields = true
 is_flat (field f fs) = is_required_leaf f && is_flat fs
@@ -26,7 +26,7 @@ HaveEntries n [] [] = Unit {0}
 HaveEntries n (l ∷ ls) (es ∷ cs) = (length es ≡ n) × AllByRecursion (IsEntryOf l) es × HaveEntries n ls cs
 HaveEntries n _ _ = ⊥
 
--- such columns of a flat schema are those of n rows that fit
+-- columns of a flat schema with n entries for each leaf, each one of the leaf's, are those of n rows that fit
 abbrev pub FlatColumnsHaveRows : Type 0
 FlatColumnsHaveRows = (fs : Fields) (n : ℕ) (cs : Columns) → is_flat fs ≡ true → HaveEntries n (leaves_of fs) cs → (rows : List ValueTrees) × ((length rows ≡ n) × AreRowsOf fs cs rows)
 

@@ -58,7 +58,7 @@ NextRow S refused cause fs old new (Err e) = IsRefusedFor S refused cause old ne
 abbrev pub IsTooLong : Columns → Type 0
 IsTooLong cs = Any (λ (c : List Entry). 16777216 < length c) cs
 
--- and Limit for a column with too many entries
+-- Limit: a column has more entries than it may have; Levels and Value: as `HasFault` says
 abbrev pub IsRefusedAs : Fields → Columns → Refusal → Type 0
 IsRefusedAs fs cs Limit = IsTooLong cs
 IsRefusedAs fs cs e = HasFault fs cs e

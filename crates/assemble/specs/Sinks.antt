@@ -2,6 +2,7 @@
 use Rattle.std.specs.Prelude.{List, [], ◌∷◌, ◌++◌}
 use Rattle.schema.specs.Values.{ValueTree, group, list, ValueTrees, no_values, value as item}
 
+-- what a sink is shown at once: a null or a value of a leaf, or where a group or a list begins or ends
 pub data Token : Type 0 where
   single : ValueTree → Token
   group_begins : Token

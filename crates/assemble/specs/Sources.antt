@@ -26,14 +26,15 @@ abbrev pub Begins : List Entry → ℕ → ℕ → Type 0
 Begins [] r d = ⊥
 Begins (e ∷ es) r d = (e.repetition ≡ r) × (e.definition ≡ d)
 
--- no entries stand, or none other than these
+-- no entries stand
 abbrev pub NothingStands : Stands → Type 0
 NothingStands S = (es : List Entry) → S es → ⊥
 
+-- these entries stand, and no others
 abbrev pub StandsOnly : Stands → List Entry → Type 0
 StandsOnly S only = S only × ((es : List Entry) → S es → es ≡ only)
 
--- the same entries stand
+-- for the same entries both stand
 abbrev pub Same : Stands → Stands → Type 0
 Same S T = ((es : List Entry) → S es → T es) × ((es : List Entry) → T es → S es)
 
@@ -53,7 +54,7 @@ abbrev pub Refuses : Stands → Option Refusal → Refusal → Type 0
 Refuses S r Memory = Unit {0}
 Refuses S r e = NothingStands S × Again r e
 
--- out of memory aside, it is refused so from then on
+-- out of memory aside, a source that was refused is refused so from then on; out of memory it is as before
 abbrev pub Keeps : Option Refusal → Option Refusal → Refusal → Type 0
 Keeps old new Memory = new ≡ old
 Keeps old new e = new ≡ Some e

@@ -11,13 +11,13 @@ AllStand S [] [] = Unit {0}
 AllStand S (x ∷ xs) (c ∷ cs) = S x c × AllStand S xs cs
 AllStand S _ _ = ⊥
 
--- they stand for the same columns as before
+-- the sources stand for the same columns as before
 abbrev pub AllSame : {A : Type 0} → (A → List Entry → Type 0) → List A → List A → Type 0
 AllSame S [] [] = Unit {0}
 AllSame S (x ∷ xs) (y ∷ ys) = Same (S x) (S y) × AllSame S xs ys
 AllSame S _ _ = ⊥
 
--- they stand for no columns, since one will be refused
+-- the sources stand for no columns, since one of them will be refused
 abbrev pub NoneStand : {A : Type 0} → (A → List Entry → Type 0) → List A → Type 0
 NoneStand S xs = (cs : Columns) → AllStand S xs cs → ⊥
 
@@ -34,7 +34,8 @@ abbrev pub HaveCause : {A : Type 0} → (A → Refusal → Type 0) → List A �
 HaveCause cause [] e = ⊥
 HaveCause cause (x ∷ xs) e = cause x e ⊎ HaveCause cause xs e
 
--- a refusal is a source's own, where no columns stood and a source had a cause for it; or no source was refused, it is Levels, Value or Memory, and P holds of the columns that stood
+-- a refusal is a source's own, where no columns stood and a source had a cause for it;
+-- or no source was refused, it is Levels, Value or Memory, and P holds of the columns that stood
 abbrev pub IsRefusedFor : {A : Type 0} → (A → List Entry → Type 0) → (A → Option Refusal) → (A → Refusal → Type 0) → List A → List A → (Columns → Refusal → Type 0) → Refusal → Type 0
 IsRefusedFor S refused cause old new P e =
     (IsAmong e (map refused new) × NoneStand S old × HaveCause cause old e)

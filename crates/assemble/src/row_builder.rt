@@ -19,7 +19,7 @@ pub struct RowBuilder {
     values: Vec<Value>,
     /// The values of the groups and lists that have begun, those of the outermost first.
     inner: Vec<Value>,
-    /// Where those of each begin.
+    /// Where the values of each group and list that has begun begin in `inner`.
     begun: Vec<usize>,
 }
 

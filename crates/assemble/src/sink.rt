@@ -19,7 +19,7 @@ pub trait RowSink {
     /// What it keeps of the rows before the one that is being shown.
     ghost Base: { Type 0 } = { Unit {0} };
 
-    /// No value that is shown changes it, and no call that fails.
+    /// The base of a sink. No value that is shown changes it, and no call that fails.
     ghost base: { Self → Base };
 
     /// Whether it was shown whole rows, with these tokens. A sink that cannot drop a row leaves this out.

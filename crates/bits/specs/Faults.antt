@@ -4,6 +4,7 @@ use Rattle.bits.specs.declared.refusal.Refusal.TheVariants.{Truncated, Thrift, S
 use Rattle.bits.specs.declared.fault.Fault.{Fault}
 use Rattle.bits.specs.declared.fault.Fault.TheVariants as fault
 
+-- the refusal of the same name as a fault
 abbrev pub refusal_of : Fault → Refusal
 refusal_of fault.Truncated = Truncated
 refusal_of fault.Thrift = Thrift

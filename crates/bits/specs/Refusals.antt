@@ -13,7 +13,7 @@ IsFault _ = Unit {0}
 abbrev pub OnFault : {X : Type 0} → Result X Refusal → Type 0 → Type 0
 OnFault r P = IfErr r (λ e. IsFault e → P)
 
--- it is out of memory, or it has a cause
+-- a refusal is Memory, or has a cause
 abbrev pub HasCause : (Refusal → Type 0) → Refusal → Type 0
 HasCause Cause Memory = Unit {0}
 HasCause Cause e = Cause e
@@ -26,7 +26,7 @@ RefusedOnly Cause r = IfErr r (HasCause Cause)
 abbrev pub RefusedMemoryOnly : {X : Type 0} → Result X Refusal → Type 0
 RefusedMemoryOnly r = RefusedOnly (λ _. ⊥) r
 
--- it is Limit where the bound is passed, and another one where it is not, unless out of memory
+-- a refusal is Limit where the bound is passed, and another one where it is not, unless out of memory
 abbrev pub IsLimitJustWhere : Type 0 → Refusal → Type 0
 IsLimitJustWhere IsOver Limit = IsOver
 IsLimitJustWhere IsOver Memory = Unit {0}

@@ -22,7 +22,7 @@ pub fn unpack(alloc: Global, bytes: &[u8], width: u32, n: usize) -> R<Vec<u64>>
     unpacked(alloc, bytes, width, n)
 }
 
-/// The same, kept as the caller wants them.
+/// The first `n` numbers of `width` bits each, kept in the type that the caller wants. It is refused as [`unpack`] is.
 fn unpacked<T: Kept>(alloc: Global, bytes: &[u8], width: u32, n: usize) -> R<Vec<T>>
     requires wide { width ≤ 64 }
     requires fits { width ≤ T.widest }
@@ -88,7 +88,8 @@ fn number_at(bytes: &[u8], at: usize, offset: u32, width: u32) -> u64
     value
 }
 
-/// The same of numbers of at most 32 bits, as `u32`: levels and indexes have no more.
+/// The first `n` numbers of `width` bits each (at most 32), the lowest bit first, as `u32`: levels and indexes have no
+/// more bits. Refused Truncated exactly when the bytes have fewer than `n * width` bits.
 pub fn unpack_u32(alloc: Global, bytes: &[u8], width: u32, n: usize) -> R<Vec<u32>>
     requires { width ≤ 32 }
     ensures stands { IfOk result (λ v. (vec_len v ≡ n) × IsPacked bytes.now width v.items) }

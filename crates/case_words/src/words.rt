@@ -148,7 +148,7 @@ pub fn small_numbers(alloc: Global, words: &[&str]) -> R<Vec<i32>> {
     Ok(small)
 }
 
-/// The same of numbers from 0 on.
+/// The numbers of the words, from 0 on; Script where one has more than 32 bits.
 pub fn small_naturals(alloc: Global, words: &[&str]) -> R<Vec<u32>> {
     let mut small = Vec::new(alloc);
     for number in numbers(alloc, words)? {

@@ -28,6 +28,7 @@ abbrev pub IsAskedFilter : List Leaf → Option (List ℕ) → List (List Term) 
 IsAskedFilter leaves (Some text) ands = IsFilterText leaves text ands
 IsAskedFilter leaves None ands = ands ≡ []
 
+-- why the filter that a command is given is refused; where none is given, it is not
 abbrev pub IsRefusedFilterOf : List Leaf → Option (List ℕ) → Refusal → Type 0
 IsRefusedFilterOf leaves (Some text) e = IsRefusedFilter leaves text e
 IsRefusedFilterOf leaves None e = ⊥
@@ -66,14 +67,16 @@ pub data RewritesFrom {D : Type 0} (state : D → DiskState) (old new : Store D)
   begun : (mid : Store D) (n : ℕ) (first : ActsFrom state old mid (begin_rewrite numbers) (job n) s) → ActsFrom state mid new (commit n) (answered done result) first.after
       → RewritesFrom state old new numbers result s
 
+-- on an honest disk, from each state that the store stands in: the groups of these numbers are rewritten, or the rewrite is refused
 abbrev pub Rewrites : {D : Type 0} → (D → DiskState) → Store D → Store D → List ℕ → Result ℕ Refusal → Type 0
 Rewrites state old new numbers result = (state old.vault.disk).honest → (s : State) → Stands state old s → RewritesFrom state old new numbers result s
 
--- the same of the groups that the store plans to rewrite; it is unchanged where it plans none
+-- From the one state: the store plans which groups to rewrite, and rewrites them; or is refused the plan, and is as it was.
 pub data RewritesPlannedFrom {D : Type 0} (state : D → DiskState) (old new : Store D) (min_rows : ℕ) (result : Result ℕ Refusal) (s : State) : Type 0 where
   not_planned : (e : Refusal) → result ≡ Err e → new ≡ old → ActsFrom state old old (plan_rewrite min_rows) (refused_answer e) s → RewritesPlannedFrom state old new min_rows result s
   planned_so : (numbers : List ℕ) → ActsFrom state old old (plan_rewrite min_rows) (planned numbers) s → RewritesFrom state old new numbers result s → RewritesPlannedFrom state old new min_rows result s
 
+-- on an honest disk, from each state that the store stands in: the groups that the store plans are rewritten, or that is refused
 abbrev pub RewritesPlanned : {D : Type 0} → (D → DiskState) → Store D → Store D → ℕ → Result ℕ Refusal → Type 0
 RewritesPlanned state old new min_rows result = (state old.vault.disk).honest → (s : State) → Stands state old s → RewritesPlannedFrom state old new min_rows result s
 
@@ -86,5 +89,6 @@ pub data RunsScriptFrom {D T : Type 0} (state : D → DiskState) (old new : Stor
       → OnOk result ((printed : List ℕ) × AreAnswerLines runs.after.table.schema answers printed × Appends before after printed) → RunsScriptFrom state old new text before after result s
   not_run : (e : Refusal) → AreRefusedCalls s.table.schema (lines text) e → result ≡ Err e → new ≡ old → after ≡ before → RunsScriptFrom state old new text before after result s
 
+-- on an honest disk, from each state that the store stands in: the calls of a text are made and their answers printed, or it is refused
 abbrev pub RunsScript : {D T : Type 0} → (D → DiskState) → Store D → Store D → List ℕ → Option (List ℕ) → Option (List ℕ) → Result T Refusal → Type 0
 RunsScript state old new text before after result = (state old.vault.disk).honest → (s : State) → Stands state old s → RunsScriptFrom state old new text before after result s

@@ -66,6 +66,7 @@ pub record IsSchemaOfFile (bytes : List ℕ) (fs : Fields) : Type 0 where
 
 -- ---- calls that only read
 
+-- whether a call is one of those that only read: `query`, `fetch`, `close`, `count` or `groups`
 abbrev pub only_reads : Call → Bool
 only_reads (query terms columns) = true
 only_reads (fetch n) = true
@@ -82,7 +83,7 @@ ActsOn {D} state old (call ∷ calls) (answer ∷ answers) new s last = (mid : S
 ActsOn state old [] (answer ∷ answers) new s last = ⊥
 ActsOn state old (call ∷ calls) [] new s last = ⊥
 
--- From the one state the store makes some calls that only read.
+-- From the one state the store makes some calls, each of which only reads.
 pub record OnlyReads {D : Type 0} (state : D → DiskState) (old new : Store D) (s : State) : Type 0 where
   pub calls : List Call
   pub answers : List Answer

@@ -53,7 +53,8 @@ pub fn schema_reason(alloc: Global, file: &str, bytes: &[u8]) -> R<Option<Reason
     Ok(Some(Reason::Misfit(told)))
 }
 
-/// Why a question is refused, in the same way. Where a part file cannot be read, the files before it are read once more.
+/// Why a question is refused, where there is more to say than the refusal. Where a part file cannot be read, the files
+/// before it are read once more.
 pub fn question_reason<D: Disk>(
     alloc: Global,
     store: &mut Store<D>,
@@ -75,7 +76,7 @@ pub fn question_reason<D: Disk>(
     }
 }
 
-/// Why a change is refused, in the same way; the bytes are those of the file that it names.
+/// Why a change is refused, where there is more to say than the refusal; the bytes are those of the file that it names.
 pub fn change_reason<D: Disk>(
     alloc: Global,
     store: &mut Store<D>,

@@ -15,9 +15,9 @@ use std::time::Duration;
 /// What a command does with its folder.
 #[derive(Clone, Copy)]
 pub enum Access {
-    /// It reads. Others may read as well.
+    /// The command reads the dataset. Others may read it as well.
     Reads,
-    /// It changes the dataset, and is alone.
+    /// The command changes the dataset. No other may use it.
     Writes,
 }
 
@@ -54,9 +54,9 @@ impl Lock for File {
 /// How a command waits for another one.
 #[derive(Clone, Copy)]
 pub struct Patience {
-    /// Whether it waits at all.
+    /// Whether the command waits at all; else it is refused at once.
     pub waits: bool,
-    /// Whether it says so.
+    /// Whether the command says that it waits.
     pub shows: bool,
 }
 
@@ -90,7 +90,7 @@ where
     Err(Refusal::Device)
 }
 
-/// The same; none where another folder has come in its place.
+/// Opens a folder and locks it as [`locked`] does, but once: None where another folder has come in its place by then.
 fn locked_once<F: Files + Clock, E: Write>(
     rt: &F,
     folder: &str,

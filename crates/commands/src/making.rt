@@ -192,7 +192,7 @@ where
             Err(_) => Err(Refusal::Device),
         };
         if is_new && made.is_err() {
-            // It stays where something is in it.
+            // The folder stays where something is in it.
             let _ = fs::remove_dir(self.rt, self.call.folder);
         }
         drop(lock?);

@@ -79,7 +79,7 @@ pub fn unread_part<D: Disk>(
     Ok(None)
 }
 
-/// The same of the groups of a store.
+/// The path of the first part file of an open store, in table order, of which the disk gives nothing; None as of [`unread_part`].
 pub fn unread_part_of<D: Disk>(alloc: Global, store: &mut Store<D>) -> R<Option<String>> {
     if store.vault.disk().failures() == 0 {
         return Ok(None);

@@ -203,8 +203,8 @@ pub fn print_schema<D: Disk, W: Write>(alloc: Global, store: &Store<D>, out: &mu
     print_columns(alloc, store.schema(), out)
 }
 
-/// Prints the columns of a Parquet file in the same way. Refused as `read_footer` and `Schema::new` refuse the file, and
-/// Device where the output cannot be written.
+/// Prints the columns of a Parquet file: a line of JSON, as that of a table's columns. Refused as `read_footer` and
+/// `Schema::new` refuse the file, and Device where the output cannot be written.
 pub fn print_schema_of<W: Write>(alloc: Global, bytes: &[u8], out: &mut W) -> R<()>
     ensures printed { OnOk result ((fs : Fields) × IsSchemaOfFile bytes.now fs
         × ((ds : Items) × PrintsFields fs ds × Appends (W.contents out.old) (W.contents out.new) (compact_text (array ds) ++ 10 ∷ []))) }

@@ -64,22 +64,22 @@ pub enum Difference {
 pub enum FilterFault {
     /// The text is no JSON: this is where.
     NoJson { column: usize },
-    /// It is no array.
+    /// The JSON of the filter is no array.
     NoArray,
-    /// It has terms and lists of terms.
+    /// The filter has terms next to lists of terms.
     Mixed,
-    /// This term is none.
+    /// A term of the filter that is none, and what is wrong with it.
     Term { term: String, fault: TermFault },
 }
 
 /// What is wrong with a term.
 #[derive(Drop)]
 pub enum TermFault {
-    /// It is no column, operator and value.
+    /// The term is not a column, an operator and a value.
     Form,
     NoColumn,
     NoOrder,
-    /// Its value is none of the column, which is shown as in a schema.
+    /// The value is none of the column, which is shown as in a schema.
     Value { column: String },
 }
 

@@ -35,7 +35,7 @@ pub fn rows_of<E: Write>(
     rows
 }
 
-/// The rows of a text, in the same way. Each is counted.
+/// The rows of a text, one of each line, each of which is counted. Refused as [`rows_of`] is.
 fn read_rows<E: Write>(
     alloc: Global,
     schema: &Schema,

@@ -22,11 +22,11 @@ const PART_ENDING: &str = ".parquet";
 /// What a call of a disk did.
 #[derive(Clone, Copy)]
 pub enum Work<'a> {
-    /// It read so many bytes.
+    /// The call read this many bytes.
     Read(usize),
-    /// It made a file.
+    /// The call made a file.
     Made,
-    /// It wrote these bytes to the file at a path.
+    /// The call wrote these bytes to the file at a path.
     Wrote { path: &'a str, bytes: &'a [u8] },
 }
 
@@ -47,7 +47,7 @@ pub struct Tally<S: Write + Drop> {
 }
 
 impl<S: Write + Drop> Tally<S> {
-    /// Nothing so far.
+    /// A tally of nothing so far.
     pub fn new(alloc: Global, screen: S, is_shown: bool) -> Tally<S>
         ensures { result.is_shown ≡ is_shown }
     {

@@ -38,7 +38,7 @@ pub(crate) fn check_folder(
     Ok(())
 }
 
-/// The same on the disk of a fresh folder of the test's own.
+/// Goes through the rows on the disk of a fresh folder of the test's own, where so many of their calls fail.
 pub(crate) fn check_own_folder(
     rt: &HostRuntime,
     test: &str,

@@ -17,7 +17,7 @@ const GROWING: &[Row] = &[
     ("append", "_metadata.new", "the new root", None),
 ];
 
-/// And one that is shorter.
+/// A next root that is shorter than the root before it.
 const SHRINKING: &[Row] = &[
     ("create", "_metadata.new", "", None),
     ("append", "_metadata.new", "last", None),
@@ -61,7 +61,7 @@ const CALLS: &[Row] = &[
     ("sync-folder", "", "", None),
 ];
 
-/// Whether this is what was kept: a path, a fault, and an error of a kind.
+/// Whether what was kept is of this path and this fault, with an error of this kind.
 fn is_kept(kept: Option<&Failure>, path: &str, fault: Fault, kind: ErrorKind) -> bool {
     match kept {
         Some(failure) => {

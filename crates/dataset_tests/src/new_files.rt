@@ -11,7 +11,7 @@ fn is_there(rt: &HostRuntime, path: &str) -> bool {
     fs::symlink_metadata(rt, path).is_ok()
 }
 
-/// What comes of a new file of five bytes where each file takes so many, and is synced or not.
+/// What comes of a new file of five bytes where each file takes `room` bytes, and can be synced or not.
 fn put(rt: &HostRuntime, path: &str, room: usize, syncs: bool) -> R<()> {
     let files = Faulty {
         rt: rt.clone()?,
@@ -21,7 +21,7 @@ fn put(rt: &HostRuntime, path: &str, room: usize, syncs: bool) -> R<()> {
     put_new(&files, rt.alloc(), path, b"whole")
 }
 
-/// Whether it is refused, and neither it is there nor the first name that it has while it is made.
+/// Whether a new file is refused, and neither it nor the first name that it has while it is made is there.
 fn is_taken_away(rt: &HostRuntime, room: usize, syncs: bool) -> bool {
     put(rt, "faulty.bytes", room, syncs) == Err(Refusal::Device)
         && !is_there(rt, "faulty.bytes")

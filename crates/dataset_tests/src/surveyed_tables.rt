@@ -31,14 +31,14 @@ fn large(alloc: Global) -> R<Survey> {
     })
 }
 
-/// Texts that are printed of it.
+/// Texts that are printed of the large table.
 const PRINTED: [&str; 3] = [
     "1,000             100        10  ####################  k=1000\n",
     "k=981\n  and 980 other keys\n",
     "joins: 10,000\n",
 ];
 
-/// Whether all that is printed of it is a screenful, and has these texts.
+/// Whether all that is printed of the large table is a screenful, and has these texts.
 fn is_a_screenful(alloc: Global) -> R<bool> {
     let bytes = text_of_survey(alloc, &large(alloc)?)?;
     let text = String::from_utf8_lossy(alloc, bytes.as_slice())?;

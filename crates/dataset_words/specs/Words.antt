@@ -9,12 +9,14 @@ use Rattle.dataset_words.specs.declared.call.Change.TheVariants.{Append, Import,
 use Rattle.dataset_words.specs.declared.call.Look.{Look}
 use Rattle.dataset_words.specs.declared.call.Look.TheVariants.{Survey, Files, Rows}
 
+-- the word of a command that asks something of a dataset
 abbrev pub question_word : Question → List ℕ
 question_word (Query filter columns) = codes "query"
 question_word (Count filter) = codes "count"
 question_word Groups = codes "groups"
 question_word Schema = codes "schema"
 
+-- the word of a command that changes a dataset
 abbrev pub change_word : Change → List ℕ
 change_word (Append rows) = codes "append"
 change_word (Import file) = codes "import"
@@ -24,11 +26,13 @@ change_word (RemoveGroups numbers) = codes "remove"
 change_word (Rewrite numbers) = codes "rewrite"
 change_word (RewriteSmall min_rows) = codes "rewrite"
 
+-- the word of a command that looks at a dataset's files: `inspect` or `check`
 abbrev pub look_word : Look → List ℕ
 look_word (Survey min_rows) = codes "inspect"
 look_word Files = codes "check"
 look_word (Rows rows) = codes "check"
 
+-- the word that a command on a dataset begins with
 abbrev pub task_word : Task → List ℕ
 task_word (Create schema keys) = codes "create"
 task_word (Ask question) = question_word question

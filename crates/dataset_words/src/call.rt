@@ -62,7 +62,7 @@ pub enum Change<'a> {
     RemoveGroups { numbers: Vec<u64> },
     /// The rows of the groups of these numbers are written anew, in full groups.
     Rewrite { numbers: Vec<u64> },
-    /// The same of groups that have fewer rows than this, where neighbours of one key do.
+    /// The rows of groups with fewer rows than this, where neighbours of one key have fewer too, are written anew, in full groups.
     RewriteSmall { min_rows: u64 },
 }
 

@@ -166,7 +166,7 @@ pub fn call_in<'a>(alloc: Global, word: &str, matches: &ArgMatches<'a>) -> R<Opt
     }
 }
 
-/// How files are written: by the words, or else as ever.
+/// How files are written: as the words say, for a command that takes such words; else by the standard options.
 fn options_for(word: &str, matches: &ArgMatches<'_>) -> WriteOptions {
     if has_options(word) {
         options_in(matches)
@@ -175,15 +175,15 @@ fn options_for(word: &str, matches: &ArgMatches<'_>) -> WriteOptions {
     }
 }
 
-/// Of fewer rows a group is small, where the words do not say it: half of those that a group has at most.
+/// The number of rows below which a group is small, where the words do not say it: half of the default of `--group-rows`.
 const SMALL_ROWS: u64 = 65_536;
 
-/// Of fewer rows a group is small, by the words.
+/// The number of rows below which a group is small: as the words say, or else [`SMALL_ROWS`].
 pub fn min_rows_in(matches: &ArgMatches<'_>) -> u64 {
     matches.get_one::<u64>("min-rows").unwrap_or(SMALL_ROWS)
 }
 
-/// The call that looks so at the folder of a dataset.
+/// The call that looks at the folder of a dataset, as `look` says.
 pub fn look_call<'a>(folder: &'a str, matches: &ArgMatches<'_>, look: Look<'a>) -> Call<'a>
     ensures { task_word result.task ≡ look_word look.entry }
 {

@@ -134,10 +134,11 @@ abbrev pub IsShortByPrefixes : List ValueTree → List ℕ → List ℕ → Type
 IsShortByPrefixes values old new =
     (texts : List (List ℕ)) → values ≡ map bytes texts → length new ≤ length old + (340 + 10 * length values + length (concat (shortest_suffixes [] texts)))
 
--- no bytes stand for the values, by their lengths or by their prefixes
+-- no bytes stand for the values by their lengths
 abbrev pub NoLengthsOf : List ValueTree → Type 0
 NoLengthsOf values = (text : List ℕ) (used : ℕ) → AreBytes text → StandForBytes (IsByteLengths text (length values)) values used → ⊥
 
+-- no bytes stand for the values by their prefixes
 abbrev pub NoPrefixesOf : List ValueTree → Type 0
 NoPrefixesOf values = (text : List ℕ) (used : ℕ) → AreBytes text → StandForBytes (IsPrefixed text (length values)) values used → ⊥
 

@@ -6,7 +6,7 @@ use Rattle.std.specs.List.{range_with_len}
 abbrev pub down_and_up_bytes : List ℕ
 down_and_up_bytes = 128 ∷ 1 ∷ 4 ∷ 8 ∷ 14 ∷ 3 ∷ 2 ∷ 0 ∷ 0 ∷ 0 ∷ 192 ∷ 63 ∷ 0 ∷ 0 ∷ 0 ∷ 0 ∷ 0 ∷ 0 ∷ []
 
--- their numbers
+-- the numbers 7, 5, 3, 1, 2, 3, 4, 5
 abbrev pub down_and_up_values : List ℤ
 down_and_up_values = pos 7 ∷ pos 5 ∷ pos 3 ∷ pos 1 ∷ pos 2 ∷ pos 3 ∷ pos 4 ∷ pos 5 ∷ []
 
@@ -19,7 +19,7 @@ abbrev pub two_blocks_bytes : List ℕ
 two_blocks_bytes =
     128 ∷ 1 ∷ 4 ∷ 131 ∷ 1 ∷ 0 ∷ 2 ∷ 0 ∷ 0 ∷ 0 ∷ 0 ∷ 1 ∷ 3 ∷ 0 ∷ 0 ∷ 0 ∷ 4 ∷ 0 ∷ 0 ∷ 0 ∷ 0 ∷ 0 ∷ 0 ∷ 0 ∷ 0 ∷ 0 ∷ 0 ∷ 0 ∷ []
 
--- their numbers
+-- the numbers 0 to 128, 131 and 130
 abbrev pub two_blocks_values : List ℤ
 two_blocks_values = map pos (range_with_len 0 129) ++ pos 131 ∷ pos 130 ∷ []
 
@@ -31,6 +31,6 @@ three_lengths_bytes = 128 ∷ 1 ∷ 4 ∷ 3 ∷ 2 ∷ 3 ∷ 2 ∷ 0 ∷ 0 ∷ 0 
 abbrev pub four_words_bytes : List ℕ
 four_words_bytes = 128 ∷ 1 ∷ 4 ∷ 4 ∷ 0 ∷ 3 ∷ 3 ∷ 0 ∷ 0 ∷ 0 ∷ 68 ∷ 1 ∷ 0 ∷ 0 ∷ 0 ∷ 0 ∷ 0 ∷ 0 ∷ 0 ∷ 0 ∷ 0 ∷ 0 ∷ 128 ∷ 1 ∷ 4 ∷ 4 ∷ 8 ∷ 3 ∷ 3 ∷ 0 ∷ 0 ∷ 0 ∷ 112 ∷ 0 ∷ 0 ∷ 0 ∷ 0 ∷ 0 ∷ 0 ∷ 0 ∷ 0 ∷ 0 ∷ 0 ∷ 0 ∷ 97 ∷ 120 ∷ 105 ∷ 115 ∷ 108 ∷ 101 ∷ 98 ∷ 97 ∷ 98 ∷ 98 ∷ 108 ∷ 101 ∷ 121 ∷ 104 ∷ 111 ∷ 111 ∷ 100 ∷ []
 
--- their values
+-- the values axis, axle, babble and babyhood
 abbrev pub four_words : List (List ℕ)
 four_words = (97 ∷ 120 ∷ 105 ∷ 115 ∷ []) ∷ (97 ∷ 120 ∷ 108 ∷ 101 ∷ []) ∷ (98 ∷ 97 ∷ 98 ∷ 98 ∷ 108 ∷ 101 ∷ []) ∷ (98 ∷ 97 ∷ 98 ∷ 121 ∷ 104 ∷ 111 ∷ 111 ∷ 100 ∷ []) ∷ []

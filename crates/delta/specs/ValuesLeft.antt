@@ -37,6 +37,6 @@ Takes old new (Ok (Some value)) = old ≡ value.now ∷ new
 Takes old new (Ok None) = new ≡ old
 Takes old new (Err fault) = new ≡ old
 
--- so it is once the value is no longer borrowed
+-- once the value that is returned is no longer borrowed, it is taken, and no other
 abbrev pub EndsAs : MutBor Prefixed → Result (Option (Bor (List ℕ))) Fault → Fml
 EndsAs p result = Rests (the_row (record { mir = named 0; lft = [] })) p (λ new. Takes (values_left p.now) (values_left new) result)

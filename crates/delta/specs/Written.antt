@@ -54,6 +54,6 @@ pub record IsWrittenDelta (w : Width) (values : List ℤ) (bytes : List ℕ) (us
   pub blocks : InTurn (IsWrittenBlock w) (drop at bytes) (blocks_of w values) body
   pub ends : used ≡ at + body
 
--- the values are written at the end in this one way
+-- values are written at the end as differences, as a writer writes them
 abbrev pub AppendsWrittenDelta : Width → List ℤ → List ℕ → List ℕ → Type 0
 AppendsWrittenDelta w values old new = Appends (IsWrittenDelta w values) (most_bytes w (length values)) old new

@@ -25,9 +25,10 @@ pub record IsWrittenPrefixes (bytes : List ℕ) (texts : List (List ℕ)) (used 
   pub suffixes : IsWrittenLengths (drop at bytes) (shortest_suffixes [] texts) rest
   pub ends : used ≡ at + rest
 
--- the values are written at the end in this one way
+-- values are written at the end by their lengths, as a writer writes them
 abbrev pub AppendsWrittenLengths : List ValueTree → List ℕ → List ℕ → Type 0
 AppendsWrittenLengths values old new = Appends (λ bytes. StandForBytes (IsWrittenLengths bytes) values) (170 + 5 * length values + text_size values) old new
 
+-- values are written at the end by their prefixes, as a writer writes them
 abbrev pub AppendsWrittenPrefixes : List ValueTree → List ℕ → List ℕ → Type 0
 AppendsWrittenPrefixes values old new = Appends (λ bytes. StandForBytes (IsWrittenPrefixes bytes) values) (340 + 10 * length values + text_size values) old new

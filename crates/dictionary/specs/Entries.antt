@@ -7,7 +7,7 @@ use Rattle.dictionary.specs.declared.dictionary.Dictionary.{Dictionary}
 abbrev pub entries_of : Dictionary → List ValueTree
 entries_of d = map view d.entries.items
 
--- the indexes of the values that it was built from
+-- the indexes of the values that a dictionary was built from; none of one that was read
 abbrev pub indexes_of : Dictionary → List ℕ
 indexes_of d = d.indexes.items
 

@@ -19,7 +19,7 @@ use std::alloc::Global;
 #[derive(Debug, Drop)]
 pub struct Dictionary {
     pub(crate) entries: Vec<Value>,
-    /// Of each value that the dictionary was built from; none in a dictionary that was read.
+    /// The index of each value that the dictionary was built from; none in a dictionary that was read.
     pub(crate) indexes: Vec<u32>,
 }
 

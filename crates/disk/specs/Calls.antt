@@ -75,6 +75,7 @@ pub record CountsFailure {T : Type 0} (result : Result T Fault) (old new : ℕ) 
   pub failed : IsErrOf result Failed → IsOneMore old new
   pub others : (IsErrOf result Failed → ⊥) → new ≡ old
 
+-- what `create` does: the path names a new, empty file, where its folder is there and the name is free
 pub record Created {T : Type 0} (path : List ℕ) (old new : State) (result : Result T Fault) : Type 0 where
   pub node : ℕ
   pub fresh : IsFresh old node
@@ -87,6 +88,7 @@ pub record Created {T : Type 0} (path : List ℕ) (old new : State) (result : Re
   pub exists : IsErrOf result Exists → old.seen.names path ≢ Nothing
   pub absent : IsErrOf result Absent → old.seen.names (folder_of path) ≢ Folder
 
+-- what `make_folder` does: the path names a folder, where its own folder is there; a name that is there stays
 pub record FolderMade {T : Type 0} (path : List ℕ) (old new : State) (result : Result T Fault) : Type 0 where
   pub takes : Takes (Binds path Folder) old new result
   pub sure : NoDoubt old new
@@ -101,6 +103,7 @@ pub record FolderMade {T : Type 0} (path : List ℕ) (old new : State) (result :
 abbrev pub IsNoFile : State → List ℕ → Type 0
 IsNoFile state path = (n : ℕ) → state.seen.names path ≢ File n
 
+-- what `append` does: the file reads with these bytes after those it had; a stop may tear its sectors from the old end on
 pub record Appended {T : Type 0} (path bytes : List ℕ) (old new : State) (result : Result T Fault) : Type 0 where
   pub takes : (n : ℕ) → old.seen.names path ≡ File n → Takes (Tears n (length (old.seen.bytes n)) (length bytes)) old new result
   pub sure : NoDoubt old new
@@ -134,6 +137,7 @@ pub record IsMovable (image : Image) (source target : List ℕ) : Type 0 where
   pub beside : folder_of target ≡ folder_of source
   pub apart : target ≢ source
 
+-- what `rename` does: where the file can be moved (`IsMovable`), the target names it and the source names nothing
 pub record Renamed {T : Type 0} (source target : List ℕ) (old new : State) (result : Result T Fault) : Type 0 where
   pub takes : Takes (Moves source target (old.seen.names source)) old new result
   pub sure : NoDoubt old new
@@ -143,6 +147,7 @@ pub record Renamed {T : Type 0} (source target : List ℕ) (old new : State) (re
   -- a name is there, and cannot get the other one
   pub exists : IsErrOf result Exists → (old.seen.names source ≢ Nothing) × (IsMovable old.seen source target → ⊥)
 
+-- what `remove` does: a file's name stands for nothing; the name of a folder stays
 pub record Removed {T : Type 0} (path : List ℕ) (old new : State) (result : Result T Fault) : Type 0 where
   pub takes : Takes (Binds path Nothing) old new result
   pub sure : NoDoubt old new
@@ -176,6 +181,7 @@ pub record AreNamesIn (image : Image) (folder : List ℕ) (entries : List Entry)
   pub every : (name : List ℕ) → IsName name → image.names (path_in folder name) ≢ Nothing → (i : ℕ) × (entry : Entry) × (slice_get entries i ≡ Some entry) × (string_bytes entry.name ≡ name)
   pub once : (i j : ℕ) (one other : Entry) → slice_get entries i ≡ Some one → slice_get entries j ≡ Some other → string_bytes one.name ≡ string_bytes other.name → i ≡ j
 
+-- what `list` returns: exactly the names in the folder, with their kinds; it changes nothing
 pub record Listed {R : Type 0} (entries_of : R → List Entry) (folder : List ℕ) (old new : State) (result : Result R Fault) : Type 0 where
   pub still : IsStill old new
   pub done : IfOk result (λ r. (old.seen.names folder ≡ Folder) × AreNamesIn old.seen folder (entries_of r))

@@ -64,5 +64,6 @@ host_state failed counted = record {
   honest = ⊥;
 }
 
+-- the state that is claimed of a real folder is lawful, since it is not honest
 pub host_lawful : (failed counted : ℕ) → IsLawful (host_state failed counted)
 host_lawful failed counted = record { seen_may_stay = λ no. absurd no; whole = λ no. absurd no }

@@ -22,7 +22,7 @@ pub struct Outcome {
 }
 
 impl Outcome {
-    /// Of a call that was done and gives this text.
+    /// The outcome of a call that was done and gives this text.
     pub fn of(text: String) -> Outcome {
         Outcome {
             text,
@@ -30,12 +30,12 @@ impl Outcome {
         }
     }
 
-    /// Of a call that was done and gives nothing.
+    /// The outcome of a call that was done and gives nothing.
     pub fn ok(alloc: Global) -> R<Outcome> {
         Ok(Outcome::of(String::from_str(alloc, "ok")?))
     }
 
-    /// Of a call of the disk that was not done: the fault's name.
+    /// The outcome of a call of the disk that was not done: the fault's name.
     pub fn fault(alloc: Global, fault: Fault) -> R<Outcome> {
         Ok(Outcome {
             text: String::from_str(alloc, name_of(fault))?,
@@ -43,7 +43,7 @@ impl Outcome {
         })
     }
 
-    /// Of a call of the vault that was refused.
+    /// The outcome of a call of the vault that was refused.
     pub fn refused(alloc: Global, refusal: Refusal) -> R<Outcome> {
         Ok(Outcome {
             text: format!(in alloc; "refused {refusal}")?,
@@ -51,7 +51,7 @@ impl Outcome {
         })
     }
 
-    /// Of a call of the disk that gives nothing.
+    /// The outcome of a call of the disk that gives nothing where it is done.
     pub fn of_call(alloc: Global, done: Result<(), Fault>) -> R<Outcome> {
         match done {
             Ok(()) => Outcome::ok(alloc),
@@ -59,7 +59,7 @@ impl Outcome {
         }
     }
 
-    /// Of a call of the vault that gives nothing.
+    /// The outcome of a call of the vault that gives nothing where it is done.
     pub fn of_change(alloc: Global, done: R<()>) -> R<Outcome> {
         match done {
             Ok(()) => Outcome::ok(alloc),
@@ -67,7 +67,7 @@ impl Outcome {
         }
     }
 
-    /// Of a count.
+    /// The outcome of a call that gives a count.
     pub fn of_count(alloc: Global, count: u64) -> R<Outcome> {
         Ok(Outcome::of(format!(in alloc; "{count}")?))
     }

@@ -48,7 +48,7 @@ fn named(call: &Call) -> (&'static str, Option<u64>) {
     }
 }
 
-/// What a call holds beside that.
+/// What a call holds besides its name and its number.
 fn held(alloc: Global, schema: &Schema, call: &Call) -> R<String> {
     match call {
         Call::Append(rows) => shown_rows(alloc, schema, rows.as_slice()),

@@ -34,7 +34,7 @@ fn size_of(alloc: Global, bytes: &[u8], meta: &ColumnMeta, leaf: &Leaf) -> R<Str
     Ok(format!(in alloc; "{used} bytes")?)
 }
 
-/// The same, and the entries.
+/// How many bytes the pages of a chunk take, and the entries of the chunk.
 fn column_of(alloc: Global, bytes: &[u8], meta: &ColumnMeta, leaf: &Leaf) -> R<(String, String)> {
     let (column, used) = read_chunk(alloc, bytes, meta, leaf)?;
     let size = format!(in alloc; "{used} bytes")?;
@@ -51,7 +51,8 @@ fn checked_chunk(alloc: Global, words: &[&str]) -> R<String> {
     size_of(alloc, bytes.as_slice(), &meta, leaf)
 }
 
-/// `chunk SCHEMA CHUNK BYTES`: the same, and the entries; the chunk is also checked.
+/// `chunk SCHEMA CHUNK BYTES`: how many bytes the pages take of a chunk of the schema's first leaf, and its entries; it is
+/// also checked.
 fn chunk(alloc: Global, words: &[&str]) -> R<String> {
     let schema = schema_from(alloc, word(words, 1)?)?;
     let leaf = leaf_of(&schema)?;
@@ -206,7 +207,7 @@ fn shown_record(alloc: Global, meta: R<ColumnMeta>) -> R<String> {
     shown_struct(alloc, &meta?.to_tree(alloc)?)
 }
 
-/// The same of a group.
+/// The bytes of the record of a group.
 fn shown_group(alloc: Global, meta: R<GroupMeta>) -> R<String> {
     shown_struct(alloc, &meta?.to_tree(alloc)?)
 }

@@ -73,7 +73,7 @@ pub fn entries_of(alloc: Global, words: &[&str]) -> R<Vec<Entry>> {
     Ok(entries)
 }
 
-/// The same entries, with their values borrowed.
+/// These entries, with their values borrowed.
 pub fn borrowed<'a>(alloc: Global, entries: &'a [Entry]) -> R<Vec<EntryRef<'a>>> {
     let mut refs = Vec::new(alloc);
     for entry in entries {

@@ -66,7 +66,7 @@ fn printed_twice(alloc: Global, schema: &Schema, row: &Row) -> R<Vec<u8>> {
     Ok(out)
 }
 
-/// The lines that it holds of a row that is shown, and then given, after the line before was forgotten.
+/// The lines that a printer of rows holds of a row that is shown, and then given, after an earlier line was forgotten.
 fn lines_of(alloc: Global, schema: &Schema, row: &Row) -> R<Vec<u8>> {
     let plan = RowPlan::new(alloc, schema)?;
     let mut sink = RowText::new(alloc, &plan);

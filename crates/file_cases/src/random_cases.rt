@@ -40,7 +40,7 @@ struct Made {
     rows: Vec<Row>,
 }
 
-/// Those of a seed, with fewer rows than this.
+/// The random schema of a seed, with fewer random rows than `below`.
 fn make(alloc: Global, seed: i64, below: u16) -> R<Made> {
     let mut random = Random {
         state: u64::try_from(seed).unwrap_or(0),
@@ -114,7 +114,7 @@ fn change(random: &mut Random, columns: &mut [Column]) -> bool {
     true
 }
 
-/// Whether both are Levels, or both Value.
+/// Whether both refusals are Levels, or both are Value.
 fn are_alike(refusal: &Refusal, count: &R<u64>) -> bool {
     match (refusal, count) {
         (Refusal::Levels, Err(Refusal::Levels)) => true,

@@ -61,7 +61,7 @@ impl Tally {
         Ok(())
     }
 
-    /// All of them; or the refusal that is none of these.
+    /// All counts as they are printed; or the refusal of another number, if one came.
     fn shown(&self, alloc: Global) -> R<String> {
         if let Some(other) = &self.other {
             let other = other.as_str();

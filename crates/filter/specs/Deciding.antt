@@ -10,6 +10,7 @@ use Rattle.filter.specs.declared.term.Op.TheVariants.{Equal, NotEqual, Less, Les
 use Rattle.filter.specs.Test.{Test, value_of}
 use Rattle.filter.specs.Same.{same, is_listed}
 
+-- the value is null
 abbrev pub is_null : ValueTree → Bool
 is_null null = true
 is_null _ = false

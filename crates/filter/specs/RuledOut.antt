@@ -20,12 +20,12 @@ HasBound (Some m) P = P m
 abbrev pub IsOutside : Option Order → Statistics → ValueTree → Type 0
 IsOutside order s w = HasBound s.min (λ m. IsBelow order w m) ⊎ HasBound s.max (λ m. IsBelow order m w)
 
--- each of the values is outside
+-- each of the values is below the minimum or above the maximum
 abbrev pub EachOutside : Option Order → Statistics → ValueTrees → Type 0
 EachOutside order s no_values = Unit {0}
 EachOutside order s (item w ws) = IsOutside order s w × EachOutside order s ws
 
--- each value of a list is outside
+-- the value is a list, and each value in it is below the minimum or above the maximum
 abbrev pub AreOutside : Option Order → Statistics → ValueTree → Type 0
 AreOutside order s (list ws) = EachOutside order s ws
 AreOutside order s _ = ⊥
@@ -57,6 +57,7 @@ given_or_absent rows None = absent_statistics rows
 abbrev pub listed_at : List ℕ → Known → Test → Option Statistics
 listed_at places known t = slice_get known.leaves (t.leaf - count_by (λ a. nat_lt a t.first.place) places)
 
+-- the statistics of a term's leaf; of a leaf that the file lacks, those of a null in each row
 abbrev pub statistics_at : List ℕ → Known → Test → Statistics
 statistics_at places known t = given_or_absent known.rows (listed_at places known t)
 
@@ -66,6 +67,7 @@ abbrev pub IsOutBy : Option ValueTree → Statistics → ℕ → Test → Type 0
 IsOutBy (Some v) s rows t = Holds t v → ⊥
 IsOutBy None s rows t = (s.nulls ≡ rows) ⊎ Excludes t.order t.op s t.operand
 
+-- a term is out for a group with this key and these statistics: by the key if its column is a key column, else by the statistics
 abbrev pub IsOut : List ℕ → List ValueTree → Known → Test → Type 0
 IsOut places key known t = IsOutBy (key_at places key t.first.place) (statistics_at places known t) known.rows t
 

@@ -16,6 +16,7 @@ abbrev mutual
   same (list a) (list b) = same_each a b
   same _ _ = false
 
+  -- there are as many values of one as of the other, and each is the same as the other one at its place
   pub same_each : ValueTrees → ValueTrees → Bool
   same_each no_values no_values = true
   same_each (item v vs) (item w ws) = same v w && same_each vs ws

@@ -21,12 +21,15 @@ pub record Term : Type 0 where
   pub op : Op
   pub value : ValueTree
 
+-- the names as bytes
 abbrev pub names_of : List (String Global) → List (List ℕ)
 names_of names = map string_bytes names
 
+-- the term that a `Term` of the program stands for
 abbrev pub term_view : CodeTerm → Term
 term_view t = record { column = names_of t.column.items; op = t.op; value = view t.value }
 
+-- the ANDs of terms that the filter of a call stands for
 abbrev pub terms_view : List (Vec CodeTerm Global) → List (List Term)
 terms_view ands = map (λ terms. map term_view terms.items) ands
 
@@ -43,7 +46,7 @@ is_of_order Greater = true
 is_of_order GreaterOrEqual = true
 is_of_order _ = false
 
--- a leaf can have such a value: for `in` and `not in`, each value of a list
+-- a leaf of this type can have the value; for `in` and `not in` the value is a list, and the leaf can have each value in it
 abbrev pub takes : LeafType → Op → ValueTree → Bool
 takes t In (list vs) = each (fits_leaf t) vs
 takes t In _ = false
@@ -61,22 +64,26 @@ test_at t n l (s ∷ p) =
     then Ok (record { leaf = n; first = s; rest = p; order = order_of l.leaf_type; op = t.op; operand = t.value }) else Err RowShape))
     else Err NoColumn
 
+-- the test of a term at the leaf that was found for its column, or the fault: NoColumn if none was found
 abbrev pub test_found : Term → Option (ℕ × Leaf) → Result Test Refusal
 test_found t None = Err NoColumn
 test_found t (Some found) = test_at t found.0 found.1 found.1.steps
 
+-- the test of a term over the leaves of a schema, or its fault: NoColumn, else Unordered, else RowShape
 abbrev pub test_of : List Leaf → Term → Result Test Refusal
 test_of leaves t = test_found t (named_leaf 0 leaves t.column)
 
--- all that a function gives for the elements of a list, or its first fault
+-- an item before the others, or the fault of the others
 abbrev pub with_first : {Y E : Type 0} → Y → Result (List Y) E → Result (List Y) E
 with_first y (Ok ys) = Ok (y ∷ ys)
 with_first y (Err e) = Err e
 
+-- the result for an item and those for the others: all of them, or the first fault
 abbrev pub then_rest : {Y E : Type 0} → Result Y E → Result (List Y) E → Result (List Y) E
 then_rest (Ok y) rest = with_first y rest
 then_rest (Err e) rest = Err e
 
+-- all that a function gives for the elements of a list, or the first fault
 abbrev pub each_of : {X Y E : Type 0} → (X → Result Y E) → List X → Result (List Y) E
 each_of f [] = Ok []
 each_of f (x ∷ xs) = then_rest (f x) (each_of f xs)

@@ -6,9 +6,11 @@ use Rattle.filter.specs.declared.judging.Verdicts.{Verdicts}
 use Rattle.filter.specs.Deciding.{holds}
 use Rattle.filter.specs.Test.{Test}
 
+-- whether each term of each AND is true, from the lists of the program
 abbrev pub verdicts_view : List (Vec Bool Global) → List (List Bool)
 verdicts_view ands = map (λ (terms : Vec Bool Global). terms.items) ands
 
+-- whether each term of each AND is true, as a `Verdicts` of the program has it
 abbrev pub verdicts_in : Verdicts → List (List Bool)
 verdicts_in v = verdicts_view v.ands.items
 

@@ -46,7 +46,7 @@ pub fn look_in_all(ands: &[Vec<Test>], leaf: usize, value: ValueRef<'_>, verdict
     }
 }
 
-/// The same for the terms of one AND.
+/// Sets the verdicts of those terms of one AND that are at a leaf, of which this is the value.
 fn look_in_one(terms: &[Test], leaf: usize, value: ValueRef<'_>, verdicts: &mut Vec<bool>)
     ensures { verdicts.new.items ≡ judged_terms leaf (value_ref_view value.entry) (map test_view terms.now) verdicts.old.items }
 {

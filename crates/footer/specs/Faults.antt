@@ -27,7 +27,7 @@ pub data IsLong (bytes : List ℕ) : Type 0 where
   long_file : most_of_file < length bytes → IsLong bytes
   long_footer : AnnouncesLongFooter bytes → IsLong bytes
 
--- the footer is so
+-- the file has a footer, whose record is so
 pub record HasFooter (bytes : List ℕ) (Is : FileMeta → Type 0) : Type 0 where
   pub front : List ℕ
   pub meta : FileMeta
@@ -58,7 +58,7 @@ pub data IsOverLimit (bytes : List ℕ) : Type 0 where
   large_schema : HasFooter bytes (λ m. IsTooLarge m.schema) → IsOverLimit bytes
   large_group : HasGroup bytes IsGroupOver → IsOverLimit bytes
 
--- that fault is in the file, where the refusal names one that others can see; no other refusal is answered
+-- that fault is in the file, where the refusal names one that others can see; no other refusal comes
 abbrev pub HasFault : List ℕ → Refusal → Type 0
 HasFault bytes Truncated = Unit {0}
 HasFault bytes Magic = LacksMagic bytes
@@ -76,7 +76,7 @@ HasFault bytes Limit = IsOverLimit bytes
 HasFault bytes Memory = Unit {0}
 HasFault bytes _ = ⊥
 
--- the same of a footer alone
+-- that fault is in the frame or the footer of the file, where the refusal names one that others can see; no other refusal comes
 abbrev pub HasFooterFault : List ℕ → Refusal → Type 0
 HasFooterFault bytes Truncated = Unit {0}
 HasFooterFault bytes Magic = LacksMagic bytes

@@ -11,7 +11,7 @@ use Rattle.footer.specs.File.{FileMeans}
 use Rattle.footer.specs.Writing.{groups_of}
 use Rattle.footer.specs.Own.{IsLaidOut}
 
--- at most one schema, and at most one list of rows
+-- the bytes of a file mean at most one list of rows, of at most one schema
 abbrev pub FilesMeanOneList : Type 0
 FilesMeanOneList = (bytes : List ℕ) (fs gs : Fields) (rows others : List ValueTrees) → FileMeans bytes fs rows → FileMeans bytes gs others → (fs ≡ gs) × (rows ≡ others)
 
@@ -21,11 +21,11 @@ HaveDictionaries s (leaf ∷ leaves) (es ∷ cols) (c ∷ cs) =
     (SuitsDictionary s leaf.leaf_type.kind es → c.meta_data.dictionary_page_offset ≡ None → ⊥) × HaveDictionaries s leaves cols cs
 HaveDictionaries s leaves cols cs = Unit {0}
 
--- so it is in each of these groups
+-- each chunk of these groups whose entries suit a dictionary has one, by its record
 abbrev pub GroupsHaveDictionaries : Fields → Style → List GroupMeta → List (List ValueTrees) → Type 0
 GroupsHaveDictionaries fs s (g ∷ gs) (rows ∷ groups) = HaveDictionaries s (leaves_of fs) (columns fs rows) g.columns × GroupsHaveDictionaries fs s gs groups
 GroupsHaveDictionaries fs s gs groups = Unit {0}
 
--- in a file as the store lays it out, whose chunks begin after `PAR1`
+-- in a file as the store lays it out, whose chunks begin after `PAR1`, each chunk whose entries suit a dictionary has one
 abbrev pub FilesHaveDictionaries : Type 0
 FilesHaveDictionaries = (o : WriteOptions) (fs : Fields) (rows : List ValueTrees) (bytes : List ℕ) → (file : IsLaidOut o fs rows bytes) → GroupsHaveDictionaries fs o.style file.metas (groups_of o.group_rows rows)

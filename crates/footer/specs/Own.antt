@@ -25,7 +25,7 @@ AppendsGroups fs o old new _ _ = ⊥
 abbrev pub own_record : Fields → ℕ → List GroupMeta → FileMeta
 own_record fs rows groups = record { version = Some (pos 1); schema = elements_of fs; num_rows = Some (pos rows); row_groups = groups; key_value_metadata = None; created_by = Some (codes "pqds"); column_orders = Some (replicate (length (leaves_of fs)) type_order) }
 
--- the same as `IsFile`, and the record fills the footer, which has just its fields, in the order of their ids
+-- the record of the file fills its footer, which has just the record's fields, in the order of their ids
 pub record IsFilled (bytes front : List ℕ) (meta : FileMeta) : Type 0 where
   pub footer : List ℕ
   pub framed : IsFramed bytes front footer

@@ -19,7 +19,7 @@ use Rattle.footer.specs.File.{magic}
 use Rattle.footer.specs.Writing.{chunk_options, groups_of, HasLargeColumn, IsOutOfRange}
 use Rattle.footer.specs.Own.{AppendsGroups}
 
--- Of these rows the groups `metas` are written, and the rows in `rest` are still to be: with the groups of `rest` after them
+-- The groups `metas` of the rows are written, and the rows in `rest` are still to be: with the groups of `rest` after them
 -- they are the groups of the rows.
 pub record IsBegun (fs : Fields) (o : WriteOptions) (rows rest : List ValueTrees) (out : List ℕ) (metas : List GroupMeta) : Type 0 where
   pub before : List ValueTrees
@@ -30,14 +30,15 @@ pub record IsBegun (fs : Fields) (o : WriteOptions) (rows rest : List ValueTrees
   pub weighs : length out + sum_by (group_weight fs (chunk_options o)) (groups_of o.group_rows rest) ≤ 4 + sum_by (group_weight fs (chunk_options o)) (groups_of o.group_rows rows)
   pub large : HasLargeColumn fs (groups_of o.group_rows rest) → HasLargeColumn fs (groups_of o.group_rows rows)
 
--- the schema of the rows, and how they are written
+-- the schema of the rows that a writer takes
 abbrev pub schema_of : FileWriter → Fields
 schema_of writer = buffer.schema_of writer.waiting
 
+-- how a writer writes its rows
 abbrev pub options_of : FileWriter → WriteOptions
 options_of writer = writer.options
 
--- of these rows all but the rest are written
+-- a writer has written all of these rows but the rest
 abbrev pub HasWritten : FileWriter → List ValueTrees → List ValueTrees → Type 0
 HasWritten writer rows rest = IsBegun (schema_of writer) (options_of writer) rows rest writer.bytes.items (map group_meta_view writer.groups.items)
 
@@ -56,11 +57,13 @@ pub record IsGiven (writer : FileWriter) (rows : List ValueTrees) : Type 0 where
   pub held : holds writer.waiting waiting
   pub given : AreGiven (schema_of writer) (options_of writer) writer.bytes.items (map group_meta_view writer.groups.items) waiting writer.written rows
 
+-- the rows that a writer was given are these
 abbrev pub has_rows : FileWriter → List ValueTrees → Type 0
 has_rows = IsGiven
 
 -- ---- what a writer is shown of its next row
 
+-- the number of a style in the token of the options
 abbrev pub style_number : Style → ℕ
 style_number Plain = 0
 style_number Dictionary = 1
@@ -84,11 +87,11 @@ abbrev pub writer_shows : FileWriter → List Token → Type 0
 writer_shows writer (t ∷ u ∷ o ∷ ts) = (t ≡ schema_token (schema_of writer)) × ((o ≡ options_token (options_of writer)) × IsShown writer (rows_said u) ts)
 writer_shows writer _ = ⊥
 
--- it was given these rows, and was shown nothing yet of the next one
+-- a writer with this schema and these options was given these rows, and was shown nothing yet of the next one
 abbrev pub BeginsRow : FileWriter → Fields → WriteOptions → List ValueTrees → Type 0
 BeginsRow writer fs o rows = writer_shows writer (schema_token fs ∷ rows_token rows ∷ options_token o ∷ [])
 
--- it was given these rows, and was shown the values of the next one
+-- a writer with this schema and these options was given these rows, and was shown the values of the next one
 abbrev pub ShowsRow : FileWriter → Fields → WriteOptions → List ValueTrees → ValueTrees → Type 0
 ShowsRow writer fs o rows values = writer_shows writer (schema_token fs ∷ rows_token rows ∷ options_token o ∷ tokens_each values)
 
@@ -102,6 +105,7 @@ pub record Base : Type 0 where
   pub groups : List GroupMeta
   pub written : ℕ
 
+-- the options of a writer, the bytes, groups and number of rows that it has written, and what it keeps of the rows that wait
 abbrev pub base_of : FileWriter → Base
 base_of writer = record { waiting = buffer.base_of writer.waiting; options = options_of writer; bytes = writer.bytes.items; groups = map group_meta_view writer.groups.items; written = writer.written }
 
@@ -112,12 +116,12 @@ pub record HasBelow (base : Base) (rows : List ValueTrees) : Type 0 where
   pub given : AreGiven base.waiting.schema base.options base.bytes base.groups waiting base.written rows
   pub few : length waiting < base.options.group_rows
 
--- it was shown the schema, the rows before and the options, and nothing of the next row
+-- a writer was shown the schema, the rows before and the options, and nothing of the next row
 abbrev pub shows_whole : FileWriter → List Token → Type 0
 shows_whole writer (t ∷ u ∷ o ∷ []) = (t ≡ schema_token (schema_of writer)) × ((o ≡ options_token (options_of writer)) × IsShown writer (rows_said u) [])
 shows_whole writer _ = ⊥
 
--- it was shown so once the row is dropped that is shown
+-- a writer that goes back to this base was shown the schema, the rows before and the options, and nothing of the next row
 abbrev pub goes_back : Base → List Token → Type 0
 goes_back base (t ∷ u ∷ o ∷ []) = (t ≡ schema_token base.waiting.schema) × ((o ≡ options_token base.options) × HasBelow base (rows_said u))
 goes_back base _ = ⊥

@@ -38,11 +38,12 @@ groups_from (suc n) size rows = take size rows ∷ groups_from n size (drop size
 abbrev pub groups_of : ℕ → List ValueTrees → List (List ValueTrees)
 groups_of size rows = groups_from (parts_of (length rows) size) size rows
 
--- a footer: 1,024, for each schema element 128, its name and its kept struct, for each group 64, for each chunk 512 and its names
+-- what a footer weighs: 1,024, for each schema element 128, its name and its kept struct, for each group 64, for each chunk 512 and its names
 abbrev pub footer_weight : Fields → ℕ → ℕ
 footer_weight fs groups = 1024 + sum_by element_weight (elements_of fs) + groups * (64 + sum_by (λ (l : Leaf). 512 + sum_by (λ n. length n) l.path) (leaves_of fs))
 
--- a file: 1,024, its footer, and its chunks, each 1,024 a page and once more for a dictionary, 64 an entry, and the bytes of its byte values
+-- what a file weighs: 1,024, its footer, and its chunks, each 1,024 a page and once more for a dictionary, 64 an entry,
+-- and the bytes of its byte values
 abbrev pub file_weight : Fields → WriteOptions → List (List ValueTrees) → ℕ
 file_weight fs o groups = 1024 + footer_weight fs (length groups) + sum_by (group_weight fs (chunk_options o)) groups
 

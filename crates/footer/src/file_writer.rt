@@ -45,7 +45,7 @@ pub struct FileWriter<'a> {
     bytes: Vec<u8>,
     /// The records of the groups that are written.
     groups: Vec<GroupMeta>,
-    /// How many rows these groups have.
+    /// How many rows the groups that are written have.
     written: usize,
     /// The rows of the next group, and their schema.
     waiting: RowBuffer<'a>,

@@ -33,7 +33,7 @@ pub fn parts_and_record(alloc: Global, bytes: &[u8]) -> R<(&[u8], FileMeta)>
 /// Refused Truncated for fewer than 12 bytes, a footer that is longer than the file, or one that ends
 /// within its struct; Magic where the first or the last four bytes are not `PAR1`; Thrift where the footer
 /// is no such struct; Limit for a file of more than 2,147,483,647 bytes, or a footer of more than 16 MiB.
-/// No record is answered of a file that has more bytes, or that announces a longer footer.
+/// No record is returned of a file that has more bytes, or that announces a longer footer.
 pub fn read_footer(alloc: Global, bytes: &[u8]) -> R<FileMeta>
     ensures stands { IfOk result (λ meta. (front : List ℕ) × IsFile bytes.now front (file_meta_view meta)) }
     ensures alone { IfOk result (λ meta. (front : List ℕ) (other : FileMetaShown) → IsFile bytes.now front other → other ≡ file_meta_view meta) }

@@ -37,7 +37,7 @@ impl WriteOptions {
         }
     }
 
-    /// How the chunks of such a file are written.
+    /// How the chunks of a file with these options are written.
     pub(crate) fn of_chunks(&self) -> ChunkOptions
         ensures { result ≡ chunk_options self.now }
     {

@@ -23,9 +23,11 @@ use Rattle.jsonrows.specs.Filters.{◌>>=◌}
 abbrev pub one_member : List ℕ → Data → Data
 one_member name d = object (put name d no_members)
 
+-- a natural number as a JSON number
 abbrev pub natural : ℕ → Data
 natural n = number (unsigned n)
 
+-- natural numbers as an array, in their order
 abbrev pub naturals : List ℕ → Data
 naturals ns = array (items_of (map natural ns))
 
@@ -42,6 +44,7 @@ columns_json fs [] no_values = Ok no_members
 columns_json fs (i ∷ places) (item v vs) = put_column (field_at i fs) v (columns_json fs places vs)
 columns_json fs _ _ = Err refusal.RowShape
 
+-- a row of a batch as an object with a member for each of the columns at these places; RowShape if it does not fit them
 abbrev pub row_of_columns : Fields → List ℕ → ValueTrees → Result Data Refusal
 row_of_columns fs places row = columns_json fs places row >>= (λ ms. Ok (object ms))
 
@@ -59,11 +62,13 @@ abbrev pub group_members : GroupInfo → List Data → Members
 group_members g key =
     put (codes "bytes") (natural g.bytes) (put (codes "key") (array (items_of key)) (put (codes "number") (natural g.number) (put (codes "rows") (natural g.rows) no_members)))
 
+-- a group as an object of its `bytes`, `key`, `number` and `rows`; RowShape if its key has a value that no key column has
 abbrev pub group_json : GroupInfo → Result Data Refusal
 group_json g = each_of key_value_json (key_view g.key) >>= (λ key. Ok (object (group_members g key)))
 
 -- ---- refusals
 
+-- the number that is printed for a refusal, from 1 to 29
 abbrev pub refusal_number : Refusal → ℕ
 refusal_number refusal.Truncated = 1
 refusal_number refusal.Magic = 2
@@ -95,7 +100,7 @@ refusal_number refusal.Closed = 27
 refusal_number refusal.Memory = 28
 refusal_number refusal.Script = 29
 
--- without the path of a field
+-- the name that is printed for a refusal, without the path of a field
 abbrev pub refusal_name : Refusal → List ℕ
 refusal_name refusal.Truncated = codes "Truncated"
 refusal_name refusal.Magic = codes "Magic"
@@ -127,15 +132,17 @@ refusal_name refusal.Closed = codes "Closed"
 refusal_name refusal.Memory = codes "Memory"
 refusal_name refusal.Script = codes "Script"
 
+-- a refusal as an object of its `name` and its number, `refused`
 abbrev pub refused_json : Refusal → Data
 refused_json r = object (put (codes "name") (string (refusal_name r)) (put (codes "refused") (natural (refusal_number r)) no_members))
 
 -- ---- answers
 
--- all of them, as an array
+-- an object of one member, the array of these values; or their refusal
 abbrev pub listed_as : List ℕ → Result (List Data) Refusal → Result Data Refusal
 listed_as name ds = ds >>= (λ all. Ok (one_member name (array (items_of all))))
 
+-- an answer over the table's schema as an object; RowShape if a row of a batch does not fit its columns, or a key has a value that no key column has
 abbrev pub answer_json : Fields → Answer → Result Data Refusal
 answer_json fs (Done n) = Ok (one_member (codes "done") (natural n))
 answer_json fs (Job n) = Ok (one_member (codes "job") (natural n))

@@ -20,30 +20,33 @@ use Rattle.jsonrows.specs.SchemaJson.{has_only, SaysColumn}
 
 -- ---- what one member is
 
+-- a whole number from 0 to 2^64 - 1; Script for all else
 abbrev pub natural_of : Data → Result ℕ Refusal
 natural_of (number n) = or_fault Script (as_u64 n)
 natural_of _ = Err Script
 
+-- an array of whole numbers, each from 0 to 2^64 - 1; Script for all else
 abbrev pub naturals_of : Data → Result (List ℕ) Refusal
 naturals_of (array ds) = each_of natural_of (listed ds)
 naturals_of _ = Err Script
 
--- a row of the schema
+-- a row of the schema; Script if the value is no object, RowShape if the object is no row
 abbrev pub row_in : Fields → Data → Result ValueTrees Refusal
 row_in fs (object ms) = or_fault RowShape (members_read fs ms)
 row_in fs _ = Err Script
 
+-- an array of rows of the schema; Script if the value is no array, and the refusal of the first row that has one
 abbrev pub rows_of : Fields → Data → Result (List ValueTrees) Refusal
 rows_of fs (array ds) = each_of (row_in fs) (listed ds)
 rows_of fs _ = Err Script
 
--- names of columns, or all columns
+-- an array of the names of columns, or null for all columns; Script for all else
 abbrev pub columns_of : Data → Result (Option (List (List ℕ))) Refusal
 columns_of null = Ok None
 columns_of (array ds) = each_of name_of (listed ds) >>= (λ names. Ok (Some names))
 columns_of _ = Err Script
 
--- bytes by their hexadecimal digits
+-- bytes by their hexadecimal digits in lower case; Script for all else
 abbrev pub bytes_of : Data → Result (List ℕ) Refusal
 bytes_of (string s) = or_fault Script (bytes_of_digits s)
 bytes_of _ = Err Script
@@ -58,6 +61,7 @@ forms =
     ∷ (codes "plan_rewrite", form.PlanRewrite) ∷ (codes "query", form.Query) ∷ (codes "fetch", form.Fetch) ∷ (codes "close", form.Close) ∷ (codes "groups", form.Groups)
     ∷ (codes "count", form.Count) ∷ (codes "import", form.Import) ∷ (codes "add_column", form.AddColumn) ∷ (codes "reopen", form.Reopen) ∷ []
 
+-- the form of this name in a list of forms; none if no form has it
 abbrev pub form_named : List (List ℕ × Form) → List ℕ → Option Form
 form_named [] s = None
 form_named (w ∷ ws) s = if bytes_eq w.0 s then Some w.1 else form_named ws s
@@ -83,36 +87,44 @@ members_of form.Import = codes "bytes" ∷ []
 members_of form.AddColumn = codes "field" ∷ []
 members_of form.Reopen = []
 
--- the member of this name
+-- the member of this name; Script if there is none
 abbrev pub member_of : List ℕ → Data → Result Data Refusal
 member_of name d = or_fault Script (get name d)
 
--- the form of a call: its name is one of these, and it has no other members
+-- the form whose name a JSON value is; Script if it is the name of no form
 abbrev pub form_by : Data → Result Form Refusal
 form_by (string s) = or_fault Script (form_named forms s)
 form_by _ = Err Script
 
+-- the form, if all members of the object are `call` and those of the form; Script if it has another one
 abbrev pub form_if : Data → Form → Result Form Refusal
 form_if d f = if has_only (codes "call" ∷ members_of f) d then Ok f else Err Script
 
+-- the form of a call: the member `call` names it, and the object has no members but those of the form; Script for all else
 abbrev pub form_of : Data → Result Form Refusal
 form_of d = (member_of (codes "call") d >>= form_by) >>= form_if d
 
+-- the rows of a call, from its member `rows`
 abbrev pub rows_at : Fields → Data → Result (List ValueTrees) Refusal
 rows_at fs d = member_of (codes "rows") d >>= rows_of fs
 
+-- the number of a call at the member of this name, such as `job` or `cursor`
 abbrev pub natural_at : List ℕ → Data → Result ℕ Refusal
 natural_at name d = member_of name d >>= natural_of
 
+-- the numbers of the groups of a call, from its member `numbers`
 abbrev pub numbers_at : Data → Result (List ℕ) Refusal
 numbers_at d = member_of (codes "numbers") d >>= naturals_of
 
+-- the ANDs of terms of a call over the leaves of the schema, from its member `filter`
 abbrev pub filter_at : Fields → Data → Result (List (List Term)) Refusal
 filter_at fs d = member_of (codes "filter") d >>= filter_of (leaves_of fs)
 
+-- the names of the columns of a query, from its member `columns`; none for all columns
 abbrev pub columns_at : Data → Result (Option (List (List ℕ))) Refusal
 columns_at d = member_of (codes "columns") d >>= columns_of
 
+-- the bytes of the file to import, from its member `bytes`
 abbrev pub bytes_at : Data → Result (List ℕ) Refusal
 bytes_at d = member_of (codes "bytes") d >>= bytes_of
 
@@ -137,7 +149,7 @@ call_by fs d form.Import = bytes_at d >>= (λ bytes. Ok (import bytes))
 call_by fs d form.AddColumn = Err Script
 call_by fs d form.Reopen = Ok reopen
 
--- a call, but the one that adds a column
+-- the call that a JSON value is; the call that adds a column is not among them, and is Script here
 abbrev pub call_of : Fields → Data → Result Call Refusal
 call_of fs d = form_of d >>= call_by fs d
 
@@ -154,6 +166,7 @@ pub record IsNewColumn (d : Data) (es : List Element) : Type 0 where
 abbrev pub IsCall : Fields → Data → Call → Type 0
 IsCall fs d call = (call_of fs d ≡ Ok call) ⊎ ((es : List Element) × IsNewColumn d es × (call ≡ add_column es))
 
+-- a text is JSON, and its value is this call
 abbrev pub IsCallText : Fields → List ℕ → Call → Type 0
 IsCallText fs text call = (d : Data) × (read text ≡ Some d) × IsCall fs d call
 

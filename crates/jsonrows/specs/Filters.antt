@@ -22,20 +22,20 @@ abbrev pub listed : Items → List Data
 listed no_items = []
 listed (item d ds) = d ∷ listed ds
 
--- the second step, where the first has no fault
 infixl 10 ◌>>=◌
+-- the second step with the value of the first, or the refusal of the first
 abbrev pub ◌>>=◌ : {A B : Type 0} → Result A Refusal → (A → Result B Refusal) → Result B Refusal
 Ok a >>= f = f a
 Err e >>= f = Err e
 
--- what is there, or a fault
+-- the value, or this refusal if there is none
 abbrev pub or_fault : {A : Type 0} → Refusal → Option A → Result A Refusal
 or_fault e (Some a) = Ok a
 or_fault e None = Err e
 
 -- ---- columns and operators
 
--- a name
+-- a name is a string; Script for all else
 abbrev pub name_of : Data → Result (List ℕ) Refusal
 name_of (string s) = Ok s
 name_of _ = Err Script
@@ -46,16 +46,18 @@ column_of (string s) = Ok (s ∷ [])
 column_of (array ds) = each_of name_of (listed ds)
 column_of _ = Err Script
 
--- the operator that a text is
+-- the operator of this word in a list of operators; none if no operator has it
 abbrev pub operator_named : List (List ℕ × Op) → List ℕ → Option Op
 operator_named [] s = None
 operator_named (w ∷ ws) s = if bytes_eq w.0 s then Some w.1 else operator_named ws s
 
+-- the operators of terms by their words; `=` means what `==` means
 abbrev pub operators : List (List ℕ × Op)
 operators =
     (codes "==", op.Equal) ∷ (codes "=", op.Equal) ∷ (codes "!=", op.NotEqual) ∷ (codes "<", op.Less) ∷ (codes "<=", op.LessOrEqual) ∷ (codes ">", op.Greater)
     ∷ (codes ">=", op.GreaterOrEqual) ∷ (codes "in", op.In) ∷ (codes "not in", op.NotIn) ∷ []
 
+-- the operator whose word a JSON value is; Script for all else
 abbrev pub operator_of : Data → Result Op Refusal
 operator_of (string s) = or_fault Script (operator_named operators s)
 operator_of _ = Err Script
@@ -90,7 +92,7 @@ abbrev pub single_value : Option LeafType → Data → Result ValueTree Refusal
 single_value (Some t) d = if is_of_kind t.kind d then or_fault RowShape (leaf_read t d) else by_kind d
 single_value None d = by_kind d
 
--- an array is a list of values, each read in this same way
+-- the list of some values, or their refusal
 abbrev pub list_value : Result (List ValueTree) Refusal → Result ValueTree Refusal
 list_value (Ok vs) = Ok (value.list (trees_of vs))
 list_value (Err e) = Err e
@@ -118,6 +120,7 @@ term_by leaves c o v = do
   operand ← value_of (leaf_named leaves names) v
   Ok (record { column = names; op = operator; value = operand })
 
+-- the term of three values: a column, an operator and an operand; Script for any other number of them
 abbrev pub term_in : List Leaf → List Data → Result Term Refusal
 term_in leaves (c ∷ o ∷ v ∷ []) = term_by leaves c o v
 term_in leaves _ = Err Script
@@ -132,16 +135,17 @@ abbrev pub and_of : List Leaf → Data → Result (List Term) Refusal
 and_of leaves (array ds) = each_of (term_of leaves) (listed ds)
 and_of leaves _ = Err Script
 
--- a member is a triple where it has three members, the second a text
+-- there are three values, the second a string
 abbrev pub are_triple : List Data → Bool
 are_triple (c ∷ string s ∷ v ∷ []) = true
 are_triple _ = false
 
+-- a JSON value is a triple: an array of three members, the second a string
 abbrev pub is_triple : Data → Bool
 is_triple (array ds) = are_triple (listed ds)
 is_triple _ = false
 
--- one AND
+-- the filter of one AND, or its refusal
 abbrev pub only_and : Result (List Term) Refusal → Result (List (List Term)) Refusal
 only_and (Ok terms) = Ok (terms ∷ [])
 only_and (Err e) = Err e
@@ -151,6 +155,7 @@ abbrev pub filter_in : List Leaf → List Data → Result (List (List Term)) Ref
 filter_in leaves [] = Ok []
 filter_in leaves (d ∷ ds) = if is_triple d then only_and (each_of (term_of leaves) (d ∷ ds)) else each_of (and_of leaves) (d ∷ ds)
 
+-- the ANDs of terms that a JSON value is: an array of ANDs, or of the triples of one AND; Script if it is no array
 abbrev pub filter_of : List Leaf → Data → Result (List (List Term)) Refusal
 filter_of leaves (array ds) = filter_in leaves (listed ds)
 filter_of leaves _ = Err Script

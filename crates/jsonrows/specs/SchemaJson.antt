@@ -31,15 +31,15 @@ abbrev pub number_of : List Word → List ℕ → Option ℤ
 number_of [] s = None
 number_of (w ∷ ws) s = if bytes_eq w.0 s then Some w.1 else number_of ws s
 
--- FieldRepetitionType
+-- FieldRepetitionType (parquet.thrift) by its words
 abbrev pub repetitions : List Word
 repetitions = (codes "required", pos 0) ∷ (codes "optional", pos 1) ∷ (codes "repeated", pos 2) ∷ []
 
--- Type
+-- Type (parquet.thrift) by its words
 abbrev pub types : List Word
 types = (codes "boolean", pos 0) ∷ (codes "int32", pos 1) ∷ (codes "int64", pos 2) ∷ (codes "bytes", pos 6) ∷ (codes "fixed", pos 7) ∷ []
 
--- ConvertedType, of leaves and of groups
+-- ConvertedType (parquet.thrift) of leaves by its words
 abbrev pub notes : List Word
 notes =
     (codes "utf8", pos 0) ∷ (codes "enum", pos 4) ∷ (codes "decimal", pos 5) ∷ (codes "date", pos 6) ∷ (codes "time_millis", pos 7) ∷ (codes "time_micros", pos 8)
@@ -47,61 +47,66 @@ notes =
     ∷ (codes "uint_64", pos 14) ∷ (codes "int_8", pos 15) ∷ (codes "int_16", pos 16) ∷ (codes "int_32", pos 17) ∷ (codes "int_64", pos 18) ∷ (codes "json", pos 19)
     ∷ (codes "bson", pos 20) ∷ (codes "interval", pos 21) ∷ []
 
+-- ConvertedType (parquet.thrift) of groups by its words
 abbrev pub group_notes : List Word
 group_notes = (codes "map", pos 1) ∷ (codes "map_key_value", pos 2) ∷ (codes "list", pos 3) ∷ []
 
--- the members that a leaf and a group may have
+-- the names of the members that a leaf may have
 abbrev pub leaf_members : List (List ℕ)
 leaf_members = codes "name" ∷ codes "rep" ∷ codes "type" ∷ codes "length" ∷ codes "note" ∷ codes "scale" ∷ codes "precision" ∷ codes "converted" ∷ codes "logical" ∷ []
 
+-- the names of the members that a group may have
 abbrev pub group_members : List (List ℕ)
 group_members = codes "name" ∷ codes "rep" ∷ codes "fields" ∷ codes "note" ∷ []
 
+-- a name is one of these
 abbrev pub is_one_of : List (List ℕ) → List ℕ → Bool
 is_one_of [] k = false
 is_one_of (n ∷ ns) k = bytes_eq n k || is_one_of ns k
 
--- each member is called by one of the names
+-- each member has one of these names
 abbrev pub are_called : List (List ℕ) → Members → Bool
 are_called ns no_members = true
 are_called ns (member k d ms) = is_one_of ns k && are_called ns ms
 
--- an object with no other members
+-- a JSON value is an object, and each of its members has one of these names
 abbrev pub has_only : List (List ℕ) → Data → Bool
 has_only ns d = option_map_or (are_called ns) (as_object d) false
 
 -- ---- what one member says
 
+-- a JSON value is this string
 abbrev pub IsText : Data → List ℕ → Type 0
 IsText d s = d ≡ string s
 
--- one of these words, by its number
+-- a JSON value is one of these words, the one with this number
 abbrev pub IsWord : List Word → Data → ℤ → Type 0
 IsWord ws d z = (s : List ℕ) × (d ≡ string s) × (number_of ws s ≡ Some z)
 
--- an integer of 32 bits
+-- a JSON value is this integer, of 32 bits
 abbrev pub IsInt32 : Data → ℤ → Type 0
 IsInt32 d z = (n : Num) × (d ≡ number n) × (as_i64 n ≡ Some z) × (is_within 2147483648 z ≡ true)
 
--- the hexadecimal digits, in lower case, of the bytes of a struct
+-- a JSON value is the hexadecimal digits, in lower case, of the bytes of this struct
 abbrev pub IsStruct : Data → Struct → Type 0
 IsStruct d s = (digits bytes : List ℕ) × (d ≡ string digits) × (bytes_of_digits digits ≡ Some bytes) × IsThrift bytes s (length bytes)
 
--- the member of this name is there, and says this
+-- the object has a member of this name, which says this
 abbrev pub Has : {A : Type 0} → (Data → A → Type 0) → List ℕ → Members → A → Type 0
 Has Says name ms x = (d : Data) × (get_member name ms ≡ Some d) × Says d x
 
+-- the object has no member of this name
 abbrev pub Lacks : List ℕ → Members → Type 0
 Lacks name ms = get_member name ms ≡ None
 
--- the same of a member that may be absent
+-- the object has a member of this name, which says this; or it has no such member, and this is none
 abbrev pub MayHave : {A : Type 0} → (Data → A → Type 0) → List ℕ → Members → Option A → Type 0
 MayHave Says name ms None = Lacks name ms
 MayHave Says name ms (Some x) = Has Says name ms x
 
 -- ---- fields
 
--- what has a name over the type of its leaf
+-- an annotation has a name over the type of its leaf
 abbrev pub is_known : Annotation → Bool
 is_known (known c) = true
 is_known _ = false
@@ -110,7 +115,8 @@ is_known _ = false
 abbrev pub IsUnnamed : Element → Type 0
 IsUnnamed e = (z : ℤ) (k : Kind) → e.kind ≡ Some z → typed z e.type_length ≡ Some (Stored k) → is_known (annotation_of k e.converted_type e.logical_type) ≡ false
 
--- the note of a leaf: none; a ConvertedType by its name; or `other`, with the number of a ConvertedType or the struct of a LogicalType that has no name over the type
+-- the note of a leaf: none; a ConvertedType by its name; or `other`,
+-- with the number of a ConvertedType or the struct of a LogicalType that has no name over the type
 abbrev pub IsNote : Option ℤ → Option Struct → Type 0 → Members → Type 0
 IsNote None None Unnamed ms = Lacks (codes "note") ms × Lacks (codes "converted") ms × Lacks (codes "logical") ms
 IsNote (Some z) None Unnamed ms =
@@ -179,7 +185,7 @@ SaysElements text es = (d : Data) × (read text ≡ Some d) × SaysSchema d es
 abbrev pub IsSchemaText : List ℕ → Fields → Type 0
 IsSchemaText text fs = (es : List Element) × SaysElements text es × IsSchemaOf es fs
 
--- that fault is in the text: it says no elements, or those that it says have that fault; no other refusal is answered
+-- that fault is in the text: it says no elements, or those that it says have that fault; no other refusal comes
 abbrev pub IsRefusedSchema : List ℕ → Refusal → Type 0
 IsRefusedSchema text Script = (es : List Element) → SaysElements text es → ⊥
 IsRefusedSchema text Memory = Unit {0}

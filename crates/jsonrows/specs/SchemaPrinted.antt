@@ -19,13 +19,13 @@ use Rattle.schema.specs.Fits.{is_within}
 use Rattle.schema.specs.Law.{IsSchema}
 use Rattle.jsonrows.specs.SchemaJson.{IsSchemaText}
 
--- FieldRepetitionType
+-- the word of a FieldRepetitionType (parquet.thrift)
 abbrev pub repetition_word : Repetition → List ℕ
 repetition_word Required = codes "required"
 repetition_word Optional = codes "optional"
 repetition_word Repeated = codes "repeated"
 
--- Type
+-- the word of a Type (parquet.thrift)
 abbrev pub type_word : Kind → List ℕ
 type_word Boolean = codes "boolean"
 type_word Int32 = codes "int32"
@@ -33,7 +33,7 @@ type_word Int64 = codes "int64"
 type_word ByteArray = codes "bytes"
 type_word (FixedLenByteArray n) = codes "fixed"
 
--- ConvertedType, of leaves and of groups
+-- the word of a leaf's ConvertedType (parquet.thrift)
 abbrev pub note_word : ConvertedType → List ℕ
 note_word converted.Utf8 = codes "utf8"
 note_word converted.Enum = codes "enum"
@@ -55,41 +55,48 @@ note_word converted.Json = codes "json"
 note_word converted.Bson = codes "bson"
 note_word converted.Interval = codes "interval"
 
+-- the word of a group's ConvertedType (parquet.thrift)
 abbrev pub group_note_word : GroupAnnotation → List ℕ
 group_note_word Map = codes "map"
 group_note_word MapKeyValue = codes "map_key_value"
 group_note_word ListOfItems = codes "list"
 
--- the members that are there
+-- the name of a member, and its value; none if the member is absent
 abbrev pub MayBe : Type 0
 MayBe = List ℕ × Option Data
 
+-- a member before the others, if it has a value
 abbrev pub with_member : List ℕ → Option Data → Members → Members
 with_member k None ms = ms
 with_member k (Some d) ms = member k d ms
 
+-- the members that have a value, in their order
 abbrev pub those_there : List MayBe → Members
 those_there [] = no_members
 those_there (m ∷ ms) = with_member m.0 m.1 (those_there ms)
 
+-- an integer as a JSON number
 abbrev pub integer_json : ℤ → Data
 integer_json z = number (of_integer z)
 
+-- the length of the values of a fixed type, in bytes; none for other types
 abbrev pub length_json : Kind → Option Data
 length_json (FixedLenByteArray n) = Some (integer_json (pos n))
 length_json _ = None
 
--- an annotation: its note; the number of another ConvertedType; the digits of the bytes of another LogicalType's struct
+-- the note of a leaf: its ConvertedType by its word, `other` for an annotation that has no name over the type, and none without an annotation
 abbrev pub note_json : Annotation → Option Data
 note_json plain = None
 note_json (known c) = Some (string (note_word c))
 note_json (other_converted z) = Some (string (codes "other"))
 note_json (other_logical s) = Some (string (codes "other"))
 
+-- the number of a ConvertedType that has no name over the type of its leaf; none for other annotations
 abbrev pub converted_json : Annotation → Option Data
 converted_json (other_converted z) = Some (integer_json z)
 converted_json _ = None
 
+-- the hexadecimal digits of the bytes of the struct of a LogicalType that has no name over the type of its leaf; none for other annotations
 abbrev pub logical_json : Annotation → List ℕ → Option Data
 logical_json (other_logical s) bytes = Some (string (encode_lower bytes))
 logical_json _ bytes = None
@@ -105,7 +112,7 @@ abbrev pub group_json : List ℕ → Repetition → Option GroupAnnotation → I
 group_json name r a below =
     (codes "fields", Some (array below)) ∷ (codes "name", Some (string name)) ∷ (codes "note", option_map (λ x. string (group_note_word x)) a) ∷ (codes "rep", Some (string (repetition_word r))) ∷ []
 
--- the bytes of the struct that an annotation keeps
+-- the bytes spell the struct that an annotation keeps; any bytes do if it keeps none
 abbrev pub Spells : Annotation → List ℕ → Type 0
 Spells (other_logical s) bytes = IsThrift bytes s (length bytes) × (IsBytes bytes)
 Spells _ bytes = Unit {0}
@@ -121,12 +128,12 @@ abbrev mutual
   PrintsFields (field f fs) (item d ds) = PrintsField f d × PrintsFields fs ds
   PrintsFields _ _ = ⊥
 
--- a number that an element can have
+-- a number that an element can have: an integer of 32 bits, or none
 abbrev pub IsShort : Option ℤ → Type 0
 IsShort None = Unit {0}
 IsShort (Some z) = is_within 2147483648 z ≡ true
 
--- all numbers of a schema are such, and so are the counts of its groups
+-- an element can have each number of a field and of those below it, and each group has fewer than 2^31 fields
 abbrev mutual
   pub IsOfShort : Field → Type 0
   IsOfShort (leaf name r t) = IsShort (converted_number t.annotation) × IsShort t.scale × IsShort t.precision

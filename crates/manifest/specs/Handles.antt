@@ -20,18 +20,19 @@ pub record Group : Type 0 where
   pub chunks : List ChunkMeta
   pub known : Known
 
+-- the group that a `Group` of the program stands for
 abbrev pub group_view : CodeGroup → Group
 group_view g = record { number = g.number; key = key_view g.key; width = g.width; chunks = map chunk_meta_view g.chunks.items; known = known_of g.stats }
 
--- groups that are shared, seen as the groups that they are
+-- the groups that handles stand for, in order
 abbrev pub handles_view : List (Rc CodeGroup Global) → List Group
 handles_view gs = map (λ g. group_view (rc_value g)) gs
 
--- the groups of blocks, one behind the other
+-- the groups of blocks, one block after the other
 abbrev pub groups_of_blocks : List (Rc Block Global) → List Group
 groups_of_blocks blocks = flat_map (λ (b : Rc Block Global). handles_view (rc_value b).groups.items) blocks
 
--- how many groups stand before each block, where so many stand before the first
+-- how many groups stand before each block, if `before` groups stand before the first
 abbrev pub starts_of : ℕ → List (Rc Block Global) → List ℕ
 starts_of before [] = []
 starts_of before (b ∷ bs) = before ∷ starts_of (before + length (rc_value b).groups.items) bs

@@ -43,7 +43,7 @@ abbrev pub PartsMeanTheirRows : Type 0
 PartsMeanTheirRows = (keys : List KeyColumn) (fs : Fields) (g : Group) (bytes : List ℕ) (rows : List ValueTrees) → PartMeans keys fs g bytes rows
     → (stored : List ValueTrees) × FileMeans bytes (first_fields g.width fs) stored × AreRowsOf keys g.key (map (padded fs) stored) rows
 
--- and the rows of a group with a key of the table fit the table
+-- the rows of a group with a key of the table fit the table's schema
 abbrev pub RowsOfPartsFit : Type 0
 RowsOfPartsFit = (keys : List KeyColumn) (fs : Fields) (g : Group) (bytes : List ℕ) (rows : List ValueTrees) → AreKeys keys fs → IsFront g.width (without_keys keys fs) → IsTrue (is_key keys g.key)
     → PartMeans keys (without_keys keys fs) g bytes rows → RowsFit fs rows
@@ -66,6 +66,7 @@ pub record IsWrittenPart (o : WriteOptions) (fs : Fields) (rows : List ValueTree
   pub within_file : length front ≤ most_of_file
   pub holds : (g : Group) → g.chunks ≡ own.columns → g.known.rows ≡ length rows → HaveStatistics (leaves_of fs) g.chunks g.known.leaves → HoldsGroup fs g bytes rows
 
+-- a file laid out for rows that make one group, and not too long, is a written part by the record of its footer (`IsWrittenPart`)
 abbrev pub WrittenPartsHoldGroups : Type 0
 WrittenPartsHoldGroups = (o : WriteOptions) (fs : Fields) (rows : List ValueTrees) (bytes front : List ℕ) (meta : FileMeta) → IsSchema fs → IsLaidOut o fs rows bytes → 1 ≤ length rows → length rows ≤ o.group_rows
     → (IsLong bytes → ⊥) → IsFile bytes front meta → IsWrittenPart o fs rows bytes meta
@@ -92,7 +93,7 @@ RootsMeanOneTable = (bytes : List ℕ) (r q : Root) → RootMeans bytes r → Ro
 abbrev pub TablesAreOne : Type 0
 TablesAreOne = (files : Files) (t u : Table) → TableOf files t → TableOf files u → t ≡ u
 
--- they are a table: it has what tables have
+-- the table that files are has what `table` says of tables
 abbrev pub FilesAreTables : Type 0
 FilesAreTables = (files : Files) (t : Table) → TableOf files t → IsTable t
 
@@ -101,12 +102,12 @@ abbrev pub GrownRootsAreDescribed : Type 0
 GrownRootsAreDescribed = (root : Root) (f : Field) → IsDescription root → repetition_of f ≡ Optional → IsSchema (with_field root.schema f) → IsWithinLimits (with_field root.schema f)
     → IsDescription (record root { schema = with_field root.schema f })
 
--- and its part files mean the same rows, with Null at the end of each
+-- a part file of a table to which an OPTIONAL field was added means the same rows, with Null at the end of each
 abbrev pub GrownPartsMeanRows : Type 0
 GrownPartsMeanRows = (keys : List KeyColumn) (fs : Fields) (f : Field) (g : Group) (bytes : List ℕ) (rows : List ValueTrees) → AreKeys keys fs → repetition_of f ≡ Optional → IsFront g.width (without_keys keys fs)
     → PartMeans keys (without_keys keys fs) g bytes rows → PartMeans keys (without_keys keys (with_field fs f)) g bytes (map with_null rows)
 
--- so a table that has the root of a further field, and its part files as they were, is the grown table
+-- files with the root of a further OPTIONAL field, and the part files as they were, are the table with that column added
 abbrev pub GrownTablesStand : Type 0
 GrownTablesStand = (files later : Files) (root : Root) (table : Table) (f : Field) → IsTableOf files root table → repetition_of f ≡ Optional → IsRootAt later (record root { schema = with_field root.schema f })
     → ((g : Group) → Contains root.groups g → later (path_of_group root g) ≡ files (path_of_group root g)) → IsTableOf later (record root { schema = with_field root.schema f }) (with_column f table)

@@ -13,15 +13,18 @@ use Rattle.schema.specs.inner.Code.{fields_code}
 use Rattle.partition.specs.Order.{AreInTableOrder}
 use Rattle.manifest.specs.Handles.{Group}
 
+-- there is at most one proof that keys stand in table order
 pub InTableOrder-prop : (ks : List (List ValueTree)) → IsProp (AreInTableOrder ks)
 InTableOrder-prop [] = hlevel props
 InTableOrder-prop (k ∷ []) = hlevel props
 InTableOrder-prop (k ∷ l ∷ ks) = hlevel (props, InTableOrder-prop (l ∷ ks))
 
+-- there is at most one proof that no number comes twice
 pub Distinct-prop : (ns : List ℕ) → IsProp (AreDistinct ns)
 Distinct-prop [] = hlevel props
 Distinct-prop (n ∷ ns) = hlevel (props, Distinct-prop ns)
 
+-- there is at most one proof that the numbers of the groups are below the next one
 pub Below-prop : (next : ℕ) (gs : List Group) → IsProp (AllByRecursion (λ (g : Group). g.number < next) gs)
 Below-prop next gs = hlevel props
 
@@ -47,6 +50,7 @@ Named-prop : (keys : List KeyColumn) → IsProp (AllByRecursion (λ (k : KeyColu
 Named-prop [] = Unit-prop
 Named-prop (k ∷ keys) = ×_prop (hlevel props) (Named-prop keys)
 
+-- there is at most one proof that the key columns can partition a table with these fields
 pub Keys-prop : (keys : List KeyColumn) (fs : Fields) → IsProp (AreKeys keys fs)
 Keys-prop keys fs = λ a b i. record {
   few = few-prop a.few b.few i;

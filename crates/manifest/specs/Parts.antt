@@ -24,7 +24,7 @@ pub record IsFullChunk (front : List ℕ) (m : ColumnMeta) (leaf : Leaf) (es : L
   pub there : start + size ≤ length front
   pub fills : ChunkMeans m leaf (take size (drop start front)) es size
 
--- so it is of each chunk, in the order of the leaves, and its statistics hold of its column
+-- each chunk, in the order of the leaves, is a full one (`IsFullChunk`), and its statistics hold of its column
 abbrev pub AreFullChunks : List ℕ → List Leaf → List ChunkMeta → List Statistics → List (List Entry) → Type 0
 AreFullChunks front [] [] [] [] = Unit {0}
 AreFullChunks front (leaf ∷ leaves) (c ∷ cs) (s ∷ ss) (es ∷ columns) = IsFullChunk front c.meta_data leaf es × Bounds (order_of leaf.leaf_type) s es × AreFullChunks front leaves cs ss columns

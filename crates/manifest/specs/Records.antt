@@ -14,7 +14,7 @@ use Rattle.partition.specs.Folders.{CanPartition, part_path_of}
 use Rattle.schema.specs.Fronts.{first_fields, IsFront}
 use Rattle.manifest.specs.Groups.{Group}
 
--- the record with the path of its file
+-- the record of a chunk with the path of the file that it is in
 abbrev pub placed : List ℕ → ChunkMeta → ChunkMeta
 placed path c = record { file_path = Some path; file_offset = c.file_offset; meta_data = c.meta_data }
 
@@ -42,7 +42,7 @@ pub record IsChunkRecord (leaf : Leaf) (c : ChunkMeta) (s : Statistics) : Type 0
   pub statistics : HasStatistics leaf c.meta_data s
   pub own : IsOwnColumn c.meta_data
 
--- so it is of each chunk, in the order of the leaves
+-- each record is that of a chunk of the leaf at the same place, with the statistics at that place (`IsChunkRecord`)
 abbrev pub AreChunkRecords : List Leaf → List ChunkMeta → List Statistics → Type 0
 AreChunkRecords [] [] [] = Unit {0}
 AreChunkRecords (leaf ∷ leaves) (c ∷ cs) (s ∷ ss) = IsChunkRecord leaf c s × AreChunkRecords leaves cs ss
@@ -63,7 +63,7 @@ pub record IsGroupRecord (keys : List KeyColumn) (stored : Fields) (m : GroupMet
   pub counted : m.num_rows ≡ pos g.known.rows
   pub placed_chunks : m.columns ≡ map (placed (part_path_of keys g.key g.number)) g.chunks
 
--- so it is of each
+-- each record is that of the group at the same place (`IsGroupRecord`), and there are as many of both
 abbrev pub AreGroupRecords : List KeyColumn → Fields → List GroupMeta → List Group → Type 0
 AreGroupRecords keys stored [] [] = Unit {0}
 AreGroupRecords keys stored (m ∷ ms) (g ∷ gs) = IsGroupRecord keys stored m g × AreGroupRecords keys stored ms gs

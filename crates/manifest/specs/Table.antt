@@ -10,9 +10,11 @@ pub use Rattle.table.specs.Table.{Group as Rows, Table}
 abbrev pub Files : Type 0
 Files = List ℕ → Option (List ℕ)
 
+-- the name of the root in the dataset's folder
 abbrev pub root_name : List ℕ
 root_name = codes "_metadata"
 
+-- the path of a described group's part file in the dataset's folder
 abbrev pub path_of_group : Root → Group → List ℕ
 path_of_group root g = part_path_of root.keys g.key g.number
 
@@ -24,12 +26,13 @@ pub record IsPartAt (files : Files) (root : Root) (g : Group) (t : Rows) : Type 
   pub there : files (path_of_group root g) ≡ Some bytes
   pub means : PartMeans root.keys (stored_of root) g bytes t.rows
 
+-- the file of each described group holds the rows of the table's group at the same place, and there are as many of both
 abbrev pub ArePartsAt : Files → Root → List Group → List Rows → Type 0
 ArePartsAt files root [] [] = Unit {0}
 ArePartsAt files root (g ∷ gs) (t ∷ ts) = IsPartAt files root g t × ArePartsAt files root gs ts
 ArePartsAt files root _ _ = ⊥
 
--- the root that is there describes this
+-- there is a root among the files, and it gives this description
 pub record IsRootAt (files : Files) (root : Root) : Type 0 where
   pub bytes : List ℕ
   pub there : files root_name ≡ Some bytes
@@ -47,6 +50,6 @@ pub record IsTableOf (files : Files) (root : Root) (table : Table) : Type 0 wher
 abbrev pub TableOf : Files → Table → Type 0
 TableOf files table = (root : Root) × IsTableOf files root table
 
--- the root that is there names this path
+-- there is a root among the files, and one of its groups has its part file at this path
 abbrev pub NamesPath : Files → List ℕ → Type 0
 NamesPath files path = (root : Root) × IsRootAt files root × ((g : Group) × Contains root.groups g × (path_of_group root g ≡ path))

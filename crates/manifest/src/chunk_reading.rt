@@ -172,7 +172,8 @@ fn bounds_of(
     }
 }
 
-/// The same of a type whose values are longer than a bound.
+/// The statistics, without bounds, of a chunk whose values are longer than a bound may be. Refused Page where a bound
+/// is given.
 fn no_bounds(kind: Kind, min: Option<&[u8]>, max: Option<&[u8]>, nulls: u64) -> R<Stats>
     requires long { HasLongValues kind }
     requires min_short { IfSome (option_map (λ x. x.now) min) (λ s. length s ≤ 64) }

@@ -109,7 +109,7 @@ impl Manifest {
         &self.groups
     }
 
-    /// The same table with these groups, which stand in table order under numbers of their own, and this next number,
+    /// This description with other groups, which stand in table order under numbers of their own, and this next number,
     /// which is above them. Takes no memory; refused only where there are too many handles.
     pub fn with_groups(&self, groups: Version, next: u64) -> R<Manifest>
         requires in_order { AreInTableOrder (keys_of (groups_in groups)) }
@@ -130,8 +130,8 @@ impl Manifest {
         })
     }
 
-    /// The same table with this schema, in which the key columns are at the same places. Its groups are shared: each keeps
-    /// the fields of its file.
+    /// This description with another schema, in which the key columns are at the same places. The groups are shared:
+    /// each keeps the fields of its file.
     ///
     /// Refused only for memory; time and room are linear in the schema.
     pub fn with_schema(&self, alloc: Global, schema: Schema) -> R<Manifest>

@@ -23,7 +23,7 @@ pub(crate) struct Fronts {
 }
 
 impl Fronts {
-    /// Those of this schema.
+    /// The numbers of leaves of this schema's first fields.
     pub(crate) fn new(alloc: Global, schema: &Schema) -> R<Fronts>
         ensures of { IfOk result (λ fronts. HasFronts fronts schema.now) }
         ensures which { RefusedMemoryOnly result }

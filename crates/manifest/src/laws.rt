@@ -79,7 +79,7 @@ pub fn grown_roots_are_described()
     ensures { GrownRootsAreDescribed }
 {}
 
-/// Its part files then mean the same rows, with Null at the end of each.
+/// The part files of a table to which an OPTIONAL field was added mean the same rows, with Null at the end of each.
 pub fn grown_parts_mean_rows()
     ensures { GrownPartsMeanRows }
 {}

@@ -1,7 +1,7 @@
 //! What a table is, as its root file `_metadata` describes it.
 //!
 //! `specs/Root.antt` says which description the bytes of a root give (`RootMeans`), `specs/Records.antt` which groups
-//! and chunks it has, `specs/Fronts.antt` what a file lacks that was written before a field was added,
+//! and chunks it has, schema's `specs/Fronts.antt` what a file lacks that was written before a field was added,
 //! `specs/Parts.antt` what a part file holds, and `specs/Table.antt` which table the files of a folder are (`TableOf`).
 #![tactic(auto)]
 

@@ -123,7 +123,7 @@ impl Version {
         starts[edge - 1] + groups_up_to(all[edge - 1].groups.as_slice(), key)
     }
 
-    /// The same version once more, which shares all groups: two more handles. Takes no memory; refused only where there
+    /// A copy of this version, which shares all groups: two more handles. Takes no memory; refused only where there
     /// are too many handles.
     pub fn share(&self) -> R<Version>
         ensures same { IfOk result (λ copy. groups_in copy ≡ groups_in self.now) }

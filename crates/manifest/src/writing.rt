@@ -50,7 +50,7 @@ pub(crate) fn root_to_bytes(
     framed(alloc, &meta)
 }
 
-/// The record of such a root.
+/// The record of a root that has these fields besides the keys, these key columns, next number and groups.
 ///
 /// Refused Limit only where there are so many groups that the footer is too heavy, or these are no description.
 fn record_of(

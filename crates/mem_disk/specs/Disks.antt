@@ -10,13 +10,15 @@ use Rattle.mem_disk.specs.Fuses.{trip_of}
 use Rattle.mem_disk.specs.Failing.{HasDone, IsToBeDone, StaysUnlessShort}
 use Rattle.mem_disk.specs.Laws.{lawful_with}
 
+-- the state of a `MemDisk`, by the record of its calls and its counts of failures and reads
 abbrev pub state_of : MemDisk → State
 state_of disk = state_with disk.held.calls.items disk.failures disk.reads
 
+-- the state of each `MemDisk` is lawful
 pub lawful_of : (disk : MemDisk) → IsLawful (state_of disk)
 lawful_of disk = lawful_with disk.held.calls.items (length disk.held.nodes.items) disk.failures disk.reads disk.held.kept.sound
 
--- what it holds, and what of it is loose
+-- what a `MemDisk` holds, and what of it is loose
 abbrev pub loose_in : MemDisk → Loose
 loose_in disk = replayed empty disk.held.calls.items
 

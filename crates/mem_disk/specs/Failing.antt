@@ -55,7 +55,7 @@ IsFile image path = (n : ℕ) × (image.names path ≡ binding.File n)
 abbrev pub IsSureFile : Loose → List ℕ → Type 0
 IsSureFile l path = (n : ℕ) × (l.names path ≡ binding.File n) × (l.doubted n ≡ false)
 
--- it can be done, and the call does not fail with nothing done
+-- what a call asks for can be done, and the call does not fail with nothing done
 abbrev pub IsToBeDone : Trip → Type 0 → Type 0
 IsToBeDone trip Can = Can × (trip ≢ Fails Nothing)
 

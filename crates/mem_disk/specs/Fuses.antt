@@ -9,16 +9,17 @@ use Rattle.mem_disk.specs.declared.fuse.Fuse.TheVariants.{Never, After, Once}
 use Rattle.mem_disk.specs.declared.fuse.Trip.{Trip}
 use Rattle.mem_disk.specs.declared.fuse.Trip.TheVariants.{Passes, Fails}
 
--- 0 nothing, 1 the whole, 2 a part
+-- what a failed call has done, by a number: 0 nothing, 1 the whole, 2 or more a part
 abbrev pub done_at : ℕ → Done
 done_at zero = Nothing
 done_at (suc zero) = Whole
 done_at (suc (suc n)) = Part
 
+-- what a failed call has done, by the pick: its number is the pick modulo 3
 abbrev pub done_of : ℕ → Done
 done_of pick = done_at (pick % 3)
 
--- whether the next call fails
+-- whether the next call fails, and what it has done then
 abbrev pub trip_of : Fuse → Trip
 trip_of Never = Passes
 trip_of (After zero done) = Fails done
@@ -26,7 +27,7 @@ trip_of (After (suc left) done) = Passes
 trip_of (Once zero done) = Fails done
 trip_of (Once (suc left) done) = Passes
 
--- what is left of it then
+-- the fuse after one call: `After` goes on to fail each call, `Once` fails no other
 abbrev pub burnt : Fuse → Fuse
 burnt Never = Never
 burnt (After zero done) = After zero done

@@ -11,15 +11,15 @@ use Rattle.mem_disk.specs.Loose.{Loose, empty, replayed, image_of}
 use Rattle.mem_disk.specs.States.{state_with}
 use Rattle.mem_disk.specs.Failing.{HasDone}
 
--- what it holds, and what of it is loose
+-- what is kept of a disk, as a disk, and what of it is loose
 abbrev pub loose_held : Held → Loose
 loose_held held = replayed empty held.calls.items
 
--- as it reads
+-- the image that the disk reads
 abbrev pub image_held : Held → Image
 image_held held = image_of (loose_held held)
 
--- its state, with these counts of failures and reads
+-- the state of the disk, with these counts of failures and reads
 abbrev pub state_held : Held → ℕ → ℕ → State
 state_held held failures reads = state_with held.calls.items failures reads
 

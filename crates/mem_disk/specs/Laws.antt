@@ -18,13 +18,15 @@ reads_may_stay l count sound = record {
   holds = λ n. holds_now (l.synced n) (l.bytes n) (sound.synced n);
 }
 
--- the whole record is its front of this length
+-- a record and its prefix of its own length make the same of a disk
 pub of_all : (calls : List Call) → replayed empty (take (length calls) calls) ≡ replayed empty calls
 of_all calls = ap (replayed empty) (take_all (length calls) calls (omega arith))
 
+-- what the whole record may leave is what a stop may leave now
 pub now_leaves : (calls : List Call) (f r : ℕ) (c : Image) → MayLeave (replayed empty calls) c → may_leave (state_with calls f r) c
 now_leaves calls f r c may = subst (λ (l : Loose). MayLeave l c) (sym (of_all calls)) may
 
+-- the state of a sound record is lawful, whatever its counts of failures and reads
 pub lawful_with : (calls : List Call) (count f r : ℕ) → IsSound (replayed empty calls) count → IsLawful (state_with calls f r)
 lawful_with calls count f r sound = record {
   seen_may_stay = λ _. now_leaves calls f r (image_of (replayed empty calls)) (reads_may_stay (replayed empty calls) count sound);

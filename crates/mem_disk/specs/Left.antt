@@ -49,7 +49,7 @@ pub record IsTorn (old new : Node) : Type 0 where
   pub synced : new.synced ≡ length new.bytes.items
   pub sure : new.doubted ≡ false
 
--- a node that holds the same
+-- a node with the same bytes, as many of them synced, and in doubt where that one is
 pub record IsCopy (old new : Node) : Type 0 where
   pub bytes : new.bytes.items ≡ old.bytes.items
   pub synced : new.synced ≡ old.synced

@@ -14,20 +14,20 @@ use Rattle.mem_disk.specs.Tables.{at_first, name_in, had_in, of_node, Among}
 pub record Loose : Type 0 where
   -- what each path names
   pub names : List ℕ → Binding
-  -- what else it has named since its folder's last sync
+  -- what else each path has named since its folder's last sync
   pub had : List ℕ → List Binding
   -- the bytes of each node
   pub bytes : ℕ → List ℕ
-  -- how many of them were there at its last sync
+  -- how many bytes of each node were there at its last sync
   pub synced : ℕ → ℕ
-  -- whether a sync of it has failed
+  -- whether a sync of each node has failed
   pub doubted : ℕ → Bool
 
 -- the empty folder, nothing loose
 abbrev pub empty : Loose
 empty = record { names = at_first; had = λ q. []; bytes = λ n. []; synced = λ n. 0; doubted = λ n. false }
 
--- these names and these nodes
+-- what these names and these nodes hold, and what of it is loose
 abbrev pub loose_of : List Name → List Node → Loose
 loose_of names nodes = record {
   names = name_in names;
@@ -37,7 +37,7 @@ loose_of names nodes = record {
   doubted = of_node (λ (x : Node). x.doubted) false nodes;
 }
 
--- as it reads
+-- the image that a disk reads
 abbrev pub image_of : Loose → Image
 image_of l = record { names = l.names; bytes = l.bytes }
 
@@ -100,6 +100,7 @@ after l (Sync node) = node_synced l node
 after l (SyncFolder folder) = folder_synced l (string_bytes folder)
 after l (Doubt node) = node_doubted l node
 
+-- what calls, one after another, make of a disk
 abbrev pub replayed : Loose → List Call → Loose
 replayed l [] = l
 replayed l (call ∷ calls) = replayed (after l call) calls

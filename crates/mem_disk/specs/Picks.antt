@@ -40,7 +40,7 @@ byte_as (suc zero) node at word = slice_index node.bytes.items at
 byte_as (suc (suc zero)) node at word = 0
 byte_as (suc (suc (suc kind))) node at word = bit_xor (word / 4 % 256) (at % 256)
 
--- the same, the word's kind being what is left of it by four
+-- a byte of a touched sector, by its word, whose kind is the word modulo 4
 abbrev pub byte_by : Node → ℕ → ℕ → ℕ
 byte_by node at word = byte_as (word % 4) node at word
 
@@ -63,7 +63,7 @@ pub record PicksBytes (node : Node) (words bytes : List ℕ) : Type 0 where
   pub long : node.synced < length node.bytes.items → length bytes ≡ long_by node (next_word words)
   pub torn : node.synced < length node.bytes.items → (at : ℕ) → 512 * (node.synced / 512) ≤ at → at < length bytes → slice_index bytes at ≡ byte_by node at (slice_index words (at / 512 - node.synced / 512 + 1))
 
--- the node that is left has them
+-- the node that is left has the bytes that the next words pick
 abbrev pub PicksNode : Node → List ℕ → Node → Type 0
 PicksNode node words new = PicksBytes node words new.bytes.items
 

@@ -7,7 +7,7 @@ use Rattle.disk.specs.declared.fault.Fault.TheVariants.{Failed}
 use Rattle.mem_disk.specs.declared.call.Call.{Call}
 use Rattle.mem_disk.specs.Loose.{empty, replayed, image_of, MayLeave}
 
--- each call of the record is a moment
+-- the state of a disk, by the record of its calls: each call is a moment
 abbrev pub state_with : List Call → ℕ → ℕ → State
 state_with calls failures reads = record {
   seen = image_of (replayed empty calls);
@@ -19,7 +19,7 @@ state_with calls failures reads = record {
   honest = Unit {0};
 }
 
--- it holds of this result, and of `Failed` in its place
+-- a fact holds of this result, and of `Failed` in its place
 abbrev pub AlsoFailed : {T : Type 0} → (Result T Fault → Type 0) → Result T Fault → Type 0
 AlsoFailed P result = P result × P (Err Failed)
 

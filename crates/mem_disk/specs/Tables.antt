@@ -20,7 +20,7 @@ of_name f none (e ∷ es) q = if bytes_eq q (string_bytes e.path) then f e else 
 abbrev pub name_in : List Name → List ℕ → Binding
 name_in es q = of_name (λ (e : Name). e.now) at_first es q
 
--- what else it has named since its folder's last sync
+-- what else a path has named since its folder's last sync
 abbrev pub had_in : List Name → List ℕ → List Binding
 had_in es q = of_name (λ (e : Name). e.had.items) (λ _. []) es q
 
@@ -81,11 +81,12 @@ pub record Settled (folder : List ℕ) (old new : Name) : Type 0 where
   pub now : new.now ≡ old.now
   pub had : new.had.items ≡ (if bytes_eq (folder_of (string_bytes old.path)) folder then [] else old.had.items)
 
--- both are facts
+-- that no name of a list has a path is a proposition: it has at most one proof
 finds_none_once : (es : List Name) (p : List ℕ) → IsProp (FindsNone es p)
 finds_none_once [] p = hlevel
 finds_none_once (e ∷ es) p = let rest = finds_none_once es p in hlevel rest
 
+-- that no two names have one path is a proposition: it has at most one proof
 pub apart_once : (es : List Name) → IsProp (AreApart es)
 apart_once [] = hlevel
 apart_once (e ∷ es) = let none = finds_none_once es (string_bytes e.path) in let rest = apart_once es in hlevel (none, rest)

@@ -7,7 +7,7 @@ use disk::Binding;
 /// What a call has done to the disk.
 #[derive(Drop)]
 pub enum Call {
-    /// the disk began with these
+    /// the disk began with these names and nodes
     Begin(Vec<Name>, Vec<Node>),
     Bind(String, Binding),
     Append(usize, Vec<u8>),

@@ -51,7 +51,7 @@ pub fn done_of(pick: u64) -> Done
 impl Fuse {
     ghost use Rattle.mem_disk.specs.Fuses.{trip_of, burnt};
 
-    /// A call comes.
+    /// Burns the fuse by one call, and returns whether that call fails.
     pub fn burn(&mut self) -> Trip
         ensures trip { result ≡ trip_of self.old }
         ensures burnt { self.new ≡ burnt self.old }

@@ -24,7 +24,7 @@ pub fn left_names(alloc: Global, picked: &Names) -> Result<Vec<Name>, AllocError
     Ok(left)
 }
 
-/// The same nodes once more.
+/// A copy of each node, in their order.
 pub fn copies_of(alloc: Global, nodes: &[Node]) -> Result<Vec<Node>, AllocError>
     ensures { IfOk result (λ copies. EachOf IsCopy nodes.now copies.items) }
 {

@@ -11,14 +11,14 @@ use std::alloc::{AllocError, Global};
 pub struct Name {
     pub path: String,
     pub now: Binding,
-    /// what else it has stood for since its folder's last sync, in the order of time
+    /// what else the name has stood for since its folder's last sync, in the order of time
     pub had: Vec<Binding>,
 }
 
 impl Name {
     ghost use Rattle.mem_disk.specs.Tables.{Settled};
 
-    /// From now on it stands for this.
+    /// From now on the name stands for this.
     pub fn turn(&mut self, to: Binding) -> Result<(), AllocError>
         ensures path { self.new.path ≡ self.old.path }
         ensures now { OnOk result (self.new.now ≡ to) }
@@ -30,7 +30,7 @@ impl Name {
         Ok(())
     }
 
-    /// Its folder was synced, if it lies in this one.
+    /// A folder was synced: a name that lies in it is durable.
     pub fn settle(&mut self, folder: &str)
         ensures settled { Settled folder.now self.old self.new }
     {

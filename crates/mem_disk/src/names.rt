@@ -76,7 +76,7 @@ impl Names {
         }
     }
 
-    /// These names, and where each stands.
+    /// Names, with the place of each path among them.
     pub fn of(alloc: Global, list: Vec<Name>) -> Result<Names, AllocError>
         ensures { IfOk result (λ names. names.list.items ≡ list.items) }
     {
@@ -87,7 +87,7 @@ impl Names {
         Ok(Names { list, places })
     }
 
-    /// Where the first name with this path is.
+    /// The place of the first name with this path; None where no name has it.
     fn find(&self, path: &str) -> Option<usize>
         ensures place { MatchOption result (FindsNone self.now.list.items path.now) (λ i. Finds self.now.list.items path.now i) }
         ensures within { IfSome result (λ i. i < length self.now.list.items) }
@@ -105,7 +105,7 @@ impl Names {
         }
     }
 
-    /// A name whose path none has.
+    /// Adds a name whose path no other has.
     fn add(&mut self, alloc: Global, name: Name) -> Result<(), AllocError>
         requires { FindsNone self.old.list.items (string_bytes name.path) }
         ensures ok { OnOk result (self.new.list.items ≡ self.old.list.items ++ name ∷ []) }

@@ -8,7 +8,7 @@ use std::alloc::Global;
 #[derive(Drop)]
 pub struct Node {
     pub bytes: Vec<u8>,
-    /// how many of them were there at the last sync
+    /// how many of the bytes were there at the last sync
     pub synced: usize,
     /// a sync has failed; later ones make nothing durable
     pub doubted: bool,
@@ -27,7 +27,7 @@ impl Node {
         }
     }
 
-    /// Its bytes are durable.
+    /// Makes the bytes of the node durable.
     pub fn sync(&mut self)
         ensures bytes { self.new.bytes ≡ self.old.bytes }
         ensures synced { self.new.synced ≡ length self.old.bytes.items }

@@ -10,7 +10,7 @@ use crate::held::Held;
 use disk::{Binding, Fault};
 use std::alloc::{AllocError, Global};
 
-/// So much of the bytes from there on as is there.
+/// At most `len` bytes from `from` on: as many as are there.
 fn part(alloc: Global, bytes: &[u8], from: u64, len: usize) -> Result<Vec<u8>, AllocError>
     ensures { IfOk result (λ read. read.items ≡ take len (drop from bytes.now)) }
 {

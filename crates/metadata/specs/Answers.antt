@@ -6,7 +6,7 @@ use Rattle.bits.specs.Codec.{Appends}
 use Rattle.thrift_compact.specs.Tree.{Fields}
 use Rattle.thrift_compact.specs.Compact.{IsThrift}
 
--- the one record that the fields are; refused Thrift where they are none, and when out of memory
+-- the result is the one record that the fields are, or Thrift if they are no such record, or Memory
 abbrev pub IsRecordOf : {X Y : Type 0} → (X → Y) → Option Y → Result X Refusal → Type 0
 IsRecordOf view is (Ok x) = is ≡ Some (view x)
 IsRecordOf view is (Err Thrift) = is ≡ None

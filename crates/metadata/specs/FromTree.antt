@@ -1,4 +1,5 @@
--- Which record the fields of a struct are: the tables of ids of parquet.thrift. Other fields are skipped.
+-- Which record the fields of a struct are: the tables of ids of parquet.thrift. Fields with other ids are skipped.
+-- None: a field that the record needs is absent, or one with a known id cannot be read as its type.
 use Rattle.std.specs.Prelude.{Bool, true, is_some, Option, Some, None, if◌then◌else◌}
 use Rattle.std.specs.Ordering.{int_eq}
 use Rattle.thrift_compact.specs.Tree.{Fields}
@@ -7,12 +8,14 @@ use Rattle.metadata.specs.Ids as ids
 use Rattle.metadata.specs.FieldValues.{◌>>=◌, known, needed, int32, int64, boolean, text, tree, any_struct, record_by, list_by}
 use Rattle.metadata.specs.Records.{KeyValue, Statistics, ColumnMeta, ChunkMeta, GroupMeta, ColumnOrder, type_order, other_order, FileMeta, DataPageHeader, DictionaryPageHeader, DataPageHeaderV2, PageHeader}
 
+-- a KeyValue, which needs its key
 abbrev pub key_value : Fields → Option KeyValue
 key_value fs = do
   key ← needed text ids.pair_key fs
   value ← known text ids.pair_value fs
   Some (record { key = key; value = value })
 
+-- the Statistics of a column chunk or a page, which need no field
 abbrev pub statistics : Fields → Option Statistics
 statistics fs = do
   max ← known text ids.statistics_max fs
@@ -25,6 +28,7 @@ statistics fs = do
   is_min_value_exact ← known boolean ids.statistics_is_min_value_exact fs
   Some (record { max = max; min = min; null_count = null_count; distinct_count = distinct_count; max_value = max_value; min_value = min_value; is_max_value_exact = is_max_value_exact; is_min_value_exact = is_min_value_exact })
 
+-- a ColumnMetaData, which needs the chunk's type, its path, its codec, its number of values and the offset of its data pages
 abbrev pub column_meta : Fields → Option ColumnMeta
 column_meta fs = do
   kind ← needed int32 ids.column_kind fs
@@ -39,6 +43,7 @@ column_meta fs = do
   statistics ← known (record_by statistics) ids.column_statistics fs
   Some (record { kind = kind; encodings = encodings; path_in_schema = path_in_schema; codec = codec; num_values = num_values; total_uncompressed_size = total_uncompressed_size; total_compressed_size = total_compressed_size; data_page_offset = data_page_offset; dictionary_page_offset = dictionary_page_offset; statistics = statistics })
 
+-- a ColumnChunk, which needs its meta_data
 abbrev pub chunk_meta : Fields → Option ChunkMeta
 chunk_meta fs = do
   file_path ← known text ids.chunk_file_path fs
@@ -46,6 +51,7 @@ chunk_meta fs = do
   meta_data ← needed (record_by column_meta) ids.chunk_meta_data fs
   Some (record { file_path = file_path; file_offset = file_offset; meta_data = meta_data })
 
+-- a RowGroup, which needs its column chunks and its number of rows
 abbrev pub group_meta : Fields → Option GroupMeta
 group_meta fs = do
   columns ← needed (list_by (record_by chunk_meta)) ids.group_columns fs
@@ -53,11 +59,13 @@ group_meta fs = do
   num_rows ← needed int64 ids.group_num_rows fs
   Some (record { columns = columns; total_byte_size = total_byte_size; num_rows = num_rows })
 
+-- a ColumnOrder, a union: TYPE_ORDER if that member is there, and another order if it is not
 abbrev pub column_order : Fields → Option ColumnOrder
 column_order fs = do
   found ← known any_struct ids.order_type_order fs
   Some (if is_some found then type_order else other_order)
 
+-- a SchemaElement, which needs its name; its logicalType is kept as the struct that it is
 abbrev pub element : Fields → Option Element
 element fs = do
   kind ← known int32 ids.element_kind fs
@@ -72,6 +80,7 @@ element fs = do
   logical_type ← known tree ids.element_logical_type fs
   Some (record { kind = kind; type_length = type_length; repetition_type = repetition_type; name = name; num_children = num_children; converted_type = converted_type; scale = scale; precision = precision; field_id = field_id; logical_type = logical_type })
 
+-- a FileMetaData, the footer of a file, which needs its schema and its row groups
 abbrev pub file_meta : Fields → Option FileMeta
 file_meta fs = do
   version ← known int32 ids.file_version fs
@@ -83,6 +92,7 @@ file_meta fs = do
   column_orders ← known (list_by (record_by column_order)) ids.file_column_orders fs
   Some (record { version = version; schema = schema; num_rows = num_rows; row_groups = row_groups; key_value_metadata = key_value_metadata; created_by = created_by; column_orders = column_orders })
 
+-- a DataPageHeader, of a page of version 1, which needs its number of values and their encoding
 abbrev pub data_page_header : Fields → Option DataPageHeader
 data_page_header fs = do
   num_values ← needed int32 ids.data_num_values fs
@@ -92,6 +102,7 @@ data_page_header fs = do
   statistics ← known (record_by statistics) ids.data_statistics fs
   Some (record { num_values = num_values; encoding = encoding; definition_level_encoding = definition_level_encoding; repetition_level_encoding = repetition_level_encoding; statistics = statistics })
 
+-- a DictionaryPageHeader, which needs its number of values and their encoding
 abbrev pub dictionary_page_header : Fields → Option DictionaryPageHeader
 dictionary_page_header fs = do
   num_values ← needed int32 ids.dictionary_num_values fs
@@ -99,6 +110,7 @@ dictionary_page_header fs = do
   is_sorted ← known boolean ids.dictionary_is_sorted fs
   Some (record { num_values = num_values; encoding = encoding; is_sorted = is_sorted })
 
+-- a DataPageHeaderV2, of a page of version 2, which needs its number of values, their encoding and the lengths of both kinds of levels
 abbrev pub data_page_header_v2 : Fields → Option DataPageHeaderV2
 data_page_header_v2 fs = do
   num_values ← needed int32 ids.data_v2_num_values fs
@@ -111,7 +123,7 @@ data_page_header_v2 fs = do
   statistics ← known (record_by statistics) ids.data_v2_statistics fs
   Some (record { num_values = num_values; num_nulls = num_nulls; num_rows = num_rows; encoding = encoding; definition_levels_byte_length = definition_levels_byte_length; repetition_levels_byte_length = repetition_levels_byte_length; is_compressed = is_compressed; statistics = statistics })
 
--- a page header, whether or not the header that its type names is there
+-- a PageHeader, which needs its type and its compressed size, whether or not the header that its type names is there
 abbrev pub any_page_header : Fields → Option PageHeader
 any_page_header fs = do
   kind ← needed int32 ids.page_kind fs
@@ -123,10 +135,11 @@ any_page_header fs = do
   data_page_header_v2 ← known (record_by data_page_header_v2) ids.page_data_page_header_v2 fs
   Some (record { kind = kind; uncompressed_page_size = uncompressed_page_size; compressed_page_size = compressed_page_size; crc = crc; data_page_header = data_page_header; dictionary_page_header = dictionary_page_header; data_page_header_v2 = data_page_header_v2 })
 
--- the header that the type of the page names is there
+-- whether the header that the type of the page names is there; other types of pages need none
 abbrev pub has_own_header : PageHeader → Bool
 has_own_header h =
     if int_eq h.kind ids.type_data_page then is_some h.data_page_header else if int_eq h.kind ids.type_dictionary_page then is_some h.dictionary_page_header else if int_eq h.kind ids.type_data_page_v2 then is_some h.data_page_header_v2 else true
 
+-- a PageHeader, which needs its type, its compressed size and the header that its type names
 abbrev pub page_header : Fields → Option PageHeader
 page_header fs = any_page_header fs >>= λ h. if has_own_header h then Some h else None

@@ -9,5 +9,6 @@ use Rattle.metadata.specs.Records.{FileMeta}
 abbrev pub KeepsWritten : Element → Type 0
 KeepsWritten e = IfSome e.logical_type IsWritable
 
+-- each struct that an element of the footer's schema keeps nests at most 29 deep, and some bytes have it
 abbrev pub EachKeepsWritten : FileMeta → Type 0
 EachKeepsWritten m = AllByRecursion KeepsWritten m.schema

@@ -2,10 +2,12 @@
 use Rattle.std.specs.Prelude.{ℕ, ℤ, Bool, List, Option}
 use Rattle.schema.specs.Elements.{Element}
 
+-- KeyValue: a pair that an application keeps with the file, as bytes
 pub record KeyValue : Type 0 where
   pub key : List ℕ
   pub value : Option (List ℕ)
 
+-- Statistics of a column chunk or a page: bounds as bytes, and numbers of nulls and of distinct values; what the writer did not give is absent
 pub record Statistics : Type 0 where
   pub max : Option (List ℕ)
   pub min : Option (List ℕ)
@@ -16,6 +18,7 @@ pub record Statistics : Type 0 where
   pub is_max_value_exact : Option Bool
   pub is_min_value_exact : Option Bool
 
+-- ColumnMetaData of a column chunk: `kind` is its `type`, `num_values` counts nulls too, sizes and offsets are in bytes
 pub record ColumnMeta : Type 0 where
   pub kind : ℤ
   pub encodings : Option (List ℤ)
@@ -28,21 +31,24 @@ pub record ColumnMeta : Type 0 where
   pub dictionary_page_offset : Option ℤ
   pub statistics : Option Statistics
 
+-- ColumnChunk: the column of one leaf in a row group; without `file_path` it is in the footer's own file
 pub record ChunkMeta : Type 0 where
   pub file_path : Option (List ℕ)
   pub file_offset : Option ℤ
   pub meta_data : ColumnMeta
 
+-- RowGroup: a column chunk for each leaf, their uncompressed size in bytes, and the number of rows
 pub record GroupMeta : Type 0 where
   pub columns : List ChunkMeta
   pub total_byte_size : Option ℤ
   pub num_rows : ℤ
 
--- the order of the column's type, or one that is not known here
+-- ColumnOrder: the order of the column's type, or one that is not known here
 pub data ColumnOrder : Type 0 where
   type_order : ColumnOrder
   other_order : ColumnOrder
 
+-- FileMetaData, the footer of a file: the elements of its schema, depth first, and its row groups
 pub record FileMeta : Type 0 where
   pub version : Option ℤ
   pub schema : List Element
@@ -52,6 +58,7 @@ pub record FileMeta : Type 0 where
   pub created_by : Option (List ℕ)
   pub column_orders : Option (List ColumnOrder)
 
+-- DataPageHeader, of a page of version 1: `num_values` counts nulls too, encodings are numbers of enum Encoding
 pub record DataPageHeader : Type 0 where
   pub num_values : ℤ
   pub encoding : ℤ
@@ -59,11 +66,13 @@ pub record DataPageHeader : Type 0 where
   pub repetition_level_encoding : Option ℤ
   pub statistics : Option Statistics
 
+-- DictionaryPageHeader: the number of values in the dictionary, and their encoding as a number of enum Encoding
 pub record DictionaryPageHeader : Type 0 where
   pub num_values : ℤ
   pub encoding : ℤ
   pub is_sorted : Option Bool
 
+-- DataPageHeaderV2, of a page of version 2: `num_values` counts nulls too, the lengths of the levels are in bytes
 pub record DataPageHeaderV2 : Type 0 where
   pub num_values : ℤ
   pub num_nulls : Option ℤ
@@ -74,6 +83,7 @@ pub record DataPageHeaderV2 : Type 0 where
   pub is_compressed : Option Bool
   pub statistics : Option Statistics
 
+-- PageHeader: `kind` is its `type`, the sizes are in bytes and without this header, and of the three headers one may belong to the type
 pub record PageHeader : Type 0 where
   pub kind : ℤ
   pub uncompressed_page_size : Option ℤ

@@ -6,58 +6,68 @@ use Rattle.schema.specs.Elements.{Element}
 use Rattle.metadata.specs.Ids as ids
 use Rattle.metadata.specs.Records.{KeyValue, Statistics, ColumnMeta, ChunkMeta, GroupMeta, ColumnOrder, type_order, other_order, FileMeta, DataPageHeader, DictionaryPageHeader, DataPageHeaderV2, PageHeader}
 
--- an id, and the value of its field where that is there
+-- a row of a record's table: the id of a field, and its value; None if the field is absent
 abbrev pub Entry : Type 0
 Entry = ℤ × Option Node
 
+-- the row of a field that every such record has
 abbrev pub there : {X : Type 0} → (X → Node) → ℤ → X → Entry
 there write id x = (id, Some (write x))
 
+-- the row of a field that may be absent
 abbrev pub given : {X : Type 0} → (X → Node) → ℤ → Option X → Entry
 given write id x = (id, option_map write x)
 
--- a field, where it is there
+-- the field with this id: a list of one, or an empty one if the value is absent
 abbrev pub present : ℤ → Option Node → List (ℤ × Node)
 present id (Some x) = (id, x) ∷ []
 present id None = []
 
--- the fields that are there
+-- the fields of a table that are not absent, in its order
 abbrev pub present_of : List Entry → List (ℤ × Node)
 present_of [] = []
 present_of (e ∷ es) = present e.0 e.1 ++ present_of es
 
+-- the struct of a table: its fields that are not absent, in its order
 abbrev pub written : List Entry → Fields
 written es = fields_of (present_of es)
 
+-- the value of a boolean field
 abbrev pub truth : Bool → Node
 truth b = if b then yes else no
 
--- the protocol's numbers of the types of elements
+-- the compact protocol's number of the type i32 of elements
 abbrev pub INT32 : ℕ
 INT32 = 5
 
+-- the compact protocol's number of the type binary of elements
 abbrev pub BINARY : ℕ
 BINARY = 8
 
+-- the compact protocol's number of the type struct of elements
 abbrev pub STRUCT : ℕ
 STRUCT = 12
 
--- a list of values of the type with this number
+-- a list of values, whose type has this number in the compact protocol
 abbrev pub many : {X : Type 0} → ℕ → (X → Node) → List X → Node
 many code write xs = list code (nodes_of (map write xs))
 
+-- the struct of a record that is a field of another one, or an element of a list
 abbrev pub record_as : {X : Type 0} → (X → Fields) → X → Node
 record_as fields x = struct (fields x)
 
+-- the fields of a KeyValue, in the order of their ids
 abbrev pub key_value_table : KeyValue → List Entry
 key_value_table x =
     there binary ids.pair_key x.key
     ∷ given binary ids.pair_value x.value
     ∷ []
 
+-- the struct that is written for a KeyValue
 abbrev pub key_value_fields : KeyValue → Fields
 key_value_fields x = written (key_value_table x)
 
+-- the fields of Statistics, in the order of their ids
 abbrev pub statistics_table : Statistics → List Entry
 statistics_table x =
     given binary ids.statistics_max x.max
@@ -70,9 +80,11 @@ statistics_table x =
     ∷ given truth ids.statistics_is_min_value_exact x.is_min_value_exact
     ∷ []
 
+-- the struct that is written for Statistics
 abbrev pub statistics_fields : Statistics → Fields
 statistics_fields x = written (statistics_table x)
 
+-- the fields of a ColumnMetaData, in the order of their ids
 abbrev pub column_meta_table : ColumnMeta → List Entry
 column_meta_table x =
     there i32 ids.column_kind x.kind
@@ -87,9 +99,11 @@ column_meta_table x =
     ∷ given (record_as statistics_fields) ids.column_statistics x.statistics
     ∷ []
 
+-- the struct that is written for a ColumnMetaData
 abbrev pub column_meta_fields : ColumnMeta → Fields
 column_meta_fields x = written (column_meta_table x)
 
+-- the fields of a ColumnChunk, in the order of their ids
 abbrev pub chunk_meta_table : ChunkMeta → List Entry
 chunk_meta_table x =
     given binary ids.chunk_file_path x.file_path
@@ -97,9 +111,11 @@ chunk_meta_table x =
     ∷ there (record_as column_meta_fields) ids.chunk_meta_data x.meta_data
     ∷ []
 
+-- the struct that is written for a ColumnChunk
 abbrev pub chunk_meta_fields : ChunkMeta → Fields
 chunk_meta_fields x = written (chunk_meta_table x)
 
+-- the fields of a RowGroup, in the order of their ids
 abbrev pub group_meta_table : GroupMeta → List Entry
 group_meta_table x =
     there (many STRUCT (record_as chunk_meta_fields)) ids.group_columns x.columns
@@ -107,9 +123,11 @@ group_meta_table x =
     ∷ there i64 ids.group_num_rows x.num_rows
     ∷ []
 
+-- the struct that is written for a RowGroup
 abbrev pub group_meta_fields : GroupMeta → Fields
 group_meta_fields x = written (group_meta_table x)
 
+-- the fields of a SchemaElement, in the order of their ids
 abbrev pub element_table : Element → List Entry
 element_table x =
     given i32 ids.element_kind x.kind
@@ -124,13 +142,16 @@ element_table x =
     ∷ given struct ids.element_logical_type x.logical_type
     ∷ []
 
+-- the struct that is written for a SchemaElement
 abbrev pub element_fields : Element → Fields
 element_fields x = written (element_table x)
 
+-- the union that is written for a ColumnOrder: TYPE_ORDER as an empty struct, another order as no member
 abbrev pub column_order_fields : ColumnOrder → Fields
 column_order_fields type_order = written (there struct ids.order_type_order no_fields ∷ [])
 column_order_fields other_order = no_fields
 
+-- the fields of a FileMetaData, in the order of their ids
 abbrev pub file_meta_table : FileMeta → List Entry
 file_meta_table x =
     given i32 ids.file_version x.version
@@ -142,9 +163,11 @@ file_meta_table x =
     ∷ given (many STRUCT (record_as column_order_fields)) ids.file_column_orders x.column_orders
     ∷ []
 
+-- the struct that is written for a footer
 abbrev pub file_meta_fields : FileMeta → Fields
 file_meta_fields x = written (file_meta_table x)
 
+-- the fields of a DataPageHeader, in the order of their ids
 abbrev pub data_page_header_table : DataPageHeader → List Entry
 data_page_header_table x =
     there i32 ids.data_num_values x.num_values
@@ -154,9 +177,11 @@ data_page_header_table x =
     ∷ given (record_as statistics_fields) ids.data_statistics x.statistics
     ∷ []
 
+-- the struct that is written for a DataPageHeader
 abbrev pub data_page_header_fields : DataPageHeader → Fields
 data_page_header_fields x = written (data_page_header_table x)
 
+-- the fields of a DictionaryPageHeader, in the order of their ids
 abbrev pub dictionary_page_header_table : DictionaryPageHeader → List Entry
 dictionary_page_header_table x =
     there i32 ids.dictionary_num_values x.num_values
@@ -164,9 +189,11 @@ dictionary_page_header_table x =
     ∷ given truth ids.dictionary_is_sorted x.is_sorted
     ∷ []
 
+-- the struct that is written for a DictionaryPageHeader
 abbrev pub dictionary_page_header_fields : DictionaryPageHeader → Fields
 dictionary_page_header_fields x = written (dictionary_page_header_table x)
 
+-- the fields of a DataPageHeaderV2, in the order of their ids
 abbrev pub data_page_header_v2_table : DataPageHeaderV2 → List Entry
 data_page_header_v2_table x =
     there i32 ids.data_v2_num_values x.num_values
@@ -179,9 +206,11 @@ data_page_header_v2_table x =
     ∷ given (record_as statistics_fields) ids.data_v2_statistics x.statistics
     ∷ []
 
+-- the struct that is written for a DataPageHeaderV2
 abbrev pub data_page_header_v2_fields : DataPageHeaderV2 → Fields
 data_page_header_v2_fields x = written (data_page_header_v2_table x)
 
+-- the fields of a PageHeader, in the order of their ids
 abbrev pub page_header_table : PageHeader → List Entry
 page_header_table x =
     there i32 ids.page_kind x.kind
@@ -193,5 +222,6 @@ page_header_table x =
     ∷ given (record_as data_page_header_v2_fields) ids.page_data_page_header_v2 x.data_page_header_v2
     ∷ []
 
+-- the struct that is written for a PageHeader, whether or not the header that its type names is there
 abbrev pub page_header_fields : PageHeader → Fields
 page_header_fields x = written (page_header_table x)

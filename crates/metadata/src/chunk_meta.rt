@@ -48,7 +48,7 @@ impl ChunkMeta {
     }
 
     /// A copy. It fails only when out of memory; time and room are linear in what the record holds. (A caller that gives
-    /// the chunk another path copies `meta_data` alone.)
+    /// the chunk another path copies only its `meta_data`.)
     pub fn copied(&self, alloc: Global) -> R<ChunkMeta>
         ensures copies { IfOk result (λ copy. chunk_meta_view copy ≡ chunk_meta_view self.now) }
         ensures which { RefusedMemoryOnly result }

@@ -6,6 +6,7 @@ ghost use Rattle.bits.specs.Refusals.{RefusedMemoryOnly};
 use bits::R;
 use std::alloc::Global;
 
+/// A copy of a text; None if it is absent. It fails only when out of memory.
 pub fn copied_text(alloc: Global, text: &Option<Vec<u8>>) -> R<Option<Vec<u8>>>
     ensures copies { IfOk result (λ copy. option_map (λ s. s.items) copy ≡ option_map (λ s. s.items) text.now) }
     ensures which { RefusedMemoryOnly result }
@@ -16,6 +17,7 @@ pub fn copied_text(alloc: Global, text: &Option<Vec<u8>>) -> R<Option<Vec<u8>>>
     }
 }
 
+/// A copy of a list of numbers; None if it is absent. It fails only when out of memory.
 pub fn copied_numbers(alloc: Global, numbers: &Option<Vec<i32>>) -> R<Option<Vec<i32>>>
     ensures copies { IfOk result (λ copy. option_map (λ s. s.items) copy ≡ option_map (λ s. s.items) numbers.now) }
     ensures which { RefusedMemoryOnly result }
@@ -26,6 +28,7 @@ pub fn copied_numbers(alloc: Global, numbers: &Option<Vec<i32>>) -> R<Option<Vec
     }
 }
 
+/// Copies of the texts, in their order. It fails only when out of memory.
 pub fn copied_texts(alloc: Global, texts: &[Vec<u8>]) -> R<Vec<Vec<u8>>>
     ensures copies { IfOk result (λ copies. map (λ s. s.items) copies.items ≡ map (λ s. s.items) texts.now) }
     ensures which { RefusedMemoryOnly result }

@@ -68,8 +68,8 @@ impl FileMeta {
         Ok((record, used))
     }
 
-    /// The struct of the record, in the order of the ids; what is absent is left out. Refused Memory
-    /// alone.
+    /// The struct of the record, in the order of the ids; what is absent is left out. Refused only
+    /// Memory.
     pub fn to_tree(&self, alloc: Global) -> R<Tree>
         ensures stands { IfOk result (λ tree. tree_view tree ≡ file_meta_fields (file_meta_view self.now)) }
         ensures which { RefusedMemoryOnly result }

@@ -2,7 +2,7 @@
 //! them from here; the definitions have a table of their own, `specs/Ids.antt`, which they are compared
 //! with.
 
-/// FileMetaData.
+/// The ids of FileMetaData's fields.
 pub mod file {
     pub const VERSION: i16 = 1;
 
@@ -19,14 +19,14 @@ pub mod file {
     pub const COLUMN_ORDERS: i16 = 7;
 }
 
-/// KeyValue.
+/// The ids of KeyValue's fields.
 pub mod pair {
     pub const KEY: i16 = 1;
 
     pub const VALUE: i16 = 2;
 }
 
-/// RowGroup.
+/// The ids of RowGroup's fields.
 pub mod group {
     pub const COLUMNS: i16 = 1;
 
@@ -35,7 +35,7 @@ pub mod group {
     pub const NUM_ROWS: i16 = 3;
 }
 
-/// ColumnChunk.
+/// The ids of ColumnChunk's fields.
 pub mod chunk {
     pub const FILE_PATH: i16 = 1;
 
@@ -44,7 +44,7 @@ pub mod chunk {
     pub const META_DATA: i16 = 3;
 }
 
-/// ColumnMetaData.
+/// The ids of ColumnMetaData's fields.
 pub mod column {
     pub const KIND: i16 = 1;
 
@@ -67,7 +67,7 @@ pub mod column {
     pub const STATISTICS: i16 = 12;
 }
 
-/// SchemaElement.
+/// The ids of SchemaElement's fields.
 pub mod element {
     pub const KIND: i16 = 1;
 
@@ -90,7 +90,7 @@ pub mod element {
     pub const LOGICAL_TYPE: i16 = 10;
 }
 
-/// Statistics.
+/// The ids of Statistics' fields.
 pub mod statistics {
     pub const MAX: i16 = 1;
 
@@ -109,12 +109,12 @@ pub mod statistics {
     pub const IS_MIN_VALUE_EXACT: i16 = 8;
 }
 
-/// ColumnOrder, a union.
+/// The ids of the members of the union ColumnOrder.
 pub mod order {
     pub const TYPE_ORDER: i16 = 1;
 }
 
-/// PageHeader.
+/// The ids of PageHeader's fields.
 pub mod page {
     pub const KIND: i16 = 1;
 
@@ -131,7 +131,7 @@ pub mod page {
     pub const DATA_PAGE_HEADER_V2: i16 = 8;
 }
 
-/// DataPageHeader.
+/// The ids of DataPageHeader's fields.
 pub mod data {
     pub const NUM_VALUES: i16 = 1;
 
@@ -144,7 +144,7 @@ pub mod data {
     pub const STATISTICS: i16 = 5;
 }
 
-/// DictionaryPageHeader.
+/// The ids of DictionaryPageHeader's fields.
 pub mod dictionary {
     pub const NUM_VALUES: i16 = 1;
 
@@ -153,7 +153,7 @@ pub mod dictionary {
     pub const IS_SORTED: i16 = 3;
 }
 
-/// DataPageHeaderV2.
+/// The ids of DataPageHeaderV2's fields.
 pub mod data_v2 {
     pub const NUM_VALUES: i16 = 1;
 

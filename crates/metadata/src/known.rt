@@ -10,14 +10,14 @@ use bits::{R, Refusal};
 use std::alloc::Global;
 use thrift_compact::{Field, Node as Value, Tree, copied_fields};
 
-/// What a value of the compact protocol may be read as.
+/// A type that a value of the compact protocol may be read as.
 pub trait FromNode: Drop {
-    /// What a contract sees of it.
+    /// What a contract sees of a value of this type.
     ghost Shown: { Type 0 };
 
     ghost shown: { Self → Shown };
 
-    /// What a value stands for; none where it is of another type.
+    /// What a value of the compact protocol stands for; None if it is of another type.
     ghost read: { Node → Option Shown };
 
     fn from_node(alloc: Global, value: &Value) -> R<Self>
@@ -106,7 +106,7 @@ impl FromNode for Tree {
     }
 }
 
-/// A struct, of which no more is asked.
+/// A struct whose fields are not looked at.
 #[derive(Drop)]
 pub struct AnyStruct;
 
@@ -125,7 +125,8 @@ impl FromNode for AnyStruct {
     }
 }
 
-/// The last of the fields with this id, each of which is of this type.
+/// The value of the last field with this id; None if there is no such field. Refused Thrift if one of them is of
+/// another type.
 pub fn known_as<T: FromNode>(alloc: Global, fields: &[Field], id: i16) -> R<Option<T>>
     ensures stands { IsRecordOf (option_map T.shown) (known T.read id (field_views fields.now)) result }
 {
@@ -154,7 +155,8 @@ impl<T: FromNode> FromNode for Vec<T> {
     }
 }
 
-/// The last of the fields with this id, of which there is one, each of this type.
+/// The value of the last field with this id. Refused Thrift if there is no such field, or one of them is of another
+/// type.
 pub fn needed_as<T: FromNode>(alloc: Global, fields: &[Field], id: i16) -> R<T>
     ensures stands { IsRecordOf T.shown (needed T.read id (field_views fields.now)) result }
 {
@@ -164,8 +166,8 @@ pub fn needed_as<T: FromNode>(alloc: Global, fields: &[Field], id: i16) -> R<T>
     }
 }
 
-/// The values of a list, each of which is of this type. Room is asked for as they are found to be: a list of
-/// many small values of another type asks for none.
+/// The values of a list, each of which is of this type. Memory is taken value by value as they are found to be
+/// of it: a list of many small values of another type takes none.
 fn each_as<T: FromNode>(alloc: Global, values: &[Value]) -> R<Vec<T>>
     ensures stands { IsRecordOf (λ v. map T.shown v.items) (each_of T.read (views values.now)) result }
 {

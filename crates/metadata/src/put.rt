@@ -10,14 +10,14 @@ use bits::R;
 use std::alloc::Global;
 use thrift_compact::{ElementType, Field, Node as Value, Tree, copied_fields};
 
-/// What is written as a value of the compact protocol.
+/// A type that is written as a value of the compact protocol.
 pub trait ToNode {
-    /// What a contract sees of it.
+    /// What a contract sees of a value of this type.
     ghost Shown: { Type 0 };
 
     ghost shown: { Self → Shown };
 
-    /// The value that is written.
+    /// The value of the compact protocol that is written.
     ghost write: { Shown → Node };
 
     fn to_node(&self, alloc: Global) -> R<Value>
@@ -25,9 +25,9 @@ pub trait ToNode {
         ensures which { RefusedMemoryOnly result };
 }
 
-/// What is written as an element of a list.
+/// A type that is written as the elements of a list.
 pub trait ToElement: ToNode {
-    /// The protocol's number of its type.
+    /// The compact protocol's number of the elements' type.
     ghost code: { ℕ };
 
     fn element_type() -> ElementType
@@ -136,7 +136,7 @@ impl<T: ToElement> ToNode for Vec<T> {
     }
 }
 
-/// Puts a field after the others where its value is there.
+/// Puts a field after the others, if its value is there.
 pub fn put_given<T: ToNode>(
     alloc: Global,
     fields: &mut Vec<Field>,
@@ -153,7 +153,7 @@ pub fn put_given<T: ToNode>(
     }
 }
 
-/// The values of a list.
+/// The values of the compact protocol that are written for these, in their order.
 fn nodes<T: ToNode>(alloc: Global, items: &[T]) -> R<Vec<Value>>
     ensures stands { IfOk result (λ values. map view values.items ≡ map T.write (map T.shown items.now)) }
     ensures which { RefusedMemoryOnly result }

@@ -5,6 +5,7 @@ use Rattle.schema.specs.Values.{ValueTree}
 use Rattle.schema.specs.Stripe.{Leaf, Entry}
 use Rattle.pages.specs.Page.{Page, skipped, dictionary, entries, IsPage}
 
+-- a page is not skipped: it is a dictionary, or has entries
 abbrev pub is_read : Page → Bool
 is_read skipped = false
 is_read (dictionary vs) = true
@@ -15,11 +16,13 @@ abbrev pub dictionary_page : Option (List ValueTree) → List Page
 dictionary_page None = []
 dictionary_page (Some vs) = dictionary vs ∷ []
 
+-- the entries of a page; none if it is skipped, or a dictionary
 abbrev pub entries_of : Page → List Entry
 entries_of skipped = []
 entries_of (dictionary vs) = []
 entries_of (entries es) = es
 
+-- the entries of pages, one page after another
 abbrev pub all_entries : List Page → List Entry
 all_entries pages = flat_map entries_of pages
 

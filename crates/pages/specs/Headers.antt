@@ -82,10 +82,11 @@ pub record IsHeaded (header : PageHeader) (body bytes : List ℕ) (used : ℕ) :
   pub framed : IsFramed bytes header body used
   pub bare : IsThrift bytes (page_header_fields header) framed.header_end
 
--- how many of the entries begin a row, and how many have no value
+-- how many of the entries begin a row
 abbrev pub rows_in : List Entry → ℕ
 rows_in es = length (filter (λ e. e.repetition == 0) es)
 
+-- how many of the entries have no value
 abbrev pub nulls_in : List Entry → ℕ
 nulls_in es = length (filter (λ e. is_none e.value) es)
 

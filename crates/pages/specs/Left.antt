@@ -53,7 +53,7 @@ TakesValue old new (Ok true) = values_left old ≡ value_taken new ∷ values_le
 TakesValue old new (Ok false) = (values_left old ≡ []) × (values_left new ≡ [])
 TakesValue old new (Err fault) = (fault ≡ Memory) × (values_left new ≡ values_left old)
 
--- so it is where the entry is full; no value is taken where it is not
+-- true, for a full entry: one value is taken, or none at the end; false, for any other entry: no value is taken
 abbrev pub TakesWhere : Bool → PageValues → PageValues → Result Bool Fault → Type 0
 TakesWhere true old new result = TakesValue old new result
 TakesWhere false old new (Ok found) = (found ≡ false) × (values_left new ≡ values_left old)

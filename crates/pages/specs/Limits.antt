@@ -36,7 +36,7 @@ pub data IsBodyOver (leaf : Leaf) (h : PageHeader) (body : List ℕ) : Type 0 wh
   in_dictionary : (own : DictionaryPageHeader) (n : ℕ) → h.kind ≡ pos 2 → h.dictionary_page_header ≡ Some own → own.num_values ≡ pos n
       → IsEncodingOfDictionary own.encoding → IsReadOver leaf.leaf_type.kind body n → IsBodyOver leaf h body
 
--- the page that begins here has such a value
+-- the page that begins here has a value that goes beyond the limit
 pub record IsPageOver (leaf : Leaf) (bytes : List ℕ) : Type 0 where
   pub header : PageHeader
   pub body : List ℕ

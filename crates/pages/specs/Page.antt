@@ -55,7 +55,7 @@ pub record AreLevelsV1 (leaf : Leaf) (h : DataPageHeader) (body repetitions defi
   pub first : IsSectionV1 leaf.greatest_repetition h.repetition_level_encoding body repetitions between
   pub second : IsSectionV1 leaf.greatest_definition h.definition_level_encoding between definitions text
 
--- and of version 2
+-- the levels of a page of version 2, repetition levels first, and the text of its values behind them
 pub record AreLevelsV2 (leaf : Leaf) (h : DataPageHeaderV2) (body repetitions definitions text : List ℕ) : Type 0 where
   pub count : h.num_values ≡ pos (length definitions)
   pub paired : length repetitions ≡ length definitions
@@ -63,9 +63,11 @@ pub record AreLevelsV2 (leaf : Leaf) (h : DataPageHeaderV2) (body repetitions de
   pub first : IsSectionV2 leaf.greatest_repetition h.repetition_levels_byte_length body repetitions between
   pub second : IsSectionV2 leaf.greatest_definition h.definition_levels_byte_length between definitions text
 
+-- the repetition level of each entry
 abbrev pub repetitions : List Entry → List ℕ
 repetitions es = map (λ e. e.repetition) es
 
+-- the definition level of each entry
 abbrev pub definitions : List Entry → List ℕ
 definitions es = map (λ e. e.definition) es
 
@@ -77,7 +79,7 @@ values es = filter_map (λ e. e.value) es
 abbrev pub Spell : (List ℕ → List ValueTree → Type 0) → List ℕ → List ValueTree → Type 0
 Spell Stands text vs = (vs ≡ []) ⊎ Stands text vs
 
--- The body of a data page: the levels, and the values of the entries at the greatest definition level.
+-- The body of a data page of version 1: the levels, and the values of the entries at the greatest definition level.
 -- Levels are at most the greatest, and values are the leaf's: of its type, and UTF-8 where they are text.
 pub record IsBodyV1 (leaf : Leaf) (d : Option (List ValueTree)) (h : DataPageHeader) (body : List ℕ) (es : List Entry) : Type 0 where
   pub text : List ℕ
@@ -85,6 +87,7 @@ pub record IsBodyV1 (leaf : Leaf) (d : Option (List ValueTree)) (h : DataPageHea
   pub each : AllByRecursion (IsEntryOf leaf) es
   pub spelled : Spell (AreValues d leaf.leaf_type.kind (encoding_of h.encoding)) text (values es)
 
+-- The body of a data page of version 2: the levels, and the values of the entries at the greatest definition level.
 pub record IsBodyV2 (leaf : Leaf) (d : Option (List ValueTree)) (h : DataPageHeaderV2) (body : List ℕ) (es : List Entry) : Type 0 where
   pub text : List ℕ
   pub levels : AreLevelsV2 leaf h body (repetitions es) (definitions es) text

@@ -13,7 +13,7 @@ values_of skipped = []
 values_of (dictionary vs) = vs
 values_of (entries es) = values es
 
--- none of them is longer than a value may be
+-- none of the values of a page is longer than a value may be
 abbrev pub HasShortValues : Page → Type 0
 HasShortValues page = AllByRecursion (λ v. IsTooLong v → ⊥) (values_of page)
 

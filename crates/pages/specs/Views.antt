@@ -9,6 +9,7 @@ use Rattle.pages.specs.declared.page.PageRef.TheVariants.{Skipped, Dictionary, D
 use Rattle.pages.specs.Page.{Page, skipped, dictionary, entries}
 use Rattle.pages.specs.Left.{entries_left}
 
+-- what a page of the program stands for: a data page for the entries that it still has to give
 abbrev pub page_view : PageRef → Page
 page_view (Skipped body) = skipped
 page_view (Dictionary vs) = dictionary (map value_ref_view vs.items)

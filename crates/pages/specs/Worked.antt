@@ -7,10 +7,11 @@ use Rattle.schema.specs.Values.{integer}
 use Rattle.schema.specs.Stripe.{Leaf, leaf_at, Entry}
 use Rattle.schema.specs.Worked.{plain_type, here, none}
 
--- the leaf of a field `x` of numbers of 32 bits, by its repetition, and that of a REQUIRED field of texts
+-- the leaf of a field `x` of numbers of 32 bits, by its repetition
 abbrev pub number_leaf : Repetition → Leaf
 number_leaf r = leaf_at (codes "x" ∷ []) (record { place = 0; repetition = r } ∷ []) (plain_type Int32)
 
+-- the leaf of a REQUIRED field `x` of byte values
 abbrev pub text_leaf : Leaf
 text_leaf = leaf_at (codes "x" ∷ []) (record { place = 0; repetition = Required } ∷ []) (plain_type ByteArray)
 

@@ -31,6 +31,7 @@ IsEncodingFor kind encoding = ⊥
 abbrev pub weight_of : ℕ → List ValueTree → ℕ
 weight_of n vs = 1024 + 64 * n + text_size vs
 
+-- what a page of these entries weighs: 1,024 bytes, 64 an entry, and the bytes of its byte values
 abbrev pub page_weight : List Entry → ℕ
 page_weight es = weight_of (length es) (values es)
 
@@ -73,7 +74,7 @@ IsOfWriting kind encoding EncodingFault = IsEncodingFor kind encoding → ⊥
 IsOfWriting kind encoding Limit = Unit {0}
 IsOfWriting kind encoding _ = ⊥
 
--- and where each encoding fits
+-- what entries are refused for that should make a page, where no encoding is refused
 abbrev pub IsOfEntries : Refusal → Type 0
 IsOfEntries Levels = Unit {0}
 IsOfEntries Value = Unit {0}

@@ -64,7 +64,8 @@ pub fn read_data_page_v1<'a>(
     )
 }
 
-/// The entries of a page of version 2, at most `left`, in the same way.
+/// The entries of a page of version 2, at most `left`. Where they are known to stand, values in PLAIN are
+/// not checked.
 pub fn read_data_page_v2<'a>(
     alloc: Global,
     header: &DataPageHeaderV2,

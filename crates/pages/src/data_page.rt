@@ -16,7 +16,7 @@ use schema::{EntryRef, ValueRef};
 pub enum DataPage<'a> {
     /// Values in PLAIN, each of an entry whose levels are 0.
     Flat(Values<'a>),
-    /// All other entries.
+    /// Entries with levels, or with values in another encoding.
     Levelled(LevelledPage<'a>),
 }
 

@@ -31,7 +31,7 @@ impl<'a> PageValues<'a> {
     ghost use Rattle.schema.specs.Borrowed.{value_ref_view};
     ghost use Rattle.pages.specs.Left.{values_left, value_taken, TakesValue, TakesWhere};
 
-    /// These values, none of which is taken.
+    /// The values of a list, none of which is taken.
     pub fn of(values: Vec<ValueRef<'a>>) -> PageValues<'a>
         ensures { values_left result ≡ map value_ref_view values.entry.items }
     {

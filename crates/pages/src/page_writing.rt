@@ -39,8 +39,9 @@ use std::alloc::Global;
 /// Refused Levels or Value only where an entry is none of the leaf's: a level is above its greatest, or a
 /// value is missing, is there and should not be, or does not fit. Refused Encoding only where values of
 /// the leaf's type are not written in this encoding: PLAIN is for all types, RLE for BOOLEAN,
-/// DELTA_BINARY_PACKED for INT32 and INT64, DELTA_LENGTH_BYTE_ARRAY for BYTE_ARRAY, and DELTA_BYTE_ARRAY
-/// for both types of bytes; in another one no page is written. Refused Limit only where a value has more than 16 MiB, or where the page
+/// DELTA_BINARY_PACKED for INT32 and INT64, DELTA_LENGTH_BYTE_ARRAY for BYTE_ARRAY, DELTA_BYTE_ARRAY for
+/// both types of bytes, and BYTE_STREAM_SPLIT for INT32, INT64 and FIXED_LEN_BYTE_ARRAY; in another one no
+/// page is written. Refused Limit only where a value has more than 16 MiB, or where the page
 /// weighs more than [`MOST_BYTES_OF_PAGE`](crate::MOST_BYTES_OF_PAGE). After a refusal `out` is unchanged.
 pub fn write_page(
     alloc: Global,

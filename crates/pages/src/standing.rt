@@ -3,8 +3,8 @@
 /// Whether it is known that a page stands in the bytes, within the limits.
 #[derive(Debug, Clone, Copy)]
 pub enum Standing {
-    /// It is not: all is checked.
+    /// It is not known that the page stands: all is checked.
     Unknown,
-    /// It is: the page was read before, and its values in PLAIN are not checked again.
+    /// It is known that the page stands: it was read before, and its values in PLAIN are not checked again.
     Known,
 }

@@ -11,11 +11,11 @@ use Rattle.schema.specs.Law.{AllDiffer, names}
 use Rattle.schema.specs.Shape.{Fields}
 use Rattle.schema.specs.Keys.{KeyColumn, key_type, places_of, AreDistinct, AreKeys}
 
--- ASCII letters, digits, `_`, `.` and `-`
+-- a byte that stands for itself: an ASCII letter, a digit, `_`, `.` or `-`
 abbrev pub is_plain : ℕ → Bool
 is_plain b = is_ascii_alphanumeric b || (b == 95 || (b == 46 || b == 45))
 
--- each other byte is written as `%` and two upper-case hexadecimal digits
+-- a text in which each byte that does not stand for itself is written as `%` and two upper-case hexadecimal digits
 unfoldable pub escaped : List ℕ → List ℕ
 escaped text = flat_map (λ b. if is_plain b then b ∷ [] else percent_encode_byte b) text
 
@@ -27,19 +27,20 @@ value_text (integer z) = signed_decimal z
 value_text (bytes s) = s
 value_text _ = []
 
--- `name=value`
+-- the folder of a value: `name=value`, both escaped
 abbrev pub folder : KeyColumn → ValueTree → List ℕ
 folder column v = escaped column.name ++ 61 ∷ escaped (value_text v)
 
+-- the folders of a key, one for each key column, in their order
 abbrev pub folders : List KeyColumn → List ValueTree → List (List ℕ)
 folders (c ∷ columns) (v ∷ key) = folder c v ∷ folders columns key
 folders _ _ = []
 
--- the folders, one in another
+-- the path of a key: its folders, one in another, with slashes between
 abbrev pub path : List KeyColumn → List ValueTree → List ℕ
 path columns key = join_with_byte 47 (folders columns key)
 
--- no empty text
+-- the value is not an empty text
 abbrev pub is_filled : ValueTree → Bool
 is_filled (bytes []) = false
 is_filled _ = true
@@ -48,7 +49,7 @@ is_filled _ = true
 abbrev pub is_key_value : KeyKind → ValueTree → Bool
 is_key_value kind v = fits_leaf (key_type kind) v && is_filled v
 
--- one value for each column
+-- one value for each column, of the column's type and not an empty text
 abbrev pub is_key : List KeyColumn → List ValueTree → Bool
 is_key [] [] = true
 is_key (c ∷ columns) (v ∷ key) = is_key_value c.kind v && is_key columns key
@@ -72,7 +73,7 @@ abbrev pub PathsNameKeys : Type 0
 PathsNameKeys = (columns : List KeyColumn) (key other : List ValueTree) → IsTrue (is_key columns key) → IsTrue (is_key columns other)
     → path columns key ≡ path columns other → key ≡ other
 
--- `part.N.parquet`
+-- the name of the part file of group N: `part.N.parquet`
 abbrev pub part_name_of : ℕ → List ℕ
 part_name_of number = codes "part." ++ (decimal number ++ codes ".parquet")
 
@@ -94,7 +95,7 @@ PartPathsNameParts = (columns : List KeyColumn) (key other : List ValueTree) (nu
 abbrev pub IsRoot : List ℕ → Type 0
 IsRoot path = (path ≡ codes "_metadata") ⊎ (path ≡ codes "_metadata.new")
 
--- no part file's path is a root's, no root is a folder above it, and it is no folder above a root
+-- the path of a part file is not a root, a root is not a folder above a part file, and a part file is not a folder above a root
 abbrev pub PartPathsAreNotRoots : Type 0
 PartPathsAreNotRoots = (columns : List KeyColumn) (key : List ValueTree) (number : ℕ) (root : List ℕ) → number < 2 ^ 64 → IsRoot root
     → (part_path_of columns key number ≢ root) × ((rest : List ℕ) → root ≢ part_path_of columns key number ++ 47 ∷ rest) × ((rest : List ℕ) → part_path_of columns key number ≢ root ++ 47 ∷ rest)

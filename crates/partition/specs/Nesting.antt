@@ -10,10 +10,11 @@ pub record IsPlainName (name : List ℕ) : Type 0 where
   pub some : name ≢ []
   pub plain : AllByRecursion (λ b. b ≢ 47) name
 
--- the path of the first so many folders, and the name of the next one in it
+-- the path of the first `n` folders of a key
 abbrev pub path_to : List KeyColumn → List ValueTree → ℕ → List ℕ
 path_to columns key n = path (take n columns) (take n key)
 
+-- the folder of the key column at this place, the first at 0; empty past the last
 abbrev pub folder_at : List KeyColumn → List ValueTree → ℕ → List ℕ
 folder_at columns key n = get_or (folders columns key) n []
 
@@ -27,8 +28,10 @@ pub record AreNested (columns : List KeyColumn) (key : List ValueTree) : Type 0 
   pub names : (n : ℕ) → n < length columns → IsPlainName (folder_at columns key n)
   pub nest : (n : ℕ) → n < length columns → path_to columns key (suc n) ≡ name_in (path_to columns key n) (folder_at columns key n)
 
+-- the folders of each key nest
 abbrev pub FoldersNest : Type 0
 FoldersNest = (columns : List KeyColumn) (key : List ValueTree) → IsTrue (is_key columns key) → AreNested columns key
 
+-- the name of each part file is a name within a folder
 abbrev pub PartNamesArePlain : Type 0
 PartNamesArePlain = (number : ℕ) → number < 2 ^ 64 → IsPlainName (part_name_of number)

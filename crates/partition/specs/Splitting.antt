@@ -8,11 +8,12 @@ use Rattle.partition.specs.Folders.{CanPartition}
 use Rattle.partition.specs.Order.{is_same_key, AreAscending}
 use Rattle.partition.specs.declared.splitting.KeyRows.{KeyRows as CodeKeyRows}
 
--- rows of one key, as files have them
+-- a key and its rows, without their values in the key columns, as files have them
 pub record KeyRows : Type 0 where
   pub key : List ValueTree
   pub rows : List ValueTrees
 
+-- the key and the rows that a `KeyRows` of the program stands for
 abbrev pub key_rows_view : CodeKeyRows → KeyRows
 key_rows_view k = record { key = key_view k.key; rows = rows_view k.rows.items }
 
@@ -20,7 +21,7 @@ key_rows_view k = record { key = key_view k.key; rows = rows_view k.rows.items }
 abbrev pub has_key : List KeyColumn → List ValueTree → ValueTrees → Bool
 has_key columns key row = is_same_key (key_of_row columns row) key
 
--- the rows of this key, in their order, without it
+-- the rows of this key, in their order, without their values in the key columns
 abbrev pub rows_with : List KeyColumn → List ValueTree → List ValueTrees → List ValueTrees
 rows_with columns key rows = map (row_without_keys columns) (filter (has_key columns key) rows)
 

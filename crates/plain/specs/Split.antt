@@ -39,7 +39,7 @@ IsSplit _ n body values used = ⊥
 abbrev pub IsSizeOver : ℕ → ℕ → Type 0
 IsSizeOver k n = (0 < n) × (MOST_BYTES_OF_VALUE < k)
 
--- n values of the type would be
+-- there are n values of the type, one at least, and each would be longer than a value may be
 abbrev pub IsSplitReadOver : Kind → List ℕ → ℕ → Type 0
 IsSplitReadOver (FixedLenByteArray k) body n = IsSizeOver k n
 IsSplitReadOver _ body n = ⊥

@@ -16,7 +16,7 @@ value_at Int64 at body = integer (cast_signed w64 (little_number 8 (drop at body
 value_at ByteArray at body = bytes (take (little_number 4 (drop at body)) (drop 4 (drop at body)))
 value_at (FixedLenByteArray size) at body = bytes (take size (drop at body))
 
--- how far from it the next one stands
+-- how far from the value at the index the next one stands
 abbrev pub size_at : Kind → ℕ → List ℕ → ℕ
 size_at Boolean at body = 1
 size_at Int32 at body = 4
@@ -29,7 +29,7 @@ abbrev pub values_from : Kind → ℕ → ℕ → List ℕ → List ValueTree
 values_from kind zero at body = []
 values_from kind (suc n) at body = value_at kind at body ∷ values_from kind n (at + size_at kind at body) body
 
--- the index after them
+-- the index after n values from the index on
 abbrev pub end_from : Kind → ℕ → ℕ → List ℕ → ℕ
 end_from kind zero at body = at
 end_from kind (suc n) at body = end_from kind n (at + size_at kind at body) body

@@ -29,7 +29,7 @@ pub struct SplitValues {
     taken: Option<usize>,
     /// The values that are left are all there.
     ghost there: { end_from kind left at text.items ≤ greatest_end kind text.items },
-    /// So is the one that was taken last.
+    /// The value that was taken last is there too.
     ghost taken_there: { ForSome taken (λ index. index + size_at kind index text.items ≤ greatest_end kind text.items) },
 }
 

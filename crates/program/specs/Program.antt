@@ -73,7 +73,7 @@ pub record IsFileOf (options : WriteOptions) (schema_text rows_text bytes : List
   pub laid_out : IsLaidOut options fs rows bytes
   pub in_range : IsOutOfRange options → ⊥
 
--- the two texts have a file of this many rows, one for each line of the other
+-- two texts, of a schema and of rows, have a file of this many rows: one for each line of the second
 abbrev pub HaveFileOf : WriteOptions → List ℕ → List ℕ → ℕ → Type 0
 HaveFileOf options schema_text rows_text n = ((bytes : List ℕ) × IsFileOf options schema_text rows_text bytes) × (n ≡ length (lines rows_text))
 
@@ -97,11 +97,11 @@ pub record WritesReportOf (bytes : List ℕ) (old new : Option (List ℕ)) : Typ
 abbrev pub HaveFile : WriteOptions → Type 0
 HaveFile options = (schema_text rows_text bytes : List ℕ) × IsFileOf options schema_text rows_text bytes
 
--- in the schema of one text, some line of the other is the first that is refused, and so
+-- in the schema of one text, the first line of the other that is no row is refused so
 abbrev pub HasRefusedLine : List ℕ → List ℕ → Refusal → Type 0
 HasRefusedLine schema_text rows_text e = (fs : Fields) × IsSchemaText schema_text fs × HasFirstFault fs (lines rows_text) e
 
--- the rows of the other text are not written: the options are out of range, or they are too much for a file
+-- the rows of a text, in the schema of another, are not written: the options are out of range, or the rows are too much for a file
 pub record AreNotWritten (options : WriteOptions) (schema_text rows_text : List ℕ) : Type 0 where
   pub fs : Fields
   pub rows : List ValueTrees
@@ -109,7 +109,7 @@ pub record AreNotWritten (options : WriteOptions) (schema_text rows_text : List 
   pub read : AreRowTexts fs (lines rows_text) rows
   pub why : IsOutOfRange options ⊎ IsTooMuch fs options rows
 
--- that fault is in the two texts, by these options, and no other refusal is answered
+-- why two texts have no file by these options: the schema is refused, a line of the rows is, or the rows are not written
 abbrev pub AreRefusedTexts : WriteOptions → List ℕ → List ℕ → Refusal → Type 0
 AreRefusedTexts options schema_text rows_text RowShape = HasRefusedLine schema_text rows_text RowShape
 AreRefusedTexts options schema_text rows_text Script = IsRefusedSchema schema_text Script ⊎ HasRefusedLine schema_text rows_text Script
@@ -123,7 +123,7 @@ AreRefusedSources options Device = Unit {0}
 AreRefusedSources options Script = Unit {0}
 AreRefusedSources options e = (schema_text : List ℕ) × (rows_text : List ℕ) × AreRefusedTexts options schema_text rows_text e
 
--- the same where a new file is made of them: then its name may be taken
+-- which refusals can come where `encode` makes a new file of two files: also Exists, where its name is taken
 abbrev pub AreRefusedFiles : WriteOptions → Refusal → Type 0
 AreRefusedFiles options Exists = Unit {0}
 AreRefusedFiles options e = AreRefusedSources options e

@@ -46,7 +46,7 @@ Does Prints (Inspect file as_json table) old new = Inspects old new ⊎ Prints t
 Does Prints (Check sources table) old new = WritesCount sources.options old new ⊎ Prints table old new
 Does Prints (Dataset call) old new = Prints call old new
 
--- the same, by the first word
+-- what a call that is done does to standard output, by the first word of the call
 pub data IsDone {A : Type 0} (Prints : Printing) (words : List (String A)) (old new : Option (List ℕ)) : Type 0 where
   decoded : first_word words ≡ Some (codes "decode") → Decodes old new → IsDone Prints words old new
   encoded : first_word words ≡ Some (codes "encode") → new ≡ old → IsDone Prints words old new

@@ -4,8 +4,8 @@ pub const ABOUT: &str = "\
 Reads Parquet files as JSON, and makes them of JSON. Keeps tables as datasets: folders of Parquet files, to which rows
 are appended and from which they are printed and removed, each change in one commit.";
 
-/// The version, and the logic of the checker that it is proved with.
-pub const VERSION: &str = "0.1.0, proved with Rattle logic dac8208d650f15bf";
+/// The version. `python/pqds/__init__.py` has it too, and `bench/tools/check_docs.py` compares both.
+pub const VERSION: &str = "0.2.0";
 
 pub const AFTER: &str = "\
 Returns status 0 when all was done, and 1 when the call was refused: then the last line on standard error is

@@ -121,7 +121,7 @@ pub fn put_new<F: Files>(rt: &F, alloc: Global, path: &str, bytes: &[u8]) -> R<(
     Err(Refusal::Device)
 }
 
-/// The same of a file that is to be new: Exists where its name is taken.
+/// Why a new file could not be made: Exists where its name is taken, Memory where a growth was refused, else Device.
 fn refusal_of_new(error: io::Error) -> Refusal
     ensures which { (result ≡ Memory) ⊎ ((result ≡ Exists) ⊎ (result ≡ Device)) }
     ensures taken { result ≡ Exists ↔ (error_kind error ≡ ErrorKind.AlreadyExists) }

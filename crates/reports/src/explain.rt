@@ -36,7 +36,7 @@ impl Misfit {
         })
     }
 
-    /// The same, in the member of this name.
+    /// What is wrong in the object around the value, whose member of this name the value is.
     pub fn in_member(self, alloc: Global, name: &str) -> R<Misfit> {
         let Misfit { path, what } = self;
         let path = if path.is_empty() {
@@ -49,7 +49,7 @@ impl Misfit {
         Ok(Misfit { path, what })
     }
 
-    /// The same, in the item of this number.
+    /// What is wrong in the array around the value, whose item of this number, counted from 0, the value is.
     pub fn in_item(self, alloc: Global, number: usize) -> R<Misfit> {
         let Misfit { path, what } = self;
         let path = if path.is_empty() || path.as_bytes().first() == Some(&b'[') {

@@ -94,7 +94,7 @@ fn of_word(alloc: Global, name: &str, json: &Json, words: &[&str]) -> R<Option<M
     Ok(Some(misfit.in_member(alloc, name)?))
 }
 
-/// The same, where it must be there.
+/// What is wrong with a member that must be there, and be one of these words, if something is.
 fn of_needed_word(
     alloc: Global,
     members: &Map<String, Json>,
@@ -107,7 +107,7 @@ fn of_needed_word(
     }
 }
 
-/// A member that is not there.
+/// The fault that a member of this name is not there.
 fn missing(alloc: Global, name: &str) -> R<Misfit> {
     let misfit = Misfit::because(alloc, "expected a value, found no member of this name")?;
     misfit.in_member(alloc, name)

@@ -16,7 +16,7 @@ pub const MOST_PAGES: usize = 100_000;
 #[derive(Debug, Drop)]
 pub struct Pages {
     pub listed: Vec<PageReport>,
-    /// Why not all of them are listed, where they are not.
+    /// Why not all pages of the chunk are listed; None where they are.
     pub unlisted: Option<Unlisted>,
 }
 
@@ -39,7 +39,7 @@ impl NotRead {
 /// Why not all pages of a chunk are listed.
 #[derive(Debug, Clone, Copy, PartialEq, Eq)]
 pub enum Unlisted {
-    /// They are in another file.
+    /// The pages are in another file.
     OtherFile,
     /// An offset is negative.
     Offset,

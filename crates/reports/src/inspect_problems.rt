@@ -32,7 +32,7 @@ pub struct Problems {
 }
 
 impl Problems {
-    /// None so far.
+    /// No problems so far.
     pub fn new(alloc: Global) -> Problems {
         Problems {
             alloc,
@@ -40,7 +40,7 @@ impl Problems {
         }
     }
 
-    /// Adds one.
+    /// Adds a problem, unless [`MOST_PROBLEMS`] were found.
     fn add(
         &mut self,
         column: Option<&str>,
@@ -62,7 +62,7 @@ impl Problems {
         Ok(())
     }
 
-    /// Adds one of the schema: why it is refused.
+    /// Adds a problem of the schema: why it is refused.
     fn add_of_schema(&mut self, refusal: &Refusal) -> Result<(), AllocError> {
         let what = match refusal {
             Refusal::Float(path) => {
@@ -81,7 +81,7 @@ impl Problems {
         self.add(None, None, what)
     }
 
-    /// Adds one of a chunk.
+    /// Adds a problem of a chunk.
     fn add_of_chunk(
         &mut self,
         chunk: &ChunkReport,
@@ -91,7 +91,7 @@ impl Problems {
         self.add(Some(chunk.column.as_str()), Some(group), what)
     }
 
-    /// Adds those of a chunk's pages.
+    /// Adds the problems of a chunk's pages.
     fn add_of_pages(&mut self, chunk: &ChunkReport, group: usize) -> Result<(), AllocError> {
         for page in &chunk.pages {
             if let Some(what) = what_of_page(self.alloc, page)? {
@@ -101,7 +101,7 @@ impl Problems {
         Ok(())
     }
 
-    /// Adds those of a chunk: of its record, or else of its pages.
+    /// Adds the problems of a chunk: of its record, or else of its pages.
     fn add_of_record(
         &mut self,
         group: usize,
@@ -121,7 +121,7 @@ impl Problems {
         self.add_of_pages(report, group)
     }
 
-    /// Adds those of a group: of its numbers, and of its chunks.
+    /// Adds the problems of a group: of its numbers, and of its chunks.
     fn add_of_group(
         &mut self,
         number: usize,

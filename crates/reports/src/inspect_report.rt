@@ -90,7 +90,7 @@ pub struct PageReport {
     pub nulls: Option<i32>,
     pub header_bytes: usize,
     pub bytes: i32,
-    /// Whether it is the values or the levels whose encoding `decode` does not read, where one is not.
+    /// `values` or `levels`, where `decode` does not read their encoding.
     pub not_read: Option<&'static str>,
 }
 

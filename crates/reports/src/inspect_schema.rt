@@ -12,7 +12,7 @@ pub fn shown(alloc: Global, bytes: &[u8]) -> Result<String, AllocError> {
     Ok(String::from_utf8_lossy(alloc, bytes)?)
 }
 
-/// The same, where there is one.
+/// A text, where there is one, with U+FFFD for what is not UTF-8.
 pub fn shown_where_given(
     alloc: Global,
     bytes: &Option<Vec<u8>>,

@@ -6,7 +6,7 @@ use schema::{LeafType, Order};
 use serde_json::Value as Json;
 use std::alloc::{AllocError, Global};
 
-/// The same of a chunk, where it has statistics.
+/// The statistics of a chunk as they are shown, where it has some.
 pub fn statistics_of(
     alloc: Global,
     meta: &ColumnMeta,

@@ -51,7 +51,7 @@ fn line<D: Display + Drop>(text: &mut Vec<u8>, said: D) -> Result<(), AllocError
     Ok(())
 }
 
-/// The same, after two spaces for each level of depth.
+/// Writes a line after two spaces for each level of depth, up to [`DEEPEST`].
 fn line_at<D: Display + Drop>(text: &mut Vec<u8>, depth: usize, said: D) -> Result<(), AllocError> {
     for _ in 0..depth.min(DEEPEST) {
         text.extend_from_slice(b"  ")?;

@@ -19,7 +19,7 @@ pub struct Terminals {
 }
 
 impl Terminals {
-    /// Whether standard error is one, and what is printed to standard output goes elsewhere.
+    /// Whether standard error is a terminal, and standard output, where the results go, is not.
     pub fn shows_beside_output(self) -> bool
         ensures { self.err ≡ false → result ≡ false }
     {
@@ -59,7 +59,7 @@ fn percent_of(rows: u64, all: u64) -> Option<u64> {
 }
 
 impl Progress {
-    /// No rows yet.
+    /// The progress of a call that has dealt with no rows yet.
     pub fn new(alloc: Global, verb: &'static str, all: Option<u64>, is_shown: bool) -> Progress
         ensures { result.is_shown ≡ is_shown }
     {

@@ -24,7 +24,7 @@ IsCauseIn s e = IsOfPages e × NothingStands (HoldsRest s)
 abbrev pub IsCause : ReaderLeft → Refusal → Type 0
 IsCause r e = MatchOption r.fault (IsCauseIn r.pages e) (λ f. refusal_of f ≡ e)
 
--- the same of a reader
+-- why a reader of a chunk may be refused so: by what is left of its pages, or since it was refused so before
 abbrev pub reader_cause : ChunkReader → Refusal → Type 0
 reader_cause r = IsCause (reader_view r)
 
@@ -32,11 +32,11 @@ reader_cause r = IsCause (reader_view r)
 abbrev pub CausesStay : ReaderLeft → ReaderLeft → Type 0
 CausesStay old new = (e : Refusal) → IsCause new e → IsCause old e
 
--- so it is, and a refusal has its cause
+-- what is a cause later was one before, and a refusal has a cause
 abbrev pub IsCaused : {X : Type 0} → ReaderLeft → ReaderLeft → Result X Fault → Type 0
 IsCaused old new result = CausesStay old new × IfErr result (λ f. IsCause old (refusal_of f))
 
--- the same of a whole chunk
+-- Limit: the chunk goes over a limit; any other refusal but Memory: it holds no entries, whatever the limits
 abbrev pub IsChunkCause : ColumnMeta → Leaf → List ℕ → Refusal → Type 0
 IsChunkCause m leaf bytes Memory = Unit {0}
 IsChunkCause m leaf bytes Limit = IsChunkOver m leaf bytes

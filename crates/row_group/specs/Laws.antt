@@ -14,7 +14,7 @@ use Rattle.row_group.specs.Wanted.{CutGroupMeans}
 abbrev pub ChunksHoldOneColumn : Type 0
 ChunksHoldOneColumn = (m : ColumnMeta) (leaf : Leaf) → IsFunctional (ChunkMeans m leaf)
 
--- so do the bytes of its file
+-- the bytes of a file before its footer hold at most one column for the record of a chunk
 abbrev pub FilesHoldOneColumn : Type 0
 FilesHoldOneColumn = (front : List ℕ) (m : ColumnMeta) (leaf : Leaf) (es fs : List Entry) → ColumnMeans front m leaf es → ColumnMeans front m leaf fs → es ≡ fs
 

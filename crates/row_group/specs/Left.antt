@@ -30,6 +30,7 @@ pub record ReaderLeft : Type 0 where
   pub here : List Entry
   pub fault : Option Fault
 
+-- what is left to a reader of a chunk
 abbrev pub reader_view : ChunkReader → ReaderLeft
 reader_view r = record { pages = pages_view r.pages; here = page_left r.page; fault = r.fault }
 
@@ -42,6 +43,7 @@ pub record ChunkStands (r : ReaderLeft) (es : List Entry) : Type 0 where
   pub held : HoldsRest r.pages rest used
   pub short : HasRestOver r.pages → ⊥
 
+-- a reader of a chunk would still give these entries
 abbrev pub chunk_stands : ChunkReader → List Entry → Type 0
 chunk_stands r = ChunkStands (reader_view r)
 
@@ -61,10 +63,11 @@ pub record RowsStand (r : Rows) (rows : List ValueTrees) : Type 0 where
   pub count : length rows ≡ r.left
   pub columns : StandForRows chunk_stands r.readers.items r.schema.now rows
 
--- memory was refused to it
+-- a reader of rows was refused memory
 abbrev pub is_broken : Rows → Bool
 is_broken r = r.is_broken
 
+-- a reader of rows would still give these rows
 abbrev pub rows_stand : Rows → List ValueTrees → Type 0
 rows_stand = RowsStand
 

@@ -16,6 +16,6 @@ page_left page = unwrap_or (option_map entries_left page) []
 abbrev pub value_fits : LeafType → Entry → Bool
 value_fits t e = option_map_or (fits_leaf t) e.value true
 
--- so it is for each entry
+-- the value of each entry is of the type, where it has one
 abbrev pub values_fit : LeafType → List Entry → Bool
 values_fit t es = list_all (value_fits t) es

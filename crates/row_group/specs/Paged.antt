@@ -24,7 +24,7 @@ ArePages size [] = Unit {0}
 ArePages size (part ∷ []) = (0 < length part) × (rows_in part ≤ size)
 ArePages size (part ∷ next ∷ parts) = (0 < length part) × (rows_in part ≡ size) × BeginsRow next × ArePages size (next ∷ parts)
 
--- the entries in such parts
+-- the entries are cut into these parts, one a page of this many rows, the last of at most this many
 pub record ArePagesOf (size : ℕ) (es : List Entry) (parts : List (List Entry)) : Type 0 where
   pub joined : flat_map (λ part. part) parts ≡ es
   pub each : ArePages size parts
@@ -40,15 +40,15 @@ most_dictionaries style.Dictionary Boolean (v ∷ vs) = 0
 most_dictionaries style.Dictionary kind (v ∷ vs) = 1
 most_dictionaries s kind (v ∷ vs) = 0
 
--- a chunk: 1,024 bytes for each of its pages and once more for a dictionary, 64 an entry, and the bytes of its byte values
+-- what a chunk weighs: 1,024 bytes for each of its pages and once more for a dictionary, 64 an entry, and the bytes of its byte values
 abbrev pub chunk_weight : Style → Kind → ℕ → List Entry → ℕ
 chunk_weight s kind pages es = 1024 * (pages + most_dictionaries s kind (values es)) + 64 * length es + text_size (values es)
 
--- the chunks of columns, each of its leaf, that begin n rows each
+-- what the chunks of columns weigh together, each column of its leaf and of n rows
 abbrev pub columns_weight : ChunkOptions → ℕ → List Leaf → List (List Entry) → ℕ
 columns_weight o n (leaf ∷ leaves) (es ∷ cols) = chunk_weight o.style leaf.leaf_type.kind (parts_of n o.page_rows) es + columns_weight o n leaves cols
 columns_weight o n _ _ = 0
 
--- the chunks of a group
+-- what the chunks of a group of these rows weigh together
 abbrev pub group_weight : Fields → ChunkOptions → List ValueTrees → ℕ
 group_weight fs o rows = columns_weight o (length rows) (leaves_of fs) (columns fs rows)

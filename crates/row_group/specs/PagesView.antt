@@ -7,6 +7,7 @@ use Rattle.row_group.specs.declared.pages_left.Dictionary.TheVariants.{Open, Abs
 use Rattle.row_group.specs.declared.pages_left.PagesLeft.{PagesLeft}
 use Rattle.row_group.specs.Rest.{Known, nothing, known, ChunkLeft}
 
+-- what is known of the dictionary of a chunk
 abbrev pub known_view : Dictionary → Known
 known_view Open = nothing
 known_view Absent = known None

@@ -13,7 +13,7 @@ IsCountFault number most Page = (n : ℕ) → number ≡ pos n → ⊥
 IsCountFault number most Limit = most <ℤ number
 IsCountFault number most _ = ⊥
 
--- it is of another leaf, or compressed, or its number of entries is no count that is read
+-- the record of a chunk is of another leaf, or compressed, or its number of entries is no count that is read
 abbrev pub IsRecordFault : ColumnMeta → Leaf → Refusal → Type 0
 IsRecordFault m leaf Schema = IsChunkOf m leaf → ⊥
 IsRecordFault m leaf Codec = m.codec ≢ pos 0

@@ -36,7 +36,8 @@ pub record HasValuePages (leaf : Leaf) (o : ChunkOptions) (parts : List (List En
   pub data_offset : m.data_page_offset ≡ pos start
   pub encodings : m.encodings ≡ Some (numbers_with_levels (encoding_of o.style leaf.leaf_type.kind))
 
--- It has the page of a dictionary, which is the values in the order in which they first come, and a page of indexes for each part.
+-- The chunk of these parts, which starts here in its file, has the page of a dictionary, which is the values in the order in which they
+-- first come, and a page of indexes for each part; so its record says.
 pub record HasIndexPages (leaf : Leaf) (o : ChunkOptions) (es : List Entry) (parts : List (List Entry)) (m : ColumnMeta) (start : ℕ) (bytes : List ℕ) (used : ℕ) : Type 0 where
   pub dictionary : List ValueTree
   pub indexes : List ℕ
@@ -68,7 +69,7 @@ written_statistics nulls min max = record {
   is_min_value_exact = None;
 }
 
--- they are those of the entries: their least and greatest value, each by itself, in the leaf's order, with at most 64 bytes
+-- the statistics that are written are those of the entries: their least and greatest value, each by itself, in the leaf's order, with at most 64 bytes
 pub record AreStatisticsOf (leaf : Leaf) (es : List Entry) (written : Option record_of.Statistics) : Type 0 where
   pub bounds : Statistics
   pub min : Option (List ℕ)

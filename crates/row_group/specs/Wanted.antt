@@ -23,7 +23,7 @@ pub record CutGroupMeans (front : List ℕ) (places : List ℕ) (fs : Fields) (g
   pub fit : RowsFit (cut_to places fs) rows
   pub chunks : AreWantedChunks front places fs g (columns (cut_to places fs) rows)
 
--- no other rows are so
+-- the group has no rows but these of the schema cut to the leaves at these places
 abbrev pub HasNoOtherRows : List ℕ → List ℕ → Fields → GroupMeta → List ValueTrees → Type 0
 HasNoOtherRows front places fs g rows = (others : List ValueTrees) → CutGroupMeans front places fs g others → others ≡ rows
 

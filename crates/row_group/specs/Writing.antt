@@ -19,8 +19,8 @@ use Rattle.row_group.specs.Paged.{ArePagesOf, chunk_weight, group_weight}
 use Rattle.row_group.specs.Spelled.{HasPages, AreStatisticsOf}
 
 -- The bytes of `new` are those of `old` and a chunk of these entries, which starts right after `old` and whose pages fill
--- exactly what was written, whatever follows it; so says its record. It goes beyond no limit of a reader. Each page has its rows, as the options say, and is written as
--- their style says; the record has the statistics of the entries.
+-- exactly what was written, whatever follows it; so says its record. It goes beyond no limit of a reader. Each page has its rows,
+-- as the options say, and is written as their style says; the record has the statistics of the entries.
 pub record AppendsChunk (leaf : Leaf) (o : ChunkOptions) (old new : List ℕ) (m : ColumnMeta) (es : List Entry) : Type 0 where
   pub text : List ℕ
   pub parts : List (List Entry)

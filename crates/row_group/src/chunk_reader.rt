@@ -79,7 +79,7 @@ impl<'a> ChunkReader<'a> {
         })
     }
 
-    /// The same reader; where its chunk was accepted, it reads the pages without a second check.
+    /// This reader, which reads the pages without a second check where its chunk was accepted.
     pub(crate) fn accepted_where(mut self, is_accepted: bool) -> ChunkReader<'a>
         requires { AcceptedWhere is_accepted (pages_view self.pages) }
         ensures { reader_view result ≡ reader_view self.entry }

@@ -29,7 +29,7 @@ use std::alloc::Global;
 pub(crate) enum PageValues<'a> {
     /// Values in an encoding.
     Encoded(Encoding),
-    /// Their indexes into a dictionary.
+    /// The indexes of values into a dictionary.
     Indexed(&'a Dictionary),
 }
 

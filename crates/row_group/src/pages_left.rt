@@ -22,9 +22,9 @@ use std::alloc::Global;
 /// What the pages that were read say of the chunk's dictionary.
 #[derive(Debug, Drop)]
 pub enum Dictionary<'a> {
-    /// All of them were skipped: the next page may be a dictionary.
+    /// All pages that were read were skipped: the next page may be a dictionary.
     Open,
-    /// Entries came first.
+    /// A page with entries came first: there is no dictionary.
     Absent,
     /// The values of the dictionary's page.
     Present(Vec<ValueRef<'a>>),

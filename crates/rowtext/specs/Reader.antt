@@ -8,7 +8,7 @@ use Rattle.schema.specs.Values.{ValueTrees}
 use Rattle.rowtext.specs.Reading.{row_of}
 use Rattle.rowtext.specs.declared.reader.Reader.{Reader}
 
--- the schema whose rows it reads
+-- the schema whose rows a reader reads
 abbrev pub schema_of : Reader → Fields
 schema_of r = r.plan
 

@@ -9,11 +9,11 @@ use Rattle.rowtext.specs.inner.Slots.{slots_view, slots_made, order_of, vec_item
 use Rattle.rowtext.specs.inner.Levels.{State, run, root, state_of}
 use Rattle.rowtext.specs.inner.Opening.{opening, lines_token, lines_said}
 
--- the schema whose rows it prints
+-- the schema whose rows a plan prints
 abbrev pub plan_schema : RowPlan → Fields
 plan_schema p = p.schema.now
 
--- it is made for that schema
+-- the slots of a plan, and the order of its members, are those of its schema
 abbrev pub IsReady : RowPlan → Type 0
 IsReady p = (slots_view p.slots.items ≡ slots_made p.schema.now) × (option_map vec_items p.order ≡ order_of p.schema.now)
 
@@ -23,20 +23,22 @@ shows_from p s [] = ⊥
 shows_from p s (t ∷ []) = ⊥
 shows_from p s (t ∷ u ∷ ts) = (t ≡ opening (plan_schema p)) × (IsReady p × (s ≡ run (root (lines_said u) (plan_schema p)) ts))
 
+-- what a `RowText` holds is the text of these tokens: first the schema, then the lines before the row, and then values
 abbrev pub text_shows : RowText → List Token → Type 0
 text_shows r ts = shows_from r.plan.now (state_of r) ts
 
--- it prints rows of the schema, holds these lines of earlier ones, and was shown nothing yet of the next one
+-- a `RowText` prints rows of the schema, holds these lines of earlier ones, and was shown nothing yet of the next one
 abbrev pub BeginsLine : RowText → Fields → List ℕ → Type 0
 BeginsLine r fs lines = text_shows r (opening fs ∷ lines_token lines ∷ [])
 
--- it prints rows of the schema, holds these lines of earlier ones, and was shown the values of one
+-- a `RowText` prints rows of the schema, holds these lines of earlier ones, and was shown the values of one
 abbrev pub ShowsLine : RowText → Fields → List ℕ → ValueTrees → Type 0
 ShowsLine r fs lines values = text_shows r (opening fs ∷ lines_token lines ∷ tokens_each values)
 
--- the same, whichever lines it holds
+-- a `RowText` prints rows of the schema, holds some lines of earlier ones, and was shown nothing yet of the next one
 abbrev pub BeginsRow : RowText → Fields → Type 0
 BeginsRow r fs = (lines : List ℕ) × BeginsLine r fs lines
 
+-- a `RowText` prints rows of the schema, holds some lines of earlier ones, and was shown the values of one
 abbrev pub ShowsRow : RowText → Fields → ValueTrees → Type 0
 ShowsRow r fs values = (lines : List ℕ) × ShowsLine r fs lines values

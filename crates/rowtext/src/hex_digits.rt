@@ -19,7 +19,7 @@ fn is_lower_digit(byte: u8) -> bool
     (b'0' <= byte && byte <= b'9') || (b'a' <= byte && byte <= b'f')
 }
 
-/// Whether each byte is one.
+/// Whether each byte is a digit in lower case.
 fn are_lower_digits(digits: &[u8]) -> bool
     ensures { IsTrue result → AllPass is_lower_digit digits.now }
 {
@@ -56,7 +56,7 @@ fn digits_of_16(bytes: &[u8], at: usize) -> usize
     first_set(others, 16)
 }
 
-/// So of 8 bytes.
+/// How many of 8 bytes are digits, up to the first that is none.
 #[inline(always)]
 fn digits_of_8(bytes: &[u8], at: usize) -> usize
     requires { at + 8 ≤ length bytes.now }
@@ -69,7 +69,7 @@ fn digits_of_8(bytes: &[u8], at: usize) -> usize
     first_set(others, 8)
 }
 
-/// How many bytes are digits where those before an index are, and few are left.
+/// How many bytes are digits where those before an index are, and fewer than 16 are left.
 #[inline(always)]
 fn digits_by_8(bytes: &[u8], from: usize) -> usize
     requires within { from ≤ length bytes.now }
@@ -87,7 +87,7 @@ fn digits_by_8(bytes: &[u8], from: usize) -> usize
     digits_by_one(bytes, from + 8)
 }
 
-/// So one by one.
+/// How many bytes are digits where those before an index are; the others are looked at one by one.
 #[inline(always)]
 fn digits_by_one(bytes: &[u8], from: usize) -> usize
     requires within { from ≤ length bytes.now }

@@ -100,7 +100,8 @@ fn front_after(before: u64, digits: &[u8]) -> Option<(u64, usize)>
     }
 }
 
-/// So for the first digits, which cannot make a number that passes 64 bits.
+/// The number that the first digits at the front, at most 17, are after one digit, and how many they are. So few digits
+/// cannot make a number that passes 64 bits.
 #[inline(always)]
 fn few_after(before: u64, digits: &[u8]) -> (u64, usize)
     requires some { 0 < before }
@@ -119,7 +120,7 @@ fn few_after(before: u64, digits: &[u8]) -> (u64, usize)
     (number, count)
 }
 
-/// So for the digits from an index on, and where they end.
+/// The number that the digits from an index on are after those of another, and where they end; none where it passes 64 bits.
 #[inline(never)]
 fn more_after(before: u64, digits: &[u8], from: usize) -> Option<(u64, usize)>
     requires some { 0 < before }

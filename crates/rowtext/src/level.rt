@@ -16,7 +16,7 @@ pub enum Level<'a> {
     Row {
         from: usize,
     },
-    /// In another row: its text begins at `from` too.
+    /// In a row whose fields stand in another order than their names: where its text begins.
     SortedRow {
         from: usize,
     },
@@ -26,7 +26,7 @@ pub enum Level<'a> {
         from: usize,
         first: usize,
     },
-    /// In a group where none is awaited.
+    /// In a group in which no value is awaited.
     Unknown {
         from: usize,
         first: usize,
@@ -74,7 +74,7 @@ pub fn slots_in(slot: &Slot) -> &[Slot]
     }
 }
 
-/// The indices of the fields of a group in the byte order of their names; none where they stand so.
+/// The indices of the fields of a group in the byte order of their names; none if the fields stand in that order.
 #[inline(always)]
 pub fn order_in(slot: &Slot) -> Option<&[usize]>
     ensures { order_view result ≡ order_in (slot_view slot.now) }

@@ -14,7 +14,7 @@ use std::collections::BTreeMap;
 pub struct Names {
     /// The index of each field, by its name.
     indices: BTreeMap<String, usize>,
-    /// The same indices, in the byte order of the names.
+    /// The indices of the fields in the byte order of their names.
     order: Vec<usize>,
     /// The names below each field.
     below: Vec<Names>,

@@ -152,7 +152,8 @@ pub fn sort(
     sort_all(order, from, starts, text, spare)
 }
 
-/// So of members that begin at `starts`: they are appended in this order, and then moved to where they begin.
+/// Puts the members of an object, which begin at `starts`, in this order: they are appended in it, and then moved to where
+/// the text of the object begins.
 #[inline(never)]
 fn sort_all(
     order: &[usize],

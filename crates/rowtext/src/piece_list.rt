@@ -72,7 +72,7 @@ impl<'t> Pieces<'t> {
         }
     }
 
-    /// How many they are.
+    /// How many pieces there are.
     #[inline(always)]
     pub fn len(&self) -> usize
         ensures { result ≡ length self.now.items }

@@ -37,7 +37,7 @@ fn plain_of_16(bytes: &[u8], at: usize) -> usize
     first_set(stops, 16)
 }
 
-/// So of 8 bytes.
+/// How many of 8 bytes stand in a string as they are, up to the first that does not.
 #[inline(always)]
 fn plain_of_8(bytes: &[u8], at: usize) -> usize
     requires { at + 8 ≤ length bytes.now }
@@ -51,7 +51,7 @@ fn plain_of_8(bytes: &[u8], at: usize) -> usize
     first_set(stops, 8)
 }
 
-/// So of 4 bytes.
+/// How many of 4 bytes stand in a string as they are, up to the first that does not.
 #[inline(always)]
 fn plain_of_4(bytes: &[u8], at: usize) -> usize
     requires { at + 4 ≤ length bytes.now }
@@ -65,7 +65,7 @@ fn plain_of_4(bytes: &[u8], at: usize) -> usize
     first_set(stops, 4)
 }
 
-/// How many bytes stand so where those before an index do, and few are left.
+/// How many bytes stand in a string as they are where those before an index do, and fewer than 16 are left.
 #[inline(always)]
 fn plain_by_8(bytes: &[u8], from: usize) -> usize
     requires within { from ≤ length bytes.now }
@@ -83,7 +83,7 @@ fn plain_by_8(bytes: &[u8], from: usize) -> usize
     plain_by_4(bytes, from + 8)
 }
 
-/// So where fewer are left.
+/// How many bytes stand in a string as they are where those before an index do, and fewer than 8 are left.
 #[inline(always)]
 fn plain_by_4(bytes: &[u8], from: usize) -> usize
     requires within { from ≤ length bytes.now }
@@ -101,7 +101,7 @@ fn plain_by_4(bytes: &[u8], from: usize) -> usize
     plain_by_one(bytes, from + 4)
 }
 
-/// So one by one.
+/// How many bytes stand in a string as they are where those before an index do; the others are looked at one by one.
 #[inline(always)]
 fn plain_by_one(bytes: &[u8], from: usize) -> usize
     requires within { from ≤ length bytes.now }

@@ -50,7 +50,7 @@ fn plain_4(text: &[u8], at: usize) -> bool
         == 0
 }
 
-/// The same of 8 bytes.
+/// Whether the bytes from an index on need no escape, 8 of them.
 #[inline(always)]
 fn plain_8(text: &[u8], at: usize) -> bool
     requires { at + 8 ≤ length text.now }
@@ -63,7 +63,7 @@ fn plain_8(text: &[u8], at: usize) -> bool
         == 0
 }
 
-/// The same of 16 bytes.
+/// Whether the bytes from an index on need no escape, 16 of them.
 #[inline(always)]
 fn plain_16(text: &[u8], at: usize) -> bool
     requires { at + 16 ≤ length text.now }
@@ -76,7 +76,7 @@ fn plain_16(text: &[u8], at: usize) -> bool
         == 0
 }
 
-/// The same of 32 bytes.
+/// Whether the bytes from an index on need no escape, 32 of them.
 #[inline(always)]
 fn plain_32(text: &[u8], at: usize) -> bool
     requires { at + 32 ≤ length text.now }

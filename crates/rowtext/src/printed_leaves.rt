@@ -148,7 +148,7 @@ fn text_printed<'t>(
     Ok(())
 }
 
-/// Reads other bytes of a leaf.
+/// Reads bytes of a leaf that are no text, by their digits.
 fn digits_printed<'t>(
     leaf_type: &LeafType,
     line: &mut Cursor<'t>,

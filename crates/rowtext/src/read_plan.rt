@@ -42,8 +42,8 @@ impl<'a> Model for ReadPlan<'a> {
 }
 
 impl<'a> ReadPlan<'a> {
-    /// It fails only when out of memory. Time and memory are linear in the schema, with a look-up of each name
-    /// among its siblings.
+    /// How rows of the schema are read. It fails only when out of memory. Time and memory are linear in the
+    /// schema, with a look-up of each name among its siblings.
     pub fn new(alloc: Global, schema: &'a Schema) -> R<ReadPlan<'a>>
         ensures reads { IfOk result (λ plan. plan ≡ schema.now) }
         ensures which { RefusedMemoryOnly result }

@@ -33,7 +33,7 @@ pub enum Slot {
 }
 
 impl Slot {
-    /// Its name as it is printed, between a comma and a colon.
+    /// The name of the field as it is printed, between a comma and a colon.
     pub fn key(&self) -> &[u8]
         ensures { result.now ≡ key_in (slot_view self.now) }
     {
@@ -43,7 +43,7 @@ impl Slot {
         }
     }
 
-    /// The same, as it is appended.
+    /// The name as it is printed, between a comma and a colon, in the form in which it is appended.
     #[inline(always)]
     pub fn padded_key(&self) -> &Key
         ensures { result.now ≡ key_in (slot_view self.now) }
@@ -64,8 +64,8 @@ pub struct RowPlan<'a> {
 }
 
 impl<'a> RowPlan<'a> {
-    /// It fails only when out of memory. Time and memory are linear in the schema, with a look-up of each
-    /// name among its siblings.
+    /// How rows of the schema are printed. It fails only when out of memory. Time and memory are linear in the
+    /// schema, with a look-up of each name among its siblings.
     pub fn new(alloc: Global, schema: &'a Schema) -> R<RowPlan<'a>>
         ensures prints { IfOk result (λ plan. plan_schema plan ≡ schema.now) }
         ensures ready { IfOk result IsReady }
@@ -87,7 +87,7 @@ impl<'a> RowPlan<'a> {
         self.slots.as_slice()
     }
 
-    /// The indices of the top-level fields in the byte order of their names; none where they stand so.
+    /// The indices of the top-level fields in the byte order of their names; none if the fields stand in that order.
     pub fn order(&self) -> Option<&[usize]>
         ensures { order_view result ≡ option_map vec_items self.now.order }
     {

@@ -49,7 +49,7 @@ pub struct RowText<'a> {
 const LEAF_ROOM: usize = 69;
 
 impl<'a> RowText<'a> {
-    /// Nothing is shown yet.
+    /// A printer of rows by the plan, which was shown nothing yet.
     pub fn new(alloc: Global, plan: &'a RowPlan<'a>) -> RowText<'a>
         ensures begins { IsReady plan.now → BeginsRow result (plan_schema plan.now) }
         ensures empty { IsReady plan.now → BeginsLine result (plan_schema plan.now) [] }
@@ -98,7 +98,8 @@ impl<'a> RowText<'a> {
         Some(leaf)
     }
 
-    /// So in another object, where there is also room for where the value begins, and in a list.
+    /// Begins the next value as `take_leaf` does, in an object whose members may have to be put in order, where there must
+    /// also be room for where the value begins, and in a list.
     #[inline(always)]
     fn take_inner_leaf(&mut self) -> Option<Leaf<'a>>
         ensures room { OnSome result (53 ≤ self.new.text.ready) }
@@ -254,7 +255,7 @@ impl<'a> RowText<'a> {
         }
     }
 
-    /// So of an object whose members come in this order, whose text begins at `from`, and before which so many
+    /// Ends the text of an object whose members come in this order, whose text begins at `from`, and before which `first`
     /// pieces begin.
     #[inline(always)]
     fn close_in(
@@ -321,7 +322,7 @@ impl<'a> RowText<'a> {
         Ok(())
     }
 
-    /// So of any row.
+    /// Ends the row that was shown, as `end_row` does, whatever the order of its fields.
     #[inline(never)]
     fn end_sorted_row(&mut self) -> Result<(), AllocError>
         ensures stands { (fs : Fields) (lines : List ℕ) (values : ValueTrees) → ShowsLine self.old fs lines values → IsTrue (fits_each fs values)

@@ -20,9 +20,9 @@ use std::alloc::Global;
 pub struct LeafUse {
     /// The index of its chunk in the group, where the group's file has one.
     pub chunk: usize,
-    /// The filter looks at it, and it has a chunk.
+    /// The filter looks at the leaf, and it has a chunk.
     pub is_filtered: bool,
-    /// It lies in a wanted column, and it has a chunk.
+    /// The leaf lies in a wanted column, and it has a chunk.
     pub is_wanted: bool,
 }
 
@@ -121,7 +121,7 @@ pub fn numbers_of(alloc: Global, uses: &[LeafUse], for_filter: bool) -> R<Vec<us
 impl LeafUse {
     ghost use Rattle.scan.specs.inner.Uses.{is_picked, is_due};
 
-    /// Whether its entries are used: by the filter, or for the rows.
+    /// Whether the entries of the leaf are used: by the filter, or for the rows.
     pub fn is_picked(&self, for_filter: bool) -> bool
         ensures { result ≡ is_picked for_filter self.now }
     {
@@ -132,7 +132,7 @@ impl LeafUse {
         }
     }
 
-    /// Whether its chunk is read: for the filter, or after that for the rows.
+    /// Whether the chunk of the leaf is read: for the filter, or after that for the rows.
     pub fn is_due(&self, for_filter: bool) -> bool
         ensures { result ≡ is_due for_filter self.now }
     {

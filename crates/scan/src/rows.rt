@@ -71,7 +71,7 @@ pub fn rows_of<D: Disk>(
     read_rows(alloc, vault, schema, keys, group, filter, places)
 }
 
-/// As [`rows_of`], for each group.
+/// As [`rows_of`], without asking whether the filter rules the group out.
 fn read_rows<D: Disk>(
     alloc: Global,
     vault: &mut Vault<D>,
@@ -136,7 +136,7 @@ fn path_of(alloc: Global, keys: &[KeyColumn], group: &Group) -> R<String>
     }
 }
 
-/// Whether one of them is set.
+/// Whether one of the marks is set.
 fn has_mark(marks: &[bool]) -> bool
     ensures { result ≡ list_any (λ b. b) marks.now }
 {

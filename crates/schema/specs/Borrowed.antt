@@ -6,6 +6,7 @@ use Rattle.schema.specs.declared.borrowed.ValueRef.{ValueRef}
 use Rattle.schema.specs.declared.borrowed.ValueRef.TheVariants.{Null, Bool, Int, Bytes, Group, List}
 use Rattle.schema.specs.declared.borrowed.EntryRef.{EntryRef}
 
+-- the tree of a borrowed value
 abbrev pub value_ref_view : ValueRef → ValueTree
 value_ref_view Null = null
 value_ref_view (Bool b) = boolean b
@@ -14,5 +15,6 @@ value_ref_view (Bytes s) = bytes s.now
 value_ref_view (Group vs) = group (views vs.now)
 value_ref_view (List vs) = list (views vs.now)
 
+-- a borrowed entry of a column: its levels, and the tree of its value, if it has one
 abbrev pub entry_ref_view : EntryRef → Entry
 entry_ref_view e = record { repetition = e.repetition; definition = e.definition; value = option_map value_ref_view e.value }

@@ -12,7 +12,7 @@ use Rattle.schema.specs.Shape.{Field, leaf, fields, Fields, no_fields, field}
 use Rattle.schema.specs.Fits.{RowsFit}
 use Rattle.schema.specs.Stripe.{Leaf, leaves, leaves_of, columns}
 
--- a group is kept just if something in it is
+-- the group of the fields that are kept; None if there are none
 abbrev pub group_of : List ℕ → Repetition → Option GroupAnnotation → Fields → Option Field
 group_of n r a no_fields = None
 group_of n r a (field f fs) = Some (fields n r a (field f fs))
@@ -32,15 +32,15 @@ abbrev mutual
   cut_each wanted at no_fields = no_fields
   cut_each wanted at (field f fs) = kept (cut wanted at f) (cut_each wanted (at + length (leaves f)) fs)
 
--- it is one of the places
+-- whether an index is one of these places
 abbrev pub is_among : List ℕ → ℕ → Bool
 is_among places at = list_any (λ place. nat_eq place at) places
 
--- there is a mark at this place
+-- whether there is a mark at this place; there is none past the end
 abbrev pub is_marked : List Bool → ℕ → Bool
 is_marked marks at = get_or marks at false
 
--- there are marks just at these places
+-- there are `count` places, with marks at exactly the given ones
 pub record AreMarks (places : List ℕ) (count : ℕ) (marks : List Bool) : Type 0 where
   pub size : length marks ≡ count
   pub each : (at : ℕ) → is_marked marks at ≡ is_among places at
@@ -65,21 +65,23 @@ IsCutFault places fs Schema = ArePlaces fs places → ⊥
 IsCutFault places fs Memory = Unit {0}
 IsCutFault places fs _ = ⊥
 
--- a value of which each part is cut, its repetition aside; null stays
+-- the items of a list, each cut by `c`
 abbrev pub cut_items : (ValueTree → ValueTree) → ValueTrees → ValueTrees
 cut_items c no_values = no_values
 cut_items c (item v vs) = item (c v) (cut_items c vs)
 
+-- the value of a field with this repetition, cut by `c`: each item of a REPEATED field's list, else the value itself
 abbrev pub cut_as : Repetition → (ValueTree → ValueTree) → ValueTree → ValueTree
 cut_as Repeated c (list vs) = list (cut_items c vs)
 cut_as Repeated c v = v
 cut_as _ c v = c v
 
+-- a group, with its values cut by `c`; null, which is no group, stays
 abbrev pub cut_group : (ValueTrees → ValueTrees) → ValueTree → ValueTree
 cut_group c (group vs) = group (c vs)
 cut_group c v = v
 
--- the value of a field goes where the field goes
+-- the value of a field if the field is kept, and then these values
 abbrev pub kept_value : Option Field → ValueTree → ValueTrees → ValueTrees
 kept_value None v vs = vs
 kept_value (Some f) v vs = item v vs
@@ -104,6 +106,7 @@ abbrev pub wanted_of : {A : Type 0} → (ℕ → Bool) → ℕ → List A → Li
 wanted_of wanted at [] = []
 wanted_of wanted at (x ∷ xs) = if wanted at then x ∷ wanted_of wanted (suc at) xs else wanted_of wanted (suc at) xs
 
+-- the things at these places, the first of which is 0, in the order of the things; a place that is given twice counts once
 abbrev pub at_places : {A : Type 0} → List ℕ → List A → List A
 at_places places xs = wanted_of (is_among places) 0 xs
 
@@ -111,7 +114,7 @@ at_places places xs = wanted_of (is_among places) 0 xs
 abbrev pub CutRowsFit : Type 0
 CutRowsFit = (places : List ℕ) (fs : Fields) (rows : List ValueTrees) → RowsFit fs rows → RowsFit (cut_to places fs) (cut_rows places fs rows)
 
--- they have just those leaves' columns
+-- rows cut to some leaves have exactly the columns of these leaves, in their order
 abbrev pub CutRowsHaveColumns : Type 0
 CutRowsHaveColumns = (places : List ℕ) (fs : Fields) (rows : List ValueTrees) → columns (cut_to places fs) (cut_rows places fs rows) ≡ at_places places (columns fs rows)
 
@@ -122,9 +125,10 @@ pub record Shown : Type 0 where
   pub greatest_repetition : ℕ
   pub greatest_definition : ℕ
 
+-- a leaf without its steps: its path, its type and its greatest levels
 abbrev pub shown : Leaf → Shown
 shown l = record { path = l.path; leaf_type = l.leaf_type; greatest_repetition = l.greatest_repetition; greatest_definition = l.greatest_definition }
 
--- the leaves of the cut schema are the wanted ones
+-- the leaves of the cut schema are the wanted ones, with their paths, types and greatest levels
 abbrev pub CutHasLeaves : Type 0
 CutHasLeaves = (places : List ℕ) (fs : Fields) → map shown (leaves_of (cut_to places fs)) ≡ map shown (at_places places (leaves_of fs))

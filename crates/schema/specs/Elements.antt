@@ -17,8 +17,10 @@ pub record Element : Type 0 where
   pub field_id : Option ℤ
   pub logical_type : Option Struct
 
+-- an `Element` of the program, with the bytes of its name and the fields of its logicalType
 abbrev pub element_view : CodeElement → Element
 element_view e = record { kind = e.kind; type_length = e.type_length; repetition_type = e.repetition_type; name = e.name.items; num_children = e.num_children; converted_type = e.converted_type; scale = e.scale; precision = e.precision; field_id = e.field_id; logical_type = option_map tree_view e.logical_type }
 
+-- the elements of a list of the program, in order
 abbrev pub elements_view : List CodeElement → List Element
 elements_view es = map element_view es

@@ -5,7 +5,7 @@ use Rattle.bits.specs.declared.refusal.Refusal.TheVariants.{Schema, Float, Int96
 use Rattle.schema.specs.Elements.{Element}
 use Rattle.schema.specs.Listing.{IsSoundList, ListHasLeaf, is_floating, is_int96, IsTooLarge}
 
--- that fault is in the list, and no other refusal is answered
+-- what a list of elements may be refused for: a fault that is in it, or Memory; other refusals are not returned
 abbrev pub HasFault : List Element → Refusal → Type 0
 HasFault es Schema = IsSoundList es → ⊥
 HasFault es (Float path) = ListHasLeaf is_floating es (string_bytes path)

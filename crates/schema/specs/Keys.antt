@@ -21,26 +21,31 @@ pub record KeyColumn : Type 0 where
   pub name : List ℕ
   pub kind : KeyKind
 
+-- a `KeyColumn` of the program, with the bytes of its name
 abbrev pub key_column_view : CodeKeyColumn → KeyColumn
 key_column_view k = record { at = k.at; name = string_bytes k.name; kind = k.kind }
 
+-- the key columns of a list of the program, in order
 abbrev pub key_columns_view : List CodeKeyColumn → List KeyColumn
 key_columns_view keys = map key_column_view keys
 
+-- the places of key columns among the table's top-level fields, in the order of the key columns
 abbrev pub places_of : List KeyColumn → List ℕ
 places_of keys = map (λ k. k.at) keys
 
--- the leaf types of key columns: BOOLEAN, INT32 and INT64 without annotation, BYTE_ARRAY with UTF8
+-- the physical type of a key column: BOOLEAN, INT32, INT64, or BYTE_ARRAY for text
 abbrev pub stored_kind : KeyKind → Kind
 stored_kind Boolean = kind.Boolean
 stored_kind Int32 = kind.Int32
 stored_kind Int64 = kind.Int64
 stored_kind Utf8 = kind.ByteArray
 
+-- the annotation of a key column: UTF8 for text, none for the other types
 abbrev pub stored_annotation : KeyKind → Annotation
 stored_annotation Utf8 = known converted.Utf8
 stored_annotation _ = plain
 
+-- the leaf type of a key column: without scale and precision
 abbrev pub key_type : KeyKind → LeafType
 key_type k = record { kind = stored_kind k; annotation = stored_annotation k; scale = None; precision = None }
 
@@ -48,13 +53,13 @@ key_type k = record { kind = stored_kind k; annotation = stored_annotation k; sc
 abbrev pub key_field : KeyColumn → Field
 key_field k = leaf k.name Required (key_type k.kind)
 
--- the field at a place
+-- the field at a place, the first of which is 0; None past the end
 abbrev pub field_at : ℕ → Fields → Option Field
 field_at i no_fields = None
 field_at zero (field f fs) = Some f
 field_at (suc i) (field f fs) = field_at i fs
 
--- none comes twice
+-- no number comes twice
 abbrev pub AreDistinct : List ℕ → Type 0
 AreDistinct [] = Unit {0}
 AreDistinct (n ∷ ns) = (is_among ns n ≡ false) × AreDistinct ns
@@ -68,19 +73,21 @@ pub record AreKeys (keys : List KeyColumn) (fs : Fields) : Type 0 where
   pub named : AllByRecursion (λ (k : KeyColumn). k.name ≢ []) keys
   pub there : AllByRecursion (λ (k : KeyColumn). field_at k.at fs ≡ Some (key_field k)) keys
 
--- the fields, or the values, at other places, the first of which has this place
+-- the fields at the places that are not gone, where the first of these fields has the place i
 abbrev pub fields_besides : (ℕ → Bool) → ℕ → Fields → Fields
 fields_besides gone i no_fields = no_fields
 fields_besides gone i (field f fs) = if gone i then fields_besides gone (suc i) fs else field f (fields_besides gone (suc i) fs)
 
+-- the values at the places that are not gone, where the first of these values has the place i
 abbrev pub values_besides : (ℕ → Bool) → ℕ → ValueTrees → ValueTrees
 values_besides gone i no_values = no_values
 values_besides gone i (item v vs) = if gone i then values_besides gone (suc i) vs else item v (values_besides gone (suc i) vs)
 
--- the schema of a table's files, and a row as they have it
+-- the fields of a table's files: those of the table that are not key columns
 abbrev pub without_keys : List KeyColumn → Fields → Fields
 without_keys keys fs = fields_besides (is_among (places_of keys)) 0 fs
 
+-- a row as a table's files have it: without its values in the key columns
 abbrev pub row_without_keys : List KeyColumn → ValueTrees → ValueTrees
 row_without_keys keys row = values_besides (is_among (places_of keys)) 0 row
 
@@ -100,23 +107,23 @@ abbrev pub width : ValueTrees → ℕ
 width no_values = 0
 width (item v vs) = suc (width vs)
 
--- a row of the table: with these values besides its keys, and this key put in at its places
+-- a row of the table: it has this key in the key columns, and the values of the stored row in the others
 pub record IsRowOf (keys : List KeyColumn) (key : List ValueTree) (stored row : ValueTrees) : Type 0 where
   pub besides : row_without_keys keys row ≡ stored
   pub keyed : key_of_row keys row ≡ key
   pub whole : width row ≡ width stored + length keys
 
--- so it is of each
+-- the rows of the table for the stored rows, one for each and in their order, all with this key
 abbrev pub AreRowsOf : List KeyColumn → List ValueTree → List ValueTrees → List ValueTrees → Type 0
 AreRowsOf keys key [] [] = Unit {0}
 AreRowsOf keys key (s ∷ stored) (r ∷ rows) = IsRowOf keys key s r × AreRowsOf keys key stored rows
 AreRowsOf keys key _ _ = ⊥
 
--- rows that fit a table's fields fit its fields besides the keys, without their keys
+-- a row that fits some fields still fits when the fields at some places are gone, and their values with them
 abbrev pub BesidesFit : Type 0
 BesidesFit = (gone : ℕ → Bool) (i : ℕ) (fs : Fields) (row : ValueTrees) → IsTrue (fits_each fs row) → IsTrue (fits_each (fields_besides gone i fs) (values_besides gone i row))
 
--- rows of one width with the same values at some places and besides them are the same
+-- two rows of one width are the same if they have the same values at the places that are gone and at the others
 abbrev pub RowsAreOne : Type 0
 RowsAreOne = (gone : ℕ → Bool) (i : ℕ) (one other : ValueTrees) → width one ≡ width other → values_besides gone i one ≡ values_besides gone i other
     → ((place : ℕ) → IsTrue (gone (i + place)) → member_at place one ≡ member_at place other) → one ≡ other

@@ -17,17 +17,17 @@ abbrev pub names : Fields → List (List ℕ)
 names no_fields = []
 names (field f fs) = name_of f ∷ names fs
 
--- no two are the same
+-- no two of these names are the same
 abbrev pub AllDiffer : List (List ℕ) → Type 0
 AllDiffer [] = Unit {0}
 AllDiffer (n ∷ ns) = AllByRecursion (λ m. n ≡ m → ⊥) ns × AllDiffer ns
 
--- there is a field
+-- there is at least one field
 abbrev pub IsFilled : Fields → Type 0
 IsFilled no_fields = ⊥
 IsFilled (field f fs) = Unit {0}
 
--- the fields of one group: there is one, and siblings have names of their own, in UTF-8
+-- the fields of one group: there is at least one, and siblings have names of their own, in UTF-8
 pub record IsGroupOf (fs : Fields) : Type 0 where
   pub some : IsFilled fs
   pub differ : AllDiffer (names fs)
@@ -51,13 +51,13 @@ abbrev pub HasLength : Kind → Type 0
 HasLength (FixedLenByteArray n) = (1 ≤ n) × (n < 2 ^ 31)
 HasLength _ = Unit {0}
 
--- what an element can say of a leaf
+-- a leaf type that an element can give: its annotation is what is decided from what is written for it, and its length and its struct are allowed
 pub record IsLeafType (t : LeafType) : Type 0 where
   pub decided : annotation_of t.kind (converted_number t.annotation) (logical_struct t.annotation) ≡ t.annotation
   pub length : HasLength t.kind
   pub keeps : KeepsWritable t.annotation
 
--- so it is at and below a field, and below some fields
+-- at and below a field, and below some fields: each leaf has a type that an element can give, and the fields of each group are a group's
 abbrev mutual
   pub IsValid : Field → Type 0
   IsValid (leaf n r t) = IsLeafType t
@@ -67,7 +67,7 @@ abbrev mutual
   AreValid no_fields = Unit {0}
   AreValid (field f fs) = IsValid f × AreValid fs
 
--- the fields of a root
+-- the fields of a schema's root: those of a group (`IsGroupOf`), and valid at and below each of them
 abbrev pub IsSchema : Fields → Type 0
 IsSchema fs = IsGroupOf fs × AreValid fs
 
@@ -81,7 +81,7 @@ pub record HasGreatestLevels (l : Leaf) : Type 0 where
   pub repetition : l.greatest_repetition ≡ greatest_repetition l.steps
   pub definition : l.greatest_definition ≡ greatest_definition l.steps
 
--- so it is of each leaf of some fields
+-- each leaf of some fields has the greatest levels of the path to it
 abbrev pub LevelsAreOfSteps : Type 0
 LevelsAreOfSteps = (fs : Fields) → AllByRecursion HasGreatestLevels (leaves_of fs)
 
@@ -91,10 +91,11 @@ pub record IsEntry (most full : ℕ) (t : LeafType) (e : Entry) : Type 0 where
   pub definition : e.definition ≤ full
   pub value : MatchOption e.value (e.definition < full) (λ v. (e.definition ≡ full) × IsTrue (fits_leaf t v))
 
+-- an entry within the greatest levels of a leaf: it has a value, of the leaf's type, exactly when its definition level is the greatest
 abbrev pub IsEntryOf : Leaf → Entry → Type 0
 IsEntryOf l e = IsEntry l.greatest_repetition l.greatest_definition l.leaf_type e
 
--- the columns of rows that fit have only such entries
+-- the columns of rows that fit have only entries that are of their leaves (`IsEntryOf`)
 abbrev pub EntriesAreOfLeaves : Type 0
 EntriesAreOfLeaves = (fs : Fields) (rows : List ValueTrees) → RowsFit fs rows → AllByRecursion (λ l. AllByRecursion (IsEntryOf l) (column rows l.steps)) (leaves_of fs)
 
@@ -103,7 +104,7 @@ abbrev pub BeginsOneRow : List Entry → Type 0
 BeginsOneRow [] = ⊥
 BeginsOneRow (e ∷ es) = (e.repetition ≡ 0) × AllByRecursion (λ other. 0 < other.repetition) es
 
--- so it is of the entries that a row that fits gives to each leaf
+-- of the entries that a row that fits gives to a leaf, the first begins a row, and no other does
 abbrev pub RowsBeginOnce : Type 0
 RowsBeginOnce = (fs : Fields) (rows : List ValueTrees) → RowsFit fs rows
     → AllByRecursion (λ (l : Leaf). AllByRecursion (λ row. BeginsOneRow (stripe l.steps (group row) 0 0 0)) rows) (leaves_of fs)

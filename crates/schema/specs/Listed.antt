@@ -9,7 +9,7 @@ use Rattle.schema.specs.Annotations.{LeafType, converted_number, logical_struct,
 use Rattle.schema.specs.Elements.{Element}
 use Rattle.schema.specs.Shape.{Field, leaf, fields, Fields, no_fields, field, count}
 
--- parquet.thrift, enum Type
+-- the number of a physical type: parquet.thrift, enum Type
 abbrev pub type_number : Kind → ℕ
 type_number Boolean = 0
 type_number Int32 = 1
@@ -17,27 +17,31 @@ type_number Int64 = 2
 type_number ByteArray = 6
 type_number (FixedLenByteArray n) = 7
 
+-- the length of fixed values in bytes; None for the other physical types
 abbrev pub type_length : Kind → Option ℤ
 type_length (FixedLenByteArray n) = Some (pos n)
 type_length _ = None
 
--- parquet.thrift, enum FieldRepetitionType
+-- the number of a repetition: parquet.thrift, enum FieldRepetitionType
 abbrev pub repetition_number : Repetition → ℕ
 repetition_number Required = 0
 repetition_number Optional = 1
 repetition_number Repeated = 2
 
+-- the number of the converted type that is written for a group; None for a group without annotation
 abbrev pub group_converted : Option GroupAnnotation → Option ℤ
 group_converted (Some a) = Some (pos (group_number_of a))
 group_converted None = None
 
+-- the element of a leaf, without a number of children and without a field_id
 abbrev pub leaf_element : List ℕ → Repetition → LeafType → Element
 leaf_element n r t = record { kind = Some (pos (type_number t.kind)); type_length = type_length t.kind; repetition_type = Some (pos (repetition_number r)); name = n; num_children = None; converted_type = converted_number t.annotation; scale = t.scale; precision = t.precision; field_id = None; logical_type = logical_struct t.annotation }
 
+-- the element of a group with this many children; `r` and `a` are the numbers of its repetition and its converted type
 abbrev pub group_element : List ℕ → Option ℤ → Option ℤ → ℕ → Element
 group_element n r a children = record { kind = None; type_length = None; repetition_type = r; name = n; num_children = Some (pos children); converted_type = a; scale = None; precision = None; field_id = None; logical_type = None }
 
--- a field and all below it, depth first
+-- the elements of a field and of all below it, and of some fields and all below them, depth first
 abbrev mutual
   pub listing : Field → List Element
   listing (leaf n r t) = leaf_element n r t ∷ []
@@ -47,11 +51,11 @@ abbrev mutual
   listings no_fields = []
   listings (field f fs) = listing f ++ listings fs
 
--- `schema`
+-- the name of the root: `schema`
 abbrev pub root_name : List ℕ
 root_name = 115 ∷ 99 ∷ 104 ∷ 101 ∷ 109 ∷ 97 ∷ []
 
--- the elements of a schema
+-- the elements of a schema: the root's, and then those of its fields, depth first
 abbrev pub elements_of : Fields → List Element
 elements_of fs = group_element root_name None None (count fs) ∷ listings fs
 

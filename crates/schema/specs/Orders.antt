@@ -50,11 +50,11 @@ IsBelow order v w = IsTrue (is_some_and is_lt (compared order v w))
 abbrev pub IsAtMost : Option Order → ValueTree → ValueTree → Type 0
 IsAtMost order v w = IsTrue (is_some_and is_le (compared order v w))
 
--- the order compares the value
+-- whether the order compares the value with itself
 abbrev pub is_compared : Option Order → ValueTree → Bool
 is_compared order v = is_some (compared order v v)
 
--- what bounds and filters rest on
+-- the laws of `IsAtMost` and `IsBelow` in an order, which bounds and filters rest on
 pub record AtMostLaws (order : Option Order) : Type 0 where
   pub itself : (v : ValueTree) → IsTrue (is_compared order v) → IsAtMost order v v
   pub both : (v w : ValueTree) → IsAtMost order v w → IsAtMost order w v → v ≡ w
@@ -64,6 +64,6 @@ pub record AtMostLaws (order : Option Order) : Type 0 where
   pub not_back : (v w : ValueTree) → IsAtMost order v w → IsBelow order w v → ⊥
   pub total : (v w : ValueTree) → IsTrue (is_compared order v) → IsTrue (is_compared order w) → IsAtMost order v w ⊎ IsBelow order w v
 
--- they hold in each order
+-- the laws of `IsAtMost` and `IsBelow` hold in each order
 abbrev pub OrdersHaveAtMost : Type 0
 OrdersHaveAtMost = (order : Option Order) → AtMostLaws order

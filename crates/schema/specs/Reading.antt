@@ -2,6 +2,7 @@
 use Rattle.std.specs.Prelude.{ℕ, suc, ◌+◌, max}
 use Rattle.schema.specs.Shape.{Field, leaf, fields, Fields, no_fields, field}
 
+-- how many fields are on the longest path down that begins with a field, and with one of some fields
 abbrev mutual
   pub tall : Field → ℕ
   tall (leaf n r t) = 1
@@ -11,7 +12,7 @@ abbrev mutual
   tallest no_fields = 0
   tallest (field f fs) = max (tall f) (tallest fs)
 
--- how many leaves are at and below
+-- how many leaves are at and below a field, and at and below some fields
 abbrev mutual
   pub count_leaves : Field → ℕ
   count_leaves (leaf n r t) = 1

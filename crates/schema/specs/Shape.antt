@@ -4,6 +4,7 @@ use Rattle.schema.specs.declared.value.Repetition.{Repetition}
 use Rattle.schema.specs.declared.annotation.GroupAnnotation.{GroupAnnotation}
 use Rattle.schema.specs.Annotations.{LeafType}
 
+-- a field of a schema: a leaf with its type, or a group with its annotation and its fields; and the fields of a group, in order
 mutual
   pub data Field : Type 0 where
     leaf : (name : List ℕ) → Repetition → LeafType → Field
@@ -13,14 +14,17 @@ mutual
     no_fields : Fields
     field : Field → Fields → Fields
 
+-- the number of fields, without those below them
 abbrev pub count : Fields → ℕ
 count no_fields = 0
 count (field f fs) = suc (count fs)
 
+-- the name of a field
 abbrev pub name_of : Field → List ℕ
 name_of (leaf n r t) = n
 name_of (fields n r a fs) = n
 
+-- how often a field may stand in its group
 abbrev pub repetition_of : Field → Repetition
 repetition_of (leaf n r t) = r
 repetition_of (fields n r a fs) = r

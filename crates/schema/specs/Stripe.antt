@@ -11,22 +11,24 @@ pub record Step : Type 0 where
   pub place : ℕ
   pub repetition : Repetition
 
--- what a field adds to the greatest definition level of the leaves below it, and to the greatest repetition level
+-- what a field adds to the greatest definition level of the leaves at and below it
 abbrev pub definitions : Repetition → ℕ
 definitions Required = 0
 definitions Optional = 1
 definitions Repeated = 1
 
+-- what a field adds to the greatest repetition level of the leaves at and below it
 abbrev pub repetitions : Repetition → ℕ
 repetitions Required = 0
 repetitions Optional = 0
 repetitions Repeated = 1
 
--- the greatest levels at the end of a path
+-- the greatest definition level at the end of a path: how many of its fields are OPTIONAL or REPEATED
 abbrev pub greatest_definition : List Step → ℕ
 greatest_definition [] = 0
 greatest_definition (s ∷ steps) = definitions s.repetition + greatest_definition steps
 
+-- the greatest repetition level at the end of a path: how many of its fields are REPEATED
 abbrev pub greatest_repetition : List Step → ℕ
 greatest_repetition [] = 0
 greatest_repetition (s ∷ steps) = repetitions s.repetition + greatest_repetition steps
@@ -43,7 +45,7 @@ pub record Leaf : Type 0 where
 abbrev pub leaf_at : List (List ℕ) → List Step → LeafType → Leaf
 leaf_at path steps t = record { path = path; steps = steps; leaf_type = t; greatest_repetition = greatest_repetition steps; greatest_definition = greatest_definition steps }
 
--- the leaf, seen from the group of a field on the path to it
+-- a leaf at or below the field f, which is at the place i, seen from the group of that field
 abbrev pub below : ℕ → Field → Leaf → Leaf
 below i f l = leaf_at (name_of f ∷ l.path) (record { place = i; repetition = repetition_of f } ∷ l.steps) l.leaf_type
 
@@ -61,12 +63,13 @@ abbrev mutual
 abbrev pub leaves_of : Fields → List Leaf
 leaves_of fs = leaves_from 0 fs
 
--- an entry of a column
+-- an entry of a column: its levels, and its value; None if a field on the path to the leaf is null or an empty list
 pub record Entry : Type 0 where
   pub repetition : ℕ
   pub definition : ℕ
   pub value : Option ValueTree
 
+-- one entry with these levels and this value
 abbrev pub entry : ℕ → ℕ → Option ValueTree → List Entry
 entry r d v = record { repetition = r; definition = d; value = v } ∷ []
 
@@ -74,17 +77,17 @@ entry r d v = record { repetition = r; definition = d; value = v } ∷ []
 abbrev pub Striping : Type 0
 Striping = ValueTree → ℕ → ℕ → ℕ → List Entry
 
--- the items after the first begin with the list's own level
+-- the entries of a list's items after the first: each item begins with the list's own repetition level
 abbrev pub later_items : Striping → ValueTrees → ℕ → ℕ → List Entry
 later_items s no_values d k = []
 later_items s (item v vs) d k = s v k d k ++ later_items s vs d k
 
--- an empty list gives one entry
+-- the entries of a list: an empty one gives one entry, without a value
 abbrev pub list_items : Striping → ValueTrees → ℕ → ℕ → ℕ → List Entry
 list_items s no_values r d k = entry r d None
 list_items s (item v vs) r d k = s v r (suc d) (suc k) ++ later_items s vs (suc d) (suc k)
 
--- a null gives one entry
+-- the entries of a field's value by the field's repetition: a null gives one entry, without a value
 abbrev pub stripe_as : Repetition → Striping → Striping
 stripe_as Required s v r d k = s v r d k
 stripe_as Optional s null r d k = entry r d None

@@ -3,6 +3,7 @@ use Rattle.std.specs.Prelude.{ℕ, zero, suc, ℤ, Bool, true, ◌&&◌, List, [
 use Rattle.schema.specs.declared.value.Value.{Value, fold-Value}
 use Rattle.schema.specs.declared.value.Value.TheOpen.{Value-F}
 
+-- a value: null, a boolean, a number, bytes, a group of one value for each field, or a list of items; and some values, in order
 mutual
   pub data ValueTree : Type 0 where
     null : ValueTree
@@ -16,7 +17,7 @@ mutual
     no_values : ValueTrees
     value : ValueTree → ValueTrees → ValueTrees
 
--- a list as trees
+-- a list of trees as `ValueTrees`, in the same order
 abbrev pub trees_of : List ValueTree → ValueTrees
 trees_of [] = no_values
 trees_of (v ∷ vs) = value v (trees_of vs)
@@ -38,17 +39,18 @@ view = fold-Value ValueTree view_step
 abbrev pub views : List Value → ValueTrees
 views vs = trees_of (map view vs)
 
--- each of the values passes the test
+-- whether each of the values passes the test
 abbrev pub each : (ValueTree → Bool) → ValueTrees → Bool
 each p no_values = true
 each p (value v vs) = p v && each p vs
 
--- the value at a place of a group, null where there is none
+-- the value at a place of a group's values, the first of which is 0; null past the end
 abbrev pub member_at : ℕ → ValueTrees → ValueTree
 member_at i no_values = null
 member_at zero (value v vs) = v
 member_at (suc i) (value v vs) = member_at i vs
 
+-- the value at a place of a group; null past the end, and of any value that is no group
 abbrev pub member : ℕ → ValueTree → ValueTree
 member i (group vs) = member_at i vs
 member i _ = null

@@ -28,7 +28,7 @@ const DEEPEST_STRUCT: u32 = 29;
 /// What the values of a leaf are by its type (`parquet.thrift`, Type).
 #[derive(Debug, Clone, Copy, PartialEq, Eq)]
 pub enum Typed {
-    /// A type of ours.
+    /// A physical type that the store keeps.
     Stored(Kind),
     /// FLOAT or DOUBLE.
     Floating,
@@ -88,7 +88,7 @@ pub fn leaf(
     }
 }
 
-/// The type by its number, and by the length of fixed values, which is at least 1.
+/// The type by its number, and by the length of fixed values, which is at least 1. None if there is no such type.
 fn type_of(number: i32, type_length: Option<i32>) -> Option<Typed>
     ensures type_is { result ≡ typed number type_length }
     ensures length { HasTypedLength result }

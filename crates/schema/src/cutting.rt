@@ -113,7 +113,7 @@ fn copied_leaf(alloc: Global, name: &str, repetition: Repetition, leaf_type: &Le
     })
 }
 
-/// The group of these fields, where there is one.
+/// The group of these fields; None if there are none.
 fn group_of(
     alloc: Global,
     name: &str,
@@ -136,7 +136,7 @@ fn group_of(
     }))
 }
 
-/// Adds a field, where there is one.
+/// Adds a field, if there is one.
 fn push_kept(out: &mut Vec<Field>, field: Option<Field>) -> R<()>
     ensures adds { OnOk result (field_views out.new.items ≡ join_fields (field_views out.old.items) (kept (option_map field_view field) no_fields)) }
     ensures which { RefusedMemoryOnly result }

@@ -9,13 +9,13 @@ pub fn fronts_have_the_first_leaves()
     ensures { FrontsHaveFirstLeaves }
 {}
 
-/// The number of leaves says which first fields these are.
+/// The number of leaves of a schema's first fields says how many fields these are.
 #[tactic(auto, using(crate::proofs::FrontLeaves::leaves_tell_fronts))]
 pub fn leaves_tell_fronts()
     ensures { LeavesTellFronts }
 {}
 
-/// A padded row fits all the fields.
+/// A row that fits the first fields fits all the fields when it is padded.
 #[tactic(auto, using(crate::proofs::Padding::padded_rows_fit))]
 pub fn padded_rows_fit()
     ensures { PaddedRowsFit }
@@ -27,13 +27,13 @@ pub fn whole_rows_are_padded()
     ensures { WholeRowsArePadded }
 {}
 
-/// Padding goes by steps.
+/// Padding a row to some more fields and then to all is padding it to all.
 #[tactic(auto, using(crate::proofs::Padding::padding_composes))]
 pub fn padding_composes()
     ensures { PaddingComposes }
 {}
 
-/// The columns of padded rows are those of the rows, and of nulls alone for each other leaf.
+/// The columns of padded rows are those of the rows, and columns of nulls for the other leaves.
 #[tactic(auto, using(crate::proofs::Padding::padded_rows_have_columns))]
 pub fn padded_rows_have_columns()
     ensures { PaddedRowsHaveColumns }
@@ -55,7 +55,7 @@ pub fn keys_stay()
     ensures { KeysStay }
 {}
 
-/// Elements are at most one field more.
+/// Elements are at most one field that a schema can take at its end.
 pub fn columns_are_one()
     ensures { ColumnsAreOne }
 {}

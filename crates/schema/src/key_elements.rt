@@ -82,7 +82,7 @@ fn type_number(kind: KeyKind) -> i32
     }
 }
 
-/// The number of its annotation in `parquet.thrift`, ConvertedType.
+/// The number of a key column's annotation in `parquet.thrift`, ConvertedType; None if it has none.
 fn converted_type(kind: KeyKind) -> Option<i32>
     ensures number { result ≡ converted_number (stored_annotation kind) }
     ensures no_struct { logical_struct (stored_annotation kind) ≡ None }

@@ -25,7 +25,7 @@ use std::alloc::Global;
 impl Schema {
     /// The schema of a table whose files have this schema, with the key columns at their places.
     ///
-    /// Refused Key where there is none, and Limit where it has too many leaves, out of memory aside. The time is linear
+    /// Refused Key if there is no such schema, and Limit if it has too many leaves, out of memory aside. The time is linear
     /// in both, but for a look-up of each name and of each place among the keys.
     pub fn with_keys(&self, alloc: Global, keys: &[KeyColumn]) -> R<Schema>
         ensures are_keys { IfOk result (AreKeys (key_columns_view keys.now)) }
@@ -64,7 +64,7 @@ fn schema_of(alloc: Global, elements: &[Element]) -> R<Schema>
     }
 }
 
-/// Key, but for Memory.
+/// Key in place of each refusal except Memory.
 fn as_key(refusal: Refusal) -> Refusal
     ensures memory { refusal ≡ Memory → result ≡ Memory }
     ensures key { (refusal ≡ Memory → ⊥) → result ≡ Refusal.Key }
@@ -75,8 +75,8 @@ fn as_key(refusal: Refusal) -> Refusal
     }
 }
 
-/// The elements of that schema: those of the files' fields, in order, with a leaf for each key column at its place. None
-/// where there is no such schema.
+/// The elements of a table's schema: those of the files' fields, in order, with a leaf for each key column at its place.
+/// None if no schema has the key columns at these places.
 fn table_elements(alloc: Global, stored: &Schema, keys: &[KeyColumn]) -> R<Option<Vec<Element>>>
     requires few { length (leaves_of stored.now) + length keys.now ≤ 1024 }
     ensures made { let columns = key_columns_view keys.now in IfOk result (λ found. MatchOption found

@@ -16,6 +16,7 @@ use smallvec::SmallVec;
 use std::alloc::Global;
 use std::rc::RcStr;
 
+/// A copy of a leaf's type. It fails only when out of memory.
 pub fn copied_type(alloc: Global, leaf_type: &LeafType) -> R<LeafType>
     ensures same { IfOk result (λ copy. leaf_type_view copy ≡ leaf_type_view leaf_type.now) }
     ensures which { RefusedMemoryOnly result }
@@ -29,6 +30,7 @@ pub fn copied_type(alloc: Global, leaf_type: &LeafType) -> R<LeafType>
     })
 }
 
+/// A copy of a leaf's annotation. It fails only when out of memory.
 fn copied_annotation(alloc: Global, annotation: &Annotation) -> R<Annotation>
     ensures same { IfOk result (λ copy. annotation_view copy ≡ annotation_view annotation.now) }
     ensures which { RefusedMemoryOnly result }
@@ -82,7 +84,7 @@ fn push_each(
     Ok(())
 }
 
-/// The names, which are shared and not copied, and one more.
+/// The names on a path, which are shared and not copied, and one more at its end.
 fn path_down(alloc: Global, path: &[RcStr], name: &str) -> R<Vec<RcStr>>
     requires { length path.now < 2 ^ 32 }
     ensures path_is { IfOk result (λ down. map rc_str_bytes down.items ≡ map rc_str_bytes path.now ++ name.now ∷ []) }
@@ -97,7 +99,7 @@ fn path_down(alloc: Global, path: &[RcStr], name: &str) -> R<Vec<RcStr>>
     Ok(down)
 }
 
-/// The steps, and one more.
+/// The steps of a path, and one more at its end.
 fn steps_down(alloc: Global, steps: &[Step], step: Step) -> R<SmallVec<Step, 8>>
     ensures steps_are { IfOk result (λ down. down.items ≡ steps.now ++ step ∷ []) }
     ensures which { RefusedMemoryOnly result }

@@ -1,6 +1,6 @@
 //! The numbers of the physical types and of the repetitions, as `parquet.thrift` has them.
 
-/// Type.
+/// The numbers of the physical types: `parquet.thrift`, Type.
 pub mod types {
     pub const BOOLEAN: i32 = 0;
 
@@ -19,7 +19,7 @@ pub mod types {
     pub const FIXED_LEN_BYTE_ARRAY: i32 = 7;
 }
 
-/// FieldRepetitionType.
+/// The numbers of the repetitions: `parquet.thrift`, FieldRepetitionType.
 pub mod repetitions {
     pub const REQUIRED: i32 = 0;
 

@@ -23,7 +23,7 @@ use std::collections::BTreeSet;
 /// A schema has at most this many leaves.
 pub const MOST_LEAVES: usize = 1024;
 
-/// And at most this many fields are on the path to each.
+/// At most this many fields are on the path to each leaf of a schema.
 const FIELDS_ON_A_PATH: u32 = 32;
 
 /// How many children an element says that it has. A leaf has none.
@@ -94,7 +94,7 @@ pub fn read_fields(
 }
 
 impl Field {
-    /// Its name.
+    /// The name of the field.
     pub fn name(&self) -> &str
         ensures { result.now ≡ name_of (field_view self.now) }
     {
@@ -133,7 +133,7 @@ fn read_field(alloc: Global, elements: &[Element], at: usize, deep: u32) -> R<(F
     Ok((field, next))
 }
 
-/// The refusal of something inside a group of this name.
+/// The refusal of something inside a group of this name, seen from outside the group: with the name before the path.
 fn inside(alloc: Global, name: &str, refusal: Refusal) -> Refusal
     ensures { IsInside name.now refusal result }
 {

@@ -9,6 +9,7 @@ use Rattle.shred.specs.declared.row_buffer.RowBuffer.{RowBuffer}
 use Rattle.shred.specs.inner.Filling.{state_of, marked_of, run, root}
 use Rattle.shred.specs.inner.Opening.{schema_token, rows_token, rows_said}
 
+-- the schema whose rows a buffer holds
 abbrev pub schema_of : RowBuffer → Fields
 schema_of buffer = buffer.schema.now
 
@@ -28,11 +29,11 @@ abbrev pub buffer_shows : RowBuffer → List Token → Type 0
 buffer_shows buffer (t ∷ u ∷ ts) = (t ≡ schema_token (schema_of buffer)) × Holds buffer (rows_said u) ts
 buffer_shows buffer _ = ⊥
 
--- it holds these rows of the schema, and was shown nothing yet of the next one
+-- a buffer holds these rows of the schema, and was shown nothing yet of the next one
 abbrev pub BeginsRow : RowBuffer → Fields → List ValueTrees → Type 0
 BeginsRow buffer fs rows = buffer_shows buffer (schema_token fs ∷ rows_token rows ∷ [])
 
--- it holds these rows of the schema, and was shown the values of the next one
+-- a buffer holds these rows of the schema, and was shown the values of the next one
 abbrev pub ShowsRow : RowBuffer → Fields → List ValueTrees → ValueTrees → Type 0
 ShowsRow buffer fs rows values = buffer_shows buffer (schema_token fs ∷ rows_token rows ∷ tokens_each values)
 
@@ -44,6 +45,7 @@ pub record Base : Type 0 where
   pub count : ℕ
   pub marked : List (List Entry)
 
+-- the schema of a buffer, the number of the rows before the one that it is shown, and the columns of these rows
 abbrev pub base_of : RowBuffer → Base
 base_of buffer = record { schema = schema_of buffer; count = buffer.count; marked = marked_of buffer.filling }
 
@@ -54,12 +56,12 @@ pub record HoldsBelow (base : Base) (rows : List ValueTrees) : Type 0 where
   pub countable : base.count ≤ 2 ^ 62
   pub marked : base.marked ≡ columns base.schema rows
 
--- it was shown the schema and the rows before, and nothing of the next one
+-- a buffer was shown the schema and the rows before, and nothing of the next one
 abbrev pub shows_whole : RowBuffer → List Token → Type 0
 shows_whole buffer (t ∷ u ∷ []) = (t ≡ schema_token (schema_of buffer)) × holds buffer (rows_said u)
 shows_whole buffer _ = ⊥
 
--- it was shown so once the row is dropped that is shown
+-- a buffer that goes back to this base was shown the schema and the rows before, and nothing of the next one
 abbrev pub goes_back : Base → List Token → Type 0
 goes_back base (t ∷ u ∷ []) = (t ≡ schema_token base.schema) × HoldsBelow base (rows_said u)
 goes_back base _ = ⊥

@@ -12,11 +12,11 @@ use Rattle.shred.specs.inner.Packed.{unpacked_each, absent}
 abbrev pub others_view : KeptColumn → List Entry
 others_view c = entries_in (list_of c.bytes) (unpacked_each (list_of c.entries)) ++ absent c.run
 
--- first the values in PLAIN, then the other entries
+-- the entries that a column shows: first the values in PLAIN, then the others
 abbrev pub kept_view : KeptColumn → List Entry
 kept_view c = flat_entries (waiting c.plain) ++ others_view c
 
--- what it showed when it was marked
+-- the entries that a column showed when it was marked
 abbrev pub marked_view : KeptColumn → List Entry
 marked_view c = flat_entries (waiting_marked c.plain)
     ++ (entries_in (take c.marked_bytes (list_of c.bytes)) (unpacked_each (take c.marked (list_of c.entries))) ++ absent c.marked_run)

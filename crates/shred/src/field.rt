@@ -23,7 +23,7 @@ pub struct Levels {
 }
 
 impl Levels {
-    /// Those of a row.
+    /// The levels of a row.
     pub fn of_row() -> Levels
         ensures repetition { result.repetition ≡ 0 }
         ensures definition { result.definition ≡ 0 }
@@ -105,7 +105,8 @@ fn push_field<'a>(
     }
 }
 
-/// The same for the items of a REPEATED field's list.
+/// Puts the entries of the items of a REPEATED field's list at the ends of the columns of the leaves at and below the
+/// field, and returns how many leaves these are. Refused RowShape where an item does not fit.
 #[cycle(push)]
 fn push_items<'a>(
     field: &Field,
@@ -143,7 +144,8 @@ fn push_items<'a>(
     }
 }
 
-/// The same for what a field's value is, its repetition aside.
+/// Puts the entries of a field's value, its repetition aside, at the ends of the columns of the leaves at and below the
+/// field, and returns how many leaves these are. Refused RowShape where the value does not fit.
 #[cycle(push)]
 fn push_inside<'a>(
     field: &Field,
@@ -194,7 +196,8 @@ fn push_absent<'a>(field: &Field, levels: Levels, columns: &mut [ColumnRef<'a>])
     }
 }
 
-/// The same for each of some fields.
+/// Puts an entry without value at the end of the column of each leaf at and below some fields, and returns how many
+/// leaves these are.
 #[cycle(absent)]
 fn push_absent_each<'a>(fields: &[Field], levels: Levels, columns: &mut [ColumnRef<'a>]) -> R<usize>
     requires room { count_leaves_each (field_views fields.now) ≤ length columns.old }

@@ -194,7 +194,7 @@ impl<'a> Filling<'a> {
         }
     }
 
-    /// The same for each of some fields.
+    /// Puts an entry without value into the column of each leaf at and below some fields.
     #[cycle(absent)]
     fn put_absent_each(&mut self, fields: &[Field], levels: Levels) -> Result<(), AllocError>
         ensures given { OnOk result (state_of self.new ≡ given (state_of self.old) (absences_each 0 (field_views fields.now) levels)) }
@@ -206,7 +206,8 @@ impl<'a> Filling<'a> {
         Ok(())
     }
 
-    /// The same, with the levels one by one: a record of them would be written to memory on each path to this call.
+    /// Puts an entry without value into the column of each leaf at and below some fields, with the levels one by one: a
+    /// record of them would be written to memory on each path to this call.
     #[inline(never)]
     fn put_absent_below(
         &mut self,

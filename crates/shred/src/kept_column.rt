@@ -147,7 +147,7 @@ impl KeptColumn {
         self.keep_run()
     }
 
-    /// The same, of a run that has entries.
+    /// Keeps a run that has entries with the other entries, so that none comes last.
     #[inline(never)]
     fn keep_run(&mut self) -> Result<(), AllocError>
         ensures same { kept_view self.new ≡ kept_view self.old }
@@ -220,8 +220,8 @@ impl KeptColumn {
         Ok(())
     }
 
-    /// The same by one copy, and whether it was done: only where the values are of the type of those here, and no
-    /// other entries wait.
+    /// Takes over values that wait in PLAIN by one copy, and returns whether it did: only where they are of the type of
+    /// those here, and no other entries wait.
     fn copy_plain(&mut self, plain: &PlainValues) -> Result<bool, AllocError>
         ensures taken { IfOk result (λ put. AppendsIf put (kept_view self.old) (flat_entries (plain_view plain.now)) (kept_view self.new)) }
         ensures marked { marked_view self.new ≡ marked_view self.old }
@@ -366,7 +366,8 @@ fn put_waiting<V: Single>(plain: &mut Option<PlainValues>, value: V) -> Result<b
     }
 }
 
-/// The same for the values of another leaf.
+/// Puts the values that wait in PLAIN in another column after those that wait here, and returns whether they are of
+/// their type: else none is put.
 fn take_waiting(plain: &mut Option<PlainValues>, other: &PlainValues) -> Result<bool, AllocError>
     ensures put { IfOk result (λ put. AppendsIf put (waiting plain.old) (plain_view other.now) (waiting plain.new)) }
     ensures unchanged { OnErr result (waiting plain.new ≡ waiting plain.old) }
@@ -410,7 +411,8 @@ fn push_entry(entry: KeptEntry, entries: &mut RoomyList<PackedEntry>) -> Result<
     entries.push(packed(entry)?)
 }
 
-/// The same for the entries of a run.
+/// Puts the entries of a run after others, packed as one. It fails only when out of memory, and then leaves them as
+/// they are.
 fn push_run(run: Run, entries: &mut RoomyList<PackedEntry>) -> Result<(), AllocError>
     ensures items { OnOk result (Gains (list_of entries.old) (list_of entries.new) (run_entries run)) }
     ensures unchanged { OnErr result (list_of entries.new ≡ list_of entries.old) }

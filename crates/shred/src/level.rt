@@ -27,7 +27,7 @@ pub(crate) enum Level<'a> {
     },
 }
 
-/// What the next value is of: its field, how often that stands there, and the levels of the value.
+/// What the next value is of: its field, the repetition of the field, and the levels of the value.
 #[derive(Clone, Copy)]
 pub(crate) struct Next<'a> {
     pub(crate) field: &'a Field,
@@ -46,7 +46,7 @@ impl<'a> Level<'a> {
         }
     }
 
-    /// No field has a value there.
+    /// A level at which no value is awaited.
     fn nothing() -> Level<'a>
         ensures { level_view result ≡ nothing }
     {

@@ -126,7 +126,7 @@ impl RoomyList<u8> {
         Ok(())
     }
 
-    /// The same as a call.
+    /// Puts bytes after the others as `append` does, by a call.
     // With many copies of a text in them, the functions that put a value would be too large to be inlined.
     #[inline(never)]
     pub(crate) fn append_apart(&mut self, text: &[u8]) -> Result<(), AllocError>
@@ -150,7 +150,8 @@ impl RoomyList<u8> {
         Ok(())
     }
 
-    /// The same for an INT64.
+    /// Puts an INT64 in PLAIN after the other bytes. It fails only when out of memory, and then leaves the list as it
+    /// is.
     #[inline(always)]
     pub(crate) fn put_int64(&mut self, number: i64) -> Result<(), AllocError>
         ensures items { OnOk result (list_of self.new ≡ list_of self.old ++ spelling Kind.Int64 (integer number)) }
@@ -163,7 +164,8 @@ impl RoomyList<u8> {
         Ok(())
     }
 
-    /// The same for a BYTE_ARRAY.
+    /// Puts a BYTE_ARRAY in PLAIN after the other bytes. It fails only when out of memory, and then leaves the list as it
+    /// is.
     #[inline(always)]
     pub(crate) fn put_byte_array(&mut self, text: &[u8]) -> Result<(), AllocError>
         requires { length text.now < 2 ^ 32 }

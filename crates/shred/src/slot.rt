@@ -147,7 +147,7 @@ pub(crate) fn entry_of(packed: PackedEntry) -> KeptEntry
     any_entry_of(packed)
 }
 
-/// The same, whatever its value.
+/// The entry that was packed, or each of the entries that were, whatever its value.
 #[inline(never)]
 fn any_entry_of(packed: PackedEntry) -> KeptEntry
     ensures { result ≡ entry_of packed }

@@ -11,16 +11,19 @@ use Rattle.snapshots.specs.inner.Held.{Seen, Work, seen_in, work_in, cursors_vie
 use Rattle.snapshots.specs.inner.Spells.{Other, others_in, is_listed}
 use Rattle.snapshots.specs.inner.Kept.{jobs_view}
 
--- the files are those of the current version, and the others that were brought in
+-- the state with this current version, cursors and jobs; its files are those of the version, and the others that were brought in
 abbrev pub state_from : Version → List Seen → List Work → List Other → State
 state_from version cs ws os = record { current = version; cursors = cursors_view cs; jobs = jobs_view os ws; files = λ f. names version f || is_listed os f }
 
+-- the state that a `Snapshots` stands for
 abbrev pub state_of : Snapshots → State
 state_of s = state_from (groups_in s.current) (seen_in (rc_value s.cursors).items) (work_in (rc_value s.jobs).items) (others_in s.others)
 
+-- the state that a prepared change leads to
 abbrev pub prepared_of : Prepared → State
 prepared_of p = state_of p.next
 
+-- the event that an `Event` of the program stands for
 abbrev pub event_view : CodeEvent → Event
 event_view (code.Opened n) = opened n
 event_view (code.Closed n) = closed n

@@ -31,7 +31,7 @@ const MOST_CURSORS: usize = 64;
 const MOST_JOBS: usize = 16;
 
 impl Snapshots {
-    /// The same with other cursors.
+    /// A copy with these open cursors; everything else is shared.
     fn with_cursors(&self, alloc: Global, cursors: Vec<Cursor>) -> R<Snapshots>
         requires { Keeps (groups_in self.now.current) (rc_value self.now.numbered) self.now.time
             (seen_in cursors.items) (work_in (rc_value self.now.jobs).items) (others_in self.now.others) }
@@ -49,7 +49,7 @@ impl Snapshots {
         })
     }
 
-    /// The same with other jobs.
+    /// A copy with these open jobs; everything else is shared.
     fn with_jobs(&self, alloc: Global, jobs: Vec<Job>) -> R<Snapshots>
         requires { Keeps (groups_in self.now.current) (rc_value self.now.numbered) self.now.time
             (seen_in (rc_value self.now.cursors).items) (work_in jobs.items) (others_in self.now.others) }
@@ -67,7 +67,7 @@ impl Snapshots {
         })
     }
 
-    /// The same with other files.
+    /// A copy with these other files; everything else is shared.
     fn with_others(&self, alloc: Global, others: Others) -> R<Snapshots>
         requires { Keeps (groups_in self.now.current) (rc_value self.now.numbered) self.now.time
             (seen_in (rc_value self.now.cursors).items) (work_in (rc_value self.now.jobs).items) (others_in others) }
@@ -85,7 +85,7 @@ impl Snapshots {
         })
     }
 
-    /// The same with other jobs and files.
+    /// A copy with these open jobs and other files; everything else is shared.
     fn with_work(&self, alloc: Global, jobs: Vec<Job>, others: Others) -> R<Snapshots>
         requires { Keeps (groups_in self.now.current) (rc_value self.now.numbered) self.now.time
             (seen_in (rc_value self.now.cursors).items) (work_in jobs.items) (others_in others) }

@@ -53,7 +53,7 @@ impl Snapshots {
         Ok(next)
     }
 
-    /// The same with another version, jobs and files, at a later time.
+    /// A copy with this version, these open jobs and other files, at a later time; the open cursors are shared.
     fn with_version(
         &self,
         alloc: Global,

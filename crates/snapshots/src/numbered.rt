@@ -106,7 +106,8 @@ impl Numbered {
         Ok(Some(next))
     }
 
-    /// The same; None also if the groups are not in table order.
+    /// The groups of the version that comes after this one at a time; None if a number comes twice, or if the groups are not
+    /// in table order. One look-up in this version for each group, and one in the new one.
     pub fn next_version(&self, alloc: Global, groups: &[Rc<Group>], now: u64) -> R<Option<Numbered>>
         ensures version { IfOk result (λ found. is_some found ≡ is_version (handles_view groups.now)) }
         ensures numbers { IfOk result (λ found. MatchOption found (Unit {0}) (λ m. (n : ℕ) → has_number m n ≡

@@ -20,7 +20,7 @@ use manifest::Group;
 use std::alloc::Global;
 use std::rc::Rc;
 
-/// Files that were brought in, the newest first, in blocks that a copy shares.
+/// Files that were brought in, in blocks that a copy shares. A file that is staged comes first.
 ///
 /// A new file joins the blocks that are no longer than what stands before them. So of n files there are about log n
 /// blocks, and each file was copied about log n times.
@@ -51,7 +51,7 @@ impl Others {
         Ok(Others { blocks })
     }
 
-    /// The same files: one more handle.
+    /// A copy, which shares the blocks: one more handle.
     pub fn share(&self) -> R<Others>
         ensures same { IfOk result (λ os. others_in os ≡ others_in self.now) }
         ensures which { RefusedMemoryOnly result }
@@ -75,7 +75,7 @@ impl Others {
         Ok(Others { blocks })
     }
 
-    /// These, as if no job of this number had written one.
+    /// These files, as if no job of this number had written one.
     pub fn unwritten(&self, alloc: Global, job: u64) -> R<Others>
         ensures all { IfOk result (λ os. others_in os ≡ map (unwritten_by job) (others_in self.now)) }
         ensures which { RefusedMemoryOnly result }

@@ -83,7 +83,7 @@ impl Snapshots {
         *self = prepared.next;
     }
 
-    /// Both together. After a refusal nothing has changed.
+    /// Prepares the change that an event makes, and publishes it. After a refusal nothing has changed.
     pub fn step(&mut self, alloc: Global, event: Event) -> R<()>
         ensures done { OnOk result (state_of self.new ≡ after (state_of self.old) (event_view event)) }
         ensures sound { OnOk result (fault_of (state_of self.old) (event_view event) ≡ None) }

@@ -2,7 +2,7 @@
 use Rattle.std.specs.Prelude.{ℕ, ◌-◌, ◌++◌, length, replicate, None}
 use Rattle.statistics.specs.Bounds.{Statistics, Known}
 
--- every entry is a null, one for each row, and there are no bounds
+-- the statistics of a leaf that a file lacks: every entry is a null, one for each row, and there are no bounds
 abbrev pub absent_statistics : ℕ → Statistics
 absent_statistics rows = record { min = None; max = None; nulls = rows }
 

@@ -14,6 +14,7 @@ pub record Statistics : Type 0 where
   pub max : Option ValueTree
   pub nulls : ℕ
 
+-- what the program's value says of the statistics of a column
 abbrev pub statistics_of : Stats → Statistics
 statistics_of s = record { min = option_map view s.min; max = option_map view s.max; nulls = s.nulls }
 
@@ -22,6 +23,7 @@ pub record Known : Type 0 where
   pub rows : ℕ
   pub leaves : List Statistics
 
+-- what the program's value says of a group: its number of rows, and the statistics of each leaf
 abbrev pub known_of : GroupStats → Known
 known_of g = record { rows = g.rows; leaves = map statistics_of g.leaves.items }
 
@@ -33,10 +35,11 @@ values column = filter_map (λ e. e.value) column
 abbrev pub null_count : List Entry → ℕ
 null_count column = count_by (λ e. is_none e.value) column
 
--- the bound is below, or above, each of the values in this order, or equal to it
+-- the bound is below each of the values in this order, or equal to it
 abbrev pub IsMinimum : Option Order → List ValueTree → ValueTree → Type 0
 IsMinimum order vs m = AllByRecursion (λ v. IsAtMost order m v) vs
 
+-- the bound is above each of the values in this order, or equal to it
 abbrev pub IsMaximum : Option Order → List ValueTree → ValueTree → Type 0
 IsMaximum order vs m = AllByRecursion (λ v. IsAtMost order v m) vs
 
@@ -47,10 +50,11 @@ pub record Bounds (order : Option Order) (s : Statistics) (column : List Entry) 
   pub maximum : IfSome s.max (IsMaximum order (values column))
   pub nulls : s.nulls ≡ null_count column
 
--- a least, and a greatest, of the values
+-- the bound is one of the values, and below each of them in this order, or equal to it
 abbrev pub IsLeast : Option Order → List ValueTree → ValueTree → Type 0
 IsLeast order vs m = Contains vs m × IsMinimum order vs m
 
+-- the bound is one of the values, and above each of them in this order, or equal to it
 abbrev pub IsGreatest : Option Order → List ValueTree → ValueTree → Type 0
 IsGreatest order vs m = Contains vs m × IsMaximum order vs m
 

@@ -29,7 +29,7 @@ abbrev pub IsOfKindAt : Kind → Option ValueTree → Type 0
 IsOfKindAt kind (Some v) = IsOfKind kind v
 IsOfKindAt kind None = Unit {0}
 
--- where it is there, it is longer than a value may be
+-- a bound is there, and is longer than a value may be
 abbrev pub IsLongAt : Option ValueTree → Type 0
 IsLongAt (Some v) = IsTooLong v
 IsLongAt None = ⊥
@@ -43,6 +43,6 @@ IsLengthOverLimit _ = ⊥
 abbrev pub BoundsAreOne : Type 0
 BoundsAreOne = (kind : Kind) (text : List ℕ) (v w : ValueTree) → IsBound kind text v → IsBound kind text w → v ≡ w
 
--- a value that is kept as a bound has at most 64 bytes
+-- the bytes of a value that is kept as a bound are at most 64
 abbrev pub KeptBoundsAreShort : Type 0
 KeptBoundsAreShort = (kind : Kind) (text : List ℕ) (v : ValueTree) → IsBound kind text v → IsKeptAsBound v → length text ≤ 64

@@ -18,7 +18,7 @@ pub(crate) struct Text<'a> {
 }
 
 impl<'a> Text<'a> {
-    /// These bytes.
+    /// A text of these bytes.
     #[inline(always)]
     pub(crate) fn of(bytes: &'a [u8]) -> Text<'a>
         ensures { result.bytes.now ≡ bytes.now }
@@ -81,7 +81,7 @@ fn compared(bytes: &[u8], other: &[u8]) -> Ordering
     compared_ends(rest, other_rest)
 }
 
-/// The same where one of the two has at most eight bytes.
+/// The order of bytes, where one of the two has at most eight.
 #[inline(always)]
 fn compared_ends(bytes: &[u8], other: &[u8]) -> Ordering
     requires { 8 < length bytes.now → length other.now ≤ 8 }
@@ -110,7 +110,7 @@ fn front_of(bytes: &[u8]) -> u64
     front_of_three(bytes)
 }
 
-/// The same of four to seven bytes.
+/// The number that four to seven bytes make, the highest first; zeros stand for those up to eight that are not there.
 #[inline(always)]
 fn front_of_fours(bytes: &[u8]) -> u64
     requires least { 4 ≤ length bytes.now }
@@ -125,7 +125,7 @@ fn front_of_fours(bytes: &[u8]) -> u64
     (first << 32) + rest
 }
 
-/// The same of at most three bytes.
+/// The number that at most three bytes make, the highest first; zeros stand for those up to eight that are not there.
 #[inline(always)]
 fn front_of_three(bytes: &[u8]) -> u64
     requires { length bytes.now < 4 }

@@ -38,7 +38,7 @@ impl Seen {
         }
     }
 
-    /// What is printed of them.
+    /// What is printed of the counts.
     fn text(&self, alloc: Global) -> R<String> {
         let (memory, device, doubt) = (self.memory, self.device, self.doubt);
         let (outside, wrong) = (self.outside, self.wrong);

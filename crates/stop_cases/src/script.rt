@@ -216,7 +216,7 @@ pub fn rows(alloc: Global, store: &mut Store<MemDisk>) -> R<String> {
     Ok(text)
 }
 
-/// Of the text of a batch, the key and the number of each row.
+/// Appends the key and the number of each row of the text of a batch.
 fn put_rows(text: &mut String, batch: &str) -> R<()> {
     for row in batch.split('{') {
         if let Some(rest) = row.strip_prefix("\"k\":\"") {

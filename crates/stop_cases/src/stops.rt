@@ -48,7 +48,7 @@ impl Seen {
         }
     }
 
-    /// One image more, with what was wrong with it.
+    /// Counts one image more, and whether it was right.
     pub fn add(&mut self, right: bool) {
         self.images = self.images.saturating_add(1);
         if !right {
@@ -56,7 +56,7 @@ impl Seen {
         }
     }
 
-    /// What is printed of them.
+    /// What is printed of what the loops have seen.
     pub fn text(&self, alloc: Global) -> R<String> {
         let (stops, images, wrong) = (self.stops, self.images, self.wrong);
         Ok(format!(in alloc; "{stops} stops, {images} images, not allowed: {wrong}")?)

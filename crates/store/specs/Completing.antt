@@ -13,9 +13,11 @@ use Rattle.store.specs.declared.jobs.Work.TheVariants.{Append, Rewrite}
 abbrev pub completed_rows : Fields → List Row → List Row
 completed_rows fs rows = map (padded fs) rows
 
+-- the rows of a key that wait, as they are written: null in the fields that were added after them
 abbrev pub completed_buffer : Fields → KeyRows → KeyRows
 completed_buffer fs w = record { key = w.key; rows = completed_rows fs w.rows }
 
+-- the rows of each key that wait, as they are written: null in the fields that were added after them
 abbrev pub completed_buffers : Fields → List KeyRows → List KeyRows
 completed_buffers fs ws = map (completed_buffer fs) ws
 
@@ -24,6 +26,7 @@ abbrev pub waiting_of : Work → List KeyRows
 waiting_of (Append a) = map key_rows_view a.waiting.items
 waiting_of (Rewrite r) = []
 
+-- the rows of a job that wait, by key; none where there is no job, or it is a rewrite
 abbrev pub waiting_at : Option OpenJob → List KeyRows
 waiting_at None = []
 waiting_at (Some j) = waiting_of j.work
@@ -33,6 +36,7 @@ abbrev pub groups_of : Work → List Group
 groups_of (Append a) = handles_view a.written.items
 groups_of (Rewrite r) = []
 
+-- the groups that a job wrote; none where there is no job, or it is a rewrite
 abbrev pub groups_at : Option OpenJob → List Group
 groups_at None = []
 groups_at (Some j) = groups_of j.work

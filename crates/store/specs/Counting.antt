@@ -23,5 +23,6 @@ pub record AreHeld (disk : DiskState) (tests : List (List Test)) (root : Root) (
   pub stored : AreStored disk root.keys root.schema count files groups
   pub described : AllByRecursion (IsGroup root.keys (without_keys root.keys root.schema)) files
 
+-- the table can have this file, and it is there and has the rows of this group; the filter is one over the table's schema
 abbrev pub IsHeld : DiskState → List (List Test) → Root → FileGroup → Group → Type 0
 IsHeld disk tests root file group = AreHeld disk tests root (file ∷ []) (group ∷ [])

@@ -51,7 +51,7 @@ abbrev pub Adds : {D T : Type 0} → (D → DiskState) → Store D → Store D �
 Adds state start old new s job files groups g (Ok x) = HasWritten state start new s job files (groups ++ g ∷ []) × (new.next_group ≤ old.next_group + 1)
 Adds state start old new s job files groups g (Err e) = WroteTo state start new s new.next_group × (new.next_group ≤ old.next_group + 1) × (e ≡ Device → HasFailed (state start.vault.disk) (state new.vault.disk))
 
--- some files more
+-- the new files are the old ones, and then some more
 abbrev pub Goes : List FileGroup → List FileGroup → Type 0
 Goes old new = (more : List FileGroup) × (new ≡ old ++ more)
 
@@ -64,9 +64,11 @@ pub record IsBuffer (schema : Fields) (keys : List KeyColumn) (w v : KeyRows) : 
   pub are : AreRowsOf keys w.key w.rows v.rows
   pub rows_in : AllByRecursion (IsRowIn schema keys v.key) v.rows
 
+-- rows of a table, whole, which wait without their keys, key by key
 abbrev pub AreBuffers : Fields → List KeyColumn → List KeyRows → List KeyRows → Type 0
 AreBuffers schema keys ws vs = AllZip (IsBuffer schema keys) ws vs
 
+-- all rows that wait, key by key
 abbrev pub rows_waiting : List KeyRows → List Row
 rows_waiting vs = flat_map (λ (v : KeyRows). v.rows) vs
 
@@ -74,12 +76,15 @@ rows_waiting vs = flat_map (λ (v : KeyRows). v.rows) vs
 abbrev pub IsFew : ℕ → KeyRows → Type 0
 IsFew size v = (1 ≤ length v.rows) × (length v.rows < size)
 
+-- a group has exactly this many rows
 abbrev pub HasSize : ℕ → Group → Type 0
 HasSize size g = length g.rows ≡ size
 
+-- a group has at least one row and at most this many
 abbrev pub HasUpTo : ℕ → Group → Type 0
 HasUpTo size g = (1 ≤ length g.rows) × (length g.rows ≤ size)
 
+-- the keys of groups
 abbrev pub group_keys : List Group → List Key
 group_keys gs = map (λ (g : Group). g.key) gs
 
@@ -124,25 +129,26 @@ WhyStopped state start new s Part given Limit = (part : List Row) × Part part �
 WhyStopped state start new s Part given Memory = Unit {0}
 WhyStopped state start new s Part given e = ⊥
 
+-- The writing of rows stopped: since its start the call wrote files under no more numbers than it was given rows.
 pub record IsStopped {D : Type 0} (state : D → DiskState) (start new : Store D) (s : State) (Part : List Row → Type 0) (given : List Row) (e : Refusal) : Type 0 where
   pub wrote : WroteTo state start new s new.next_group
   pub no_more : new.next_group ≤ s.next_group + length given
   pub why : WhyStopped state start new s Part given e
 
--- a full group
+-- these rows are as many as a full group has
 abbrev pub IsWhole : State → List Row → Type 0
 IsWhole s part = length part ≡ s.options.group_rows
 
--- any group
+-- these may be the rows of any group
 abbrev pub IsAny : List Row → Type 0
 IsAny part = Unit {0}
 
--- Of so many rows more than before some are written, and the others wait; a refusal came of a full group.
+-- Of the rows given so far full groups are written, and the others wait. A Limit came of a full group.
 abbrev pub Takes : {D T : Type 0} → (D → DiskState) → Store D → Store D → State → Option ℕ → List FileGroup → List KeyRows → List Row → Result T Refusal → Type 0
 Takes state start new s job files waiting given (Ok x) = Filled state start new s job files [] waiting given
 Takes state start new s job files waiting given (Err e) = IsStopped state start new s (IsWhole s) given e
 
--- All is written that waited.
+-- All rows given are written. A Limit came of any group.
 abbrev pub Ends : {D T : Type 0} → (D → DiskState) → Store D → Store D → State → Option ℕ → List FileGroup → List Row → Result T Refusal → Type 0
 Ends state start new s job files given (Ok x) = IsFilled state start new s job files given
 Ends state start new s job files given (Err e) = IsStopped state start new s IsAny given e
@@ -151,7 +157,7 @@ Ends state start new s job files given (Err e) = IsStopped state start new s IsA
 abbrev pub AreFine : State → List Row → Type 0
 AreFine s given = AllByRecursion (λ (row : Row). IsTrue (fits_each s.table.schema row) × CanPartition s.table.keys (key_of_row s.table.keys row)) given
 
--- the same, of the groups that are given
+-- All rows given are written, as the groups that are returned. A Limit came of any group.
 abbrev pub EndsWith : {D : Type 0} → (D → DiskState) → Store D → Store D → State → Option ℕ → List Row → Result (Vec (Rc CodeGroup Global) Global) Refusal → Type 0
 EndsWith state start new s job given (Ok gs) = IsFilled state start new s job (handles_view gs.items) given
 EndsWith state start new s job given (Err e) = IsStopped state start new s IsAny given e

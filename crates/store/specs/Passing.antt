@@ -37,10 +37,11 @@ pub record Comes (c : OpenCursor) (groups : List Group) (r : Reached) : Type 0 w
   pub batches : batches_from c groups c.passed ≡ batches_with c.places.items (rows_view r.rows.items) ++ batches_from c groups r.passed
   pub none : r.rows.items ≡ [] → batches_from c groups r.passed ≡ []
 
--- the cursor of this number passed so many groups
+-- a cursor that passed so many groups, and has answered its end or not
 abbrev pub moved : ℕ → Bool → OpenCursor → OpenCursor
 moved passed ended c = record c { passed = passed; ended = ended }
 
+-- cursors of which the first of this number passed so many groups, and has answered its end or not
 abbrev pub moved_at : ℕ → ℕ → Bool → List OpenCursor → List OpenCursor
 moved_at n passed ended [] = []
 moved_at n passed ended (c ∷ cs) = if c.number == n then moved passed ended c ∷ cs else c ∷ moved_at n passed ended cs
@@ -54,19 +55,19 @@ module _ (tests : List (List Test)) (keys : List KeyColumn) (fs : Fields) (place
     pub most : n ≤ chunks_read tests keys fs g places
     pub none : IsRuledOut tests keys g → n ≡ 0
 
-  -- so many for these groups
+  -- so many reads for these groups, each group's as many as are allowed for it
   abbrev pub AreReadsOf : List FileGroup → ℕ → Type 0
   AreReadsOf [] n = n ≡ 0
   AreReadsOf (g ∷ gs) n = (here : ℕ) × (rest : ℕ) × AreReads g here × AreReadsOf gs rest × (n ≡ here + rest)
 
-  -- so many for the groups of a version from one place to another
+  -- so many reads for the groups of a version from one place to another
   pub record AreReadsFrom (version : List FileGroup) (from to n : ℕ) : Type 0 where
     pub between : List FileGroup
     pub are : drop from version ≡ between ++ drop to version
     pub many : to ≡ from + length between
     pub reads : AreReadsOf between n
 
--- the same for a cursor
+-- so many reads for the groups of a version from one place to another, by a cursor's filter and columns
 abbrev pub ReadsFrom : OpenCursor → List FileGroup → ℕ → ℕ → ℕ → Type 0
 ReadsFrom c version from to n = AreReadsFrom (tests_in c.filter) (root_of c.table).keys (root_of c.table).schema c.places.items version from to n
 
@@ -77,7 +78,7 @@ pub record GoesTo (c : OpenCursor) (version : List FileGroup) (to : ℕ) (old ne
   pub no_more : new.reads ≤ old.reads + count
   pub no_less : old.reads ≤ new.reads
 
--- up to the group that it gives, or on which it is refused
+-- A cursor went on to the group that it gives, or on which it is refused: the disk was read at most so often.
 abbrev pub Goes : OpenCursor → List FileGroup → DiskState → DiskState → Result Reached Refusal → Type 0
 Goes c version old new (Ok r) = GoesTo c version r.passed old new
 Goes c version old new (Err e) = (to : ℕ) × GoesTo c version to old new
@@ -105,15 +106,16 @@ abbrev pub AreFetches : List FileGroup → OpenCursor → List ℕ → OpenCurso
 AreFetches version c [] d = d ≡ c
 AreFetches version c (n ∷ ns) d = (passed : ℕ) × (ended : Bool) × (most : ℕ) × ReadsFrom c version c.passed passed most × (n ≤ most) × AreFetches version (moved passed ended c) ns d
 
+-- the sum of numbers
 abbrev pub sum_of : List ℕ → ℕ
 sum_of [] = 0
 sum_of (n ∷ ns) = n + sum_of ns
 
--- Together they read no more than is allowed for each group between, once: no needed chunk is read twice.
+-- The fetches of a query together read no more than is allowed for each group between, once: no needed chunk is read twice.
 abbrev pub QueriesReadOnce : Type 0
 QueriesReadOnce = (version : List FileGroup) (c d : OpenCursor) (ns : List ℕ) → AreFetches version c ns d → (most : ℕ) × ReadsFrom c version c.passed d.passed most × (sum_of ns ≤ most)
 
--- A fetch that was not refused is the first of them, where the others begin with the cursor that it leaves.
+-- A fetch that was not refused is the first of a query's fetches, where the others begin with the cursor that it leaves.
 abbrev pub FetchesFollow : {D : Type 0} → (D → DiskState) → Type 0
 FetchesFollow {D} state = (old new : Store D) (n : ℕ) (c d : OpenCursor) (version : List FileGroup) (answer : Fetched) (ns : List ℕ) → (first : Went {T = Fetched} state old new n c version (Ok answer)) → AreFetches version first.0 ns d
     → AreFetches version c (((state new.vault.disk).reads - (state old.vault.disk).reads) ∷ ns) d

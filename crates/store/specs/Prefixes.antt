@@ -42,7 +42,7 @@ pub record LeavesThePrefix {Image : Type 0} (images : ℕ → Image → Type 0) 
   pub held : holds image table
   pub left : IsLeftAt images holds m table time mid later untold finish new
 
--- a stop at any moment of a run leaves that
+-- a stop at any moment of a run leaves the table after the commits of the calls that had ended, or also after that of the one in progress
 abbrev pub StopsLeaveThePrefix : {Image : Type 0} → (ℕ → Image → Type 0) → (Image → Table → Type 0) → Type 0
 StopsLeaveThePrefix images holds = (start : ℕ) (old : State) (calls : List Call) (answers : List Answer) (finish : ℕ) (new : State)
     → ((image : _) → images start image → (table : Table) × holds image table × MayHold old table)
@@ -53,13 +53,13 @@ StopsLeaveThePrefix images holds = (start : ℕ) (old : State) (calls : List Cal
 abbrev pub IsAfterTheCommits : State → List Call → List Answer → State → Type 0
 IsAfterTheCommits s calls answers new = (tables : List Table) × Commits s calls answers new tables × (new.table ≡ last_of s.table tables)
 
--- What `run` says leaves it, at each moment and in each image of the store's disk; and the calls that ended made their
--- commits, one after another.
+-- What `run` says leaves the prefix (`LeavesThePrefix`), at each moment and in each image of the store's disk; and the calls that ended
+-- made their commits, one after another.
 abbrev pub RunsLeaveThePrefix : {D : Type 0} → (D → DiskState) → Type 0
 RunsLeaveThePrefix {D} state = (old new : Store D) (s : State) (calls : List Call) (answers : List Answer) → Stands state old s → (run : RunsFrom state old new calls answers s)
     → (m : ℕ) (image : Image) → (state old.vault.disk).moment ≤ m → m ≤ (state new.vault.disk).moment → (state new.vault.disk).images m image
     → (left : LeavesThePrefix (state new.vault.disk).images Holds (state old.vault.disk).moment s calls answers (state new.vault.disk).moment run.after m image) × IsAfterTheCommits s left.ended left.told left.mid
 
--- and it is a history
+-- what `run` says is a history: the table's laws on histories hold of its calls and answers
 abbrev pub RunsHappen : {D : Type 0} → (D → DiskState) → Type 0
 RunsHappen {D} state = (old new : Store D) (s : State) (calls : List Call) (answers : List Answer) → (run : RunsFrom state old new calls answers s) → Run s calls answers run.after

@@ -25,7 +25,7 @@ pub record ReadsFor (tests : List (List Test)) (keys : List KeyColumn) (fs : Fie
   pub no_less : old.reads ≤ new.reads
   pub none : IsRuledOut tests keys g → new.reads ≡ old.reads
 
--- such calls one after another, of which none met a failure
+-- a run of calls that only reads part files, of which none met a failure
 pub record IsReading (old new : DiskState) : Type 0 where
   pub unchanged : old.honest → LeavesAll old new
   pub same : new.failures ≡ old.failures

@@ -23,14 +23,15 @@ use Rattle.store.specs.Filling.{HasWritten, written_group}
 
 -- ---- one group
 
--- the rows that satisfy, and those that do not
+-- the rows that pass a test
 abbrev pub those : (Row → Bool) → List Row → List Row
 those test given = filter test given
 
+-- the rows that do not pass a test
 abbrev pub not_those : (Row → Bool) → List Row → List Row
 not_those test given = filter (λ row. not (test row)) given
 
--- what was read of a group
+-- what was read of a group: how many rows satisfy, and, where one does, the others without their keys
 pub record AreRemains (tests : List (List Test)) (keys : List KeyColumn) (f : FileGroup) (g : Group) (r : Remains) : Type 0 where
   pub number : r.number ≡ f.number
   pub key : key_view r.rest.key ≡ f.key
@@ -43,24 +44,26 @@ pub data Outcome : Type 0 where
   goes : Outcome
   comes : FileGroup → Group → Outcome
 
--- what is there in its place
+-- the files that stand in the place of a group's file
 abbrev pub files_at : FileGroup → Outcome → List FileGroup
 files_at f stays = f ∷ []
 files_at f goes = []
 files_at f (comes e h) = e ∷ []
 
+-- the groups that stand in the place of a group
 abbrev pub groups_at : Group → Outcome → List Group
 groups_at g stays = g ∷ []
 groups_at g goes = []
 groups_at g (comes e h) = h ∷ []
 
--- what comes
+-- the files that come by these outcomes, in their order
 abbrev pub files_come : List Outcome → List FileGroup
 files_come [] = []
 files_come (stays ∷ os) = files_come os
 files_come (goes ∷ os) = files_come os
 files_come (comes e h ∷ os) = e ∷ files_come os
 
+-- the groups that come by these outcomes, in their order
 abbrev pub groups_come : List Outcome → List Group
 groups_come [] = []
 groups_come (stays ∷ os) = groups_come os
@@ -73,6 +76,7 @@ change_for n stays = []
 change_for n goes = record { number = n; come = [] } ∷ []
 change_for n (comes e h) = record { number = n; come = e ∷ [] } ∷ []
 
+-- the changes that these outcomes make of the groups of these files
 abbrev pub changes_for : List FileGroup → List Outcome → List Change
 changes_for (f ∷ fs) (o ∷ os) = change_for f.number o ++ changes_for fs os
 changes_for _ _ = []
@@ -100,13 +104,14 @@ pub record HasPut {D : Type 0} (state : D → DiskState) (start old new : Store 
   pub counted : after.count ≡ before.count + r.gone
   pub rises : new.next_group ≤ old.next_group + 1
 
--- why it is not: the disk failed, or the file is too much
+-- why the file of what is left of a group is not written: the disk failed, or the file is too much
 abbrev pub WhyNotPut : {D : Type 0} → (D → DiskState) → Store D → Store D → State → List Row → Refusal → Type 0
 WhyNotPut state start new s held Device = HasFailed (state start.vault.disk) (state new.vault.disk)
 WhyNotPut state start new s held Limit = IsFileTooMuch s held
 WhyNotPut state start new s held Memory = Unit {0}
 WhyNotPut state start new s held e = ⊥
 
+-- The file of what is left of a group is written and its change kept; or that is refused, and at most one number is used up.
 abbrev pub Puts : {D T : Type 0} → (D → DiskState) → Store D → Store D → Store D → State → List FileGroup → List Group → List Row → Remains → Removed → Removed → Result T Refusal → Type 0
 Puts state start old new s files groups held r before after (Ok x) = HasPut state start old new s files groups held r before after
 Puts state start old new s files groups held r before after (Err e) = WroteTo state start new s new.next_group × (new.next_group ≤ old.next_group + 1) × WhyNotPut state start new s held e
@@ -128,23 +133,25 @@ pub record HasReplaced {D : Type 0} (state : D → DiskState) (start now : Store
   pub counted : removed.count + length (filter test (rows (drop place s.table.groups))) ≡ length (filter test (rows s.table.groups))
   pub room : now.next_group + length (rows (touched test (drop place s.table.groups))) ≤ s.next_group + length (rows (touched test s.table.groups))
 
--- Why it stopped: the disk failed, or the file of what is left of some group is too much.
+-- Why a removal stopped: the disk failed, or the file of what is left of some group is too much.
 abbrev pub WhyHalted : {D : Type 0} → (D → DiskState) → Store D → Store D → State → (Row → Bool) → Refusal → Type 0
 WhyHalted state start new s test Device = HasFailed (state start.vault.disk) (state new.vault.disk)
 WhyHalted state start new s test Limit = (g : Group) × Contains (touched test s.table.groups) g × IsFileTooMuch s (not_those test g.rows)
 WhyHalted state start new s test Memory = Unit {0}
 WhyHalted state start new s test e = ⊥
 
+-- A removal stopped: since its start it wrote files under no more numbers than there are rows in groups of which some row goes.
 pub record IsHalted {D : Type 0} (state : D → DiskState) (start new : Store D) (s : State) (test : Row → Bool) (e : Refusal) : Type 0 where
   pub wrote : WroteTo state start new s new.next_group
   pub no_more : new.next_group ≤ s.next_group + length (rows (touched test s.table.groups))
   pub why : WhyHalted state start new s test e
 
+-- A removal came to this place of the table's groups, or stopped.
 abbrev pub Replaces : {D T : Type 0} → (D → DiskState) → Store D → Store D → State → (Row → Bool) → ℕ → Removed → Result T Refusal → Type 0
 Replaces state start new s test place removed (Ok x) = HasReplaced state start new s test place removed
 Replaces state start new s test place removed (Err e) = IsHalted state start new s test e
 
--- all groups are judged
+-- A removal came to the end of the table's groups, or stopped.
 abbrev pub ReplacesAll : {D : Type 0} → (D → DiskState) → Store D → Store D → State → (Row → Bool) → Result Removed Refusal → Type 0
 ReplacesAll state start new s test (Ok removed) = HasReplaced state start new s test (length s.table.groups) removed
 ReplacesAll state start new s test (Err e) = IsHalted state start new s test e

@@ -56,6 +56,7 @@ pub record IsStored (disk : DiskState) (keys : List KeyColumn) (schema : Fields)
   pub kept : IsKept disk (part_path_of keys file.key file.number) bytes
   pub means : PartMeans keys (without_keys keys schema) file bytes g.rows
 
+-- whatever a stop leaves, the part file of each group is there and has its rows, under a number that is not given again
 abbrev pub AreStored : DiskState → List KeyColumn → Fields → ℕ → List FileGroup → List Group → Type 0
 AreStored disk keys schema count files groups = AllZip (IsStored disk keys schema count) files groups
 
@@ -69,11 +70,12 @@ pub record IsReady (disk : DiskState) (count : ℕ) (root : Root) (bytes : List 
 
 -- ---- jobs
 
--- the files that jobs wrote: a rewrite writes none before its commit
+-- the files that a job wrote: a rewrite writes none before its commit
 abbrev pub written_of : Work → List FileGroup
 written_of (Append a) = handles_view a.written.items
 written_of (Rewrite r) = []
 
+-- the files that open jobs wrote
 abbrev pub written_in : List OpenJob → List FileGroup
 written_in shown = flat_map (λ (j : OpenJob). written_of j.work) shown
 
@@ -131,6 +133,7 @@ module _ (disk : DiskState) (keys : List KeyColumn) (schema : Fields) (count siz
     -- no other group is held as a source
     pub pinned : AllByRecursion (λ n. is_number_among (numbers (sources runs)) n ≡ true) pins.sources
 
+  -- the work of an open job is that of a job in the state: an append's staged rows, or a rewrite's runs and unread sources
   abbrev pub ShowsWork : Pins → Work → Job → Type 0
   ShowsWork pins (Append shown) (appending staged) = ShowsAppend pins shown staged
   ShowsWork pins (Rewrite shown) (rewriting runs unread) = ShowsRewrite pins shown runs unread
@@ -172,19 +175,23 @@ pub record ShowsCursor (disk : DiskState) (held : List (ℕ × List FileGroup)) 
 
 -- ---- the whole
 
+-- the numbers under which things are open
 abbrev pub numbers_at : {A : Type 0} → List (ℕ × A) → List ℕ
 numbers_at xs = map (λ x. x.0) xs
 
+-- the numbers of open jobs
 abbrev pub job_numbers : List OpenJob → List ℕ
 job_numbers shown = map (λ (j : OpenJob). j.number) shown
 
+-- the numbers of open cursors
 abbrev pub cursor_numbers : List OpenCursor → List ℕ
 cursor_numbers shown = map (λ (c : OpenCursor). c.number) shown
 
--- Each job and each cursor is open in the versions too, and no other. (The versions have the newest first.)
+-- Each job is open in the versions too, and no other is. (The versions have the newest first.)
 abbrev pub TracksJobs : List (ℕ × Pins) → List OpenJob → Type 0
 TracksJobs held shown = numbers_at held ≡ reverse (job_numbers shown)
 
+-- Each cursor is open in the versions too, and no other is. (The versions have the newest first.)
 abbrev pub TracksCursors : List (ℕ × List FileGroup) → List OpenCursor → Type 0
 TracksCursors held shown = numbers_at held ≡ reverse (cursor_numbers shown)
 

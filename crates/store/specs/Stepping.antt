@@ -12,26 +12,30 @@ use Rattle.store.specs.declared.jobs.Work.{Work}
 use Rattle.store.specs.declared.jobs.Work.TheVariants.{Append, Rewrite}
 use Rattle.store.specs.declared.jobs.Rewriting.{Rewriting}
 
+-- whether the work of a job is a rewrite
 abbrev pub is_rewrite : Work → Bool
 is_rewrite (Append a) = false
 is_rewrite (Rewrite r) = true
 
+-- whether there is a job, and it is a rewrite
 abbrev pub finds_rewrite : Option OpenJob → Bool
 finds_rewrite None = false
 finds_rewrite (Some j) = is_rewrite j.work
 
--- all sources, in the order of the runs
+-- all sources of a rewrite, in the order of its runs
 abbrev pub sources_in : List Sources → List Group
 sources_in runs = flat_map (λ (r : Sources). handles_view r.groups.items) runs
 
+-- the source at a place, over all runs in their order; None where there are not so many
 abbrev pub source_in : List Sources → ℕ → Option Group
 source_in runs place = slice_get (sources_in runs) place
 
--- the source that is read next
+-- the source that a rewrite reads next; None where all are read, and for an append
 abbrev pub next_in : Work → Option Group
 next_in (Append a) = None
 next_in (Rewrite r) = source_in r.runs.items (length r.read.items)
 
+-- the source that a job reads next; None where there is no job, or it has none to read
 abbrev pub next_at : Option OpenJob → Option Group
 next_at None = None
 next_at (Some j) = next_in j.work

@@ -10,6 +10,6 @@ use Rattle.row_group.specs.Greatest.{most_entries}
 abbrev pub AreFew : List (List Entry) → Type 0
 AreFew cols = AllByRecursion (λ es. most_entries <ℤ pos (length es) → ⊥) cols
 
--- nor has any of these rows
+-- no column of these rows has more entries than a chunk may have
 abbrev pub HasFewEntries : Fields → List ValueTrees → Type 0
 HasFewEntries fs rows = AreFew (columns fs rows)

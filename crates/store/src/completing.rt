@@ -24,7 +24,7 @@ fn completed_row(alloc: Global, stored: &Schema, row: &Row) -> R<Row>
     Ok(Row { values })
 }
 
-/// The same of each row.
+/// Copies of rows of the first stored fields of a table, with Null for each of the others.
 pub(crate) fn completed_rows(alloc: Global, stored: &Schema, rows: &[Row]) -> R<Vec<Row>>
     ensures completes { IfOk result (λ copies. rows_view copies.items ≡ completed_rows stored.now (rows_view rows.now)) }
     ensures which { RefusedMemoryOnly result }
@@ -37,7 +37,7 @@ pub(crate) fn completed_rows(alloc: Global, stored: &Schema, rows: &[Row]) -> R<
     Ok(copies)
 }
 
-/// The same of the rows of a key.
+/// A copy of the rows of a key that wait, as they are written: with Null for each field that was added after them.
 fn completed_buffer(alloc: Global, stored: &Schema, buffer: &KeyRows) -> R<KeyRows>
     ensures completes { IfOk result (λ copy. key_rows_view copy ≡ completed_buffer stored.now (key_rows_view buffer.now)) }
     ensures which { RefusedMemoryOnly result }
@@ -47,7 +47,7 @@ fn completed_buffer(alloc: Global, stored: &Schema, buffer: &KeyRows) -> R<KeyRo
     Ok(KeyRows { key, rows })
 }
 
-/// The same of the rows of each key.
+/// Copies of the rows of each key that wait, as they are written: with Null for each field that was added after them.
 pub(crate) fn completed_buffers(
     alloc: Global,
     stored: &Schema,

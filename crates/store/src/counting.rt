@@ -72,7 +72,7 @@ fn count_rows<D: Disk>(
     Ok(found)
 }
 
-/// The same of these groups.
+/// How many rows of these groups satisfy.
 fn count_in<D: Disk>(
     alloc: Global,
     vault: &mut Vault<D>,
@@ -94,7 +94,7 @@ fn count_in<D: Disk>(
     Ok(found)
 }
 
-/// The same of this group.
+/// How many rows of this group satisfy.
 fn count_at<D: Disk>(
     alloc: Global,
     vault: &mut Vault<D>,

@@ -116,8 +116,8 @@ impl<D: Disk> Store<D> {
         )
     }
 
-    /// The same of rows that may be more than a group has: its file has one group with all of them. Where they are too much
-    /// for it, they are too much for a file with groups as the options say, and it is refused Limit.
+    /// The part file of rows of one key that may be more than a group has: it has one group with all of them. Where they are too
+    /// much for it, they are too much for a file with groups as the options say, and it is refused Limit.
     pub(crate) fn make_wide_part(&self, alloc: Global, key: &Key, rows: &[Row]) -> R<Part>
         requires some { 1 ≤ length rows.now }
         requires counter { self.now.next_group < 2 ^ 64 - 1 }
@@ -137,7 +137,7 @@ impl<D: Disk> Store<D> {
     }
 }
 
-/// The same options, but for groups of this many rows. None where a group may not have as many.
+/// These options, but with groups of this many rows. None where a group may not have as many.
 fn wide_options(options: &WriteOptions, rows: usize) -> Option<WriteOptions>
     ensures rows { IfSome result (λ o. o.group_rows ≡ rows) }
     ensures few { IfSome result (λ _. rows ≤ 16777216) }

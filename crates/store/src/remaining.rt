@@ -56,7 +56,7 @@ pub(crate) fn remains_at<D: Disk>(
     }
 }
 
-/// The same of this group.
+/// What a removal leaves of this group, which is read unless the filter rules it out.
 fn remains_of<D: Disk>(
     alloc: Global,
     vault: &mut Vault<D>,

@@ -122,7 +122,7 @@ impl<D: Disk> Store<D> {
         Ok(removed)
     }
 
-    /// The same of the group at a place.
+    /// Judges the group at a place, and writes what is left of it where some row of it goes.
     fn replace_group(
         &mut self,
         alloc: Global,

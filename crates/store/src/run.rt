@@ -132,7 +132,7 @@ impl<D: Disk> Store<D> {
     /// was made.
     pub fn run(&mut self, alloc: Global, calls: &[Call]) -> R<Vec<Answer>>
         // From each state that the store stands in, the answers are those of a history. A stop at any moment since the
-        // start leaves the table after the commits answered before that moment, or after these and the one in progress
+        // start leaves the table after the commits done by that moment, or after these and the one in progress
         // or in doubt.
         ensures headline { IfOk result (λ answers. Runs D.state self.old self.new (map call_view calls.now) (map answer_view answers.items)) }
         // Each answer that tells of a failed disk has a failure of its own.

@@ -11,7 +11,7 @@ use manifest::Manifest;
 use schema::Element;
 use std::alloc::Global;
 
-/// The same table with the field that these elements are at the end of its schema.
+/// The description of the table with one field more, at the end of its schema: the one that these elements are.
 ///
 /// Refused as [`Schema::with_field`](schema::Schema::with_field) refuses the elements.
 pub(crate) fn widened(alloc: Global, table: &Manifest, elements: &[Element]) -> R<Manifest>

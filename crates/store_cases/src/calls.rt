@@ -64,7 +64,7 @@ impl Told {
         }
     }
 
-    /// One more answer.
+    /// Adds one more answer.
     fn add(&mut self, alloc: Global, answer: String) -> R<()> {
         if self.last.as_str() != answer.as_str() {
             self.put(alloc)?;
@@ -88,7 +88,7 @@ impl Told {
         Ok(())
     }
 
-    /// All of them.
+    /// All answers as they are printed.
     fn end(mut self, alloc: Global) -> R<String> {
         self.put(alloc)?;
         Ok(self.text)

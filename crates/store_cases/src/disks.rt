@@ -46,7 +46,7 @@ impl Cases {
         Ok(options)
     }
 
-    /// So many reads are told already.
+    /// Counts so many more reads as told already.
     pub fn told_reads(&mut self, more: u64) {
         self.reads = self.reads.saturating_add(more);
     }

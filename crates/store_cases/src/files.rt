@@ -56,7 +56,7 @@ pub fn put(alloc: Global, cases: &mut Cases, words: &[&str]) -> R<String> {
     ok(alloc)
 }
 
-/// `leave PATH BYTES`: the same, and nothing is synced.
+/// `leave PATH BYTES`: a new file of these bytes, and folders for it; nothing is synced.
 pub fn leave(alloc: Global, cases: &mut Cases, words: &[&str]) -> R<String> {
     let bytes = bytes(alloc, words, 2)?;
     make_file(alloc, disk_of(cases)?, word(words, 1)?, bytes.as_slice())?;

@@ -19,11 +19,11 @@ pub struct Kept {
 /// What is done with the outcome of a line.
 #[derive(Clone, Copy)]
 pub enum Way<'a> {
-    /// It is told.
+    /// The outcome is told.
     Told,
-    /// It is told, and kept under a name.
+    /// The outcome is told, and kept under this name.
     Keep(&'a str),
-    /// It is told unless it is the one of this name.
+    /// The outcome is told unless it is the one that is kept under this name.
     Is(&'a str),
 }
 

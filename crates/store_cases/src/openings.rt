@@ -47,11 +47,11 @@ fn image_of(alloc: Global, disk: &MemDisk, list: u64) -> R<MemDisk> {
 struct Seen {
     /// The calls of the disk that failed.
     failures: u64,
-    /// The openings that were refused for it.
+    /// The openings that were refused because a call of the disk failed.
     refused: u64,
-    /// What stops left, opened again.
+    /// The images that stops left, which were opened again.
     images: u64,
-    /// What may not be.
+    /// The outcomes that may not be.
     wrong: u64,
 }
 
@@ -65,7 +65,7 @@ impl Seen {
         }
     }
 
-    /// Something that is right, or not.
+    /// Counts an outcome that may not be, where it is not right.
     fn note(&mut self, is_right: bool) {
         if !is_right {
             self.wrong = self.wrong.saturating_add(1);
@@ -194,8 +194,9 @@ pub fn opening_stops(alloc: Global, cases: &mut Cases, words: &[&str]) -> R<Stri
     )?)
 }
 
-/// `opening-failures SIZE PICK`: the same with one failure at call k. After it the store is open, unless the root could not be read,
-/// and after a `reopen` it has the table and nothing else.
+/// `opening-failures SIZE PICK`: the store is given up. The table is opened on copies of its disk of which only call k fails, for
+/// each k, until none fails. The store is open then, unless the root could not be read, and after a `reopen` it has the table
+/// and nothing else.
 pub fn opening_failures(alloc: Global, cases: &mut Cases, words: &[&str]) -> R<String> {
     let options = cases.options_of(word(words, 1)?)?;
     let pick = natural(word(words, 2)?)?;

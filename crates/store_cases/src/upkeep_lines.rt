@@ -58,7 +58,7 @@ pub fn check_table(alloc: Global, cases: &mut Cases) -> R<String> {
     text
 }
 
-/// `survey LEAST`: the same, and it is looked at.
+/// `survey LEAST`: the store is given up, and the table on its disk is looked at, with groups of fewer rows than LEAST as small.
 pub fn survey_table(alloc: Global, cases: &mut Cases, words: &[&str]) -> R<String> {
     let least = natural(word(words, 1)?)?;
     let mut vault = Vault::start(cases.take_disk()?);

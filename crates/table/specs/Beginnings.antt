@@ -21,6 +21,7 @@ Commits s (call ∷ calls) (answer ∷ answers) new tables =
 Commits s [] (answer ∷ answers) new tables = ⊥
 Commits s (call ∷ calls) [] new tables = ⊥
 
+-- the last of the tables, or `t` if there are none
 abbrev pub last_of : Table → List Table → Table
 last_of t [] = t
 last_of t (u ∷ tables) = last_of u tables
@@ -46,23 +47,25 @@ StopsLeaveABeginning images holds = (start : ℕ) (old : State) (calls : List Ca
     → RunsOn images holds start old calls answers finish new
     → (m : ℕ) (image : _) → start ≤ m → m ≤ finish → images m image → LeavesAfterSome holds old calls answers image
 
--- A run parts where some of its calls have ended: what a stop leaves from there on has each of their commits.
+-- A run can be split after each of its calls: what a stop leaves from there on has the commits of the calls before.
 abbrev pub RunsPart : {Image : Type 0} → (ℕ → Image → Type 0) → (Image → Table → Type 0) → Type 0
 RunsPart images holds = (start : ℕ) (old : State) (calls later : List Call) (answers told : List Answer) (finish : ℕ) (new : State)
     → length calls ≡ length answers → RunsOn images holds start old (calls ++ later) (answers ++ told) finish new
     → (next : ℕ) × (mid : State) × RunsOn images holds start old calls answers next mid × RunsOn images holds next mid later told finish new
 
--- what a run over moments answers is a history
+-- a run over moments is a run: the same calls return the same and lead to the same state
 abbrev pub RunsAreHistories : {Image : Type 0} → (ℕ → Image → Type 0) → (Image → Table → Type 0) → Type 0
 RunsAreHistories images holds = (start : ℕ) (old : State) (calls : List Call) (answers : List Answer) (finish : ℕ) (new : State)
     → RunsOn images holds start old calls answers finish new → Run old calls answers new
 
--- So it is of images under numbers, each of which holds one table. (A store says it of the images of its disk.)
+-- If images are numbers, and each holds one table, a stop at any moment of a run leaves a beginning of it. (A store says it of its disk's images.)
 abbrev pub NumberedImagesLeaveABeginning : Type 0
 NumberedImagesLeaveABeginning = (left : ℕ → ℕ → Bool) (table_of : ℕ → Table) → StopsLeaveABeginning (λ m i. IsTrue (left m i)) (λ i t. t ≡ table_of i)
 
+-- if images are numbers, and each holds one table, a run can be split after each of its calls
 abbrev pub NumberedRunsPart : Type 0
 NumberedRunsPart = (left : ℕ → ℕ → Bool) (table_of : ℕ → Table) → RunsPart (λ m i. IsTrue (left m i)) (λ i t. t ≡ table_of i)
 
+-- if images are numbers, and each holds one table, a run over moments is a run
 abbrev pub NumberedRunsAreHistories : Type 0
 NumberedRunsAreHistories = (left : ℕ → ℕ → Bool) (table_of : ℕ → Table) → RunsAreHistories (λ m i. IsTrue (left m i)) (λ i t. t ≡ table_of i)

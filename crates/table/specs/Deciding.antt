@@ -16,6 +16,7 @@ pub use Rattle.filter.specs.Law.{TestsDecide}
 abbrev pub Filter : Type 0
 Filter = List (List Term)
 
+-- whether the row passes the tests of a filter; no row does if the filter has a fault
 abbrev pub passes : Result (List (List Test)) Refusal → Row → Bool
 passes (Ok tests) row = all_satisfied tests row
 passes (Err e) row = false
@@ -24,6 +25,7 @@ passes (Err e) row = false
 abbrev pub satisfies : Fields → Filter → Row → Bool
 satisfies schema terms row = passes (tests_of (leaves_of schema) terms) row
 
+-- why the filter is refused, or None if it has tests
 abbrev pub refusal_in : Result (List (List Test)) Refusal → Option Refusal
 refusal_in (Ok tests) = None
 refusal_in (Err e) = Some e

@@ -66,7 +66,7 @@ pub record IsShort (previous : ℤ) (bytes : List ℕ) (id : ℤ) (k used : ℕ)
   pub byte : IsByte bytes (16 * step + k) used
   pub is : id ≡ previous +ℤ pos step
 
--- a long one has the type, then the field
+-- a long header has the type, then the id of the field
 pub record IsLong (bytes : List ℕ) (id : ℤ) (k used : ℕ) : Type 0 where
   pub rest : ℕ
   pub byte : IsByte bytes k 1
@@ -77,7 +77,7 @@ pub record IsLong (bytes : List ℕ) (id : ℤ) (k used : ℕ) : Type 0 where
 abbrev pub IsFieldHead : ℤ → List ℕ → ℤ → ℕ → ℕ → Type 0
 IsFieldHead previous bytes id k used = (1 ≤ k) × (k < 16) × FitsSigned w16 id × (IsShort previous bytes id k used ⊎ IsLong bytes id k used)
 
--- 15 above the type, and then the size
+-- a long header of a list or a set has 15 above the type, and then the size
 pub record IsLongList (bytes : List ℕ) (k n used : ℕ) : Type 0 where
   pub rest : ℕ
   pub byte : IsByte bytes (240 + k) 1

@@ -19,7 +19,7 @@ WrittenStructsStand =
     (fields : Fields) (most : ℕ) (old new more : List ℕ) → Appends (λ bytes used. IsThrift bytes fields used) most old new →
     (let text = drop (length old) new in IsThrift (text ++ more) fields (length text))
 
--- and for no other struct, and in no other number of bytes
+-- the bytes that the writing of a struct added stand for no other struct, and for it in no other number of bytes, whatever follows them
 abbrev pub WrittenStructsAreNoOthers : Type 0
 WrittenStructsAreNoOthers =
     (fields seen : Fields) (most used : ℕ) (old new more : List ℕ) → Appends (λ bytes used. IsThrift bytes fields used) most old new →

@@ -10,20 +10,23 @@ unfoldable pub size_varint : ℕ → ℕ → ℕ
 size_varint zero n = 1
 size_varint (suc k) n = if nat_le (128 ^ k) n then suc k else size_varint k n
 
--- a number of 64 bits has at most ten groups, one of 32 bits five, one of 16 bits three
+-- how many bytes a size takes: a varint of at most ten groups of seven bits
 abbrev pub size_length : ℕ → ℕ
 size_length n = size_varint 10 n
 
+-- how many bytes an i64 takes: a zigzag varint of at most ten groups of seven bits
 abbrev pub size_i64 : ℤ → ℕ
 size_i64 z = size_varint 10 (zigzag_of z)
 
+-- how many bytes an i32 takes: a zigzag varint of at most five groups of seven bits
 abbrev pub size_i32 : ℤ → ℕ
 size_i32 z = size_varint 5 (zigzag_of z)
 
+-- how many bytes an i16 takes: a zigzag varint of at most three groups of seven bits
 abbrev pub size_i16 : ℤ → ℕ
 size_i16 z = size_varint 3 (zigzag_of z)
 
--- the header of a list or a set
+-- how many bytes the header of a list or a set of n elements takes
 abbrev pub size_list_head : ℕ → ℕ
 size_list_head n = if nat_le n 14 then 1 else 1 + size_length n
 
@@ -32,7 +35,7 @@ abbrev pub is_step : ℤ → Bool
 is_step (pos n) = nat_lt 0 n && nat_le n 15
 is_step (negsuc n) = false
 
--- the header of a field: a byte where the step is 1 to 15, else a byte and the id
+-- how many bytes the header of a field takes: one where the step is 1 to 15, else one and those of the id
 abbrev pub size_field_head : ℤ → ℤ → ℕ
 size_field_head previous id = if is_step (id -ℤ previous) then 1 else 1 + size_i16 id
 
@@ -66,6 +69,7 @@ abbrev mutual
   size_fields no_fields previous = 1
   size_fields (field id x fs) previous = size_field_head previous id + size_value x + size_fields fs id
 
+-- how many bytes the shortest spelling of a struct takes, with the byte that ends it
 abbrev pub size_struct : Fields → ℕ
 size_struct fs = size_fields fs (pos 0)
 
@@ -73,6 +77,6 @@ size_struct fs = size_fields fs (pos 0)
 abbrev pub AppendsStruct : Fields → List ℕ → List ℕ → Type 0
 AppendsStruct fs old new = Appends (λ bytes used. IsThrift bytes fs used) (size_struct fs) old new
 
--- no bytes of a struct are fewer
+-- no bytes that stand for a struct are fewer than its shortest spelling takes
 abbrev pub NoSpellingIsShorter : Type 0
 NoSpellingIsShorter = (bytes : List ℕ) (fields : Fields) (used : ℕ) → IsThrift bytes fields used → size_struct fields ≤ used

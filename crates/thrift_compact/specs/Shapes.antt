@@ -13,7 +13,7 @@ is_of_type k no = false
 is_of_type k (flag b) = k == 1 || k == 2
 is_of_type k x = k == kind x
 
--- it has a type that a field may have
+-- a value has a type that a field may have
 abbrev pub is_member : Node → Bool
 is_member x = nat_lt (kind x) 16
 
@@ -50,7 +50,7 @@ abbrev mutual
 abbrev pub pair_has_shape : ℕ → ℕ → ℕ → Node → Node → Bool
 pair_has_shape deep k v x y = (is_of_type k x && has_shape deep x) && (is_of_type v y && has_shape deep y)
 
--- it is refused since it does not have the shape of what can be written
+-- the refusal is Thrift, and what was to be written does not have the shape of what can be
 abbrev pub IsShapeless : Bool → Refusal → Type 0
 IsShapeless has_shape e = (e ≡ Thrift) × (has_shape ≡ false)
 

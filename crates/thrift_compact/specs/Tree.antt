@@ -60,10 +60,12 @@ abbrev mutual
   fields_nest no_fields = 0
   fields_nest (field id x fs) = max (nest x) (fields_nest fs)
 
+-- how many elements there are
 abbrev pub count : Nodes → ℕ
 count no_nodes = 0
 count (node x xs) = suc (count xs)
 
+-- how many pairs there are
 abbrev pub count_pairs : Pairs → ℕ
 count_pairs no_pairs = 0
 count_pairs (pair x y ps) = suc (count_pairs ps)

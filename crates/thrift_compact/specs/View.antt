@@ -31,14 +31,17 @@ code_of Map = 11
 code_of Struct = 12
 code_of (Other code) = if is_type code then 16 + code else code
 
+-- the elements in a list of trees, in their order
 abbrev pub nodes_of : List Node → Nodes
 nodes_of [] = no_nodes
 nodes_of (x ∷ xs) = node x (nodes_of xs)
 
+-- the pairs in a list of keys and values, in their order
 abbrev pub pairs_of : List (Node × Node) → Pairs
 pairs_of [] = no_pairs
 pairs_of (p ∷ ps) = pair p.0 p.1 (pairs_of ps)
 
+-- the fields in a list of ids and values, in their order
 abbrev pub fields_of : List (ℤ × Node) → Fields
 fields_of [] = no_fields
 fields_of (f ∷ fs) = field f.0 f.1 (fields_of fs)
@@ -59,24 +62,31 @@ view_step layer.EmptyMap = tree.empty_map
 view_step (layer.Map k v ps) = tree.map (code_of k) (code_of v) (pairs_of ps.items)
 view_step (layer.Struct fs) = tree.struct (fields_of fs.items)
 
+-- one field: its id, and the tree of its value
 abbrev pub field_step : Field-F Node (ℤ × Node) → ℤ × Node
 field_step f = (f.id, f.value)
 
+-- the tree of a value of the program
 abbrev pub view : CodeNode → Node
 view = fold-Node Node (ℤ × Node) view_step field_step
 
+-- the id of a field of the program, and the tree of its value
 abbrev pub field_view : CodeField → ℤ × Node
 field_view = fold-Field Node (ℤ × Node) view_step field_step
 
+-- the trees of values of the program, in their order
 abbrev pub views : List CodeNode → Nodes
 views xs = nodes_of (map view xs)
 
+-- the trees of a key and a value of the program
 abbrev pub pair_view : CodeNode × CodeNode → Node × Node
 pair_view p = (view p.0, view p.1)
 
+-- the trees of the keys and values of a map of the program, in their order
 abbrev pub pair_views : List (CodeNode × CodeNode) → Pairs
 pair_views ps = pairs_of (map pair_view ps)
 
+-- the ids of the fields of a struct of the program, and the trees of their values, in their order
 abbrev pub field_views : List CodeField → Fields
 field_views fs = fields_of (map field_view fs)
 

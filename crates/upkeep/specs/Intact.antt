@@ -22,7 +22,7 @@ IsNamed root path = (g : Group) × Contains root.groups g × (path_of_group root
 abbrev pub IsHeldIn : Image → Root → Group → Type 0
 IsHeldIn image root g = (bytes : List ℕ) × (content image (path_of_group root g) ≡ Some bytes) × HoldsRows (stored_of root) g bytes
 
--- these are the part files in the table's key folders that the root does not name
+-- the paths are those of the part files in the table's key folders that the root does not name
 abbrev pub AreLeftovers : Image → Root → List (List ℕ) → Type 0
 AreLeftovers image root paths = AreStrays image root.keys (IsNamed root) paths
 

@@ -15,9 +15,11 @@ pub record Looks (most : ℕ) (old new : State) : Type 0 where
   pub counts : old.failures ≤ new.failures
   pub honest : old.honest ↔ new.honest
 
+-- the refusal is Device
 abbrev pub IsDevice : Refusal → Type 0
 IsDevice e = e ≡ Device
 
+-- the refusal is Key
 abbrev pub IsKey : Refusal → Type 0
 IsKey e = e ≡ Key
 

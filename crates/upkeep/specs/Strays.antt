@@ -19,10 +19,10 @@ pub record IsStray (image : Image) (keys : List KeyColumn) (Named : List ℕ →
   pub part : IsPartPath keys path
   pub unnamed : Named path → ⊥
 
--- these are they
+-- the paths are exactly those of the part files that are there and not named
 abbrev pub AreStrays : Image → List KeyColumn → (List ℕ → Type 0) → List (List ℕ) → Type 0
 AreStrays image keys Named paths = (path : List ℕ) → Contains paths path ↔ IsStray image keys Named path
 
--- the set has this path
+-- a set of paths has this path
 abbrev pub IsIn : {S : Type 0} → HashSet (String Global) S → List ℕ → Type 0
 IsIn named q = IsTrue (contains_text named q)

@@ -20,7 +20,7 @@ pub(crate) fn blamed(alloc: Global, leaves: &[Leaf], bytes: &[u8]) -> R<Option<u
     }
 }
 
-/// None, where the refusal is not out of memory.
+/// No leaf to blame for a refusal; Memory is passed on.
 fn unless_memory(refusal: Refusal) -> R<Option<usize>> {
     match refusal {
         Refusal::Memory => Err(Refusal::Memory),
@@ -28,7 +28,7 @@ fn unless_memory(refusal: Refusal) -> R<Option<usize>> {
     }
 }
 
-/// The first chunk that is refused.
+/// The index of the first chunk that is refused; None where none is by itself.
 fn blamed_chunk(
     alloc: Global,
     leaves: &[Leaf],

@@ -73,7 +73,7 @@ fn is_above(order: Option<Order>, min: &Value, entry: &Entry) -> bool
     }
 }
 
-/// Whether it is at most the bound.
+/// Whether the value of an entry, where it has one, is at most the bound.
 fn is_below(order: Option<Order>, max: &Value, entry: &Entry) -> bool
     ensures { IsTrue result ↔ IfSome (entry_view entry.now).value (λ v. IsAtMost order v (view max.now)) }
 {

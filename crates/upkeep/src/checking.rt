@@ -26,7 +26,7 @@ use vault::Vault;
 pub struct Checked {
     /// What the root says of the table.
     pub totals: Totals,
-    /// First those of the files that the table names, in its order, at most one a file; then the files too many.
+    /// The findings of the files that the table names, in table order, at most one a file; then the files too many.
     pub findings: Vec<Finding>,
 }
 

@@ -19,7 +19,7 @@ use std::alloc::Global;
 /// What is wrong with the columns of a file.
 #[derive(Clone, Copy, Debug, PartialEq, Eq)]
 pub(crate) enum ColumnFault {
-    /// There are not as many of them as leaves.
+    /// There are not as many chunks as leaves, or not as many statistics.
     Count,
     /// The pages of the column with this index do not fill its chunk.
     Size(usize),
@@ -109,7 +109,7 @@ fn text_of<'a>(front: &'a [u8], meta: &ColumnMeta) -> Option<&'a [u8]>
     text_from(front, meta, start)
 }
 
-/// The bytes of a chunk that starts there.
+/// The bytes of a chunk that starts at `start`, as its record says how many they are; None where they are not there.
 fn text_from<'a>(front: &'a [u8], meta: &ColumnMeta, start: usize) -> Option<&'a [u8]>
     ensures { IfSome result (λ text. IsTextFrom front.now (column_meta_view meta.now) start text.now) }
 {
@@ -119,7 +119,7 @@ fn text_from<'a>(front: &'a [u8], meta: &ColumnMeta, start: usize) -> Option<&'a
     }
 }
 
-/// So many of the bytes from a place on, where there are.
+/// `size` bytes from `start` on; None where fewer are there.
 fn range_of(front: &[u8], start: usize, size: usize) -> Option<&[u8]>
     ensures { IfSome result (λ range. (start + size ≤ length front.now) × (range.now ≡ take size (drop start front.now))) }
 {

@@ -32,7 +32,7 @@ impl Totals {
         bytes: 0,
     };
 
-    /// With a group more. Refused Limit for more than a `u64` counts.
+    /// The totals with one group more. Refused Limit for more than a `u64` counts.
     pub(crate) fn with(self, group: &Group) -> R<Totals>
         ensures counts { IfOk result (CountsOneMore self (group_view group.now)) }
         ensures which { IfErr result (λ e. e ≡ Refusal.Limit) }
@@ -48,7 +48,7 @@ impl Totals {
         })
     }
 
-    /// With the group at a place more, where one is there.
+    /// The totals with the group at a place, where one is there.
     fn with_at(self, groups: &Version, place: usize) -> R<Totals>
         ensures counts { (g : GroupShown) → slice_get (groups_in groups.now) place ≡ Some g → IfOk result (CountsOneMore self g) }
         ensures which { IfErr result (λ e. e ≡ Refusal.Limit) }

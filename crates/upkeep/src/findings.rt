@@ -6,19 +6,19 @@ use std::fmt::{self, Display};
 /// What is wrong with a file.
 #[derive(Debug, PartialEq, Eq, Drop)]
 pub enum Damage {
-    /// The table names it, and it is not there.
+    /// The table names the file, and it is not there.
     Missing,
-    /// It is a part file that the table does not name. No row is in danger: the next opening for a change removes it.
+    /// The file is a part file that the table does not name. No row is in danger: the next opening for a change removes it.
     Leftover,
-    /// Its bytes are refused, as a Parquet file is.
+    /// The bytes of the file are refused so, as a Parquet file is.
     Refused(Refusal),
-    /// Its columns are not those that the table says it has.
+    /// The columns of the file are not those that the table says it has.
     Schema,
-    /// It has so many row groups, and not one.
+    /// The file has this many row groups, and not one.
     Groups(usize),
-    /// It has another number of rows than the table says.
+    /// The file has another number of rows than the table says.
     Rows,
-    /// Its own footer and the table describe a column's chunk differently.
+    /// The footer of the file and the table describe a column's chunk differently.
     Record,
     /// The pages of a column do not fill just the bytes that the table says.
     Size,
@@ -27,7 +27,7 @@ pub enum Damage {
 }
 
 impl Damage {
-    /// The refusal that it counts as.
+    /// The refusal that the damage counts as.
     pub fn into_refusal(self) -> Refusal {
         match self {
             Damage::Leftover => Refusal::Exists,
@@ -67,7 +67,7 @@ impl Display for Damage {
 /// A file of which something is found.
 #[derive(Debug, PartialEq, Eq, Drop)]
 pub struct Finding {
-    /// Seen from the table's folder.
+    /// The path of the file, seen from the table's folder.
     pub path: String,
     /// The names on the way to the column that is at fault, with a `.` between two, where it is one column.
     pub column: Option<String>,

@@ -24,17 +24,17 @@ use std::alloc::Global;
 #[derive(Debug, Drop)]
 pub struct Fault {
     pub damage: Damage,
-    /// Its index among the leaves of the table's files.
+    /// The index of the leaf at fault among the leaves of the table's files; None where the fault is the whole file's.
     pub leaf: Option<usize>,
 }
 
 impl Fault {
-    /// Of the file as a whole.
+    /// A fault of the file as a whole.
     fn of_file(damage: Damage) -> Fault {
         Fault { damage, leaf: None }
     }
 
-    /// Of one column.
+    /// A fault of one leaf's column.
     fn of_leaf(damage: Damage, leaf: usize) -> Fault {
         Fault {
             damage,

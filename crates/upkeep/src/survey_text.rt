@@ -47,7 +47,7 @@ fn write_column(text: &mut Vec<u8>, column: &ColumnReport) -> Result<(), AllocEr
     line(text, format_args!("  {path}: {repetition} {kind}{key}"))
 }
 
-/// A line for those that are not shown, if there are any.
+/// A line with how many others there are that are not shown, if there are any.
 fn write_others(
     alloc: Global,
     text: &mut Vec<u8>,

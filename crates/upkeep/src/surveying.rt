@@ -40,12 +40,12 @@ pub struct Survey {
 /// A leaf of a table's schema.
 #[derive(Debug, Drop)]
 pub struct ColumnReport {
-    /// The names on the way to it, with a `.` between two.
+    /// The names on the way to the leaf, with a `.` between two.
     pub path: String,
     pub kind: &'static str,
-    /// How often the last field on the way stands.
+    /// The repetition of the last field on the way: required, optional or repeated.
     pub repetition: &'static str,
-    /// Whether it is a key column, which the folders name.
+    /// Whether the leaf is a key column, which the folders name.
     pub is_key: bool,
 }
 

@@ -80,7 +80,7 @@ fn listed<D: Disk>(alloc: Global, vault: &mut Vault<D>, folder: &str) -> R<Vec<E
     }
 }
 
-/// The same below an entry of this folder, where that is a folder of the next key column.
+/// Adds the strays below an entry of this folder as [`find`] does, where the entry is a folder of the next key column.
 #[cycle(find)]
 fn find_below<D: Disk>(
     alloc: Global,

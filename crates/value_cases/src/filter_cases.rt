@@ -61,7 +61,7 @@ fn statistics_of(alloc: Global, schema: &Schema, entries: Vec<Entry>) -> R<Stats
     }
 }
 
-/// The same of borrowed entries.
+/// The statistics of a column of these entries, borrowed, in the only leaf of a schema.
 fn borrowed_statistics_of(alloc: Global, schema: &Schema, entries: &[Entry]) -> R<Stats> {
     let mut borrowed = Vec::new(alloc);
     for entry in entries {

@@ -40,7 +40,7 @@ fn read(alloc: Global, read: R<(Vec<Value>, usize)>) -> R<String> {
     Ok(format!(in alloc; "{used} bytes:{text}")?)
 }
 
-/// The same of borrowed values.
+/// How many bytes borrowed values take, and the values.
 fn read_refs(alloc: Global, read: R<(Vec<ValueRef<'_>>, usize)>) -> R<String> {
     let (values, used) = read?;
     let text = shown_refs(alloc, values.as_slice())?;
@@ -94,7 +94,7 @@ fn read_plain(alloc: Global, words: &[&str]) -> R<String> {
     )
 }
 
-/// Borrowed values of these.
+/// These values, borrowed.
 fn refs<'a>(alloc: Global, values: &'a [Value]) -> R<Vec<ValueRef<'a>>> {
     let mut refs = Vec::new(alloc);
     for value in values {

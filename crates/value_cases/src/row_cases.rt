@@ -39,7 +39,7 @@ fn put_entry(alloc: Global, text: &mut String, entry: EntryRef<'_>) -> R<()> {
     Ok(())
 }
 
-/// The columns of the rows, their values borrowed.
+/// Columns as they are printed, of entries whose values are borrowed.
 fn borrowed(alloc: Global, columns: &[shred::ColumnRef<'_>]) -> R<String> {
     let mut items = Vec::new(alloc);
     for column in columns {
@@ -52,7 +52,7 @@ fn borrowed(alloc: Global, columns: &[shred::ColumnRef<'_>]) -> R<String> {
     listed(alloc, items.as_slice())
 }
 
-/// The same of owned columns.
+/// Columns as they are printed, of entries that own their values.
 fn owned(alloc: Global, columns: &[Column]) -> R<String> {
     let mut items = Vec::new(alloc);
     for column in columns {

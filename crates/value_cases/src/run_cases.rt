@@ -117,8 +117,8 @@ fn noise(alloc: Global, n: usize) -> R<Vec<i64>> {
     Ok(values)
 }
 
-/// `delta-noise COUNT`: so many such numbers, written, and read again before 40 more bytes. How many bytes they take, and
-/// whether they are the same.
+/// `delta-noise COUNT`: so many numbers that look like no pattern, written, and read again before 40 more bytes. How many bytes
+/// they take, and whether they are the same.
 fn delta_noise(alloc: Global, words: &[&str]) -> R<String> {
     let values = noise(alloc, count(words, 1)?)?;
     let mut out = Vec::new(alloc);

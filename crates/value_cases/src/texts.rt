@@ -24,7 +24,7 @@ pub fn shown_refs(alloc: Global, values: &[ValueRef<'_>]) -> R<String> {
     listed(alloc, items.as_slice())
 }
 
-/// The same of owned values.
+/// Owned values as they are printed.
 pub fn shown(alloc: Global, values: &[Value]) -> R<String> {
     let mut items = Vec::new(alloc);
     for value in values {

@@ -24,7 +24,7 @@ fn chain(alloc: Global, more: i32) -> R<Vec<u8>> {
     Ok(bytes)
 }
 
-/// Whether all values are of the greatest size, and then there is none.
+/// Whether all values are of the greatest size, and none comes after the last.
 fn are_longest(values: &mut Prefixed<'_>) -> R<bool> {
     for _ in 0..COUNT {
         if !matches!(values.next()?, Some(value) if value.len() == LONGEST) {

@@ -31,7 +31,7 @@ impl<'a> EntrySource for Failing<'a> {
 
     ghost refused = { λ s. option_map refusal_of s.refused };
 
-    // Nothing is said of its causes.
+    // Nothing is said of the causes of this source's refusals.
     ghost cause = { λ _ _. Unit {0} };
 
     fn peek(&mut self) -> R<Option<(u32, u32)>> {

@@ -189,7 +189,7 @@ impl EntrySource for Sevens {
 
     ghost refused = { λ _. None };
 
-    // It is never refused.
+    // This source is never refused.
     ghost cause = { λ _ _. ⊥ };
 
     ghost checked = { λ _ t. t.kind ≡ Int64 };

@@ -72,7 +72,7 @@ pub record SwapsRoot {T : Type 0} (root : List ℕ) (old new : State) (result : 
   pub gone : OnOk result (IsGone new next_path)
   -- refused before the rename: the old root, at every moment
   pub unchanged : IfErr result (λ e. e ≢ InDoubt → LeavesAfter (AllBut next_path) old new)
-  -- by then the next root was whole in whatever a stop could leave
+  -- refused InDoubt: at a moment within the call the next root was whole in whatever a stop could leave
   pub in_doubt : IfErr result (λ e. e ≡ InDoubt → WasKept next_path root old new)
   pub rooted : IsRooted old → StaysRooted old new
   -- no folder comes to stand at the root's two names, nor a file where a folder belongs

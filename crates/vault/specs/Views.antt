@@ -8,10 +8,11 @@ use Rattle.disk.specs.declared.binding.Binding.TheVariants.{Nothing, Folder, Fil
 abbrev pub View : Type 0
 View = List ℕ → Option (List ℕ)
 
+-- the path of the root
 abbrev pub root_path : List ℕ
 root_path = codes "_metadata"
 
--- where the next root is written
+-- the path where the next root is written before it is renamed
 abbrev pub next_path : List ℕ
 next_path = codes "_metadata.new"
 
@@ -35,11 +36,11 @@ pub record WasKept (path bytes : List ℕ) (old new : State) : Type 0 where
 abbrev pub IsRootedAt : State → ℕ → Type 0
 IsRootedAt state m = (c d : Image) (node : ℕ) → state.images m c → state.images m d → c.names root_path ≡ File node → d.bytes node ≡ c.bytes node
 
--- so now
+-- the file that the root names in one image has the same bytes in each image now
 abbrev pub IsRooted : State → Type 0
 IsRooted state = IsRootedAt state state.moment
 
--- so at each moment from old to new
+-- at each moment from old to new the file that the root names in one image has the same bytes in each
 abbrev pub StaysRooted : State → State → Type 0
 StaysRooted old new = (m : ℕ) → old.moment ≤ m → m ≤ new.moment → IsRootedAt new m
 

@@ -18,7 +18,7 @@ pub record IsClearIn (c : Image) (path : List ℕ) : Type 0 where
 abbrev pub IsOpenWay : State → List ℕ → Type 0
 IsOpenWay state path = (c : Image) → may_leave state c → IsOpenIn c path
 
--- nor a folder at the path itself: a file can stand there in whatever a stop leaves
+-- a file can stand at this path in whatever a stop leaves
 abbrev pub IsClearWay : State → List ℕ → Type 0
 IsClearWay state path = (c : Image) → may_leave state c → IsClearIn c path
 
@@ -26,7 +26,7 @@ IsClearWay state path = (c : Image) → may_leave state c → IsClearIn c path
 abbrev pub CanPut : State → List ℕ → Type 0
 CanPut state path = state.honest × IsClearWay state path
 
--- at each moment from old to new
+-- at each moment from old to new a file can stand at this path in whatever a stop leaves
 abbrev pub StaysClear : State → State → List ℕ → Type 0
 StaysClear old new path = (m : ℕ) (c : Image) → old.moment ≤ m → m ≤ new.moment → new.images m c → IsClearIn c path
 

@@ -34,30 +34,34 @@ pub record Reads {A V : Type 0} (S : A → List Entry → Type 0) (P : V → Typ
   pub onward : Onward S old new (λ before after. IsRead P St k before after x)
   pub backward : Backward S old new (Fronts (St x))
 
--- the value of a field is taken at a place, or what it is refused for
+-- the value of a field is taken at a place
 abbrev pub ReadsField : {A : Type 0} → (A → List Entry → Type 0) → Field → Place → List A → List A → ValueTree → Type 0
 ReadsField S f p old new v = Reads S (Fit f) (stripes f p.repetition p.definition p.own) p.own old new v
 
+-- the fault for which the value of a field is not taken at a place: Levels or Value, as `IsFaulty` says
 abbrev pub IsFieldFaulty : Field → Place → Columns → Refusal → Type 0
 IsFieldFaulty f p = IsFaulty (Fit f) (stripes f p.repetition p.definition p.own) p.own (wants f p.definition)
 
--- its repetition aside
+-- the value of a field is taken at a place, its repetition aside
 abbrev pub ReadsInside : {A : Type 0} → (A → List Entry → Type 0) → Field → Place → List A → List A → ValueTree → Type 0
 ReadsInside S f p old new v = Reads S (FitInside f) (stripes_inside f p.repetition p.definition p.own) p.own old new v
 
+-- the fault for which the value of a field, its repetition aside, is not taken at a place: Levels or Value, as `IsFaulty` says
 abbrev pub IsInsideFaulty : Field → Place → Columns → Refusal → Type 0
 IsInsideFaulty f p = IsFaulty (FitInside f) (stripes_inside f p.repetition p.definition p.own) p.own (wants_inside f p.definition)
 
--- the items of a list, one at least
+-- the items of a field's list, one at least, are taken at a place
 abbrev pub ReadsItems : {A : Type 0} → (A → List Entry → Type 0) → Field → Place → List A → List A → ValueTrees → Type 0
 ReadsItems S f p old new vs = Reads S (FitItems f) (stripes_items f p.repetition p.definition p.own) p.own old new vs
 
+-- the fault for which the items of a field's list, one at least, are not taken at a place: Levels or Value, as `IsFaulty` says
 abbrev pub AreItemsFaulty : Field → Place → Columns → Refusal → Type 0
 AreItemsFaulty f p = IsFaulty (FitItems f) (stripes_items f p.repetition p.definition p.own) p.own (wants_inside f (p.definition + 1))
 
--- the values of some fields
+-- the values of some fields are taken at a place
 abbrev pub ReadsEach : {A : Type 0} → (A → List Entry → Type 0) → Fields → Place → List A → List A → ValueTrees → Type 0
 ReadsEach S fs p old new vs = Reads S (FitEach fs) (stripes_each fs p.repetition p.definition p.own) p.own old new vs
 
+-- the fault for which the values of some fields are not taken at a place: Levels or Value, as `IsFaulty` says
 abbrev pub AreEachFaulty : Fields → Place → Columns → Refusal → Type 0
 AreEachFaulty fs p = IsFaulty (FitEach fs) (stripes_each fs p.repetition p.definition p.own) p.own (wants_each fs p.definition)

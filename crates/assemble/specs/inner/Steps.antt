@@ -13,7 +13,7 @@ use Rattle.assemble.specs.Sources.{Stands, Begins, NothingStands, Precede}
 use Rattle.assemble.specs.Columns.{Columns, Fronts, AreAlike, Want, Suits, AllSuit, Tells}
 use Rattle.assemble.specs.inner.Fronts.{nones}
 
--- it is Memory
+-- the refusal is Memory
 abbrev pub IsMemory : Refusal → Type 0
 IsMemory = Tells ⊥ ⊥
 
@@ -22,7 +22,7 @@ pub record ReadsLeaf (t : LeafType) (r d : ℕ) (S T : Stands) (v : ValueTree) :
   pub fits : fits_leaf t v ≡ true
   pub first : Precede (entry r d (Some v)) S T
 
--- it is there, one level deeper, or it is null and the next entry, which is taken, has these levels and no value
+-- an OPTIONAL value is there, one level deeper, or it is null and the next entry, which is taken, has these levels and no value
 abbrev pub ReadsOptional : LeafType → ℕ → ℕ → Stands → Stands → ValueTree → Type 0
 ReadsOptional t r d S T v = ReadsLeaf t r (d + 1) S T v ⊎ ((v ≡ null) × Precede (entry r d None) S T)
 
@@ -37,21 +37,22 @@ abbrev pub missing_value : Repetition → ValueTree
 missing_value Repeated = list no_values
 missing_value _ = null
 
--- a refusal is the source's own, where nothing stood and there was a cause for it; or the source was not refused, it is Levels, Value or Memory, and P holds of the entries that stood
+-- a refusal is the source's own, where nothing stood and there was a cause for it;
+-- or the source was not refused, it is Levels, Value or Memory, and P holds of the entries that stood
 abbrev pub IsSourceRefusedFor : {A : Type 0} → (A → List Entry → Type 0) → (A → Option Refusal) → (A → Refusal → Type 0) → A → A → (List Entry → Refusal → Type 0) → Refusal → Type 0
 IsSourceRefusedFor S refused cause old new P e =
     ((refused new ≡ Some e) × NothingStands (S old) × cause old e)
     ⊎ ((refused new ≡ refused old) × (Tells (Unit {0}) (Unit {0}) e × ((es : List Entry) → S old es → P es e)))
 
--- Value: it has no value that fits
+-- Levels: the next entry has other levels than these; Value: an entry is not as one of a leaf with the greatest definition level d should be
 abbrev pub IsLeafFaulty : ℕ → ℕ → LeafType → List Entry → Refusal → Type 0
 IsLeafFaulty r d t es = Tells (Begins es r d → ⊥) (AllByRecursion (Suits (record { full = d; leaf_type = t })) es → ⊥)
 
--- Levels: it has other levels than those of a null and of a value; Value: it has no value that fits, or one that should not be there
+-- Levels: the next entry has neither the levels of a null nor those of a value; Value: an entry lacks a value that fits, or has one too many
 abbrev pub IsOptionalFaulty : ℕ → ℕ → LeafType → List Entry → Refusal → Type 0
 IsOptionalFaulty r d t es = Tells ((Begins es r d ⊎ Begins es r (d + 1)) → ⊥) (AllByRecursion (Suits (record { full = d + 1; leaf_type = t })) es → ⊥)
 
--- Value: it has a value
+-- Levels: the next entry has other levels than these; Value: the entries are those of no leaf whose greatest definition level is above d
 abbrev pub IsAbsentFaulty : ℕ → ℕ → List Entry → Refusal → Type 0
 IsAbsentFaulty r d es = Tells (Begins es r d → ⊥) ((w : Want) → d < w.full → AllByRecursion (Suits w) es → ⊥)
 
@@ -65,6 +66,7 @@ IsSkipFaulty r d n old =
     Tells ((whole rests : Columns) → AreAlike whole old → Fronts (nones r d n) whole rests → ⊥)
     ((ws : List Want) → length ws ≡ n → AreAbove d ws → AllSuit ws old → ⊥)
 
+-- the entries of the first column; none if there is no column
 abbrev pub first_of : Columns → List Entry
 first_of [] = []
 first_of (c ∷ cs) = c

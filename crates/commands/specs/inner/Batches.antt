@@ -15,7 +15,7 @@ use Rattle.store.specs.declared.store.Store.{Store}
 use Rattle.store.specs.Stands.{Stands}
 use Rattle.commands.specs.Querying.{fields_at, batch_lines, query_lines, ActsOn, OnlyReads}
 
--- all are fetches of one cursor
+-- all calls are fetches of the cursor of this number
 abbrev pub AreFetches : ℕ → List Call → Type 0
 AreFetches n calls = AllByRecursion (λ call. call ≡ fetch n) calls
 

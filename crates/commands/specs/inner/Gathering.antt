@@ -18,7 +18,7 @@ begins_at places (s ∷ steps) = is_among places s.place
 abbrev pub is_at : List ℕ → Leaf → Bool
 is_at places l = begins_at places l.steps
 
--- the places of the leaves that are so, the first of which has this place
+-- the places of the leaves of the columns at these places; the first leaf has this place
 abbrev pub leaves_among : List ℕ → ℕ → List Leaf → List ℕ
 leaves_among places at [] = []
 leaves_among places at (l ∷ ls) = if is_at places l then at ∷ leaves_among places (suc at) ls else leaves_among places (suc at) ls

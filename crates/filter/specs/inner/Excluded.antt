@@ -49,6 +49,7 @@ abbrev pub is_out_by : Option ValueTree → Statistics → ℕ → Test → Bool
 is_out_by (Some v) s rows t = not (holds t v)
 is_out_by None s rows t = s.nulls == rows || excludes t.order t.op s t.operand
 
+-- a term is out for a group with this key and these statistics, by computation
 unfoldable pub is_out : List ℕ → List ValueTree → Known → Test → Bool
 is_out places key known t = is_out_by (key_at places key t.first.place) (statistics_at places known t) known.rows t
 

@@ -13,8 +13,10 @@ renewed f _ ys = ys
 abbrev pub verdict : ℕ → ValueTree → Test → Bool → Bool
 verdict n v t b = if is_at n t then holds t v else b
 
+-- the verdicts on the terms of one AND, after a look at the leaf `n` with the value `v`
 abbrev pub judged_terms : ℕ → ValueTree → List Test → List Bool → List Bool
 judged_terms n v terms verdicts = renewed (verdict n v) terms verdicts
 
+-- the verdicts on the terms of all ANDs, after a look at the leaf `n` with the value `v`
 abbrev pub judged : ℕ → ValueTree → List (List Test) → List (List Bool) → List (List Bool)
 judged n v ands verdicts = renewed (judged_terms n v) ands verdicts

@@ -6,7 +6,7 @@ use Rattle.schema.specs.Annotations.{LeafType, Annotation, other_logical, conver
 use Rattle.schema.specs.Shape.{Field, leaf, fields, Fields, no_fields, field}
 use Rattle.jsonrows.specs.SchemaPrinted.{MayBe, PrintsField, PrintsFields, IsShort}
 
--- the bytes of the struct that an annotation keeps
+-- the bytes are those of the struct that an annotation keeps; any bytes do if it keeps none
 abbrev pub AreStructBytes : Annotation → List ℕ → Type 0
 AreStructBytes (other_logical s) bytes = IsThrift bytes s (length bytes)
 AreStructBytes _ bytes = Unit {0}
@@ -21,11 +21,11 @@ abbrev pub put_each : List MayBe → Members
 put_each [] = no_members
 put_each (m ∷ ms) = put_maybe m.0 m.1 (put_each ms)
 
--- each number of a leaf fits an element
+-- an element can have each number of a leaf
 abbrev pub HasShortLeaf : LeafType → Type 0
 HasShortLeaf t = IsShort (converted_number t.annotation) × IsShort t.scale × IsShort t.precision
 
--- and so does each at and below a field, the counts of groups aside
+-- an element can have each number of a leaf at or below a field; the counts of groups are left out
 abbrev mutual
   pub HasShortNumbers : Field → Type 0
   HasShortNumbers (leaf n r t) = HasShortLeaf t
@@ -35,8 +35,10 @@ abbrev mutual
   HaveShortNumbers no_fields = Unit {0}
   HaveShortNumbers (field f fs) = HasShortNumbers f × HaveShortNumbers fs
 
+-- a field is printed so, and an element can have each number of its leaves
 abbrev pub IsPrintedField : Field → Data → Type 0
 IsPrintedField f d = PrintsField f d × HasShortNumbers f
 
+-- fields are printed so, one item each, and an element can have each number of their leaves
 abbrev pub ArePrintedFields : Fields → Items → Type 0
 ArePrintedFields fs ds = PrintsFields fs ds × HaveShortNumbers fs

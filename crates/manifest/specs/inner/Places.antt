@@ -10,11 +10,12 @@ use Rattle.partition.specs.Order.{key_cmp}
 use Rattle.manifest.specs.declared.block.Block.{Block}
 use Rattle.manifest.specs.declared.group.Group.{Group}
 
--- the first of some groups has at most this key
+-- there are groups, and the first one has at most this key
 abbrev pub first_up_to : List ValueTree → List (Rc Group Global) → Bool
 first_up_to key [] = false
 first_up_to key (g ∷ gs) = is_le (key_cmp (key_view (rc_value g).key) key)
 
+-- the first group of a block has at most this key
 abbrev pub begins_up_to : List ValueTree → Block → Bool
 begins_up_to key b = first_up_to key b.groups.items
 
@@ -24,7 +25,7 @@ pub record IsEdge (key : List ValueTree) (blocks : List (Rc Block Global)) (n : 
   pub before : 0 < n → IfSome (slice_get blocks (n - 1)) (λ b. begins_up_to key (rc_value b) ≡ true)
   pub after : IfSome (slice_get blocks n) (λ b. begins_up_to key (rc_value b) ≡ false)
 
--- of blocks that start at these places one is the last that starts at most at this one
+-- of blocks that start at these places, the block `n` is the last one that starts at `place` or before
 pub record IsStartAt (starts : List ℕ) (place n : ℕ) : Type 0 where
   pub there : n < length starts
   pub at_most : IfSome (slice_get starts n) (λ start. start ≤ place)

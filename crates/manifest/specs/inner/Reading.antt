@@ -14,7 +14,7 @@ use Rattle.statistics.specs.Bytes.{IsBoundAt}
 use Rattle.manifest.specs.declared.fronts.Fronts.{Fronts}
 use Rattle.schema.specs.Fronts.{fields_after, AreOptional}
 
--- the record as in its own file
+-- the record of a chunk as its own file has it, without a path
 abbrev pub unplaced : ChunkMeta → ChunkMeta
 unplaced c = record { file_path = None; file_offset = c.file_offset; meta_data = c.meta_data }
 
@@ -71,12 +71,12 @@ abbrev pub HasLongValues : Kind → Type 0
 HasLongValues (FixedLenByteArray k) = 64 < k
 HasLongValues _ = ⊥
 
--- how many leaves the first field has, the first two, and so on, with those before
+-- how many leaves the first field has, the first two, and so on, each with `before` added
 abbrev pub ends_from : ℕ → Fields → List ℕ
 ends_from before no_fields = []
 ends_from before (field f fs) = (before + length (leaves f)) ∷ ends_from (before + length (leaves f)) fs
 
--- the fronts of these fields
+-- the ends of the first fields, counted in leaves, and the fewest of the fields that a file has: all later ones are OPTIONAL
 pub record HasFronts (fronts : Fronts) (fs : Fields) : Type 0 where
   pub ends : fronts.ends.items ≡ ends_from 0 fs
   pub some : 1 ≤ fronts.least

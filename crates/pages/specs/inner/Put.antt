@@ -25,7 +25,7 @@ use Rattle.pages.specs.Headers.{AreLevelsIn, data_header, body_of, IsHeaded}
 abbrev pub Extends : List ℕ → List ℕ → Type 0
 Extends old new = (text : List ℕ) × (new ≡ old ++ text)
 
--- the end is new, and it is so
+-- the bytes of `new` are those of `old` and at most `most` more, which are so
 pub record Puts (Is : List ℕ → Type 0) (most : ℕ) (old new : List ℕ) : Type 0 where
   pub text : List ℕ
   pub joined : new ≡ old ++ text

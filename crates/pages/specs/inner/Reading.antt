@@ -34,16 +34,17 @@ HasBytes ByteArray = Unit {0}
 HasBytes (FixedLenByteArray size) = Unit {0}
 HasBytes _ = ⊥
 
--- n values of the leaf, one at least, stand in the text by this encoding
+-- n values of the leaf stand in the text by this encoding, in a chunk that has this dictionary
 pub record AreLeafValues (d : Option (List ValueTree)) (t : LeafType) (e : Option Encoding) (text : List ℕ) (n : ℕ) (vs : List ValueTree) : Type 0 where
   pub count : length vs ≡ n
   pub stand : AreValues d t.kind e text vs
   pub fit : AllFit t vs
 
--- so it is in any chunk, and in none: the encoding needs no dictionary
+-- n values of the leaf stand in the text by this encoding, whatever dictionary the chunk has: the encoding needs none
 abbrev pub StandInAnyChunk : LeafType → Encoding → List ℕ → ℕ → List ValueTree → Type 0
 StandInAnyChunk t e text n vs = (d : Option (List ValueTree)) → AreLeafValues d t (Some e) text n vs
 
+-- no n values of the leaf stand in the text by this encoding, whatever dictionary the chunk has
 abbrev pub StandInNoChunk : LeafType → Encoding → List ℕ → ℕ → Type 0
 StandInNoChunk t e text n = (d : Option (List ValueTree)) (vs : List ValueTree) → AreLeafValues d t (Some e) text n vs → ⊥
 
@@ -68,7 +69,7 @@ pub record IsDataOver (leaf : Leaf) (own : DataPageHeader) (body : List ℕ) : T
   pub levels : AreLevelsV1 leaf own body repetitions definitions text
   pub over : IsValueOver leaf.leaf_type.kind (encoding_of own.encoding) text (full leaf definitions)
 
--- and one of a page of version 2
+-- a value of a page of version 2 is announced with more bytes than a value may have
 pub record IsDataOverV2 (leaf : Leaf) (own : DataPageHeaderV2) (body : List ℕ) : Type 0 where
   pub repetitions : List ℕ
   pub definitions : List ℕ
@@ -76,14 +77,14 @@ pub record IsDataOverV2 (leaf : Leaf) (own : DataPageHeaderV2) (body : List ℕ)
   pub levels : AreLevelsV2 leaf own body repetitions definitions text
   pub over : IsValueOver leaf.leaf_type.kind (encoding_of own.encoding) text (full leaf definitions)
 
--- and one of a dictionary page
+-- a value of a dictionary page is announced with more bytes than a value may have
 pub record IsDictionaryOver (kind : Kind) (own : DictionaryPageHeader) (body : List ℕ) : Type 0 where
   pub count : ℕ
   pub says : own.num_values ≡ pos count
   pub encoding : IsEncodingOfDictionary own.encoding
   pub over : IsReadOver kind body count
 
--- where it is known that a page stands within the limits, this is not so
+-- where it is known that a page stands within the limits, P does not hold
 abbrev pub RuledOut : Standing → Type 0 → Type 0
 RuledOut Unknown P = Unit {0}
 RuledOut Known P = P → ⊥

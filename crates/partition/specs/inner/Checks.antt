@@ -10,6 +10,7 @@ use Rattle.partition.specs.Folders.{is_plain, escaped, is_key_value, folder}
 abbrev pub clashes : KeyColumn → KeyColumn → Bool
 clashes c d = bytes_eq c.name d.name || nat_eq d.at c.at
 
+-- the name is not empty
 abbrev pub is_named : List ℕ → Bool
 is_named [] = false
 is_named (b ∷ name) = true
@@ -19,7 +20,7 @@ abbrev pub are_apart : List KeyColumn → Bool
 are_apart [] = true
 are_apart (c ∷ columns) = (is_named c.name && not (list_any (clashes c) columns)) && are_apart columns
 
--- at most eight such columns
+-- at most eight columns, each with a name, of which no two share a name or a place
 abbrev pub are_key_columns : List KeyColumn → Bool
 are_key_columns columns = nat_le (length columns) 8 && are_apart columns
 
@@ -37,11 +38,11 @@ have_folders _ _ = false
 abbrev pub can_be : List KeyColumn → List ValueTree → Bool
 can_be columns key = are_key_columns columns && have_folders columns key
 
--- how many bytes stand for one
+-- how many bytes stand for this byte in the escaped form of a text
 abbrev pub escaped_size : ℕ → ℕ
 escaped_size b = if is_plain b then 1 else 3
 
--- what is left of some room after the escaped form of a text, where it has room
+-- how many of `room` bytes the escaped form of a text leaves; None if it is longer
 abbrev pub IsRoomAfter : ℕ → List ℕ → Option ℕ → Type 0
 IsRoomAfter room text result = MatchOption result (room < length (escaped text)) (λ left. left + length (escaped text) ≡ room)
 

@@ -13,15 +13,16 @@ use Rattle.schema.specs.Views.{key_view}
 use Rattle.schema.specs.Keys.{KeyColumn}
 use Rattle.partition.specs.Folders.{escaped, value_text, is_key_value, is_key, path}
 
--- it is empty, or begins with this byte
+-- the text is empty, or begins with this byte
 abbrev pub Begins : ℕ → List ℕ → Type 0
 Begins b [] = Unit {0}
 Begins b (c ∷ cs) = c ≡ b
 
+-- the byte `c` is not `b`
 abbrev pub HasNo : ℕ → ℕ → Type 0
 HasNo b c = c ≡ b → ⊥
 
--- the first part ends where this byte stands first
+-- the text is `first` and `after`, and is cut before the first byte `b`, or at its end if there is none
 pub record IsCutBefore (b : ℕ) (text first after : List ℕ) : Type 0 where
   pub whole : first ++ after ≡ text
   pub before : AllByRecursion (HasNo b) first
@@ -44,10 +45,11 @@ ReadsSigned text found = (z : ℤ) → FitsSigned w64 z → text ≡ signed_deci
 abbrev pub ReadsText : KeyKind → List ℕ → Option Value → Type 0
 ReadsText kind text found = (v : ValueTree) → is_key_value kind v ≡ true → text ≡ value_text v → MatchOption found ⊥ (λ w. view w ≡ v)
 
+-- the text of a boolean, `true` or `false`, is read as that boolean
 abbrev pub ReadsBoolean : List ℕ → Option Bool → Type 0
 ReadsBoolean text found = (b : Bool) → text ≡ value_text (boolean b) → found ≡ Some b
 
--- these values of a key are read, and what is left names the later ones
+-- the values `done` of a key are read, and the rest of the text is the path of the later values
 pub record ReadsOn (columns : List KeyColumn) (key done : List ValueTree) (rest : List ℕ) : Type 0 where
   pub later : List ValueTree
   pub split : key ≡ done ++ later

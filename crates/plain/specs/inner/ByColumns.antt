@@ -6,7 +6,7 @@ pub record AreByColumns (rows columns : ℕ) (body text : List ℕ) : Type 0 whe
   pub count : length text ≡ columns * rows
   pub each : (r c : ℕ) → r < rows → c < columns → slice_index text (c * rows + r) ≡ slice_index body (r * columns + c)
 
--- so it is with what new has after old
+-- the bytes that new has after old are the rows at the start of the body, column by column
 pub record AppendsColumns (rows columns : ℕ) (body old new : List ℕ) : Type 0 where
   pub text : List ℕ
   pub joined : new ≡ old ++ text

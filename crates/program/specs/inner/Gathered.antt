@@ -40,7 +40,7 @@ pub record AreGathered (fs : Fields) (S : List ValueTrees → Type 0) (Gathers :
   pub written : Appends old new printed
   pub joined : lines_of fs all ≡ printed ++ (gathered ++ lines_of fs left)
 
--- more rows are gathered, and some, unless none is left; it fails only when out of memory
+-- rows are gathered, at least one unless none is left (0); it fails only when out of memory
 abbrev pub GathersLines : Fields → (List ValueTrees → Type 0) → (List ℕ → Type 0) → List ValueTrees → Option (List ℕ) → Option (List ℕ) → Result ℕ Fault → Type 0
 GathersLines fs S Gathers all old new (Ok zero) = (p : AreGathered fs S Gathers all old new) × (p.left ≡ [])
 GathersLines fs S Gathers all old new (Ok (suc count)) = AreGathered fs S Gathers all old new

@@ -24,7 +24,7 @@ kept_fault f = Some f
 abbrev pub IsAccepted : ChunkLeft → Type 0
 IsAccepted s = (NothingStands (HoldsRest s) → ⊥) × (HasRestOver s → ⊥)
 
--- so it is where the flag is set
+-- where the flag is set, what is left holds entries, and no page of it is over a limit
 abbrev pub AcceptedWhere : Bool → ChunkLeft → Type 0
 AcceptedWhere flag s = flag ≡ true → IsAccepted s
 
@@ -90,7 +90,7 @@ pub record IsAfter (old new : ChunkLeft) (page : Page) : Type 0 where
   pub bytes : new.bytes ≡ old.bytes
   pub lacking : new.lacking + length (entries_of page) ≡ old.lacking
 
--- its entries are given where there are some
+-- the entries of a page are given where there are some
 abbrev pub GivesEntries : DataPage → Option DataPage → Type 0
 GivesEntries page (Some given) = (entries_left given ≡ entries_left page) × (0 < length (entries_left given))
 GivesEntries page None = entries_left page ≡ []

@@ -46,7 +46,7 @@ pub record IsPart (leaf : Leaf) (version : PageVersion) (vs : PageValues) (bytes
   pub written : IsPartAs leaf version vs bytes es used
   pub read : IsPage leaf (dictionary_for vs) bytes (entries es) used
 
--- what such a page weighs
+-- what a page of these entries weighs, as it is written
 abbrev pub part_weight : PageValues → List Entry → ℕ
 part_weight (Encoded encoding) es = page_weight es
 part_weight (Indexed d) es = index_weight (length es)
@@ -56,7 +56,7 @@ abbrev pub AreShortIn : PageValues → List Entry → Type 0
 AreShortIn (Encoded encoding) es = AreShort es
 AreShortIn (Indexed d) es = Unit {0}
 
--- values of this type can be written so
+-- values of this type can be written as the pages have them
 abbrev pub AreForKind : Kind → PageValues → Type 0
 AreForKind kind (Encoded encoding) = IsEncodingFor kind encoding
 AreForKind kind (Indexed d) = Unit {0}
@@ -72,7 +72,7 @@ pub record AppendsParts (leaf : Leaf) (o : ChunkOptions) (vs : PageValues) (es :
   pub paged : ArePagesOf o.page_rows es parts
   pub written : Appends (λ bytes. InTurn (IsPart leaf o.page_version vs) bytes parts) (sum_by (part_weight vs) parts) old new
 
--- why entries are too much for such pages after this many bytes
+-- why entries are too much for pages of them, as they are written, after this many bytes
 pub data ArePartsTooMuch (before size : ℕ) (vs : PageValues) (es : List Entry) : Type 0 where
   long : Any IsTooLong (values es) → ArePartsTooMuch before size vs es
   heavy_page : most_of_page < page_weight es → ArePartsTooMuch before size vs es

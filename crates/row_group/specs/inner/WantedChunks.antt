@@ -16,6 +16,6 @@ AreReadersAt front places fs g = AreReaders front (at_places places g.columns) (
 abbrev pub AreSoundAt : List ℕ → List ℕ → Fields → GroupMeta → List (List Entry) → Type 0
 AreSoundAt front places fs g = AreSound front (at_places places g.columns) (at_places places (leaves_of fs))
 
--- they hold no columns, or there are not as many chunks as leaves
+-- the chunks of these leaves hold no columns, or there are not as many chunks as leaves
 abbrev pub HoldNothingAt : List ℕ → List ℕ → Fields → GroupMeta → Type 0
 HoldNothingAt front places fs g = (columns : List (List Entry)) → AreWantedChunks front places fs g columns → ⊥

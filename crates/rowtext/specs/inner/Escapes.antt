@@ -26,7 +26,7 @@ abbrev mutual
   behind_u (a ∷ b ∷ c ∷ d ∷ s) = (value_of_digit c * 16 + value_of_digit d) ∷ unescape s
   behind_u _ = []
 
--- a text
+-- bytes that are UTF-8
 abbrev pub IsText : List ℕ → Type 0
 IsText s = (are_bytes s ≡ true) × (is_utf8 s ≡ true)
 

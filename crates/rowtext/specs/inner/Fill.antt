@@ -30,11 +30,11 @@ scalar_of _ = None
 abbrev pub BeginsWith : {A : Type 0} → (Data → Option A) → ℕ → List Token → A → List Token → Type 0
 BeginsWith read deep old v new = (d : Data) × (converted of_json (value deep old) ≡ Some (d, new)) × (read d ≡ Some v)
 
--- so with the items of an array, and the bracket after them
+-- the tokens begin with the items of an array and its closing bracket, the items are read as v, and others follow
 abbrev pub HoldsItems : {A : Type 0} → (Items → Option A) → ℕ → List Token → A → List Token → Type 0
 HoldsItems read deep old v new = (ds : Items) × (converted of_items (items (value deep) (length old) old) ≡ Some (ds, new)) × (read ds ≡ Some v)
 
--- so with the members of an object, and the brace after them
+-- the tokens begin with the members of an object and its closing brace, the members are read as v, and others follow
 abbrev pub HoldsMembers : {A : Type 0} → (Members → Option A) → ℕ → List Token → A → List Token → Type 0
 HoldsMembers read deep old v new = (ms : Members) × (converted (λ js. of_members js no_members) (members (value deep) (length old) old) ≡ Some (ms, new)) × (read ms ≡ Some v)
 
@@ -46,7 +46,7 @@ absent_as Required = null
 absent_as Optional = null
 absent_as Repeated = list no_values
 
--- of each field
+-- the values of absent members, one for each field
 abbrev pub absent_each : Fields → ValueTrees
 absent_each no_fields = no_values
 absent_each (field f fs) = row.value (absent_as (repetition_of f)) (absent_each fs)
@@ -56,7 +56,7 @@ abbrev pub is_filled_as : Repetition → ValueTree → Bool
 is_filled_as Required null = false
 is_filled_as _ v = true
 
--- each of them
+-- each member that is needed is there
 abbrev pub are_filled : Fields → ValueTrees → Bool
 are_filled no_fields no_values = true
 are_filled (field f fs) (row.value v vs) = is_filled_as (repetition_of f) v && are_filled fs vs

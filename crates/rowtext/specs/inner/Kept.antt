@@ -6,7 +6,7 @@ use Rattle.schema.specs.Values.{ValueTree, group, list, ValueTrees, no_values, v
 use Rattle.rowtext.specs.inner.Slots.{Slot, Slots, slot, key_in}
 use Rattle.rowtext.specs.inner.Levels.{text_at, slots_in, order_in, braced}
 
--- the text at an index, nothing where there is none
+-- the text at an index; no bytes if there is none
 abbrev pub nth : List (List ℕ) → ℕ → List ℕ
 nth ps i = get_or ps i []
 
@@ -15,6 +15,7 @@ abbrev pub in_order : List (List ℕ) → Option (List ℕ) → List ℕ
 in_order ps None = concat ps
 in_order ps (Some order) = flat_map (nth ps) order
 
+-- the text of an object with these members, put in this order; none is the order in which they stand
 abbrev pub kept_object : List (List ℕ) → Option (List ℕ) → List ℕ
 kept_object ps o = braced (in_order ps o) ++ 125 ∷ []
 

@@ -5,10 +5,11 @@ use Rattle.schema.specs.declared.value.Kind.{Kind}
 use Rattle.schema.specs.Fits.{fits_kind}
 use Rattle.schema.specs.Values.{bytes}
 
+-- a byte is a hexadecimal digit in lower case
 abbrev pub is_lower_digit : ℕ → Bool
 is_lower_digit c = (nat_le 48 c && nat_le c 57) || (nat_le 97 c && nat_le c 102)
 
--- each byte from an index up to another is one
+-- each byte from an index up to another is a hexadecimal digit in lower case
 abbrev pub DigitsBetween : List ℕ → ℕ → ℕ → Type 0
 DigitsBetween s i j = (k : ℕ) → i ≤ k → k < j → is_lower_digit (get_or s k 0) ≡ true
 
@@ -25,6 +26,6 @@ abbrev pub bytes_of_pairs : List ℕ → List ℕ
 bytes_of_pairs (a ∷ b ∷ s) = pair_value a b ∷ bytes_of_pairs s
 bytes_of_pairs _ = []
 
--- they are the digits of bytes of the type
+-- the bytes are the hexadecimal digits, in lower case, of bytes of the type
 abbrev pub AreDigitsOf : Kind → List ℕ → Type 0
 AreDigitsOf k s = (encode_lower (bytes_of_pairs s) ≡ s) × (fits_kind k (bytes (bytes_of_pairs s)) ≡ true)

@@ -5,6 +5,7 @@ use Rattle.schema.specs.Shape.{Fields}
 use Rattle.schema.specs.inner.Code.{Rose, rose, Roses, no_roses, roses, fields_roses}
 use Rattle.assemble.specs.Sinks.{Token, single}
 
+-- integers as values, one for each and in their order
 abbrev pub integers : List ℤ → ValueTrees
 integers [] = no_values
 integers (z ∷ zs) = value (integer z) (integers zs)
@@ -21,10 +22,11 @@ abbrev mutual
 abbrev pub opening : Fields → Token
 opening fs = single (group (roses_values (fields_roses fs)))
 
--- the token that says the lines before a row, and what it says
+-- the token that says the lines before a row
 abbrev pub lines_token : List ℕ → Token
 lines_token lines = single (bytes lines)
 
+-- the lines that such a token says; no bytes for any other token
 abbrev pub lines_said : Token → List ℕ
 lines_said (single (bytes lines)) = lines
 lines_said _ = []

@@ -6,10 +6,10 @@ use Rattle.rowtext.specs.declared.pieces.Piece.{Piece}
 pub record PieceList : Type 0 where
   pub items : List Piece
 
--- the first of the few, or those in the allocation
+-- the items of a list: if there are at most 8, the first `count` of the few, and else those in the allocation
 abbrev pub held : {A : Type 0} → ℕ → List A → List A → List A
 held count few many = if nat_le count 8 then take count few else many
 
--- those from the second index on stand before those from the first up to it
+-- a list with the items from the second index on before those from the first up to it
 abbrev pub exchanged : {A : Type 0} → ℕ → ℕ → List A → List A
 exchanged from middle xs = take from xs ++ (drop middle xs ++ slice_range xs from middle)

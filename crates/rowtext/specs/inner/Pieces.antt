@@ -27,6 +27,7 @@ token_of GroupEnds = group_ends
 token_of ListBegins = list_begins
 token_of ListEnds = list_ends
 
+-- what a sink is shown of pieces, one token for each
 abbrev pub tokens_of : List Piece → List Token
 tokens_of ps = map token_of ps
 
@@ -46,6 +47,6 @@ IsAdded t s before after = (b : List ℕ) × ((fits_leaf t (bytes b) ≡ true) �
 abbrev pub IsRead : (ValueTree → Bool) → (ValueTree → Data) → Cursor → Cursor → List Piece → List Piece → Type 0
 IsRead passes shown old new before after = (v : ValueTree) × (IsShown passes shown old v new × Grows before after (tokens v))
 
--- so with values that pass together, whose text this is
+-- values that pass together were read, whose text this is, and their pieces were added
 abbrev pub AreRead : (ValueTrees → Bool) → (ValueTrees → List ℕ) → List ℕ → List ℕ → List Piece → List Piece → Type 0
 AreRead passes text old new before after = (vs : ValueTrees) × ((passes vs ≡ true) × ((old ≡ text vs ++ new) × Grows before after (tokens_each vs)))

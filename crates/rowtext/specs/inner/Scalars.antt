@@ -16,6 +16,7 @@ numbers_of Int32 (Some order.Unsigned) = Unsigned32
 numbers_of _ (Some order.Unsigned) = Unsigned64
 numbers_of _ _ = Signed
 
+-- the JSON number that is printed for an integer: itself, or the unsigned number of its lowest 32 bits or of all 64
 abbrev pub number_shown : Numbers → ℤ → Num
 number_shown Signed z = of_integer z
 number_shown Unsigned32 z = unsigned (cast_unsigned w64 z % 2 ^ 32)

@@ -13,7 +13,8 @@ use Rattle.rowtext.specs.declared.row_plan.Slot.{Slot as CodeSlot, fold-Slot}
 use Rattle.rowtext.specs.declared.row_plan.Slot.TheOpen.{Slot-F}
 use Rattle.rowtext.specs.inner.Scalars.{numbers_of}
 
--- a field: its name as it is printed, between a comma and a colon, and what its values are; the order of a group is none where its fields stand in the order of their names
+-- a field: its name as it is printed, between a comma and a colon, and what its values are;
+-- the order of a group is none where its fields stand in the order of their names
 mutual
   pub data Slot : Type 0 where
     leaf_slot : List ℕ → Numbers → Bool → Slot
@@ -23,13 +24,16 @@ mutual
     no_slots : Slots
     slot : Slot → Slots → Slots
 
+-- the slots of a list, in their order
 abbrev pub slots_from : List Slot → Slots
 slots_from [] = no_slots
 slots_from (s ∷ ss) = slot s (slots_from ss)
 
+-- the items of a vector
 abbrev pub vec_items : Vec ℕ → List ℕ
 vec_items v = v.items
 
+-- an order of fields that is borrowed; none if there is none
 abbrev pub order_view : Option (Bor (List ℕ)) → Option (List ℕ)
 order_view o = option_map (λ (x : Bor (List ℕ)). x.now) o
 
@@ -38,21 +42,26 @@ abbrev pub slot_step : Slot-F Slot → Slot
 slot_step (Slot-F.Leaf k n t) = leaf_slot k n t
 slot_step (Slot-F.Group k ss o) = group_slot k (slots_from ss.items) (option_map vec_items o)
 
+-- what the program's slot says of a field
 abbrev pub slot_view : CodeSlot → Slot
 slot_view = fold-Slot Slot slot_step
 
+-- what the program's slots say of fields, in their order
 abbrev pub slots_view : List CodeSlot → Slots
 slots_view ss = slots_from (map slot_view ss)
 
+-- the name of a slot's field as it is printed, between a comma and a colon
 abbrev pub key_in : Slot → List ℕ
 key_in (leaf_slot k n t) = k
 key_in (group_slot k ss o) = k
 
 -- ---- how it is made
 
+-- a name as it is printed, between a comma and a colon
 abbrev pub key_of : List ℕ → List ℕ
 key_of name = 44 ∷ (quoted name ++ 58 ∷ [])
 
+-- the names in a map of the program, as bytes, each with the index of its field
 abbrev pub entries_view : List (String Global × ℕ) → List (List ℕ × ℕ)
 entries_view es = map (λ e. (string_bytes e.0, e.1)) es
 
@@ -66,20 +75,24 @@ abbrev pub ordered : ℕ → Fields → List (List ℕ × ℕ)
 ordered i no_fields = []
 ordered i (field f fs) = put_index (name_of f) i (ordered (suc i) fs)
 
+-- the index that stands with a name
 abbrev pub second : List ℕ × ℕ → ℕ
 second e = e.1
 
+-- the indices of fields in the byte order of their names
 abbrev pub indices_of : Fields → List ℕ
 indices_of fs = map second (ordered 0 fs)
 
--- the numbers from i on
+-- the list is the numbers from i on, in their order
 abbrev pub is_counting : ℕ → List ℕ → Bool
 is_counting i [] = true
 is_counting i (j ∷ js) = (j == i) && is_counting (suc i) js
 
+-- the indices are those of n fields, in the order of the fields
 abbrev pub is_in_order : List ℕ → ℕ → Bool
 is_in_order indices n = is_counting 0 indices && (length indices == n)
 
+-- the indices of fields in the byte order of their names; none if the fields stand in that order
 abbrev pub order_of : Fields → Option (List ℕ)
 order_of fs = if is_in_order (indices_of fs) (count fs) then None else Some (indices_of fs)
 

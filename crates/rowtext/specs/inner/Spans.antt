@@ -17,7 +17,7 @@ abbrev pub span_tokens : List Piece → Option Span → List Token
 span_tokens ps None = []
 span_tokens ps (Some s) = tokens_of (slice_range ps s.from s.to)
 
--- it was read
+-- the member was read: it is known where its pieces are
 abbrev pub IsSpan : Option Span → Type 0
 IsSpan None = ⊥
 IsSpan (Some s) = Unit {0}
@@ -28,7 +28,7 @@ fits_at no_fields i v = false
 fits_at (field f fs) zero v = fits f v
 fits_at (field f fs) (suc i) v = fits_at fs i v
 
--- the member of that field, with a comma before it
+-- the text of the member of the field of this index, with a comma before it
 abbrev pub member_text : Fields → ℕ → ValueTree → List ℕ
 member_text no_fields i v = []
 member_text (field f fs) zero v = key_in (slot_of f) ++ compact_text (field_json f v)

@@ -27,6 +27,7 @@ IsGiven t [] [] cells row = member_at t.leaf (trees_of cells) ≡ value_of t row
 IsGiven t (n ∷ ns) (p ∷ ps) cells row = ((n ≡ t.leaf) × (p ≡ steps_of t) × (is_among ns t.leaf ≡ false)) ⊎ ((n ≡ t.leaf → ⊥) × IsGiven t ns ps cells row)
 IsGiven t _ _ cells row = ⊥
 
+-- for each term of a filter: its leaf is among those with these indexes, or its value in the row is the one given
 abbrev pub AreGiven : List (List Test) → List ℕ → List (List Step) → List ValueTree → ValueTrees → Type 0
 AreGiven tests ns ps cells row = AllByRecursion (AllByRecursion (λ t. IsGiven t ns ps cells row)) tests
 

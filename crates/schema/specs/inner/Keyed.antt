@@ -9,7 +9,7 @@ use Rattle.schema.specs.Keys.{KeyColumn, AreKeys, without_keys, places_of, field
 use Rattle.schema.specs.inner.Reading.{join_fields}
 use Rattle.schema.specs.Fronts.{fields_after}
 
--- the first key column with this place
+-- the first key column with this place; None if there is none
 abbrev pub key_at : ℕ → List KeyColumn → Option KeyColumn
 key_at place [] = None
 key_at place (k ∷ keys) = if k.at == place then Some k else key_at place keys
@@ -18,7 +18,7 @@ key_at place (k ∷ keys) = if k.at == place then Some k else key_at place keys
 abbrev pub has_key : List KeyColumn → ℕ → Bool
 has_key keys place = is_among (places_of keys) place
 
--- each table over these fields begins with the fields that are made, and of the files' fields the first so many are among them
+-- `out` lists the root and the first `place` fields of each table over the files' fields: key columns, and the first `next` of the files' fields
 pub record IsMade (keys : List KeyColumn) (stored : Fields) (place next : ℕ) (out : List Element) (children : ℕ) : Type 0 where
   pub made : Fields
   pub listed : out ≡ group_element root_name None None children ∷ listings made
@@ -28,7 +28,7 @@ pub record IsMade (keys : List KeyColumn) (stored : Fields) (place next : ℕ) (
   pub begins : (fs : Fields) → AreKeys keys fs → without_keys keys fs ≡ stored
       → (rest : Fields) × (fs ≡ join_fields made rest) × (fields_besides (has_key keys) place rest ≡ fields_after next stored)
 
--- it is whole
+-- `out` lists the fields of the one table over the files' fields that has these key columns, if there is one
 pub record IsMadeWhole (keys : List KeyColumn) (stored : Fields) (out : List Element) : Type 0 where
   pub made : Fields
   pub listed : out ≡ group_element root_name None None (count made) ∷ listings made
@@ -36,7 +36,7 @@ pub record IsMadeWhole (keys : List KeyColumn) (stored : Fields) (out : List Ele
   pub besides : without_keys keys made ≡ stored
   pub alone : (fs : Fields) → AreKeys keys fs → without_keys keys fs ≡ stored → fs ≡ made
 
--- no number comes twice
+-- whether no number comes twice
 abbrev pub are_distinct : List ℕ → Bool
 are_distinct [] = true
 are_distinct (n ∷ ns) = not (is_among ns n) && are_distinct ns

@@ -11,5 +11,6 @@ use Rattle.schema.specs.Stripe.{Leaf, Step, leaf_at}
 abbrev pub along : List (List ℕ) → List Step → Leaf → Leaf
 along path steps l = leaf_at (path ++ l.path) (steps ++ l.steps) l.leaf_type
 
+-- the leaves, seen from the root, with these names and these steps of the program on the path to each
 abbrev pub leaves_along : List (RcStr Global) → List CodeStep → List Leaf → List Leaf
 leaves_along path steps ls = map (along (map rc_str_bytes path) (map step_view steps)) ls

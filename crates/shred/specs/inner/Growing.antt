@@ -9,6 +9,7 @@ use Rattle.shred.specs.declared.column.ColumnRef.{ColumnRef}
 use Rattle.shred.specs.declared.field.Levels.{Levels}
 use Rattle.shred.specs.Columns.{column_refs_view}
 
+-- columns, each as the list of its entries
 abbrev pub Columns : Type 0
 Columns = List (List Entry)
 
@@ -27,20 +28,23 @@ nils (suc n) = [] ∷ nils n
 abbrev pub Grows : Columns → List ColumnRef → List ColumnRef → Type 0
 Grows ss old new = column_refs_view new ≡ grown (column_refs_view old) ss
 
+-- the repetition and the definition level of a value's first entry, and how many REPEATED fields are on the path to it
 abbrev pub levels_at : ℕ → ℕ → ℕ → Levels
 levels_at r d k = record { repetition = r; definition = d; repeated = k }
 
--- what the value of a field gives to each leaf, its repetition aside or not
+-- what the value of a field gives to each leaf at and below it, its repetition aside
 abbrev pub stripes_inside : Field → ValueTree → Levels → Columns
 stripes_inside f v x = map (λ (l : Leaf). stripe l.steps v x.repetition x.definition x.repeated) (leaves f)
 
+-- what the value of a field gives to each leaf at and below it
 abbrev pub stripes : Field → ValueTree → Levels → Columns
 stripes f v x = map (λ (l : Leaf). stripe_as (repetition_of f) (stripe l.steps) v x.repetition x.definition x.repeated) (leaves f)
 
--- what the items of a list give, and those after its first
+-- what the items of a REPEATED field's list give to each leaf at and below it
 abbrev pub stripes_items : Field → ValueTrees → Levels → Columns
 stripes_items f vs x = map (λ (l : Leaf). list_items (stripe l.steps) vs x.repetition x.definition x.repeated) (leaves f)
 
+-- what the items after the first one of a REPEATED field's list give to each leaf at and below it
 abbrev pub stripes_later : Field → ValueTrees → ℕ → ℕ → Columns
 stripes_later f vs d k = map (λ (l : Leaf). later_items (stripe l.steps) vs d k) (leaves f)
 
@@ -48,10 +52,11 @@ stripes_later f vs d k = map (λ (l : Leaf). later_items (stripe l.steps) vs d k
 abbrev pub stripes_each : ℕ → Fields → ValueTrees → Levels → Columns
 stripes_each i fs vs x = map (λ (l : Leaf). stripe l.steps (group vs) x.repetition x.definition x.repeated) (leaves_from i fs)
 
--- an entry without value for each leaf
+-- an entry without value for each leaf at and below a field
 abbrev pub absences : Field → Levels → Columns
 absences f x = map (λ (l : Leaf). entry x.repetition x.definition None) (leaves f)
 
+-- an entry without value for each leaf at and below some fields, the first of which has this place
 abbrev pub absences_each : ℕ → Fields → Levels → Columns
 absences_each i fs x = map (λ (l : Leaf). entry x.repetition x.definition None) (leaves_from i fs)
 

@@ -29,20 +29,23 @@ many (Bool r d b) = 1
 many (Int r d z) = 1
 many (Bytes r d n) = 1
 
+-- the entries that are packed as one
 abbrev pub unpacked : PackedEntry → List KeptEntry
 unpacked p = replicate (many p) (entry_of p)
 
+-- the entries that packed ones stand for, one after another
 abbrev pub unpacked_each : List PackedEntry → List KeptEntry
 unpacked_each ps = flat_map unpacked ps
 
--- the entries of a run, and what they show
+-- the entries of a run, as they are kept
 abbrev pub run_entries : Run → List KeptEntry
 run_entries run = replicate run.count (entry_at run.repetition run.definition NoValue)
 
+-- what the entries of a run show: no value, at the levels of the run
 abbrev pub absent : Run → List Entry
 absent run = replicate run.count (record { repetition = run.repetition; definition = run.definition; value = None })
 
--- these entries are packed after the others
+-- the entries are packed as one more after the others
 pub record Gains (old new : List PackedEntry) (entries : List KeptEntry) : Type 0 where
   pub last : PackedEntry
   pub joined : new ≡ old ++ last ∷ []

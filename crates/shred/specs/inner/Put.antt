@@ -11,7 +11,7 @@ pub record IsPut (slot : Slot) (value : Option ValueTree) (old new : List ℕ) :
   pub size : slot_size slot ≡ length own
   pub shows : slot_value slot own ≡ value
 
--- these are put after the others, or they are not
+-- true: the items are put after the others; false: the others stay as they are
 abbrev pub AppendsIf : {X : Type 0} → Bool → List X → List X → List X → Type 0
 AppendsIf true old xs new = new ≡ old ++ xs
 AppendsIf false old xs new = new ≡ old

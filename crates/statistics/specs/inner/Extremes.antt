@@ -6,10 +6,11 @@ use Rattle.schema.specs.declared.order.Order.{Order}
 use Rattle.schema.specs.Values.{ValueTree, bytes}
 use Rattle.schema.specs.Orders.{compared, is_compared}
 
--- the lesser, and the greater, of two values
+-- the lesser of two values; the second if they are equal or do not compare
 abbrev pub lesser : Option Order → ValueTree → ValueTree → ValueTree
 lesser order v m = if is_some_and is_lt (compared order v m) then v else m
 
+-- the greater of two values; the second if they are equal or do not compare
 abbrev pub greater : Option Order → ValueTree → ValueTree → ValueTree
 greater order v m = if is_some_and is_gt (compared order v m) then v else m
 
@@ -23,7 +24,7 @@ abbrev pub pick_from : (ValueTree → ValueTree → ValueTree) → Option ValueT
 pick_from pick found [] = found
 pick_from pick found (v ∷ vs) = pick_from pick (Some (picked pick v found)) vs
 
--- it has at most 64 bytes
+-- a value may be kept as a bound: a byte value has at most 64 bytes
 abbrev pub is_within_limit : ValueTree → Bool
 is_within_limit (bytes s) = nat_le (length s) 64
 is_within_limit _ = true

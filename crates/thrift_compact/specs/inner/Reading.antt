@@ -9,16 +9,17 @@ use Rattle.thrift_compact.specs.declared.tree.ElementType.TheVariants.{List as L
 use Rattle.thrift_compact.specs.Tree.{Node, Nodes, list, Pairs, Fields, nest, nodes_nest, pairs_nest, fields_nest, count, count_pairs}
 use Rattle.thrift_compact.specs.Compact.{IsSigned, kind, IsElement, IsValue, AreElements, ArePairs, AreFields}
 
--- it is refused for its bytes: Truncated where nothing stands there, Thrift where nothing does whatever follows
+-- a refusal for the bytes: Truncated where nothing stands there, Thrift where nothing does whatever follows
 abbrev pub IsRefusedFor : {Y : Type 0} → (List ℕ → Y → ℕ → Type 0) → List ℕ → Refusal → Type 0
 IsRefusedFor Stands bytes Truncated = NothingStands (Stands bytes)
 IsRefusedFor Stands bytes Thrift = NothingStandsEver Stands bytes
 IsRefusedFor Stands bytes _ = ⊥
 
--- an i16 and an i32
+-- an i16 at the start of the bytes
 abbrev pub IsShortNumber : List ℕ → ℤ → ℕ → Type 0
 IsShortNumber bytes z used = IsSigned bytes z used × FitsSigned w16 z
 
+-- an i32 at the start of the bytes
 abbrev pub IsNumber : List ℕ → ℤ → ℕ → Type 0
 IsNumber bytes z used = IsSigned bytes z used × FitsSigned w32 z
 
@@ -30,20 +31,26 @@ IsNesting Map = Unit {0}
 IsNesting Struct = Unit {0}
 IsNesting _ = ⊥
 
+-- a value of the type of this code at the start of the bytes, in which lists, sets, maps and structs nest at most `left` levels
 abbrev pub ValueOf : ℕ → ℕ → List ℕ → Node → ℕ → Type 0
 ValueOf code left bytes x used = (kind x ≡ code) × (nest x ≤ left) × IsValue x bytes used
 
+-- an element of the type of this code at the start of the bytes, in which lists, sets, maps and structs nest at most `left` levels
 abbrev pub ElementOf : ℕ → ℕ → List ℕ → Node → ℕ → Type 0
 ElementOf code left bytes x used = IsElement code x × (nest x ≤ left) × IsValue x bytes used
 
+-- `size` elements of the type of this code at the start of the bytes, each nested at most `left` levels
 abbrev pub ElementsOf : ℕ → ℕ → ℕ → List ℕ → Nodes → ℕ → Type 0
 ElementsOf code left size bytes xs used = (count xs ≡ size) × (nodes_nest xs ≤ left) × AreElements xs code bytes used
 
+-- a list at the start of the bytes, by the code of its element type and its elements, each nested at most `left` levels
 abbrev pub ListOf : ℕ → List ℕ → ℕ × Nodes → ℕ → Type 0
 ListOf left bytes l used = (nodes_nest l.1 ≤ left) × IsValue (list l.0 l.1) bytes used
 
+-- `size` pairs of a key and a value of the types of these codes at the start of the bytes, each nested at most `left` levels
 abbrev pub PairsOf : ℕ → ℕ → ℕ → ℕ → List ℕ → Pairs → ℕ → Type 0
 PairsOf key value left size bytes ps used = (count_pairs ps ≡ size) × (pairs_nest ps ≤ left) × ArePairs ps key value bytes used
 
+-- the fields of a struct at the start of the bytes, up to the byte that ends them, with values nested at most `left` levels
 abbrev pub FieldsOf : ℕ → List ℕ → Fields → ℕ → Type 0
 FieldsOf left bytes fs used = (fields_nest fs ≤ left) × AreFields fs (pos 0) bytes used

@@ -35,6 +35,6 @@ IsTextOf front m text = (start : ℕ) × StartsAt m start × IsTextFrom front m 
 abbrev pub IsFilled : ColumnMeta → Leaf → List ℕ → List Entry → Type 0
 IsFilled m leaf text es = ChunkMeans m leaf text es (length text)
 
--- and the statistics hold of them
+-- the pages of the chunk hold these entries and fill the bytes, and the statistics hold of the entries
 abbrev pub IsColumnIn : List ℕ → Leaf → ColumnMeta → Statistics → List Entry → Type 0
 IsColumnIn text leaf m s es = IsFilled m leaf text es × Bounds (order_of leaf.leaf_type) s es

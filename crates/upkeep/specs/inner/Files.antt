@@ -25,12 +25,13 @@ pub record IsReadAs (bytes : List ℕ) (meta : FileMeta) (fs : Fields) : Type 0 
   pub held : GroupsMean front fs meta.row_groups rows
   pub within : IsOverLimit bytes → ⊥
 
--- so it is of a file with one group
+-- the file was read, has this schema, and has this row group and no other
 pub record IsGroupAs (bytes : List ℕ) (fs : Fields) (own : GroupMeta) : Type 0 where
   pub meta : FileMeta
   pub read : IsReadAs bytes meta fs
   pub one : meta.row_groups ≡ own ∷ []
 
+-- the bytes are a file of these fields, and it holds the group
 abbrev pub HoldsAs : Fields → Group → List ℕ → Type 0
 HoldsAs fs g bytes = (rows : List ValueTrees) × HoldsGroup fs g bytes rows
 

@@ -12,6 +12,7 @@ use Rattle.disk.specs.declared.binding.Kind.TheVariants as kind
 use Rattle.partition.specs.Folders.{CanPartition, path, part_name_of, part_path_of}
 use Rattle.upkeep.specs.Strays.{IsStray}
 
+-- paths as lists of bytes
 abbrev pub paths_of : Vec (String Global) Global → List (List ℕ)
 paths_of v = map string_bytes v.items
 
@@ -43,7 +44,7 @@ IsStrayFile Named folder entry stray = (stray ≡ path_at folder entry) × IsPar
 abbrev pub IsNoStrayFile : (List ℕ → Type 0) → List ℕ → Entry → Type 0
 IsNoStrayFile Named folder entry = IsPartEntry entry → Named (path_at folder entry)
 
--- more paths, which all have this
+-- the new paths have all old ones, and otherwise only paths that are as `Is` says
 pub record Adds (Is : List ℕ → Type 0) (old new : List (List ℕ)) : Type 0 where
   pub keeps : (q : List ℕ) → Contains old q → Contains new q
   pub only : (q : List ℕ) → Contains new q → Contains old q ⊎ Is q
@@ -53,7 +54,7 @@ pub record FindsFile (Named : List ℕ → Type 0) (folder : List ℕ) (entry : 
   pub adds : Adds (IsStrayFile Named folder entry) old new
   pub found : IsPartEntry entry → (Named (path_at folder entry) → ⊥) → Contains new (path_at folder entry)
 
--- those of all entries
+-- the part files of all entries of a key folder that are not named
 pub record FindsFiles (Named : List ℕ → Type 0) (folder : List ℕ) (entries : List Entry) (old new : List (List ℕ)) : Type 0 where
   pub adds : Adds (λ q. (i : ℕ) × (entry : Entry) × (slice_get entries i ≡ Some entry) × IsStrayFile Named folder entry q) old new
   pub found : (i : ℕ) (entry : Entry) → slice_get entries i ≡ Some entry → IsPartEntry entry → (Named (path_at folder entry) → ⊥) → Contains new (path_at folder entry)
@@ -64,11 +65,12 @@ IsFound keys Named depth folder image paths = (key : List ValueTree) (number nod
     → path (take depth keys) (take depth key) ≡ folder → image.names (part_path_of keys key number) ≡ File node
     → (Named (part_path_of keys key number) → ⊥) → Contains paths (part_path_of keys key number)
 
+-- a walk below this folder adds only part files that are not named, and after it has all of them that lie below the folder
 pub record Finds (keys : List KeyColumn) (Named : List ℕ → Type 0) (depth : ℕ) (folder : List ℕ) (image : Image) (old new : List (List ℕ)) : Type 0 where
   pub adds : Adds (IsStray image keys Named) old new
   pub found : IsFound keys Named depth folder image new
 
--- those below an entry of a folder
+-- a walk below an entry of a folder adds only part files that are not named, and after it has all of them that lie there
 pub record FindsBelow (keys : List KeyColumn) (Named : List ℕ → Type 0) (depth : ℕ) (folder : List ℕ) (entry : Entry) (image : Image) (old new : List (List ℕ)) : Type 0 where
   pub adds : Adds (IsStray image keys Named) old new
   pub found : entry.kind ≡ kind.Folder → IsFound keys Named depth (path_at folder entry) image new

@@ -37,6 +37,7 @@ pub record Spares (path : List ℕ) (old new : State) : Type 0 where
 abbrev pub FailsOnly : {T : Type 0} → Result T Fault → Type 0
 FailsOnly result = IfErr result (λ e. (e ≡ Failed) ⊎ (e ≡ Memory))
 
+-- What `clear` leaves: after Ok the disk reads no name at the path. Other names, and the bytes at other paths, stay as they were.
 pub record Cleared {T : Type 0} (path : List ℕ) (old new : State) (result : Result T Fault) : Type 0 where
   pub spares : Spares path old new
   pub clear : LeavesWays old new
@@ -45,7 +46,7 @@ pub record Cleared {T : Type 0} (path : List ℕ) (old new : State) (result : Re
   pub gone : OnOk result (new.seen.names path ≡ Nothing)
   pub others : (q : List ℕ) → q ≢ path → new.seen.names q ≡ old.seen.names q
 
--- Only folders on the way come into being: no bytes at any path change, and no new name is a file's.
+-- What `make_folders` leaves: only folders on the way are made. No bytes at any path change, and no new name is a file's.
 pub record FoldersMade {T : Type 0} (path : List ℕ) (old new : State) (result : Result T Fault) : Type 0 where
   pub moments : LeavesAfter Same old new
   pub seen : ReadsAs Same old new
@@ -66,6 +67,7 @@ pub record IsWritten (state : State) (path bytes : List ℕ) : Type 0 where
 abbrev pub IsVacant : State → List ℕ → Type 0
 IsVacant state path = IsGone state path × IsHoused state path
 
+-- What `write_new` leaves: after Ok the path reads as a file that has these bytes in each image. No bytes at another path change.
 pub record Written {T : Type 0} (path bytes : List ℕ) (old new : State) (result : Result T Fault) : Type 0 where
   pub spares : Spares path old new
   pub clear : LeavesBelow path old new
@@ -78,6 +80,7 @@ pub record MadeFirm {T : Type 0} (path : List ℕ) (old new : State) (result : R
   pub fails : FailsOnly result
   pub firm : OnOk result ((c : Image) → may_leave new c → c.names path ≡ old.seen.names path)
 
+-- What `place` leaves: after Ok each image has the file with these bytes at the path. No bytes at another path change.
 pub record Placed {T : Type 0} (path bytes : List ℕ) (old new : State) (result : Result T Fault) : Type 0 where
   pub spares : Spares path old new
   pub clear : LeavesClear path old new
@@ -95,7 +98,7 @@ pub record Turned {T : Type 0} (root : List ℕ) (old new : State) (result : Res
   pub done : OnOk result (IsKept new root_path root × IsRooted new)
   pub gone : OnOk result (IsGone new next_path)
 
--- where the next root is a file of these bytes
+-- for whatever bytes the next root's file has in each image: it has taken the root's place, or may have
 abbrev pub TurnsWritten : {T : Type 0} → State → State → Result T Fault → Type 0
 TurnsWritten old new result = (root : List ℕ) → IsWritten old next_path root → Turned root old new result
 
