@@ -6,6 +6,7 @@ ghost use Rattle.disk.specs.State.{IsOneMore};
 ghost use Rattle.disk.specs.Calls.{CountsFailure};
 ghost use Rattle.disk.specs.Plain.{IsProper, FailsWith, fault_alone, folder_or_dot, host_path, host_state, host_lawful};
 
+use crate::access::Access;
 use crate::binding::Entry;
 use crate::cause::Cause;
 use crate::counts::{counted, one_more};
@@ -34,6 +35,7 @@ pub struct HostDisk<R: Files + Clone + Drop> {
     files: R,
     alloc: Global,
     folder: String,
+    model: Option<String>,
     failures: u64,
     reads: u64,
     last_failure: Option<Failure>,
@@ -54,11 +56,26 @@ impl<R: Files + Clone + Drop> HostDisk<R> {
             files,
             alloc,
             folder,
+            model: None,
             failures: 0,
             reads: 0,
             last_failure: None,
             last_absence: None,
         })
+    }
+
+    /// The same disk. From now on each new file takes the mode and the group of the file at this path, if it is there, before
+    /// it is synced, and each new folder those of the disk's folder. Where they cannot be set, nothing fails, and nothing is
+    /// counted. Refused only Memory.
+    pub fn with_files_like(self, path: &str) -> Result<HostDisk<R>, Fault>
+        ensures counts { IfOk result (λ disk. disk.failures ≡ self.failures) }
+        ensures reads { IfOk result (λ disk. disk.reads ≡ self.reads) }
+        ensures same_folder { IfOk result (λ disk. disk.folder ≡ self.folder) }
+        ensures which { IfErr result (λ e. e ≡ Fault.Memory) }
+    {
+        let mut disk = self;
+        disk.model = Some(String::from_str(disk.alloc, path)?);
+        Ok(disk)
     }
 
     /// The last call that failed ([`Fault::Failed`]), with its path and the error; None if none has. Later calls that are
@@ -83,18 +100,33 @@ impl<R: Files + Clone + Drop> HostDisk<R> {
         reach(&self.files, self.alloc, self.folder.as_str(), path)
     }
 
+    /// What a new file takes, if anything.
+    fn access_of_files(&self) -> Option<Access> {
+        let model = self.model.as_ref()?;
+        let place = self.reach(model.as_str()).ok()?;
+        Access::of_file(&self.files, place.as_str())
+    }
+
+    /// What a new folder takes, if anything.
+    fn access_of_folders(&self) -> Option<Access> {
+        if self.model.is_none() {
+            return None;
+        }
+        Access::of_folder(&self.files, self.folder.as_str())
+    }
+
     fn try_create(&self, path: &str) -> Result<(), Cause>
         ensures outside { (IsProper path.now → ⊥) → FailsWith result Fault.Failed }
     {
         let place = self.reach(path)?;
-        calls::create(&self.files, place.as_str())
+        calls::create(&self.files, place.as_str(), self.access_of_files())
     }
 
     fn try_make_folder(&self, path: &str) -> Result<(), Cause>
         ensures outside { (IsProper path.now → ⊥) → FailsWith result Fault.Failed }
     {
         let place = self.reach(path)?;
-        calls::make_folder(&self.files, place.as_str())
+        calls::make_folder(&self.files, place.as_str(), self.access_of_folders())
     }
 
     fn try_read_range(
@@ -141,7 +173,7 @@ impl<R: Files + Clone + Drop> HostDisk<R> {
         ensures which { IfErr result (λ e. e.fault ≢ Fault.Exists) }
     {
         let place = self.reach(path)?;
-        calls::sync(&self.files, place.as_str())
+        calls::sync(&self.files, place.as_str(), self.access_of_files())
     }
 
     fn try_sync_folder(&self, folder: &str) -> Result<(), Cause>

@@ -2,12 +2,14 @@
 
 ghost use Rattle.std.specs.Prelude.{◌≡◌, ◌≢◌, ◌≤◌, IfOk, IfErr, length};
 
+use crate::access::{Access, mode_of_new_file};
 use crate::cause::Cause;
 use crate::fault::Fault;
 use crate::reach::{Found, found_at, found_in};
 use std::alloc::Global;
 use std::fs::{self, File, Files, OpenFile, OpenOptions};
 use std::io::{ErrorKind, Read, Seek, SeekFrom, Write};
+use std::os::unix::fs::OpenOptionsExt;
 
 /// The length of the file at a place. Absent where no file is there, Failed where another kind of node is.
 pub fn length<R: Files>(files: &R, place: &str) -> Result<u64, Cause>
@@ -20,20 +22,42 @@ pub fn length<R: Files>(files: &R, place: &str) -> Result<u64, Cause>
     }
 }
 
-pub fn create<R: Files>(files: &R, place: &str) -> Result<(), Cause> {
-    match File::create_new(files, place) {
+/// Makes an empty file. What access it is given once it is written, if any, nobody exceeds before.
+pub fn create<R: Files>(files: &R, place: &str, access: Option<Access>) -> Result<(), Cause> {
+    let made = OpenOptions::new()
+        .read(true)
+        .write(true)
+        .create_new(true)
+        .mode(mode_of_new_file(access))
+        .open(files, place);
+    match made {
         Ok(_) => Ok(()),
         Err(e) if e.kind() == ErrorKind::AlreadyExists => Err(Cause::exists()),
         Err(e) => Err(Cause::from(e)),
     }
 }
 
-pub fn make_folder<R: Files>(files: &R, place: &str) -> Result<(), Cause> {
+/// Makes a folder where nothing is, and gives it the access, if any.
+pub fn make_folder<R: Files>(files: &R, place: &str, access: Option<Access>) -> Result<(), Cause> {
     match found_at(files, place)? {
-        Found::Nothing => Ok(fs::create_dir(files, place)?),
+        Found::Nothing => make_new_folder(files, place, access),
         Found::Folder => Ok(()),
         Found::File(_) => Err(Cause::exists()),
         Found::Other => Err(Cause::other_node()),
+    }
+}
+
+/// Makes a folder, and gives it the access, if any.
+fn make_new_folder<R: Files>(files: &R, place: &str, access: Option<Access>) -> Result<(), Cause> {
+    fs::create_dir(files, place)?;
+    give(files, place, access);
+    Ok(())
+}
+
+/// Gives a file or folder the access, if any.
+fn give<R: Files>(files: &R, place: &str, access: Option<Access>) {
+    if let Some(access) = access {
+        access.give(files, place);
     }
 }
 
@@ -78,11 +102,14 @@ pub fn append<R: Files>(files: &R, place: &str, bytes: &[u8]) -> Result<(), Caus
     file.write_all(bytes).map_err(Cause::failed)
 }
 
-pub fn sync<R: Files>(files: &R, place: &str) -> Result<(), Cause>
+/// Syncs a file, which is given the access before, if any.
+pub fn sync<R: Files>(files: &R, place: &str, access: Option<Access>) -> Result<(), Cause>
     ensures which { IfErr result (λ e. e.fault ≢ Fault.Exists) }
 {
     length(files, place)?;
-    File::open(files, place)?.sync_all().map_err(Cause::failed)
+    let file = File::open(files, place)?;
+    give(files, place, access);
+    file.sync_all().map_err(Cause::failed)
 }
 
 pub fn sync_folder<R: Files>(files: &R, place: &str) -> Result<(), Cause>

@@ -4,6 +4,7 @@
 //! `specs/Calls.antt` (what each call does); `specs/Paths.antt` says what a path is.
 #![tactic(auto)]
 
+mod access;
 mod binding;
 mod cause;
 mod counts;
