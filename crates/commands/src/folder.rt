@@ -51,7 +51,7 @@ pub fn is_folder<F: Files>(rt: &F, path: &str) -> bool {
     }
 }
 
-/// The disk of a folder, with what it read and wrote so far.
+/// The disk of a folder, with what it read and wrote so far. New files take the mode and the group of the root that is there.
 pub fn disk_of<F: Files + Clone + Drop, S: Write + Drop>(
     rt: &F,
     alloc: Global,
@@ -59,7 +59,8 @@ pub fn disk_of<F: Files + Clone + Drop, S: Write + Drop>(
     tally: Tally<S>,
 ) -> R<Watched<HostDisk<F>, S>> {
     let files = rt.clone()?;
-    match HostDisk::new(alloc, files, folder) {
+    let made = HostDisk::new(alloc, files, folder);
+    match made.and_then(|disk| disk.with_files_like("_metadata")) {
         Ok(disk) => Ok(Watched::new(disk, tally)),
         Err(_) => Err(Refusal::Memory),
     }

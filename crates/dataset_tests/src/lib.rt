@@ -25,6 +25,8 @@ mod last_failures;
 #[cfg(test)]
 mod links;
 #[cfg(test)]
+mod modes;
+#[cfg(test)]
 mod new_files;
 #[cfg(test)]
 mod odd_names;
