@@ -307,7 +307,7 @@ def of_keys(numbers, encoding, count):
 
 def key_in_each_row():
     """Keys by differences without bits: some 200 bytes in all."""
-    count = max(1, ENTRIES // 500)
+    count = max(1, ENTRIES // 250)
     return of_keys(deltas(0, [1], count), DELTA_BINARY_PACKED, count)
 
 
