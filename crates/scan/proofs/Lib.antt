@@ -2,6 +2,7 @@ pub mod Passages
 pub mod WholeFields
 pub mod Filling
 pub mod UseLaws
+pub mod Looking
 pub mod Marking
 pub mod CellLaws
 pub mod SameLeaves

@@ -1,16 +1,16 @@
 //! Rows with the values that are not read: those of keys, and nulls where the file has no column.
 
-ghost use Rattle.std.specs.Prelude.{◌≡◌, ◌++◌, map, option_map, IfOk, OnOk};
+ghost use Rattle.std.specs.Prelude.{◌≡◌, ◌++◌, map, IfOk, OnOk};
 ghost use Rattle.bits.specs.Refusals.{RefusedMemoryOnly};
 ghost use Rattle.schema.specs.Keys.{key_columns_view, places_of};
 ghost use Rattle.schema.specs.Shape.{count};
 ghost use Rattle.schema.specs.Values.{view, views};
 ghost use Rattle.schema.specs.Views.{key_view, row_view};
-ghost use Rattle.filter.specs.RuledOut.{key_at};
 ghost use Rattle.scan.specs.inner.Fills.{fill_view, given, fill_of, fills_of, filled, insert_at};
 
 use crate::leaf_uses::is_stored;
 use bits::R;
+use filter::key_at;
 use schema::{Key, KeyColumn, Row, Schema, Value};
 use std::alloc::Global;
 
@@ -76,21 +76,6 @@ pub fn given(alloc: Global, keys: &[KeyColumn], key: &Key, place: usize) -> R<Va
         Some(value) => value.copied(alloc),
         None => Ok(Value::Null),
     }
-}
-
-/// The value of the key column at a place of the table, where there is one.
-fn key_at<'a>(keys: &[KeyColumn], key: &'a [Value], place: usize) -> Option<&'a Value>
-    ensures { option_map (λ v. view v.now) result ≡ key_at (places_of (key_columns_view keys.now)) (map view key.now) place }
-{
-    for (i, column) in keys.iter().enumerate() {
-        if i >= key.len() {
-            return None;
-        }
-        if column.at == place {
-            return Some(&key[i]);
-        }
-    }
-    None
 }
 
 /// The row with these values put in.

@@ -2,7 +2,6 @@
 
 ghost use Rattle.std.specs.Prelude.{◌≡◌, IfOk};
 ghost use Rattle.bits.specs.Refusals.{RefusedMemoryOnly};
-ghost use Rattle.schema.specs.Cutting.{is_among};
 ghost use Rattle.schema.specs.Keys.{key_columns_view, places_of};
 ghost use Rattle.schema.specs.Stripe.{leaves_of};
 ghost use Rattle.schema.specs.Views.{leaf_view};
@@ -12,7 +11,7 @@ ghost use Rattle.scan.specs.inner.Uses.{use_of, uses_of, numbers_of};
 
 use bits::R;
 use filter::Filter;
-use schema::{KeyColumn, Leaf, Schema};
+use schema::{KeyColumn, Leaf, Schema, has_place};
 use std::alloc::Global;
 
 /// What is asked of a leaf of the table, for the rows of one group.
@@ -81,19 +80,7 @@ pub fn place_of(leaf: &Leaf) -> usize
 pub fn is_stored(keys: &[KeyColumn], width: usize, place: usize) -> bool
     ensures { result ≡ is_stored (places_of (key_columns_view keys.now)) width place }
 {
-    !is_key(keys, place) && place.saturating_sub(keys_before(keys, place)) < width
-}
-
-/// Whether the column at a place of the table is a key column.
-fn is_key(keys: &[KeyColumn], place: usize) -> bool
-    ensures { result ≡ is_among (places_of (key_columns_view keys.now)) place }
-{
-    for key in keys {
-        if key.at == place {
-            return true;
-        }
-    }
-    false
+    !has_place(keys, place) && place.saturating_sub(keys_before(keys, place)) < width
 }
 
 /// How many key columns stand before a place.

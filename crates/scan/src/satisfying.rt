@@ -6,25 +6,26 @@ ghost use Rattle.bits.specs.Refusals.{RefusedOnly, RefusedMemoryOnly};
 ghost use Rattle.schema.specs.Fits.{RowsFit};
 ghost use Rattle.schema.specs.Keys.{key_columns_view, places_of};
 ghost use Rattle.schema.specs.Stripe.{leaves_of, columns};
-ghost use Rattle.schema.specs.Values.{ValueTrees, view};
+ghost use Rattle.schema.specs.Values.{ValueTree, ValueTrees, view};
 ghost use Rattle.schema.specs.Views.{key_view};
 ghost use Rattle.manifest.specs.Groups.{group_view};
 ghost use Rattle.filter.specs.Test.{tests_in};
+ghost use Rattle.filter.specs.Verdicts.{verdicts_in};
 ghost use Rattle.assemble.specs.Columns.{Columns};
 ghost use Rattle.assemble.specs.Standing.{AllStand};
 ghost use Rattle.row_group.specs.Left.{chunk_stands};
 ghost use Rattle.scan.specs.Faults.{IsOfParts};
 ghost use Rattle.scan.specs.Selected.{IsOver, Decides};
-ghost use Rattle.scan.specs.inner.Cells.{AreFilled, AreAtLeast, TakesCells};
+ghost use Rattle.scan.specs.inner.Cells.{AreFilled, AreAtLeast, LooksAt};
 ghost use Rattle.scan.specs.inner.Marks.{cells_of, HaveCells, MayFilter};
 ghost use Rattle.scan.specs.inner.Texts.{AreHeld, texts_view};
 ghost use Rattle.scan.specs.inner.Uses.{uses_of};
 
 use crate::completing::given;
 use crate::leaf_uses::{LeafUse, numbers_of, place_of};
-use crate::sources::{sources_of, take_value};
+use crate::sources::{show_value, sources_of};
 use bits::R;
-use filter::Filter;
+use filter::{Filter, Verdicts};
 use manifest::Group;
 use row_group::ChunkReader;
 use schema::{Key, KeyColumn, Schema, Value};
@@ -56,14 +57,14 @@ pub fn row_marks(
     let chunks = group.chunks.as_slice();
     let mut sources = sources_of(alloc, schema, chunks, uses, texts, texts, true)?;
     let numbers = numbers_of(alloc, uses, true)?;
-    let mut cells = cells_of(alloc, schema, keys, &group.key)?;
+    let cells = cells_of(alloc, schema, keys, &group.key)?;
     marks_of(
         alloc,
         filter,
         group.stats.rows,
         sources.as_mut_slice(),
         numbers.as_slice(),
-        cells.as_mut_slice(),
+        cells.as_slice(),
     )
 }
 
@@ -75,43 +76,41 @@ fn marks_of(
     count: u64,
     sources: &mut [ChunkReader<'_>],
     numbers: &[usize],
-    cells: &mut [Value],
+    cells: &[Value],
 ) -> R<Vec<bool>>
     requires as_many { length numbers.now ≡ length sources.old }
-    requires within { AllByRecursion (λ n. n < length cells.old) numbers.now }
-    ensures stands { (rows : List ValueTrees) → length rows ≡ count → MayFilter (tests_in filter.now) sources.old numbers.now (map view cells.old) rows
+    requires within { AllByRecursion (λ n. n < length cells.now) numbers.now }
+    ensures stands { (rows : List ValueTrees) → length rows ≡ count → MayFilter (tests_in filter.now) sources.old numbers.now (map view cells.now) rows
         → IfOk result (λ marks. (p : ValueTrees → Bool) → Decides p (tests_in filter.now) → marks.items ≡ map p rows) }
     ensures many { IfOk result (λ marks. length marks.items ≡ count) }
     ensures only { (cs : Columns) → AllStand chunk_stands sources.old cs → AreAtLeast count cs → RefusedMemoryOnly result }
     ensures which { RefusedOnly IsOfParts result }
 {
+    let mut verdicts = filter.verdicts(alloc, cells)?;
     let mut marks = Vec::new(alloc);
     for _ in 0..count {
-        take_cells(alloc, sources, numbers, cells)?;
-        marks.push(filter.satisfied_by(cells))?;
+        look_at_row(filter, sources, numbers, &mut verdicts)?;
+        marks.push(filter.satisfied_in(&verdicts))?;
     }
     Ok(marks)
 }
 
-/// Takes the next entry of each reader, and puts its value at the leaf's index.
-fn take_cells(
-    alloc: Global,
+/// Takes the next entry of each reader, and has the filter look at its value, as that of the leaf with the index.
+fn look_at_row(
+    filter: &Filter,
     sources: &mut [ChunkReader<'_>],
     numbers: &[usize],
-    cells: &mut [Value],
+    verdicts: &mut Verdicts,
 ) -> R<()>
     requires as_many { length numbers.now ≡ length sources.old }
-    requires within { AllByRecursion (λ n. n < length cells.old) numbers.now }
-    ensures takes { OnOk result ((cs : Columns) → AllStand chunk_stands sources.old cs
-        → TakesCells chunk_stands numbers.now sources.old sources.new (map view cells.old) (map view cells.new) cs) }
-    ensures same_size { length cells.new ≡ length cells.old }
+    ensures takes { OnOk result ((cs : Columns) → AllStand chunk_stands sources.old cs → (before : List ValueTree)
+        → LooksAt (tests_in filter.now) numbers.now sources.old sources.new before (verdicts_in verdicts.old) (verdicts_in verdicts.new) cs) }
     ensures as_many { length sources.new ≡ length sources.old }
     ensures only { (cs : Columns) → AllStand chunk_stands sources.old cs → AreFilled cs → RefusedMemoryOnly result }
     ensures which { RefusedOnly IsOfParts result }
 {
     for k in 0..sources.len() {
-        let value = take_value(alloc, &mut sources[k])?;
-        cells[numbers[k]] = value;
+        show_value(&mut sources[k], filter, numbers[k], verdicts)?;
     }
     Ok(())
 }

@@ -3,13 +3,15 @@
 ghost use Rattle.std.specs.Prelude.{◌≡◌, ◌<◌, ◌⊎◌, List, [], ◌∷◌, length, map, IfOk, OnOk, IfErr};
 ghost use Rattle.bits.specs.Refusals.{RefusedOnly, RefusedMemoryOnly};
 ghost use Rattle.schema.specs.Stripe.{Entry, leaves_of};
-ghost use Rattle.schema.specs.Values.{ValueTrees, view};
+ghost use Rattle.schema.specs.Values.{ValueTrees};
 ghost use Rattle.schema.specs.Views.{leaf_view, row_view};
 ghost use Rattle.metadata.specs.Views.{chunk_meta_view};
 ghost use Rattle.assemble.specs.Columns.{Columns};
 ghost use Rattle.assemble.specs.RowsOf.{StandForRows, IsNextRow};
 ghost use Rattle.assemble.specs.Sources.{Precede};
 ghost use Rattle.assemble.specs.Standing.{AllStand};
+ghost use Rattle.filter.specs.Test.{tests_in};
+ghost use Rattle.filter.specs.Verdicts.{verdicts_in, verdicts_of, IsPutAt};
 ghost use Rattle.row_group.specs.Left.{chunk_stands};
 ghost use Rattle.scan.specs.Faults.{IsOfParts};
 ghost use Rattle.scan.specs.inner.Cells.{value_in};
@@ -19,9 +21,10 @@ ghost use Rattle.scan.specs.inner.Uses.{numbers_of, picked};
 use crate::leaf_uses::LeafUse;
 use assemble::{Discard, EntrySource, RowBuilder, next_known_row_to};
 use bits::{R, Refusal};
+use filter::{Filter, Verdicts};
 use metadata::ChunkMeta;
 use row_group::ChunkReader;
-use schema::{Leaf, Row, Schema, Value};
+use schema::{Leaf, Row, Schema, ValueRef};
 use std::alloc::Global;
 
 /// A reader for each leaf that is picked, in the order of the leaves. A chunk that was read for the filter lies in
@@ -83,16 +86,30 @@ fn source_of<'a>(
     ChunkReader::new(alloc, text, &chunks[number].meta_data, leaf)
 }
 
-/// The value of the next entry, which is taken: null where it has none.
-pub fn take_value<S: EntrySource>(alloc: Global, source: &mut S) -> R<Value>
-    ensures takes { IfOk result (λ v. (e : Entry) × (value_in e ≡ view v) × Precede (e ∷ []) (S.stands source.old) (S.stands source.new)) }
+/// Takes the next entry, and has a filter look at its value, as that of the leaf with this index: null where the entry
+/// has none. The value is borrowed from the page.
+pub fn show_value<S: EntrySource>(
+    source: &mut S,
+    filter: &Filter,
+    leaf: usize,
+    verdicts: &mut Verdicts,
+) -> R<()>
+    ensures takes { OnOk result ((e : Entry) × Precede (e ∷ []) (S.stands source.old) (S.stands source.new)
+        × ((before after : ValueTrees) → verdicts_in verdicts.old ≡ verdicts_of (tests_in filter.now) before → IsPutAt leaf (value_in e) before after
+        → verdicts_in verdicts.new ≡ verdicts_of (tests_in filter.now) after)) }
     ensures only { IfErr result (λ r. (r ≡ Refusal.Memory) ⊎ ((es : List Entry) → S.stands source.old es → es ≡ [])) }
     ensures which { RefusedOnly IsOfParts result }
 {
     match source.next() {
         Ok(Some(entry)) => match entry.value {
-            Some(value) => value.to_value(alloc),
-            None => Ok(Value::Null),
+            Some(value) => {
+                filter.look(leaf, value, verdicts);
+                Ok(())
+            }
+            None => {
+                filter.look(leaf, ValueRef::Null, verdicts);
+                Ok(())
+            }
         },
         Ok(None) => Err(Refusal::Levels),
         Err(fault) => Err(Refusal::from(fault)),
