@@ -11,7 +11,7 @@ ghost use Rattle.manifest.specs.Root.{RootMeans};
 ghost use Rattle.recovery.specs.Sound.{IsSound, SameTable, IsDescribed};
 ghost use Rattle.recovery.specs.Opening.{IsNotOpened, Cleans, IsClean};
 
-use crate::cleaning::clean;
+use crate::cleaning::remove_litter;
 use bits::{R, Refusal};
 use disk::Disk;
 use manifest::Manifest;
@@ -80,8 +80,59 @@ pub fn reopen<D: Disk>(alloc: Global, vault: &mut Vault<D>) -> R<(Manifest, bool
     manifest::a_root_means_one_table();
     partition::part_paths_are_not_roots();
     let manifest = read_manifest(alloc, vault)?;
-    let is_clean = clean(alloc, vault, &manifest);
+    let is_clean = remove_litter(alloc, vault, &manifest);
     Ok((manifest, !is_clean))
+}
+
+/// Opens the table that a disk holds to read it, as [`open`] does but for the cleaning: no file is removed, and nothing that is
+/// read changes. So it can be done beside a program that writes. Returns the vault and the description.
+pub fn open_to_read<D: Disk>(alloc: Global, disk: D) -> Result<(Vault<D>, Manifest), (D, Refusal)>
+    ensures sound { (D.state disk).honest → IsSound (D.state disk) → MatchResult result (λ x. IsSound (D.state x.0.disk)) (λ e. IsSound (D.state e.0)) }
+    ensures moments { (D.state disk).honest → IsSound (D.state disk)
+        → MatchResult result (λ x. LeavesAfter SameTable (D.state disk) (D.state x.0.disk)) (λ e. LeavesAfter SameTable (D.state disk) (D.state e.0)) }
+    ensures describes { (D.state disk).honest → IsSound (D.state disk) → IfOk result (λ x. IsDescribed (D.state x.0.disk) (root_of x.1)) }
+    ensures reads_root { (D.state disk).honest
+        → IfOk result (λ x. (bytes : List ℕ) × (content (D.state disk).seen root_path ≡ Some bytes) × RootMeans bytes (root_of x.1)) }
+    ensures only { (D.state disk).honest → IsSound (D.state disk) → IfErr result (λ e. (e.1 ≡ Refusal.Device) ⊎ (e.1 ≡ Refusal.Memory)) }
+    ensures which { (D.state disk).honest → IfErr result (λ e. IsNotOpened (content (D.state disk).seen root_path) e.1) }
+    ensures cause { IfErr result (λ e. e.1 ≡ Refusal.Device → (D.state disk).honest → HasFailed (D.state disk) (D.state e.0)) }
+    // Whatever is returned, all stays as it was.
+    ensures unchanged { (D.state disk).honest → MatchResult result (λ x. LeavesAll (D.state disk) (D.state x.0.disk)) (λ e. LeavesAll (D.state disk) (D.state e.0)) }
+    ensures told { IfOk result (λ x. (D.state x.0.disk).failures ≡ (D.state disk).failures) }
+    ensures reads { MatchResult result (λ x. (D.state x.0.disk).reads ≤ (D.state disk).reads + 1) (λ e. (D.state e.0).reads ≤ (D.state disk).reads + 1) }
+    ensures counts { MatchResult result (λ x. (D.state disk).failures ≤ (D.state x.0.disk).failures) (λ e. (D.state disk).failures ≤ (D.state e.0).failures) }
+    ensures honest { MatchResult result (λ x. (D.state disk).honest ↔ (D.state x.0.disk).honest) (λ e. (D.state disk).honest ↔ (D.state e.0).honest) }
+{
+    let mut vault = Vault::start(disk);
+    match reopen_to_read(alloc, &mut vault) {
+        Ok(manifest) => Ok((vault, manifest)),
+        Err(e) => Err((vault.into_disk(), e)),
+    }
+}
+
+/// Opens the table anew that a vault's disk holds, as [`reopen`] does but for the cleaning: no file is removed, and nothing that
+/// is read changes. Returns the description.
+pub fn reopen_to_read<D: Disk>(alloc: Global, vault: &mut Vault<D>) -> R<Manifest>
+    ensures sound { (D.state vault.old.disk).honest → IsSound (D.state vault.old.disk) → IsSound (D.state vault.new.disk) }
+    ensures moments { (D.state vault.old.disk).honest → IsSound (D.state vault.old.disk)
+        → LeavesAfter SameTable (D.state vault.old.disk) (D.state vault.new.disk) }
+    ensures describes { (D.state vault.old.disk).honest → IsSound (D.state vault.old.disk)
+        → IfOk result (λ m. IsDescribed (D.state vault.new.disk) (root_of m)) }
+    ensures reads_root { (D.state vault.old.disk).honest
+        → IfOk result (λ m. (bytes : List ℕ) × (content (D.state vault.old.disk).seen root_path ≡ Some bytes) × RootMeans bytes (root_of m)) }
+    ensures only { (D.state vault.old.disk).honest → IsSound (D.state vault.old.disk) → IfErr result (λ e. (e ≡ Refusal.Device) ⊎ (e ≡ Refusal.Memory)) }
+    ensures which { (D.state vault.old.disk).honest → IfErr result (λ e. IsNotOpened (content (D.state vault.old.disk).seen root_path) e) }
+    ensures cause { IfErr result (λ e. e ≡ Refusal.Device → (D.state vault.old.disk).honest → HasFailed (D.state vault.old.disk) (D.state vault.new.disk)) }
+    ensures unchanged { (D.state vault.old.disk).honest → LeavesAll (D.state vault.old.disk) (D.state vault.new.disk) }
+    ensures told { OnOk result ((D.state vault.new.disk).failures ≡ (D.state vault.old.disk).failures) }
+    ensures reads { (D.state vault.new.disk).reads ≤ (D.state vault.old.disk).reads + 1 }
+    ensures counts { (D.state vault.old.disk).failures ≤ (D.state vault.new.disk).failures }
+    ensures honest { (D.state vault.old.disk).honest ↔ (D.state vault.new.disk).honest }
+{
+    // For the proof: the root describes one table.
+    manifest::a_root_means_one_table();
+    let manifest = read_manifest(alloc, vault)?;
+    Ok(manifest)
 }
 
 /// Makes the root that the disk reads durable, and reads what it describes. Nothing that is read changes.
