@@ -1,0 +1,5 @@
+pub mod SameTexts
+pub mod DateTexts
+pub mod TimeTexts
+pub mod TimestampTexts
+pub mod DecimalTexts

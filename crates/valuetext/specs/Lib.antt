@@ -1,0 +1,7 @@
+pub mod Units
+pub mod Dates
+pub mod Times
+pub mod Timestamps
+pub mod Decimals
+pub mod Laws
+pub mod inner

@@ -1,0 +1,24 @@
+//! What holds of the definitions.
+
+ghost use Rattle.valuetext.specs.Laws.{DatesReadBack, TimesReadBack, TimestampsReadBack, DecimalsReadBack};
+
+/// A day has one text, which is that of no other day.
+#[tactic(auto, using(crate::proofs::DateTexts::dates_read_back))]
+pub fn dates_read_back()
+    ensures { DatesReadBack }
+{}
+
+/// A time of day has one text, which is read as that time, and no text is read as two times.
+pub fn times_read_back()
+    ensures { TimesReadBack }
+{}
+
+/// A timestamp has one text, which is read as that timestamp, and no text is read as two timestamps.
+pub fn timestamps_read_back()
+    ensures { TimestampsReadBack }
+{}
+
+/// A number with a scale has one text, which is read as that number, and no text is read as two numbers.
+pub fn decimals_read_back()
+    ensures { DecimalsReadBack }
+{}

@@ -1,0 +1,19 @@
+//! Dates, times, timestamps and decimal numbers as text, and back.
+//!
+//! `specs/Dates.antt`, `Times.antt`, `Timestamps.antt` and `Decimals.antt` say which text a number has and which
+//! number a text is read as. `specs/Laws.antt` says that the two agree.
+#![tactic(auto)]
+
+mod dates;
+mod decimals;
+mod laws;
+mod times;
+mod timestamps;
+mod unit;
+
+pub use dates::{date_text, read_date};
+pub use decimals::{decimal_text, read_decimal};
+pub use laws::{dates_read_back, decimals_read_back, times_read_back, timestamps_read_back};
+pub use times::{read_time, time_text};
+pub use timestamps::{read_timestamp, timestamp_text};
+pub use unit::TimeUnit;
