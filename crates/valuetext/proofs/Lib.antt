@@ -3,3 +3,4 @@ pub mod DateTexts
 pub mod TimeTexts
 pub mod TimestampTexts
 pub mod DecimalTexts
+pub mod ByteNumbers

@@ -3,5 +3,6 @@ pub mod Dates
 pub mod Times
 pub mod Timestamps
 pub mod Decimals
+pub mod TwosComplement
 pub mod Laws
 pub mod inner

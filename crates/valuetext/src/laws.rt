@@ -1,5 +1,6 @@
 //! What holds of the definitions.
 
+ghost use Rattle.valuetext.specs.TwosComplement.{BytesReadBack};
 ghost use Rattle.valuetext.specs.Laws.{DatesReadBack, TimesReadBack, TimestampsReadBack, DecimalsReadBack};
 
 /// A day has one text, which is that of no other day.
@@ -21,4 +22,10 @@ pub fn timestamps_read_back()
 /// A number with a scale has one text, which is read as that number, and no text is read as two numbers.
 pub fn decimals_read_back()
     ensures { DecimalsReadBack }
+{}
+
+/// Bytes of one length are those of one number in two's complement.
+#[tactic(auto, using(crate::proofs::ByteNumbers::bytes_read_back))]
+pub fn bytes_read_back()
+    ensures { BytesReadBack }
 {}

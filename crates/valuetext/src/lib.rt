@@ -9,11 +9,15 @@ mod decimals;
 mod laws;
 mod times;
 mod timestamps;
+mod twos_complement;
 mod unit;
 
 pub use dates::{date_text, read_date};
 pub use decimals::{decimal_text, read_decimal};
-pub use laws::{dates_read_back, decimals_read_back, times_read_back, timestamps_read_back};
+pub use laws::{
+    bytes_read_back, dates_read_back, decimals_read_back, times_read_back, timestamps_read_back,
+};
 pub use times::{read_time, time_text};
 pub use timestamps::{read_timestamp, timestamp_text};
+pub use twos_complement::{bytes_of, number_of, repeats_sign};
 pub use unit::TimeUnit;
