@@ -7,13 +7,14 @@
 mod changing;
 mod column_text;
 mod explaining;
-mod filter_reason;
 mod folder;
 mod import_reason;
 mod key_reason;
+mod later_reason;
 mod lock;
 mod looking;
 mod making;
+mod notes;
 mod part_reason;
 mod printing;
 mod querying;

@@ -2,10 +2,12 @@
 
 ghost use Rattle.std.specs.Prelude.{◌≡◌, false, OnOk};
 
-use crate::explaining::{check_reason, schema_reason, table_reason};
+use crate::explaining::{schema_reason, table_reason};
 use crate::folder::{bytes_of, disk_of, is_folder, make_folder, refusal_of};
+use crate::later_reason::Refused;
 use crate::lock::{Access, Lock, Patience, locked};
 use crate::looking::{Checking, print_check, print_rows_fit, print_survey};
+use crate::notes::Notes;
 use crate::part_reason::is_of_bytes;
 use crate::printing::print_done;
 use crate::querying::print_schema_of;
@@ -24,7 +26,7 @@ use reports::Terminals;
 use schema::Schema;
 use std::alloc::Global;
 use std::fs;
-use std::io::{Input, Write};
+use std::io::{self, Input, Write};
 use std::rt::{Clock, Files};
 use store::Store;
 use upkeep::{described, leftovers};
@@ -61,25 +63,32 @@ where
         err: &mut E,
         terminals: Terminals,
     ) -> R<()> {
+        let notes = Notes::new(alloc)?;
         let making = Making {
             rt: self.files,
             screen: &self.screen,
             alloc,
             call,
             terminals,
+            notes: &notes,
         };
         let mut why = None;
         let made = making.make(out, err, &mut why);
-        let written = out.flush();
-        match made {
-            Ok(()) => written.map_err(refusal_of),
-            Err(refusal) => {
-                if let Some(reason) = &why {
-                    print_reason(reason, call.folder, err);
-                }
-                Err(refusal)
-            }
+        let flushed = out.flush();
+        let refusal = match (made, &flushed) {
+            (Ok(()), Ok(())) => return Ok(()),
+            (Ok(()), Err(error)) => refusal_of(*error),
+            (Err(refusal), _) => refusal,
+        };
+        let why = match why {
+            Some(reason) => Some(reason),
+            None => making.later_reason(&refusal, &flushed),
+        };
+        if let Some(reason) = &why {
+            let file = making.named_file().unwrap_or("");
+            print_reason(reason, call.folder, file, err);
         }
+        Err(refusal)
     }
 }
 
@@ -91,18 +100,30 @@ struct Making<'a, F, S> {
     alloc: Global,
     call: &'a Call<'a>,
     terminals: Terminals,
+    notes: &'a Notes,
 }
 
 impl<F: Files + Input + Clock + Clone + Drop, S: Write + Clone + Drop> Making<'_, F, S>
 where
     F::File: Lock,
 {
+    /// Why the call is refused, as far as that can be found when it is over; none where there is no memory for it.
+    fn later_reason(&self, refusal: &Refusal, flushed: &io::Result<()>) -> Option<Reason> {
+        let refused = Refused {
+            rt: self.rt,
+            alloc: self.alloc,
+            call: self.call,
+            notes: self.notes,
+        };
+        found(refused.reason(refusal, flushed))
+    }
+
     /// Makes the call, and gives a writer what it is to print. Where it is refused, `why` may get the reason.
     fn make<W: Write, E: Write>(&self, out: &mut W, err: &mut E, why: &mut Option<Reason>) -> R<()>
         ensures quiet { self.now.terminals.err ≡ false → E.contents err.new ≡ E.contents err.old }
     {
         let bytes = match self.named_file() {
-            Some(path) => bytes_of(self.rt, self.alloc, path)?,
+            Some(path) => bytes_of(self.rt, self.alloc, path, self.notes)?,
             None => Vec::new(self.alloc),
         };
         let bytes = bytes.as_slice();
@@ -175,8 +196,7 @@ where
         let schema = match schema_in(alloc, bytes) {
             Ok(schema) => schema,
             Err(refusal) => {
-                let file = self.named_file().unwrap_or("");
-                *why = found(schema_reason(alloc, file, bytes));
+                *why = found(schema_reason(alloc, bytes));
                 return Err(refusal);
             }
         };
@@ -185,7 +205,7 @@ where
             *why = found(table_reason(alloc, &schema, keys.as_slice(), &refusal));
             return Err(refusal);
         }
-        let is_new = make_folder(self.rt, alloc, self.call.folder)?;
+        let is_new = make_folder(self.rt, alloc, self.call.folder, self.notes)?;
         let lock = self.lock(Access::Writes, err, why);
         let made = match &lock {
             Ok(_) => self.make_table_in_folder(&schema, keys.as_slice(), why),
@@ -226,7 +246,7 @@ where
     fn disk(&self, shows: bool) -> R<Watched<HostDisk<F>, S>> {
         let screen = self.screen.clone()?;
         let tally = Tally::new(self.alloc, screen, shows);
-        disk_of(self.rt, self.alloc, self.call.folder, tally)
+        disk_of(self.rt, self.alloc, self.call.folder, tally, self.notes)
     }
 
     /// Looks at the dataset, which is not opened.
@@ -254,14 +274,10 @@ where
             Look::Files => {
                 let screen = self.screen.clone()?;
                 let mut checking = Checking::new(alloc, &table, screen, shows);
-                let checked = print_check(alloc, &mut vault, &table, &mut checking, out);
-                if let Err(refusal) = &checked {
-                    *why = found(check_reason(alloc, &mut vault, &table, refusal));
-                }
-                checked
+                print_check(alloc, &mut vault, &table, &mut checking, out)
             }
-            Look::Rows { rows } => match text_of(bytes) {
-                Ok(text) => print_rows_fit(alloc, &table, rows, text, out, err, shows, why),
+            Look::Rows { .. } => match text_of(bytes) {
+                Ok(text) => print_rows_fit(alloc, &table, text, out, err, shows, why),
                 Err(refusal) => {
                     *why = line_without_text(bytes).map(|line| Reason::Line(line));
                     Err(refusal)
@@ -352,7 +368,7 @@ fn loose_part<D: Disk>(
 
 /// Why no table is described, where there is more to say than the refusal.
 fn root_reason(refusal: &Refusal) -> Option<Reason> {
-    if is_of_bytes(refusal) && *refusal != Refusal::Limit {
+    if (is_of_bytes(refusal) && *refusal != Refusal::Limit) || *refusal == Refusal::Key {
         Some(Reason::Root)
     } else {
         None
