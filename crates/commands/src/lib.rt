@@ -21,6 +21,7 @@ mod querying;
 mod reason;
 mod row_lines;
 mod running;
+mod survey_json;
 mod tally;
 mod tasks;
 mod texts;
