@@ -3,6 +3,7 @@
 ghost use Rattle.std.specs.Prelude.{◌≡◌, false, OnOk};
 
 use crate::explaining::{check_reason, schema_reason, table_reason};
+use crate::filter_file::{filter_file, with_filter};
 use crate::folder::{bytes_of, disk_of, is_folder, make_folder, refusal_of};
 use crate::lock::{Access, Lock, Patience, locked};
 use crate::looking::{Checking, print_check, print_rows_fit, print_survey};
@@ -10,6 +11,7 @@ use crate::part_reason::is_of_bytes;
 use crate::printing::print_done;
 use crate::querying::print_schema_of;
 use crate::reason::{Reason, print_reason};
+use crate::stopping::run_to_refusal;
 use crate::tally::Tally;
 use crate::tasks::{ask, found, make_change, run};
 use crate::texts::{line_without_text, owned, text_of};
@@ -69,7 +71,10 @@ where
             terminals,
         };
         let mut why = None;
-        let made = making.make(out, err, &mut why);
+        let made = match filter_file(call) {
+            Some(path) => making.make_with_filter(path, out, err, &mut why),
+            None => making.make(out, err, &mut why),
+        };
         let written = out.flush();
         match made {
             Ok(()) => written.map_err(refusal_of),
@@ -97,6 +102,35 @@ impl<F: Files + Input + Clock + Clone + Drop, S: Write + Clone + Drop> Making<'_
 where
     F::File: Lock,
 {
+    /// Makes the call with the filter that is the text of a file. Refused Device where that cannot be read, Script where it
+    /// is no text, and then as [`make`](Making::make).
+    fn make_with_filter<W: Write, E: Write>(
+        &self,
+        path: &str,
+        out: &mut W,
+        err: &mut E,
+        why: &mut Option<Reason>,
+    ) -> R<()>
+        ensures quiet { self.now.terminals.err ≡ false → E.contents err.new ≡ E.contents err.old }
+    {
+        let bytes = bytes_of(self.rt, self.alloc, path)?;
+        let call = match with_filter(self.alloc, self.call, bytes.as_slice()) {
+            Ok(call) => call,
+            Err(refusal) => {
+                *why = line_without_text(bytes.as_slice()).map(|line| Reason::Line(line));
+                return Err(refusal);
+            }
+        };
+        let making = Making {
+            rt: self.rt,
+            screen: self.screen,
+            alloc: self.alloc,
+            call: &call,
+            terminals: self.terminals,
+        };
+        making.make(out, err, why)
+    }
+
     /// Makes the call, and gives a writer what it is to print. Where it is refused, `why` may get the reason.
     fn make<W: Write, E: Write>(&self, out: &mut W, err: &mut E, why: &mut Option<Reason>) -> R<()>
         ensures quiet { self.now.terminals.err ≡ false → E.contents err.new ≡ E.contents err.old }
@@ -139,10 +173,10 @@ where
     fn named_file(&self) -> Option<&str> {
         match &self.call.task {
             Task::Create { schema, .. } => Some(schema),
-            Task::Run { script } => Some(script),
+            Task::Run { script, .. } => Some(script),
             Task::Look(Look::Rows { rows }) => Some(rows),
-            Task::Change(Change::Append { rows }) => Some(rows),
-            Task::Change(Change::Import { file }) => Some(file),
+            Task::Change(Change::Append { rows, .. }) => Some(rows),
+            Task::Change(Change::Import { file, .. }) => Some(file),
             Task::Change(Change::AddColumn { schema }) => Some(schema),
             Task::Ask(Question::Schema) if !self.is_of_folder() => Some(self.call.folder),
             _ => None,
@@ -297,6 +331,9 @@ where
                     *why = Some(Reason::Unprinted);
                 }
                 told
+            }
+            Task::Run { stops, .. } if *stops => {
+                run_to_refusal(alloc, &mut store, bytes, out, why)
             }
             Task::Run { .. } => run(alloc, &mut store, bytes, out, why),
         }
