@@ -21,7 +21,7 @@ from ._values import RowReader, RowWriter, raise_refused, raw_parts
 if TYPE_CHECKING:
     from typing_extensions import Unpack
 
-# A word of a call has at most 131,071 bytes on Linux; a longer filter goes by a script.
+# A word of a call has at most 131,071 bytes on Linux; a longer filter goes by a file.
 _LONGEST_WORD = 100_000
 # All words of a call have at most 2 MiB; so many numbers of groups fit.
 _MOST_WORDS = 50_000
@@ -88,10 +88,8 @@ class Dataset:
 
         Without filters no part file is read. Raises `NoColumn`, `RowShape`, `Unordered` or `Script` for the filters.
         """
-        wanted = self._filter(filters)
-        if _is_long(wanted):
-            return self._answer({"call": "count", "filter": wanted}, "count")
-        return int(self._call("count", _filter_words(wanted)))
+        with _filter_words(self._filter(filters)) as words:
+            return int(self._call("count", words))
 
     def groups(self) -> List[Group]:
         """The groups of rows, in the order of the rows. No part file is read."""
@@ -216,12 +214,10 @@ class Dataset:
         if groups is not None:
             numbers = _numbers(groups)
             if len(numbers) > _MOST_WORDS:
-                return self._answer({"call": "remove_groups", "numbers": [*map(int, numbers)]}, "done")
+                return self._remove_by_script([*map(int, numbers)])
             return self._done("remove", self._file_words, numbers) if numbers else 0
-        wanted = self._filter(filters) or []
-        if _is_long(wanted):
-            return self._answer({"call": "remove", "filter": wanted}, "done")
-        return self._done("remove", [*self._file_words, "--filter", filter_text(wanted)])
+        with _filter_words(self._filter(filters) or []) as words:
+            return self._done("remove", [*self._file_words, *words])
 
     def rewrite(self, *, min_rows: Optional[int] = None, groups: Optional[Iterable[Union[int, Group]]] = None) -> int:
         """Writes groups anew, joins those of one key that are next to each other, and returns how many rows.
@@ -282,11 +278,11 @@ class Dataset:
             raise WrongCall(f"pqds {command} printed {said!r}")
         return int(said[5:])
 
-    def _answer(self, made: Mapping[str, Any], word: str) -> int:
-        """Makes one call by a script, and returns the number in its answer."""
-        answer = self._script([made])[0]
-        raise_refused(answer, FIND_OUT.get(made["call"], ""))
-        return int(answer[word])
+    def _remove_by_script(self, numbers: Sequence[int]) -> int:
+        """Removes groups, more than the words of a call can name."""
+        answer = self._script([{"call": "remove_groups", "numbers": numbers}])[0]
+        raise_refused(answer, FIND_OUT["remove"])
+        return int(answer["done"])
 
     def _put(self, rows: Prepared) -> int:
         return self._done(rows.command, self._file_words, [rows.file], rows.parts)
@@ -326,15 +322,13 @@ class Dataset:
                 return
 
     def _printed(self, wanted: Selection) -> Iterator[List[Any]]:
-        if _is_long(wanted.filter):
-            yield from self._by_groups(wanted)
-            return
         names = [it.name for it in wanted.fields]
-        if not names:
-            yield [{}] * int(self._call("count", _filter_words(wanted.filter)))
-            return
-        for some in lines("query", self._words(_filter_words(wanted.filter), names)):
-            yield json.loads(b"[%b]" % b",".join(some))
+        with _filter_words(wanted.filter) as words:
+            if not names:
+                yield [{}] * int(self._call("count", words))
+                return
+            for some in lines("query", self._words(words, names)):
+                yield json.loads(b"[%b]" % b",".join(some))
 
     def _by_groups(self, wanted: Selection) -> Iterator[List[Any]]:
         """The rows of each group that has some, by a script, whose answers the program has in memory all at once."""
@@ -460,12 +454,20 @@ def checked_floats(fields: Sequence[Field], floats: Mapping[str, int]) -> None:
             raise Schema(f"floats: column {name} is no decimal with {places} places")
 
 
-def _is_long(wanted: Optional[List[Any]]) -> bool:
-    return wanted is not None and len(filter_text(wanted).encode()) > _LONGEST_WORD
-
-
-def _filter_words(wanted: Optional[List[Any]]) -> List[str]:
-    return [] if wanted is None else ["--filter", filter_text(wanted)]
+@contextmanager
+def _filter_words(wanted: Optional[List[Any]], option: str = "--filter") -> Iterator[List[str]]:
+    """A filter as words of a call, while they are used: a long one is in a file."""
+    if wanted is None:
+        yield []
+        return
+    text = filter_text(wanted)
+    if len(text.encode()) <= _LONGEST_WORD:
+        yield [option, text]
+        return
+    with tempfile.NamedTemporaryFile(prefix="pqds-") as file:
+        file.write(text.encode())
+        file.flush()
+        yield [option, f"@{file.name}"]
 
 
 def _numbers(groups: Iterable[Union[int, Group]]) -> List[str]:

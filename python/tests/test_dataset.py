@@ -247,12 +247,24 @@ class Tables(RoomCase):
         table = self.filled()
         long = [("order", "in", list(range(2, 100_000)))]
         self.assertEqual(table.count(long), 2)
+        self.assertEqual(table.count([*long, ("cents", "<", 1000)]), 1)
         self.assertEqual([it["order"] for it in table.rows(long)], [3, 2])
         self.assertEqual([it["order"] for it in table.rows(long, limit=1)], [3])
         with self.assertRaises(pqds.NoColumn):
             table.count([*long, ("nothing", "==", 1)])
         self.assertEqual(table.remove(long), 2)
         self.assertEqual([it["order"] for it in table.rows()], [1])
+
+    def test_a_long_filter_is_in_a_file(self) -> None:
+        table = self.filled()
+        values = ",".join(map(str, range(50_000)))
+        long = [("order", "in", list(range(50_000)))]
+        for command, call, answer in (
+            ("count", lambda: table.count(long), "echo 0"),
+            ("query", lambda: list(table.rows(long)), "true"),
+            ("remove", lambda: table.remove(long), "echo done 0"),
+        ):
+            self.assertIn(f'@[["order","in",[{values}]]]', self.words_of(command, call, answer))
 
     def test_no_wait(self) -> None:
         table = pqds.open("orders", wait=False)
