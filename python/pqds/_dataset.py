@@ -5,6 +5,7 @@ from __future__ import annotations
 import json
 import os
 import re
+import sys
 import tempfile
 from contextlib import contextmanager
 from dataclasses import dataclass
@@ -13,7 +14,7 @@ from typing import TYPE_CHECKING, Any, Dict, Iterable, Iterator, List, Mapping, 
 from . import _tables
 from ._errors import Limit, NoTable, PqdsError, Refused, Schema, WrongCall
 from ._filters import Filters, filter_json, filter_text
-from ._options import FileOptions, file_words
+from ._options import FileOptions, file_words, limit_words
 from ._program import FIND_OUT, PathLike, call, lines, path_word
 from ._schema import Field, JsonField, fields_of, leaf_at, schema_text, with_reps
 from ._values import RowReader, RowWriter, raise_refused, raw_parts
@@ -132,8 +133,9 @@ class Dataset:
         A change of the table waits until the iterator ends or is closed. A loop that changes the table takes
         `list(table.rows())` first: it would wait for itself, and the change raises `WrongCall`.
 
-        `columns` are the names of the columns wanted, all without it. `limit` is the greatest number of rows. With
-        `raw` the values are as the program prints them: dates and times as numbers, bytes as hexadecimal digits.
+        `columns` are the names of the columns wanted, all without it. `limit` is the greatest number of rows; groups
+        after these rows are not read. With `raw` the values are as the program prints them: dates and times as
+        numbers, bytes as hexadecimal digits.
 
         Raises as `count` does, and `Refused` for a damaged part file, after the rows before it.
         """
@@ -311,23 +313,13 @@ class Dataset:
 
     def _batches(self, wanted: Selection, limit: Optional[int] = None) -> Iterator[List[Any]]:
         """The rows that the program prints, some at a time."""
-        left = limit
-        for some in self._printed(wanted):
-            if left is None:
-                yield some
-            elif left > 0:
-                yield some[:left]
-                left -= len(some)
-            if left is not None and left <= 0:
-                return
-
-    def _printed(self, wanted: Selection) -> Iterator[List[Any]]:
         names = [it.name for it in wanted.fields]
         with _filter_words(wanted.filter) as words:
             if not names:
-                yield [{}] * int(self._call("count", words))
+                # Without names the program would print all columns.
+                yield [{}] * min(int(self._call("count", words)), sys.maxsize if limit is None else limit)
                 return
-            for some in lines("query", self._words(words, names)):
+            for some in lines("query", self._words([*words, *limit_words(limit)], names)):
                 yield json.loads(b"[%b]" % b",".join(some))
 
     def _by_groups(self, wanted: Selection) -> Iterator[List[Any]]:

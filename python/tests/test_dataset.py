@@ -65,6 +65,20 @@ class Tables(RoomCase):
         self.assertEqual(list(table.rows(limit=0)), [])
         self.assertEqual(list(table.rows([("order", "==", 1)], columns=[])), [{}])
 
+    def test_the_limit_goes_to_the_program(self) -> None:
+        table = self.filled()
+        words = self.words_of("query", lambda: list(table.rows([("order", ">", 0)], limit=2)))
+        self.assertEqual(words[words.index("--limit") + 1], "2")
+        self.assertNotIn("--limit", self.words_of("query", lambda: list(table.rows())))
+        self.assertEqual(list(table.rows([("order", ">", 1)], ["order"], limit=1)), [{"order": 3}])
+        self.assertEqual(len(list(table.rows(limit=1 << 63))), 3)
+        self.assertEqual(list(table.rows(columns=[], limit=2)), [{}, {}])
+        with self.assertRaises(pqds.WrongCall):
+            list(table.rows(limit=-1))
+        # The second group is not read.
+        Path("orders/region=south/part.1.parquet").unlink()
+        self.assertEqual(list(table.rows(limit=2)), SORTED[:2])
+
     def test_rows_can_be_left_before_their_end(self) -> None:
         table = self.filled()
         rows = table.rows()
