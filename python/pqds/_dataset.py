@@ -89,7 +89,7 @@ class Dataset:
 
         Without filters no part file is read. Raises `NoColumn`, `RowShape`, `Unordered` or `Script` for the filters.
         """
-        with _filter_words(self._filter(filters)) as words:
+        with _filter_words(self._filter(filters) or None) as words:
             return int(self._call("count", words))
 
     def groups(self) -> List[Group]:
@@ -171,34 +171,51 @@ class Dataset:
 
     # ---- changes ----
 
-    def append(self, data: Any, *, floats: Optional[Mapping[str, int]] = None, raw: bool = False) -> int:
+    def append(
+        self,
+        data: Any,
+        unless: Optional[Filters] = None,
+        *,
+        floats: Optional[Mapping[str, int]] = None,
+        raw: bool = False,
+    ) -> int:
         """Appends rows in one commit, and returns how many.
+
+        With `unless`, a filter, nothing is appended if a row of the table satisfies it; then 0 is returned. No other
+        call comes between the two. So a load can be made again if only its own rows satisfy the filter.
 
         `data` is a DataFrame, a `pyarrow.Table`, record batches, or dicts: a list or any iterable, which is read as the
         program takes it. Columns are taken by their names; an absent OPTIONAL one is null. `floats` names columns whose
         floats are taken as decimals, with so many places. With `raw` the dicts are as the program prints rows.
 
-        Raises `RowShape` for a row that is none of the table, `Float` for floats that are not in `floats`, and `Key`.
-        If `data` raises an exception, nothing is appended.
+        Raises `RowShape` for a row that is none of the table, `Float` for floats that are not in `floats`, and `Key`;
+        as `count` does for `unless`. If `data` raises an exception, nothing is appended.
         """
         if raw:
-            return self._put(Prepared("append", "-", raw_parts(data)))
-        with prepared(data, self.schema(), floats or {}) as rows:
-            return self._put(rows)
+            return self._put(Prepared("append", "-", raw_parts(data)), self._filter(unless))
+        said = self.schema()
+        wanted = _filter_of(said, unless)
+        with prepared(data, said, floats or {}) as rows:
+            return self._put(rows, wanted)
 
-    def import_files(self, files: Union[PathLike, Iterable[PathLike]]) -> int:
+    def import_files(self, files: Union[PathLike, Iterable[PathLike]], unless: Optional[Filters] = None) -> int:
         """Appends the rows of Parquet files, and returns how many.
 
         The columns of a file are those of the table, with the keys, in their order. Each file is a commit of its own:
         if one is refused, those before it are in the table, and the text of the exception says how many.
 
+        `unless` is that of `append`. It takes one file: after the first of several the filter would hold.
+
         Raises `Schema` for other columns, `Codec` for compressed files, `Float` and `Int96` for such columns.
         """
         paths: List[PathLike] = [files] if isinstance(files, (str, os.PathLike)) else list(files)
+        if unless is not None and len(paths) > 1:
+            raise TypeError(f"import_files takes one file with unless, found {len(paths)}: each is a commit of its own")
+        wanted = self._filter(unless)
         rows = 0
         for number, path in enumerate(paths):
             try:
-                rows += self._done("import", self._file_words, [path_word(path)])
+                rows += self._put(Prepared("import", path_word(path), None), wanted)
             except Refused as refused:
                 if len(paths) > 1:
                     before = f"{path_word(path)}, after {number} files with {rows} rows, which are in the table"
@@ -218,7 +235,7 @@ class Dataset:
             if len(numbers) > _MOST_WORDS:
                 return self._remove_by_script([*map(int, numbers)])
             return self._done("remove", self._file_words, numbers) if numbers else 0
-        with _filter_words(self._filter(filters) or []) as words:
+        with _filter_words(self._filter(filters)) as words:
             return self._done("remove", [*self._file_words, *words])
 
     def rewrite(self, *, min_rows: Optional[int] = None, groups: Optional[Iterable[Union[int, Group]]] = None) -> int:
@@ -286,8 +303,9 @@ class Dataset:
         raise_refused(answer, FIND_OUT["remove"])
         return int(answer["done"])
 
-    def _put(self, rows: Prepared) -> int:
-        return self._done(rows.command, self._file_words, [rows.file], rows.parts)
+    def _put(self, rows: Prepared, unless: Optional[List[Any]] = None) -> int:
+        with _filter_words(unless, "--unless") as words:
+            return self._done(rows.command, [*self._file_words, *words], [rows.file], rows.parts)
 
     def _script(self, calls: Sequence[Mapping[str, Any]]) -> List[Dict[str, Any]]:
         return [json.loads(it) for it in self._script_lines(calls)]
@@ -298,7 +316,7 @@ class Dataset:
             yield from some
 
     def _filter(self, filters: Optional[Filters]) -> Optional[List[Any]]:
-        return None if filters is None else filter_json(fields_of(self.schema()), filters)
+        return None if filters is None else _filter_of(self.schema(), filters)
 
     def _selection(self, filters: Optional[Filters], columns: Optional[Sequence[str]]) -> Selection:
         fields = fields_of(self.schema())
@@ -444,6 +462,11 @@ def checked_floats(fields: Sequence[Field], floats: Mapping[str, int]) -> None:
         field = leaf_at(fields, name)
         if field.meaning != "decimal" or field.scale < places:
             raise Schema(f"floats: column {name} is no decimal with {places} places")
+
+
+def _filter_of(said: Sequence[JsonField], filters: Optional[Filters]) -> Optional[List[Any]]:
+    """A filter in JSON on these columns, None if there is none. An empty one holds for every row."""
+    return None if filters is None else filter_json(fields_of(said), filters) or []
 
 
 @contextmanager

@@ -102,6 +102,36 @@ class Tables(RoomCase):
         self.assertEqual(self.table.append([]), 0)
         self.assertEqual(self.table.count(), 3)
 
+    def test_append_unless_a_row_satisfies(self) -> None:
+        table = self.filled()
+        self.assertEqual(table.append(ROWS, [("order", "==", 2)]), 0)
+        self.assertEqual(table.append(ROWS[:1], unless=[("region", "==", "west")]), 1)
+        self.assertEqual(table.append(ROWS, [("order", "==", 2)], raw=True), 0)
+        self.assertEqual(table.append(ROWS, [[("order", "==", 9)], [("cents", "<", 1000)]]), 0)
+        self.assertEqual(table.append(ROWS, []), 0)
+        self.assertEqual(table.count(), 4)
+        self.assertEqual(pqds.create("empty", ORDERS).append(ROWS, unless=[]), 3)
+        with self.assertRaises(pqds.NoColumn):
+            table.append(ROWS, [("colour", "==", "red")])
+        with self.assertRaises(pqds.RowShape):
+            table.append([{"order": 5}], [("order", "==", 5)])
+        self.assertEqual(table.count(), 4)
+
+    def test_append_unless_a_row_satisfies_a_long_filter(self) -> None:
+        table = self.filled()
+        long = [("order", "in", list(range(3, 30_000)))]
+        self.assertEqual(table.append(ROWS, long), 0)
+        self.assertEqual(table.append(ROWS, [*long, ("order", ">", 3)]), 3)
+
+    def test_unless_goes_to_the_program(self) -> None:
+        words = self.words_of("append", lambda: self.table.append(ROWS, [("order", "==", 2)]), "echo done 0")
+        self.assertEqual(words[words.index("--unless") + 1], '[["order","==",2]]')
+        words = self.words_of("append", lambda: self.table.append(ROWS, []), "echo done 0")
+        self.assertEqual(words[words.index("--unless") + 1], "[]")
+        self.assertNotIn("--unless", self.words_of("append", lambda: self.table.append(ROWS), "echo done 3"))
+        words = self.words_of("import", lambda: self.table.import_files("f", [("order", "==", 2)]), "echo done 0")
+        self.assertEqual(words[words.index("--unless") + 1], '[["order","==",2]]')
+
     def test_raw_rows_are_the_programs(self) -> None:
         self.assertEqual(self.table.append(ROWS, raw=True), 3)
         self.assertEqual(sorted(next(self.table.rows(raw=True))), ["cents", "order", "region"])

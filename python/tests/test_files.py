@@ -54,6 +54,19 @@ class Files(RoomCase):
         self.assertEqual(table.import_files([]), 0)
         self.assertEqual(table.count(), 6)
 
+    def test_import_unless_a_row_satisfies(self) -> None:
+        table = pqds.create("t", ORDERS)
+        pqds.encode(ORDERS, ROWS, "one")
+        for done in (2, 0):
+            self.assertEqual(table.import_files("one", unless=[("order", "==", 2)]), done)
+        self.assertEqual(table.import_files(["one"], [("order", "==", 3)]), 2)
+        with self.assertRaises(pqds.NoColumn):
+            table.import_files("one", [("colour", "==", "red")])
+        with self.assertRaises(TypeError):
+            table.import_files(["one", "one"], [("order", "==", 3)])
+        self.assertEqual(table.import_files([], [("order", "==", 3)]), 0)
+        self.assertEqual(table.count(), 4)
+
     def test_import_says_which_file_was_refused(self) -> None:
         table = pqds.create("t", ORDERS)
         pqds.encode(ORDERS, ROWS, "one")
