@@ -238,19 +238,28 @@ class Dataset:
         with _filter_words(self._filter(filters)) as words:
             return self._done("remove", [*self._file_words, *words])
 
-    def rewrite(self, *, min_rows: Optional[int] = None, groups: Optional[Iterable[Union[int, Group]]] = None) -> int:
+    def rewrite(
+        self,
+        *,
+        min_rows: Optional[int] = None,
+        groups: Optional[Iterable[Union[int, Group]]] = None,
+        all: bool = False,  # noqa: A002
+    ) -> int:
         """Writes groups anew, joins those of one key that are next to each other, and returns how many rows.
 
-        `min_rows` takes the groups with fewer rows that have such a neighbour. The rows and their order stay the same.
+        `min_rows` takes the groups with fewer rows that have such a neighbour. `all` takes every group: then each file
+        has all columns, also those added later, and the options of this object. The rows and their order stay the same.
         Raises `NoGroup`, and `Limit` for more than 50,000 groups by their numbers.
         """
-        if (min_rows is None) == (groups is None):
-            raise TypeError("rewrite takes min_rows or groups")
+        if [min_rows is not None, groups is not None, all].count(True) != 1:
+            raise TypeError("rewrite takes min_rows, groups or all=True")
         if groups is not None:
             numbers = _numbers(groups)
             if len(numbers) > _MOST_WORDS:
-                raise Limit(f"{len(numbers)} groups are more than the {_MOST_WORDS} of one call: use min_rows")
+                raise Limit(f"{len(numbers)} groups are more than the {_MOST_WORDS} of one call: use min_rows or all")
             return self._done("rewrite", self._file_words, numbers) if numbers else 0
+        if all:
+            return self._done("rewrite", [*self._file_words, "--all"])
         return self._done("rewrite", [*self._file_words, "--min-rows", str(min_rows)])
 
     def add_column(self, column: Any) -> None:

@@ -194,7 +194,7 @@ class Tables(RoomCase):
         with self.assertRaises(pqds.Limit):
             table.rewrite(groups=range(60_000))
 
-    def test_remove_and_rewrite_take_one_of_two(self) -> None:
+    def test_remove_and_rewrite_take_one_of_their_words(self) -> None:
         for call in (self.table.remove, self.table.rewrite):
             with self.assertRaises(TypeError):
                 call()
@@ -202,6 +202,8 @@ class Tables(RoomCase):
             self.table.remove([], groups=[1])
         with self.assertRaises(TypeError):
             self.table.rewrite(min_rows=1, groups=[1])
+        with self.assertRaises(TypeError):
+            self.table.rewrite(min_rows=1, all=True)
 
     def test_rewrite(self) -> None:
         table = self.filled()
@@ -213,6 +215,20 @@ class Tables(RoomCase):
         self.assertEqual(table.count(), 6)
         with self.assertRaises(pqds.NoGroup):
             table.rewrite(groups=[99])
+
+    def test_rewrite_all(self) -> None:
+        table = self.filled()
+        self.assertEqual(pqds.create("empty", ORDERS).rewrite(all=True), 0)
+        table.append(ROWS)
+        table.add_column({"name": "note", "type": "bytes", "note": "utf8"})
+        before = list(table.rows())
+        words = self.words_of("rewrite", lambda: table.rewrite(all=True), "echo done 6")
+        self.assertIn("--all", words)
+        self.assertEqual(pqds.open("orders", style="dictionary").rewrite(all=True), 6)
+        self.assertEqual([it.rows for it in table.groups()], [4, 2])
+        self.assertEqual(list(table.rows()), before)
+        for part in Path("orders").glob("*/*.parquet"):
+            self.assertEqual([it["name"] for it in pqds.file_schema(part)], ["order", "cents", "note"])
 
     def test_add_column(self) -> None:
         table = self.filled()
