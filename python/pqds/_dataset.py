@@ -271,19 +271,29 @@ class Dataset:
         said = column if isinstance(column, Mapping) else _tables.field_json(column)
         self._done("add-column", [], ["-"], [schema_text([{"rep": "optional", **said}])])
 
-    def run(self, calls: Iterable[Mapping[str, Any]]) -> List[Dict[str, Any]]:
+    def run(self, calls: Iterable[Mapping[str, Any]], stop: bool = True) -> List[Dict[str, Any]]:
         """Makes the calls of a script on one opening of the table, and returns the answer of each.
 
         A call is a dict, such as `{"call": "count", "filter": [("n", ">", 1)]}`; `pqds run --help` has all of them.
         Values of rows and filters are those of Python, and so are the rows of a batch. No other command comes between
         the calls.
 
-        A call that is refused does not end the script: its answer has `refused`, the number, and `name`, and the calls
-        after it are made. Raises `RowShape`, `NoColumn` or `Script` if a call is none; then no call is made.
+        The first call that is refused ends the script, and raises its refusal. The calls before it are made, each is a
+        commit of its own; `answers` of the exception has their answers. With `stop=False` the calls after it are made
+        too, and its answer has `refused`, the number, and `name`.
+
+        Raises `RowShape`, `NoColumn` or `Script` if a call is none; then no call is made.
         """
         fields = list(fields_of(self.schema()))
         made = [_call_json(fields, it) for it in calls]
-        return [_answer(fields, it) for it in self._script(made)]
+        answers: List[Dict[str, Any]] = []
+        try:
+            for line in self._script_lines(made, ["--stop"] if stop else []):
+                answers.append(_answer(fields, json.loads(line)))
+        except Refused as refused:
+            refused.answers = [it for it in answers if "refused" not in it]
+            raise
+        return answers
 
     # ---- the program ----
 
@@ -308,7 +318,8 @@ class Dataset:
 
     def _remove_by_script(self, numbers: Sequence[int]) -> int:
         """Removes groups, more than the words of a call can name."""
-        answer = self._script([{"call": "remove_groups", "numbers": numbers}])[0]
+        printed = list(self._script_lines([{"call": "remove_groups", "numbers": numbers}]))
+        answer = json.loads(printed[0])
         raise_refused(answer, FIND_OUT["remove"])
         return int(answer["done"])
 
@@ -316,12 +327,9 @@ class Dataset:
         with _filter_words(unless, "--unless") as words:
             return self._done(rows.command, [*self._file_words, *words], [rows.file], rows.parts)
 
-    def _script(self, calls: Sequence[Mapping[str, Any]]) -> List[Dict[str, Any]]:
-        return [json.loads(it) for it in self._script_lines(calls)]
-
-    def _script_lines(self, calls: Sequence[Mapping[str, Any]]) -> Iterator[bytes]:
+    def _script_lines(self, calls: Sequence[Mapping[str, Any]], options: Sequence[str] = ()) -> Iterator[bytes]:
         text = "\n".join(json.dumps(it, ensure_ascii=False, separators=(",", ":")) for it in calls)
-        for some in lines("run", self._words(self._file_words, ["-"]), text.encode()):
+        for some in lines("run", self._words([*self._file_words, *options], ["-"]), text.encode()):
             yield from some
 
     def _filter(self, filters: Optional[Filters]) -> Optional[List[Any]]:

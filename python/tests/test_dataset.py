@@ -4,6 +4,7 @@ from __future__ import annotations
 
 import fcntl
 import os
+import pickle
 import unittest
 from pathlib import Path
 from typing import Any, Dict, Iterator, List
@@ -249,10 +250,37 @@ class Tables(RoomCase):
                 {"call": "add_column", "field": {"name": "day", "type": "int32", "note": "date"}},
                 {"call": "query", "columns": None, "filter": []},
                 {"call": "fetch", "cursor": 0},
-            ]
+            ],
+            stop=False,
         )
         self.assertEqual(answers[:4], [{"done": 3}, {"name": "NoGroup", "refused": 18}, {"count": 2}, {"done": 0}])
         self.assertEqual(answers[5]["batch"], [{**it, "day": None} for it in SORTED[:2]])
+
+    def test_a_script_ends_at_the_first_call_that_is_refused(self) -> None:
+        calls: List[Dict[str, Any]] = [
+            {"call": "append", "rows": ROWS},
+            {"call": "count", "filter": [("region", "==", "north")]},
+            {"call": "remove_groups", "numbers": [9]},
+            {"call": "remove", "filter": []},
+        ]
+        with self.assertRaises(pqds.NoGroup) as caught:
+            self.table.run(calls)
+        self.assertEqual(caught.exception.answers, [{"done": 3}, {"count": 2}])
+        self.assertEqual(caught.exception.reason, "2 of 4 calls were made")
+        self.assertEqual(self.table.count(), 3)
+        self.assertEqual(self.table.run(calls[:2]), [{"done": 3}, {"count": 4}])
+        self.assertEqual(self.table.run([]), [])
+
+    def test_the_refusal_of_a_call_is_raised_with_the_answers_before_it(self) -> None:
+        answers = """echo '{"done":3}'; echo '{"name":"InDoubt","refused":26}'"""
+        script = f"{answers}; echo '1 of 4 calls were made' >&2; echo 'refused 26 InDoubt' >&2; exit 1"
+        with self.assertRaises(pqds.InDoubt) as caught:
+            self.words_of("run", lambda: self.table.run([{"call": "groups"}]), script)
+        self.assertEqual(caught.exception.answers, [{"done": 3}])
+        self.assertIn("1 of 4 calls were made", caught.exception.reason)
+        self.assertEqual(pickle.loads(pickle.dumps(caught.exception)).answers, [{"done": 3}])
+        self.assertIn("--stop", Path("words").read_text())
+        self.assertNotIn("--stop", self.words_of("run", lambda: self.table.run([{"call": "groups"}], stop=False)))
 
     def test_a_script_with_a_wrong_call_makes_none(self) -> None:
         with self.assertRaises(pqds.RowShape):
