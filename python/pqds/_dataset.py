@@ -152,9 +152,13 @@ class Dataset:
         columns: Optional[Sequence[str]] = None,
         limit: Optional[int] = None,
     ) -> Any:
-        """The rows as a `pyarrow.Table`, with the types of the columns. Takes and raises what `rows` does."""
+        """The rows as a `pyarrow.Table`, with the types of the columns. Takes and raises what `rows` does.
+
+        The program writes the rows as Parquet files in a temporary folder, which pyarrow reads.
+        """
         wanted = self._selection(filters, columns)
-        return _tables.arrow_table(wanted.fields, self._batches(wanted, limit))
+        table = self._by_files(wanted, limit)
+        return _tables.arrow_table(wanted.fields, self._batches(wanted, limit)) if table is None else table
 
     def to_pandas(
         self,
@@ -165,10 +169,13 @@ class Dataset:
         """The rows as a `pandas.DataFrame`. Takes and raises what `rows` does.
 
         OPTIONAL integers and booleans have pandas' nullable types, timestamps are in UTC, and dates, times, decimals,
-        bytes, lists, maps and groups are Python's objects.
+        bytes, lists, maps and groups are Python's objects. With pyarrow the rows come as they do for `to_arrow`.
         """
         wanted = self._selection(filters, columns)
-        return _tables.frame(wanted.fields, self._batches(wanted, limit))
+        table = self._by_files(wanted, limit)
+        if table is None:
+            return _tables.frame(wanted.fields, self._batches(wanted, limit))
+        return _tables.frame_of_arrow(wanted.fields, table)
 
     # ---- changes ----
 
@@ -357,6 +364,15 @@ class Dataset:
                 return
             for some in lines("query", self._words([*words, *limit_words(limit)], names)):
                 yield json.loads(b"[%b]" % b",".join(some))
+
+    def _by_files(self, wanted: Selection, limit: Optional[int]) -> Any:
+        """The rows as a `pyarrow.Table`, by files that the program writes; None if they have to come as lines."""
+        names = [it.name for it in wanted.fields]
+        if not names or not _tables.has_arrow():
+            return None
+        with tempfile.TemporaryDirectory(prefix="pqds-") as folder, _filter_words(wanted.filter) as words:
+            self._call("query", [*words, *limit_words(limit), "--out", folder], names)
+            return _tables.table_of_files(wanted.fields, folder)
 
     def _by_groups(self, wanted: Selection) -> Iterator[List[Any]]:
         """The rows of each group that has some, by a script, whose answers the program has in memory all at once."""

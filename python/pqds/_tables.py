@@ -90,6 +90,21 @@ def arrow_table(fields: Sequence[Field], batches: Iterator[List[Dict[str, Any]]]
     return _arrow.table_of_rows(fields, batches)
 
 
+def has_arrow() -> bool:
+    """Whether pyarrow can be imported."""
+    return _arrow.is_there()
+
+
+def table_of_files(fields: Sequence[Field], folder: str) -> Any:
+    """A `pyarrow.Table` of the files in a folder, or None if pyarrow would read them as other values."""
+    return _arrow.table_of_files(fields, folder)
+
+
+def frame_of_arrow(fields: Sequence[Field], table: Any) -> Any:
+    """A `pandas.DataFrame` of a `pyarrow.Table` with these columns."""
+    return _pandas.frame_of_arrow(fields, table)
+
+
 def frame(fields: Sequence[Field], batches: Iterator[List[Dict[str, Any]]]) -> Any:
     """A `pandas.DataFrame` of rows as the program prints them."""
     return _pandas.frame_of_rows(fields, batches)
