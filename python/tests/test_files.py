@@ -20,6 +20,13 @@ class Files(RoomCase):
         self.assertEqual(pqds.inspect("f.parquet")["rows"], 2)
         self.assertEqual(sorted(next(pqds.decode("f.parquet", raw=True))), ["cents", "order", "region"])
 
+    def test_the_first_rows_of_a_file(self) -> None:
+        pqds.encode(ORDERS, ROWS, "f.parquet")
+        self.assertEqual(list(pqds.decode("f.parquet", limit=1)), ROWS[:1])
+        self.assertEqual(list(pqds.decode("f.parquet", limit=0)), [])
+        words = self.words_of("decode", lambda: list(pqds.decode("f.parquet", limit=5)))
+        self.assertEqual(words[words.index("--limit") + 1], "5")
+
     def test_encode_replaces_no_file(self) -> None:
         Path("f.parquet").write_text("mine")
         with self.assertRaises(pqds.Exists):
