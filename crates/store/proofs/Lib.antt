@@ -103,3 +103,5 @@ pub mod RunsBrought
 pub mod RewriteHeld
 pub mod RewriteDone
 pub mod RunByRun
+pub mod Idle
+pub mod FreePaths

@@ -108,7 +108,7 @@ cleans_at {D} state old store vault manifest at_vault at_manifest cleans =
 
 -- ---- what a refused opening leaves
 
-all_here : (disk : DiskState) → LeavesAll disk disk
+pub all_here : (disk : DiskState) → LeavesAll disk disk
 all_here disk = record {
   moments = nothing_yet Same disk (λ u q. refl);
   rooted = λ rooted. stays_rooted_here disk rooted;

@@ -7,6 +7,7 @@ pub mod Writing
 pub mod Wide
 pub mod Committing
 pub mod Cleaning
+pub mod Keeping
 pub mod Promises
 pub mod Acting
 pub mod Weighing

@@ -53,7 +53,7 @@ impl<D: Disk> Store<D> {
         if finds_nothing(self.jobs.as_slice(), job) {
             self.snapshots.step(alloc, Event::Ended(job))?;
             end_job(&mut self.jobs, job);
-            self.clean_up(alloc);
+            self.let_go(alloc);
             return Ok(0);
         }
         if finds_append(self.jobs.as_slice(), job) {
@@ -103,7 +103,7 @@ impl<D: Disk> Store<D> {
         }
         self.snapshots.step(alloc, Event::Ended(job))?;
         end_job(&mut self.jobs, job);
-        self.clean_up(alloc);
+        self.let_go(alloc);
         Ok(())
     }
 }

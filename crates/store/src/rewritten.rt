@@ -65,7 +65,7 @@ impl<D: Disk> Store<D> {
     {
         self.snapshots.step(alloc, Event::Ended(job))?;
         end_job(&mut self.jobs, job);
-        self.clean_up(alloc);
+        self.let_go(alloc);
         Err(Refusal::Stale)
     }
 
