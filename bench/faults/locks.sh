@@ -7,7 +7,8 @@
 # - Two appends that begin at once are both done.
 # - An append beside a query whose reader is slow waits for it; the query prints the rows from before, and the append is done.
 # - Two queries run side by side.
-# - With --no-wait a command beside another one is refused 25, after a line that says why, and changes nothing.
+# - With --no-wait, and with --wait after its seconds, a command beside another one is refused 25, after a line that says why, and
+#   changes nothing.
 # - A command that is killed while it has the folder leaves it free.
 # - A command says on a terminal what it waits for, and nothing elsewhere.
 # - An append that waits while another folder comes in the place of the dataset's waits for that one, and changes it alone.
@@ -96,6 +97,9 @@ begun = time.time()
 ended = called("append", "--no-wait", "slow", "more.jsonl")
 wanted = (1, "", "another command is using slow\nrefused 25 Device\n")
 tell("--no-wait is refused at once", ended == wanted and time.time() - begun < 5, ended)
+begun = time.time()
+ended = called("append", "--wait", "2", "slow", "more.jsonl")
+tell("--wait 2 is refused after two seconds", ended == wanted and 1.9 < time.time() - begun < 10, ended)
 tell("--no-wait of a query beside a query is done", called("count", "slow", "--no-wait") == (0, f"{2 * ROWS}\n", ""))
 waiting = begin("append", "slow", "more.jsonl")
 query.kill()

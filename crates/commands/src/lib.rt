@@ -6,14 +6,17 @@
 
 mod changing;
 mod column_text;
+mod creating;
 mod explaining;
 mod filter_reason;
 mod folder;
+mod folder_lock;
 mod import_reason;
 mod key_reason;
 mod lock;
 mod looking;
 mod making;
+mod opening;
 mod part_reason;
 mod printing;
 mod querying;

@@ -1,14 +1,10 @@
-//! The lock on a dataset's folder: one command changes a dataset at a time, and none reads it meanwhile.
+//! Locks on open files and folders, and how a command waits for one.
 
 ghost use Rattle.std.specs.Prelude.{◌≡◌, false, OnOk};
 
-use crate::folder::{is_folder, refusal_of};
-use crate::reason::Reason;
-use bits::{R, Refusal};
-use std::fs::{self, File, OpenFile, TryLockError};
+use std::fs::{File, TryLockError};
 use std::io::{self, Write};
-use std::os::unix::fs::MetadataExt;
-use std::rt::{Clock, Files};
+use std::rt::Clock;
 use std::thread;
 use std::time::Duration;
 
@@ -51,86 +47,42 @@ impl Lock for File {
     }
 }
 
-/// How a command waits for another one.
+/// How long a command waits for another one.
 #[derive(Clone, Copy)]
 pub struct Patience {
-    /// Whether the command waits at all; else it is refused at once.
-    pub waits: bool,
-    /// Whether the command says that it waits.
+    /// The seconds that it waits at most for a lock, and is refused then; None for as long as it takes.
+    pub seconds: Option<u64>,
+    /// Whether it says that it waits.
     pub shows: bool,
 }
+
+/// The time between two tries to take a lock.
+const PAUSE_MILLISECONDS: u64 = 10;
+
+/// How many such pauses a second has.
+const PAUSES_A_SECOND: u64 = 100;
 
 /// The time after which a command says that it waits.
 const SILENT_SECONDS: u64 = 1;
 
-/// Opens a folder and locks it; the lock is held until what is returned goes. Where another folder has come in its place by
-/// then, that one is opened and locked.
-///
-/// Refused Device where it is no folder or cannot be opened; where it cannot be locked; and where another command has it and
-/// there is no patience, or it is exchanged again and again. Of the last three `why` says which.
-pub fn locked<F: Files + Clock, E: Write>(
+/// Tries to lock what is open, again and again for so many seconds, and at least once. Whether the lock was taken.
+pub fn try_for<F: Clock, L: Lock>(
     rt: &F,
-    folder: &str,
+    opened: &L,
     access: Access,
-    patience: Patience,
-    err: &mut E,
-    why: &mut Option<Reason>,
-) -> R<F::File>
-where
-    F::File: Lock,
-    ensures quiet { patience.shows ≡ false → E.contents err.new ≡ E.contents err.old }
-{
-    if let Some(opened) = locked_once(rt, folder, access, patience, err, why)? {
-        return Ok(opened);
-    }
-    if let Some(opened) = locked_once(rt, folder, access, patience, err, why)? {
-        return Ok(opened);
-    }
-    *why = Some(Reason::InUse);
-    Err(Refusal::Device)
-}
-
-/// Opens a folder and locks it as [`locked`] does, but once: None where another folder has come in its place by then.
-fn locked_once<F: Files + Clock, E: Write>(
-    rt: &F,
-    folder: &str,
-    access: Access,
-    patience: Patience,
-    err: &mut E,
-    why: &mut Option<Reason>,
-) -> R<Option<F::File>>
-where
-    F::File: Lock,
-    ensures quiet { patience.shows ≡ false → E.contents err.new ≡ E.contents err.old }
-{
-    // A pipe of this name would be waited for.
-    if !is_folder(rt, folder) {
-        return Err(Refusal::Device);
-    }
-    let opened = File::open(rt, folder).map_err(refusal_of)?;
-    match take(rt, &opened, folder, access, patience, err) {
-        Ok(true) => Ok(is_at(rt, &opened, folder).then_some(opened)),
-        Ok(false) => {
-            *why = Some(Reason::InUse);
-            Err(Refusal::Device)
+    seconds: u64,
+) -> io::Result<bool> {
+    for _ in 0..seconds.saturating_mul(PAUSES_A_SECOND) {
+        if opened.try_lock_for(access)? {
+            return Ok(true);
         }
-        Err(_) => {
-            *why = Some(Reason::NoLocks);
-            Err(Refusal::Device)
-        }
+        thread::sleep(rt, Duration::from_millis(PAUSE_MILLISECONDS));
     }
+    opened.try_lock_for(access)
 }
 
-/// Whether what is open is what stands at a path.
-fn is_at<F: Files>(rt: &F, opened: &F::File, path: &str) -> bool {
-    match (opened.metadata(), fs::metadata(rt, path)) {
-        (Ok(own), Ok(there)) => own.dev() == there.dev() && own.ino() == there.ino(),
-        _ => false,
-    }
-}
-
-/// Locks what is open, and waits for that where there is patience. Whether the lock was taken.
-fn take<F: Clock, L: Lock, E: Write>(
+/// Locks what is open, and waits for that as long as there is patience. Whether the lock was taken.
+pub fn take<F: Clock, L: Lock, E: Write>(
     rt: &F,
     opened: &L,
     folder: &str,
@@ -140,19 +92,19 @@ fn take<F: Clock, L: Lock, E: Write>(
 ) -> io::Result<bool>
     ensures quiet { patience.shows ≡ false → E.contents err.new ≡ E.contents err.old }
 {
-    if opened.try_lock_for(access)? {
+    let most = patience.seconds.unwrap_or(u64::MAX);
+    if try_for(rt, opened, access, most.min(SILENT_SECONDS))? {
         return Ok(true);
     }
-    if !patience.waits {
+    if most <= SILENT_SECONDS {
         return Ok(false);
-    }
-    thread::sleep(rt, Duration::from_secs(SILENT_SECONDS));
-    if opened.try_lock_for(access)? {
-        return Ok(true);
     }
     if patience.shows {
         let _ = writeln!(err, "waiting for another command on {folder}");
     }
-    opened.lock_for(access)?;
-    Ok(true)
+    let Some(seconds) = patience.seconds else {
+        opened.lock_for(access)?;
+        return Ok(true);
+    };
+    try_for(rt, opened, access, seconds.saturating_sub(SILENT_SECONDS))
 }

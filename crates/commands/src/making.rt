@@ -2,32 +2,26 @@
 
 ghost use Rattle.std.specs.Prelude.{◌≡◌, false, OnOk};
 
-use crate::explaining::{check_reason, schema_reason, table_reason};
-use crate::folder::{bytes_of, disk_of, is_folder, make_folder, refusal_of};
-use crate::lock::{Access, Lock, Patience, locked};
+use crate::explaining::check_reason;
+use crate::folder::{bytes_of, disk_of, is_folder, refusal_of};
+use crate::folder_lock::locked;
+use crate::lock::{Access, Lock, Patience};
 use crate::looking::{Checking, print_check, print_rows_fit, print_survey};
 use crate::part_reason::is_of_bytes;
-use crate::printing::print_done;
 use crate::querying::print_schema_of;
 use crate::reason::{Reason, print_reason};
 use crate::tally::Tally;
-use crate::tasks::{ask, found, make_change, run};
-use crate::texts::{line_without_text, owned, text_of};
+use crate::tasks::found;
+use crate::texts::{line_without_text, text_of};
 use crate::watched::Watched;
 use bits::{R, Refusal};
 use dataset_words::{Call, Change, Datasets, Look, Question, Task};
-use disk::{Disk, HostDisk};
-use jsonrows::schema_from;
-use manifest::Manifest;
-use partition::key_columns;
+use disk::HostDisk;
 use reports::Terminals;
-use schema::Schema;
 use std::alloc::Global;
-use std::fs;
 use std::io::{Input, Write};
 use std::rt::{Clock, Files};
-use store::Store;
-use upkeep::{described, leftovers};
+use upkeep::described;
 use vault::Vault;
 
 /// Datasets in folders of the host.
@@ -85,12 +79,12 @@ where
 
 /// A call that is to be made.
 #[derive(Drop)]
-struct Making<'a, F, S> {
-    rt: &'a F,
-    screen: &'a S,
-    alloc: Global,
-    call: &'a Call<'a>,
-    terminals: Terminals,
+pub(crate) struct Making<'a, F, S> {
+    pub(crate) rt: &'a F,
+    pub(crate) screen: &'a S,
+    pub(crate) alloc: Global,
+    pub(crate) call: &'a Call<'a>,
+    pub(crate) terminals: Terminals,
 }
 
 impl<F: Files + Input + Clock + Clone + Drop, S: Write + Clone + Drop> Making<'_, F, S>
@@ -136,7 +130,7 @@ where
     }
 
     /// The file that the call names, if it names one.
-    fn named_file(&self) -> Option<&str> {
+    pub(crate) fn named_file(&self) -> Option<&str> {
         match &self.call.task {
             Task::Create { schema, .. } => Some(schema),
             Task::Run { script } => Some(script),
@@ -150,80 +144,23 @@ where
     }
 
     /// Locks the folder.
-    fn lock<E: Write>(&self, access: Access, err: &mut E, why: &mut Option<Reason>) -> R<F::File>
+    pub(crate) fn lock<E: Write>(
+        &self,
+        access: Access,
+        err: &mut E,
+        why: &mut Option<Reason>,
+    ) -> R<F::File>
         ensures quiet { self.now.terminals.err ≡ false → E.contents err.new ≡ E.contents err.old }
     {
         let patience = Patience {
-            waits: self.call.waits,
+            seconds: self.call.waits,
             shows: self.terminals.err,
         };
         locked(self.rt, self.call.folder, access, patience, err, why)
     }
 
-    /// Makes a table in the folder, which is made where nothing is there; then it is taken away again where the table is
-    /// refused.
-    fn make_table<E: Write>(
-        &self,
-        bytes: &[u8],
-        keys: &[&str],
-        err: &mut E,
-        why: &mut Option<Reason>,
-    ) -> R<()>
-        ensures quiet { self.now.terminals.err ≡ false → E.contents err.new ≡ E.contents err.old }
-    {
-        let alloc = self.alloc;
-        let schema = match schema_in(alloc, bytes) {
-            Ok(schema) => schema,
-            Err(refusal) => {
-                let file = self.named_file().unwrap_or("");
-                *why = found(schema_reason(alloc, file, bytes));
-                return Err(refusal);
-            }
-        };
-        let keys = owned(alloc, keys)?;
-        if let Err(refusal) = key_columns(alloc, &schema, keys.as_slice()) {
-            *why = found(table_reason(alloc, &schema, keys.as_slice(), &refusal));
-            return Err(refusal);
-        }
-        let is_new = make_folder(self.rt, alloc, self.call.folder)?;
-        let lock = self.lock(Access::Writes, err, why);
-        let made = match &lock {
-            Ok(_) => self.make_table_in_folder(&schema, keys.as_slice(), why),
-            Err(_) => Err(Refusal::Device),
-        };
-        if is_new && made.is_err() {
-            // The folder stays where something is in it.
-            let _ = fs::remove_dir(self.rt, self.call.folder);
-        }
-        drop(lock?);
-        made
-    }
-
-    /// Makes a table in the folder, which is there. Refused Exists also where part files are in it that a new table would
-    /// remove.
-    fn make_table_in_folder(
-        &self,
-        schema: &Schema,
-        keys: &[String],
-        why: &mut Option<Reason>,
-    ) -> R<()> {
-        let mut vault = Vault::start(self.disk(false)?);
-        if let Some(path) = loose_part(self.alloc, &mut vault, schema, keys)? {
-            *why = Some(Reason::LoosePart(path));
-            return Err(Refusal::Exists);
-        }
-        let own = Schema::new(self.alloc, schema.elements())?;
-        match store::create(self.alloc, vault.into_disk(), own, keys, self.call.options) {
-            Ok(_) => Ok(()),
-            Err((_, refusal)) => {
-                *why = found(table_reason(self.alloc, schema, keys, &refusal));
-                Err(refusal)
-            }
-        }
-    }
-
     /// The disk of the folder. Where `shows` says so, the screen shows what it reads and writes.
-    fn disk(&self, shows: bool) -> R<Watched<HostDisk<F>, S>> {
+    pub(crate) fn disk(&self, shows: bool) -> R<Watched<HostDisk<F>, S>> {
         let screen = self.screen.clone()?;
         let tally = Tally::new(self.alloc, screen, shows);
         disk_of(self.rt, self.alloc, self.call.folder, tally)
@@ -269,89 +206,10 @@ where
             },
         }
     }
-
-    /// Opens the dataset and makes the call on it.
-    fn make_on_store<W: Write, E: Write>(
-        &self,
-        bytes: &[u8],
-        out: &mut W,
-        err: &mut E,
-        why: &mut Option<Reason>,
-    ) -> R<()>
-        ensures quiet { self.now.terminals.err ≡ false → E.contents err.new ≡ E.contents err.old }
-    {
-        let (alloc, terminals) = (self.alloc, self.terminals);
-        let mut store = self.open(why)?;
-        match &self.call.task {
-            Task::Create { .. } | Task::Look(_) => Ok(()),
-            Task::Ask(question) => {
-                let shows = terminals.shows_beside_output();
-                ask(alloc, &mut store, question, out, err, shows, why)
-            }
-            Task::Change(change) => {
-                let done = make_change(alloc, &mut store, change, bytes, err, terminals.err, why);
-                let mut disk = store.into_disk();
-                disk.clear();
-                let told = tell_done(done?, out);
-                if told.is_err() {
-                    *why = Some(Reason::Unprinted);
-                }
-                told
-            }
-            Task::Run { .. } => run(alloc, &mut store, bytes, out, why),
-        }
-    }
-
-    /// Opens the dataset. Where its rows are to be changed, the screen shows what the disk reads and writes.
-    fn open(&self, why: &mut Option<Reason>) -> R<Store<Watched<HostDisk<F>, S>>> {
-        let shows = match &self.call.task {
-            Task::Change(Change::AddColumn { .. }) => false,
-            Task::Change(_) => self.terminals.err,
-            _ => false,
-        };
-        match store::open(self.alloc, self.disk(shows)?, self.call.options) {
-            Ok(store) => Ok(store),
-            Err((disk, refusal)) => {
-                let mut disk = disk;
-                disk.clear();
-                *why = root_reason(&refusal);
-                Err(refusal)
-            }
-        }
-    }
-}
-
-/// Prints `done N`, and passes all that was printed on. Refused Device where that cannot be done.
-fn tell_done<W: Write>(rows: u64, out: &mut W) -> R<()> {
-    print_done(rows, out)?;
-    out.flush().map_err(refusal_of)
-}
-
-/// The schema that the text of a file is.
-fn schema_in(alloc: Global, bytes: &[u8]) -> R<Schema> {
-    schema_from(alloc, text_of(bytes)?)
-}
-
-/// A part file in a folder that a table of these keys would be made in: it would remove it. None where there is none, or a root
-/// is there.
-fn loose_part<D: Disk>(
-    alloc: Global,
-    vault: &mut Vault<D>,
-    schema: &Schema,
-    names: &[String],
-) -> R<Option<String>> {
-    if vault.root(alloc)?.is_some() {
-        return Ok(None);
-    }
-    let schema = Schema::new(alloc, schema.elements())?;
-    let keys = key_columns(alloc, &schema, names)?;
-    let table = Manifest::new(alloc, schema, keys)?;
-    let mut paths = leftovers(alloc, vault, &table)?;
-    Ok(paths.pop())
 }
 
 /// Why no table is described, where there is more to say than the refusal.
-fn root_reason(refusal: &Refusal) -> Option<Reason> {
+pub(crate) fn root_reason(refusal: &Refusal) -> Option<Reason> {
     if is_of_bytes(refusal) && *refusal != Refusal::Limit {
         Some(Reason::Root)
     } else {

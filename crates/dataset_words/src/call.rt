@@ -7,8 +7,9 @@ use footer::WriteOptions;
 pub struct Call<'a> {
     /// The folder; of the question for a schema it may be a Parquet file.
     pub folder: &'a str,
-    /// Whether to wait while another command uses the folder. Else the call is refused then.
-    pub waits: bool,
+    /// The seconds to wait at most for each lock that another command holds; the call is refused then. None for as long
+    /// as it takes.
+    pub waits: Option<u64>,
     /// How part files are written.
     pub options: WriteOptions,
     pub task: Task<'a>,

@@ -21,11 +21,29 @@ fn folder_named<'a>(alloc: Global) -> Arg<'a> {
 }
 
 /// The flag by which a command on a dataset does not wait for another one.
-pub fn no_wait_flag<'a>(alloc: Global) -> Arg<'a> {
+fn no_wait_flag<'a>(alloc: Global) -> Arg<'a> {
     Arg::new(alloc, "no-wait")
         .long("no-wait")
         .action(ArgAction::SetTrue)
         .help("Is refused 25 where another command is using DIR, in place of waiting")
+}
+
+/// The option by which a command on a dataset waits for another one no longer than this.
+fn wait_option<'a>(alloc: Global) -> Arg<'a> {
+    Arg::new(alloc, "wait")
+        .long("wait")
+        .value_name("SECONDS")
+        .value_parser(value_parser!(u64))
+        .help(
+            "Is refused 25 where another command is using DIR for longer than this; 0 is --no-wait",
+        )
+}
+
+/// The command, with the arguments that say how long it waits for another one.
+pub fn with_waiting<'a>(alloc: Global, command: Command<'a>) -> Result<Command<'a>, Error> {
+    let wait = wait_option(alloc).conflicts_with("no-wait")?;
+    let command = command.arg(no_wait_flag(alloc))?.arg(wait)?;
+    Ok(command)
 }
 
 /// The flag by which no progress is shown.
@@ -37,9 +55,9 @@ pub fn quiet_flag<'a>(alloc: Global) -> Arg<'a> {
 }
 
 /// A command on the dataset in a folder, which is its first word.
-fn on_dataset<'a>(alloc: Global, word: &'a str) -> Result<Command<'a>, AllocError> {
+fn on_dataset<'a>(alloc: Global, word: &'a str) -> Result<Command<'a>, Error> {
     let command = Command::new(alloc, word).arg(folder_named(alloc))?;
-    command.arg(no_wait_flag(alloc))
+    with_waiting(alloc, command)
 }
 
 /// Any number of words.
@@ -149,9 +167,8 @@ fn schema_command<'a>(alloc: Global) -> Result<Command<'a>, Error> {
             alloc,
             "PATH",
             "The folder of the dataset, or a Parquet file",
-        ))?
-        .arg(no_wait_flag(alloc))?;
-    Ok(schema)
+        ))?;
+    with_waiting(alloc, schema)
 }
 
 fn remove_command<'a>(alloc: Global) -> Result<Command<'a>, Error> {

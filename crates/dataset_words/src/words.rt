@@ -158,7 +158,7 @@ pub fn call_in<'a>(alloc: Global, word: &str, matches: &ArgMatches<'a>) -> R<Opt
     match (folder_in(matches), task) {
         (Some(folder), Some(task)) => Ok(Some(Call {
             folder,
-            waits: !matches.get_flag("no-wait"),
+            waits: seconds_in(matches),
             options: options_for(word, matches),
             task,
         })),
@@ -183,13 +183,22 @@ pub fn min_rows_in(matches: &ArgMatches<'_>) -> u64 {
     matches.get_one::<u64>("min-rows").unwrap_or(SMALL_ROWS)
 }
 
+/// The seconds that a call waits at most for a lock, by the words; None where they do not say it.
+fn seconds_in(matches: &ArgMatches<'_>) -> Option<u64> {
+    if matches.get_flag("no-wait") {
+        Some(0)
+    } else {
+        matches.get_one::<u64>("wait")
+    }
+}
+
 /// The call that looks at the folder of a dataset, as `look` says.
 pub fn look_call<'a>(folder: &'a str, matches: &ArgMatches<'_>, look: Look<'a>) -> Call<'a>
     ensures { task_word result.task ≡ look_word look.entry }
 {
     Call {
         folder,
-        waits: !matches.get_flag("no-wait"),
+        waits: seconds_in(matches),
         options: WriteOptions::standard(),
         task: Task::Look(look),
     }

@@ -9,8 +9,8 @@ use bits::{R, Refusal};
 use clap::error::ErrorKind;
 use clap::{Arg, ArgAction, ArgMatches, Command, Error};
 use dataset_words::{
-    Look, look_call, min_rows_in, min_rows_option, no_wait_flag, options_in, quiet_flag,
-    with_commands, with_options,
+    Look, look_call, min_rows_in, min_rows_option, options_in, quiet_flag, with_commands,
+    with_options, with_waiting,
 };
 use footer::WriteOptions;
 use std::alloc::Global;
@@ -118,9 +118,8 @@ fn inspect_command<'a>(alloc: Global) -> Result<Command<'a>, Error> {
         .arg(min_rows_option(
             alloc,
             "Of a dataset: counts groups of fewer rows that stand next to each other [default: 65536]",
-        ))?
-        .arg(no_wait_flag(alloc))?;
-    Ok(inspect)
+        ))?;
+    with_waiting(alloc, inspect)
 }
 
 /// The file with the rows to check. Without it the files of a dataset are checked.
@@ -140,9 +139,8 @@ fn check_command<'a>(alloc: Global) -> Result<Command<'a>, Error> {
             "SCHEMA",
             "The file with the columns, as JSON, or the folder of a dataset",
         ))?
-        .arg(rows_named(alloc))?
-        .arg(no_wait_flag(alloc))?
-        .arg(quiet_flag(alloc))?;
+        .arg(rows_named(alloc))?;
+    let check = with_waiting(alloc, check)?.arg(quiet_flag(alloc))?;
     Ok(check)
 }
 

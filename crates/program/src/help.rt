@@ -12,8 +12,9 @@ Returns status 0 when all was done, and 1 when the call was refused: then the la
 `refused`, a number, a name, and for 6 and 7 the column. Status 2 is a wrong call, or a call for this help or the
 version, which are printed on standard error too.
 
-The commands on a dataset wait for each other: one alone changes it, and others read it side by side. With --no-wait
-they are refused 25 in place of waiting, after a line that says so.
+The commands on a dataset wait for each other: one alone changes it, and others read it side by side. With --wait
+SECONDS they wait no longer than this, and with --no-wait not at all: then they are refused 25, after a line that
+says so.
 
 Example, at the top of the repository:
 

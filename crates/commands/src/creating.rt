@@ -1,0 +1,113 @@
+//! A table made in a folder of the host.
+
+ghost use Rattle.std.specs.Prelude.{◌≡◌, false};
+
+use crate::explaining::{schema_reason, table_reason};
+use crate::folder::make_folder;
+use crate::lock::{Access, Lock};
+use crate::making::Making;
+use crate::reason::Reason;
+use crate::tasks::found;
+use crate::texts::{owned, text_of};
+use bits::{R, Refusal};
+use disk::Disk;
+use jsonrows::schema_from;
+use manifest::Manifest;
+use partition::key_columns;
+use schema::Schema;
+use std::alloc::Global;
+use std::fs;
+use std::io::{Input, Write};
+use std::rt::{Clock, Files};
+use upkeep::leftovers;
+use vault::Vault;
+
+impl<F: Files + Input + Clock + Clone + Drop, S: Write + Clone + Drop> Making<'_, F, S>
+where
+    F::File: Lock,
+{
+    /// Makes a table in the folder, which is made where nothing is there; then it is taken away again where the table is
+    /// refused.
+    pub(crate) fn make_table<E: Write>(
+        &self,
+        bytes: &[u8],
+        keys: &[&str],
+        err: &mut E,
+        why: &mut Option<Reason>,
+    ) -> R<()>
+        ensures quiet { self.now.terminals.err ≡ false → E.contents err.new ≡ E.contents err.old }
+    {
+        let alloc = self.alloc;
+        let schema = match schema_in(alloc, bytes) {
+            Ok(schema) => schema,
+            Err(refusal) => {
+                let file = self.named_file().unwrap_or("");
+                *why = found(schema_reason(alloc, file, bytes));
+                return Err(refusal);
+            }
+        };
+        let keys = owned(alloc, keys)?;
+        if let Err(refusal) = key_columns(alloc, &schema, keys.as_slice()) {
+            *why = found(table_reason(alloc, &schema, keys.as_slice(), &refusal));
+            return Err(refusal);
+        }
+        let is_new = make_folder(self.rt, alloc, self.call.folder)?;
+        let lock = self.lock(Access::Writes, err, why);
+        let made = match &lock {
+            Ok(_) => self.make_table_in_folder(&schema, keys.as_slice(), why),
+            Err(_) => Err(Refusal::Device),
+        };
+        if is_new && made.is_err() {
+            // The folder stays where something is in it.
+            let _ = fs::remove_dir(self.rt, self.call.folder);
+        }
+        drop(lock?);
+        made
+    }
+
+    /// Makes a table in the folder, which is there. Refused Exists also where part files are in it that a new table would
+    /// remove.
+    fn make_table_in_folder(
+        &self,
+        schema: &Schema,
+        keys: &[String],
+        why: &mut Option<Reason>,
+    ) -> R<()> {
+        let mut vault = Vault::start(self.disk(false)?);
+        if let Some(path) = loose_part(self.alloc, &mut vault, schema, keys)? {
+            *why = Some(Reason::LoosePart(path));
+            return Err(Refusal::Exists);
+        }
+        let own = Schema::new(self.alloc, schema.elements())?;
+        match store::create(self.alloc, vault.into_disk(), own, keys, self.call.options) {
+            Ok(_) => Ok(()),
+            Err((_, refusal)) => {
+                *why = found(table_reason(self.alloc, schema, keys, &refusal));
+                Err(refusal)
+            }
+        }
+    }
+}
+
+/// The schema that the text of a file is.
+fn schema_in(alloc: Global, bytes: &[u8]) -> R<Schema> {
+    schema_from(alloc, text_of(bytes)?)
+}
+
+/// A part file in a folder that a table of these keys would be made in: it would remove it. None where there is none, or a root
+/// is there.
+fn loose_part<D: Disk>(
+    alloc: Global,
+    vault: &mut Vault<D>,
+    schema: &Schema,
+    names: &[String],
+) -> R<Option<String>> {
+    if vault.root(alloc)?.is_some() {
+        return Ok(None);
+    }
+    let schema = Schema::new(alloc, schema.elements())?;
+    let keys = key_columns(alloc, &schema, names)?;
+    let table = Manifest::new(alloc, schema, keys)?;
+    let mut paths = leftovers(alloc, vault, &table)?;
+    Ok(paths.pop())
+}
