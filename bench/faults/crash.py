@@ -1,7 +1,8 @@
-"""crash.py [--jobs N] [--syncs | --refuse SHIM] PROGRAM.. [-- COMMAND..]: commands on a real folder that are killed, that meet
-errors, and whose power is cut; with --syncs, the same records with each sync left out; with --refuse, commands of which one
-allocation is refused. `bench/faults/crash.sh` and `bench/faults/allocations.sh` say what is tried, and run it."""
-import argparse, collections, concurrent.futures, itertools, json, os, re, shutil, subprocess, sys, tempfile, threading
+"""crash.py [--jobs N] [--beside] [--syncs | --refuse SHIM] PROGRAM.. [-- COMMAND..]: commands on a real folder that are killed, that
+meet errors, and whose power is cut; with --beside, next to a reader; with --syncs, the same records with each sync left out; with
+--refuse, commands of which one allocation is refused. `bench/faults/crash.sh` and `bench/faults/allocations.sh` say what is tried,
+and run it."""
+import argparse, collections, concurrent.futures, contextlib, fcntl, itertools, json, os, re, shutil, subprocess, sys, tempfile, threading
 
 MOST_IMAGES = 256   # of one moment; where there are more, all old, all new, and each thing by itself
 ERRORS = "openat read lseek statx getdents64 mkdir write fsync rename unlink rmdir close flock fcntl".split()
@@ -61,7 +62,9 @@ COMMANDS = {
         lines(A1, A7, A3, B2, y=True), START.groups)]),
     "run": Command("run t calls", '{"done":1}\n{"done":1}\n{"count":4}\n', [START, APPENDED, BOTH], answers={
         (True, True): [BOTH], (True, False): [APPENDED], (False, True): [REMOVED, REMOVED_LATER], (False, False): [START]}),
-    # Openings that have something to clean away: what an append, and what a rewrite, leaves that was killed.
+    # Openings that have something to clean away, and those to read that leave it: what a killed append, and a killed rewrite, leave.
+    "run after a killed append": Command("run t nothing", "", [START], "append"),
+    "run after a killed rewrite": Command("run t nothing", "", [REWRITTEN], "rewrite"),
     "query after a killed append": Command("query t", "".join(it + "\n" for it in START.rows), [START], "append"),
     "query after a killed rewrite": Command("query t", "".join(it + "\n" for it in START.rows), [REWRITTEN], "rewrite"),
 }
@@ -73,6 +76,7 @@ FILES = {
     "first": text_of(A1, A7, B2),
     "second": text_of(A3),
     "imported": text_of(A6),
+    "nothing": "",
     "calls": '{"call":"append","rows":[{"k":"b","x":4}]}\n{"call":"remove","filter":[["x","==",1]]}\n{"call":"count","filter":[]}\n',
 }
 
@@ -301,8 +305,8 @@ class Disk:
 class Tries:
     """Runs of one program, and what folders turned out to hold."""
 
-    def __init__(self, program, room, jobs):
-        self.program, self.room, self.jobs = program, room, jobs
+    def __init__(self, program, room, jobs, beside=False):
+        self.program, self.room, self.jobs, self.beside = program, room, jobs, beside
         self.lock, self.known, self.numbers = threading.Lock(), {}, itertools.count()
         self.environment = dict(os.environ, LC_ALL="C")
         self.begins = {}
@@ -332,13 +336,17 @@ class Tries:
                 return self.known[key]
         room = self.place()
         put({path: it for path, it in tree.items() if path == "t" or path.startswith("t/")}, room)
-        found = self.opened(room, tree)
+        found = self.read(room, tree)
+        if isinstance(found, Table):
+            found = self.cleaned(room, tree, found)
         shutil.rmtree(room)
         with self.lock:
             self.known[key] = found
         return found
 
-    def opened(self, room, tree):
+    def read(self, room, tree):
+        """What is read in a room. Nothing there is changed by it."""
+        before = tree_of(room)
         status, rows, said = self.run(room, ["query", "t"])
         if status == 1 and said.splitlines()[-1:] == ["refused 23 NoTable"]:
             return NO_TABLE
@@ -349,13 +357,23 @@ class Tries:
         status, groups, said = self.run(room, ["groups", "t"])
         if status != 0:
             return f"groups: status {status}, {said.strip()}"
+        if tree_of(room) != before:
+            return f"files after they were read: {shown(tree_of(room))}"
         groups = [json.loads(line) for line in groups.splitlines()]
-        wanted = {f"t/k={it['key'][0]}/part.{it['number']}.parquet" for it in groups} | {"t/_metadata"}
+        return Table(tuple(rows.splitlines()), tuple((it["key"][0], it["number"], it["rows"]) for it in groups))
+
+    def cleaned(self, room, tree, table):
+        """The table of a room, which a command that changes the dataset has opened: it has only the files that are needed."""
+        status, _, said = self.run(room, ["run", "t", "/dev/null"])
+        if status != 0:
+            return f"run: status {status}, {said.strip()}"
+        wanted = {f"t/k={key}/part.{number}.parquet" for key, number, _ in table.groups} | {"t/_metadata", "t/_lock"}
         wanted |= {path for path in tree if path.endswith("notes.txt")}
         left = {path for path, it in tree_of(room).items() if it is not None}
         if left != wanted:
             return f"files after the opening: {sorted(left)}"
-        return Table(tuple(rows.splitlines()), tuple((it["key"][0], it["number"], it["rows"]) for it in groups))
+        again = self.read(room, tree)
+        return again if again != table else table
 
     def begin(self, name):
         """The tree that a command begins with."""
@@ -401,6 +419,8 @@ class OfCommand:
         self.tries, self.name, self.command = tries, name, COMMANDS[name]
         words = self.command.words
         self.words = words.split() if isinstance(words, str) else words
+        if tries.beside:
+            self.words = [*self.words, "--no-wait"]
         self.tree = tries.begin(self.command.begin)
         self.counts, self.wrong, self.again, self.lock = collections.Counter(), [], set(), threading.Lock()
 
@@ -458,7 +478,9 @@ class OfCommand:
         """One run of the command. Its record, and the disk after it."""
         room = self.tries.place()
         put(self.tree, room)
-        status, out, said, found = self.tries.trace(room, self.words, inject)
+        with self.reader(room):
+            status, out, said, found = self.tries.trace(room, self.words, inject)
+            self.see_kept(room, what)
         self.count("runs")
         disk = Disk(folder_from(self.tree), room)
         allowed = self.allowed(status, out, said, found)
@@ -476,6 +498,21 @@ class OfCommand:
             self.make_again(disk, room, tree, what)
         shutil.rmtree(room)
         return status, found
+
+    def reader(self, room):
+        """With --beside, the lock of a reader that began before the command, and ends after it."""
+        path = f"{room}/t/_lock"
+        return shared(path) if self.tries.beside and os.path.isfile(path) else contextlib.nullcontext()
+
+    def see_kept(self, room, what):
+        """Beside a reader all files stay that it may need, as they were."""
+        if not self.tries.beside or "t/_lock" not in self.tree:
+            return
+        now = tree_of(room)
+        lost = [path for path, it in self.tree.items() if path.endswith(".parquet") and now.get(path) != it]
+        self.count("kept")
+        if lost:
+            self.tell(what, f"lost beside a reader: {lost}")
 
     def replay(self, disk, found, what, with_images):
         for at, call in enumerate(found):
@@ -616,6 +653,13 @@ class OfCommand:
         self.see(tree_of(room), self.command.tables[-1:], what)
 
 
+@contextlib.contextmanager
+def shared(path):
+    with open(path, "rb") as file:
+        fcntl.flock(file, fcntl.LOCK_SH)
+        yield
+
+
 def is_root_written(found):
     """Whether the next root and its name were made durable, so that the rename is the next call of the disk. (Without a
     record nothing is known of that.)"""
@@ -646,6 +690,7 @@ def shown(tree):
 def arguments():
     words = argparse.ArgumentParser()
     words.add_argument("--jobs", type=int, default=2)
+    words.add_argument("--beside", action="store_true")
     words.add_argument("--syncs", action="store_true")
     words.add_argument("--refuse")
     words.add_argument("program", nargs=argparse.REMAINDER)
@@ -657,7 +702,7 @@ def arguments():
 def main():
     found, program, names = arguments()
     room = tempfile.mkdtemp()
-    tries, wrong = Tries(program, os.path.realpath(room), found.jobs), 0
+    tries, wrong = Tries(program, os.path.realpath(room), found.jobs, found.beside), 0
     total = collections.Counter()
     try:
         for name in names:

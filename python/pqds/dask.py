@@ -36,7 +36,7 @@ def reading(
     """
     table = Dataset(path)
     while True:
-        # These calls remove what a crash left behind, which they could not do under the lock.
+        # These calls are made without the lock, which a command that changes the table may have.
         fields, keys = fields_of(table.schema()), table.keys()
         filter_json(fields, filters)
         with _reader_lock(table.path):

@@ -260,9 +260,10 @@ class Tables(RoomCase):
         self.addCleanup(os.close, folder)
         fcntl.flock(folder, fcntl.LOCK_EX)
         with self.assertRaises(pqds.Device):
-            table.count()
-        fcntl.flock(folder, fcntl.LOCK_UN)
+            table.remove([("order", "==", 0)])
         self.assertEqual(table.count(), 0)
+        fcntl.flock(folder, fcntl.LOCK_UN)
+        self.assertEqual(table.remove([("order", "==", 0)]), 0)
 
 
 if __name__ == "__main__":

@@ -6,6 +6,7 @@ use crate::explaining::{schema_reason, table_reason};
 use crate::folder::make_folder;
 use crate::lock::{Access, Lock};
 use crate::making::Making;
+use crate::readers_lock::{make_file, waited_out};
 use crate::reason::Reason;
 use crate::tasks::found;
 use crate::texts::{owned, text_of};
@@ -54,7 +55,7 @@ where
         let is_new = make_folder(self.rt, alloc, self.call.folder)?;
         let lock = self.lock(Access::Writes, err, why);
         let made = match &lock {
-            Ok(_) => self.make_table_in_folder(&schema, keys.as_slice(), why),
+            Ok(_) => self.make_table_alone(&schema, keys.as_slice(), err, why),
             Err(_) => Err(Refusal::Device),
         };
         if is_new && made.is_err() {
@@ -62,6 +63,28 @@ where
             let _ = fs::remove_dir(self.rt, self.call.folder);
         }
         drop(lock?);
+        made
+    }
+
+    /// Makes a table in the folder, which is there and locked, once nobody reads there: numbers of groups begin anew with the
+    /// table, and who reads an earlier one of this folder may still need files of theirs. Then there is a file for readers to
+    /// lock.
+    fn make_table_alone<E: Write>(
+        &self,
+        schema: &Schema,
+        keys: &[String],
+        err: &mut E,
+        why: &mut Option<Reason>,
+    ) -> R<()>
+        ensures quiet { self.now.terminals.err ≡ false → E.contents err.new ≡ E.contents err.old }
+    {
+        let (rt, alloc, folder) = (self.rt, self.alloc, self.call.folder);
+        let readers = waited_out(rt, alloc, folder, self.patience(), err, why)?;
+        let made = self.make_table_in_folder(schema, keys, why);
+        if made.is_ok() {
+            make_file(rt, alloc, folder);
+        }
+        drop(readers);
         made
     }
 

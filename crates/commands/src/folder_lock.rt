@@ -6,8 +6,8 @@ use crate::folder::{is_folder, refusal_of};
 use crate::lock::{Access, Lock, Patience, take};
 use crate::reason::Reason;
 use bits::{R, Refusal};
-use std::fs::{self, File, OpenFile};
-use std::io::Write;
+use std::fs::{self, File, Metadata, OpenFile};
+use std::io::{self, Write};
 use std::os::unix::fs::MetadataExt;
 use std::rt::{Clock, Files};
 
@@ -71,8 +71,13 @@ where
 
 /// Whether what is open is what stands at a path.
 fn is_at<F: Files>(rt: &F, opened: &F::File, path: &str) -> bool {
-    match (opened.metadata(), fs::metadata(rt, path)) {
-        (Ok(own), Ok(there)) => own.dev() == there.dev() && own.ino() == there.ino(),
+    is_same(opened.metadata(), fs::metadata(rt, path))
+}
+
+/// Whether these are of one file or folder; not where one of them is not known.
+pub fn is_same(one: io::Result<Metadata>, other: io::Result<Metadata>) -> bool {
+    match (one, other) {
+        (Ok(one), Ok(other)) => one.dev() == other.dev() && one.ino() == other.ino(),
         _ => false,
     }
 }

@@ -20,6 +20,7 @@ mod opening;
 mod part_reason;
 mod printing;
 mod querying;
+mod readers_lock;
 mod reason;
 mod row_lines;
 mod running;

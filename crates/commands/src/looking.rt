@@ -5,7 +5,7 @@ ghost use Rattle.std.specs.Io.KnownBytes.{Appends};
 ghost use Rattle.std.specs.Str.Lines.{lines};
 ghost use Rattle.schema.specs.Values.{ValueTrees};
 ghost use Rattle.manifest.specs.Groups.{root_of};
-ghost use Rattle.upkeep.specs.Intact.{IsIntact};
+ghost use Rattle.upkeep.specs.Intact.{AreHeld};
 ghost use Rattle.upkeep.specs.Reading.{Looks};
 ghost use Rattle.commands.specs.Lines.{AreRowTexts};
 
@@ -76,7 +76,8 @@ fn rows_in(table: &Manifest) -> u64 {
     rows
 }
 
-/// Prints `ok` and how much there is, or a line for each file that is not as the table says. Then it is refused as the first
+/// Prints `ok` and how much there is, or a line for each file that is not as the table says; then a note of the part files
+/// that the table does not name, if there are any, which are no fault. With such a line it is refused as the first
 /// of these counts; else as `check`, and Device where the output cannot be written. `checking` shows how far it is, and no
 /// longer once that is printed.
 pub fn print_check<D: Disk, W: Write, S: Write + Drop>(
@@ -86,7 +87,7 @@ pub fn print_check<D: Disk, W: Write, S: Write + Drop>(
     checking: &mut Checking<S>,
     out: &mut W,
 ) -> R<()>
-    ensures intact { (D.state vault.old.disk).honest → OnOk result (IsIntact (D.state vault.old.disk).seen (root_of table.now)) }
+    ensures held { (D.state vault.old.disk).honest → OnOk result (AreHeld (D.state vault.old.disk).seen (root_of table.now)) }
     ensures effect { Looks (length (root_of table.now).groups) (D.state vault.old.disk) (D.state vault.new.disk) }
 {
     let checked = check(alloc, vault, table, checking);

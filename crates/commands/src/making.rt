@@ -115,12 +115,8 @@ where
                 drop(lock);
                 made
             }
-            task => {
-                let lock = self.lock(access_of(task), err, why)?;
-                let made = self.make_on_store(bytes, out, err, why);
-                drop(lock);
-                made
-            }
+            Task::Ask(question) => self.read(question, out, err, why),
+            Task::Change(_) | Task::Run { .. } => self.change(bytes, out, err, why),
         }
     }
 
@@ -143,6 +139,16 @@ where
         }
     }
 
+    /// How long the call waits for another one.
+    pub(crate) fn patience(&self) -> Patience
+        ensures { result.shows ≡ self.now.terminals.err }
+    {
+        Patience {
+            seconds: self.call.waits,
+            shows: self.terminals.err,
+        }
+    }
+
     /// Locks the folder.
     pub(crate) fn lock<E: Write>(
         &self,
@@ -152,11 +158,7 @@ where
     ) -> R<F::File>
         ensures quiet { self.now.terminals.err ≡ false → E.contents err.new ≡ E.contents err.old }
     {
-        let patience = Patience {
-            seconds: self.call.waits,
-            shows: self.terminals.err,
-        };
-        locked(self.rt, self.call.folder, access, patience, err, why)
+        locked(self.rt, self.call.folder, access, self.patience(), err, why)
     }
 
     /// The disk of the folder. Where `shows` says so, the screen shows what it reads and writes.
@@ -214,13 +216,5 @@ pub(crate) fn root_reason(refusal: &Refusal) -> Option<Reason> {
         Some(Reason::Root)
     } else {
         None
-    }
-}
-
-/// What a command does with its folder.
-fn access_of(task: &Task<'_>) -> Access {
-    match task {
-        Task::Ask(_) => Access::Reads,
-        _ => Access::Writes,
     }
 }

@@ -1,27 +1,80 @@
 //! A dataset opened in a folder of the host, and a call made on it.
+//!
+//! A call that reads shares the readers' lock, and removes nothing. One that changes the dataset has the folder's lock, and
+//! removes what is not needed any more, at its opening and at its end, where no reader needs it.
 
 ghost use Rattle.std.specs.Prelude.{◌≡◌, false};
 
 use crate::folder::refusal_of;
-use crate::lock::Lock;
+use crate::lock::{Access, Lock};
 use crate::making::{Making, root_reason};
 use crate::printing::print_done;
+use crate::readers_lock::{Readers, kept_out, make_file, shared};
 use crate::reason::Reason;
 use crate::tasks::{ask, make_change, run};
 use crate::watched::Watched;
-use bits::R;
-use dataset_words::{Change, Task};
+use bits::{R, Refusal};
+use dataset_words::{Change, Question, Task};
 use disk::HostDisk;
 use std::io::{Input, Write};
 use std::rt::{Clock, Files};
 use store::Store;
 
+/// The seconds for which a command that has made a change tries to keep readers out.
+const CLEANING_SECONDS: u64 = 1;
+
 impl<F: Files + Input + Clock + Clone + Drop, S: Write + Clone + Drop> Making<'_, F, S>
 where
     F::File: Lock,
 {
-    /// Opens the dataset and makes the call on it.
-    pub(crate) fn make_on_store<W: Write, E: Write>(
+    /// Opens the dataset to read it, and prints what is asked.
+    pub(crate) fn read<W: Write, E: Write>(
+        &self,
+        question: &Question<'_>,
+        out: &mut W,
+        err: &mut E,
+        why: &mut Option<Reason>,
+    ) -> R<()>
+        ensures quiet { self.now.terminals.err ≡ false → E.contents err.new ≡ E.contents err.old }
+    {
+        let lock = self.share(err, why)?;
+        let answered = self.answer(question, out, err, why);
+        drop(lock);
+        answered
+    }
+
+    /// Shares the readers' lock, or that of the folder where there is none for readers.
+    fn share<E: Write>(&self, err: &mut E, why: &mut Option<Reason>) -> R<F::File>
+        ensures quiet { self.now.terminals.err ≡ false → E.contents err.new ≡ E.contents err.old }
+    {
+        let patience = self.patience();
+        match shared(self.rt, self.alloc, self.call.folder, patience, err, why)? {
+            Some(lock) => Ok(lock),
+            None => self.lock(Access::Reads, err, why),
+        }
+    }
+
+    /// Prints what is asked of the dataset, which is opened to read it.
+    fn answer<W: Write, E: Write>(
+        &self,
+        question: &Question<'_>,
+        out: &mut W,
+        err: &mut E,
+        why: &mut Option<Reason>,
+    ) -> R<()>
+        ensures quiet { self.now.terminals.err ≡ false → E.contents err.new ≡ E.contents err.old }
+    {
+        let disk = self.disk(false)?;
+        let mut store = opened(
+            store::open_to_read(self.alloc, disk, self.call.options),
+            why,
+        )?;
+        let shows = self.terminals.shows_beside_output();
+        ask(self.alloc, &mut store, question, out, err, shows, why)
+    }
+
+    /// Locks the folder, opens the dataset and changes it.
+    pub(crate) fn change<W: Write, E: Write>(
         &self,
         bytes: &[u8],
         out: &mut W,
@@ -30,43 +83,113 @@ where
     ) -> R<()>
         ensures quiet { self.now.terminals.err ≡ false → E.contents err.new ≡ E.contents err.old }
     {
-        let (alloc, terminals) = (self.alloc, self.terminals);
+        let lock = self.lock(Access::Writes, err, why)?;
+        let made = self.change_in_folder(bytes, out, err, why);
+        drop(lock);
+        made
+    }
+
+    /// Opens the dataset, in the locked folder, and changes it.
+    fn change_in_folder<W: Write, E: Write>(
+        &self,
+        bytes: &[u8],
+        out: &mut W,
+        err: &mut E,
+        why: &mut Option<Reason>,
+    ) -> R<()>
+        ensures quiet { self.now.terminals.err ≡ false → E.contents err.new ≡ E.contents err.old }
+    {
         let mut store = self.open(why)?;
+        let made = self.change_store(&mut store, bytes, out, err, why);
+        self.clean_up(&mut store);
+        made
+    }
+
+    /// Changes the dataset, and prints what came of it.
+    fn change_store<W: Write, E: Write>(
+        &self,
+        store: &mut Store<Watched<HostDisk<F>, S>>,
+        bytes: &[u8],
+        out: &mut W,
+        err: &mut E,
+        why: &mut Option<Reason>,
+    ) -> R<()>
+        ensures quiet { self.now.terminals.err ≡ false → E.contents err.new ≡ E.contents err.old }
+    {
+        let (alloc, shows) = (self.alloc, self.terminals.err);
         match &self.call.task {
-            Task::Create { .. } | Task::Look(_) => Ok(()),
-            Task::Ask(question) => {
-                let shows = terminals.shows_beside_output();
-                ask(alloc, &mut store, question, out, err, shows, why)
-            }
+            Task::Create { .. } | Task::Look(_) | Task::Ask(_) => Ok(()),
             Task::Change(change) => {
-                let done = make_change(alloc, &mut store, change, bytes, err, terminals.err, why);
-                let mut disk = store.into_disk();
-                disk.clear();
+                let done = make_change(alloc, store, change, bytes, err, shows, why);
+                store.vault.disk.clear();
                 let told = tell_done(done?, out);
                 if told.is_err() {
                     *why = Some(Reason::Unprinted);
                 }
                 told
             }
-            Task::Run { .. } => run(alloc, &mut store, bytes, out, why),
+            Task::Run { .. } => run(alloc, store, bytes, out, why),
         }
     }
 
-    /// Opens the dataset. Where its rows are to be changed, the screen shows what the disk reads and writes.
+    /// Opens the dataset to change it; it keeps what is replaced from then on. It is cleaned where no reader is at work, and
+    /// there is a file for readers to lock then. Where its rows are to be changed, the screen shows what the disk reads and
+    /// writes.
     fn open(&self, why: &mut Option<Reason>) -> R<Store<Watched<HostDisk<F>, S>>> {
-        let shows = match &self.call.task {
+        let disk = self.disk(self.shows_disk())?;
+        let (alloc, folder, options) = (self.alloc, self.call.folder, self.call.options);
+        let readers = kept_out(self.rt, alloc, folder, 0);
+        let store = match &readers {
+            Readers::MayBe => opened(store::open_to_read(alloc, disk, options), why)?,
+            Readers::NoFile | Readers::Out(_) => opened(store::open(alloc, disk, options), why)?,
+        };
+        if let Readers::NoFile = &readers {
+            make_file(self.rt, alloc, folder);
+        }
+        drop(readers);
+        let mut store = store;
+        store.keep_replaced();
+        Ok(store)
+    }
+
+    /// Whether the screen shows what the disk reads and writes.
+    fn shows_disk(&self) -> bool {
+        match &self.call.task {
             Task::Change(Change::AddColumn { .. }) => false,
             Task::Change(_) => self.terminals.err,
             _ => false,
-        };
-        match store::open(self.alloc, self.disk(shows)?, self.call.options) {
-            Ok(store) => Ok(store),
-            Err((disk, refusal)) => {
-                let mut disk = disk;
-                disk.clear();
-                *why = root_reason(&refusal);
-                Err(refusal)
+        }
+    }
+
+    /// Removes the files that are not needed any more, where no reader is at work; else they stay for the next command that
+    /// changes the dataset.
+    fn clean_up(&self, store: &mut Store<Watched<HostDisk<F>, S>>) {
+        let seconds = self.call.waits.unwrap_or(CLEANING_SECONDS);
+        let seconds = seconds.min(CLEANING_SECONDS);
+        let readers = kept_out(self.rt, self.alloc, self.call.folder, seconds);
+        match &readers {
+            Readers::MayBe => {}
+            Readers::NoFile | Readers::Out(_) => {
+                // What could not be removed stays, too.
+                let _ = store.clean_up(self.alloc);
             }
+        }
+        drop(readers);
+    }
+}
+
+/// The store that was opened. Where it is refused, `why` may get the reason.
+fn opened<F: Files + Clone + Drop, S: Write + Drop>(
+    made: Result<Store<Watched<HostDisk<F>, S>>, (Watched<HostDisk<F>, S>, Refusal)>,
+    why: &mut Option<Reason>,
+) -> R<Store<Watched<HostDisk<F>, S>>> {
+    match made {
+        Ok(store) => Ok(store),
+        Err((disk, refusal)) => {
+            let mut disk = disk;
+            disk.clear();
+            *why = root_reason(&refusal);
+            Err(refusal)
         }
     }
 }

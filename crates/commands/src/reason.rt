@@ -17,6 +17,8 @@ pub enum Reason {
     InUse,
     /// The folder cannot be locked.
     NoLocks,
+    /// The file that readers lock cannot be opened.
+    ShutLock,
     /// `_metadata` is no description of a table.
     Root,
     /// The folder has a `_metadata`.
@@ -125,6 +127,10 @@ impl Display for Told<'_> {
             Reason::NoLocks => write!(
                 f,
                 "{folder} cannot be locked, as its file system has no locks"
+            ),
+            Reason::ShutLock => write!(
+                f,
+                "{folder}/_lock cannot be opened, so that somebody may be reading {folder}"
             ),
             Reason::Root => write!(f, "{folder}/_metadata is damaged: it describes no table"),
             Reason::HasRoot => {

@@ -12,9 +12,9 @@ Returns status 0 when all was done, and 1 when the call was refused: then the la
 `refused`, a number, a name, and for 6 and 7 the column. Status 2 is a wrong call, or a call for this help or the
 version, which are printed on standard error too.
 
-The commands on a dataset wait for each other: one alone changes it, and others read it side by side. With --wait
-SECONDS they wait no longer than this, and with --no-wait not at all: then they are refused 25, after a line that
-says so.
+One command at a time changes a dataset, and query, count, groups and schema read it meanwhile. Commands wait for each
+other where they have to; with --wait SECONDS no longer than this, and with --no-wait not at all: then they are
+refused 25, after a line that says so.
 
 Example, at the top of the repository:
 
@@ -211,9 +211,10 @@ The time and the memory are those of encode.
 
 Where SCHEMA is the folder of a dataset, and there is no ROWS, it reads each part file of the dataset: that it is there and
 can be read, that it has the columns and rows that the dataset says, that its footer and the dataset describe its
-column chunks alike, and that the statistics are true of its values. No other part file may be there. Prints `ok` and how
-much there is; or a line for each file with what is wrong in it, and is then refused as the first of them counts. Rows
-of ROWS are rows that append would take. Nothing is changed.
+column chunks alike, and that the statistics are true of its values. Prints `ok` and how much there is; or a line for each
+file with what is wrong in it, and is then refused as the first of them counts. A note has the part files that the
+dataset does not name: a query may still read them, or a command was stopped. The next change removes them where no
+query does. Rows of ROWS are rows that append would take. Nothing is changed.
 
 Of a dataset, where standard error is a terminal, it shows after each 100000 rows how many were checked, or read of ROWS; at
 the end that is removed. With --quiet it is not shown.";
@@ -238,7 +239,6 @@ A dataset is refused 23 where there is none, and its files as decode refuses the
     4 Schema       a file has other columns than the dataset says
     9 Page         a file has other rows, chunks or statistics than the dataset says
     17 Key         a row of ROWS has a key that no folder can be named by
-    24 Exists      a part file is there that the dataset does not name; the next query removes it, or change
 
 Example, at the top of the repository:
 

@@ -17,7 +17,7 @@ use Rattle.manifest.specs.Groups.{Group, Root, root_of}
 use Rattle.manifest.specs.Root.{stored_of, RootMeans}
 use Rattle.manifest.specs.Table.{path_of_group}
 use Rattle.upkeep.specs.Strays.{AreStrays}
-use Rattle.upkeep.specs.Intact.{HoldsRows, IsNamed, IsHeldIn, IsIntact}
+use Rattle.upkeep.specs.Intact.{HoldsRows, IsNamed, IsHeldIn, AreHeld, AreLeftovers, IsIntact}
 
 pub strays_are : (image : Image) (ks keys : List KeyColumn) (P Q : List ℕ → Type 0) (paths : List (List ℕ)) → ks ≡ keys → ((q : List ℕ) → P q ↔ Q q) → AreStrays image ks P paths → AreStrays image keys Q paths
 strays_are image ks keys P Q paths same both are = subst (λ (cs : List KeyColumn). AreStrays image cs Q paths) same (λ path. (
@@ -38,9 +38,19 @@ more_held P groups i before now k g lt at = ⊎_elim
     (λ le. let is : k ≡ i = omega (arith, lt, le) in now g (ap (slice_get groups) (sym is) ∙ at))
     (cases_lt k i)
 
+pub are_held : (image : Image) (root : Root) → ((k : ℕ) (g : Group) → slice_get root.groups k ≡ Some g → IsHeldIn image root g) → AreHeld image root
+are_held image root held = λ g among. held among.0 g (slice_get-get_or root.groups among.0 g among.1 ∙ ap Some among.2)
+
+-- the files that were there before calls that only read
+pub leftovers_before : (old mid : State) (root : Root) (paths : List (List ℕ)) → LeavesAll old mid → AreLeftovers mid.seen root paths → AreLeftovers old.seen root paths
+leftovers_before old mid root paths all are = λ path. (
+  (λ among. let is = (are path).0 among in record { node = is.node; file = sym (all.names path) ∙ is.file; part = is.part; unnamed = is.unnamed }),
+  (λ is. (are path).1 (record { node = is.node; file = all.names path ∙ is.file; part = is.part; unnamed = is.unnamed })),
+)
+
 pub is_intact : (old mid : State) (root : Root) → LeavesAll old mid → ((k : ℕ) (g : Group) → slice_get root.groups k ≡ Some g → IsHeldIn old.seen root g) → AreStrays mid.seen root.keys (IsNamed root) [] → IsIntact old.seen root
 is_intact old mid root all held none = record {
-  each = λ g among. held among.0 g (slice_get-get_or root.groups among.0 g among.1 ∙ ap Some among.2);
+  each = are_held old.seen root held;
   alone = λ path is.
       let there = (none path).1 (record { node = is.node; file = all.names path ∙ is.file; part = is.part; unnamed = is.unnamed }) in
       omega (arith, there.1);

@@ -26,7 +26,11 @@ IsHeldIn image root g = (bytes : List ℕ) × (content image (path_of_group root
 abbrev pub AreLeftovers : Image → Root → List (List ℕ) → Type 0
 AreLeftovers image root paths = AreStrays image root.keys (IsNamed root) paths
 
--- each file that the root names is there and holds its group, and no part file is there that the root does not name
+-- each file that the root names is there and holds its group
+abbrev pub AreHeld : Image → Root → Type 0
+AreHeld image root = (g : Group) → Contains root.groups g → IsHeldIn image root g
+
+-- so it is, and no part file is there that the root does not name
 pub record IsIntact (image : Image) (root : Root) : Type 0 where
-  pub each : (g : Group) → Contains root.groups g → IsHeldIn image root g
+  pub each : AreHeld image root
   pub alone : (path : List ℕ) → IsStray image root.keys (IsNamed root) path → ⊥

@@ -6,20 +6,22 @@ use crate::text_lines::line;
 use reports::with_commas;
 use std::alloc::{AllocError, Global};
 
-/// The result of a check as text: `ok` with the counts, or a line for each finding and one with how many there are.
-/// Refused only when out of memory.
+/// How many of the files that the table does not name are shown; the others are counted.
+const MOST_SHOWN: usize = 20;
+
+/// The result of a check as text: `ok` with the counts, or a line for each finding and one with how many there are. Then a
+/// note of the part files that the table does not name, if there are any. Refused only when out of memory.
 pub fn text_of_check(alloc: Global, checked: &Checked) -> Result<Vec<u8>, AllocError> {
     let mut text = Vec::new(alloc);
     let findings = checked.findings.as_slice();
     if findings.is_empty() {
         write_ok(alloc, &mut text, checked)?;
-        return Ok(text);
+    } else {
+        write_findings(&mut text, findings)?;
     }
-    for finding in findings {
-        write_finding(&mut text, finding)?;
+    if !checked.unnamed.is_empty() {
+        write_unnamed(alloc, &mut text, checked)?;
     }
-    let count = findings.len();
-    line(&mut text, format_args!("findings: {count}"))?;
     Ok(text)
 }
 
@@ -33,6 +35,29 @@ fn write_ok(alloc: Global, text: &mut Vec<u8>, checked: &Checked) -> Result<(), 
         text,
         format_args!("ok: rows {rows}, groups {groups}, bytes {bytes}"),
     )
+}
+
+/// The lines of the findings, and of how many there are.
+fn write_findings(text: &mut Vec<u8>, findings: &[Finding]) -> Result<(), AllocError> {
+    for finding in findings {
+        write_finding(text, finding)?;
+    }
+    let count = findings.len();
+    line(text, format_args!("findings: {count}"))
+}
+
+/// The lines of the part files that the table does not name.
+fn write_unnamed(alloc: Global, text: &mut Vec<u8>, checked: &Checked) -> Result<(), AllocError> {
+    let count = checked.unnamed.len();
+    let bytes = with_commas(alloc, checked.unnamed_bytes)?;
+    line(
+        text,
+        format_args!("note: files that the table does not name: {count}, bytes {bytes}"),
+    )?;
+    for path in checked.unnamed.iter().take(MOST_SHOWN) {
+        line(text, format_args!("  {path}"))?;
+    }
+    Ok(())
 }
 
 /// The line of a finding: the path, the column, where it is one, and the damage.

@@ -5,15 +5,16 @@ ghost use Rattle.std.specs.List.{slice_get};
 ghost use Rattle.disk.specs.State.{content};
 ghost use Rattle.manifest.specs.Groups.{Group as GroupShown, root_of, group_view};
 ghost use Rattle.manifest.specs.Root.{stored_of};
-ghost use Rattle.upkeep.specs.Intact.{HoldsRows, IsHeldIn, IsIntact};
+ghost use Rattle.upkeep.specs.Intact.{HoldsRows, IsHeldIn, AreHeld, AreLeftovers, IsIntact};
 ghost use Rattle.upkeep.specs.Reading.{Looks};
+ghost use Rattle.upkeep.specs.inner.Walk.{paths_of};
 
 use crate::blame::blamed;
 use crate::counting::{Totals, totals_of};
 use crate::findings::{Damage, Finding};
 use crate::naming::part_of_group;
 use crate::part::{Fault, fault_of_part};
-use crate::unnamed::leftovers;
+use crate::unnamed::{bytes_at, leftovers};
 use bits::{R, Refusal};
 use disk::Disk;
 use manifest::{Group, Manifest};
@@ -26,8 +27,12 @@ use vault::Vault;
 pub struct Checked {
     /// What the root says of the table.
     pub totals: Totals,
-    /// The findings of the files that the table names, in table order, at most one a file; then the files too many.
+    /// The findings of the files that the table names, in table order, at most one a file.
     pub findings: Vec<Finding>,
+    /// The part files that the table does not name, and how many bytes they have in all. They are no fault: a reader may need
+    /// them, and the next command that changes the table removes them once none does.
+    pub unnamed: Vec<String>,
+    pub unnamed_bytes: u64,
 }
 
 /// Who is shown how far a check is.
@@ -41,7 +46,8 @@ pub trait Watch {
 /// its pages fill their chunks; and that the statistics in the root are true of its values. Also lists the key folders for
 /// part files that the root does not name.
 ///
-/// Where nothing is found, the table is intact (`IsIntact`). Nothing is changed. Holds one file, and one of its columns, at a
+/// Where nothing is found, each file is there and holds its group (`AreHeld`); where no other file is listed either, the
+/// table is intact (`IsIntact`). Nothing is changed. Holds one file, and one of its columns, at a
 /// time. Refused Device where the disk failed, Limit where the rows or bytes in all pass 2^64, Key for a group whose key
 /// cannot partition, which no root says, and Memory. Time is linear in the bytes of the files and their entries.
 pub fn check<D: Disk, W: Watch>(
@@ -50,26 +56,25 @@ pub fn check<D: Disk, W: Watch>(
     manifest: &Manifest,
     watch: &mut W,
 ) -> R<Checked>
+    ensures held { (D.state vault.old.disk).honest
+        → IfOk result (λ x. x.findings.items ≡ [] → AreHeld (D.state vault.old.disk).seen (root_of manifest.now)) }
+    ensures unnamed { (D.state vault.old.disk).honest
+        → IfOk result (λ x. AreLeftovers (D.state vault.old.disk).seen (root_of manifest.now) (paths_of x.unnamed)) }
     ensures intact { (D.state vault.old.disk).honest
-        → IfOk result (λ x. x.findings.items ≡ [] → IsIntact (D.state vault.old.disk).seen (root_of manifest.now)) }
+        → IfOk result (λ x. x.findings.items ≡ [] → x.unnamed.items ≡ [] → IsIntact (D.state vault.old.disk).seen (root_of manifest.now)) }
     ensures effect { Looks (length (root_of manifest.now).groups) (D.state vault.old.disk) (D.state vault.new.disk) }
 {
     let totals = totals_of(manifest)?;
     let mut findings = Vec::new(alloc);
     check_groups(alloc, vault, manifest, watch, &mut findings)?;
-    let paths = leftovers(alloc, vault, manifest)?;
-    add_leftovers(paths, &mut findings)?;
-    Ok(Checked { totals, findings })
-}
-
-/// Adds a finding for each of these paths.
-fn add_leftovers(paths: Vec<String>, findings: &mut Vec<Finding>) -> R<()>
-    ensures found { OnOk result (findings.new.items ≡ [] → (paths.items ≡ []) × (findings.old.items ≡ [])) }
-{
-    for path in paths {
-        add_finding(path, None, Damage::Leftover, findings)?;
-    }
-    Ok(())
+    let unnamed = leftovers(alloc, vault, manifest)?;
+    let unnamed_bytes = bytes_at(vault, unnamed.as_slice())?;
+    Ok(Checked {
+        totals,
+        findings,
+        unnamed,
+        unnamed_bytes,
+    })
 }
 
 /// Adds a finding.

@@ -8,8 +8,6 @@ use std::fmt::{self, Display};
 pub enum Damage {
     /// The table names the file, and it is not there.
     Missing,
-    /// The file is a part file that the table does not name. No row is in danger: the next opening for a change removes it.
-    Leftover,
     /// The bytes of the file are refused so, as a Parquet file is.
     Refused(Refusal),
     /// The columns of the file are not those that the table says it has.
@@ -30,7 +28,6 @@ impl Damage {
     /// The refusal that the damage counts as.
     pub fn into_refusal(self) -> Refusal {
         match self {
-            Damage::Leftover => Refusal::Exists,
             Damage::Missing => Refusal::Truncated,
             Damage::Refused(refusal) => refusal,
             Damage::Schema => Refusal::Schema,
@@ -43,7 +40,6 @@ impl Damage {
     fn words(&self) -> &'static str {
         match self {
             Damage::Missing => "1 Truncated: the table names this file, and it is not there",
-            Damage::Leftover => "24 Exists: the table does not name this file",
             Damage::Refused(_) => "",
             Damage::Schema => "4 Schema: its columns are not those that the table says it has",
             Damage::Groups(_) => "9 Page: it has another number of row groups than one",

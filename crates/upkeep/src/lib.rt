@@ -1,6 +1,6 @@
 //! A table looked at and checked, without a change: what it holds, and whether its files hold what its root says.
 //!
-//! `specs/Intact.antt` says what holds of a table in which nothing is found (`IsIntact`), `specs/Strays.antt` which part files
+//! `specs/Intact.antt` says what holds of a table in which nothing is found (`AreHeld`, `IsIntact`), `specs/Strays.antt` which part files
 //! nothing names, and `specs/Reading.antt` what a call that only reads leaves.
 #![tactic(auto)]
 

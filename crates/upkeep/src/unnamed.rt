@@ -8,14 +8,15 @@ ghost use Rattle.upkeep.specs.inner.Walk.{paths_of};
 
 use crate::naming::named_paths;
 use crate::walk::strays;
-use bits::R;
-use disk::Disk;
+use bits::{R, Refusal};
+use disk::{Disk, Fault};
 use manifest::Manifest;
 use std::alloc::Global;
 use vault::Vault;
 
-/// The paths of the part files in the table's key folders that its root does not name, in any order: what a crash or a
-/// failure left, which the next opening removes. Other files are not looked at. Each folder that leads to a key is listed
+/// The paths of the part files in the table's key folders that its root does not name, in any order: what a
+/// commit replaced and a reader may still need, and what a crash or a failure left. The next command that changes the table
+/// removes them once no reader needs them. Other files are not looked at. Each folder that leads to a key is listed
 /// once.
 ///
 /// Refused Device where the disk failed, or where a folder is gone that was there; Key for a group whose key cannot
@@ -30,4 +31,35 @@ pub fn leftovers<D: Disk>(
 {
     let named = named_paths(alloc, manifest)?;
     strays(alloc, vault, manifest.keys(), &named)
+}
+
+/// How many bytes the files at these paths have in all; a file that is gone has none. Refused Device where the disk failed,
+/// and Memory.
+pub(crate) fn bytes_at<D: Disk>(vault: &mut Vault<D>, paths: &[String]) -> R<u64>
+    ensures effect { Looks 0 (D.state vault.old.disk) (D.state vault.new.disk) }
+{
+    let mut bytes: u64 = 0;
+    for path in paths {
+        let length = length_at(vault, path.as_str())?;
+        bytes = bytes.saturating_add(length);
+    }
+    Ok(bytes)
+}
+
+/// How many bytes a file has; one that is gone has none.
+fn length_at<D: Disk>(vault: &mut Vault<D>, path: &str) -> R<u64>
+    ensures effect { Looks 0 (D.state vault.old.disk) (D.state vault.new.disk) }
+{
+    let measured = vault.disk.length(path);
+    length_in(measured)
+}
+
+/// The length that was measured; 0 where no file is there.
+fn length_in(measured: Result<u64, Fault>) -> R<u64> {
+    match measured {
+        Ok(length) => Ok(length),
+        Err(Fault::Absent) => Ok(0),
+        Err(Fault::Memory) => Err(Refusal::Memory),
+        Err(Fault::Failed | Fault::Exists) => Err(Refusal::Device),
+    }
 }
