@@ -102,10 +102,11 @@ class Dataset:
     def check(self) -> Whole:
         """Reads every part file, and returns how much there is if all of it is as the table says.
 
-        Raises `Refused`, of the first damaged file; its `reason` has a line for each finding.
+        Files that the table does not name are no fault: rows that are being read may still need them. `inspect` names
+        them. Raises `Refused`, of the first damaged file; its `reason` has a line for each finding.
         """
         said = self._call("check").decode()
-        found = re.fullmatch(r"ok: rows ([\d,]+), groups ([\d,]+), bytes ([\d,]+)\n", said)
+        found = re.match(r"ok: rows ([\d,]+), groups ([\d,]+), bytes ([\d,]+)\n", said)
         if found is None:
             raise WrongCall(f"pqds check printed {said!r}")
         return Whole(*(int(it.replace(",", "")) for it in found.groups()))
@@ -131,8 +132,8 @@ class Dataset:
         """The rows that satisfy the filters, one after another, as dicts.
 
         They come in the order of their keys, and within a key as they were appended, and are read as they are used.
-        A change of the table waits until the iterator ends or is closed. A loop that changes the table takes
-        `list(table.rows())` first: it would wait for itself, and the change raises `WrongCall`.
+        They are those of the table when the first of them is asked for: changes made meanwhile, also by the loop over
+        the rows, are not seen.
 
         `columns` are the names of the columns wanted, all without it. `limit` is the greatest number of rows. With
         `raw` the values are as the program prints them: dates and times as numbers, bytes as hexadecimal digits.

@@ -29,12 +29,12 @@ FIND_OUT = {
     "encode": "the file is there as a whole or not at all: look for it",
 }
 
-# Commands that change a table, or take it for themselves: they wait until no other command reads it.
+# Commands that change a table, or take it for themselves.
 _ALONE = ("append", "import", "remove", "rewrite", "add-column", "run")
 
 # So many bytes are read at a time of what the program prints.
 _PIECE = 1 << 20
-# So many seconds a change waits for rows that its own thread has not read to their end.
+# So many seconds such a change waits for rows that its own thread has not read to their end.
 _PATIENCE = 2
 
 # The programs whose lines are being read, by the thread that reads and the folder.
@@ -137,8 +137,19 @@ def _place(words: Sequence[str]) -> Tuple[int, str]:
     return threading.get_ident(), os.path.realpath(words[words.index("--") + 1])
 
 
+def readers_lock(folder: str) -> Optional[str]:
+    """The file of a table that its readers lock, or None: then they lock the folder, and changes wait for them."""
+    path = os.path.join(folder, "_lock")
+    return path if os.path.isfile(path) and not os.path.islink(path) and os.access(path, os.R_OK) else None
+
+
 def _wait_for_own_lines(command: str, words: Sequence[str]) -> None:
-    """Raises `WrongCall` for a change inside a loop over the rows of the same table: it would wait for itself."""
+    """Raises `WrongCall` for a change inside a loop over the rows of the same table, if it would wait for itself.
+
+    That is so only in a folder without the file that readers lock, which every change makes.
+    """
+    if readers_lock(words[words.index("--") + 1]):
+        return
     for process in _reading.get(_place(words), ()):
         try:
             process.wait(_PATIENCE)

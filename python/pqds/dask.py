@@ -1,4 +1,4 @@
-"""A table as a frame of Dask, whose workers read the files of the table while no call changes it."""
+"""A table as a frame of Dask, whose workers read the files of the table while no call removes one."""
 
 from __future__ import annotations
 
@@ -16,7 +16,7 @@ from . import _arrow, _pandas
 from ._dataset import Dataset
 from ._files import inspect
 from ._filters import Filters, filter_json, is_term
-from ._program import PathLike
+from ._program import PathLike, readers_lock
 from ._schema import Field, fields_of, leaf_at
 
 
@@ -28,9 +28,9 @@ def reading(
 ) -> Iterator[Any]:
     """A `dask.dataframe` of the rows that satisfy the filters, with the types that `pqds.Dataset.to_pandas` gives.
 
-    Compute it inside the `with` block: until the block ends, a reader's lock keeps changes away. The lock guards one
-    machine, not workers on others. A partition is a file of the table, which a worker reads by pyarrow; partitions are
-    in the order of the table.
+    Compute it inside the `with` block: until the block ends, a reader's lock keeps the files of the table, also those
+    that a change replaces. Changes made meanwhile are not seen. The lock guards one machine, not workers on others. A
+    partition is a file of the table, which a worker reads by pyarrow; partitions are in the order of the table.
 
     Needs Dask and pyarrow. Raises `NoTable`, and `NoColumn`, `RowShape`, `Unordered` or `Script` for the filters.
     """
@@ -42,7 +42,7 @@ def reading(
         with _reader_lock(table.path):
             root = inspect(f"{table.path}/_metadata")
             names = [it["name"] for it in root["schema"] if it["depth"] == 0]
-            # Otherwise a column was added before the lock was taken.
+            # Otherwise a column was added between the two.
             if names == [it.name for it in fields if it.name not in keys]:
                 yield _frame(table, fields, [it["chunks"][0]["file"] for it in root["groups"]], filters, columns)
                 return
@@ -50,12 +50,13 @@ def reading(
 
 @contextmanager
 def _reader_lock(folder: str) -> Iterator[None]:
-    """The lock by which commands that read keep those away that change."""
+    """The lock by which commands that read keep the files that they read."""
     while True:
-        handle = os.open(folder, os.O_RDONLY | os.O_DIRECTORY)
+        path = readers_lock(folder) or folder
+        handle = os.open(path, os.O_RDONLY)
         try:
             fcntl.flock(handle, fcntl.LOCK_SH)
-            if os.path.samestat(os.fstat(handle), os.stat(folder)):
+            if os.path.samestat(os.fstat(handle), os.stat(path)):
                 yield
                 return
         finally:

@@ -7,6 +7,7 @@ import importlib
 import importlib.util
 import unittest
 from decimal import Decimal
+from pathlib import Path
 from typing import Any, List
 
 from support import RoomCase
@@ -84,7 +85,18 @@ class Dask(RoomCase):
             with self.subTest(filters=filters), pqds.dask.reading("t=1", filters, ["n", "k"]) as frame:
                 self.assertEqual(self.rows(frame), self.wanted(filters, ["n", "k"]))
 
-    def test_changes_wait(self) -> None:
+    def test_changes_are_not_seen(self) -> None:
+        with pqds.dask.reading("t=1") as frame:
+            wanted = self.wanted()
+            self.assertEqual(self.table.remove([("n", ">", 0)]), 3)
+            self.table.add_column({"name": "more", "type": "boolean"})
+            self.assertEqual(self.rows(frame), wanted)
+        self.assertEqual(self.table.count(), 1)
+        with pqds.dask.reading("t=1") as frame:
+            self.assertEqual(self.rows(frame), self.wanted())
+
+    def test_changes_wait_where_the_folder_has_no_lock(self) -> None:
+        Path("t=1/_lock").unlink()
         with pqds.dask.reading("t=1") as frame:
             with self.assertRaises(pqds.Device):
                 pqds.open("t=1", wait=False).remove([])

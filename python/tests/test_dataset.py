@@ -212,6 +212,14 @@ class Tables(RoomCase):
         with self.assertRaises(pqds.Truncated):
             list(rows)
 
+    def test_files_that_are_not_named_are_no_fault(self) -> None:
+        table = self.filled()
+        found: List[pqds.Whole] = []
+        note = "note: files that the table does not name: 1, bytes 89\n  part.7.parquet\n"
+        said = f"printf 'ok: rows 3, groups 2, bytes 1,024\n{note}'"
+        self.words_of("check", lambda: found.append(table.check()), said)
+        self.assertEqual(found, [pqds.Whole(3, 2, 1024)])
+
     def test_inspect_is_a_text(self) -> None:
         self.assertIn("rows: 3, in groups: 2", self.filled().inspect(min_rows=5))
 

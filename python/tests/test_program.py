@@ -200,6 +200,20 @@ class Side(RoomCase):
     def test_a_change_in_a_loop_over_the_same_table(self) -> None:
         table = pqds.create("t", ORDERS)
         table.append({"region": "x" * 50, "order": it} for it in range(50_000))
+        orders = []
+        for row in table.rows():
+            if row["order"] == 0:
+                self.assertEqual(table.append([{"region": "y", "order": -1}]), 1)
+                self.assertEqual(table.remove([("order", "<", 40_000)]), 40_001)
+                self.assertEqual(table.count(), 10_000)
+            orders.append(row["order"])
+        self.assertEqual(orders, list(range(50_000)))
+        self.assertEqual(table.check().rows, 10_000)
+
+    def test_a_change_in_a_loop_where_the_folder_has_no_lock(self) -> None:
+        table = pqds.create("t", ORDERS)
+        table.append({"region": "x" * 50, "order": it} for it in range(50_000))
+        Path("t/_lock").unlink()
         rows = table.rows()
         self.assertEqual(next(rows)["order"], 0)
         for change in (lambda: table.remove([]), lambda: pqds.open("../" + Path.cwd().name + "/t").append([])):
