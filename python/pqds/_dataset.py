@@ -58,9 +58,9 @@ class Dataset:
     Nothing is kept open between the calls, so an object can be used by several threads and be sent to other processes.
     """
 
-    def __init__(self, path: PathLike, *, wait: bool = True, **files: Unpack[FileOptions]) -> None:
+    def __init__(self, path: PathLike, *, wait: Union[bool, int] = True, **files: Unpack[FileOptions]) -> None:
         self.path = path_word(path)
-        self._patience = [] if wait else ["--no-wait"]
+        self._patience = _wait_words(wait)
         self._file_words = file_words(files)
         self._key_names: Optional[Tuple[str, ...]] = None
 
@@ -403,12 +403,13 @@ def prepared(
         yield Prepared("append", lines_file.name, None)
 
 
-def open(path: PathLike, *, wait: bool = True, **files: Unpack[FileOptions]) -> Dataset:  # noqa: A001
+def open(path: PathLike, *, wait: Union[bool, int] = True, **files: Unpack[FileOptions]) -> Dataset:  # noqa: A001
     """The table in a folder.
 
-    With `wait=False` a call raises `Device` at once if another command uses the table, instead of waiting for it. The
-    other options are for the files that its changes write: `style` is plain, dictionary, delta, lengths or split;
-    `group_rows` the greatest number of rows of a group, `page_rows` of a page, and `page_version` 1 or 2.
+    A call waits for another command on the table as long as it takes. With a number of seconds as `wait` it waits no
+    longer for each lock, with `wait=False` not at all, and raises `Device` then. The other options are for the files
+    that its changes write: `style` is plain, dictionary, delta, lengths or split; `group_rows` the greatest number of
+    rows of a group, `page_rows` of a page, and `page_version` 1 or 2.
 
     Raises `NoTable` if the folder has no table, and `Device` if there is no folder.
     """
@@ -424,7 +425,7 @@ def create(
     *,
     required: Sequence[str] = (),
     floats: Optional[Mapping[str, int]] = None,
-    wait: bool = True,
+    wait: Union[bool, int] = True,
     **files: Unpack[FileOptions],
 ) -> Dataset:
     """Makes a table without rows, and returns it. The folder above `path` must be there.
@@ -467,6 +468,12 @@ def _is_long(wanted: Optional[List[Any]]) -> bool:
 
 def _filter_words(wanted: Optional[List[Any]]) -> List[str]:
     return [] if wanted is None else ["--filter", filter_text(wanted)]
+
+
+def _wait_words(wait: Union[bool, int]) -> List[str]:
+    if isinstance(wait, bool):
+        return [] if wait else ["--no-wait"]
+    return ["--wait", str(wait)]
 
 
 def _numbers(groups: Iterable[Union[int, Group]]) -> List[str]:

@@ -196,7 +196,7 @@ class Exists(Refused):
 
 
 class Device(Refused):
-    """A file or folder cannot be read or written; or, with `wait=False`, another command uses the table."""
+    """A file or folder cannot be read or written; or another command uses the table for longer than `wait`."""
 
     number = 25
 

@@ -3,6 +3,7 @@
 from __future__ import annotations
 
 import fcntl
+import functools
 import os
 import unittest
 from pathlib import Path
@@ -272,6 +273,21 @@ class Tables(RoomCase):
         self.assertEqual(table.count(), 0)
         fcntl.flock(folder, fcntl.LOCK_UN)
         self.assertEqual(table.remove([("order", "==", 0)]), 0)
+
+    def test_seconds_to_wait(self) -> None:
+        folder = os.open("orders", os.O_RDONLY)
+        self.addCleanup(os.close, folder)
+        fcntl.flock(folder, fcntl.LOCK_EX)
+        for seconds in (0, 1):
+            table = pqds.open("orders", wait=seconds)
+            with self.assertRaises(pqds.Device):
+                table.remove([])
+            words = self.words_of("remove", functools.partial(table.remove, []), "echo done 0")
+            self.assertEqual(words[words.index("--wait") + 1], str(seconds))
+        fcntl.flock(folder, fcntl.LOCK_UN)
+        self.assertEqual(pqds.open("orders", wait=1).remove([]), 0)
+        with self.assertRaises(pqds.WrongCall):
+            pqds.open("orders", wait=-1)
 
 
 if __name__ == "__main__":
