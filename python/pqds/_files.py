@@ -5,7 +5,7 @@ from __future__ import annotations
 import json
 import os
 import tempfile
-from typing import TYPE_CHECKING, Any, Dict, Iterable, Iterator, Mapping, Optional, Sequence
+from typing import TYPE_CHECKING, Any, Dict, Iterable, Iterator, Mapping, Optional
 
 from . import _tables
 from ._dataset import file_schema
@@ -50,7 +50,10 @@ def encode(
     with tempfile.TemporaryDirectory(prefix="pqds-") as folder:
         _put(os.path.join(folder, "schema"), [schema_text(said)])
         _put(os.path.join(folder, "rows"), parts)
-        call("encode", [*file_words(files), "--", os.path.join(folder, "schema"), os.path.join(folder, "rows"), path_word(out)])
+        call(
+            "encode",
+            [*file_words(files), "--", os.path.join(folder, "schema"), os.path.join(folder, "rows"), path_word(out)],
+        )
 
 
 def inspect(file: PathLike) -> Dict[str, Any]:
