@@ -3,11 +3,12 @@
 from __future__ import annotations
 
 import os
+import shlex
 import sys
 import tempfile
 import unittest
 from pathlib import Path
-from typing import Any, Dict, List
+from typing import Any, Callable, Dict, List
 
 TOP = Path(__file__).resolve().parents[2]
 sys.path.insert(0, str(TOP / "python"))
@@ -45,3 +46,18 @@ class RoomCase(unittest.TestCase):
         before = os.environ["PQDS"]
         self.addCleanup(os.environ.__setitem__, "PQDS", before)
         os.environ["PQDS"] = str(file.resolve())
+
+    def words_of(self, command: str, call: Callable[[], object], answer: str = "true") -> List[str]:
+        """The words that a call gives to this command, which is not run: this script does its work."""
+        real = os.environ["PQDS"]
+        self.fake(
+            f'[ "$1" = {command} ] || exec {shlex.quote(real)} "$@"\n'
+            'for it; do case "$it" in @*) it=@$(cat "${it#@}") ;; esac; printf "%s\\n" "$it" >>words; done\n'
+            f"{answer}"
+        )
+        Path("words").write_text("")
+        try:
+            call()
+        finally:
+            os.environ["PQDS"] = real
+        return Path("words").read_text().splitlines()
