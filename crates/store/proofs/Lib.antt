@@ -44,6 +44,7 @@ pub mod Started
 pub mod Doubts
 pub mod Reopened
 pub mod Opened
+pub mod LeftFiles
 pub mod Made
 pub mod Created
 pub mod Restarted

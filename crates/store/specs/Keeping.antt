@@ -1,6 +1,7 @@
--- Where the part files that a store writes stand, beside files that others may be reading.
+-- Where the part files that a store writes stand, beside files that others may be reading; and which calls change no file.
 use Rattle.std.specs.Prelude.{◌≡◌, ◌≢◌, ℕ, List, true, false, Contains}
 use Rattle.disk.specs.State.{State as DiskState}
+use Rattle.vault.specs.Calls.{LeavesAll}
 use Rattle.vault.specs.Views.{root_path, next_path}
 use Rattle.partition.specs.Folders.{CanPartition, part_path_of}
 use Rattle.manifest.specs.Groups.{Group as FileGroup, root_of}
@@ -25,3 +26,8 @@ pub record IsFreePath {D : Type 0} (store : Store D) (s : State) (path : List �
 abbrev pub NewFilesAreFree : {D : Type 0} → (D → DiskState) → Type 0
 NewFilesAreFree {D} state = (store : Store D) (s : State) → Stands state store s → s.closed ≡ false → (key : Key) → CanPartition s.table.keys key
     → IsFreePath store s (part_path_of s.table.keys key store.next_group)
+
+-- A call that changes no file and no folder; the store keeps what is replaced after it if it did before.
+pub record LeavesFiles {D : Type 0} (state : D → DiskState) (old new : Store D) : Type 0 where
+  pub leaves : (state old.vault.disk).honest → LeavesAll (state old.vault.disk) (state new.vault.disk)
+  pub keeps : new.keeps ≡ old.keeps

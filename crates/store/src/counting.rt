@@ -23,6 +23,7 @@ impl<D: Disk> Store<D> {
     ghost use Rattle.filter.specs.Terms.{terms_view};
     ghost use Rattle.table.specs.Calls.{count, counted};
     ghost use Rattle.table.specs.Views.{answered};
+    ghost use Rattle.store.specs.Keeping.{LeavesFiles};
     ghost use Rattle.store.specs.Promises.{Acts, HasCause, StaysClosed};
 
     /// How many rows satisfy. With no filter that is told by the table's description, and nothing is read. Else a group
@@ -32,6 +33,7 @@ impl<D: Disk> Store<D> {
     pub fn count(&mut self, alloc: Global, terms: &[Vec<Term>]) -> R<u64>
         ensures acts { Acts D.state self.old self.new (count (terms_view terms.now)) (answered counted result) }
         ensures cause { HasCause D.state self.old self.new (answered counted result) }
+        ensures leaves { LeavesFiles D.state self.old self.new }
         ensures unread { terms.now ≡ [] → (D.state self.new.vault.disk).reads ≡ (D.state self.old.vault.disk).reads }
         ensures closed { StaysClosed self.old self.new result }
         ensures counts { (D.state self.old.vault.disk).failures ≤ (D.state self.new.vault.disk).failures }

@@ -18,6 +18,7 @@ use Rattle.store.proofs.Counted.{counts_all, count_poor, count_refused, no_terms
 use Rattle.filter.specs.Test.{tests_in}
 use Rattle.store.proofs.Fetched.{memory_so}
 use Rattle.store.proofs.Tallied.{table_held, counts_so, count_stopped}
+use Rattle.store.proofs.LeftFiles.{same, only_read}
 use Rattle.store.proofs.store.Store.count.Goals as goal
 
 pub returns-then-self-clause-acts : goal.returns-then-self-clause-acts
@@ -67,3 +68,21 @@ returns-clause-acts g c honest s stands =
     let found = c.in_ok-found in
     counts_so g.D.Disk.state old c.if-self.false s stands terms tests c.schema.result.now c.schema.ensures made c.count_rows.new.vault (found.ensures.effect.unchanged honest) found.found
     (found.ensures.stands honest s.table.groups (table_held g.D.Disk.state old c.if-self.false s stands terms tests c.schema.result.now c.schema.ensures made))
+
+pub returns-then-self-clause-leaves : goal.returns-then-self-clause-leaves
+returns-then-self-clause-leaves g c = same g.D.Disk.state c.args.self.now
+
+pub returns-in_err-all-clause-leaves : goal.returns-in_err-all-clause-leaves
+returns-in_err-all-clause-leaves g c = same g.D.Disk.state c.args.self.now
+
+pub returns-then-is_empty-clause-leaves : goal.returns-then-is_empty-clause-leaves
+returns-then-is_empty-clause-leaves g c = same g.D.Disk.state c.args.self.now
+
+pub returns-in_err-filter-clause-leaves : goal.returns-in_err-filter-clause-leaves
+returns-in_err-filter-clause-leaves g c = same g.D.Disk.state c.args.self.now
+
+pub returns-in_err-found-clause-leaves : goal.returns-in_err-found-clause-leaves
+returns-in_err-found-clause-leaves g c = only_read g.D.Disk.state c.args.self.now (record c.args.self.now { vault = c.count_rows.new.vault }) c.in_err-found.ensures.effect.unchanged refl
+
+pub returns-clause-leaves : goal.returns-clause-leaves
+returns-clause-leaves g c = only_read g.D.Disk.state c.args.self.now (record c.args.self.now { vault = c.count_rows.new.vault }) c.in_ok-found.ensures.effect.unchanged refl
