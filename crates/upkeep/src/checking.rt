@@ -13,6 +13,7 @@ use crate::blame::blamed;
 use crate::counting::{Totals, totals_of};
 use crate::findings::{Damage, Finding};
 use crate::naming::part_of_group;
+use crate::obstacles::obstacles;
 use crate::part::{Fault, fault_of_part};
 use crate::unnamed::{bytes_at, leftovers};
 use bits::{R, Refusal};
@@ -27,7 +28,8 @@ use vault::Vault;
 pub struct Checked {
     /// What the root says of the table.
     pub totals: Totals,
-    /// The findings of the files that the table names, in table order, at most one a file.
+    /// The findings of the files that the table names, in table order, at most one a file; then the folders that have the name
+    /// of a file which a commit makes.
     pub findings: Vec<Finding>,
     /// The part files that the table does not name, and how many bytes they have in all. They are no fault: a reader may need
     /// them, and the next command that changes the table removes them once none does.
@@ -43,8 +45,8 @@ pub trait Watch {
 
 /// Reads each part file against the root that was read ([`described`](crate::described)): that it is there, is a file of
 /// just the columns that the table says it has, with one row group, whose records and number of rows are the root's; that
-/// its pages fill their chunks; and that the statistics in the root are true of its values. Also lists the key folders for
-/// part files that the root does not name.
+/// its pages fill their chunks; and that the statistics in the root are true of its values. Also lists the folders for part
+/// files that the root does not name, and for folders that have the name of the next root or of a part file.
 ///
 /// Where nothing is found, each file is there and holds its group (`AreHeld`); where no other file is listed either, the
 /// table is intact (`IsIntact`). Nothing is changed. Holds one file, and one of its columns, at a
@@ -66,7 +68,7 @@ pub fn check<D: Disk, W: Watch>(
 {
     let totals = totals_of(manifest)?;
     let mut findings = Vec::new(alloc);
-    check_groups(alloc, vault, manifest, watch, &mut findings)?;
+    check_files(alloc, vault, manifest, watch, &mut findings)?;
     let unnamed = leftovers(alloc, vault, manifest)?;
     let unnamed_bytes = bytes_at(vault, unnamed.as_slice())?;
     Ok(Checked {
@@ -91,6 +93,34 @@ fn add_finding(
         column,
         damage,
     })?;
+    Ok(())
+}
+
+/// Adds a finding for each damaged file that the root names, then one for each folder that has the name of a file which a
+/// commit makes.
+fn check_files<D: Disk, W: Watch>(
+    alloc: Global,
+    vault: &mut Vault<D>,
+    manifest: &Manifest,
+    watch: &mut W,
+    findings: &mut Vec<Finding>,
+) -> R<()>
+    ensures held { (D.state vault.old.disk).honest → OnOk result (findings.new.items ≡ []
+        → (k : ℕ) (g : GroupShown) → slice_get (root_of manifest.now).groups k ≡ Some g → IsHeldIn (D.state vault.old.disk).seen (root_of manifest.now) g) }
+    ensures effect { Looks (length (root_of manifest.now).groups) (D.state vault.old.disk) (D.state vault.new.disk) }
+{
+    check_groups(alloc, vault, manifest, watch, findings)?;
+    let paths = obstacles(alloc, vault, manifest.keys())?;
+    add_obstacles(paths, findings)
+}
+
+/// Adds a finding for each of these folders.
+fn add_obstacles(paths: Vec<String>, findings: &mut Vec<Finding>) -> R<()>
+    ensures found { OnOk result (findings.new.items ≡ [] → findings.old.items ≡ []) }
+{
+    for path in paths {
+        add_finding(path, None, Damage::Folder, findings)?;
+    }
     Ok(())
 }
 

@@ -8,6 +8,8 @@ use std::fmt::{self, Display};
 pub enum Damage {
     /// The table names the file, and it is not there.
     Missing,
+    /// A folder has the name of a file that a commit makes: of the next root, or of a part file. Commits are refused then.
+    Folder,
     /// The bytes of the file are refused so, as a Parquet file is.
     Refused(Refusal),
     /// The columns of the file are not those that the table says it has.
@@ -29,6 +31,7 @@ impl Damage {
     pub fn into_refusal(self) -> Refusal {
         match self {
             Damage::Missing => Refusal::Truncated,
+            Damage::Folder => Refusal::Exists,
             Damage::Refused(refusal) => refusal,
             Damage::Schema => Refusal::Schema,
             Damage::Groups(_) | Damage::Rows | Damage::Record | Damage::Size | Damage::Statistics =>
@@ -40,6 +43,7 @@ impl Damage {
     fn words(&self) -> &'static str {
         match self {
             Damage::Missing => "1 Truncated: the table names this file, and it is not there",
+            Damage::Folder => "24 Exists: a folder has the name of a file that a commit makes",
             Damage::Refused(_) => "",
             Damage::Schema => "4 Schema: its columns are not those that the table says it has",
             Damage::Groups(_) => "9 Page: it has another number of row groups than one",

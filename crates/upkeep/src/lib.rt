@@ -14,6 +14,7 @@ mod describing;
 mod findings;
 mod fronts;
 mod naming;
+mod obstacles;
 mod part;
 mod paths;
 mod records;

@@ -68,7 +68,7 @@ fn find<D: Disk>(
 }
 
 /// The names in a folder. Refused Device also where it is not there.
-fn listed<D: Disk>(alloc: Global, vault: &mut Vault<D>, folder: &str) -> R<Vec<Entry>>
+pub(crate) fn listed<D: Disk>(alloc: Global, vault: &mut Vault<D>, folder: &str) -> R<Vec<Entry>>
     ensures stands { (D.state vault.old.disk).honest → IfOk result (λ entries. AreNamesIn (D.state vault.old.disk).seen folder.now entries.items) }
     ensures which { RefusedOnly IsDevice result }
     ensures effect { Looks 0 (D.state vault.old.disk) (D.state vault.new.disk) }
@@ -106,7 +106,7 @@ fn find_below<D: Disk>(
 }
 
 /// The path of an entry that is the folder of a key of these columns; None of another one.
-fn key_folder(
+pub(crate) fn key_folder(
     alloc: Global,
     columns: &[KeyColumn],
     folder: &str,
