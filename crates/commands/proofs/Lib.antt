@@ -10,3 +10,9 @@ mod Among
 mod ColumnLeaves
 mod GatheredLines
 mod Counted
+mod Stopped
+mod UnlessThere
+mod Renewed
+mod FirstBatched
+mod FileOfQuery
+mod StagedFiles

@@ -1,4 +1,10 @@
 pub mod Lines
 pub mod Making
 pub mod Querying
+pub mod First
+pub mod QueryFile
+pub mod Importing
+pub mod Stopping
+pub mod Renewing
+pub mod Unless
 pub mod inner

@@ -37,7 +37,8 @@ IsRefusedFilterOf leaves None e = ⊥
 
 -- From the one state: the store makes a call that was asked for, and its answer is the result; or what was asked for is
 -- refused, and the store is as it was.
-pub data MakesFrom {D : Type 0} (state : D → DiskState) (old new : Store D) (IsAsked : Fields → Call → Type 0) (IsRefused : Fields → Refusal → Type 0) (result : Result ℕ Refusal) (s : State) : Type 0 where
+pub data MakesFrom {D : Type 0} (state : D → DiskState) (old new : Store D) (IsAsked : Fields → Call → Type 0) (IsRefused : Fields → Refusal → Type 0)
+    (result : Result ℕ Refusal) (s : State) : Type 0 where
   made : (call : Call) → IsAsked s.table.schema call → ActsFrom state old new call (answered done result) s → MakesFrom state old new IsAsked IsRefused result s
   not_made : (e : Refusal) → IsRefused s.table.schema e → result ≡ Err e → new ≡ old → MakesFrom state old new IsAsked IsRefused result s
 
@@ -64,7 +65,8 @@ AsksColumn text fs call = (columns : Fields) × IsSchemaText text columns × (ca
 pub data RewritesFrom {D : Type 0} (state : D → DiskState) (old new : Store D) (numbers : List ℕ) (result : Result ℕ Refusal) (s : State) : Type 0 where
   none_named : numbers ≡ [] → result ≡ Ok 0 → new ≡ old → RewritesFrom state old new numbers result s
   not_begun : (e : Refusal) → result ≡ Err e → ActsFrom state old new (begin_rewrite numbers) (refused_answer e) s → RewritesFrom state old new numbers result s
-  begun : (mid : Store D) (n : ℕ) (first : ActsFrom state old mid (begin_rewrite numbers) (job n) s) → ActsFrom state mid new (commit n) (answered done result) first.after
+  begun : (mid : Store D) (n : ℕ) (first : ActsFrom state old mid (begin_rewrite numbers) (job n) s)
+      → ActsFrom state mid new (commit n) (answered done result) first.after
       → RewritesFrom state old new numbers result s
 
 -- on an honest disk, from each state that the store stands in: the groups of these numbers are rewritten, or the rewrite is refused
@@ -73,22 +75,30 @@ Rewrites state old new numbers result = (state old.vault.disk).honest → (s : S
 
 -- From the one state: the store plans which groups to rewrite, and rewrites them; or is refused the plan, and is as it was.
 pub data RewritesPlannedFrom {D : Type 0} (state : D → DiskState) (old new : Store D) (min_rows : ℕ) (result : Result ℕ Refusal) (s : State) : Type 0 where
-  not_planned : (e : Refusal) → result ≡ Err e → new ≡ old → ActsFrom state old old (plan_rewrite min_rows) (refused_answer e) s → RewritesPlannedFrom state old new min_rows result s
-  planned_so : (numbers : List ℕ) → ActsFrom state old old (plan_rewrite min_rows) (planned numbers) s → RewritesFrom state old new numbers result s → RewritesPlannedFrom state old new min_rows result s
+  not_planned : (e : Refusal) → result ≡ Err e → new ≡ old → ActsFrom state old old (plan_rewrite min_rows) (refused_answer e) s
+      → RewritesPlannedFrom state old new min_rows result s
+  planned_so : (numbers : List ℕ) → ActsFrom state old old (plan_rewrite min_rows) (planned numbers) s → RewritesFrom state old new numbers result s
+      → RewritesPlannedFrom state old new min_rows result s
 
 -- on an honest disk, from each state that the store stands in: the groups that the store plans are rewritten, or that is refused
 abbrev pub RewritesPlanned : {D : Type 0} → (D → DiskState) → Store D → Store D → ℕ → Result ℕ Refusal → Type 0
-RewritesPlanned state old new min_rows result = (state old.vault.disk).honest → (s : State) → Stands state old s → RewritesPlannedFrom state old new min_rows result s
+RewritesPlanned state old new min_rows result = (state old.vault.disk).honest → (s : State) → Stands state old s
+    → RewritesPlannedFrom state old new min_rows result s
 
 -- ---- scripts
 
 -- From the one state: the store makes the calls of a text, one of each line; and where the result is Ok a writer got the lines of
 -- their answers, over the schema that the table has then. Or the text is refused, and the store and the writer are as they were.
-pub data RunsScriptFrom {D T : Type 0} (state : D → DiskState) (old new : Store D) (text : List ℕ) (before after : Option (List ℕ)) (result : Result T Refusal) (s : State) : Type 0 where
-  ran : (calls : List Call) (last : Fields) (answers : List Answer) → AreCallTexts s.table.schema (lines text) calls last → (runs : RunsFrom state old new calls (map answer_view answers) s)
-      → OnOk result ((printed : List ℕ) × AreAnswerLines runs.after.table.schema answers printed × Appends before after printed) → RunsScriptFrom state old new text before after result s
-  not_run : (e : Refusal) → AreRefusedCalls s.table.schema (lines text) e → result ≡ Err e → new ≡ old → after ≡ before → RunsScriptFrom state old new text before after result s
+pub data RunsScriptFrom {D T : Type 0} (state : D → DiskState) (old new : Store D) (text : List ℕ) (before after : Option (List ℕ)) (result : Result T Refusal)
+    (s : State) : Type 0 where
+  ran : (calls : List Call) (last : Fields) (answers : List Answer) → AreCallTexts s.table.schema (lines text) calls last
+      → (runs : RunsFrom state old new calls (map answer_view answers) s)
+      → OnOk result ((printed : List ℕ) × AreAnswerLines runs.after.table.schema answers printed × Appends before after printed)
+      → RunsScriptFrom state old new text before after result s
+  not_run : (e : Refusal) → AreRefusedCalls s.table.schema (lines text) e → result ≡ Err e → new ≡ old → after ≡ before
+      → RunsScriptFrom state old new text before after result s
 
 -- on an honest disk, from each state that the store stands in: the calls of a text are made and their answers printed, or it is refused
 abbrev pub RunsScript : {D T : Type 0} → (D → DiskState) → Store D → Store D → List ℕ → Option (List ℕ) → Option (List ℕ) → Result T Refusal → Type 0
-RunsScript state old new text before after result = (state old.vault.disk).honest → (s : State) → Stands state old s → RunsScriptFrom state old new text before after result s
+RunsScript state old new text before after result = (state old.vault.disk).honest → (s : State) → Stands state old s
+    → RunsScriptFrom state old new text before after result s

@@ -79,7 +79,8 @@ only_reads _ = false
 -- the last.
 abbrev pub ActsOn : {D : Type 0} → (D → DiskState) → Store D → List Call → List Answer → Store D → State → State → Type 0
 ActsOn state old [] [] new s last = (new ≡ old) × (last ≡ s)
-ActsOn {D} state old (call ∷ calls) (answer ∷ answers) new s last = (mid : Store D) × (acts : ActsFrom state old mid call answer s) × ActsOn state mid calls answers new acts.after last
+ActsOn {D} state old (call ∷ calls) (answer ∷ answers) new s last = (mid : Store D) × (acts : ActsFrom state old mid call answer s)
+    × ActsOn state mid calls answers new acts.after last
 ActsOn state old [] (answer ∷ answers) new s last = ⊥
 ActsOn state old (call ∷ calls) [] new s last = ⊥
 
@@ -93,13 +94,17 @@ pub record OnlyReads {D : Type 0} (state : D → DiskState) (old new : Store D) 
 
 -- From the one state: a filter is asked for, the store makes calls that only read, and where the result is Ok a writer got what is
 -- said of that filter. Or the filter is refused, and neither the store nor the writer changed.
-pub data ReadsFrom {D T : Type 0} (state : D → DiskState) (old new : Store D) (asked : Option (List ℕ)) (Prints : Filter → Type 0) (Unchanged : Type 0) (result : Result T Refusal) (s : State) : Type 0 where
-  read : (terms : Filter) → IsAskedFilter (leaves_of s.table.schema) asked terms → OnlyReads state old new s → OnOk result (Prints terms) → ReadsFrom state old new asked Prints Unchanged result s
-  not_read : (e : Refusal) → IsRefusedFilterOf (leaves_of s.table.schema) asked e → result ≡ Err e → new ≡ old → Unchanged → ReadsFrom state old new asked Prints Unchanged result s
+pub data ReadsFrom {D T : Type 0} (state : D → DiskState) (old new : Store D) (asked : Option (List ℕ)) (Prints : Filter → Type 0) (Unchanged : Type 0)
+    (result : Result T Refusal) (s : State) : Type 0 where
+  read : (terms : Filter) → IsAskedFilter (leaves_of s.table.schema) asked terms → OnlyReads state old new s → OnOk result (Prints terms)
+      → ReadsFrom state old new asked Prints Unchanged result s
+  not_read : (e : Refusal) → IsRefusedFilterOf (leaves_of s.table.schema) asked e → result ≡ Err e → new ≡ old → Unchanged
+      → ReadsFrom state old new asked Prints Unchanged result s
 
 -- on an honest disk, from each state that the store stands in; what is printed is told of that state's table
 abbrev pub Reads : {D T : Type 0} → (D → DiskState) → Store D → Store D → Option (List ℕ) → (Filter → Table → Type 0) → Type 0 → Result T Refusal → Type 0
-Reads state old new asked Prints Unchanged result = (state old.vault.disk).honest → (s : State) → Stands state old s → ReadsFrom state old new asked (λ terms. Prints terms s.table) Unchanged result s
+Reads state old new asked Prints Unchanged result = (state old.vault.disk).honest → (s : State) → Stands state old s
+    → ReadsFrom state old new asked (λ terms. Prints terms s.table) Unchanged result s
 
 -- on an honest disk, from each state that the store stands in: where the result is Ok a writer got the lines of the table's groups
 abbrev pub ListsGroups : {D T : Type 0} → (D → DiskState) → Store D → Option (List ℕ) → Option (List ℕ) → Result T Refusal → Type 0

@@ -1,2 +1,5 @@
 pub mod Batches
+pub mod Fetched
+pub mod FirstBatches
 pub mod Gathering
+pub mod Staged

@@ -8,11 +8,11 @@ use crate::lock::{Access, Lock};
 use crate::making::Making;
 use crate::readers_lock::{make_file, waited_out};
 use crate::reason::Reason;
+use crate::remarks::schema_in;
 use crate::tasks::found;
-use crate::texts::{owned, text_of};
+use crate::texts::owned;
 use bits::{R, Refusal};
 use disk::Disk;
-use jsonrows::schema_from;
 use manifest::Manifest;
 use partition::key_columns;
 use schema::Schema;
@@ -42,8 +42,7 @@ where
         let schema = match schema_in(alloc, bytes) {
             Ok(schema) => schema,
             Err(refusal) => {
-                let file = self.named_file().unwrap_or("");
-                *why = found(schema_reason(alloc, file, bytes));
+                *why = found(schema_reason(alloc, bytes));
                 return Err(refusal);
             }
         };
@@ -52,7 +51,7 @@ where
             *why = found(table_reason(alloc, &schema, keys.as_slice(), &refusal));
             return Err(refusal);
         }
-        let is_new = make_folder(self.rt, alloc, self.call.folder)?;
+        let is_new = make_folder(self.rt, alloc, self.call.folder, self.notes)?;
         let lock = self.lock(Access::Writes, err, why);
         let made = match &lock {
             Ok(_) => self.make_table_alone(&schema, keys.as_slice(), err, why),
@@ -110,11 +109,6 @@ where
             }
         }
     }
-}
-
-/// The schema that the text of a file is.
-fn schema_in(alloc: Global, bytes: &[u8]) -> R<Schema> {
-    schema_from(alloc, text_of(bytes)?)
 }
 
 /// A part file in a folder that a table of these keys would be made in: it would remove it. None where there is none, or a root

@@ -2,24 +2,28 @@
 
 ghost use Rattle.std.specs.Prelude.{◌≡◌, false, OnOk};
 
-use crate::explaining::check_reason;
+use crate::explaining::{filter_text_reason, no_text_reason};
+use crate::filter_file::{filter_file, with_filter};
 use crate::folder::{bytes_of, disk_of, is_folder, refusal_of};
 use crate::folder_lock::locked;
+use crate::later_reason::Refused;
 use crate::lock::{Access, Lock, Patience};
 use crate::looking::{Checking, print_check, print_rows_fit, print_survey};
+use crate::notes::Notes;
 use crate::part_reason::is_of_bytes;
 use crate::querying::print_schema_of;
 use crate::reason::{Reason, print_reason};
+use crate::remarks::{print_doubled_note, print_schema_fits, print_schema_notes};
 use crate::tally::Tally;
-use crate::tasks::found;
-use crate::texts::{line_without_text, text_of};
+use crate::tasks::{bytes_at, found};
+use crate::texts::text_of;
 use crate::watched::Watched;
 use bits::{R, Refusal};
 use dataset_words::{Call, Change, Datasets, Look, Question, Task};
 use disk::HostDisk;
 use reports::Terminals;
 use std::alloc::Global;
-use std::io::{Input, Write};
+use std::io::{self, Input, Write};
 use std::rt::{Clock, Files};
 use upkeep::described;
 use vault::Vault;
@@ -42,6 +46,8 @@ where
     // A real folder keeps no model of a disk for certain, so that nothing is said of what it gives.
     ghost prints = { λ folders call old new. Unit {0} };
 
+    ghost gives = { λ folders call file. Unit {0} };
+
     /// The file that a call names is read first. Then the folder is locked, the dataset is opened, the JSON is looked at,
     /// and the call is made; `create` looks at its JSON before it makes the folder. Refused Device where a file, the folder,
     /// its lock or the output cannot be used, Script for bytes that are no text, and as the store and the readers of JSON
@@ -55,22 +61,58 @@ where
         err: &mut E,
         terminals: Terminals,
     ) -> R<()> {
+        let notes = Notes::new(alloc)?;
         let making = Making {
             rt: self.files,
             screen: &self.screen,
             alloc,
             call,
             terminals,
+            notes: &notes,
         };
         let mut why = None;
-        let made = making.make(out, err, &mut why);
-        let written = out.flush();
-        match made {
-            Ok(()) => written.map_err(refusal_of),
+        let made = match filter_file(call) {
+            Some(path) => making.make_with_filter(path, out, err, &mut why),
+            None => making.make(out, err, &mut why),
+        };
+        let flushed = out.flush();
+        let refusal = match (made, &flushed) {
+            (Ok(()), Ok(())) => return Ok(()),
+            (Ok(()), Err(error)) => refusal_of(*error),
+            (Err(refusal), _) => refusal,
+        };
+        making.explain(&refusal, &flushed, why, err);
+        Err(refusal)
+    }
+
+    /// The rows of a query as a file. The folder is shared and the dataset opened as for [`make`](Folders::make), and refused as
+    /// there; Limit for options out of range, and for rows that are too much for a file. Where there is more to say than the
+    /// refusal, `err` gets a line. What is shown on the way is gone by then.
+    fn file_of(
+        &self,
+        alloc: Global,
+        call: &Call<'_>,
+        err: &mut E,
+        terminals: Terminals,
+    ) -> R<Vec<u8>> {
+        let notes = Notes::new(alloc)?;
+        let making = Making {
+            rt: self.files,
+            screen: &self.screen,
+            alloc,
+            call,
+            terminals,
+            notes: &notes,
+        };
+        let mut why = None;
+        let given = match filter_file(call) {
+            Some(path) => making.give_with_filter(path, err, &mut why),
+            None => making.give(err, &mut why),
+        };
+        match given {
+            Ok(file) => Ok(file),
             Err(refusal) => {
-                if let Some(reason) = &why {
-                    print_reason(reason, call.folder, err);
-                }
+                making.explain(&refusal, &Ok(()), why, err);
                 Err(refusal)
             }
         }
@@ -85,25 +127,86 @@ pub(crate) struct Making<'a, F, S> {
     pub(crate) alloc: Global,
     pub(crate) call: &'a Call<'a>,
     pub(crate) terminals: Terminals,
+    pub(crate) notes: &'a Notes,
 }
 
 impl<F: Files + Input + Clock + Clone + Drop, S: Write + Clone + Drop> Making<'_, F, S>
 where
     F::File: Lock,
 {
+    /// Makes the call with the filter that is the text of a file. Refused Device where that cannot be read, Script where it
+    /// is no text, and then as [`make`](Making::make).
+    fn make_with_filter<W: Write, E: Write>(
+        &self,
+        path: &str,
+        out: &mut W,
+        err: &mut E,
+        why: &mut Option<Reason>,
+    ) -> R<()>
+        ensures quiet { self.now.terminals.err ≡ false → E.contents err.new ≡ E.contents err.old }
+    {
+        let bytes = bytes_of(self.rt, self.alloc, path, self.notes)?;
+        let call = match with_filter(self.alloc, self.call, bytes.as_slice()) {
+            Ok(call) => call,
+            Err(refusal) => {
+                *why = found(filter_text_reason(self.alloc, path, bytes.as_slice()));
+                return Err(refusal);
+            }
+        };
+        let making = Making {
+            rt: self.rt,
+            screen: self.screen,
+            alloc: self.alloc,
+            call: &call,
+            terminals: self.terminals,
+            notes: self.notes,
+        };
+        making.make(out, err, why)
+    }
+
+    /// Says why the call is refused, where there is more to say than the refusal: what was found while it was made, or what can
+    /// be found when it is over.
+    fn explain<E: Write>(
+        &self,
+        refusal: &Refusal,
+        flushed: &io::Result<()>,
+        why: Option<Reason>,
+        err: &mut E,
+    ) {
+        let why = match why {
+            Some(reason) => Some(reason),
+            None => self.later_reason(refusal, flushed),
+        };
+        if let Some(reason) = &why {
+            let file = self.named_file().unwrap_or("");
+            print_reason(reason, self.call.folder, file, err);
+        }
+    }
+
+    /// Why the call is refused, as far as that can be found when it is over; none where there is no memory for it.
+    fn later_reason(&self, refusal: &Refusal, flushed: &io::Result<()>) -> Option<Reason> {
+        let refused = Refused {
+            rt: self.rt,
+            alloc: self.alloc,
+            call: self.call,
+            notes: self.notes,
+        };
+        found(refused.reason(refusal, flushed))
+    }
+
     /// Makes the call, and gives a writer what it is to print. Where it is refused, `why` may get the reason.
     fn make<W: Write, E: Write>(&self, out: &mut W, err: &mut E, why: &mut Option<Reason>) -> R<()>
         ensures quiet { self.now.terminals.err ≡ false → E.contents err.new ≡ E.contents err.old }
     {
-        let bytes = match self.named_file() {
-            Some(path) => bytes_of(self.rt, self.alloc, path)?,
-            None => Vec::new(self.alloc),
-        };
-        let bytes = bytes.as_slice();
+        let files = self.named_bytes()?;
+        let bytes = bytes_at(files.as_slice(), 0);
         match &self.call.task {
             Task::Create { keys, .. } => self.make_table(bytes, keys.as_slice(), err, why),
             Task::Ask(Question::Schema) if !self.is_of_folder() => {
                 print_schema_of(self.alloc, bytes, out)
+            }
+            Task::Look(Look::Files) if !self.is_of_folder() => {
+                print_schema_fits(self.alloc, bytes, out, why)
             }
             Task::Look(_) if !self.is_of_folder() => {
                 *why = Some(Reason::NoFolder);
@@ -116,7 +219,28 @@ where
                 made
             }
             Task::Ask(question) => self.read(question, out, err, why),
-            Task::Change(_) | Task::Run { .. } => self.change(bytes, out, err, why),
+            Task::Change(_) | Task::Run { .. } => self.change(files.as_slice(), out, err, why),
+        }
+    }
+
+    /// The bytes of the files that the call names, if it names any.
+    fn named_bytes(&self) -> R<Vec<Vec<u8>>> {
+        let mut files = Vec::new(self.alloc);
+        if let Some(paths) = self.imported_files() {
+            for path in paths {
+                files.push(bytes_of(self.rt, self.alloc, path, self.notes)?)?;
+            }
+        } else if let Some(path) = self.named_file() {
+            files.push(bytes_of(self.rt, self.alloc, path, self.notes)?)?;
+        }
+        Ok(files)
+    }
+
+    /// The files of an import.
+    pub(crate) fn imported_files(&self) -> Option<&[&str]> {
+        match &self.call.task {
+            Task::Change(Change::Import { files, .. }) => Some(files.as_slice()),
+            _ => None,
         }
     }
 
@@ -125,16 +249,18 @@ where
         is_folder(self.rt, self.call.folder)
     }
 
-    /// The file that the call names, if it names one.
+    /// The file that the call names, or the first of several, if it names one.
     pub(crate) fn named_file(&self) -> Option<&str> {
         match &self.call.task {
             Task::Create { schema, .. } => Some(schema),
-            Task::Run { script } => Some(script),
+            Task::Run { script, .. } => Some(script),
             Task::Look(Look::Rows { rows }) => Some(rows),
-            Task::Change(Change::Append { rows }) => Some(rows),
-            Task::Change(Change::Import { file }) => Some(file),
+            Task::Change(Change::Append { rows, .. }) => Some(rows),
+            Task::Change(Change::Import { files, .. }) => files.first().map(|file| *file),
             Task::Change(Change::AddColumn { schema }) => Some(schema),
-            Task::Ask(Question::Schema) if !self.is_of_folder() => Some(self.call.folder),
+            Task::Ask(Question::Schema) | Task::Look(Look::Files) if !self.is_of_folder() => {
+                Some(self.call.folder)
+            }
             _ => None,
         }
     }
@@ -165,7 +291,7 @@ where
     pub(crate) fn disk(&self, shows: bool) -> R<Watched<HostDisk<F>, S>> {
         let screen = self.screen.clone()?;
         let tally = Tally::new(self.alloc, screen, shows);
-        disk_of(self.rt, self.alloc, self.call.folder, tally)
+        disk_of(self.rt, self.alloc, self.call.folder, tally, self.notes)
     }
 
     /// Looks at the dataset, which is not opened.
@@ -189,20 +315,22 @@ where
             }
         };
         match look {
-            Look::Survey { min_rows } => print_survey(alloc, &mut vault, &table, *min_rows, out),
+            Look::Survey { min_rows, as_json } => {
+                print_survey(alloc, &mut vault, &table, *min_rows, *as_json, out)
+            }
             Look::Files => {
                 let screen = self.screen.clone()?;
                 let mut checking = Checking::new(alloc, &table, screen, shows);
-                let checked = print_check(alloc, &mut vault, &table, &mut checking, out);
-                if let Err(refusal) = &checked {
-                    *why = found(check_reason(alloc, &mut vault, &table, refusal));
-                }
-                checked
+                print_check(alloc, &mut vault, &table, &mut checking, out)?;
+                print_schema_notes(alloc, table.schema(), out)
             }
             Look::Rows { rows } => match text_of(bytes) {
-                Ok(text) => print_rows_fit(alloc, &table, rows, text, out, err, shows, why),
+                Ok(text) => {
+                    print_rows_fit(alloc, &table, text, out, err, shows, why)?;
+                    print_doubled_note(alloc, rows, text, out)
+                }
                 Err(refusal) => {
-                    *why = line_without_text(bytes).map(|line| Reason::Line(line));
+                    *why = found(no_text_reason(alloc, bytes));
                     Err(refusal)
                 }
             },
@@ -212,7 +340,7 @@ where
 
 /// Why no table is described, where there is more to say than the refusal.
 pub(crate) fn root_reason(refusal: &Refusal) -> Option<Reason> {
-    if is_of_bytes(refusal) && *refusal != Refusal::Limit {
+    if (is_of_bytes(refusal) && *refusal != Refusal::Limit) || *refusal == Refusal::Key {
         Some(Reason::Root)
     } else {
         None

@@ -11,7 +11,8 @@ use crate::making::{Making, root_reason};
 use crate::printing::print_done;
 use crate::readers_lock::{Readers, kept_out, make_file, shared};
 use crate::reason::Reason;
-use crate::tasks::{ask, make_change, run};
+use crate::stopping::run_to_refusal;
+use crate::tasks::{ask, bytes_at, make_change, run};
 use crate::watched::Watched;
 use bits::{R, Refusal};
 use dataset_words::{Change, Question, Task};
@@ -44,7 +45,7 @@ where
     }
 
     /// Shares the readers' lock, or that of the folder where there is none for readers.
-    fn share<E: Write>(&self, err: &mut E, why: &mut Option<Reason>) -> R<F::File>
+    pub(crate) fn share<E: Write>(&self, err: &mut E, why: &mut Option<Reason>) -> R<F::File>
         ensures quiet { self.now.terminals.err ≡ false → E.contents err.new ≡ E.contents err.old }
     {
         let patience = self.patience();
@@ -76,7 +77,7 @@ where
     /// Locks the folder, opens the dataset and changes it.
     pub(crate) fn change<W: Write, E: Write>(
         &self,
-        bytes: &[u8],
+        files: &[Vec<u8>],
         out: &mut W,
         err: &mut E,
         why: &mut Option<Reason>,
@@ -84,7 +85,7 @@ where
         ensures quiet { self.now.terminals.err ≡ false → E.contents err.new ≡ E.contents err.old }
     {
         let lock = self.lock(Access::Writes, err, why)?;
-        let made = self.change_in_folder(bytes, out, err, why);
+        let made = self.change_in_folder(files, out, err, why);
         drop(lock);
         made
     }
@@ -92,7 +93,7 @@ where
     /// Opens the dataset, in the locked folder, and changes it.
     fn change_in_folder<W: Write, E: Write>(
         &self,
-        bytes: &[u8],
+        files: &[Vec<u8>],
         out: &mut W,
         err: &mut E,
         why: &mut Option<Reason>,
@@ -100,7 +101,7 @@ where
         ensures quiet { self.now.terminals.err ≡ false → E.contents err.new ≡ E.contents err.old }
     {
         let mut store = self.open(why)?;
-        let made = self.change_store(&mut store, bytes, out, err, why);
+        let made = self.change_store(&mut store, files, out, err, why);
         self.clean_up(&mut store);
         made
     }
@@ -109,7 +110,7 @@ where
     fn change_store<W: Write, E: Write>(
         &self,
         store: &mut Store<Watched<HostDisk<F>, S>>,
-        bytes: &[u8],
+        files: &[Vec<u8>],
         out: &mut W,
         err: &mut E,
         why: &mut Option<Reason>,
@@ -120,15 +121,26 @@ where
         match &self.call.task {
             Task::Create { .. } | Task::Look(_) | Task::Ask(_) => Ok(()),
             Task::Change(change) => {
-                let done = make_change(alloc, store, change, bytes, err, shows, why);
+                let mut at = None;
+                let done = make_change(alloc, store, change, files, err, shows, why, &mut at);
                 store.vault.disk.clear();
+                if let (Some(place), Err(refusal)) = (at, &done) {
+                    self.name_file(place, refusal, why);
+                }
                 let told = tell_done(done?, out);
                 if told.is_err() {
                     *why = Some(Reason::Unprinted);
                 }
                 told
             }
-            Task::Run { .. } => run(alloc, store, bytes, out, why),
+            Task::Run { stops, .. } => {
+                let bytes = bytes_at(files, 0);
+                if *stops {
+                    run_to_refusal(alloc, store, bytes, out, why)
+                } else {
+                    run(alloc, store, bytes, out, why)
+                }
+            }
         }
     }
 
@@ -179,7 +191,7 @@ where
 }
 
 /// The store that was opened. Where it is refused, `why` may get the reason.
-fn opened<F: Files + Clone + Drop, S: Write + Drop>(
+pub(crate) fn opened<F: Files + Clone + Drop, S: Write + Drop>(
     made: Result<Store<Watched<HostDisk<F>, S>>, (Watched<HostDisk<F>, S>, Refusal)>,
     why: &mut Option<Reason>,
 ) -> R<Store<Watched<HostDisk<F>, S>>> {

@@ -42,7 +42,12 @@ pub fn run_script<D: Disk, W: Write>(
 }
 
 /// Prints answers, a line each. Later columns stand at the end of the schema, so that it is that of each batch.
-fn print_answers<W: Write>(alloc: Global, schema: &Schema, answers: &[Answer], out: &mut W) -> R<()>
+pub fn print_answers<W: Write>(
+    alloc: Global,
+    schema: &Schema,
+    answers: &[Answer],
+    out: &mut W,
+) -> R<()>
     ensures printed { OnOk result ((printed : List ℕ) × AreAnswerLines schema.now answers.now printed × Appends (W.contents out.old) (W.contents out.new) printed) }
 {
     for answer in answers {
@@ -82,20 +87,4 @@ pub fn calls_of(alloc: Global, schema: &Schema, text: &str) -> R<Vec<Call>>
         calls.push(call)?;
     }
     Ok(calls)
-}
-
-/// The number of the first line that is no call, counted from 1. None where each line is one, or memory ran out.
-pub fn line_without_call(alloc: Global, schema: &Schema, text: &str) -> Option<u64> {
-    let Ok(mut reader) = reader_for(alloc, schema) else {
-        return None;
-    };
-    let mut number: u64 = 1;
-    for line in text.lines() {
-        match reader.read(alloc, line) {
-            Ok(_) => number = number.saturating_add(1),
-            Err(Refusal::Memory) => return None,
-            Err(_) => return Some(number),
-        }
-    }
-    None
 }

@@ -4,11 +4,15 @@ ghost use Rattle.std.specs.Prelude.{◌≡◌, false};
 
 use crate::changing::{add_column, append, remove_rows, rewrite_groups, rewrite_small};
 use crate::explaining::{change_reason, question_reason, script_reason};
+use crate::first_rows::print_first_rows;
 use crate::folder::refusal_of;
+use crate::importing::{import_files, import_files_unless};
 use crate::querying::{print_count, print_groups, print_rows, print_schema};
 use crate::reason::Reason;
+use crate::renewing::rewrite_all;
 use crate::running::run_script;
 use crate::texts::{owned, text_of};
+use crate::unless::{append_unless, import_unless};
 use bits::R;
 use dataset_words::{Change, Question};
 use disk::Disk;
@@ -53,10 +57,29 @@ fn answer<D: Disk, W: Write, E: Write>(
     ensures quiet { shows ≡ false → E.contents err.new ≡ E.contents err.old }
 {
     match question {
-        Question::Query { filter, columns } if columns.is_empty() => {
-            print_rows(alloc, store, *filter, None, out, err, shows)
+        Question::Query {
+            filter,
+            columns,
+            limit: Some(limit),
+        } => {
+            let names = owned(alloc, columns.as_slice())?;
+            let names = if names.is_empty() {
+                None
+            } else {
+                Some(names.as_slice())
+            };
+            print_first_rows(alloc, store, *filter, names, *limit, out)
         }
-        Question::Query { filter, columns } => {
+        Question::Query {
+            filter,
+            columns,
+            ..
+        } if columns.is_empty() => print_rows(alloc, store, *filter, None, out, err, shows),
+        Question::Query {
+            filter,
+            columns,
+            ..
+        } => {
             let names = owned(alloc, columns.as_slice())?;
             print_rows(
                 alloc,
@@ -74,24 +97,56 @@ fn answer<D: Disk, W: Write, E: Write>(
     }
 }
 
-/// Changes a store, with the bytes of the file that the change names. Where `shows` says so, `err` shows how many of its rows
-/// were read so far. Where it is refused, `why` may get the reason.
+/// Changes a store, with the bytes of the files that the change names. Where `shows` says so, `err` shows how many of its rows
+/// were read so far. Where it is refused, `why` may get the reason, and `refused` the place of the file that is refused among
+/// several.
 pub fn make_change<D: Disk, E: Write>(
     alloc: Global,
     store: &mut Store<D>,
     change: &Change<'_>,
-    bytes: &[u8],
+    files: &[Vec<u8>],
     err: &mut E,
     shows: bool,
     why: &mut Option<Reason>,
+    refused: &mut Option<usize>,
 ) -> R<u64>
     ensures quiet { shows ≡ false → E.contents err.new ≡ E.contents err.old }
 {
-    let changed = change_store(alloc, store, change, bytes, err, shows);
+    let changed = if files.len() > 1 {
+        import_all(alloc, store, change, files, refused)
+    } else {
+        change_store(alloc, store, change, bytes_at(files, 0), err, shows)
+    };
     if let Err(refusal) = &changed {
+        let bytes = bytes_at(files, refused.unwrap_or(0));
         *why = found(change_reason(alloc, store, change, bytes, refusal));
     }
     changed
+}
+
+/// The bytes of the file at a place; none where there is no such file.
+pub fn bytes_at(files: &[Vec<u8>], place: usize) -> &[u8] {
+    match files.get(place) {
+        Some(bytes) => bytes.as_slice(),
+        None => &[],
+    }
+}
+
+/// Imports several files into a store. `refused` gets the place of the one that is refused. Only an import names several.
+fn import_all<D: Disk>(
+    alloc: Global,
+    store: &mut Store<D>,
+    change: &Change<'_>,
+    files: &[Vec<u8>],
+    refused: &mut Option<usize>,
+) -> R<u64> {
+    match change {
+        Change::Import {
+            unless: Some(filter),
+            ..
+        } => import_files_unless(alloc, store, filter, files, refused),
+        _ => import_files(alloc, store, files, refused),
+    }
 }
 
 /// Changes a store, with the bytes of the file that the change names.
@@ -106,6 +161,14 @@ fn change_store<D: Disk, E: Write>(
     ensures quiet { shows ≡ false → E.contents err.new ≡ E.contents err.old }
 {
     match change {
+        Change::Append {
+            unless: Some(filter),
+            ..
+        } => append_unless(alloc, store, filter, text_of(bytes)?, err, shows),
+        Change::Import {
+            unless: Some(filter),
+            ..
+        } => import_unless(alloc, store, filter, bytes),
         Change::Append { .. } => append(alloc, store, text_of(bytes)?, err, shows),
         Change::Import { .. } => store.import(alloc, bytes),
         Change::AddColumn { .. } => add_column(alloc, store, text_of(bytes)?),
@@ -113,6 +176,7 @@ fn change_store<D: Disk, E: Write>(
         Change::RemoveGroups { numbers } => store.remove_groups(alloc, numbers.as_slice()),
         Change::Rewrite { numbers } => rewrite_groups(alloc, store, numbers.as_slice()),
         Change::RewriteSmall { min_rows } => rewrite_small(alloc, store, *min_rows),
+        Change::RewriteAll => rewrite_all(alloc, store),
     }
 }
 

@@ -19,7 +19,8 @@ const TWO_ROWS: [u8; 140] = [
 ];
 
 /// What both calls write to standard error.
-const REFUSED_TWICE: &str = "refused 25 Device\nrefused 25 Device\n";
+const REFUSED_TWICE: &str = "standard output could not be written\nrefused 25 Device\n\
+the reader closed the pipe\nrefused 25 Device\n";
 
 /// No output is a terminal.
 const NO_TERMINALS: Terminals = Terminals {
@@ -47,6 +48,8 @@ struct NoDatasets;
 impl<W: Write, E: Write> Datasets<W, E> for NoDatasets {
     ghost prints = { λ nobody call old new. Unit {0} };
 
+    ghost gives = { λ nobody call file. Unit {0} };
+
     fn make(
         &self,
         _alloc: Global,
@@ -55,6 +58,16 @@ impl<W: Write, E: Write> Datasets<W, E> for NoDatasets {
         _err: &mut E,
         _terminals: Terminals,
     ) -> R<()> {
+        Err(Refusal::Device)
+    }
+
+    fn file_of(
+        &self,
+        _alloc: Global,
+        _call: &Call<'_>,
+        _err: &mut E,
+        _terminals: Terminals,
+    ) -> R<Vec<u8>> {
         Err(Refusal::Device)
     }
 }

@@ -1,6 +1,6 @@
 //! Who makes the calls.
 
-ghost use Rattle.std.specs.Prelude.{◌≡◌, ℕ, List, Option, false, OnOk};
+ghost use Rattle.std.specs.Prelude.{◌≡◌, ℕ, List, Option, false, OnOk, IfOk};
 ghost use Rattle.dataset_words.specs.declared.call.Call.{Call};
 
 use crate::call::Call;
@@ -14,6 +14,9 @@ pub trait Datasets<W: Write, E: Write> {
     /// What a call prints that is done: by what `out` had, and what it has then.
     ghost prints: { Self → Call → Option (List ℕ) → Option (List ℕ) → Type 0 };
 
+    /// What the bytes are of a file of what a call asks for.
+    ghost gives: { Self → Call → List ℕ → Type 0 };
+
     /// Makes a call, and prints what it is to print to `out`. Where it is refused, `err` may get a line that says why.
     /// `terminals` says which of both are terminals: where `err` is one, it may get a line that says what is waited for, and
     /// show how far the call is.
@@ -26,5 +29,17 @@ pub trait Datasets<W: Write, E: Write> {
         terminals: Terminals,
     ) -> R<()>
         ensures done { OnOk result (prints self.now call.now (W.contents out.old) (W.contents out.new)) }
+        ensures quiet { terminals.err ≡ false → OnOk result (E.contents err.new ≡ E.contents err.old) };
+
+    /// The bytes of a Parquet file of the rows that a call asks for. Where it is refused, `err` may get a line that says why;
+    /// where that is a terminal it may get what [`make`](Datasets::make) shows.
+    fn file_of(
+        &self,
+        alloc: Global,
+        call: &Call<'_>,
+        err: &mut E,
+        terminals: Terminals,
+    ) -> R<Vec<u8>>
+        ensures gives { IfOk result (λ file. gives self.now call.now file.items) }
         ensures quiet { terminals.err ≡ false → OnOk result (E.contents err.new ≡ E.contents err.old) };
 }

@@ -32,13 +32,15 @@ keeps the rules of docs/DISK.md; whether yours does is not known to the program.
 Where standard error is a terminal, it shows after each 100000 rows how many were read, and then how much was read from the
 disk and written to it so far; at the end that is removed. With --quiet it is not shown.
 
-Refused 14 or 29 for the first line that is no row, after a line that has its number; 17 Key for a row whose key has no folder
+Refused 14 or 29 for the first line that is no row, after a line that says which and why; 17 Key for a row whose key has no folder
 (an empty text, or a longer name than 255 bytes), after a line that says which; 23 NoTable where DIR has no dataset.
 
 Refused 26 InDoubt where the disk failed at the moment of the commit: the rows are all there, or none is. So it is after a kill.
-`pqds count DIR`, compared with the count before, shows which. Where some filter holds for the new rows alone, a line that
-appends only if there are none can be run again, as by cron; the second example has one. Two such lines must not run side by
-side: each would count before the other appends.";
+`pqds count DIR`, compared with the count before, shows which.
+
+With --unless nothing is appended if a row of the dataset satisfies a filter (query says what a filter is): then it prints
+`done 0`. The count and the append are made under one lock. So a load with a filter that only its own rows satisfy can be run
+again, as by cron or after a kill; the second example has one.";
 
 pub const APPEND_EXAMPLE: &str = "\
 Example, at the top of the repository:
@@ -53,22 +55,28 @@ prints
 Example of a line that can be run again, here run twice:
 
     ./pqds create again sample/orders_table.schema.json
-    n=$(./pqds count again --filter '[[\"order\",\"==\",4]]') && { [ $n != 0 ] || ./pqds append again sample/later_orders.jsonl; }
-    n=$(./pqds count again --filter '[[\"order\",\"==\",4]]') && { [ $n != 0 ] || ./pqds append again sample/later_orders.jsonl; }
+    ./pqds append again sample/later_orders.jsonl --unless '[[\"order\",\"==\",4]]'
+    ./pqds append again sample/later_orders.jsonl --unless '[[\"order\",\"==\",4]]'
 
 prints
 
     done 1
+    done 0
 
 Rows come from a pipe by `-`, as in `zcat rows.jsonl.gz | ./pqds append again -`.";
 
-pub const IMPORT: &str = "Appends the rows of a Parquet file to a dataset";
+pub const IMPORT: &str = "Appends the rows of Parquet files to a dataset";
 
 pub const IMPORT_LONG: &str = "\
 Appends the rows of a Parquet file, and prints `done N`, N the number of rows. The columns of the file are those of the
 dataset, with the key columns among them, in their order: name, repetition, type, length and annotation; else 4 Schema, after
 a line that shows the first column that differs, in the file and in the dataset. `pqds schema` prints all columns of both. The
 file is read as decode reads it, and refused as it refuses it; what the file says of itself besides its rows is not used.
+
+With several FILEs the rows of all come in, in the order of the files and in one commit, or none. Where one of them is refused,
+the line before the refusal names it. All files are read first: their bytes, and the rows of one of them, are in memory.
+
+With --unless nothing is appended if a row of the dataset satisfies a filter, as append says it.
 
 Where standard error is a terminal, it shows how much was read from the disk and written to it so far; at the end that is
 removed. With --quiet it is not shown.
@@ -84,7 +92,9 @@ Example, at the top of the repository:
 
 prints
 
-    done 2";
+    done 2
+
+Several files in one commit, as in `./pqds import numbers sample/two_rows.parquet sample/two_rows.parquet`: `done 4`.";
 
 pub const QUERY: &str = "Prints rows of a dataset";
 
@@ -97,12 +107,22 @@ AND hold. One AND may stand alone, as an array of triples; the empty filter [] h
 <, <=, >, >=, in, not in. A column is a name, or an array of the names on its path. A null satisfies no triple. A group of which
 the statistics show that no row satisfies is not read, nor are columns that are neither printed nor in the filter.
 
+`--filter @FILE` reads the filter from a file, `--filter @-` from standard input: a long list is longer than a command line. So
+does each option that takes a filter. Refused 25 Device where the file cannot be read.
+
+With --limit only the first N of these rows are printed. Groups after them are not read.
+
+With --out the rows are not printed, but OUT is made: a Parquet file of them, in their order, with the COLUMNs in the order of
+the dataset. No file is ever replaced, and OUT appears whole or not at all, as encode says it of its OUT. It may not be in DIR.
+The other options say how it is written. Of OUT `-` the bytes go to standard output, which may not be a terminal. They are in
+memory first: a file has at most 2147483647 bytes, or it is refused 13 Limit. Refused 24 Exists where OUT is there already.
+
 Where standard error is a terminal and standard output is not, standard error shows after each 100000 rows how many were
 printed; at the end that is removed. With --quiet it is not shown.
 
 A reader that closes the output early, as head does, ends the call with `refused 25 Device`.
 
-Refused 14, 15, 16 or 29 for the filter, after a line that says for which of its triples and why; 15 NoColumn for a COLUMN that
+Refused 14, 15, 16 or 29 for the filter, after a line that says for which of its terms and why; 15 NoColumn for a COLUMN that
 is not there; 1 to 13 for a damaged part file, after a line that has its path. The rows before it are printed then.";
 
 pub const QUERY_EXAMPLE: &str = "\
@@ -115,7 +135,9 @@ Example, at the top of the repository:
 prints
 
     done 3
-    {\"cents\":1250,\"order\":1}";
+    {\"cents\":1250,\"order\":1}
+
+The same as a file: `./pqds query orders --filter '[[\"cents\",\">=\",1000]]' order cents --out dear.parquet`";
 
 pub const COUNT: &str = "Prints how many rows a dataset has";
 
@@ -210,18 +232,20 @@ pub const REWRITE_LONG: &str = "\
 Writes the rows of groups anew, and prints `done N`, N the number of rows. Groups that stand next to each other under one key
 become groups of `--group-rows` rows, the last of them with the rest; the rows stay, in their order. With NUMBERs it does so with
 these groups (groups prints the numbers); with --min-rows N with those that have fewer than N rows, and next to them a group of
-the same key that has fewer too. Where there are none, nothing is written: `done 0`. All of it is done or nothing, as append
+the same key that has fewer too; with --all with all groups: then all files have the style and the pages of this call, and the
+columns that were added later. Where there are none, nothing is written: `done 0`. All of it is done or nothing, as append
 says it.
 
 Where standard error is a terminal, it shows how much was read from the disk and written to it so far; at the end that is
 removed. With --quiet it is not shown.
 
-Refused 18 NoGroup for a number that no group has; 26 InDoubt as append: `pqds groups DIR` shows whether it is done. With both,
-or neither, it is a wrong call.";
+Refused 18 NoGroup for a number that no group has; 26 InDoubt as append: `pqds groups DIR` shows whether it is done. With two of
+these, or none, it is a wrong call.";
 
 pub const REWRITE_USAGE: &str = "\
 pqds rewrite [OPTIONS] <DIR> <NUMBER>...
-       pqds rewrite [OPTIONS] <DIR> --min-rows <N>";
+       pqds rewrite [OPTIONS] <DIR> --min-rows <N>
+       pqds rewrite [OPTIONS] <DIR> --all";
 
 pub const REWRITE_EXAMPLE: &str = "\
 Example, at the top of the repository:
@@ -280,9 +304,12 @@ the answer of each, a line of JSON. The calls:
     {\"call\":\"add_column\",\"field\":{..}}          a column, as in a schema: {\"done\":0}; later lines are read with it
     {\"call\":\"reopen\"}                           the dataset is opened again, without jobs and cursors: {\"ok\":true}
 
-SCRIPT is read whole first. Where a line of it is no call, it is refused 14 or 29, after a line that has its number, and nothing
+SCRIPT is read whole first. Where a line of it is no call, it is refused 14 or 29, after a line that says which and why, and nothing
 is run. A call that is refused answers {\"name\":\"Full\",\"refused\":22}, and those after it are made; the status is 0 all the same.
-Each call is a commit of its own or none; the answers are printed when all are made.";
+Each call is a commit of its own or none; the answers are printed when all are made.
+
+With --stop a call that is refused is the last one: its answer is printed last, and then `run` is refused as that call is, after
+a line that says how many were made before it, such as `3 of 7 calls were made`. Their commits stay.";
 
 pub const RUN_EXAMPLE: &str = "\
 Example, at the top of the repository:

@@ -39,9 +39,7 @@ fn change_of_file<'a>(word: &str, matches: &ArgMatches<'a>) -> Option<Change<'a>
     match word {
         "append" => Some(Change::Append {
             rows: matches.get_str("ROWS")?,
-        }),
-        "import" => Some(Change::Import {
-            file: matches.get_str("FILE")?,
+            unless: matches.get_str("unless"),
         }),
         "add-column" => Some(Change::AddColumn {
             schema: matches.get_str("SCHEMA")?,
@@ -50,17 +48,22 @@ fn change_of_file<'a>(word: &str, matches: &ArgMatches<'a>) -> Option<Change<'a>
     }
 }
 
-/// The change that a command makes that names rows or groups.
+/// The change that a command makes that names files, rows or groups, any number of them.
 fn change_of_rows<'a>(alloc: Global, word: &str, matches: &ArgMatches<'a>) -> R<Option<Change<'a>>>
     ensures { IfOk result (λ found. IfSome found (λ change. change_word change ≡ word.now)) }
 {
     let change = match word {
+        "import" => Change::Import {
+            files: words_in(alloc, matches, "FILE")?,
+            unless: matches.get_str("unless"),
+        },
         "remove" => match matches.get_str("filter") {
             Some(filter) => Change::Remove { filter },
             None => Change::RemoveGroups {
                 numbers: numbers_in(alloc, matches)?,
             },
         },
+        "rewrite" if matches.get_flag("all") => Change::RewriteAll,
         "rewrite" => match matches.get_one::<u64>("min-rows") {
             Some(min_rows) => Change::RewriteSmall { min_rows },
             None => Change::Rewrite {
@@ -91,6 +94,7 @@ fn question_of<'a>(alloc: Global, word: &str, matches: &ArgMatches<'a>) -> R<Opt
         "query" => Question::Query {
             filter,
             columns: words_in(alloc, matches, "COLUMN")?,
+            limit: limit_in(matches),
         },
         "count" => Question::Count { filter },
         "groups" => Question::Groups,
@@ -113,7 +117,10 @@ fn task_of_file<'a>(alloc: Global, word: &str, matches: &ArgMatches<'a>) -> R<Op
             None => return Ok(None),
         },
         "run" => match matches.get_str("SCRIPT") {
-            Some(script) => Task::Run { script },
+            Some(script) => Task::Run {
+                script,
+                stops: matches.get_flag("stop"),
+            },
             None => return Ok(None),
         },
         _ => return Ok(None),
@@ -143,7 +150,7 @@ fn folder_in<'a>(matches: &ArgMatches<'a>) -> Option<&'a str> {
 fn has_options(word: &str) -> bool {
     matches!(
         word,
-        "create" | "append" | "import" | "remove" | "rewrite" | "run"
+        "create" | "append" | "import" | "query" | "remove" | "rewrite" | "run"
     )
 }
 
@@ -173,6 +180,16 @@ fn options_for(word: &str, matches: &ArgMatches<'_>) -> WriteOptions {
     } else {
         WriteOptions::standard()
     }
+}
+
+/// The file that gets what a command would print, where the words name one; `-` is standard output.
+pub fn out_in<'a>(matches: &ArgMatches<'a>) -> Option<&'a str> {
+    matches.get_str("out")
+}
+
+/// How many rows are printed at most, where the words say it.
+pub fn limit_in(matches: &ArgMatches<'_>) -> Option<u64> {
+    matches.get_one::<u64>("limit")
 }
 
 /// The number of rows below which a group is small, where the words do not say it: half of the default of `--group-rows`.

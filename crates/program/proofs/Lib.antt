@@ -5,3 +5,4 @@ pub mod Printed
 pub mod Footers
 pub mod Done
 pub mod TextLines
+mod Copied

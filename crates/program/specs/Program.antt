@@ -1,5 +1,5 @@
 -- What the program does with files.
-use Rattle.std.specs.Prelude.{◌≡◌, ◌⊎◌, ℕ, List, [], ◌∷◌, ◌++◌, flat_map, length, codes, decimal, Option, Some, None}
+use Rattle.std.specs.Prelude.{◌≡◌, ◌⊎◌, ℕ, List, [], ◌∷◌, ◌++◌, flat_map, length, take, codes, decimal, Option, Some, None}
 use Rattle.std.specs.Io.KnownBytes.{Appends}
 use Rattle.std.specs.Str.Lines.{lines}
 use Rattle.serde_json.specs.Data.{Data, Members}
@@ -35,6 +35,28 @@ pub record WritesRowsOf (bytes : List ℕ) (old new : Option (List ℕ)) : Type 
   pub rows : List ValueTrees
   pub means : FileMeans bytes fs rows
   pub written : Appends old new (lines_of fs rows)
+
+-- after what a writer held, where that is known, stand the lines of the first so many of the rows that the bytes of a file mean
+pub record WritesFirstRowsOf (limit : ℕ) (bytes : List ℕ) (old new : Option (List ℕ)) : Type 0 where
+  pub fs : Fields
+  pub rows : List ValueTrees
+  pub means : FileMeans bytes fs rows
+  pub written : Appends old new (lines_of fs (take limit rows))
+
+-- of all rows that the bytes of a file mean, or of the first so many of them
+abbrev pub WritesRowsUpTo : Option ℕ → List ℕ → Option (List ℕ) → Option (List ℕ) → Type 0
+WritesRowsUpTo None bytes old new = WritesRowsOf bytes old new
+WritesRowsUpTo (Some limit) bytes old new = WritesFirstRowsOf limit bytes old new
+
+-- The bytes of a file mean the rows that those of another one mean, in the same schema. They are laid out as these options say, which
+-- are in range.
+pub record IsCopyOf (options : WriteOptions) (bytes copy : List ℕ) : Type 0 where
+  pub fs : Fields
+  pub rows : List ValueTrees
+  pub means : FileMeans bytes fs rows
+  pub copied : FileMeans copy fs rows
+  pub laid_out : IsLaidOut options fs rows copy
+  pub in_range : IsOutOfRange options → ⊥
 
 -- a text is JSON, and this row
 abbrev pub IsRowText : Fields → List ℕ → ValueTrees → Type 0

@@ -1,12 +1,13 @@
 -- Calls of the program, by the words that they begin with.
+use Rattle.std.specs.Io.KnownBytes.{Appends}
 use Rattle.std.specs.Prelude.{◌≡◌, ◌⊎◌, ℕ, Bool, List, [], ◌∷◌, Option, Some, None, String, string_bytes, codes, bytes_eq, if◌then◌else◌}
 use Rattle.std.specs.List.{list_any}
 use Rattle.footer.specs.declared.options.WriteOptions.{WriteOptions}
 use Rattle.dataset_words.specs.declared.call.Call.{Call as DatasetCall}
 use Rattle.dataset_words.specs.Words.{task_word}
 use Rattle.program.specs.declared.arguments.Call.{Call}
-use Rattle.program.specs.declared.arguments.Call.TheVariants.{Decode, Encode, Inspect, Check, Dataset}
-use Rattle.program.specs.Program.{WritesRowsOf, HaveFile, WritesCount, WritesReportOf}
+use Rattle.program.specs.declared.arguments.Call.TheVariants.{Decode, Copy, Encode, Inspect, Check, Dataset, Save}
+use Rattle.program.specs.Program.{WritesRowsUpTo, IsCopyOf, HaveFile, WritesCount, WritesReportOf}
 
 -- the first of the words
 abbrev pub first_word : {A : Type 0} → List (String A) → Option (List ℕ)
@@ -19,15 +20,25 @@ has_word text words = list_any (λ word. bytes_eq (string_bytes word) text) word
 
 -- the word that a call begins with
 abbrev pub word_of : Call → List ℕ
-word_of (Decode file) = codes "decode"
+word_of (Decode file limit) = codes "decode"
+word_of (Copy file path options) = codes "decode"
 word_of (Encode sources file) = codes "encode"
 word_of (Inspect file as_json table) = codes "inspect"
 word_of (Check sources table) = codes "check"
 word_of (Dataset call) = task_word call.task
+word_of (Save call path) = task_word call.task
 
--- standard output got the lines of the rows of a file
-abbrev pub Decodes : Option (List ℕ) → Option (List ℕ) → Type 0
-Decodes old new = (bytes : List ℕ) × WritesRowsOf bytes old new
+-- standard output got the lines of the rows of a file, of all or of the first so many
+abbrev pub Decodes : Option ℕ → Option (List ℕ) → Option (List ℕ) → Type 0
+Decodes limit old new = (bytes : List ℕ) × WritesRowsUpTo limit bytes old new
+
+-- standard output got the bytes of a file, or they are in a file of the host and it got nothing
+abbrev pub Puts : List ℕ → Option (List ℕ) → Option (List ℕ) → Type 0
+Puts file old new = (new ≡ old) ⊎ Appends old new file
+
+-- a file was made of the rows of another one
+abbrev pub Copies : WriteOptions → Option (List ℕ) → Option (List ℕ) → Type 0
+Copies options old new = (bytes file : List ℕ) × IsCopyOf options bytes file × Puts file old new
 
 -- standard output got what is said of a file
 abbrev pub Inspects : Option (List ℕ) → Option (List ℕ) → Type 0
@@ -37,21 +48,33 @@ Inspects old new = (bytes : List ℕ) × WritesReportOf bytes old new
 abbrev pub Printing : Type 1
 Printing = DatasetCall → Option (List ℕ) → Option (List ℕ) → Type 0
 
+-- what the bytes are of a file of what is asked of a dataset
+abbrev pub Giving : Type 1
+Giving = DatasetCall → List ℕ → Type 0
+
+-- a file was made of what is asked of a dataset
+abbrev pub Saves : Giving → DatasetCall → Option (List ℕ) → Option (List ℕ) → Type 0
+Saves Gives call old new = (file : List ℕ) × Gives call file × Puts file old new
+
 -- What a call that is done does to standard output: `encode` writes nothing to it, and by its options some texts have a file. What
 -- is printed of a dataset, also where `inspect` and `check` are given its folder, is for another to say.
-abbrev pub Does : Printing → Call → Option (List ℕ) → Option (List ℕ) → Type 0
-Does Prints (Decode file) old new = Decodes old new
-Does Prints (Encode sources file) old new = (new ≡ old) × HaveFile sources.options
-Does Prints (Inspect file as_json table) old new = Inspects old new ⊎ Prints table old new
-Does Prints (Check sources table) old new = WritesCount sources.options old new ⊎ Prints table old new
-Does Prints (Dataset call) old new = Prints call old new
+abbrev pub Does : Printing → Giving → Call → Option (List ℕ) → Option (List ℕ) → Type 0
+Does Prints Gives (Decode file limit) old new = Decodes limit old new
+Does Prints Gives (Copy file path options) old new = Copies options old new
+Does Prints Gives (Encode sources file) old new = (new ≡ old) × HaveFile sources.options
+Does Prints Gives (Inspect file as_json table) old new = Inspects old new ⊎ Prints table old new
+Does Prints Gives (Check sources table) old new = WritesCount sources.options old new ⊎ Prints table old new
+Does Prints Gives (Dataset call) old new = Prints call old new
+Does Prints Gives (Save call path) old new = Saves Gives call old new
 
 -- what a call that is done does to standard output, by the first word of the call
-pub data IsDone {A : Type 0} (Prints : Printing) (words : List (String A)) (old new : Option (List ℕ)) : Type 0 where
-  decoded : first_word words ≡ Some (codes "decode") → Decodes old new → IsDone Prints words old new
-  encoded : first_word words ≡ Some (codes "encode") → new ≡ old → IsDone Prints words old new
-  inspected : first_word words ≡ Some (codes "inspect") → Inspects old new → IsDone Prints words old new
-  inspected_folder : (call : DatasetCall) → first_word words ≡ Some (codes "inspect") → Prints call old new → IsDone Prints words old new
-  checked : (options : WriteOptions) → first_word words ≡ Some (codes "check") → WritesCount options old new → IsDone Prints words old new
-  checked_folder : (call : DatasetCall) → first_word words ≡ Some (codes "check") → Prints call old new → IsDone Prints words old new
-  on_dataset : (call : DatasetCall) → first_word words ≡ Some (task_word call.task) → Prints call old new → IsDone Prints words old new
+pub data IsDone {A : Type 0} (Prints : Printing) (Gives : Giving) (words : List (String A)) (old new : Option (List ℕ)) : Type 0 where
+  decoded : (limit : Option ℕ) → first_word words ≡ Some (codes "decode") → Decodes limit old new → IsDone Prints Gives words old new
+  copied : (options : WriteOptions) → first_word words ≡ Some (codes "decode") → Copies options old new → IsDone Prints Gives words old new
+  encoded : first_word words ≡ Some (codes "encode") → new ≡ old → IsDone Prints Gives words old new
+  inspected : first_word words ≡ Some (codes "inspect") → Inspects old new → IsDone Prints Gives words old new
+  inspected_folder : (call : DatasetCall) → first_word words ≡ Some (codes "inspect") → Prints call old new → IsDone Prints Gives words old new
+  checked : (options : WriteOptions) → first_word words ≡ Some (codes "check") → WritesCount options old new → IsDone Prints Gives words old new
+  checked_folder : (call : DatasetCall) → first_word words ≡ Some (codes "check") → Prints call old new → IsDone Prints Gives words old new
+  on_dataset : (call : DatasetCall) → first_word words ≡ Some (task_word call.task) → Prints call old new → IsDone Prints Gives words old new
+  saved : (call : DatasetCall) → first_word words ≡ Some (task_word call.task) → Saves Gives call old new → IsDone Prints Gives words old new

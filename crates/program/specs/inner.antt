@@ -1,3 +1,4 @@
 -- Definitions for private functions only.
+pub mod Copied
 pub mod Gathered
 pub mod Lines

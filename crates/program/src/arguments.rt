@@ -9,18 +9,29 @@ use bits::{R, Refusal};
 use clap::error::ErrorKind;
 use clap::{Arg, ArgAction, ArgMatches, Command, Error};
 use dataset_words::{
-    Look, look_call, min_rows_in, min_rows_option, options_in, quiet_flag, with_commands,
-    with_options, with_waiting,
+    Look, limit_in, limit_option, look_call, min_rows_in, min_rows_option, options_in, out_in,
+    out_option, quiet_flag, with_commands, with_options, with_waiting,
 };
 use footer::WriteOptions;
 use std::alloc::Global;
 
+/// What is said where two files are the standard input.
+const INPUT_TWICE: &str =
+    "error: the standard input, -, can be only one of the files (./- names a file)\n";
+
 /// What the words ask for.
 #[derive(Drop)]
 pub enum Call<'a> {
-    /// Print the rows of a file.
+    /// Print the rows of a file, or the first of them.
     Decode {
         file: &'a str,
+        limit: Option<u64>,
+    },
+    /// Make a file of the rows of another one; `-` is standard output.
+    Copy {
+        file: &'a str,
+        path: &'a str,
+        options: WriteOptions,
     },
     /// Make a file.
     Encode {
@@ -42,6 +53,11 @@ pub enum Call<'a> {
     Dataset {
         call: dataset_words::Call<'a>,
     },
+    /// Make a file of what is asked of a dataset; `-` is standard output.
+    Save {
+        call: dataset_words::Call<'a>,
+        path: &'a str,
+    },
 }
 
 /// What the words ask for, or the text on the program's use, where they ask for nothing that it knows.
@@ -57,12 +73,25 @@ pub fn call_of<'a>(alloc: Global, words: &'a [String]) -> R<Result<Call<'a>, Str
         Err(error) => return Ok(Err(error_text(alloc, &error)?)),
     };
     if let Some(call) = call_in(words, &matches) {
+        if reads_input_twice(&call) {
+            return Ok(Err(String::from_str(alloc, INPUT_TWICE)?));
+        }
         return Ok(Ok(call));
     }
     match dataset_call(alloc, words, &matches)? {
         Some(call) => Ok(Ok(call)),
         // The files are required, so that this does not come.
         None => Ok(Err(String::new(alloc))),
+    }
+}
+
+/// Whether a call names the standard input for two of its files.
+fn reads_input_twice(call: &Call<'_>) -> bool {
+    match call {
+        Call::Encode { sources, .. } | Call::Check { sources, .. } => {
+            sources.schema == "-" && sources.rows == "-"
+        }
+        _ => false,
     }
 }
 
@@ -79,8 +108,14 @@ fn decode_command<'a>(alloc: Global) -> Result<Command<'a>, Error> {
         .about(help::DECODE)
         .long_about(help::DECODE_LONG)
         .after_help(help::DECODE_REFUSALS)
-        .arg(file_named(alloc, "FILE", "The Parquet file to read"))?
-        .arg(quiet_flag(alloc))?;
+        .arg(file_named(
+            alloc,
+            "FILE",
+            "The Parquet file to read; - is standard input",
+        ))?
+        .arg(limit_option(alloc).conflicts_with("out")?)?
+        .arg(out_option(alloc))?;
+    let decode = with_options(alloc, decode)?.arg(quiet_flag(alloc))?;
     Ok(decode)
 }
 
@@ -89,8 +124,16 @@ fn encode_command<'a>(alloc: Global) -> Result<Command<'a>, Error> {
         .about(help::ENCODE)
         .long_about(help::ENCODE_LONG)
         .after_help(help::ENCODE_REFUSALS)
-        .arg(file_named(alloc, "SCHEMA", "The file with the columns, as JSON"))?
-        .arg(file_named(alloc, "ROWS", "The file with the rows, as lines of JSON"))?
+        .arg(file_named(
+            alloc,
+            "SCHEMA",
+            "The file with the columns, as JSON; - is standard input",
+        ))?
+        .arg(file_named(
+            alloc,
+            "ROWS",
+            "The file with the rows, as lines of JSON; - is standard input",
+        ))?
         .arg(file_named(alloc, "OUT", "The Parquet file to make"))?;
     let encode = with_options(alloc, encode)?.arg(quiet_flag(alloc))?;
     Ok(encode)
@@ -101,7 +144,7 @@ fn json_flag<'a>(alloc: Global) -> Arg<'a> {
     Arg::new(alloc, "json")
         .long("json")
         .action(ArgAction::SetTrue)
-        .help("Of a file: prints one line of JSON in place of text")
+        .help("Prints one line of JSON in place of text")
 }
 
 fn inspect_command<'a>(alloc: Global) -> Result<Command<'a>, Error> {
@@ -112,7 +155,7 @@ fn inspect_command<'a>(alloc: Global) -> Result<Command<'a>, Error> {
         .arg(file_named(
             alloc,
             "FILE",
-            "The Parquet file, or the folder of the dataset, to look into",
+            "The Parquet file, or the folder of the dataset, to look into; - is standard input",
         ))?
         .arg(json_flag(alloc))?
         .arg(min_rows_option(
@@ -122,10 +165,10 @@ fn inspect_command<'a>(alloc: Global) -> Result<Command<'a>, Error> {
     with_waiting(alloc, inspect)
 }
 
-/// The file with the rows to check. Without it the files of a dataset are checked.
+/// The file with the rows to check. Without it the schema is checked, or the files of a dataset.
 fn rows_named<'a>(alloc: Global) -> Arg<'a> {
     Arg::new(alloc, "ROWS").action(ArgAction::Set).help(
-        "The file with the rows, as lines of JSON; without it the files of the dataset are checked",
+        "The file with the rows, as lines of JSON; - is standard input. Without it the schema, or the files of the dataset, are checked",
     )
 }
 
@@ -137,7 +180,7 @@ fn check_command<'a>(alloc: Global) -> Result<Command<'a>, Error> {
         .arg(file_named(
             alloc,
             "SCHEMA",
-            "The file with the columns, as JSON, or the folder of a dataset",
+            "The file with the columns, as JSON, or the folder of a dataset; - is standard input",
         ))?
         .arg(rows_named(alloc))?;
     let check = with_waiting(alloc, check)?.arg(quiet_flag(alloc))?;
@@ -175,7 +218,15 @@ fn decode_call<'a>(matches: &ArgMatches<'a>) -> Option<Call<'a>>
     ensures { IfSome result (λ call. word_of call ≡ codes "decode") }
 {
     let file = matches.get_str("FILE")?;
-    Some(Call::Decode { file })
+    let limit = limit_in(matches);
+    match out_in(matches) {
+        Some(path) => Some(Call::Copy {
+            file,
+            path,
+            options: options_in(matches),
+        }),
+        None => Some(Call::Decode { file, limit }),
+    }
 }
 
 fn encode_call<'a>(matches: &ArgMatches<'a>) -> Option<Call<'a>>
@@ -199,7 +250,7 @@ fn inspect_call<'a>(matches: &ArgMatches<'a>) -> Option<Call<'a>>
     let file = matches.get_str("FILE")?;
     let as_json = matches.get_flag("json");
     let min_rows = min_rows_in(matches);
-    let table = look_call(file, matches, Look::Survey { min_rows });
+    let table = look_call(file, matches, Look::Survey { min_rows, as_json });
     Some(Call::Inspect {
         file,
         as_json,
@@ -254,8 +305,15 @@ fn dataset_call<'a>(
     let Some(word) = words.first() else {
         return Ok(None);
     };
-    match dataset_words::call_in(alloc, word.as_str(), matches)? {
-        Some(call) => Ok(Some(Call::Dataset { call })),
-        None => Ok(None),
+    let path = out_of(word.as_str(), matches);
+    match (dataset_words::call_in(alloc, word.as_str(), matches)?, path) {
+        (Some(call), Some(path)) => Ok(Some(Call::Save { call, path })),
+        (Some(call), None) => Ok(Some(Call::Dataset { call })),
+        (None, _) => Ok(None),
     }
+}
+
+/// The file that gets what the command of this word would print, where its words name one.
+fn out_of<'a>(word: &str, matches: &ArgMatches<'a>) -> Option<&'a str> {
+    out_in(matches.subcommand_matches(word)?)
 }

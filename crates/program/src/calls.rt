@@ -1,20 +1,23 @@
 //! All of the program, over two writers.
 
 ghost use Rattle.std.specs.Prelude.{◌≡◌, ◌≤◌, Some, false, true, OnOk, codes};
-ghost use Rattle.program.specs.Words.{first_word, word_of, has_word, Does, IsDone};
+ghost use Rattle.program.specs.Words.{first_word, word_of, has_word, Decodes, Inspects, Does, IsDone};
 
 use crate::arguments::{Call, call_of};
 use crate::check::check;
-use crate::decode::decode;
+use crate::copy::copy_of;
 use crate::encode::encode;
+use crate::first_rows::decode_up_to;
 use crate::host::{bytes_of, is_folder};
 use crate::inspect::inspect;
+use crate::putting::{check_free, check_outside, put, puts_to_output};
 use bits::{R, Refusal};
 use dataset_words::Datasets;
+use reasons::{Cause, output_cause};
 use reports::{OneLine, Terminals};
 use std::alloc::Global;
 use std::fmt::Write as _;
-use std::io::Write;
+use std::io::{Input, Write};
 use std::rt::Files;
 
 /// The program did what it was called for.
@@ -23,6 +26,10 @@ const DONE: u8 = 0;
 const REFUSED: u8 = 1;
 /// The words are no call, or ask for help.
 const USAGE: u8 = 2;
+
+/// What is said where the bytes of a file would go to a terminal.
+const FILE_TO_TERMINAL: &[u8] =
+    b"error: the bytes of a Parquet file are nothing for a terminal: name a file, or pass them on\n";
 
 /// Says why a call was refused, in one line, whatever the names of columns have in them, and returns the
 /// status of that. Where that line cannot be written nothing is left to be said.
@@ -39,14 +46,14 @@ pub fn refuse<E: Write>(err: &mut E, refusal: &Refusal) -> u8
 /// What the program does for these arguments, which begin after its name; returns its status.
 ///
 /// Status 0: done, and `out` has what was asked for; of `encode` it has nothing, and the new file is there.
-/// Status 1: refused, with one line on `err`, such as `refused 6 Float a.b`, before which `check` says why; `out`
+/// Status 1: refused, with one line on `err`, such as `refused 6 Float a.b`, before which mostly stands one that says why; `out`
 /// has nothing new where the file itself was refused, and no file was made. Status 2: the arguments are no call of
 /// the program, or ask for help, and `err` has the text on its use.
 ///
 /// `terminals` says which of both are terminals. Where `err` is one, and `--quiet` is not among the arguments, `decode`,
 /// `encode` and calls on a dataset show on it how far they are, and take that away again at the end; and a call on a
 /// dataset says there what it waits for. `datasets` makes the calls on datasets.
-pub fn work<F: Files, W: Write, E: Write, M: Datasets<W, E>>(
+pub fn work<F: Files + Input, W: Write, E: Write, M: Datasets<W, E>>(
     rt: &F,
     alloc: Global,
     words: &[String],
@@ -56,7 +63,7 @@ pub fn work<F: Files, W: Write, E: Write, M: Datasets<W, E>>(
     datasets: &M,
 ) -> u8
     ensures status { result ≤ 2 }
-    ensures done { result ≡ 0 → IsDone (M.prints datasets.now) words.now (W.contents out.old) (W.contents out.new) }
+    ensures done { result ≡ 0 → IsDone (M.prints datasets.now) (M.gives datasets.now) words.now (W.contents out.old) (W.contents out.new) }
     ensures silent { first_word words.now ≡ Some (codes "encode") → W.contents out.new ≡ W.contents out.old }
     ensures quiet { terminals.err ≡ false → result ≡ 0 → E.contents err.new ≡ E.contents err.old }
     ensures silenced { has_word (codes "--quiet") words.now ≡ true → result ≡ 0 → E.contents err.new ≡ E.contents err.old }
@@ -70,10 +77,29 @@ pub fn work<F: Files, W: Write, E: Write, M: Datasets<W, E>>(
         }
         Err(refusal) => return refuse(err, &refusal),
     };
+    if terminals.out && puts_to_output(&call) {
+        let _ = err.write_all(FILE_TO_TERMINAL);
+        return USAGE;
+    }
     let terminals = terminals_for(words, terminals);
-    match make(rt, alloc, &call, out, err, terminals, datasets) {
+    let mut why = None;
+    match make(rt, alloc, &call, out, err, terminals, datasets, &mut why) {
         Ok(()) => DONE,
-        Err(refusal) => refuse(err, &refusal),
+        Err(refusal) => {
+            if let Some(cause) = &why {
+                say(err, cause);
+            }
+            refuse(err, &refusal)
+        }
+    }
+}
+
+/// Says why a call was refused, in one line, whatever the names in it have. Where that cannot be written nothing is left to
+/// be said.
+fn say<E: Write>(err: &mut E, cause: &Cause) {
+    let mut line = OneLine(&mut *err);
+    if write!(line, "{cause}").is_ok() {
+        let _ = err.write_all(b"\n");
     }
 }
 
@@ -96,8 +122,9 @@ fn terminals_for(words: &[String], terminals: Terminals) -> Terminals
     }
 }
 
-/// Makes the call. Progress is shown where `err` is a terminal; of lines that go to a terminal too, none.
-fn make<F: Files, W: Write, E: Write, M: Datasets<W, E>>(
+/// Makes the call; where it is refused, `why` may get the reason. Progress is shown where `err` is a terminal; of lines that go
+/// to a terminal too, none.
+fn make<F: Files + Input, W: Write, E: Write, M: Datasets<W, E>>(
     rt: &F,
     alloc: Global,
     call: &Call<'_>,
@@ -105,29 +132,106 @@ fn make<F: Files, W: Write, E: Write, M: Datasets<W, E>>(
     err: &mut E,
     terminals: Terminals,
     datasets: &M,
+    why: &mut Option<Cause>,
 ) -> R<()>
-    ensures done { OnOk result (Does (M.prints datasets.now) call.now (W.contents out.old) (W.contents out.new)) }
+    ensures done { OnOk result (Does (M.prints datasets.now) (M.gives datasets.now) call.now (W.contents out.old) (W.contents out.new)) }
     ensures silent { word_of call.now ≡ codes "encode" → W.contents out.new ≡ W.contents out.old }
     ensures quiet { terminals.err ≡ false → OnOk result (E.contents err.new ≡ E.contents err.old) }
 {
     match call {
-        Call::Decode { file } => {
-            let bytes = bytes_of(rt, alloc, file)?;
-            let shows = terminals.shows_beside_output();
-            decode(alloc, bytes.as_slice(), out, err, shows)
+        Call::Decode { file, limit } => {
+            decode_file(rt, alloc, file, *limit, out, err, terminals, why)
         }
-        Call::Encode { sources, file } => encode(rt, alloc, sources, file, err, terminals.err),
+        Call::Copy {
+            file,
+            path,
+            options,
+        } => {
+            check_free(rt, alloc, path, why)?;
+            let bytes = bytes_of(rt, alloc, file, why)?;
+            let copy = copy_of(alloc, bytes.as_slice(), options, err, terminals.err)?;
+            put(rt, alloc, path, copy.as_slice(), out, why)
+        }
+        Call::Encode { sources, file } => encode(rt, alloc, sources, file, err, terminals.err, why),
         Call::Inspect { file, table, .. } if is_folder(rt, file) => {
             datasets.make(alloc, table, out, err, terminals)
         }
-        Call::Inspect { file, as_json, .. } => {
-            let bytes = bytes_of(rt, alloc, file)?;
-            inspect(alloc, bytes.as_slice(), *as_json, out)
-        }
+        Call::Inspect { file, as_json, .. } => inspect_file(rt, alloc, file, *as_json, out, why),
         Call::Check { sources, table } if is_folder(rt, sources.schema) => {
             datasets.make(alloc, table, out, err, terminals)
         }
-        Call::Check { sources, .. } => check(rt, alloc, sources, out, err),
+        Call::Check { sources, .. } => {
+            match check(rt, alloc, sources, out, err, why) {
+                Ok(()) => Ok(()),
+                Err(refusal) => Err(with_output(alloc, refusal, out, why)),
+            }
+        }
         Call::Dataset { call } => datasets.make(alloc, call, out, err, terminals),
+        Call::Save { call, path } => {
+            check_free(rt, alloc, path, why)?;
+            check_outside(rt, alloc, path, call.folder, why)?;
+            let file = datasets.file_of(alloc, call, err, terminals)?;
+            put(rt, alloc, path, file.as_slice(), out, why)
+        }
     }
+}
+
+/// Prints the rows of a file, all or the first so many. Refused as [`bytes_of`] and [`decode_up_to`]; then `why` may get the
+/// reason.
+fn decode_file<F: Files + Input, W: Write, E: Write>(
+    rt: &F,
+    alloc: Global,
+    file: &str,
+    limit: Option<u64>,
+    out: &mut W,
+    err: &mut E,
+    terminals: Terminals,
+    why: &mut Option<Cause>,
+) -> R<()>
+    ensures done { OnOk result (Decodes limit (W.contents out.old) (W.contents out.new)) }
+    ensures quiet { terminals.err ≡ false → E.contents err.new ≡ E.contents err.old }
+{
+    let bytes = bytes_of(rt, alloc, file, why)?;
+    let shows = terminals.shows_beside_output();
+    match decode_up_to(alloc, bytes.as_slice(), limit, out, err, shows) {
+        Ok(()) => Ok(()),
+        Err(refusal) => Err(with_output(alloc, refusal, out, why)),
+    }
+}
+
+/// Prints what a file is. Refused as [`bytes_of`] and [`inspect`]; then `why` may get the reason.
+fn inspect_file<F: Files + Input, W: Write>(
+    rt: &F,
+    alloc: Global,
+    file: &str,
+    as_json: bool,
+    out: &mut W,
+    why: &mut Option<Cause>,
+) -> R<()>
+    ensures done { OnOk result (Inspects (W.contents out.old) (W.contents out.new)) }
+{
+    let bytes = bytes_of(rt, alloc, file, why)?;
+    match inspect(alloc, bytes.as_slice(), as_json, out) {
+        Ok(()) => Ok(()),
+        Err(refusal) => Err(with_output(alloc, refusal, out, why)),
+    }
+}
+
+/// The same refusal. Where it is Device, for no reason that is known, `why` gets what the output is refused for: it is asked
+/// once more.
+fn with_output<W: Write>(
+    alloc: Global,
+    refusal: Refusal,
+    out: &mut W,
+    why: &mut Option<Cause>,
+) -> Refusal
+    ensures { result ≡ refusal }
+{
+    if why.is_none() && refusal == Refusal::Device {
+        *why = match out.flush() {
+            Ok(()) => Some(Cause::Output),
+            Err(error) => output_cause(alloc, error).ok(),
+        };
+    }
+    refusal
 }

@@ -57,7 +57,7 @@ pub fn decode<W: Write, E: Write>(
 /// Takes the next row, and gathers its line; false after the last row. It fails only when out of memory.
 // Each row comes through here: what is returned fits a register.
 #[inline(always)]
-fn put_line(rows: &mut Rows<'_>, text: &mut RowText<'_>) -> Result<bool, Fault>
+pub fn put_line(rows: &mut Rows<'_>, text: &mut RowText<'_>) -> Result<bool, Fault>
     ensures puts { (fs : Fields) (lines : List ℕ) → BeginsLine text.old fs lines
         → GathersLine fs (rows_stand rows.old) (rows_stand rows.new) (BeginsLine text.new fs) lines (with_refusal result) }
 {
@@ -89,7 +89,7 @@ fn put_lines(rows: &mut Rows<'_>, text: &mut RowText<'_>) -> Result<usize, Fault
 }
 
 /// Writes the lines that were gathered once they are enough. Refused Device where they cannot be written.
-fn write_full<W: Write>(text: &mut RowText<'_>, out: &mut W) -> R<()>
+pub fn write_full<W: Write>(text: &mut RowText<'_>, out: &mut W) -> R<()>
     ensures stands { (fs : Fields) (lines : List ℕ) → BeginsLine text.old fs lines
         → OnOk result (WritesPart (W.contents out.old) (W.contents out.new) (BeginsLine text.new fs) lines) }
     ensures which { RefusedOnly (λ e. e ≡ Device) result }

@@ -39,6 +39,12 @@ nothing else. Where its reader closes it early, as head does, the call ends with
 Where standard error is a terminal and standard output is not, standard error shows after each 100000 rows how many
 were printed; at the end that is removed. With --quiet it is not shown.
 
+With --limit only the first N rows are printed. All of the file is accepted before.
+
+With --out nothing is printed, but OUT is made: a file of the same rows and columns, written as the other options say. It is
+made as encode makes its OUT, and refused 24 Exists where it is there already. Of OUT `-` the bytes go to standard output,
+which may not be a terminal.
+
 There are no FLOAT, DOUBLE, FLOAT16 or INT96 columns: their values have no order that all tools share. An annotation
 over a type that it is not meant for is kept without meaning, and ranges are not checked: an int_8 column takes any
 INT32.";
@@ -154,8 +160,10 @@ of the places that decode refuses. The bounds of statistics are shown as decode 
 decode does not read, as hexadecimal digits. Of the two kinds of bounds the deprecated ones are shown only where the
 others are missing. Names that are not UTF-8 are shown with replacement characters.
 
-With --json the same is one line of JSON: an object with bytes, footer_bytes, version, rows, created_by, key_values,
-schema (each element with its depth), groups (each with chunks, and these with pages) and not_read.
+With --json the same is one line of JSON: of a file an object with bytes, footer_bytes, version, rows, created_by,
+key_values, schema (each element with its depth), groups (each with chunks, and these with pages) and not_read; of a
+dataset one with bytes, columns (each with key, path, repetition and type), groups, keys (all of them, each with bytes,
+folder, groups and rows), leftovers, min_rows, missing, rows and small_groups.
 
 Where FILE is the folder of a dataset it says what the dataset has: the columns and keys; the rows, groups and bytes
 in all and of the twenty keys with the most bytes, with a bar for each; how many groups `rewrite --min-rows N` would
@@ -209,12 +217,18 @@ expected there and what was found, and then the line by which encode refuses the
 
 The time and the memory are those of encode.
 
+Without ROWS it checks the schema alone, and prints `ok N columns`.
+
 Where SCHEMA is the folder of a dataset, and there is no ROWS, it reads each part file of the dataset: that it is there and
 can be read, that it has the columns and rows that the dataset says, that its footer and the dataset describe its
 column chunks alike, and that the statistics are true of its values. Prints `ok` and how much there is; or a line for each
 file with what is wrong in it, and is then refused as the first of them counts. A note has the part files that the
 dataset does not name: a query may still read them, or a command was stopped. The next change removes them where no
 query does. Rows of ROWS are rows that append would take. Nothing is changed.
+
+After `ok`, a line that begins with `note: ` says what is accepted here and other tools may refuse: a note that does not go with
+the type of its column, a decimal without a precision or with more digits than its type holds, an empty name. With ROWS of a
+dataset it says in which row a member stands twice: the last one counts. A note is no fault: the status is 0.
 
 Of a dataset, where standard error is a terminal, it shows after each 100000 rows how many were checked, or read of ROWS; at
 the end that is removed. With --quiet it is not shown.";

@@ -7,11 +7,14 @@
 mod arguments;
 mod calls;
 mod check;
+mod copy;
 mod decode;
 mod encode;
+mod first_rows;
 mod help;
 mod host;
 mod inspect;
+mod putting;
 mod text_lines;
 
 pub use arguments::{Call, call_of};

@@ -49,7 +49,8 @@ pub record PrintsAll (schema : Fields) (n : ℕ) (calls : List Call) (answers : 
   pub printed : PrintsBatches schema (given n front told) before after
 
 -- From the one state the store makes fetches of a cursor, and where the result is Ok all that it still gives is printed.
-pub record PrintsLeft {D T : Type 0} (state : D → DiskState) (old new : Store D) (n : ℕ) (before after : Option (List ℕ)) (result : Result T Refusal) (s : State) : Type 0 where
+pub record PrintsLeft {D T : Type 0} (state : D → DiskState) (old new : Store D) (n : ℕ) (before after : Option (List ℕ)) (result : Result T Refusal)
+    (s : State) : Type 0 where
   pub calls : List Call
   pub answers : List Answer
   pub last : State
@@ -59,6 +60,7 @@ pub record PrintsLeft {D T : Type 0} (state : D → DiskState) (old new : Store 
   pub all : OnOk result (PrintsAll s.table.schema n calls answers before after)
 
 -- From the one state the store makes calls that only read, and where the result is Ok the lines of the rows that satisfy are printed.
-pub record PrintsSelected {D T : Type 0} (state : D → DiskState) (old new : Store D) (terms : Filter) (columns : Columns) (before after : Option (List ℕ)) (result : Result T Refusal) (s : State) : Type 0 where
+pub record PrintsSelected {D T : Type 0} (state : D → DiskState) (old new : Store D) (terms : Filter) (columns : Columns) (before after : Option (List ℕ))
+    (result : Result T Refusal) (s : State) : Type 0 where
   pub reads : OnlyReads state old new s
   pub printed : OnOk result (Appends before after (query_lines terms columns s.table))

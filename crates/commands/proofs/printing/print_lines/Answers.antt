@@ -41,4 +41,4 @@ returns-clause-printed g c = λ fit.
     let so_far = c.loop-row.invariant fit in
     let p = subst (λ (rows : List Row). AreGathered fs (rows_view rows) c.loop-row.text old mid) (take_all c.loop-row.row-index all (omega arith)) so_far in
     on_ok_weaker c.write_text.result
-    (all_printed fs (rows_view all) c.loop-row.text old mid (contents c.write_text.new.out) c.lines.result.now p (c.lines.ensures fs p.gathered p.gathers)) c.write_text.ensures.written
+    (all_printed fs (rows_view all) c.loop-row.text old mid (contents c.write_text.new.out) c.lines.result.now p (c.lines.ensures.lines fs p.gathered p.gathers)) c.write_text.ensures.written

@@ -5,4 +5,4 @@ pub returns-clause-gathered : goal.returns-clause-gathered
 returns-clause-gathered g c = λ fs rows old p.
     let contents = g.W.Write.contents in
     all_written fs rows c.args.text.now c.clear_lines.new.self old (contents c.args.out.now) (contents c.write_text.new.out) c.lines-2.result.now p
-    (c.lines-2.ensures fs p.gathered p.gathers) c.in_ok-write_text.ensures.written (c.clear_lines.ensures fs p.gathered p.gathers)
+    (c.lines-2.ensures.lines fs p.gathered p.gathers) c.in_ok-write_text.ensures.written (c.clear_lines.ensures.again fs p.gathered p.gathers)

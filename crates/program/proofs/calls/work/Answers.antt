@@ -6,4 +6,4 @@ use Rattle.program.proofs.calls.work.Goals as goal
 pub returns-in-Ok-clause-done : goal.returns-in-Ok-clause-done
 returns-in-Ok-clause-done g c =
     let first : first_word c.args.words.now ≡ Some (word_of c.in-Ok-Ok.call) = rw c.in-Ok-Ok.field-0-is at c.in-Ok-Ok.ensures.first in
-    λ _. is_done (g.M.Datasets.prints c.args.datasets.now) c.args.words.now _ _ c.in-Ok-Ok.call first c.in-Ok.ensures.done
+    λ _. is_done (g.M.Datasets.prints c.args.datasets.now) (g.M.Datasets.gives c.args.datasets.now) c.args.words.now _ _ c.in-Ok-Ok.call first c.in-Ok.ensures.done

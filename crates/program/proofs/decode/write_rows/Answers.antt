@@ -25,7 +25,7 @@ returns-then-count-eq0-clause-stands g c = λ all s fit.
     let Gathers = BeginsLine c.put_lines.new.text fs in
     let none = none_left fs S Gathers all old mid c.in_ok-count.count c.if-count-eq0.true (c.in_ok-count.ensures.puts fs all old mid (c.more.invariant.gathers all s fit)) in
     let p = none.0 in
-    on_ok_weaker c.write_whole.result (all_printed fs S Gathers all old mid (g.W.Write.contents c.write_whole.new.out) c.lines.result.now p none.1 (c.lines.ensures fs p.gathered p.gathers)) c.write_whole.ensures.stands
+    on_ok_weaker c.write_whole.result (all_printed fs S Gathers all old mid (g.W.Write.contents c.write_whole.new.out) c.lines.result.now p none.1 (c.lines.ensures.lines fs p.gathered p.gathers)) c.write_whole.ensures.stands
 
 pub more-preserved : goal.more-preserved
 more-preserved g c = record {

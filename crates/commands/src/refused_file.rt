@@ -1,0 +1,66 @@
+//! Which of several files is refused.
+
+use crate::lock::Lock;
+use crate::making::Making;
+use crate::reason::{Reason, Told};
+use bits::{R, Refusal};
+use std::alloc::Global;
+use std::io::{Input, Write};
+use std::rt::{Clock, Files};
+
+impl<F: Files + Input + Clock + Clone + Drop, S: Write + Clone + Drop> Making<'_, F, S>
+where
+    F::File: Lock,
+{
+    /// Puts the name of the file that is refused, which is at this place among those that the call names, before the reason.
+    /// Where the refusal is not one of a file, or there is no memory for it, the reason stays as it is.
+    pub(crate) fn name_file(&self, place: usize, refusal: &Refusal, why: &mut Option<Reason>) {
+        if !is_of_file(refusal) {
+            return;
+        }
+        let name = self.file_at(place);
+        let line = match &*why {
+            Some(reason) => line_of(self.alloc, name, self.call.folder, reason),
+            None => bare_line(self.alloc, name),
+        };
+        if let Ok(line) = line {
+            *why = Some(Reason::Said(line));
+        }
+    }
+
+    /// The name of the file at this place among those that the call names.
+    fn file_at(&self, place: usize) -> &str {
+        match self.imported_files() {
+            Some(files) if place < files.len() => files[place],
+            _ => self.named_file().unwrap_or(""),
+        }
+    }
+}
+
+/// What is said of a file that is refused for a reason. Some reasons have its name already.
+fn line_of(alloc: Global, name: &str, folder: &str, reason: &Reason) -> R<String> {
+    let told = Told {
+        reason,
+        folder,
+        file: name,
+    };
+    let line = match reason {
+        Reason::KeyValue(..) => format!(in alloc; "{told}")?,
+        _ => format!(in alloc; "{name}: {told}")?,
+    };
+    Ok(line)
+}
+
+/// What is said of a file that is refused where the refusal says all else.
+fn bare_line(alloc: Global, name: &str) -> R<String> {
+    let line = format!(in alloc; "{name} is refused: none of the files is imported")?;
+    Ok(line)
+}
+
+/// Whether a refusal can be one of a file that is imported.
+fn is_of_file(refusal: &Refusal) -> bool {
+    !matches!(
+        refusal,
+        Refusal::Device | Refusal::Memory | Refusal::Full | Refusal::Closed | Refusal::NoJob
+    )
+}
