@@ -11,8 +11,8 @@ from contextlib import contextmanager
 from typing import Any, Dict, Iterator, List, Mapping, Optional, Sequence
 
 from ._errors import Float, RowShape, Schema
-from ._schema import Field, JsonField, is_bare_list
-from ._values import TICKS, Misfit, decimal_of_float, reader
+from ._schema import Field, JsonField, is_bare_list, leaves_of
+from ._values import RANGES, TICK_RANGES, TICKS, Misfit, decimal_of_float, reader
 
 
 def _pa() -> Any:
@@ -197,6 +197,52 @@ def table_of_rows(fields: Sequence[Field], batches: Iterator[List[Dict[str, Any]
         columns = [column_of(it, [row[it.name] for row in rows]) for it in fields]
         made.append(pa.RecordBatch.from_arrays(columns, schema=schema))
     return pa.Table.from_batches(made, schema)
+
+
+# Numbers of these columns may be outside of their range, since the program does not look at it. pyarrow would cut them,
+# or make other times of them.
+_BOUNDS = {**{it: RANGES[it] for it in ("int_8", "int_16", "uint_8", "uint_16")}, **TICK_RANGES}
+
+
+def table_of_file(fields: Sequence[Field], path: str) -> Any:
+    """A `pyarrow.Table` of a Parquet file with these columns.
+
+    None if pyarrow does not read the values of a column as the program means them: then they are taken as lines.
+    """
+    pa, parquet = _pa(), importlib.import_module("pyarrow.parquet")
+    schema = pa.schema([_arrow_field(it) for it in fields])
+    try:
+        file = parquet.ParquetFile(path)
+        if not _are_bounded(file.metadata, fields):
+            return None
+        read = file.read()
+        columns = [_as_type(read[it.name], kind) for it, kind in zip(fields, schema.types)]
+        return pa.Table.from_arrays(columns, schema=schema)
+    except (pa.ArrowException, OSError):
+        return None
+
+
+def _as_type(column: Any, kind: Any) -> Any:
+    return column if column.type == kind else column.cast(kind)
+
+
+def _are_bounded(metadata: Any, fields: Sequence[Field]) -> bool:
+    """Whether all numbers of a file are in the range of their column, by its statistics."""
+    bounds = {".".join(path): _BOUNDS.get(it.meaning) for path, it in leaves_of(fields)}
+    for group in range(metadata.num_row_groups):
+        for at in range(metadata.num_columns):
+            chunk = metadata.row_group(group).column(at)
+            found = bounds.get(chunk.path_in_schema)
+            if found is not None and not _is_bounded(chunk, *found):
+                return False
+    return True
+
+
+def _is_bounded(chunk: Any, least: int, greatest: int) -> bool:
+    known = chunk.statistics
+    if known is None or not known.has_min_max:
+        return known is not None and known.null_count == chunk.num_values
+    return bool(least <= known.min_raw and known.max_raw <= greatest)
 
 
 # ---- to the program ----

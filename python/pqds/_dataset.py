@@ -5,6 +5,7 @@ from __future__ import annotations
 import json
 import os
 import re
+import sys
 import tempfile
 from contextlib import contextmanager
 from dataclasses import dataclass
@@ -26,7 +27,7 @@ from typing import (
 from . import _tables
 from ._errors import Limit, NoTable, PqdsError, Refused, Schema, WrongCall
 from ._filters import Filters, filter_json, filter_text
-from ._options import FileOptions, file_words
+from ._options import FileOptions, file_words, limit_words
 from ._program import FIND_OUT, PathLike, call, lines, path_word
 from ._schema import Field, JsonField, fields_of, leaf_at, schema_text, with_reps
 from ._values import RowReader, RowWriter, raise_refused, raw_parts
@@ -34,7 +35,7 @@ from ._values import RowReader, RowWriter, raise_refused, raw_parts
 if TYPE_CHECKING:
     from typing_extensions import Unpack
 
-# A word of a call has at most 131,071 bytes on Linux; a longer filter goes by a script.
+# A word of a call has at most 131,071 bytes on Linux; a longer filter goes by a file.
 _LONGEST_WORD = 100_000
 # All words of a call have at most 2 MiB; so many numbers of groups fit.
 _MOST_WORDS = 50_000
@@ -101,10 +102,8 @@ class Dataset:
 
         Without filters no part file is read. Raises `NoColumn`, `RowShape`, `Unordered` or `Script` for the filters.
         """
-        wanted = self._filter(filters)
-        if _is_long(wanted):
-            return self._answer({"call": "count", "filter": wanted}, "count")
-        return int(self._call("count", _filter_words(wanted)))
+        with _filter_words(self._filter(filters) or None) as words:
+            return int(self._call("count", words))
 
     def groups(self) -> List[Group]:
         """The groups of rows, in the order of the rows. No part file is read."""
@@ -148,8 +147,9 @@ class Dataset:
         They are those of the table when the first of them is asked for: changes made meanwhile, also by the loop over
         the rows, are not seen.
 
-        `columns` are the names of the columns wanted, all without it. `limit` is the greatest number of rows. With
-        `raw` the values are as the program prints them: dates and times as numbers, bytes as hexadecimal digits.
+        `columns` are the names of the columns wanted, all without it. `limit` is the greatest number of rows; groups
+        after these rows are not read. With `raw` the values are as the program prints them: dates and times as
+        numbers, bytes as hexadecimal digits.
 
         Raises as `count` does, and `Refused` for a damaged part file, after the rows before it.
         """
@@ -165,9 +165,13 @@ class Dataset:
         columns: Optional[Sequence[str]] = None,
         limit: Optional[int] = None,
     ) -> Any:
-        """The rows as a `pyarrow.Table`, with the types of the columns. Takes and raises what `rows` does."""
+        """The rows as a `pyarrow.Table`, with the types of the columns. Takes and raises what `rows` does.
+
+        The program writes the rows as Parquet files in a temporary folder, which pyarrow reads.
+        """
         wanted = self._selection(filters, columns)
-        return _tables.arrow_table(wanted.fields, self._batches(wanted, limit))
+        table = self._by_file(wanted, limit)
+        return _tables.arrow_table(wanted.fields, self._batches(wanted, limit)) if table is None else table
 
     def to_pandas(
         self,
@@ -178,41 +182,61 @@ class Dataset:
         """The rows as a `pandas.DataFrame`. Takes and raises what `rows` does.
 
         OPTIONAL integers and booleans have pandas' nullable types, timestamps are in UTC, and dates, times, decimals,
-        bytes, lists, maps and groups are Python's objects.
+        bytes, lists, maps and groups are Python's objects. With pyarrow the rows come as they do for `to_arrow`.
         """
         wanted = self._selection(filters, columns)
-        return _tables.frame(wanted.fields, self._batches(wanted, limit))
+        table = self._by_file(wanted, limit)
+        if table is None:
+            return _tables.frame(wanted.fields, self._batches(wanted, limit))
+        return _tables.frame_of_arrow(wanted.fields, table)
 
     # ---- changes ----
 
-    def append(self, data: Any, *, floats: Optional[Mapping[str, int]] = None, raw: bool = False) -> int:
+    def append(
+        self,
+        data: Any,
+        unless: Optional[Filters] = None,
+        *,
+        floats: Optional[Mapping[str, int]] = None,
+        raw: bool = False,
+    ) -> int:
         """Appends rows in one commit, and returns how many.
+
+        With `unless`, a filter, nothing is appended if a row of the table satisfies it; then 0 is returned. No other
+        call comes between the two. So a load can be made again if only its own rows satisfy the filter.
 
         `data` is a DataFrame, a `pyarrow.Table`, record batches, or dicts: a list or any iterable, which is read as the
         program takes it. Columns are taken by their names; an absent OPTIONAL one is null. `floats` names columns whose
         floats are taken as decimals, with so many places. With `raw` the dicts are as the program prints rows.
 
-        Raises `RowShape` for a row that is none of the table, `Float` for floats that are not in `floats`, and `Key`.
-        If `data` raises an exception, nothing is appended.
+        Raises `RowShape` for a row that is none of the table, `Float` for floats that are not in `floats`, and `Key`;
+        as `count` does for `unless`. If `data` raises an exception, nothing is appended.
         """
         if raw:
-            return self._put(Prepared("append", "-", raw_parts(data)))
-        with prepared(data, self.schema(), floats or {}) as rows:
-            return self._put(rows)
+            return self._put(Prepared("append", "-", raw_parts(data)), self._filter(unless))
+        said = self.schema()
+        wanted = _filter_of(said, unless)
+        with prepared(data, said, floats or {}) as rows:
+            return self._put(rows, wanted)
 
-    def import_files(self, files: Union[PathLike, Iterable[PathLike]]) -> int:
+    def import_files(self, files: Union[PathLike, Iterable[PathLike]], unless: Optional[Filters] = None) -> int:
         """Appends the rows of Parquet files, and returns how many.
 
         The columns of a file are those of the table, with the keys, in their order. Each file is a commit of its own:
         if one is refused, those before it are in the table, and the text of the exception says how many.
 
+        `unless` is that of `append`. It takes one file: after the first of several the filter would hold.
+
         Raises `Schema` for other columns, `Codec` for compressed files, `Float` and `Int96` for such columns.
         """
         paths: List[PathLike] = [files] if isinstance(files, (str, os.PathLike)) else list(files)
+        if unless is not None and len(paths) > 1:
+            raise TypeError(f"import_files takes one file with unless, found {len(paths)}: each is a commit of its own")
+        wanted = self._filter(unless)
         rows = 0
         for number, path in enumerate(paths):
             try:
-                rows += self._done("import", self._file_words, [path_word(path)])
+                rows += self._put(Prepared("import", path_word(path), None), wanted)
             except Refused as refused:
                 if len(paths) > 1:
                     before = f"{path_word(path)}, after {number} files with {rows} rows, which are in the table"
@@ -230,26 +254,33 @@ class Dataset:
         if groups is not None:
             numbers = _numbers(groups)
             if len(numbers) > _MOST_WORDS:
-                return self._answer({"call": "remove_groups", "numbers": [*map(int, numbers)]}, "done")
+                return self._remove_by_script([*map(int, numbers)])
             return self._done("remove", self._file_words, numbers) if numbers else 0
-        wanted = self._filter(filters) or []
-        if _is_long(wanted):
-            return self._answer({"call": "remove", "filter": wanted}, "done")
-        return self._done("remove", [*self._file_words, "--filter", filter_text(wanted)])
+        with _filter_words(self._filter(filters)) as words:
+            return self._done("remove", [*self._file_words, *words])
 
-    def rewrite(self, *, min_rows: Optional[int] = None, groups: Optional[Iterable[Union[int, Group]]] = None) -> int:
+    def rewrite(
+        self,
+        *,
+        min_rows: Optional[int] = None,
+        groups: Optional[Iterable[Union[int, Group]]] = None,
+        all: bool = False,  # noqa: A002
+    ) -> int:
         """Writes groups anew, joins those of one key that are next to each other, and returns how many rows.
 
-        `min_rows` takes the groups with fewer rows that have such a neighbour. The rows and their order stay the same.
+        `min_rows` takes the groups with fewer rows that have such a neighbour. `all` takes every group: then each file
+        has all columns, also those added later, and the options of this object. The rows and their order stay the same.
         Raises `NoGroup`, and `Limit` for more than 50,000 groups by their numbers.
         """
-        if (min_rows is None) == (groups is None):
-            raise TypeError("rewrite takes min_rows or groups")
+        if [min_rows is not None, groups is not None, all].count(True) != 1:
+            raise TypeError("rewrite takes min_rows, groups or all=True")
         if groups is not None:
             numbers = _numbers(groups)
             if len(numbers) > _MOST_WORDS:
-                raise Limit(f"{len(numbers)} groups are more than the {_MOST_WORDS} of one call: use min_rows")
+                raise Limit(f"{len(numbers)} groups are more than the {_MOST_WORDS} of one call: use min_rows or all")
             return self._done("rewrite", self._file_words, numbers) if numbers else 0
+        if all:
+            return self._done("rewrite", [*self._file_words, "--all"])
         return self._done("rewrite", [*self._file_words, "--min-rows", str(min_rows)])
 
     def add_column(self, column: Any) -> None:
@@ -261,19 +292,29 @@ class Dataset:
         said = column if isinstance(column, Mapping) else _tables.field_json(column)
         self._done("add-column", [], ["-"], [schema_text([{"rep": "optional", **said}])])
 
-    def run(self, calls: Iterable[Mapping[str, Any]]) -> List[Dict[str, Any]]:
+    def run(self, calls: Iterable[Mapping[str, Any]], stop: bool = True) -> List[Dict[str, Any]]:
         """Makes the calls of a script on one opening of the table, and returns the answer of each.
 
         A call is a dict, such as `{"call": "count", "filter": [("n", ">", 1)]}`; `pqds run --help` has all of them.
         Values of rows and filters are those of Python, and so are the rows of a batch. No other command comes between
         the calls.
 
-        A call that is refused does not end the script: its answer has `refused`, the number, and `name`, and the calls
-        after it are made. Raises `RowShape`, `NoColumn` or `Script` if a call is none; then no call is made.
+        The first call that is refused ends the script, and raises its refusal. The calls before it are made, each is a
+        commit of its own; `answers` of the exception has their answers. With `stop=False` the calls after it are made
+        too, and its answer has `refused`, the number, and `name`.
+
+        Raises `RowShape`, `NoColumn` or `Script` if a call is none; then no call is made.
         """
         fields = list(fields_of(self.schema()))
         made = [_call_json(fields, it) for it in calls]
-        return [_answer(fields, it) for it in self._script(made)]
+        answers: List[Dict[str, Any]] = []
+        try:
+            for line in self._script_lines(made, ["--stop"] if stop else []):
+                answers.append(_answer(fields, json.loads(line)))
+        except Refused as refused:
+            refused.answers = [it for it in answers if "refused" not in it]
+            raise
+        return answers
 
     # ---- the program ----
 
@@ -296,25 +337,24 @@ class Dataset:
             raise WrongCall(f"pqds {command} printed {said!r}")
         return int(said[5:])
 
-    def _answer(self, made: Mapping[str, Any], word: str) -> int:
-        """Makes one call by a script, and returns the number in its answer."""
-        answer = self._script([made])[0]
-        raise_refused(answer, FIND_OUT.get(made["call"], ""))
-        return int(answer[word])
+    def _remove_by_script(self, numbers: Sequence[int]) -> int:
+        """Removes groups, more than the words of a call can name."""
+        printed = list(self._script_lines([{"call": "remove_groups", "numbers": numbers}]))
+        answer = json.loads(printed[0])
+        raise_refused(answer, FIND_OUT["remove"])
+        return int(answer["done"])
 
-    def _put(self, rows: Prepared) -> int:
-        return self._done(rows.command, self._file_words, [rows.file], rows.parts)
+    def _put(self, rows: Prepared, unless: Optional[List[Any]] = None) -> int:
+        with _filter_words(unless, "--unless") as words:
+            return self._done(rows.command, [*self._file_words, *words], [rows.file], rows.parts)
 
-    def _script(self, calls: Sequence[Mapping[str, Any]]) -> List[Dict[str, Any]]:
-        return [json.loads(it) for it in self._script_lines(calls)]
-
-    def _script_lines(self, calls: Sequence[Mapping[str, Any]]) -> Iterator[bytes]:
+    def _script_lines(self, calls: Sequence[Mapping[str, Any]], options: Sequence[str] = ()) -> Iterator[bytes]:
         text = "\n".join(json.dumps(it, ensure_ascii=False, separators=(",", ":")) for it in calls)
-        for some in lines("run", self._words(self._file_words, ["-"]), text.encode()):
+        for some in lines("run", self._words([*self._file_words, *options], ["-"]), text.encode()):
             yield from some
 
     def _filter(self, filters: Optional[Filters]) -> Optional[List[Any]]:
-        return None if filters is None else filter_json(fields_of(self.schema()), filters)
+        return None if filters is None else _filter_of(self.schema(), filters)
 
     def _selection(self, filters: Optional[Filters], columns: Optional[Sequence[str]]) -> Selection:
         fields = fields_of(self.schema())
@@ -329,26 +369,28 @@ class Dataset:
 
     def _batches(self, wanted: Selection, limit: Optional[int] = None) -> Iterator[List[Any]]:
         """The rows that the program prints, some at a time."""
-        left = limit
-        for some in self._printed(wanted):
-            if left is None:
-                yield some
-            elif left > 0:
-                yield some[:left]
-                left -= len(some)
-            if left is not None and left <= 0:
-                return
-
-    def _printed(self, wanted: Selection) -> Iterator[List[Any]]:
-        if _is_long(wanted.filter):
-            yield from self._by_groups(wanted)
-            return
         names = [it.name for it in wanted.fields]
-        if not names:
-            yield [{}] * int(self._call("count", _filter_words(wanted.filter)))
-            return
-        for some in lines("query", self._words(_filter_words(wanted.filter), names)):
-            yield json.loads(b"[%b]" % b",".join(some))
+        with _filter_words(wanted.filter) as words:
+            if not names:
+                # Without names the program would print all columns.
+                yield [{}] * min(int(self._call("count", words)), sys.maxsize if limit is None else limit)
+                return
+            for some in lines("query", self._words([*words, *limit_words(limit)], names)):
+                yield json.loads(b"[%b]" % b",".join(some))
+
+    def _by_file(self, wanted: Selection, limit: Optional[int]) -> Any:
+        """The rows as a `pyarrow.Table`, by a file that the program writes; None if they have to come as lines."""
+        names = [it.name for it in wanted.fields]
+        if not names or limit is not None or not _tables.has_arrow():
+            return None
+        with tempfile.TemporaryDirectory(prefix="pqds-") as folder, _filter_words(wanted.filter) as words:
+            path = os.path.join(folder, "rows.parquet")
+            try:
+                self._call("query", [*words, "--out", path], names)
+            except Limit:
+                # The rows are too much for one file, which ends at 2 GiB.
+                return None
+            return _tables.table_of_file(wanted.fields, path)
 
     def _by_groups(self, wanted: Selection) -> Iterator[List[Any]]:
         """The rows of each group that has some, by a script, whose answers the program has in memory all at once."""
@@ -475,12 +517,25 @@ def checked_floats(fields: Sequence[Field], floats: Mapping[str, int]) -> None:
             raise Schema(f"floats: column {name} is no decimal with {places} places")
 
 
-def _is_long(wanted: Optional[List[Any]]) -> bool:
-    return wanted is not None and len(filter_text(wanted).encode()) > _LONGEST_WORD
+def _filter_of(said: Sequence[JsonField], filters: Optional[Filters]) -> Optional[List[Any]]:
+    """A filter in JSON on these columns, None if there is none. An empty one holds for every row."""
+    return None if filters is None else filter_json(fields_of(said), filters) or []
 
 
-def _filter_words(wanted: Optional[List[Any]]) -> List[str]:
-    return [] if wanted is None else ["--filter", filter_text(wanted)]
+@contextmanager
+def _filter_words(wanted: Optional[List[Any]], option: str = "--filter") -> Iterator[List[str]]:
+    """A filter as words of a call, while they are used: a long one is in a file."""
+    if wanted is None:
+        yield []
+        return
+    text = filter_text(wanted)
+    if len(text.encode()) <= _LONGEST_WORD:
+        yield [option, text]
+        return
+    with tempfile.NamedTemporaryFile(prefix="pqds-") as file:
+        file.write(text.encode())
+        file.flush()
+        yield [option, f"@{file.name}"]
 
 
 def _wait_words(wait: Union[bool, int]) -> List[str]:

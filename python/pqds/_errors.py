@@ -7,7 +7,7 @@ derived from `Refused`. A refused call leaves the table as it was; the one excep
 from __future__ import annotations
 
 import re
-from typing import ClassVar, Dict, Optional, Type
+from typing import Any, ClassVar, Dict, Optional, Sequence, Type
 
 
 class PqdsError(Exception):
@@ -30,10 +30,12 @@ class Refused(PqdsError):
     """A call that the program refused, or that this module refused before it started the program.
 
     `number` and `name` are the program's. `reason` says what was wrong, in one line or more; it can be empty. `column`
-    is the path of the column, for `Float` and `Int96`.
+    is the path of the column, for `Float` and `Int96`. `answers` has the answers of the calls that a script made before
+    the one that was refused.
     """
 
     number: ClassVar[int] = 0
+    answers: Sequence[Dict[str, Any]] = ()
 
     def __init__(self, reason: str = "", column: str = "") -> None:
         super().__init__(reason, column)

@@ -9,7 +9,7 @@ from typing import TYPE_CHECKING, Any, Dict, Iterable, Iterator, Mapping, Option
 
 from . import _tables
 from ._dataset import file_schema
-from ._options import FileOptions, file_words
+from ._options import FileOptions, file_words, limit_words
 from ._program import PathLike, call, lines, path_word
 from ._schema import fields_of, schema_text
 from ._values import RowReader, RowWriter, raw_parts
@@ -18,14 +18,15 @@ if TYPE_CHECKING:
     from typing_extensions import Unpack
 
 
-def decode(file: PathLike, *, raw: bool = False) -> Iterator[Dict[str, Any]]:
+def decode(file: PathLike, *, limit: Optional[int] = None, raw: bool = False) -> Iterator[Dict[str, Any]]:
     """The rows of a Parquet file, one after another, as dicts. No row comes before all of the file was accepted.
 
-    With `raw` the values are as the program prints them. Raises `Refused`: `Codec` for a compressed file, `Float` and
-    `Int96` for such columns, and others for a damaged one.
+    `limit` is the greatest number of rows. With `raw` the values are as the program prints them.
+
+    Raises `Refused`: `Codec` for a compressed file, `Float` and `Int96` for such columns, and others for a damaged one.
     """
     of_row = RowReader(fields_of(file_schema(file))).row
-    for some in lines("decode", ["--", path_word(file)]):
+    for some in lines("decode", [*limit_words(limit), "--", path_word(file)]):
         for row in json.loads(b"[%b]" % b",".join(some)):
             yield row if raw else of_row(row)
 

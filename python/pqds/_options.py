@@ -1,4 +1,4 @@
-"""The options of the files that a call writes: one list of them for all calls."""
+"""The options of calls: those of the files that a call writes, and the greatest number of rows that it prints."""
 
 from __future__ import annotations
 
@@ -35,3 +35,8 @@ def file_words(files: Mapping[str, Any]) -> List[str]:
         if value is not None:
             words += [_WORDS[name], str(value)]
     return words
+
+
+def limit_words(limit: Optional[int]) -> List[str]:
+    """The greatest number of rows as words of a call; none for all."""
+    return [] if limit is None else ["--limit", str(limit)]

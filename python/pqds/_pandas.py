@@ -180,12 +180,17 @@ def frame_of_arrow(fields: Sequence[Field], table: Any) -> Any:
 
 def _series_of_arrow(field: Field, column: Any) -> Any:
     pandas = _pd()
-    if field.meaning.startswith("timestamp_") and not field.is_repeated:
+    if field.is_repeated or field.fields:
+        return pandas.Series(column.to_pylist(), dtype=object)
+    if field.meaning.startswith("timestamp_"):
         unit = "ms" if field.meaning == "timestamp_millis" else "us"
         return column.to_pandas().astype(f"datetime64[{unit}, UTC]")
-    is_number = not field.fields and not field.is_repeated and ("int" in field.meaning or field.meaning == "boolean")
-    kind = _number_type(field) if is_number else _text_type() if field.meaning == "text" else object
-    return pandas.Series(column.to_pylist(), dtype=object if field.is_repeated else kind)
+    if field.meaning == "text":
+        return column.to_pandas().astype(_text_type())
+    if field.meaning == "boolean" or "int" in field.meaning:
+        kind = pandas.api.types.pandas_dtype(_number_type(field))
+        return pandas.Series(kind.__from_arrow__(column)) if field.is_optional else column.to_pandas().astype(kind)
+    return pandas.Series(column.to_pylist(), dtype=object)
 
 
 def _array(field: Field, values: List[Any]) -> Any:

@@ -90,6 +90,21 @@ def arrow_table(fields: Sequence[Field], batches: Iterator[List[Dict[str, Any]]]
     return _arrow.table_of_rows(fields, batches)
 
 
+def has_arrow() -> bool:
+    """Whether pyarrow can be imported."""
+    return _arrow.is_there()
+
+
+def table_of_file(fields: Sequence[Field], path: str) -> Any:
+    """A `pyarrow.Table` of a Parquet file, or None if pyarrow would read it as other values."""
+    return _arrow.table_of_file(fields, path)
+
+
+def frame_of_arrow(fields: Sequence[Field], table: Any) -> Any:
+    """A `pandas.DataFrame` of a `pyarrow.Table` with these columns."""
+    return _pandas.frame_of_arrow(fields, table)
+
+
 def frame(fields: Sequence[Field], batches: Iterator[List[Dict[str, Any]]]) -> Any:
     """A `pandas.DataFrame` of rows as the program prints them."""
     return _pandas.frame_of_rows(fields, batches)

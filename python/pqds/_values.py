@@ -30,6 +30,17 @@ _EXACT = Context(prec=MAX_PREC, Emin=MIN_EMIN, Emax=MAX_EMAX)
 TICKS = ("date", "time_millis", "time_micros", "timestamp_millis", "timestamp_micros")
 """The meanings whose values are counted in days, milliseconds or microseconds."""
 
+_FIRST = (1 - _EPOCH_DAY) * _DAY
+_LAST = (datetime.date.max.toordinal() - _EPOCH_DAY + 1) * _DAY - 1
+TICK_RANGES = {
+    "date": (_FIRST // _DAY, _LAST // _DAY),
+    "time_millis": (0, _DAY // 1000 - 1),
+    "time_micros": (0, _DAY - 1),
+    "timestamp_millis": (_FIRST // 1000, _LAST // 1000),
+    "timestamp_micros": (_FIRST, _LAST),
+}
+"""The least and greatest counts for which Python has a date or time."""
+
 
 # ---- from the program ----
 
@@ -190,13 +201,13 @@ def _integer(value: Any) -> int:
     raise Misfit(f"expected an integer, {_found(value)}")
 
 
-# The least and greatest values of the meanings of integers.
-_RANGES = {
+RANGES = {
     **{f"int_{bits}": (-(1 << (bits - 1)), (1 << (bits - 1)) - 1) for bits in (8, 16, 32, 64)},
     **{f"uint_{bits}": (0, (1 << bits) - 1) for bits in (8, 16, 32, 64)},
     "int32": (-(1 << 31), (1 << 31) - 1),
     "int64": (-(1 << 63), (1 << 63) - 1),
 }
+"""The least and greatest values of the meanings of integers."""
 
 
 def _ranged(least: int, greatest: int) -> Convert:
@@ -304,8 +315,8 @@ def _decimal_writer(field: Field) -> Convert:
 def leaf_writer(field: Field) -> Convert:
     """What makes JSON from a value that is not null. It raises `Misfit` for a value that is none of the column."""
     meaning = field.meaning
-    if meaning in _RANGES:
-        return _ranged(*_RANGES[meaning])
+    if meaning in RANGES:
+        return _ranged(*RANGES[meaning])
     if meaning in ("time_millis", "time_micros"):
         return _time_of_day(_MICROSECONDS[meaning])
     if meaning in ("timestamp_millis", "timestamp_micros"):

@@ -5,6 +5,7 @@ from __future__ import annotations
 import fcntl
 import functools
 import os
+import pickle
 import unittest
 from pathlib import Path
 from typing import Any, Dict, Iterator, List
@@ -66,6 +67,20 @@ class Tables(RoomCase):
         self.assertEqual(list(table.rows(limit=0)), [])
         self.assertEqual(list(table.rows([("order", "==", 1)], columns=[])), [{}])
 
+    def test_the_limit_goes_to_the_program(self) -> None:
+        table = self.filled()
+        words = self.words_of("query", lambda: list(table.rows([("order", ">", 0)], limit=2)))
+        self.assertEqual(words[words.index("--limit") + 1], "2")
+        self.assertNotIn("--limit", self.words_of("query", lambda: list(table.rows())))
+        self.assertEqual(list(table.rows([("order", ">", 1)], ["order"], limit=1)), [{"order": 3}])
+        self.assertEqual(len(list(table.rows(limit=1 << 63))), 3)
+        self.assertEqual(list(table.rows(columns=[], limit=2)), [{}, {}])
+        with self.assertRaises(pqds.WrongCall):
+            list(table.rows(limit=-1))
+        # The second group is not read.
+        Path("orders/region=south/part.1.parquet").unlink()
+        self.assertEqual(list(table.rows(limit=2)), SORTED[:2])
+
     def test_rows_can_be_left_before_their_end(self) -> None:
         table = self.filled()
         rows = table.rows()
@@ -88,6 +103,36 @@ class Tables(RoomCase):
         self.assertEqual(self.table.append(it for it in ROWS), 3)
         self.assertEqual(self.table.append([]), 0)
         self.assertEqual(self.table.count(), 3)
+
+    def test_append_unless_a_row_satisfies(self) -> None:
+        table = self.filled()
+        self.assertEqual(table.append(ROWS, [("order", "==", 2)]), 0)
+        self.assertEqual(table.append(ROWS[:1], unless=[("region", "==", "west")]), 1)
+        self.assertEqual(table.append(ROWS, [("order", "==", 2)], raw=True), 0)
+        self.assertEqual(table.append(ROWS, [[("order", "==", 9)], [("cents", "<", 1000)]]), 0)
+        self.assertEqual(table.append(ROWS, []), 0)
+        self.assertEqual(table.count(), 4)
+        self.assertEqual(pqds.create("empty", ORDERS).append(ROWS, unless=[]), 3)
+        with self.assertRaises(pqds.NoColumn):
+            table.append(ROWS, [("colour", "==", "red")])
+        with self.assertRaises(pqds.RowShape):
+            table.append([{"order": 5}], [("order", "==", 5)])
+        self.assertEqual(table.count(), 4)
+
+    def test_append_unless_a_row_satisfies_a_long_filter(self) -> None:
+        table = self.filled()
+        long = [("order", "in", list(range(3, 30_000)))]
+        self.assertEqual(table.append(ROWS, long), 0)
+        self.assertEqual(table.append(ROWS, [*long, ("order", ">", 3)]), 3)
+
+    def test_unless_goes_to_the_program(self) -> None:
+        words = self.words_of("append", lambda: self.table.append(ROWS, [("order", "==", 2)]), "echo done 0")
+        self.assertEqual(words[words.index("--unless") + 1], '[["order","==",2]]')
+        words = self.words_of("append", lambda: self.table.append(ROWS, []), "echo done 0")
+        self.assertEqual(words[words.index("--unless") + 1], "[]")
+        self.assertNotIn("--unless", self.words_of("append", lambda: self.table.append(ROWS), "echo done 3"))
+        words = self.words_of("import", lambda: self.table.import_files("f", [("order", "==", 2)]), "echo done 0")
+        self.assertEqual(words[words.index("--unless") + 1], '[["order","==",2]]')
 
     def test_raw_rows_are_the_programs(self) -> None:
         self.assertEqual(self.table.append(ROWS, raw=True), 3)
@@ -151,7 +196,7 @@ class Tables(RoomCase):
         with self.assertRaises(pqds.Limit):
             table.rewrite(groups=range(60_000))
 
-    def test_remove_and_rewrite_take_one_of_two(self) -> None:
+    def test_remove_and_rewrite_take_one_of_their_words(self) -> None:
         for call in (self.table.remove, self.table.rewrite):
             with self.assertRaises(TypeError):
                 call()
@@ -159,6 +204,8 @@ class Tables(RoomCase):
             self.table.remove([], groups=[1])
         with self.assertRaises(TypeError):
             self.table.rewrite(min_rows=1, groups=[1])
+        with self.assertRaises(TypeError):
+            self.table.rewrite(min_rows=1, all=True)
 
     def test_rewrite(self) -> None:
         table = self.filled()
@@ -170,6 +217,20 @@ class Tables(RoomCase):
         self.assertEqual(table.count(), 6)
         with self.assertRaises(pqds.NoGroup):
             table.rewrite(groups=[99])
+
+    def test_rewrite_all(self) -> None:
+        table = self.filled()
+        self.assertEqual(pqds.create("empty", ORDERS).rewrite(all=True), 0)
+        table.append(ROWS)
+        table.add_column({"name": "note", "type": "bytes", "note": "utf8"})
+        before = list(table.rows())
+        words = self.words_of("rewrite", lambda: table.rewrite(all=True), "echo done 6")
+        self.assertIn("--all", words)
+        self.assertEqual(pqds.open("orders", style="dictionary").rewrite(all=True), 6)
+        self.assertEqual([it.rows for it in table.groups()], [4, 2])
+        self.assertEqual(list(table.rows()), before)
+        for part in Path("orders").glob("*/*.parquet"):
+            self.assertEqual([it["name"] for it in pqds.file_schema(part)], ["order", "cents", "note"])
 
     def test_add_column(self) -> None:
         table = self.filled()
@@ -190,10 +251,37 @@ class Tables(RoomCase):
                 {"call": "add_column", "field": {"name": "day", "type": "int32", "note": "date"}},
                 {"call": "query", "columns": None, "filter": []},
                 {"call": "fetch", "cursor": 0},
-            ]
+            ],
+            stop=False,
         )
         self.assertEqual(answers[:4], [{"done": 3}, {"name": "NoGroup", "refused": 18}, {"count": 2}, {"done": 0}])
         self.assertEqual(answers[5]["batch"], [{**it, "day": None} for it in SORTED[:2]])
+
+    def test_a_script_ends_at_the_first_call_that_is_refused(self) -> None:
+        calls: List[Dict[str, Any]] = [
+            {"call": "append", "rows": ROWS},
+            {"call": "count", "filter": [("region", "==", "north")]},
+            {"call": "remove_groups", "numbers": [9]},
+            {"call": "remove", "filter": []},
+        ]
+        with self.assertRaises(pqds.NoGroup) as caught:
+            self.table.run(calls)
+        self.assertEqual(caught.exception.answers, [{"done": 3}, {"count": 2}])
+        self.assertEqual(caught.exception.reason, "2 of 4 calls were made")
+        self.assertEqual(self.table.count(), 3)
+        self.assertEqual(self.table.run(calls[:2]), [{"done": 3}, {"count": 4}])
+        self.assertEqual(self.table.run([]), [])
+
+    def test_the_refusal_of_a_call_is_raised_with_the_answers_before_it(self) -> None:
+        answers = """echo '{"done":3}'; echo '{"name":"InDoubt","refused":26}'"""
+        script = f"{answers}; echo '1 of 4 calls were made' >&2; echo 'refused 26 InDoubt' >&2; exit 1"
+        with self.assertRaises(pqds.InDoubt) as caught:
+            self.words_of("run", lambda: self.table.run([{"call": "groups"}]), script)
+        self.assertEqual(caught.exception.answers, [{"done": 3}])
+        self.assertIn("1 of 4 calls were made", caught.exception.reason)
+        self.assertEqual(pickle.loads(pickle.dumps(caught.exception)).answers, [{"done": 3}])
+        self.assertIn("--stop", Path("words").read_text())
+        self.assertNotIn("--stop", self.words_of("run", lambda: self.table.run([{"call": "groups"}], stop=False)))
 
     def test_a_script_with_a_wrong_call_makes_none(self) -> None:
         with self.assertRaises(pqds.RowShape):
@@ -256,12 +344,24 @@ class Tables(RoomCase):
         table = self.filled()
         long = [("order", "in", list(range(2, 100_000)))]
         self.assertEqual(table.count(long), 2)
+        self.assertEqual(table.count([*long, ("cents", "<", 1000)]), 1)
         self.assertEqual([it["order"] for it in table.rows(long)], [3, 2])
         self.assertEqual([it["order"] for it in table.rows(long, limit=1)], [3])
         with self.assertRaises(pqds.NoColumn):
             table.count([*long, ("nothing", "==", 1)])
         self.assertEqual(table.remove(long), 2)
         self.assertEqual([it["order"] for it in table.rows()], [1])
+
+    def test_a_long_filter_is_in_a_file(self) -> None:
+        table = self.filled()
+        values = ",".join(map(str, range(50_000)))
+        long = [("order", "in", list(range(50_000)))]
+        for command, call, answer in (
+            ("count", lambda: table.count(long), "echo 0"),
+            ("query", lambda: list(table.rows(long)), "true"),
+            ("remove", lambda: table.remove(long), "echo done 0"),
+        ):
+            self.assertIn(f'@[["order","in",[{values}]]]', self.words_of(command, call, answer))
 
     def test_no_wait(self) -> None:
         table = pqds.open("orders", wait=False)

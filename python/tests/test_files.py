@@ -20,6 +20,13 @@ class Files(RoomCase):
         self.assertEqual(pqds.inspect("f.parquet")["rows"], 2)
         self.assertEqual(sorted(next(pqds.decode("f.parquet", raw=True))), ["cents", "order", "region"])
 
+    def test_the_first_rows_of_a_file(self) -> None:
+        pqds.encode(ORDERS, ROWS, "f.parquet")
+        self.assertEqual(list(pqds.decode("f.parquet", limit=1)), ROWS[:1])
+        self.assertEqual(list(pqds.decode("f.parquet", limit=0)), [])
+        words = self.words_of("decode", lambda: list(pqds.decode("f.parquet", limit=5)))
+        self.assertEqual(words[words.index("--limit") + 1], "5")
+
     def test_encode_replaces_no_file(self) -> None:
         Path("f.parquet").write_text("mine")
         with self.assertRaises(pqds.Exists):
@@ -53,6 +60,19 @@ class Files(RoomCase):
         self.assertEqual(table.import_files(["one", "two"]), 3)
         self.assertEqual(table.import_files([]), 0)
         self.assertEqual(table.count(), 6)
+
+    def test_import_unless_a_row_satisfies(self) -> None:
+        table = pqds.create("t", ORDERS)
+        pqds.encode(ORDERS, ROWS, "one")
+        for done in (2, 0):
+            self.assertEqual(table.import_files("one", unless=[("order", "==", 2)]), done)
+        self.assertEqual(table.import_files(["one"], [("order", "==", 3)]), 2)
+        with self.assertRaises(pqds.NoColumn):
+            table.import_files("one", [("colour", "==", "red")])
+        with self.assertRaises(TypeError):
+            table.import_files(["one", "one"], [("order", "==", 3)])
+        self.assertEqual(table.import_files([], [("order", "==", 3)]), 0)
+        self.assertEqual(table.count(), 4)
 
     def test_import_says_which_file_was_refused(self) -> None:
         table = pqds.create("t", ORDERS)

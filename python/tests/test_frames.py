@@ -319,6 +319,59 @@ class Arrow(RoomCase):
                 pqds.create("t", pa.schema([("x", kind)]))
             self.assertIn(why, caught.exception.reason)
 
+    def test_rows_come_out_by_a_file(self) -> None:
+        wanted = self.nested()
+        table = pqds.create("t", wanted.schema, required=["id"])
+        table.append(wanted)
+        with mock.patch("pqds.Dataset._batches", side_effect=AssertionError("by lines")):
+            self.assertEqual(table.to_arrow().to_pylist(), wanted.to_pylist())
+            self.assertEqual(table.to_arrow([("id", "==", 2)], ["f", "id"]).to_pylist(), [{"f": None, "id": 2}])
+            self.assertEqual(table.to_arrow([("id", ">", 9)]).schema, table.to_arrow().schema)
+            if HAS_PANDAS:
+                self.assertEqual(table.to_pandas(columns=["id", "l"])["l"].tolist(), [[1, None], [], None])
+        self.assertEqual(table.to_arrow([("id", ">", 1)], ["f", "id"], 1).to_pylist(), [{"f": None, "id": 2}])
+        self.assertEqual(table.to_arrow(limit=0).num_rows, 0)
+        with without_arrow():
+            self.assertEqual(table.to_arrow().to_pylist(), wanted.to_pylist())
+
+    @unittest.skipUnless(HAS_PANDAS, "pandas is not there")
+    def test_frames_are_the_same_by_a_file_and_by_lines(self) -> None:
+        table = pqds.create("t", make_frame(), ["k"], required=["n", "i8"], floats={"p": 2})
+        table.append(make_frame(), floats={"p": 2})
+        table.add_column(pa.field("more", pa.bool_()))
+        for filters in (None, [("n", ">", 1)], [("n", "<", 0)]):
+            with without_arrow():
+                lines = table.to_pandas(filters)
+            with mock.patch("pqds.Dataset._batches", side_effect=AssertionError("by lines")):
+                pd.testing.assert_frame_equal(table.to_pandas(filters), lines)
+
+    def test_numbers_outside_of_their_range_come_as_lines(self) -> None:
+        notes = {"i": "int_8", "u": "uint_16", "d": "date", "m": "time_millis"}
+        table = pqds.create("t", [{"name": it, "rep": "optional", "type": "int32", "note": notes[it]} for it in notes])
+        table.append([{"i": 300}, {"u": 70_000}, {"d": 1 << 30}, {"m": 86_400_000}], raw=True)
+        for name in "iu":
+            with self.assertRaises((pa.ArrowInvalid, OverflowError)):
+                table.to_arrow(columns=[name])
+        self.assertEqual(table.to_arrow(columns=["m"])["m"].cast(pa.int32()).to_pylist(), [None] * 3 + [86_400_000])
+        if HAS_PANDAS:
+            for name in "dm":
+                with self.assertRaises(ValueError) as caught:
+                    table.to_pandas(columns=[name])
+                self.assertIn("raw=True", str(caught.exception))
+        table.append([{"i": -128, "u": 65535, "d": 0, "m": 86_399_999}], raw=True)
+        with mock.patch("pqds.Dataset._batches", side_effect=AssertionError("by lines")):
+            self.assertEqual(table.to_arrow([("i", "<", 0)], ["u"]).to_pylist(), [{"u": 65535}])
+
+    def test_refusals_and_rows_that_are_too_much_for_a_file(self) -> None:
+        table = pqds.create("t", SCHEMA[:1])
+        table.append([{"n": 7}])
+        with self.assertRaises(pqds.Truncated):
+            self.words_of("query", table.to_arrow, "echo refused 1 Truncated >&2; exit 1")
+        found: List[Any] = []
+        limit = 'case "$*" in *--out*) echo refused 13 Limit >&2; exit 1;; *) echo \'{"n":7}\';; esac'
+        self.words_of("query", lambda: found.append(table.to_arrow()), limit)
+        self.assertEqual(found[0]["n"].to_pylist(), [7])
+
     def test_other_tools_read_the_table(self) -> None:
         pqds.create("t", self.nested()).append(self.nested())
         part = pq.read_table("t/part.0.parquet")
