@@ -54,6 +54,10 @@ COMMANDS = {
         lines(A1, A7, A3, B2, B4, C5), (("a", 0, 2), ("a", 2, 1), ("b", 1, 1), ("b", 3, 1), ("c", 4, 1)))]),
     "import": Command("import t file", "done 1\n", [START, Table(
         lines(A1, A7, A3, A6, B2), (("a", 0, 2), ("a", 2, 1), ("a", 3, 1), ("b", 1, 1)))]),
+    "import of three files": Command("import t file file_b file_c", "done 3\n", [START, Table(
+        lines(A1, A7, A3, A6, B2, B4, C5), (("a", 0, 2), ("a", 2, 1), ("a", 3, 1), ("b", 1, 1), ("b", 4, 1), ("c", 5, 1)))]),
+    "append unless": Command(["append", "t", "rows", "--unless", '[["x","==",4]]'], "done 2\n", [START, Table(
+        lines(A1, A7, A3, B2, B4, C5), (("a", 0, 2), ("a", 2, 1), ("b", 1, 1), ("b", 3, 1), ("c", 4, 1)))]),
     "remove by number": Command("remove t 0", "done 2\n", [START, Table(lines(A3, B2), (("a", 2, 1), ("b", 1, 1)))]),
     "remove by filter": Command(["remove", "t", "--filter", '[["x","==",1]]'], "done 1\n", [START, REMOVED]),
     "rewrite": Command("rewrite t 0 2", "done 3\n", [START, REWRITTEN]),
@@ -76,6 +80,8 @@ FILES = {
     "first": text_of(A1, A7, B2),
     "second": text_of(A3),
     "imported": text_of(A6),
+    "imported_b": text_of(B4),
+    "imported_c": text_of(C5),
     "nothing": "",
     "calls": '{"call":"append","rows":[{"k":"b","x":4}]}\n{"call":"remove","filter":[["x","==",1]]}\n{"call":"count","filter":[]}\n',
 }
@@ -389,7 +395,8 @@ class Tries:
                 put({"t": None, "t/notes.txt": b"notes\n"}, room)
         elif name == "start":
             put(self.begin("folder"), room)
-            for words in ("create t schema k", "append t first", "append t second", "encode schema imported file"):
+            for words in ("create t schema k", "append t first", "append t second", "encode schema imported file",
+                          "encode schema imported_b file_b", "encode schema imported_c file_c"):
                 status, _, said = self.run(room, words.split())
                 if status != 0:
                     sys.exit(f"{words}: status {status}, {said}")
@@ -457,7 +464,7 @@ class OfCommand:
             return None
         if last == ["refused 26 InDoubt"]:
             return command.tables if is_root_written(found) else None
-        if "all of it is made, but" in said:
+        if "the change was committed, but" in said:
             return command.tables if command.answers else [command.tables[-1]]
         if last == []:
             # Nothing could be said: the commit may be done.
@@ -547,7 +554,7 @@ class OfCommand:
     def plain_run(self):
         """No fault: how often each call is made, and how often before the command looks at its folder and files."""
         status, found = self.attempt(None, "no fault", True)
-        names = {"t", *FILES, "file"}
+        names = {"t", *FILES, "file", "file_b", "file_c"}
         begun = next(at for at, it in enumerate(found) if it.name != "execve"
                      and any(text.decode(errors="replace").split("/")[0] in names for text in it.texts[:1]))
         before = collections.Counter(it.name for it in found[:begun])

@@ -6,7 +6,7 @@
 #
 # ROOM is a folder with Debian's unstable release and these tools in it, in which they run (chroot). Where it is absent it is
 # made, by debootstrap: 1.5 GB and some two minutes. This needs root, Linux and a mirror of Debian. PROGRAM is the program; without
-# it the one that ./pqds builds. The parts are corpus, files, datasets, import, workers and tutorial (the steps of docs/TUTORIAL.md),
+# it the one that ./pqds builds. The parts are corpus, files, datasets, queries, import, workers and tutorial (the steps of docs/TUTORIAL.md),
 # all of them where none is named; and for figures sums (a sum by key, by workers of Dask) and side (bench/peers/side.py: the same work
 # by each of them). Prints for each how many were tried, equal and refused, with the cause; the status is 1 where there is a
 # difference without a cause. It is not in the gate.

@@ -57,6 +57,8 @@ def main():
         table = pqds.open("ours")
         timed("to_pandas", table.to_pandas)
         timed("to_arrow", table.to_arrow)
+        with mock.patch("pqds._arrow.is_there", return_value=False):
+            timed("to_pandas without pyarrow", table.to_pandas)
         timed("rows", lambda: sum(1 for _ in table.rows()))
         timed("to_pandas of one in 1000", lambda: table.to_pandas([("o", "==", 5)]))
         timed("fastparquet to_pandas", fastparquet.ParquetFile("theirs").to_pandas)
