@@ -27,7 +27,7 @@ use Rattle.commands.proofs.Selected.{lines_of_query, batches_fit}
 
 -- ---- fetches
 
-fetches_more : (n : ℕ) (calls : List Call) → AreFetches n calls → AreFetches n (calls ++ fetch n ∷ [])
+pub fetches_more : (n : ℕ) (calls : List Call) → AreFetches n calls → AreFetches n (calls ++ fetch n ∷ [])
 fetches_more n [] all = (refl, tt)
 fetches_more n (c ∷ calls) all = (all.0, fetches_more n calls all.1)
 
@@ -35,16 +35,16 @@ fetches_front : (n : ℕ) (calls : List Call) → AreFetches n (calls ++ fetch n
 fetches_front n [] all = tt
 fetches_front n (c ∷ calls) all = (all.0, fetches_front n calls all.1)
 
-leave_open : (n : ℕ) (calls : List Call) → AreFetches n calls → list_all (leaves_open n) calls ≡ true
+pub leave_open : (n : ℕ) (calls : List Call) → AreFetches n calls → list_all (leaves_open n) calls ≡ true
 leave_open n [] all = refl
 leave_open n (c ∷ calls) all = rw (all.0, leave_open n calls all.1) refl
 
 -- then the cursor is closed
-closed_read : (n : ℕ) (calls : List Call) → AreFetches n calls → list_all only_reads (calls ++ close n ∷ []) ≡ true
+pub closed_read : (n : ℕ) (calls : List Call) → AreFetches n calls → list_all only_reads (calls ++ close n ∷ []) ≡ true
 closed_read n [] all = refl
 closed_read n (c ∷ calls) all = rw (all.0, closed_read n calls all.1) refl
 
-many_more : (calls : List Call) (answers : List Answer) (call : Call) (answer : Answer) → length calls ≡ length answers → length (calls ++ call ∷ []) ≡ length (answers ++ answer ∷ [])
+pub many_more : (calls : List Call) (answers : List Answer) (call : Call) (answer : Answer) → length calls ≡ length answers → length (calls ++ call ∷ []) ≡ length (answers ++ answer ∷ [])
 many_more calls answers call answer e = length-append calls (call ∷ []) ∙ (ap (λ n. n + 1) e ∙ sym (length-append answers (answer ∷ [])))
 
 given_more : (n : ℕ) (calls : List Call) (answers : List Answer) (call : Call) (answer : Answer) → length calls ≡ length answers → given n (calls ++ call ∷ []) (answers ++ answer ∷ []) ≡ given n calls answers ++ given_by n call answer
@@ -57,16 +57,16 @@ given_more n (c ∷ calls) (a ∷ answers) call answer e =
 same_number : (n : ℕ) → (n == n) ≡ true
 same_number n = eq-eqb n n refl
 
-one_given : (n : ℕ) (calls : List Call) (answers : List Answer) (b : Batch) → length calls ≡ length answers → given n (calls ++ fetch n ∷ []) (answers ++ batch b ∷ []) ≡ given n calls answers ++ b ∷ []
+pub one_given : (n : ℕ) (calls : List Call) (answers : List Answer) (b : Batch) → length calls ≡ length answers → given n (calls ++ fetch n ∷ []) (answers ++ batch b ∷ []) ≡ given n calls answers ++ b ∷ []
 one_given n calls answers b e = given_more n calls answers (fetch n) (batch b) e ∙ ap (λ (own : Bool). given n calls answers ++ (if own then b ∷ [] else [])) (same_number n)
 
 -- ---- lines
 
-front_fits : (schema : Fields) (bs : List Batch) (b : Batch) → AreFitting schema (bs ++ b ∷ []) → AreFitting schema bs
+pub front_fits : (schema : Fields) (bs : List Batch) (b : Batch) → AreFitting schema (bs ++ b ∷ []) → AreFitting schema bs
 front_fits schema [] b all = tt
 front_fits schema (c ∷ bs) b all = (all.0, front_fits schema bs b all.1)
 
-last_fits : (schema : Fields) (bs : List Batch) (b : Batch) → AreFitting schema (bs ++ b ∷ []) → RowsFit (fields_at b.places 0 schema) b.rows
+pub last_fits : (schema : Fields) (bs : List Batch) (b : Batch) → AreFitting schema (bs ++ b ∷ []) → RowsFit (fields_at b.places 0 schema) b.rows
 last_fits schema [] b all = all.0
 last_fits schema (c ∷ bs) b all = last_fits schema bs b all.1
 
@@ -78,7 +78,7 @@ printed_more schema bs b before mid after so_far one fit =
 
 -- ---- of a store
 
-same_table : (n : ℕ) (b : Batch) (s t : State) → Happens s (fetch n) (batch b) t → t.table ≡ s.table
+pub same_table : (n : ℕ) (b : Batch) (s t : State) → Happens s (fetch n) (batch b) t → t.table ≡ s.table
 same_table n b s t happens = ap (λ (u : State). u.table) happens.1.becomes
 
 module _ {D : Type 0} (state : D → DiskState) where

@@ -10,3 +10,7 @@ mod Among
 mod ColumnLeaves
 mod GatheredLines
 mod Counted
+mod Stopped
+mod UnlessThere
+mod Renewed
+mod FirstBatched

@@ -65,7 +65,7 @@ pub fn question_reason<D: Disk>(
         return part_reason(alloc, store, refusal);
     }
     match question {
-        Question::Query { filter, columns } => {
+        Question::Query { filter, columns, .. } => {
             match filter_reason(alloc, store.schema(), *filter)? {
                 Some(reason) => Ok(Some(reason)),
                 None => columns_reason(alloc, store.schema(), columns.as_slice()),
@@ -87,6 +87,9 @@ pub fn change_reason<D: Disk>(
     if *refusal == Refusal::InDoubt {
         return Ok(Some(Reason::InDoubt(shown_by(change))));
     }
+    if let Some(reason) = unless_reason(alloc, store.schema(), change)? {
+        return Ok(Some(reason));
+    }
     match change {
         Change::Append { .. } => match text_of(bytes) {
             Ok(text) => append_reason(alloc, store, text, refusal),
@@ -99,7 +102,10 @@ pub fn change_reason<D: Disk>(
         Change::Remove { filter } if !is_of_parts(refusal) => {
             filter_reason(alloc, store.schema(), Some(filter))
         }
-        Change::Remove { .. } | Change::Rewrite { .. } | Change::RewriteSmall { .. }
+        Change::Remove { .. }
+        | Change::Rewrite { .. }
+        | Change::RewriteSmall { .. }
+        | Change::RewriteAll
             if is_of_parts(refusal) => { part_reason(alloc, store, refusal) }
         _ => Ok(None),
     }
@@ -126,7 +132,7 @@ pub fn script_reason<D: Disk>(
 /// The command that shows whether a change was done.
 fn shown_by(change: &Change<'_>) -> &'static str {
     match change {
-        Change::Rewrite { .. } | Change::RewriteSmall { .. } => "groups",
+        Change::Rewrite { .. } | Change::RewriteSmall { .. } | Change::RewriteAll => "groups",
         Change::AddColumn { .. } => "schema",
         _ => "count",
     }
@@ -146,6 +152,16 @@ fn append_reason<D: Disk>(
         Refusal::Key => {
             let rows = rows_of(alloc, store.schema(), text, &mut io::sink(), false)?;
             rows_reason(alloc, store.keys(), rows.as_slice())
+        }
+        _ => Ok(None),
+    }
+}
+
+/// Why the filter is refused that no row may satisfy, if the change has one.
+fn unless_reason(alloc: Global, schema: &Schema, change: &Change<'_>) -> R<Option<Reason>> {
+    match change {
+        Change::Append { unless, .. } | Change::Import { unless, .. } => {
+            filter_reason(alloc, schema, *unless)
         }
         _ => Ok(None),
     }

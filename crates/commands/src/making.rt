@@ -3,6 +3,7 @@
 ghost use Rattle.std.specs.Prelude.{◌≡◌, false, OnOk};
 
 use crate::explaining::check_reason;
+use crate::filter_file::{filter_file, with_filter};
 use crate::folder::{bytes_of, disk_of, is_folder, refusal_of};
 use crate::folder_lock::locked;
 use crate::lock::{Access, Lock, Patience};
@@ -63,7 +64,10 @@ where
             terminals,
         };
         let mut why = None;
-        let made = making.make(out, err, &mut why);
+        let made = match filter_file(call) {
+            Some(path) => making.make_with_filter(path, out, err, &mut why),
+            None => making.make(out, err, &mut why),
+        };
         let written = out.flush();
         match made {
             Ok(()) => written.map_err(refusal_of),
@@ -91,6 +95,35 @@ impl<F: Files + Input + Clock + Clone + Drop, S: Write + Clone + Drop> Making<'_
 where
     F::File: Lock,
 {
+    /// Makes the call with the filter that is the text of a file. Refused Device where that cannot be read, Script where it
+    /// is no text, and then as [`make`](Making::make).
+    fn make_with_filter<W: Write, E: Write>(
+        &self,
+        path: &str,
+        out: &mut W,
+        err: &mut E,
+        why: &mut Option<Reason>,
+    ) -> R<()>
+        ensures quiet { self.now.terminals.err ≡ false → E.contents err.new ≡ E.contents err.old }
+    {
+        let bytes = bytes_of(self.rt, self.alloc, path)?;
+        let call = match with_filter(self.alloc, self.call, bytes.as_slice()) {
+            Ok(call) => call,
+            Err(refusal) => {
+                *why = line_without_text(bytes.as_slice()).map(|line| Reason::Line(line));
+                return Err(refusal);
+            }
+        };
+        let making = Making {
+            rt: self.rt,
+            screen: self.screen,
+            alloc: self.alloc,
+            call: &call,
+            terminals: self.terminals,
+        };
+        making.make(out, err, why)
+    }
+
     /// Makes the call, and gives a writer what it is to print. Where it is refused, `why` may get the reason.
     fn make<W: Write, E: Write>(&self, out: &mut W, err: &mut E, why: &mut Option<Reason>) -> R<()>
         ensures quiet { self.now.terminals.err ≡ false → E.contents err.new ≡ E.contents err.old }
@@ -129,10 +162,10 @@ where
     pub(crate) fn named_file(&self) -> Option<&str> {
         match &self.call.task {
             Task::Create { schema, .. } => Some(schema),
-            Task::Run { script } => Some(script),
+            Task::Run { script, .. } => Some(script),
             Task::Look(Look::Rows { rows }) => Some(rows),
-            Task::Change(Change::Append { rows }) => Some(rows),
-            Task::Change(Change::Import { file }) => Some(file),
+            Task::Change(Change::Append { rows, .. }) => Some(rows),
+            Task::Change(Change::Import { file, .. }) => Some(file),
             Task::Change(Change::AddColumn { schema }) => Some(schema),
             Task::Ask(Question::Schema) if !self.is_of_folder() => Some(self.call.folder),
             _ => None,

@@ -11,6 +11,7 @@ use crate::making::{Making, root_reason};
 use crate::printing::print_done;
 use crate::readers_lock::{Readers, kept_out, make_file, shared};
 use crate::reason::Reason;
+use crate::stopping::run_to_refusal;
 use crate::tasks::{ask, make_change, run};
 use crate::watched::Watched;
 use bits::{R, Refusal};
@@ -128,6 +129,7 @@ where
                 }
                 told
             }
+            Task::Run { stops, .. } if *stops => run_to_refusal(alloc, store, bytes, out, why),
             Task::Run { .. } => run(alloc, store, bytes, out, why),
         }
     }

@@ -132,7 +132,7 @@ fn leaves_among(alloc: Global, leaves: &[Leaf], places: &[usize]) -> R<Vec<usize
 
 /// Prints rows of the columns at these places of a schema, a line each, as objects of these columns. Refused Device where
 /// they cannot be written.
-fn print_rows_at<W: Write>(
+pub fn print_rows_at<W: Write>(
     alloc: Global,
     schema: &Schema,
     places: &[usize],

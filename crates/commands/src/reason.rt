@@ -29,6 +29,8 @@ pub enum Reason {
     InDoubt(&'static str),
     /// All that was asked is made, and what came of it cannot be printed.
     Unprinted,
+    /// So many of the calls of a script were made before the one that is refused.
+    Stopped { made: usize, calls: usize },
     /// The columns of a file are not those of the table.
     Columns(Difference),
     /// The file is compressed.
@@ -168,6 +170,7 @@ impl Display for Reason {
             Reason::Unprinted => {
                 f.write_str("all of it is made, but what came of it could not be printed")
             }
+            Reason::Stopped { made, calls } => write!(f, "{made} of {calls} calls were made"),
             Reason::ManyKeys => f.write_str("there can be 8 keys at most"),
             Reason::KeyValue(row, name, fault) => write!(f, "row {row}: the key {name:?} {fault}"),
             _ => Ok(()),

@@ -4,11 +4,14 @@ ghost use Rattle.std.specs.Prelude.{◌≡◌, false};
 
 use crate::changing::{add_column, append, remove_rows, rewrite_groups, rewrite_small};
 use crate::explaining::{change_reason, question_reason, script_reason};
+use crate::first_rows::print_first_rows;
 use crate::folder::refusal_of;
 use crate::querying::{print_count, print_groups, print_rows, print_schema};
 use crate::reason::Reason;
+use crate::renewing::rewrite_all;
 use crate::running::run_script;
 use crate::texts::{owned, text_of};
+use crate::unless::{append_unless, import_unless};
 use bits::R;
 use dataset_words::{Change, Question};
 use disk::Disk;
@@ -53,10 +56,23 @@ fn answer<D: Disk, W: Write, E: Write>(
     ensures quiet { shows ≡ false → E.contents err.new ≡ E.contents err.old }
 {
     match question {
-        Question::Query { filter, columns } if columns.is_empty() => {
-            print_rows(alloc, store, *filter, None, out, err, shows)
+        Question::Query {
+            filter,
+            columns,
+            limit: Some(limit),
+        } => {
+            let names = owned(alloc, columns.as_slice())?;
+            let names = if names.is_empty() {
+                None
+            } else {
+                Some(names.as_slice())
+            };
+            print_first_rows(alloc, store, *filter, names, *limit, out)
         }
-        Question::Query { filter, columns } => {
+        Question::Query {
+            filter, columns, ..
+        } if columns.is_empty() => print_rows(alloc, store, *filter, None, out, err, shows),
+        Question::Query { filter, columns, .. } => {
             let names = owned(alloc, columns.as_slice())?;
             print_rows(
                 alloc,
@@ -106,6 +122,14 @@ fn change_store<D: Disk, E: Write>(
     ensures quiet { shows ≡ false → E.contents err.new ≡ E.contents err.old }
 {
     match change {
+        Change::Append {
+            unless: Some(filter),
+            ..
+        } => append_unless(alloc, store, filter, text_of(bytes)?, err, shows),
+        Change::Import {
+            unless: Some(filter),
+            ..
+        } => import_unless(alloc, store, filter, bytes),
         Change::Append { .. } => append(alloc, store, text_of(bytes)?, err, shows),
         Change::Import { .. } => store.import(alloc, bytes),
         Change::AddColumn { .. } => add_column(alloc, store, text_of(bytes)?),
@@ -113,6 +137,7 @@ fn change_store<D: Disk, E: Write>(
         Change::RemoveGroups { numbers } => store.remove_groups(alloc, numbers.as_slice()),
         Change::Rewrite { numbers } => rewrite_groups(alloc, store, numbers.as_slice()),
         Change::RewriteSmall { min_rows } => rewrite_small(alloc, store, *min_rows),
+        Change::RewriteAll => rewrite_all(alloc, store),
     }
 }
 

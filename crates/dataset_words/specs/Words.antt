@@ -5,26 +5,27 @@ use Rattle.dataset_words.specs.declared.call.Task.TheVariants.{Create, Ask, Chan
 use Rattle.dataset_words.specs.declared.call.Question.{Question}
 use Rattle.dataset_words.specs.declared.call.Question.TheVariants.{Query, Count, Groups, Schema}
 use Rattle.dataset_words.specs.declared.call.Change.{Change}
-use Rattle.dataset_words.specs.declared.call.Change.TheVariants.{Append, Import, AddColumn, Remove, RemoveGroups, Rewrite, RewriteSmall}
+use Rattle.dataset_words.specs.declared.call.Change.TheVariants.{Append, Import, AddColumn, Remove, RemoveGroups, Rewrite, RewriteSmall, RewriteAll}
 use Rattle.dataset_words.specs.declared.call.Look.{Look}
 use Rattle.dataset_words.specs.declared.call.Look.TheVariants.{Survey, Files, Rows}
 
 -- the word of a command that asks something of a dataset
 abbrev pub question_word : Question → List ℕ
-question_word (Query filter columns) = codes "query"
+question_word (Query filter columns limit) = codes "query"
 question_word (Count filter) = codes "count"
 question_word Groups = codes "groups"
 question_word Schema = codes "schema"
 
 -- the word of a command that changes a dataset
 abbrev pub change_word : Change → List ℕ
-change_word (Append rows) = codes "append"
-change_word (Import file) = codes "import"
+change_word (Append rows unless) = codes "append"
+change_word (Import file unless) = codes "import"
 change_word (AddColumn schema) = codes "add-column"
 change_word (Remove filter) = codes "remove"
 change_word (RemoveGroups numbers) = codes "remove"
 change_word (Rewrite numbers) = codes "rewrite"
 change_word (RewriteSmall min_rows) = codes "rewrite"
+change_word RewriteAll = codes "rewrite"
 
 -- the word of a command that looks at a dataset's files: `inspect` or `check`
 abbrev pub look_word : Look → List ℕ
@@ -38,4 +39,4 @@ task_word (Create schema keys) = codes "create"
 task_word (Ask question) = question_word question
 task_word (ToChange change) = change_word change
 task_word (LookAt look) = look_word look
-task_word (Run script) = codes "run"
+task_word (Run script stops) = codes "run"

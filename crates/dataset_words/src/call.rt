@@ -26,17 +26,18 @@ pub enum Task<'a> {
     Change(Change<'a>),
     /// Look at a dataset, which is not opened.
     Look(Look<'a>),
-    /// Make the calls of a file, one of each line, and print their answers.
-    Run { script: &'a str },
+    /// Make the calls of a file, one of each line, and print their answers; all of them, or up to the first that is refused.
+    Run { script: &'a str, stops: bool },
 }
 
 /// What is to be printed of a dataset.
 #[derive(Drop)]
 pub enum Question<'a> {
-    /// Rows: a filter, and the columns that are wanted, none for all.
+    /// Rows: a filter, the columns that are wanted, none for all, and how many rows at most.
     Query {
         filter: Option<&'a str>,
         columns: Vec<&'a str>,
+        limit: Option<u64>,
     },
     /// How many rows there are.
     Count {
@@ -51,10 +52,16 @@ pub enum Question<'a> {
 /// What is to be made of a dataset.
 #[derive(Drop)]
 pub enum Change<'a> {
-    /// The rows of a file, a line each, come in.
-    Append { rows: &'a str },
-    /// The rows of a Parquet file come in.
-    Import { file: &'a str },
+    /// The rows of a file, a line each, come in, unless some row of the dataset satisfies a filter.
+    Append {
+        rows: &'a str,
+        unless: Option<&'a str>,
+    },
+    /// The rows of a Parquet file come in, unless some row of the dataset satisfies a filter.
+    Import {
+        file: &'a str,
+        unless: Option<&'a str>,
+    },
     /// A column comes at the end; the file has its schema.
     AddColumn { schema: &'a str },
     /// The rows that satisfy a filter go.
@@ -65,6 +72,8 @@ pub enum Change<'a> {
     Rewrite { numbers: Vec<u64> },
     /// The rows of groups with fewer rows than this, where neighbours of one key have fewer too, are written anew, in full groups.
     RewriteSmall { min_rows: u64 },
+    /// The rows of all groups are written anew, in full groups.
+    RewriteAll,
 }
 
 /// What is to be said of the folder of a dataset.

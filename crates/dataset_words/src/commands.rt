@@ -81,6 +81,39 @@ fn either<'a>(alloc: Global, one: &'a str, other: &'a str) -> Result<ArgGroup<'a
     group.arg(one)?.arg(other)
 }
 
+/// How many rows are printed at most.
+pub fn limit_option<'a>(alloc: Global) -> Arg<'a> {
+    Arg::new(alloc, "limit")
+        .long("limit")
+        .value_name("N")
+        .value_parser(value_parser!(u64))
+        .help("Prints only the first N rows")
+}
+
+/// The filter that no row of the dataset may satisfy.
+fn unless_option<'a>(alloc: Global) -> Arg<'a> {
+    Arg::new(alloc, "unless")
+        .long("unless")
+        .value_name("JSON")
+        .help("Appends nothing if a row of the dataset satisfies this filter")
+}
+
+/// The flag by which all groups are rewritten.
+fn all_flag<'a>(alloc: Global) -> Arg<'a> {
+    Arg::new(alloc, "all")
+        .long("all")
+        .action(ArgAction::SetTrue)
+        .help("Rewrites all groups")
+}
+
+/// The flag by which a script ends at the first call that is refused.
+fn stop_flag<'a>(alloc: Global) -> Arg<'a> {
+    Arg::new(alloc, "stop")
+        .long("stop")
+        .action(ArgAction::SetTrue)
+        .help("Ends at the first call that is refused, with its refusal and status 1")
+}
+
 fn filter_option<'a>(alloc: Global, help: &'a str) -> Arg<'a> {
     Arg::new(alloc, "filter")
         .long("filter")
@@ -111,7 +144,8 @@ fn append_command<'a>(alloc: Global) -> Result<Command<'a>, Error> {
         .about(help::APPEND)
         .long_about(help::APPEND_LONG)
         .after_help(help::APPEND_EXAMPLE)
-        .arg(named(alloc, "ROWS", ROWS_HELP))?;
+        .arg(named(alloc, "ROWS", ROWS_HELP))?
+        .arg(unless_option(alloc))?;
     let append = with_options(alloc, append)?.arg(quiet_flag(alloc))?;
     Ok(append)
 }
@@ -121,7 +155,8 @@ fn import_command<'a>(alloc: Global) -> Result<Command<'a>, Error> {
         .about(help::IMPORT)
         .long_about(help::IMPORT_LONG)
         .after_help(help::IMPORT_EXAMPLE)
-        .arg(named(alloc, "FILE", "The Parquet file with the rows"))?;
+        .arg(named(alloc, "FILE", "The Parquet file with the rows"))?
+        .arg(unless_option(alloc))?;
     let import = with_options(alloc, import)?.arg(quiet_flag(alloc))?;
     Ok(import)
 }
@@ -132,6 +167,7 @@ fn query_command<'a>(alloc: Global) -> Result<Command<'a>, Error> {
         .long_about(help::QUERY_LONG)
         .after_help(help::QUERY_EXAMPLE)
         .arg(filter_option(alloc, "Prints only the rows that satisfy this filter"))?
+        .arg(limit_option(alloc))?
         .arg(words_named(
             alloc,
             "COLUMN",
@@ -204,7 +240,8 @@ fn rewrite_command<'a>(alloc: Global) -> Result<Command<'a>, Error> {
             "Rewrites groups of fewer rows that stand next to each other",
         ))?
         .arg(numbers_named(alloc, "The numbers of the groups to rewrite"))?
-        .group(either(alloc, "min-rows", "NUMBER")?)?;
+        .arg(all_flag(alloc))?
+        .group(either(alloc, "min-rows", "NUMBER")?.arg("all")?)?;
     let rewrite = with_options(alloc, rewrite)?.arg(quiet_flag(alloc))?;
     Ok(rewrite)
 }
@@ -218,7 +255,8 @@ fn run_command<'a>(alloc: Global) -> Result<Command<'a>, Error> {
             alloc,
             "SCRIPT",
             "The file with the calls, as lines of JSON; - is standard input",
-        ))?;
+        ))?
+        .arg(stop_flag(alloc))?;
     with_options(alloc, run)
 }
 

@@ -36,9 +36,11 @@ Refused 14 or 29 for the first line that is no row, after a line that has its nu
 (an empty text, or a longer name than 255 bytes), after a line that says which; 23 NoTable where DIR has no dataset.
 
 Refused 26 InDoubt where the disk failed at the moment of the commit: the rows are all there, or none is. So it is after a kill.
-`pqds count DIR`, compared with the count before, shows which. Where some filter holds for the new rows alone, a line that
-appends only if there are none can be run again, as by cron; the second example has one. Two such lines must not run side by
-side: each would count before the other appends.";
+`pqds count DIR`, compared with the count before, shows which.
+
+With --unless nothing is appended if a row of the dataset satisfies a filter (query says what a filter is): then it prints
+`done 0`. The count and the append are made under one lock. So a load with a filter that only its own rows satisfy can be run
+again, as by cron or after a kill; the second example has one.";
 
 pub const APPEND_EXAMPLE: &str = "\
 Example, at the top of the repository:
@@ -53,12 +55,13 @@ prints
 Example of a line that can be run again, here run twice:
 
     ./pqds create again sample/orders_table.schema.json
-    n=$(./pqds count again --filter '[[\"order\",\"==\",4]]') && { [ $n != 0 ] || ./pqds append again sample/later_orders.jsonl; }
-    n=$(./pqds count again --filter '[[\"order\",\"==\",4]]') && { [ $n != 0 ] || ./pqds append again sample/later_orders.jsonl; }
+    ./pqds append again sample/later_orders.jsonl --unless '[[\"order\",\"==\",4]]'
+    ./pqds append again sample/later_orders.jsonl --unless '[[\"order\",\"==\",4]]'
 
 prints
 
     done 1
+    done 0
 
 Rows come from a pipe by `-`, as in `zcat rows.jsonl.gz | ./pqds append again -`.";
 
@@ -69,6 +72,7 @@ Appends the rows of a Parquet file, and prints `done N`, N the number of rows. T
 dataset, with the key columns among them, in their order: name, repetition, type, length and annotation; else 4 Schema, after
 a line that shows the first column that differs, in the file and in the dataset. `pqds schema` prints all columns of both. The
 file is read as decode reads it, and refused as it refuses it; what the file says of itself besides its rows is not used.
+With --unless nothing is appended if a row of the dataset satisfies a filter, as append says it.
 
 Where standard error is a terminal, it shows how much was read from the disk and written to it so far; at the end that is
 removed. With --quiet it is not shown.
@@ -96,6 +100,11 @@ A filter is an array of ANDs, each an array of triples [column, operator, value]
 AND hold. One AND may stand alone, as an array of triples; the empty filter [] holds for every row. Operators: == (also =), !=,
 <, <=, >, >=, in, not in. A column is a name, or an array of the names on its path. A null satisfies no triple. A group of which
 the statistics show that no row satisfies is not read, nor are columns that are neither printed nor in the filter.
+
+`--filter @FILE` reads the filter from a file, `--filter @-` from standard input: a long list is longer than a command line. So
+does each option that takes a filter. Refused 25 Device where the file cannot be read.
+
+With --limit only the first N of these rows are printed. Groups after them are not read.
 
 Where standard error is a terminal and standard output is not, standard error shows after each 100000 rows how many were
 printed; at the end that is removed. With --quiet it is not shown.
@@ -210,18 +219,20 @@ pub const REWRITE_LONG: &str = "\
 Writes the rows of groups anew, and prints `done N`, N the number of rows. Groups that stand next to each other under one key
 become groups of `--group-rows` rows, the last of them with the rest; the rows stay, in their order. With NUMBERs it does so with
 these groups (groups prints the numbers); with --min-rows N with those that have fewer than N rows, and next to them a group of
-the same key that has fewer too. Where there are none, nothing is written: `done 0`. All of it is done or nothing, as append
+the same key that has fewer too; with --all with all groups: then all files have the style and the pages of this call, and the
+columns that were added later. Where there are none, nothing is written: `done 0`. All of it is done or nothing, as append
 says it.
 
 Where standard error is a terminal, it shows how much was read from the disk and written to it so far; at the end that is
 removed. With --quiet it is not shown.
 
-Refused 18 NoGroup for a number that no group has; 26 InDoubt as append: `pqds groups DIR` shows whether it is done. With both,
-or neither, it is a wrong call.";
+Refused 18 NoGroup for a number that no group has; 26 InDoubt as append: `pqds groups DIR` shows whether it is done. With two of
+these, or none, it is a wrong call.";
 
 pub const REWRITE_USAGE: &str = "\
 pqds rewrite [OPTIONS] <DIR> <NUMBER>...
-       pqds rewrite [OPTIONS] <DIR> --min-rows <N>";
+       pqds rewrite [OPTIONS] <DIR> --min-rows <N>
+       pqds rewrite [OPTIONS] <DIR> --all";
 
 pub const REWRITE_EXAMPLE: &str = "\
 Example, at the top of the repository:
@@ -282,7 +293,10 @@ the answer of each, a line of JSON. The calls:
 
 SCRIPT is read whole first. Where a line of it is no call, it is refused 14 or 29, after a line that has its number, and nothing
 is run. A call that is refused answers {\"name\":\"Full\",\"refused\":22}, and those after it are made; the status is 0 all the same.
-Each call is a commit of its own or none; the answers are printed when all are made.";
+Each call is a commit of its own or none; the answers are printed when all are made.
+
+With --stop a call that is refused is the last one: its answer is printed last, and then `run` is refused as that call is, after
+a line that says how many were made before it, such as `3 of 7 calls were made`. Their commits stay.";
 
 pub const RUN_EXAMPLE: &str = "\
 Example, at the top of the repository:

@@ -12,7 +12,7 @@ mod options;
 mod words;
 
 pub use call::{Call, Change, Look, Question, Task};
-pub use commands::{min_rows_option, quiet_flag, with_commands, with_waiting};
+pub use commands::{limit_option, min_rows_option, quiet_flag, with_commands, with_waiting};
 pub use datasets::Datasets;
 pub use options::{options_in, with_options};
-pub use words::{call_in, look_call, min_rows_in};
+pub use words::{call_in, limit_in, look_call, min_rows_in};

@@ -39,9 +39,11 @@ fn change_of_file<'a>(word: &str, matches: &ArgMatches<'a>) -> Option<Change<'a>
     match word {
         "append" => Some(Change::Append {
             rows: matches.get_str("ROWS")?,
+            unless: matches.get_str("unless"),
         }),
         "import" => Some(Change::Import {
             file: matches.get_str("FILE")?,
+            unless: matches.get_str("unless"),
         }),
         "add-column" => Some(Change::AddColumn {
             schema: matches.get_str("SCHEMA")?,
@@ -61,6 +63,7 @@ fn change_of_rows<'a>(alloc: Global, word: &str, matches: &ArgMatches<'a>) -> R<
                 numbers: numbers_in(alloc, matches)?,
             },
         },
+        "rewrite" if matches.get_flag("all") => Change::RewriteAll,
         "rewrite" => match matches.get_one::<u64>("min-rows") {
             Some(min_rows) => Change::RewriteSmall { min_rows },
             None => Change::Rewrite {
@@ -91,6 +94,7 @@ fn question_of<'a>(alloc: Global, word: &str, matches: &ArgMatches<'a>) -> R<Opt
         "query" => Question::Query {
             filter,
             columns: words_in(alloc, matches, "COLUMN")?,
+            limit: limit_in(matches),
         },
         "count" => Question::Count { filter },
         "groups" => Question::Groups,
@@ -113,7 +117,10 @@ fn task_of_file<'a>(alloc: Global, word: &str, matches: &ArgMatches<'a>) -> R<Op
             None => return Ok(None),
         },
         "run" => match matches.get_str("SCRIPT") {
-            Some(script) => Task::Run { script },
+            Some(script) => Task::Run {
+                script,
+                stops: matches.get_flag("stop"),
+            },
             None => return Ok(None),
         },
         _ => return Ok(None),
@@ -173,6 +180,11 @@ fn options_for(word: &str, matches: &ArgMatches<'_>) -> WriteOptions {
     } else {
         WriteOptions::standard()
     }
+}
+
+/// How many rows are printed at most, where the words say it.
+pub fn limit_in(matches: &ArgMatches<'_>) -> Option<u64> {
+    matches.get_one::<u64>("limit")
 }
 
 /// The number of rows below which a group is small, where the words do not say it: half of the default of `--group-rows`.
