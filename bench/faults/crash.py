@@ -457,7 +457,7 @@ class OfCommand:
             return None
         if last == ["refused 26 InDoubt"]:
             return command.tables if is_root_written(found) else None
-        if "all of it is made, but" in said:
+        if "the change was committed, but" in said:
             return command.tables if command.answers else [command.tables[-1]]
         if last == []:
             # Nothing could be said: the commit may be done.

@@ -11,7 +11,7 @@
 #     (all choices together, or where they are more than 256 all old, all new and each by itself). DIR itself is such a name.
 # Each folder is then opened by `query` and by `groups`, which change nothing there, and by `run`. They must find the table before
 # the command or the one after it (both by hand in bench/faults/crash.py), and after status 0 the one after it alone; after
-# `refused 25` and `refused 28` the one before it, but where the line before says that all of it is made: then the one after it
+# `refused 25` and `refused 28` the one before it, but where the line before says that the change was committed: then the one after it
 # alone (of a script, whose answers are lost, any); `refused 26` may come only when the next root was durable. After `run` no file
 # may be left that the table does not name, and others stay.
 # Where the table is the one before it, the command is made once more, which must be done, also if the power is cut then.

@@ -42,8 +42,7 @@ where
         let schema = match schema_in(alloc, bytes) {
             Ok(schema) => schema,
             Err(refusal) => {
-                let file = self.named_file().unwrap_or("");
-                *why = found(schema_reason(alloc, file, bytes));
+                *why = found(schema_reason(alloc, bytes));
                 return Err(refusal);
             }
         };
@@ -52,7 +51,7 @@ where
             *why = found(table_reason(alloc, &schema, keys.as_slice(), &refusal));
             return Err(refusal);
         }
-        let is_new = make_folder(self.rt, alloc, self.call.folder)?;
+        let is_new = make_folder(self.rt, alloc, self.call.folder, self.notes)?;
         let lock = self.lock(Access::Writes, err, why);
         let made = match &lock {
             Ok(_) => self.make_table_alone(&schema, keys.as_slice(), err, why),

@@ -1,24 +1,19 @@
 //! Which reason a refusal has, found after it: nothing here decides what is refused.
 
-use crate::filter_reason::filter_fault;
 use crate::import_reason::import_reason;
 use crate::key_reason::{keys_reason, rows_reason};
-use crate::part_reason::{damaged_part, is_of_bytes, unread_part, unread_part_of};
+use crate::part_reason::is_of_bytes;
 use crate::reason::Reason;
-use crate::row_lines::{line_without_row, rows_of};
-use crate::running::line_without_call;
+use crate::row_lines::rows_of;
 use crate::texts::{line_without_text, text_of};
 use bits::{R, Refusal};
 use dataset_words::{Change, Question};
 use disk::Disk;
-use jsonrows::schema_from;
-use manifest::Manifest;
-use reports::of_schema;
+use reasons::{call_fault, column_fault, filter_fault, large_value, row_fault, schema_fault};
 use schema::Schema;
 use std::alloc::Global;
 use std::io;
 use store::Store;
-use vault::Vault;
 
 /// Why no table is made of a schema and the names of its keys, where there is more to say than the refusal.
 pub fn table_reason(
@@ -35,26 +30,25 @@ pub fn table_reason(
     }
 }
 
-/// What is wrong with the schema of a file, if something is.
-pub fn schema_reason(alloc: Global, file: &str, bytes: &[u8]) -> R<Option<Reason>> {
+/// What is wrong with the schema of a file, if something is. The file's name is put before it later.
+pub fn schema_reason(alloc: Global, bytes: &[u8]) -> R<Option<Reason>> {
     let Ok(text) = text_of(bytes) else {
         return Ok(line_without_text(bytes).map(|line| Reason::Line(line)));
     };
-    let Err(refusal) = schema_from(alloc, text) else {
-        return Ok(None);
-    };
-    let misfit = of_schema(alloc, text, &refusal)?;
-    let (path, what) = (&misfit.path, &misfit.what);
-    let told = if path.is_empty() {
-        format!(in alloc; "{file}: {what}")?
-    } else {
-        format!(in alloc; "{file}: {path}: {what}")?
-    };
-    Ok(Some(Reason::Misfit(told)))
+    let fault = schema_fault(alloc, "", text)?;
+    Ok(fault.map(|fault| Reason::Text(fault)))
 }
 
-/// Why a question is refused, where there is more to say than the refusal. Where a part file cannot be read, the files
-/// before it are read once more.
+/// What is wrong with the column of a file that is to be added to a table of this schema, if something is.
+fn column_reason(alloc: Global, schema: &Schema, bytes: &[u8]) -> R<Option<Reason>> {
+    let Ok(text) = text_of(bytes) else {
+        return Ok(line_without_text(bytes).map(|line| Reason::Line(line)));
+    };
+    let fault = column_fault(alloc, schema, "", text)?;
+    Ok(fault.map(|fault| Reason::Text(fault)))
+}
+
+/// Why a question is refused, where there is more to say than the refusal.
 pub fn question_reason<D: Disk>(
     alloc: Global,
     store: &mut Store<D>,
@@ -62,7 +56,7 @@ pub fn question_reason<D: Disk>(
     refusal: &Refusal,
 ) -> R<Option<Reason>> {
     if is_of_parts(refusal) {
-        return part_reason(alloc, store, refusal);
+        return Ok(None);
     }
     match question {
         Question::Query { filter, columns, .. } => {
@@ -95,23 +89,20 @@ pub fn change_reason<D: Disk>(
             Ok(text) => append_reason(alloc, store, text, refusal),
             Err(_) => Ok(line_without_text(bytes).map(|line| Reason::Line(line))),
         },
-        Change::AddColumn { schema } => schema_reason(alloc, schema, bytes),
+        Change::AddColumn { .. } => column_reason(alloc, store.schema(), bytes),
         Change::Import { .. } => {
             import_reason(alloc, store.schema(), store.keys(), bytes, refusal)
         }
         Change::Remove { filter } if !is_of_parts(refusal) => {
             filter_reason(alloc, store.schema(), Some(filter))
         }
-        Change::Remove { .. }
-        | Change::Rewrite { .. }
-        | Change::RewriteSmall { .. }
-        | Change::RewriteAll
-            if is_of_parts(refusal) => { part_reason(alloc, store, refusal) }
+        Change::RemoveGroups { numbers } | Change::Rewrite { numbers }
+            if *refusal == Refusal::NoGroup => { group_reason(alloc, store, numbers.as_slice()) }
         _ => Ok(None),
     }
 }
 
-/// Why a script is refused: its first line that is no call.
+/// Why a script is refused: its first line that is no call, and what is wrong in it.
 pub fn script_reason<D: Disk>(
     alloc: Global,
     store: &Store<D>,
@@ -123,10 +114,26 @@ pub fn script_reason<D: Disk>(
     };
     match refusal {
         Refusal::Script | Refusal::RowShape => {
-            line_without_call(alloc, store.schema(), text).map(|line| Reason::Line(line))
+            let fault = call_fault(alloc, store.schema(), "", text).unwrap_or(None);
+            fault.map(|fault| Reason::Text(fault))
         }
         _ => None,
     }
+}
+
+/// The first of these numbers that no group has, if there is one.
+fn group_reason<D: Disk>(
+    alloc: Global,
+    store: &mut Store<D>,
+    numbers: &[u64],
+) -> R<Option<Reason>> {
+    let groups = store.groups(alloc)?;
+    for number in numbers {
+        if !groups.iter().any(|group| group.number == *number) {
+            return Ok(Some(Reason::NoGroup(*number)));
+        }
+    }
+    Ok(None)
 }
 
 /// The command that shows whether a change was done.
@@ -147,11 +154,16 @@ fn append_reason<D: Disk>(
 ) -> R<Option<Reason>> {
     match refusal {
         Refusal::Script | Refusal::RowShape => {
-            Ok(line_without_row(alloc, store.schema(), text).map(|line| Reason::Line(line)))
+            let fault = row_fault(alloc, store.schema(), "", text)?;
+            Ok(fault.map(|fault| Reason::Text(fault)))
         }
         Refusal::Key => {
             let rows = rows_of(alloc, store.schema(), text, &mut io::sink(), false)?;
             rows_reason(alloc, store.keys(), rows.as_slice())
+        }
+        Refusal::Limit => {
+            let fault = large_value(alloc, store.schema(), "", text)?;
+            Ok(fault.map(|fault| Reason::Large(fault)))
         }
         _ => Ok(None),
     }
@@ -190,32 +202,4 @@ fn columns_reason(alloc: Global, schema: &Schema, names: &[&str]) -> R<Option<Re
 /// Whether a refusal can be one of a part file: of its bytes, or of the disk.
 fn is_of_parts(refusal: &Refusal) -> bool {
     is_of_bytes(refusal) || *refusal == Refusal::Device
-}
-
-/// The first part file that is damaged; or where the disk failed, the first of which it gives nothing, if there is one.
-fn part_reason<D: Disk>(
-    alloc: Global,
-    store: &mut Store<D>,
-    refusal: &Refusal,
-) -> R<Option<Reason>> {
-    if *refusal == Refusal::Device {
-        let path = unread_part_of(alloc, store)?;
-        return Ok(path.map(|path| Reason::Unread(path)));
-    }
-    let path = damaged_part(alloc, store)?;
-    Ok(path.map(|path| Reason::Part(path)))
-}
-
-/// Why a table is not checked: the first part file of which the disk gives nothing, where the disk failed.
-pub fn check_reason<D: Disk>(
-    alloc: Global,
-    vault: &mut Vault<D>,
-    table: &Manifest,
-    refusal: &Refusal,
-) -> R<Option<Reason>> {
-    if *refusal != Refusal::Device {
-        return Ok(None);
-    }
-    let path = unread_part(alloc, vault, table)?;
-    Ok(path.map(|path| Reason::Unread(path)))
 }

@@ -2,6 +2,7 @@
 
 ghost use Rattle.std.specs.Prelude.{◌≡◌, ◌⊎◌};
 
+use crate::notes::Notes;
 use crate::tally::Tally;
 use crate::watched::Watched;
 use bits::{R, Refusal};
@@ -26,21 +27,40 @@ fn is_input(path: &str) -> bool {
     path == "-" || path == "/dev/stdin"
 }
 
-/// The bytes of a file of the host, all of them; `-` is the standard input. Refused Device where it cannot be read.
-pub fn bytes_of<F: Files + Input>(rt: &F, alloc: Global, path: &str) -> R<Vec<u8>> {
+/// The bytes of a file of the host, all of them; `-` is the standard input. Refused Device where it cannot be read, which is
+/// noted.
+pub fn bytes_of<F: Files + Input>(rt: &F, alloc: Global, path: &str, notes: &Notes) -> R<Vec<u8>> {
     if is_input(path) {
-        all_of(alloc, &mut rt.reader())
+        all_of(alloc, path, &mut rt.reader(), notes)
     } else {
-        let mut file = File::open(rt, path).map_err(refusal_of)?;
-        all_of(alloc, &mut file)
+        bytes_at(rt, alloc, path, notes)
     }
 }
 
+/// The bytes of the file of the host at a path, all of them. Refused Device where it cannot be read.
+pub fn bytes_at<F: Files>(rt: &F, alloc: Global, path: &str, notes: &Notes) -> R<Vec<u8>> {
+    match File::open(rt, path) {
+        Ok(file) => {
+            let mut file = file;
+            all_of(alloc, path, &mut file, notes)
+        }
+        Err(error) => Err(refused_at(path, error, notes)),
+    }
+}
+
+/// What is refused where the system refuses something at a path, which is noted.
+fn refused_at(path: &str, error: io::Error, notes: &Notes) -> Refusal {
+    notes.note_refused(path, error);
+    refusal_of(error)
+}
+
 /// All that a reader gives. Refused Device where it cannot be read.
-fn all_of<T: Read>(alloc: Global, reader: &mut T) -> R<Vec<u8>> {
+fn all_of<T: Read>(alloc: Global, path: &str, reader: &mut T, notes: &Notes) -> R<Vec<u8>> {
     let mut bytes = Vec::new(alloc);
-    reader.read_to_end(&mut bytes).map_err(refusal_of)?;
-    Ok(bytes)
+    match reader.read_to_end(&mut bytes) {
+        Ok(_) => Ok(bytes),
+        Err(error) => Err(refused_at(path, error, notes)),
+    }
 }
 
 /// Whether a folder is there.
@@ -57,25 +77,45 @@ pub fn disk_of<F: Files + Clone + Drop, S: Write + Drop>(
     alloc: Global,
     folder: &str,
     tally: Tally<S>,
+    notes: &Notes,
 ) -> R<Watched<HostDisk<F>, S>> {
     let files = rt.clone()?;
+    let notes = notes.shared()?;
+    let name = String::from_str(alloc, folder)?;
     let made = HostDisk::new(alloc, files, folder);
     match made.and_then(|disk| disk.with_files_like("_metadata")) {
-        Ok(disk) => Ok(Watched::new(disk, tally)),
+        Ok(disk) => Ok(Watched::new(disk, tally, notes, name)),
         Err(_) => Err(Refusal::Memory),
     }
 }
 
 /// Makes a folder where nothing is, and makes its name durable, also where it is there. Whether it was made. Refused Device
 /// where it cannot be made or the folder above it not be synced; then none is made.
-pub fn make_folder<F: Files>(rt: &F, alloc: Global, folder: &str) -> R<bool> {
-    let is_new = make_new(rt, folder).map_err(refusal_of)?;
-    let synced = sync_above(rt, alloc, folder);
+pub fn make_folder<F: Files>(rt: &F, alloc: Global, folder: &str, notes: &Notes) -> R<bool> {
+    let is_new = match make_new(rt, folder) {
+        Ok(is_new) => is_new,
+        Err(error) => {
+            note_unmade(folder, error, notes);
+            return Err(refusal_of(error));
+        }
+    };
+    let synced = sync_above(rt, alloc, folder, notes);
     if is_new && synced.is_err() {
         let _ = fs::remove_dir(rt, folder);
     }
     synced?;
     Ok(is_new)
+}
+
+/// Notes why a folder cannot be made, and what to do.
+fn note_unmade(folder: &str, error: io::Error, notes: &Notes) {
+    match error.kind() {
+        ErrorKind::NotFound => {
+            let advice = "`create` makes one folder, not those above it: make them first";
+            notes.note_with_advice(folder, error, advice);
+        }
+        _ => notes.note_refused(folder, error),
+    }
 }
 
 /// Makes a folder, unless something has its name. Whether it was made.
@@ -88,8 +128,19 @@ fn make_new<F: Files>(rt: &F, folder: &str) -> io::Result<bool> {
 }
 
 /// Syncs the folder in which this one is. Refused Device where that fails.
-fn sync_above<F: Files>(rt: &F, alloc: Global, folder: &str) -> R<()> {
+fn sync_above<F: Files>(rt: &F, alloc: Global, folder: &str, notes: &Notes) -> R<()> {
     let above = format!(in alloc; "{folder}/..")?;
-    let above = File::open(rt, above.as_str()).map_err(refusal_of)?;
-    above.sync_all().map_err(refusal_of)
+    match sync_at(rt, above.as_str()) {
+        Ok(()) => Ok(()),
+        // What has the folder's name is none.
+        Err(error) if error.kind() == ErrorKind::NotADirectory => {
+            Err(refused_at(folder, error, notes))
+        }
+        Err(error) => Err(refused_at(above.as_str(), error, notes)),
+    }
+}
+
+/// Syncs the folder at a path.
+fn sync_at<F: Files>(rt: &F, path: &str) -> io::Result<()> {
+    File::open(rt, path)?.sync_all()
 }

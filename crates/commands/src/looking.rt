@@ -15,9 +15,9 @@ use crate::reason::Reason;
 use crate::row_lines::rows_of;
 use bits::{R, Refusal};
 use disk::Disk;
-use jsonrows::row_from;
 use manifest::Manifest;
-use reports::{Misfit, Progress, of_line};
+use reasons::{large_value, row_fault};
+use reports::Progress;
 use schema::Schema;
 use std::alloc::Global;
 use std::io::Write;
@@ -111,12 +111,12 @@ fn first_refusal(findings: Vec<Finding>) -> R<()>
 
 /// Prints `ok N rows`, N the number of lines, where each line of a text is a row that a table takes.
 ///
-/// Refused as `row_from` refuses the first line that is no row, and Key for a row whose key has no folder; then `why` gets
+/// Refused as `row_from` refuses the first line that is no row, Key for a row whose key has no folder, and Limit for a
+/// value of more than 16,777,216 bytes, which no file of the dataset can have; then `why` gets
 /// the place and what is wrong there. Nothing is appended. Where `shows` says so, `err` shows how many rows were read so far.
 pub fn print_rows_fit<W: Write, E: Write>(
     alloc: Global,
     table: &Manifest,
-    file: &str,
     text: &str,
     out: &mut W,
     err: &mut E,
@@ -130,7 +130,7 @@ pub fn print_rows_fit<W: Write, E: Write>(
     let rows = match rows_of(alloc, table.schema(), text, err, shows) {
         Ok(rows) => rows,
         Err(refusal) => {
-            *why = misfit_reason(alloc, table.schema(), file, text).unwrap_or(None);
+            *why = misfit_reason(alloc, table.schema(), text).unwrap_or(None);
             return Err(refusal);
         }
     };
@@ -138,30 +138,17 @@ pub fn print_rows_fit<W: Write, E: Write>(
         *why = Some(reason);
         return Err(Refusal::Key);
     }
+    if let Some(fault) = large_value(alloc, table.schema(), "", text)? {
+        *why = Some(Reason::Large(fault));
+        return Err(Refusal::Limit);
+    }
     let count = rows.len();
     let line = format!(in alloc; "ok {count} rows\n")?;
     write_text(line.as_bytes(), out)
 }
 
-/// Where the first line is that is no row, and what is wrong there.
-fn misfit_reason(alloc: Global, schema: &Schema, file: &str, text: &str) -> R<Option<Reason>> {
-    for (place, line) in text.lines().enumerate() {
-        if row_from(alloc, schema, line).is_err() {
-            let misfit = match of_line(alloc, schema.fields(), line)? {
-                Some(misfit) => misfit,
-                None => Misfit::because(alloc, "no row of the dataset")?,
-            };
-            return Ok(Some(Reason::Misfit(told(alloc, file, place.saturating_add(1), &misfit)?)));
-        }
-    }
-    Ok(None)
-}
-
-/// A line of a file, and what is wrong in it.
-fn told(alloc: Global, file: &str, line: usize, misfit: &Misfit) -> R<String> {
-    let (path, what) = (&misfit.path, &misfit.what);
-    if path.is_empty() {
-        return Ok(format!(in alloc; "{file}:{line}: {what}")?);
-    }
-    Ok(format!(in alloc; "{file}:{line}: {path}: {what}")?)
+/// Why the rows of a text are none of a schema. The file's name is put before it later.
+fn misfit_reason(alloc: Global, schema: &Schema, text: &str) -> R<Option<Reason>> {
+    let fault = row_fault(alloc, schema, "", text)?;
+    Ok(fault.map(|fault| Reason::Text(fault)))
 }

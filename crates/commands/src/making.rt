@@ -2,12 +2,13 @@
 
 ghost use Rattle.std.specs.Prelude.{◌≡◌, false, OnOk};
 
-use crate::explaining::check_reason;
 use crate::filter_file::{filter_file, with_filter};
 use crate::folder::{bytes_of, disk_of, is_folder, refusal_of};
 use crate::folder_lock::locked;
+use crate::later_reason::Refused;
 use crate::lock::{Access, Lock, Patience};
 use crate::looking::{Checking, print_check, print_rows_fit, print_survey};
+use crate::notes::Notes;
 use crate::part_reason::is_of_bytes;
 use crate::querying::print_schema_of;
 use crate::reason::{Reason, print_reason};
@@ -20,7 +21,7 @@ use dataset_words::{Call, Change, Datasets, Look, Question, Task};
 use disk::HostDisk;
 use reports::Terminals;
 use std::alloc::Global;
-use std::io::{Input, Write};
+use std::io::{self, Input, Write};
 use std::rt::{Clock, Files};
 use upkeep::described;
 use vault::Vault;
@@ -56,28 +57,35 @@ where
         err: &mut E,
         terminals: Terminals,
     ) -> R<()> {
+        let notes = Notes::new(alloc)?;
         let making = Making {
             rt: self.files,
             screen: &self.screen,
             alloc,
             call,
             terminals,
+            notes: &notes,
         };
         let mut why = None;
         let made = match filter_file(call) {
             Some(path) => making.make_with_filter(path, out, err, &mut why),
             None => making.make(out, err, &mut why),
         };
-        let written = out.flush();
-        match made {
-            Ok(()) => written.map_err(refusal_of),
-            Err(refusal) => {
-                if let Some(reason) = &why {
-                    print_reason(reason, call.folder, err);
-                }
-                Err(refusal)
-            }
+        let flushed = out.flush();
+        let refusal = match (made, &flushed) {
+            (Ok(()), Ok(())) => return Ok(()),
+            (Ok(()), Err(error)) => refusal_of(*error),
+            (Err(refusal), _) => refusal,
+        };
+        let why = match why {
+            Some(reason) => Some(reason),
+            None => making.later_reason(&refusal, &flushed),
+        };
+        if let Some(reason) = &why {
+            let file = making.named_file().unwrap_or("");
+            print_reason(reason, call.folder, file, err);
         }
+        Err(refusal)
     }
 }
 
@@ -89,6 +97,7 @@ pub(crate) struct Making<'a, F, S> {
     pub(crate) alloc: Global,
     pub(crate) call: &'a Call<'a>,
     pub(crate) terminals: Terminals,
+    pub(crate) notes: &'a Notes,
 }
 
 impl<F: Files + Input + Clock + Clone + Drop, S: Write + Clone + Drop> Making<'_, F, S>
@@ -106,7 +115,7 @@ where
     ) -> R<()>
         ensures quiet { self.now.terminals.err ≡ false → E.contents err.new ≡ E.contents err.old }
     {
-        let bytes = bytes_of(self.rt, self.alloc, path)?;
+        let bytes = bytes_of(self.rt, self.alloc, path, self.notes)?;
         let call = match with_filter(self.alloc, self.call, bytes.as_slice()) {
             Ok(call) => call,
             Err(refusal) => {
@@ -120,8 +129,20 @@ where
             alloc: self.alloc,
             call: &call,
             terminals: self.terminals,
+            notes: self.notes,
         };
         making.make(out, err, why)
+    }
+
+    /// Why the call is refused, as far as that can be found when it is over; none where there is no memory for it.
+    fn later_reason(&self, refusal: &Refusal, flushed: &io::Result<()>) -> Option<Reason> {
+        let refused = Refused {
+            rt: self.rt,
+            alloc: self.alloc,
+            call: self.call,
+            notes: self.notes,
+        };
+        found(refused.reason(refusal, flushed))
     }
 
     /// Makes the call, and gives a writer what it is to print. Where it is refused, `why` may get the reason.
@@ -129,7 +150,7 @@ where
         ensures quiet { self.now.terminals.err ≡ false → E.contents err.new ≡ E.contents err.old }
     {
         let bytes = match self.named_file() {
-            Some(path) => bytes_of(self.rt, self.alloc, path)?,
+            Some(path) => bytes_of(self.rt, self.alloc, path, self.notes)?,
             None => Vec::new(self.alloc),
         };
         let bytes = bytes.as_slice();
@@ -198,7 +219,7 @@ where
     pub(crate) fn disk(&self, shows: bool) -> R<Watched<HostDisk<F>, S>> {
         let screen = self.screen.clone()?;
         let tally = Tally::new(self.alloc, screen, shows);
-        disk_of(self.rt, self.alloc, self.call.folder, tally)
+        disk_of(self.rt, self.alloc, self.call.folder, tally, self.notes)
     }
 
     /// Looks at the dataset, which is not opened.
@@ -226,14 +247,10 @@ where
             Look::Files => {
                 let screen = self.screen.clone()?;
                 let mut checking = Checking::new(alloc, &table, screen, shows);
-                let checked = print_check(alloc, &mut vault, &table, &mut checking, out);
-                if let Err(refusal) = &checked {
-                    *why = found(check_reason(alloc, &mut vault, &table, refusal));
-                }
-                checked
+                print_check(alloc, &mut vault, &table, &mut checking, out)
             }
-            Look::Rows { rows } => match text_of(bytes) {
-                Ok(text) => print_rows_fit(alloc, &table, rows, text, out, err, shows, why),
+            Look::Rows { .. } => match text_of(bytes) {
+                Ok(text) => print_rows_fit(alloc, &table, text, out, err, shows, why),
                 Err(refusal) => {
                     *why = line_without_text(bytes).map(|line| Reason::Line(line));
                     Err(refusal)
@@ -245,7 +262,7 @@ where
 
 /// Why no table is described, where there is more to say than the refusal.
 pub(crate) fn root_reason(refusal: &Refusal) -> Option<Reason> {
-    if is_of_bytes(refusal) && *refusal != Refusal::Limit {
+    if (is_of_bytes(refusal) && *refusal != Refusal::Limit) || *refusal == Refusal::Key {
         Some(Reason::Root)
     } else {
         None

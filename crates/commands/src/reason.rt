@@ -1,5 +1,6 @@
 //! Why a call is refused, in a sentence.
 
+use reasons::{Cause, FilterFault, LimitFault, TextFault};
 use reports::OneLine;
 use std::fmt::{self, Display, Formatter, Write as _};
 use std::io::Write;
@@ -7,12 +8,18 @@ use std::io::Write;
 /// Why a call is refused, where the refusal alone does not say it.
 #[derive(Drop)]
 pub enum Reason {
-    /// The line of this number, of ROWS or SCRIPT, is no row or no call.
+    /// The line of this number is not UTF-8.
     Line(u64),
-    /// A line of a file, with what is wrong in it.
-    Misfit(String),
+    /// What is wrong in the file that the call names. Its name is put before it.
+    Text(TextFault),
+    /// A cause that says all.
+    Told(Cause),
+    /// A value in the file that the call names has too many bytes.
+    Large(LimitFault),
     /// What is named as the folder is none.
     NoFolder,
+    /// What is named as the folder is a link to it.
+    Link,
     /// Another command has the folder.
     InUse,
     /// The folder cannot be locked.
@@ -21,13 +28,23 @@ pub enum Reason {
     ShutLock,
     /// `_metadata` is no description of a table.
     Root,
+    /// The folder has no `_metadata`.
+    NoRoot,
+    /// `_metadata` is a Parquet file of another tool.
+    OtherRoot,
+    /// What `_metadata` says of the part file at this path is not so.
+    RootOfPart(String),
+    /// `_metadata` has this many bytes, and would have too many; or another limit is exceeded.
+    Limits(u64),
+    /// No group has this number.
+    NoGroup(u64),
     /// The folder has a `_metadata`.
     HasRoot,
     /// The folder has part files that are no dataset's: this one.
     LoosePart(String),
     /// Whether the change was done is not known. This command shows it.
     InDoubt(&'static str),
-    /// All that was asked is made, and what came of it cannot be printed.
+    /// The change was committed, and its result cannot be printed.
     Unprinted,
     /// So many of the calls of a script were made before the one that is refused.
     Stopped { made: usize, calls: usize },
@@ -41,10 +58,10 @@ pub enum Reason {
     Filter(FilterFault),
     /// No column has this name.
     NoColumn(String),
-    /// The part file at this path is damaged or absent.
+    /// The part file at this path is damaged.
     Part(String),
-    /// The disk gives nothing of the part file at this path.
-    Unread(String),
+    /// There is no part file at this path.
+    NoPart(String),
     /// The key of this name is none.
     Key(String, KeyFault),
     /// As many keys are named as there are columns, or more.
@@ -61,30 +78,6 @@ pub enum Difference {
     Other { table: String, file: String },
     Lacks { table: String },
     More { file: String },
-}
-
-/// What is wrong with a filter.
-#[derive(Drop)]
-pub enum FilterFault {
-    /// The text is no JSON: this is where.
-    NoJson { column: usize },
-    /// The JSON of the filter is no array.
-    NoArray,
-    /// The filter has terms next to lists of terms.
-    Mixed,
-    /// A term of the filter that is none, and what is wrong with it.
-    Term { term: String, fault: TermFault },
-}
-
-/// What is wrong with a term.
-#[derive(Drop)]
-pub enum TermFault {
-    /// The term is not a column, an operator and a value.
-    Form,
-    NoColumn,
-    NoOrder,
-    /// The value is none of the column, which is shown as in a schema.
-    Value { column: String },
 }
 
 /// What is wrong with a key.
@@ -105,26 +98,64 @@ pub enum ValueFault {
 
 /// Says why a call on a folder is refused, in one line, whatever the names in it have. Where that cannot be written nothing
 /// is left to be said.
-pub fn print_reason<E: Write>(reason: &Reason, folder: &str, err: &mut E) {
-    let told = Told { reason, folder };
+pub fn print_reason<E: Write>(reason: &Reason, folder: &str, file: &str, err: &mut E) {
+    let told = Told {
+        reason,
+        folder,
+        file,
+    };
     let mut line = OneLine(&mut *err);
     if write!(line, "{told}").is_ok() {
         let _ = err.write_all(b"\n");
     }
 }
 
-/// A reason, and the folder that the call is on.
+/// A reason, the folder that the call is on, and the file that it names.
 #[derive(Drop)]
 struct Told<'a> {
     reason: &'a Reason,
     folder: &'a str,
+    file: &'a str,
 }
 
 impl Display for Told<'_> {
     fn fmt<W: fmt::Write>(&self, f: &mut Formatter<W>) -> fmt::Result {
-        let folder = self.folder;
+        let (folder, file) = (self.folder, self.file);
         match self.reason {
+            Reason::Line(line) => write!(f, "{file}:{line}: not UTF-8"),
+            Reason::Text(fault) => write!(f, "{file}{fault}"),
+            Reason::Large(fault) => write!(f, "{file}{fault}"),
+            Reason::KeyValue(row, name, fault) => {
+                write!(f, "{file}: row {row}: the key {name:?} {fault}")
+            }
+            Reason::NoRoot => write!(f, "{folder} has no dataset: there is no {folder}/_metadata"),
+            Reason::OtherRoot => {
+                write!(
+                    f,
+                    "{folder}/_metadata was not written by pqds: it describes no table"
+                )
+            }
+            Reason::RootOfPart(path) => {
+                write!(
+                    f,
+                    "{folder}/_metadata is damaged: what it says of {path} is not so"
+                )
+            }
+            Reason::NoGroup(number) => {
+                write!(
+                    f,
+                    "no group has the number {number}: `pqds groups {folder}` prints the numbers"
+                )
+            }
+            Reason::Limits(bytes) => write!(
+                f,
+                "{folder}/_metadata would be longer than 16777216 bytes (it has {bytes}), or a column would have more than 16777216 entries in a group, or a part file more than 2147483647 bytes: use fewer groups (rewrite --min-rows), fewer keys, or fewer rows in a group"
+            ),
             Reason::NoFolder => write!(f, "{folder} is no folder"),
+            Reason::Link => write!(
+                f,
+                "{folder} is a link: name it with a slash after it, {folder}/"
+            ),
             Reason::InUse => write!(f, "another command is using {folder}"),
             Reason::NoLocks => write!(
                 f,
@@ -142,8 +173,8 @@ impl Display for Told<'_> {
                 f,
                 "{folder}/{path} is there already: a new dataset would remove it, as it removes each such file that it does not name"
             ),
-            Reason::Part(path) => write!(f, "{folder}/{path} is damaged or absent"),
-            Reason::Unread(path) => write!(f, "{folder}/{path} cannot be read"),
+            Reason::Part(path) => write!(f, "{folder}/{path} is damaged"),
+            Reason::NoPart(path) => write!(f, "{folder}/{path}: No such file or directory"),
             Reason::InDoubt(word) => write!(
                 f,
                 "the disk failed at the commit: all of it is done, or nothing; `pqds {word} {folder}` shows which"
@@ -156,8 +187,7 @@ impl Display for Told<'_> {
 impl Display for Reason {
     fn fmt<W: fmt::Write>(&self, f: &mut Formatter<W>) -> fmt::Result {
         match self {
-            Reason::Line(line) => write!(f, "line {line} is not accepted, and nothing was done"),
-            Reason::Misfit(place) => write!(f, "{place}"),
+            Reason::Told(cause) => write!(f, "{cause}"),
             Reason::Columns(difference) => write!(f, "{difference}"),
             Reason::Compressed => {
                 f.write_str("the file is compressed: write it with compression=\"none\"")
@@ -168,11 +198,10 @@ impl Display for Reason {
             Reason::Key(name, fault) => write!(f, "the key {name:?} {fault}"),
             Reason::AllKeys => f.write_str("one column at least must be no key"),
             Reason::Unprinted => {
-                f.write_str("all of it is made, but what came of it could not be printed")
+                f.write_str("the change was committed, but the result could not be printed")
             }
             Reason::Stopped { made, calls } => write!(f, "{made} of {calls} calls were made"),
             Reason::ManyKeys => f.write_str("there can be 8 keys at most"),
-            Reason::KeyValue(row, name, fault) => write!(f, "row {row}: the key {name:?} {fault}"),
             _ => Ok(()),
         }
     }
@@ -186,32 +215,6 @@ impl Display for Difference {
             }
             Difference::Lacks { table } => write!(f, "the file lacks {table}"),
             Difference::More { file } => write!(f, "the file has {file} after the last column"),
-        }
-    }
-}
-
-impl Display for FilterFault {
-    fn fmt<W: fmt::Write>(&self, f: &mut Formatter<W>) -> fmt::Result {
-        match self {
-            FilterFault::NoJson { column } => {
-                write!(f, "the filter is no JSON, at column {column}")
-            }
-            FilterFault::NoArray => f.write_str("the filter is no array of terms"),
-            FilterFault::Mixed => f.write_str("the filter has terms beside lists of terms"),
-            FilterFault::Term { term, fault } => write!(f, "the term {term} {fault}"),
-        }
-    }
-}
-
-impl Display for TermFault {
-    fn fmt<W: fmt::Write>(&self, f: &mut Formatter<W>) -> fmt::Result {
-        match self {
-            TermFault::Form => f.write_str("is no [column, operator, value]"),
-            TermFault::NoColumn => f.write_str("names no column, or one in a repeated field"),
-            TermFault::NoOrder => {
-                f.write_str("asks for an order, and the values of the column have none")
-            }
-            TermFault::Value { column } => write!(f, "has no value of the column {column}"),
         }
     }
 }

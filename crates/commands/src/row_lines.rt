@@ -66,19 +66,3 @@ fn read_row(reader: &mut Reader<'_>, line: &str) -> R<Row>
 {
     reader.read(line)
 }
-
-/// The number of the first line that is no row, counted from 1. None where each line is one, or memory ran out.
-pub fn line_without_row(alloc: Global, schema: &Schema, text: &str) -> Option<u64> {
-    let Ok(mut reader) = Reader::new(alloc, schema) else {
-        return None;
-    };
-    let mut number: u64 = 1;
-    for line in text.lines() {
-        match reader.read(line) {
-            Ok(_) => number = number.saturating_add(1),
-            Err(Refusal::Memory) => return None,
-            Err(_) => return Some(number),
-        }
-    }
-    None
-}

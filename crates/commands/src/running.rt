@@ -83,19 +83,3 @@ pub fn calls_of(alloc: Global, schema: &Schema, text: &str) -> R<Vec<Call>>
     }
     Ok(calls)
 }
-
-/// The number of the first line that is no call, counted from 1. None where each line is one, or memory ran out.
-pub fn line_without_call(alloc: Global, schema: &Schema, text: &str) -> Option<u64> {
-    let Ok(mut reader) = reader_for(alloc, schema) else {
-        return None;
-    };
-    let mut number: u64 = 1;
-    for line in text.lines() {
-        match reader.read(alloc, line) {
-            Ok(_) => number = number.saturating_add(1),
-            Err(Refusal::Memory) => return None,
-            Err(_) => return Some(number),
-        }
-    }
-    None
-}

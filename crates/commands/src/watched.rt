@@ -2,25 +2,64 @@
 
 ghost use Rattle.std.specs.Prelude.{◌≡◌};
 
+use crate::notes::{Explains, Notes};
 use crate::tally::{Tally, Work};
 use disk::{Disk, Entry, Fault};
 use std::alloc::Global;
 use std::io::Write;
 
-/// A disk, and what it read and wrote so far. Each call is that of the disk, so that its state is the disk's own.
+/// A disk, what it read and wrote so far, and notes of what it refused. Each call is that of the disk, so that its state is
+/// the disk's own.
 #[derive(Drop)]
-pub struct Watched<D: Disk, S: Write + Drop> {
+pub struct Watched<D: Explains, S: Write + Drop> {
     disk: D,
     tally: Tally<S>,
+    notes: Notes,
+    folder: String,
 }
 
-impl<D: Disk, S: Write + Drop> Watched<D, S> {
-    /// Watches a disk.
-    pub fn new(disk: D, tally: Tally<S>) -> Watched<D, S>
+impl<D: Explains, S: Write + Drop> Watched<D, S> {
+    /// Watches the disk of a folder of the host.
+    pub fn new(disk: D, tally: Tally<S>, notes: Notes, folder: String) -> Watched<D, S>
         ensures disk { result.disk ≡ disk }
         ensures tally { result.tally ≡ tally }
     {
-        Watched { disk, tally }
+        Watched {
+            disk,
+            tally,
+            notes,
+            folder,
+        }
+    }
+
+    /// Notes what the disk refused last.
+    #[cold]
+    fn note(&self, fault: Fault) {
+        match fault {
+            Fault::Failed => {
+                if let Some(failure) = self.disk.failure() {
+                    self.notes.note_failure(self.folder.as_str(), failure);
+                }
+            }
+            Fault::Absent => {
+                if let Some(failure) = self.disk.absence()
+                    && let Some(path) = &failure.path
+                {
+                    self.notes.note_absent(path.as_str());
+                }
+            }
+            Fault::Exists | Fault::Memory => {}
+        }
+    }
+
+    /// The answer of a call of the disk. What it refused is noted.
+    fn noted<T: Drop>(&self, answer: Result<T, Fault>) -> Result<T, Fault>
+        ensures { result ≡ answer }
+    {
+        if let Err(fault) = &answer {
+            self.note(*fault);
+        }
+        answer
     }
 
     /// Takes what is shown off the screen.
@@ -31,7 +70,7 @@ impl<D: Disk, S: Write + Drop> Watched<D, S> {
     }
 }
 
-impl<D: Disk, S: Write + Drop> Disk for Watched<D, S> {
+impl<D: Explains, S: Write + Drop> Disk for Watched<D, S> {
     ghost state = { λ watched. D.state watched.disk };
 
     ghost lawful = { λ watched. D.lawful watched.disk };
@@ -41,11 +80,12 @@ impl<D: Disk, S: Write + Drop> Disk for Watched<D, S> {
         if answer.is_ok() {
             self.tally.count(Work::Made);
         }
-        answer
+        self.noted(answer)
     }
 
     fn make_folder(&mut self, path: &str) -> Result<(), Fault> {
-        self.disk.make_folder(path)
+        let answer = self.disk.make_folder(path);
+        self.noted(answer)
     }
 
     fn read_range(
@@ -58,16 +98,19 @@ impl<D: Disk, S: Write + Drop> Disk for Watched<D, S> {
         let answer = self.disk.read_range(alloc, path, from, len);
         if let Ok(bytes) = &answer {
             self.tally.count(Work::Read(bytes.len()));
+            self.notes.note_read(path);
         }
-        answer
+        self.noted(answer)
     }
 
     fn length(&mut self, path: &str) -> Result<u64, Fault> {
-        self.disk.length(path)
+        let answer = self.disk.length(path);
+        self.noted(answer)
     }
 
     fn list(&mut self, alloc: Global, folder: &str) -> Result<Vec<Entry>, Fault> {
-        self.disk.list(alloc, folder)
+        let answer = self.disk.list(alloc, folder);
+        self.noted(answer)
     }
 
     fn append(&mut self, path: &str, bytes: &[u8]) -> Result<(), Fault> {
@@ -75,23 +118,27 @@ impl<D: Disk, S: Write + Drop> Disk for Watched<D, S> {
         if answer.is_ok() {
             self.tally.count(Work::Wrote { path, bytes });
         }
-        answer
+        self.noted(answer)
     }
 
     fn sync(&mut self, path: &str) -> Result<(), Fault> {
-        self.disk.sync(path)
+        let answer = self.disk.sync(path);
+        self.noted(answer)
     }
 
     fn sync_folder(&mut self, folder: &str) -> Result<(), Fault> {
-        self.disk.sync_folder(folder)
+        let answer = self.disk.sync_folder(folder);
+        self.noted(answer)
     }
 
     fn rename(&mut self, source: &str, target: &str) -> Result<(), Fault> {
-        self.disk.rename(source, target)
+        let answer = self.disk.rename(source, target);
+        self.noted(answer)
     }
 
     fn remove(&mut self, path: &str) -> Result<(), Fault> {
-        self.disk.remove(path)
+        let answer = self.disk.remove(path);
+        self.noted(answer)
     }
 
     fn failures(&self) -> u64 {

@@ -19,7 +19,8 @@ const TWO_ROWS: [u8; 140] = [
 ];
 
 /// What both calls write to standard error.
-const REFUSED_TWICE: &str = "refused 25 Device\nrefused 25 Device\n";
+const REFUSED_TWICE: &str = "standard output could not be written\nrefused 25 Device\n\
+the reader closed the pipe\nrefused 25 Device\n";
 
 /// No output is a terminal.
 const NO_TERMINALS: Terminals = Terminals {

@@ -18,14 +18,14 @@ fn put(rt: &HostRuntime, path: &str, room: usize, syncs: bool) -> R<()> {
         room,
         syncs,
     };
-    put_new(&files, rt.alloc(), path, b"whole")
+    put_new(&files, rt.alloc(), path, b"whole", &mut None)
 }
 
 /// Whether a new file is refused, and neither it nor the first name that it has while it is made is there.
 fn is_taken_away(rt: &HostRuntime, room: usize, syncs: bool) -> bool {
     put(rt, "faulty.bytes", room, syncs) == Err(Refusal::Device)
         && !is_there(rt, "faulty.bytes")
-        && !is_there(rt, "faulty.bytes.new-0")
+        && !is_there(rt, "pqds.new-0")
 }
 
 #[test]
@@ -37,14 +37,14 @@ fn a_file_that_is_not_filled_or_not_synced_is_taken_away(rt: HostRuntime) {
 
 #[test]
 fn a_path_with_a_nul_is_refused(rt: HostRuntime) {
-    let put = put_new(&rt, rt.alloc(), "nul\u{0}.bytes", b"bytes");
+    let put = put_new(&rt, rt.alloc(), "nul\u{0}.bytes", b"bytes", &mut None);
     assert!(rt; put == Err(Refusal::Device));
 }
 
 #[test]
 fn a_host_without_links_has_the_file_in_place(rt: HostRuntime) -> Result<(), Fail> {
     let put = put(&rt, "linkless.bytes", 5, true);
-    let is_left = is_there(&rt, "linkless.bytes.new-0");
+    let is_left = is_there(&rt, "pqds.new-0");
     let bytes = fs::read(&rt, "linkless.bytes")?;
     fs::remove_file(&rt, "linkless.bytes")?;
     assert!(rt; put.is_ok() && !is_left && bytes.as_slice() == b"whole".as_slice());

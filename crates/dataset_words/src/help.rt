@@ -32,7 +32,7 @@ keeps the rules of docs/DISK.md; whether yours does is not known to the program.
 Where standard error is a terminal, it shows after each 100000 rows how many were read, and then how much was read from the
 disk and written to it so far; at the end that is removed. With --quiet it is not shown.
 
-Refused 14 or 29 for the first line that is no row, after a line that has its number; 17 Key for a row whose key has no folder
+Refused 14 or 29 for the first line that is no row, after a line that says which and why; 17 Key for a row whose key has no folder
 (an empty text, or a longer name than 255 bytes), after a line that says which; 23 NoTable where DIR has no dataset.
 
 Refused 26 InDoubt where the disk failed at the moment of the commit: the rows are all there, or none is. So it is after a kill.
@@ -111,7 +111,7 @@ printed; at the end that is removed. With --quiet it is not shown.
 
 A reader that closes the output early, as head does, ends the call with `refused 25 Device`.
 
-Refused 14, 15, 16 or 29 for the filter, after a line that says for which of its triples and why; 15 NoColumn for a COLUMN that
+Refused 14, 15, 16 or 29 for the filter, after a line that says for which of its terms and why; 15 NoColumn for a COLUMN that
 is not there; 1 to 13 for a damaged part file, after a line that has its path. The rows before it are printed then.";
 
 pub const QUERY_EXAMPLE: &str = "\
@@ -291,7 +291,7 @@ the answer of each, a line of JSON. The calls:
     {\"call\":\"add_column\",\"field\":{..}}          a column, as in a schema: {\"done\":0}; later lines are read with it
     {\"call\":\"reopen\"}                           the dataset is opened again, without jobs and cursors: {\"ok\":true}
 
-SCRIPT is read whole first. Where a line of it is no call, it is refused 14 or 29, after a line that has its number, and nothing
+SCRIPT is read whole first. Where a line of it is no call, it is refused 14 or 29, after a line that says which and why, and nothing
 is run. A call that is refused answers {\"name\":\"Full\",\"refused\":22}, and those after it are made; the status is 0 all the same.
 Each call is a commit of its own or none; the answers are printed when all are made.
 

@@ -8,12 +8,16 @@ use std::env;
 use std::io::{BufWriter, IsTerminal};
 use std::process::ExitCode;
 
+/// How many bytes of the output are gathered. They are more than what is handed over at once, so that what could not be written
+/// is still there, and why can be asked.
+const BUFFER_BYTES: usize = 2 * OUTPUT_BUFFER_BYTES;
+
 /// The status of the program, which is then done. An argument that is not UTF-8 cannot be handed over.
 fn run(rt: &HostRuntime) -> R<u8> {
     let alloc = rt.alloc();
     let words = env::args(rt).map_err(|error| refusal_of(error))?;
     let words: Vec<String> = words.skip(1).collect(alloc)?;
-    let gathered = BufWriter::with_capacity(alloc, OUTPUT_BUFFER_BYTES, rt.stdout());
+    let gathered = BufWriter::with_capacity(alloc, BUFFER_BYTES, rt.stdout());
     let mut out = gathered.map_err(|error| refusal_of(error))?;
     let terminals = Terminals {
         out: rt.stdout().is_terminal(),

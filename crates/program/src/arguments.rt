@@ -15,6 +15,10 @@ use dataset_words::{
 use footer::WriteOptions;
 use std::alloc::Global;
 
+/// What is said where two files are the standard input.
+const INPUT_TWICE: &str =
+    "error: the standard input, -, can be only one of the files (./- names a file)\n";
+
 /// What the words ask for.
 #[derive(Drop)]
 pub enum Call<'a> {
@@ -57,12 +61,25 @@ pub fn call_of<'a>(alloc: Global, words: &'a [String]) -> R<Result<Call<'a>, Str
         Err(error) => return Ok(Err(error_text(alloc, &error)?)),
     };
     if let Some(call) = call_in(words, &matches) {
+        if reads_input_twice(&call) {
+            return Ok(Err(String::from_str(alloc, INPUT_TWICE)?));
+        }
         return Ok(Ok(call));
     }
     match dataset_call(alloc, words, &matches)? {
         Some(call) => Ok(Ok(call)),
         // The files are required, so that this does not come.
         None => Ok(Err(String::new(alloc))),
+    }
+}
+
+/// Whether a call names the standard input for two of its files.
+fn reads_input_twice(call: &Call<'_>) -> bool {
+    match call {
+        Call::Encode { sources, .. } | Call::Check { sources, .. } => {
+            sources.schema == "-" && sources.rows == "-"
+        }
+        _ => false,
     }
 }
 

@@ -11,10 +11,11 @@ use crate::host::{bytes_of, is_folder};
 use crate::inspect::inspect;
 use bits::{R, Refusal};
 use dataset_words::Datasets;
+use reasons::{Cause, output_cause};
 use reports::{OneLine, Terminals};
 use std::alloc::Global;
 use std::fmt::Write as _;
-use std::io::Write;
+use std::io::{Input, Write};
 use std::rt::Files;
 
 /// The program did what it was called for.
@@ -39,14 +40,14 @@ pub fn refuse<E: Write>(err: &mut E, refusal: &Refusal) -> u8
 /// What the program does for these arguments, which begin after its name; returns its status.
 ///
 /// Status 0: done, and `out` has what was asked for; of `encode` it has nothing, and the new file is there.
-/// Status 1: refused, with one line on `err`, such as `refused 6 Float a.b`, before which `check` says why; `out`
+/// Status 1: refused, with one line on `err`, such as `refused 6 Float a.b`, before which mostly stands one that says why; `out`
 /// has nothing new where the file itself was refused, and no file was made. Status 2: the arguments are no call of
 /// the program, or ask for help, and `err` has the text on its use.
 ///
 /// `terminals` says which of both are terminals. Where `err` is one, and `--quiet` is not among the arguments, `decode`,
 /// `encode` and calls on a dataset show on it how far they are, and take that away again at the end; and a call on a
 /// dataset says there what it waits for. `datasets` makes the calls on datasets.
-pub fn work<F: Files, W: Write, E: Write, M: Datasets<W, E>>(
+pub fn work<F: Files + Input, W: Write, E: Write, M: Datasets<W, E>>(
     rt: &F,
     alloc: Global,
     words: &[String],
@@ -71,9 +72,24 @@ pub fn work<F: Files, W: Write, E: Write, M: Datasets<W, E>>(
         Err(refusal) => return refuse(err, &refusal),
     };
     let terminals = terminals_for(words, terminals);
-    match make(rt, alloc, &call, out, err, terminals, datasets) {
+    let mut why = None;
+    match make(rt, alloc, &call, out, err, terminals, datasets, &mut why) {
         Ok(()) => DONE,
-        Err(refusal) => refuse(err, &refusal),
+        Err(refusal) => {
+            if let Some(cause) = &why {
+                say(err, cause);
+            }
+            refuse(err, &refusal)
+        }
+    }
+}
+
+/// Says why a call was refused, in one line, whatever the names in it have. Where that cannot be written nothing is left to
+/// be said.
+fn say<E: Write>(err: &mut E, cause: &Cause) {
+    let mut line = OneLine(&mut *err);
+    if write!(line, "{cause}").is_ok() {
+        let _ = err.write_all(b"\n");
     }
 }
 
@@ -96,8 +112,8 @@ fn terminals_for(words: &[String], terminals: Terminals) -> Terminals
     }
 }
 
-/// Makes the call. Progress is shown where `err` is a terminal; of lines that go to a terminal too, none.
-fn make<F: Files, W: Write, E: Write, M: Datasets<W, E>>(
+/// Makes the call; where it is refused, `why` may get the reason. Progress is shown where `err` is a terminal; of lines that go to a terminal too, none.
+fn make<F: Files + Input, W: Write, E: Write, M: Datasets<W, E>>(
     rt: &F,
     alloc: Global,
     call: &Call<'_>,
@@ -105,6 +121,7 @@ fn make<F: Files, W: Write, E: Write, M: Datasets<W, E>>(
     err: &mut E,
     terminals: Terminals,
     datasets: &M,
+    why: &mut Option<Cause>,
 ) -> R<()>
     ensures done { OnOk result (Does (M.prints datasets.now) call.now (W.contents out.old) (W.contents out.new)) }
     ensures silent { word_of call.now ≡ codes "encode" → W.contents out.new ≡ W.contents out.old }
@@ -112,22 +129,52 @@ fn make<F: Files, W: Write, E: Write, M: Datasets<W, E>>(
 {
     match call {
         Call::Decode { file } => {
-            let bytes = bytes_of(rt, alloc, file)?;
+            let bytes = bytes_of(rt, alloc, file, why)?;
             let shows = terminals.shows_beside_output();
-            decode(alloc, bytes.as_slice(), out, err, shows)
+            match decode(alloc, bytes.as_slice(), out, err, shows) {
+                Ok(()) => Ok(()),
+                Err(refusal) => Err(with_output(alloc, refusal, out, why)),
+            }
         }
-        Call::Encode { sources, file } => encode(rt, alloc, sources, file, err, terminals.err),
+        Call::Encode { sources, file } => encode(rt, alloc, sources, file, err, terminals.err, why),
         Call::Inspect { file, table, .. } if is_folder(rt, file) => {
             datasets.make(alloc, table, out, err, terminals)
         }
         Call::Inspect { file, as_json, .. } => {
-            let bytes = bytes_of(rt, alloc, file)?;
-            inspect(alloc, bytes.as_slice(), *as_json, out)
+            let bytes = bytes_of(rt, alloc, file, why)?;
+            match inspect(alloc, bytes.as_slice(), *as_json, out) {
+                Ok(()) => Ok(()),
+                Err(refusal) => Err(with_output(alloc, refusal, out, why)),
+            }
         }
         Call::Check { sources, table } if is_folder(rt, sources.schema) => {
             datasets.make(alloc, table, out, err, terminals)
         }
-        Call::Check { sources, .. } => check(rt, alloc, sources, out, err),
+        Call::Check { sources, .. } => {
+            match check(rt, alloc, sources, out, err, why) {
+                Ok(()) => Ok(()),
+                Err(refusal) => Err(with_output(alloc, refusal, out, why)),
+            }
+        }
         Call::Dataset { call } => datasets.make(alloc, call, out, err, terminals),
     }
+}
+
+/// The same refusal. Where it is Device, for no reason that is known, `why` gets what the output is refused for: it is asked
+/// once more.
+fn with_output<W: Write>(
+    alloc: Global,
+    refusal: Refusal,
+    out: &mut W,
+    why: &mut Option<Cause>,
+) -> Refusal
+    ensures { result ≡ refusal }
+{
+    if why.is_none() && refusal == Refusal::Device {
+        *why = match out.flush() {
+            Ok(()) => Some(Cause::Output),
+            Err(error) => output_cause(alloc, error).ok(),
+        };
+    }
+    refusal
 }

@@ -10,16 +10,18 @@ ghost use Rattle.rowtext.specs.Reader.{schema_of as fields_of, IsRowOf};
 ghost use Rattle.program.specs.Program.{IsRefusedLine, AreRowTexts, HasFirstFault, IsFileOf, HaveFile, AreRefusedTexts, AreRefusedFiles};
 ghost use Rattle.program.specs.inner.Lines.{IsFileOfLines, IsLinesRefusal, IsLineRefusal, AreTooMuch, HasLine};
 
-use crate::host::{put_new, text_of, whole_of};
+use crate::check::cause_of;
+use crate::host::{put_new, text_in, whole_of};
 use crate::text_lines::split_line;
 use assemble::{Discard, RowSink};
 use bits::{R, Refusal};
 use footer::{FileWriter, WriteOptions};
 use jsonrows::{Reader, schema_from};
+use reasons::Cause;
 use reports::Progress;
 use schema::Schema;
 use std::alloc::Global;
-use std::io::Write;
+use std::io::{Input, Write};
 use std::rt::Files;
 
 /// What a file is made from: the paths of both texts, and how it is written.
@@ -66,25 +68,47 @@ pub fn encoded<E: Write>(
 /// Makes the file at `path` of the texts. The bytes of both files are read before either is looked at, and
 /// the new file is begun when all of its bytes are there. Refused Device where a file cannot be read, Script
 /// where it is not UTF-8, as `encoded` refuses the texts, or as `put_new` refuses the path; then no file is
-/// made. Where `shows` says so, `err` shows how many rows were read so far.
-pub fn encode<F: Files, E: Write>(
+/// made. Then `why` gets the reason. Where `shows` says so, `err` shows how many rows were read so far.
+pub fn encode<F: Files + Input, E: Write>(
     rt: &F,
     alloc: Global,
     sources: &Sources<'_>,
     path: &str,
     err: &mut E,
     shows: bool,
+    why: &mut Option<Cause>,
 ) -> R<()>
     ensures options { OnOk result (HaveFile sources.now.options) }
     ensures which { RefusedOnly (AreRefusedFiles sources.now.options) result }
     ensures quiet { shows ≡ false → E.contents err.new ≡ E.contents err.old }
 {
-    let schema_bytes = whole_of(rt, alloc, sources.schema)?;
-    let rows_bytes = whole_of(rt, alloc, sources.rows)?;
-    let schema_text = text_of(schema_bytes.as_slice())?;
-    let rows_text = text_of(rows_bytes.as_slice())?;
-    let file = encoded(alloc, schema_text, rows_text, &sources.options, err, shows)?;
-    put_new(rt, alloc, path, file.as_slice())
+    let schema_bytes = whole_of(rt, alloc, sources.schema, why)?;
+    let rows_bytes = whole_of(rt, alloc, sources.rows, why)?;
+    let schema_text = text_in(alloc, sources.schema, schema_bytes.as_slice(), why)?;
+    let rows_text = text_in(alloc, sources.rows, rows_bytes.as_slice(), why)?;
+    let file = file_of(alloc, sources, schema_text, rows_text, err, shows, why)?;
+    put_new(rt, alloc, path, file.as_slice(), why)
+}
+
+/// The bytes of the file of two texts, which are refused as [`encoded`] refuses them; then `why` gets the reason.
+fn file_of<E: Write>(
+    alloc: Global,
+    sources: &Sources<'_>,
+    schema_text: &str,
+    rows_text: &str,
+    err: &mut E,
+    shows: bool,
+    why: &mut Option<Cause>,
+) -> R<Vec<u8>>
+    ensures stands { IfOk result (λ file. IsFileOf sources.now.options schema_text.now rows_text.now file.items) }
+    ensures which { IfErr result (AreRefusedTexts sources.now.options schema_text.now rows_text.now) }
+    ensures quiet { shows ≡ false → E.contents err.new ≡ E.contents err.old }
+{
+    let made = encoded(alloc, schema_text, rows_text, &sources.options, err, shows);
+    if let Err(refusal) = &made {
+        *why = cause_of(alloc, sources, schema_text, rows_text, refusal).unwrap_or(None);
+    }
+    made
 }
 
 /// Shows a sink the values of the row of a line. Refused as `row_from` refuses the line, and then it is shown nothing.

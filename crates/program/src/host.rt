@@ -4,19 +4,26 @@ ghost use Rattle.std.specs.Prelude.{◌≡◌, ◌⊎◌, ◌↔◌, ◌≤◌, 
 ghost use Rattle.std.specs.Str.{IsUtf8};
 ghost use Rattle.std.specs.IoError.{error_kind};
 ghost use Rattle.std.specs.Io.KnownBytes.{Appends};
-ghost use Rattle.bits.specs.Refusals.{RefusedOnly};
+ghost use Rattle.bits.specs.Refusals.{RefusedOnly, RefusedMemoryOnly};
 ghost use Rattle.bits.specs.declared.refusal.Refusal.TheVariants.{Memory, Exists, Device, Script};
 ghost use Rattle.program.specs.Program.{greatest_file};
 
 use bits::{R, Refusal};
+use reasons::{Cause, SystemFault, system_fault, utf8_fault};
 use simdutf8::basic::from_utf8;
 use std::alloc::Global;
 use std::fs::{self, File, OpenFile};
-use std::io::{self, ErrorKind, Read, Write};
+use std::io::{self, ErrorKind, Input, Read, Write};
 use std::rt::Files;
 
 /// One byte more than a file may have.
 const MORE_THAN_A_FILE: u64 = 2_147_483_648;
+
+/// The number that the system gives the error "File exists".
+const FILE_EXISTS: i32 = 17;
+
+/// The path that is the standard input.
+const INPUT: &str = "-";
 
 /// How many bytes are gathered before they are written.
 pub const OUTPUT_BUFFER_BYTES: usize = 65_536;
@@ -35,32 +42,89 @@ pub fn refusal_of(error: io::Error) -> Refusal
     }
 }
 
-/// The bytes of a file of the host, but no more than are needed to see that it is too long. Refused
-/// Device where it cannot be read. Room for as many bytes as it is said to have is asked for at once.
-pub fn bytes_of<F: Files>(rt: &F, alloc: Global, path: &str) -> R<Vec<u8>>
+/// What is refused where the system refuses something at a path; `why` gets its words.
+fn refused_at(alloc: Global, path: &str, error: io::Error, why: &mut Option<Cause>) -> Refusal
+    ensures which { (result ≡ Memory) ⊎ (result ≡ Device) }
+{
+    if let Ok(fault) = system_fault(alloc, path, error) {
+        *why = Some(Cause::System(fault));
+    }
+    refusal_of(error)
+}
+
+/// All that a reader gives, with room for so many bytes at first. Refused Device where it cannot be read; then `why` gets the
+/// path and the system's words.
+fn all_of<T: Read>(
+    alloc: Global,
+    path: &str,
+    reader: &mut T,
+    room: usize,
+    why: &mut Option<Cause>,
+) -> R<Vec<u8>>
+    ensures which { RefusedOnly (λ e. e ≡ Device) result }
+{
+    let mut bytes = Vec::with_capacity(alloc, room)?;
+    match reader.read_to_end(&mut bytes) {
+        Ok(_) => Ok(bytes),
+        Err(error) => Err(refused_at(alloc, path, error, why)),
+    }
+}
+
+/// The file of the host at a path, opened. Refused as [`all_of`].
+fn opened<F: Files>(rt: &F, alloc: Global, path: &str, why: &mut Option<Cause>) -> R<F::File>
+    ensures which { RefusedOnly (λ e. e ≡ Device) result }
+{
+    match File::open(rt, path) {
+        Ok(file) => Ok(file),
+        Err(error) => Err(refused_at(alloc, path, error, why)),
+    }
+}
+
+/// The bytes of a file of the host, but no more than are needed to see that it is too long; `-` is the standard input.
+/// Refused Device where it cannot be read; then `why` gets the path and the system's words. Room for as many bytes as it is
+/// said to have is asked for at once.
+pub fn bytes_of<F: Files + Input>(
+    rt: &F,
+    alloc: Global,
+    path: &str,
+    why: &mut Option<Cause>,
+) -> R<Vec<u8>>
     ensures limit { MORE_THAN_A_FILE ≡ greatest_file + 1 }
     ensures which { RefusedOnly (λ e. e ≡ Device) result }
 {
-    let file = File::open(rt, path).map_err(refusal_of)?;
-    let mut bytes = Vec::with_capacity(alloc, room_for(&file))?;
+    if path == INPUT {
+        let mut front = rt.reader().take(MORE_THAN_A_FILE);
+        return all_of(alloc, path, &mut front, 0, why);
+    }
+    let file = opened(rt, alloc, path, why)?;
+    let room = room_for(&file);
     let mut front = file.take(MORE_THAN_A_FILE);
-    front.read_to_end(&mut bytes).map_err(refusal_of)?;
-    Ok(bytes)
+    all_of(alloc, path, &mut front, room, why)
 }
 
-/// The bytes of a file of the host, all of them. Refused Device where it cannot be read. Room for as many
+/// The bytes of a file of the host, all of them; `-` is the standard input. Refused as [`bytes_of`]. Room for as many
 /// bytes as it is said to have, up to those of the greatest file, is asked for at once.
-pub fn whole_of<F: Files>(rt: &F, alloc: Global, path: &str) -> R<Vec<u8>>
+pub fn whole_of<F: Files + Input>(
+    rt: &F,
+    alloc: Global,
+    path: &str,
+    why: &mut Option<Cause>,
+) -> R<Vec<u8>>
     ensures which { RefusedOnly (λ e. e ≡ Device) result }
 {
-    let mut file = File::open(rt, path).map_err(refusal_of)?;
-    let mut bytes = Vec::with_capacity(alloc, room_for(&file))?;
-    file.read_to_end(&mut bytes).map_err(refusal_of)?;
-    Ok(bytes)
+    if path == INPUT {
+        return all_of(alloc, path, &mut rt.reader(), 0, why);
+    }
+    let mut file = opened(rt, alloc, path, why)?;
+    let room = room_for(&file);
+    all_of(alloc, path, &mut file, room, why)
 }
 
-/// Whether a folder is there.
+/// Whether a folder is there. The standard input, `-`, is none.
 pub fn is_folder<F: Files>(rt: &F, path: &str) -> bool {
+    if path == INPUT {
+        return false;
+    }
     match fs::metadata(rt, path) {
         Ok(metadata) => metadata.is_dir(),
         Err(_) => false,
@@ -95,30 +159,93 @@ pub fn text_of(bytes: &[u8]) -> R<&str>
     }
 }
 
-/// Makes a new file of these bytes. It is written and synced under a name of its own beside it, `PATH.new-N`,
+/// The text that the bytes of a file are. Refused Script where they are not UTF-8; then `why` gets the line.
+pub fn text_in<'b>(
+    alloc: Global,
+    path: &str,
+    bytes: &'b [u8],
+    why: &mut Option<Cause>,
+) -> R<&'b str>
+    ensures which { IfErr result (λ e. e ≡ Script) }
+{
+    match text_of(bytes) {
+        Ok(text) => Ok(text),
+        Err(refusal) => {
+            if let Ok(Some(fault)) = utf8_fault(alloc, path, bytes) {
+                *why = Some(Cause::Text(fault));
+            }
+            Err(refusal)
+        }
+    }
+}
+
+/// Makes a new file of these bytes. It is written and synced under a name of its own in the same folder, `pqds.new-N`,
 /// and only then called `path`: nothing that is there is replaced, and a stop leaves all of the file, or
-/// none of it, at `path` (unless the link fails). The name of its own is taken away, where the host lets it.
+/// none of it, at `path` (unless the link fails). The name of its own is taken away, where the host lets it. Then the
+/// folder is synced.
 ///
-/// Refused Exists where something is at `path`, and Device where no file can be made there; then none is.
-pub fn put_new<F: Files>(rt: &F, alloc: Global, path: &str, bytes: &[u8]) -> R<()>
+/// Refused Exists where something is at `path`, and Device where no file can be made there; then none is. Refused Device also
+/// where the folder cannot be synced: then the file is there, but may not outlast a power cut. Then `why` gets the path and
+/// the system's words.
+pub fn put_new<F: Files>(
+    rt: &F,
+    alloc: Global,
+    path: &str,
+    bytes: &[u8],
+    why: &mut Option<Cause>,
+) -> R<()>
     ensures which { RefusedOnly (λ e. (e ≡ Exists) ⊎ (e ≡ Device)) result }
 {
     if fs::symlink_metadata(rt, path).is_ok() {
-        return Err(Refusal::Exists);
+        return Err(refused_new(alloc, path, io::Error::from_raw_os_error(FILE_EXISTS), why));
     }
     for number in 0..MOST_NAMES {
-        let beside = format!(in alloc; "{path}.new-{number}")?;
+        let beside = name_beside(alloc, path, number)?;
         match make(rt, beside.as_str(), bytes) {
             Ok(()) => {
-                give_name(rt, beside.as_str(), path, bytes).map_err(refusal_of_new)?;
-                sync_folder(rt, path);
-                return Ok(());
+                if let Err(error) = give_name(rt, beside.as_str(), path, bytes) {
+                    return Err(refused_new(alloc, path, error, why));
+                }
+                return sync_folder(rt, alloc, path, why);
             }
             Err(error) if error.kind() == ErrorKind::AlreadyExists => {}
-            Err(error) => return Err(refusal_of(error)),
+            Err(error) => return Err(refused_at(alloc, path, error, why)),
         }
     }
+    if let Ok(fault) = full_fault(alloc, path) {
+        *why = Some(Cause::System(fault));
+    }
     Err(Refusal::Device)
+}
+
+/// The name of this number under which a file is written that will be called `path`: `pqds.new-N` in its folder.
+fn name_beside(alloc: Global, path: &str, number: u32) -> R<String>
+    ensures which { RefusedMemoryOnly result }
+{
+    match path.rsplit_once('/') {
+        Some((folder, _)) => Ok(format!(in alloc; "{folder}/pqds.new-{number}")?),
+        None => Ok(format!(in alloc; "pqds.new-{number}")?),
+    }
+}
+
+/// What is said where each name under which a file is written is taken.
+fn full_fault(alloc: Global, path: &str) -> R<SystemFault> {
+    let error = io::Error::from_raw_os_error(FILE_EXISTS);
+    let fault = system_fault(alloc, path, error)?;
+    Ok(fault.with_advice("its folder has 1000 files pqds.new-N: remove them"))
+}
+
+/// What is refused where a new file cannot be called `path`; `why` gets the path and the system's words.
+fn refused_new(alloc: Global, path: &str, error: io::Error, why: &mut Option<Cause>) -> Refusal
+    ensures which { (result ≡ Memory) ⊎ ((result ≡ Exists) ⊎ (result ≡ Device)) }
+{
+    let refusal = refusal_of_new(error);
+    if refusal == Refusal::Device
+        && let Ok(fault) = system_fault(alloc, path, error)
+    {
+        *why = Some(Cause::System(fault));
+    }
+    refusal
 }
 
 /// Why a new file could not be made: Exists where its name is taken, Memory where a growth was refused, else Device.
@@ -162,16 +289,34 @@ fn make<F: Files>(rt: &F, path: &str, bytes: &[u8]) -> io::Result<()> {
     filled
 }
 
-/// Makes the name of a file durable where the host can: a folder that cannot be opened or synced is ignored.
-fn sync_folder<F: Files>(rt: &F, path: &str) {
-    let folder = match path.rsplit_once('/') {
+/// The folder of a file.
+fn folder_of(path: &str) -> &str {
+    match path.rsplit_once('/') {
         Some(("", _)) => "/",
         Some((folder, _)) => folder,
         None => ".",
-    };
-    if let Ok(folder) = File::open(rt, folder) {
-        let _ = folder.sync_all();
     }
+}
+
+/// Makes the name of a file durable. Refused Device where its folder cannot be opened or synced; then `why` says what that means.
+fn sync_folder<F: Files>(rt: &F, alloc: Global, path: &str, why: &mut Option<Cause>) -> R<()>
+    ensures which { RefusedOnly (λ e. e ≡ Device) result }
+{
+    match synced(rt, folder_of(path)) {
+        Ok(()) => Ok(()),
+        Err(error) => {
+            if let Ok(fault) = system_fault(alloc, path, error) {
+                let advice = "it is there, but may not outlast a power cut";
+                *why = Some(Cause::System(fault.with_advice(advice)));
+            }
+            Err(refusal_of(error))
+        }
+    }
+}
+
+/// Syncs a folder.
+fn synced<F: Files>(rt: &F, folder: &str) -> io::Result<()> {
+    File::open(rt, folder)?.sync_all()
 }
 
 /// Gives the whole file at `beside` the name `path`, where nothing has it, and takes its own name away.

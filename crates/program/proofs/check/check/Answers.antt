@@ -41,4 +41,4 @@ pub returns-clause-which : goal.returns-clause-which
 returns-clause-which g c = by_texts c.args.sources.now.options _ _ c.in-Err.refusal c.in-Err.ensures.which
 
 pub returns-in-Ok-clause-quiet : goal.returns-in-Ok-clause-quiet
-returns-in-Ok-clause-quiet g c = on_ok_anyway (g.E.Write.contents c.counted.new.err ≡ g.E.Write.contents c.args.err.now) c.write_whole.result (c.counted.ensures.quiet ∙ (c.in_ok-rows_text.ensures.quiet ∙ c.in_ok-schema_text.ensures.quiet))
+returns-in-Ok-clause-quiet g c = on_ok_anyway (g.E.Write.contents c.counted.new.err ≡ g.E.Write.contents c.args.err.now) c.write_whole.result c.counted.ensures.quiet

@@ -15,12 +15,12 @@ returns-in_err-rows_bytes-clause-which g c =
 pub returns-in_err-schema_text-clause-which : goal.returns-in_err-schema_text-clause-which
 returns-in_err-schema_text-clause-which g c =
     passes (HasCause (AreRefusedFiles c.args.sources.now.options)) c.from_residual-in_err-schema_text.result c.in_err-schema_text.field-0.0 c.from_residual-in_err-schema_text.ensures.1
-    (of_sources c.args.sources.now.options c.in_err-schema_text.field-0.0 (by_bytes c.args.sources.now.options c.in_err-schema_text.field-0.0 c.in_err-schema_text.ensures.which.0))
+    (of_sources c.args.sources.now.options c.in_err-schema_text.field-0.0 (by_bytes c.args.sources.now.options c.in_err-schema_text.field-0.0 c.in_err-schema_text.ensures.which))
 
 pub returns-in_err-rows_text-clause-which : goal.returns-in_err-rows_text-clause-which
 returns-in_err-rows_text-clause-which g c =
     passes (HasCause (AreRefusedFiles c.args.sources.now.options)) c.from_residual-in_err-rows_text.result c.in_err-rows_text.field-0.0 c.from_residual-in_err-rows_text.ensures.1
-    (of_sources c.args.sources.now.options c.in_err-rows_text.field-0.0 (by_bytes c.args.sources.now.options c.in_err-rows_text.field-0.0 c.in_err-rows_text.ensures.which.0))
+    (of_sources c.args.sources.now.options c.in_err-rows_text.field-0.0 (by_bytes c.args.sources.now.options c.in_err-rows_text.field-0.0 c.in_err-rows_text.ensures.which))
 
 pub returns-in_err-file-clause-which : goal.returns-in_err-file-clause-which
 returns-in_err-file-clause-which g c =

@@ -1,5 +1,5 @@
 use Rattle.std.proofs.Common.{◌+◌, ◌*◌}
-use Rattle.reports.proofs.explain_schema.+explaining.Given as goal
+use Rattle.reasons.proofs.schema_misfit.+explaining.Given as goal
 
 -- the fields of a group are one less deep than it
 abbrev pub decreases-of_field : goal.decreases-of_field

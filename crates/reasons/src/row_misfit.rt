@@ -2,73 +2,18 @@
 //!
 //! Only the readers of `jsonrows` decide whether a line is a row; this finds words for what they refused.
 
+use crate::as_written::marked;
+use crate::json_text::{Text, of_one_line};
+use crate::misfit::Misfit;
 use bits::R;
 use schema::{Field, Kind, LeafType, Order, Repetition};
 use serde_json::{Map, Number, Value as Json};
 use std::alloc::Global;
 
-/// How many characters of a value are shown.
-const SHOWN: usize = 40;
-
-/// What is wrong at a place of a JSON value.
-#[derive(Debug, Drop)]
-pub struct Misfit {
-    /// The names of members and the numbers of items on the way to it, as `a.list[3].b`.
-    pub path: String,
-    pub what: String,
-}
-
-impl Misfit {
-    /// Where this was expected, and that was found.
-    pub fn expected(alloc: Global, wanted: &str, json: &Json) -> R<Misfit> {
-        let found = found(alloc, json)?;
-        Ok(Misfit {
-            path: String::new(alloc),
-            what: format!(in alloc; "expected {wanted}, found {found}")?,
-        })
-    }
-
-    /// What is wrong, in these words.
-    pub fn because(alloc: Global, what: &str) -> R<Misfit> {
-        Ok(Misfit {
-            path: String::new(alloc),
-            what: String::from_str(alloc, what)?,
-        })
-    }
-
-    /// What is wrong in the object around the value, whose member of this name the value is.
-    pub fn in_member(self, alloc: Global, name: &str) -> R<Misfit> {
-        let Misfit { path, what } = self;
-        let path = if path.is_empty() {
-            String::from_str(alloc, name)?
-        } else if path.as_bytes().first() == Some(&b'[') {
-            format!(in alloc; "{name}{path}")?
-        } else {
-            format!(in alloc; "{name}.{path}")?
-        };
-        Ok(Misfit { path, what })
-    }
-
-    /// What is wrong in the array around the value, whose item of this number, counted from 0, the value is.
-    pub fn in_item(self, alloc: Global, number: usize) -> R<Misfit> {
-        let Misfit { path, what } = self;
-        let path = if path.is_empty() || path.as_bytes().first() == Some(&b'[') {
-            format!(in alloc; "[{number}]{path}")?
-        } else {
-            format!(in alloc; "[{number}].{path}")?
-        };
-        Ok(Misfit { path, what })
-    }
-}
-
 /// What is wrong with the first of the fields whose member is none of its values, if there is one; else with a
 /// member of no field.
 #[cycle(explaining)]
-pub fn of_members(
-    alloc: Global,
-    fields: &[Field],
-    members: &Map<String, Json>,
-) -> R<Option<Misfit>> {
+fn of_members(alloc: Global, fields: &[Field], members: &Map<String, Json>) -> R<Option<Misfit>> {
     for field in fields {
         let member = members.get(field.name());
         if let Some(misfit) = of_member(alloc, field, member)? {
@@ -80,33 +25,17 @@ pub fn of_members(
 
 /// What is wrong with a line, if something is.
 pub fn of_line(alloc: Global, fields: &[Field], line: &str) -> R<Option<Misfit>> {
-    match Json::from_str(alloc, line) {
-        Ok(Json::Object(members)) => of_members(alloc, fields, &members),
-        Ok(json) => Ok(Some(Misfit::expected(alloc, "an object", &json)?)),
-        Err(error) => {
-            let column = error.column();
-            Ok(Some(Misfit {
-                path: String::new(alloc),
-                what: format!(in alloc; "no JSON, at column {column}")?,
-            }))
-        }
+    match of_one_line(alloc, line)? {
+        Text::Json { marked, .. } => of_row(alloc, fields, &marked),
+        Text::None(why) => Ok(Some(Misfit::because(alloc, why.as_str())?)),
     }
 }
 
-/// A JSON value, in a few characters.
-fn found(alloc: Global, json: &Json) -> R<String> {
+/// What is wrong with the JSON of a row, if something is.
+pub fn of_row(alloc: Global, fields: &[Field], json: &Json) -> R<Option<Misfit>> {
     match json {
-        Json::Array(_) => Ok(String::from_str(alloc, "an array")?),
-        Json::Object(_) => Ok(String::from_str(alloc, "an object")?),
-        _ => {
-            let text = json.to_string(alloc)?;
-            if text.chars().count() <= SHOWN {
-                return Ok(text);
-            }
-            let mut short: String = text.chars().take(SHOWN).collect(alloc)?;
-            short.push_str("..")?;
-            Ok(short)
-        }
+        Json::Object(members) => of_members(alloc, fields, members),
+        _ => Ok(Some(Misfit::expected(alloc, "an object", json)?)),
     }
 }
 
@@ -149,13 +78,15 @@ fn is_of_leaf(leaf_type: &LeafType, json: &Json) -> bool {
     match json {
         Json::Bool(_) => leaf_type.kind == Kind::Boolean,
         Json::Number(number) => is_number_of(leaf_type, number),
-        Json::String(text) => is_text_of(leaf_type, text.as_str()),
+        Json::String(text) => {
+            marked(text.as_str()).is_none() && is_text_of(leaf_type, text.as_str())
+        }
         _ => false,
     }
 }
 
 /// What values a leaf has, in words.
-fn values_of(alloc: Global, leaf_type: &LeafType) -> R<String> {
+pub fn values_of(alloc: Global, leaf_type: &LeafType) -> R<String> {
     let words = match (leaf_type.kind, is_unsigned(leaf_type)) {
         (Kind::Boolean, _) => "true or false",
         (Kind::Int32, false) => "an integer from -2147483648 to 2147483647",
@@ -174,7 +105,7 @@ fn values_of(alloc: Global, leaf_type: &LeafType) -> R<String> {
 }
 
 /// What is wrong with a value of a leaf, if something is.
-fn of_leaf(alloc: Global, leaf_type: &LeafType, json: &Json) -> R<Option<Misfit>> {
+pub fn of_leaf(alloc: Global, leaf_type: &LeafType, json: &Json) -> R<Option<Misfit>> {
     if is_of_leaf(leaf_type, json) {
         return Ok(None);
     }

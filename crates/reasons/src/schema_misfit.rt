@@ -2,8 +2,10 @@
 //!
 //! Only the reader of `jsonrows` decides whether a text is a schema; this finds words for what it refused.
 
-use crate::explain::Misfit;
+use crate::json_text::{Text, of_lines};
+use crate::misfit::{Misfit, shown};
 use bits::{R, Refusal};
+use schema::{Field, Repetition, Schema};
 use serde_json::{Map, Value as Json};
 use std::alloc::Global;
 
@@ -55,17 +57,13 @@ const GROUP_MEMBERS: [&str; 4] = ["name", "rep", "fields", "note"];
 
 /// What is wrong with the text of a schema that was refused so.
 pub fn of_schema(alloc: Global, text: &str, refusal: &Refusal) -> R<Misfit> {
-    let json = match Json::from_str(alloc, text) {
-        Ok(json) => json,
-        Err(error) => {
-            let (line, column) = (error.line(), error.column());
-            let what = format!(in alloc; "no JSON, at line {line} column {column}")?;
-            return Misfit::because(alloc, what.as_str());
-        }
+    let json = match of_lines(alloc, text)? {
+        Text::Json { marked, .. } => marked,
+        Text::None(why) => return Misfit::because(alloc, why.as_str()),
     };
     match of_fields(alloc, DEEPEST, &json)? {
         Some(misfit) => Ok(misfit),
-        None => of_tree(alloc, refusal),
+        None => of_tree(alloc, &json, refusal),
     }
 }
 
@@ -240,8 +238,34 @@ fn of_fields(alloc: Global, deep: u32, json: &Json) -> R<Option<Misfit>> {
     Ok(None)
 }
 
+/// What is wrong with columns that are to be added to a table, if something is: it takes one, which is optional, under a
+/// name that none of its columns has.
+pub fn of_added(alloc: Global, table: &Schema, columns: &[Field]) -> R<Option<Misfit>> {
+    let [column] = columns else {
+        let count = columns.len();
+        let what = format!(in alloc; "expected one column, found {count}")?;
+        return Ok(Some(Misfit::because(alloc, what.as_str())?));
+    };
+    let (name, what) = if column.repetition() != Repetition::Optional {
+        (
+            "rep",
+            "expected \"optional\": the rows that are there have null in the column",
+        )
+    } else if table
+        .fields()
+        .iter()
+        .any(|field| field.name() == column.name())
+    {
+        ("name", "the dataset has a column of this name")
+    } else {
+        return Ok(None);
+    };
+    let misfit = Misfit::because(alloc, what)?.in_member(alloc, name)?;
+    Ok(Some(misfit.in_item(alloc, 0)?))
+}
+
 /// What is wrong with the tree of the fields, by the refusal.
-fn of_tree(alloc: Global, refusal: &Refusal) -> R<Misfit> {
+fn of_tree(alloc: Global, json: &Json, refusal: &Refusal) -> R<Misfit> {
     match refusal {
         Refusal::Float(path) => {
             let misfit = Misfit::because(alloc, "a column of FLOAT16 is not written")?;
@@ -253,10 +277,79 @@ fn of_tree(alloc: Global, refusal: &Refusal) -> R<Misfit> {
                 "more than 1024 columns, or more than 32 fields on a path",
             )
         }
-        Refusal::Schema => Misfit::because(
-            alloc,
-            "no columns, a group without fields, two fields of one name, or a length below 1",
-        ),
+        Refusal::Schema => match of_field_tree(alloc, DEEPEST, json)? {
+            Some(misfit) => Ok(misfit),
+            None => Misfit::because(alloc, "the columns are no tree"),
+        },
         _ => Misfit::because(alloc, "a note that has another form, or not for its type"),
     }
+}
+
+/// What is wrong with the first field of an array by its place in the tree, if one is wrong.
+#[cycle(trees)]
+fn of_field_tree(alloc: Global, deep: u32, json: &Json) -> R<Option<Misfit>> {
+    let Json::Array(fields) = json else {
+        return Ok(None);
+    };
+    if fields.is_empty() {
+        return Ok(Some(Misfit::because(alloc, "expected one field at least, found none")?));
+    }
+    for (number, field) in fields.iter().enumerate() {
+        let found = match of_place(alloc, fields.as_slice(), number, field)? {
+            Some(misfit) => Some(misfit),
+            None => of_inner_tree(alloc, deep, field)?,
+        };
+        if let Some(misfit) = found {
+            return Ok(Some(misfit.in_item(alloc, number)?));
+        }
+    }
+    Ok(None)
+}
+
+/// What is wrong with the fields of a field, or with its length, if something is.
+#[cycle(trees)]
+fn of_inner_tree(alloc: Global, deep: u32, field: &Json) -> R<Option<Misfit>> {
+    if deep == 0 {
+        return Ok(None);
+    }
+    let Some(fields) = field.get("fields") else {
+        return of_least_length(alloc, field);
+    };
+    match of_field_tree(alloc, deep - 1, fields)? {
+        Some(misfit) => Ok(Some(misfit.in_member(alloc, "fields")?)),
+        None => Ok(None),
+    }
+}
+
+/// The fault that a field before this one, which is at this place of some fields, has its name, if one has.
+fn of_place(alloc: Global, fields: &[Json], place: usize, field: &Json) -> R<Option<Misfit>> {
+    let name = text_at(field, "name");
+    let is_there = fields
+        .iter()
+        .take(place)
+        .any(|other| text_at(other, "name") == name);
+    if !is_there {
+        return Ok(None);
+    }
+    let name = shown(alloc, field.get("name").unwrap_or(field))?;
+    let what = format!(in alloc; "a field before it is named {name} too")?;
+    let misfit = Misfit::because(alloc, what.as_str())?;
+    Ok(Some(misfit.in_member(alloc, "name")?))
+}
+
+/// The text at this name of an object, if it has one.
+fn text_at<'a>(json: &'a Json, name: &str) -> Option<&'a str> {
+    json.get(name)?.as_str()
+}
+
+/// What is wrong with the length of a leaf, if something is: it is 1 at least.
+fn of_least_length(alloc: Global, field: &Json) -> R<Option<Misfit>> {
+    let Some(json) = field.get("length") else {
+        return Ok(None);
+    };
+    if json.as_i64().is_some_and(|length| length >= 1) {
+        return Ok(None);
+    }
+    let misfit = Misfit::expected(alloc, "a length of 1 or more", json)?;
+    Ok(Some(misfit.in_member(alloc, "length")?))
 }

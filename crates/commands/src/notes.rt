@@ -1,0 +1,150 @@
+//! What the system refused, and which file a disk read, kept until the call is made.
+
+use bits::R;
+use disk::{Disk, Failure, HostDisk};
+use reasons::{SystemFault, system_fault};
+use std::alloc::Global;
+use std::cell::RefCell;
+use std::io;
+use std::rc::Rc;
+use std::rt::Files;
+
+/// A disk that keeps what its last failure and its last absence were about.
+pub trait Explains: Disk {
+    /// What the last failure was about.
+    fn failure(&self) -> Option<&Failure>;
+
+    /// What the last absence was about.
+    fn absence(&self) -> Option<&Failure>;
+}
+
+impl<R: Files + Clone + Drop> Explains for HostDisk<R> {
+    fn failure(&self) -> Option<&Failure> {
+        self.last_failure()
+    }
+
+    fn absence(&self) -> Option<&Failure> {
+        self.last_absence()
+    }
+}
+
+/// What is kept.
+#[derive(Drop)]
+struct Kept {
+    /// What the system refused last.
+    refused: Option<SystemFault>,
+    /// The path in the folder at which nothing was last, where no file was read since.
+    absent: Option<String>,
+    /// The path in the folder that was read last.
+    read: Option<String>,
+}
+
+/// What is kept of a call on a folder. It is shared by all that use files. Where there is no memory to keep something,
+/// that is not kept.
+#[derive(Drop)]
+pub struct Notes {
+    alloc: Global,
+    kept: Rc<RefCell<Kept>>,
+}
+
+impl Notes {
+    /// Notes in which nothing is kept.
+    pub fn new(alloc: Global) -> R<Notes> {
+        let kept = Kept {
+            refused: None,
+            absent: None,
+            read: None,
+        };
+        Ok(Notes {
+            alloc,
+            kept: Rc::new(alloc, RefCell::new(kept))?,
+        })
+    }
+
+    /// The same notes, once more.
+    pub fn shared(&self) -> R<Notes> {
+        Ok(Notes {
+            alloc: self.alloc,
+            kept: self.kept.clone()?,
+        })
+    }
+
+    /// Keeps that the system refused something at a path of the host.
+    pub fn note_refused(&self, path: &str, error: io::Error) {
+        if let Ok(fault) = system_fault(self.alloc, path, error) {
+            self.keep(fault);
+        }
+    }
+
+    /// Keeps that the system refused something at a path of the host, and what to do.
+    pub fn note_with_advice(&self, path: &str, error: io::Error, advice: &'static str) {
+        if let Ok(fault) = system_fault(self.alloc, path, error) {
+            self.keep(fault.with_advice(advice));
+        }
+    }
+
+    /// Keeps a failure of the disk of a folder.
+    pub fn note_failure(&self, folder: &str, failure: &Failure) {
+        let path = match &failure.path {
+            Some(path) => path.as_str(),
+            None => "",
+        };
+        if path.is_empty() {
+            self.note_refused(folder, failure.error);
+        } else if let Ok(place) = format!(in self.alloc; "{folder}/{path}") {
+            self.note_refused(place.as_str(), failure.error);
+        }
+    }
+
+    /// Keeps a fault.
+    fn keep(&self, fault: SystemFault) {
+        if let Ok(mut kept) = self.kept.try_borrow_mut() {
+            kept.refused = Some(fault);
+        }
+    }
+
+    /// Keeps that a disk read the file at a path.
+    pub fn note_read(&self, path: &str) {
+        if let (Ok(path), Ok(mut kept)) = (
+            String::from_str(self.alloc, path),
+            self.kept.try_borrow_mut(),
+        ) {
+            kept.absent = None;
+            kept.read = Some(path);
+        }
+    }
+
+    /// Keeps that a disk found nothing at a path.
+    pub fn note_absent(&self, path: &str) {
+        if let (Ok(path), Ok(mut kept)) = (
+            String::from_str(self.alloc, path),
+            self.kept.try_borrow_mut(),
+        ) {
+            kept.absent = Some(path);
+        }
+    }
+
+    /// What the system refused last. It is not kept any more.
+    pub fn take_refused(&self) -> Option<SystemFault> {
+        match self.kept.try_borrow_mut() {
+            Ok(mut kept) => kept.refused.take(),
+            Err(_) => None,
+        }
+    }
+
+    /// The path at which nothing was last. It is not kept any more.
+    pub fn take_absent(&self) -> Option<String> {
+        match self.kept.try_borrow_mut() {
+            Ok(mut kept) => kept.absent.take(),
+            Err(_) => None,
+        }
+    }
+
+    /// The path that was read last. It is not kept any more.
+    pub fn take_read(&self) -> Option<String> {
+        match self.kept.try_borrow_mut() {
+            Ok(mut kept) => kept.read.take(),
+            Err(_) => None,
+        }
+    }
+}
