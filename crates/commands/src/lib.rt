@@ -29,6 +29,7 @@ mod renewing;
 mod row_lines;
 mod running;
 mod stopping;
+mod survey_json;
 mod tally;
 mod tasks;
 mod texts;

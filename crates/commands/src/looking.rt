@@ -13,6 +13,7 @@ use crate::key_reason::rows_reason;
 use crate::printing::write_text;
 use crate::reason::Reason;
 use crate::row_lines::rows_of;
+use crate::survey_json::json_of_survey;
 use bits::{R, Refusal};
 use disk::Disk;
 use manifest::Manifest;
@@ -24,18 +25,23 @@ use std::io::Write;
 use upkeep::{Finding, Watch, check, survey_of, text_of_check, text_of_survey};
 use vault::Vault;
 
-/// Prints what a table has, at a glance. Groups of fewer rows than this are small. Refused as `survey_of`, and Device where
+/// Prints what a table has, at a glance, as text or as a line of JSON. Groups of fewer rows than this are small. Refused as `survey_of`, and Device where
 /// the output cannot be written.
 pub fn print_survey<D: Disk, W: Write>(
     alloc: Global,
     vault: &mut Vault<D>,
     table: &Manifest,
     min_rows: u64,
+    as_json: bool,
     out: &mut W,
 ) -> R<()>
     ensures effect { Looks (length (root_of table.now).groups) (D.state vault.old.disk) (D.state vault.new.disk) }
 {
     let survey = survey_of(alloc, vault, table, min_rows)?;
+    if as_json {
+        let line = json_of_survey(alloc, &survey)?;
+        return write_text(line.as_bytes(), out);
+    }
     let text = text_of_survey(alloc, &survey)?;
     write_text(text.as_slice(), out)
 }

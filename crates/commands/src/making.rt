@@ -243,7 +243,9 @@ where
             }
         };
         match look {
-            Look::Survey { min_rows } => print_survey(alloc, &mut vault, &table, *min_rows, out),
+            Look::Survey { min_rows, as_json } => {
+                print_survey(alloc, &mut vault, &table, *min_rows, *as_json, out)
+            }
             Look::Files => {
                 let screen = self.screen.clone()?;
                 let mut checking = Checking::new(alloc, &table, screen, shows);

@@ -29,7 +29,7 @@ change_word RewriteAll = codes "rewrite"
 
 -- the word of a command that looks at a dataset's files: `inspect` or `check`
 abbrev pub look_word : Look → List ℕ
-look_word (Survey min_rows) = codes "inspect"
+look_word (Survey min_rows as_json) = codes "inspect"
 look_word Files = codes "check"
 look_word (Rows rows) = codes "check"
 

@@ -79,8 +79,8 @@ pub enum Change<'a> {
 /// What is to be said of the folder of a dataset.
 #[derive(Drop)]
 pub enum Look<'a> {
-    /// What the dataset has, at a glance. Groups of fewer rows are small.
-    Survey { min_rows: u64 },
+    /// What the dataset has, at a glance, as text or as JSON. Groups of fewer rows are small.
+    Survey { min_rows: u64, as_json: bool },
     /// Whether the files are as the dataset says.
     Files,
     /// Whether the rows of a file, a line each, are rows of the dataset.

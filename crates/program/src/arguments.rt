@@ -118,7 +118,7 @@ fn json_flag<'a>(alloc: Global) -> Arg<'a> {
     Arg::new(alloc, "json")
         .long("json")
         .action(ArgAction::SetTrue)
-        .help("Of a file: prints one line of JSON in place of text")
+        .help("Prints one line of JSON in place of text")
 }
 
 fn inspect_command<'a>(alloc: Global) -> Result<Command<'a>, Error> {
@@ -216,7 +216,7 @@ fn inspect_call<'a>(matches: &ArgMatches<'a>) -> Option<Call<'a>>
     let file = matches.get_str("FILE")?;
     let as_json = matches.get_flag("json");
     let min_rows = min_rows_in(matches);
-    let table = look_call(file, matches, Look::Survey { min_rows });
+    let table = look_call(file, matches, Look::Survey { min_rows, as_json });
     Some(Call::Inspect {
         file,
         as_json,

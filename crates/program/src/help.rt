@@ -154,8 +154,10 @@ of the places that decode refuses. The bounds of statistics are shown as decode 
 decode does not read, as hexadecimal digits. Of the two kinds of bounds the deprecated ones are shown only where the
 others are missing. Names that are not UTF-8 are shown with replacement characters.
 
-With --json the same is one line of JSON: an object with bytes, footer_bytes, version, rows, created_by, key_values,
-schema (each element with its depth), groups (each with chunks, and these with pages) and not_read.
+With --json the same is one line of JSON: of a file an object with bytes, footer_bytes, version, rows, created_by,
+key_values, schema (each element with its depth), groups (each with chunks, and these with pages) and not_read; of a
+dataset one with bytes, columns (each with key, path, repetition and type), groups, keys (all of them, each with bytes,
+folder, groups and rows), leftovers, min_rows, missing, rows and small_groups.
 
 Where FILE is the folder of a dataset it says what the dataset has: the columns and keys; the rows, groups and bytes
 in all and of the twenty keys with the most bytes, with a bar for each; how many groups `rewrite --min-rows N` would
