@@ -8,11 +8,11 @@ use crate::lock::{Access, Lock};
 use crate::making::Making;
 use crate::readers_lock::{make_file, waited_out};
 use crate::reason::Reason;
+use crate::remarks::schema_in;
 use crate::tasks::found;
-use crate::texts::{owned, text_of};
+use crate::texts::owned;
 use bits::{R, Refusal};
 use disk::Disk;
-use jsonrows::schema_from;
 use manifest::Manifest;
 use partition::key_columns;
 use schema::Schema;
@@ -109,11 +109,6 @@ where
             }
         }
     }
-}
-
-/// The schema that the text of a file is.
-fn schema_in(alloc: Global, bytes: &[u8]) -> R<Schema> {
-    schema_from(alloc, text_of(bytes)?)
 }
 
 /// A part file in a folder that a table of these keys would be made in: it would remove it. None where there is none, or a root

@@ -5,11 +5,13 @@ use crate::key_reason::{keys_reason, rows_reason};
 use crate::part_reason::is_of_bytes;
 use crate::reason::Reason;
 use crate::row_lines::rows_of;
-use crate::texts::{line_without_text, text_of};
+use crate::texts::text_of;
 use bits::{R, Refusal};
 use dataset_words::{Change, Question};
 use disk::Disk;
-use reasons::{call_fault, column_fault, filter_fault, large_value, row_fault, schema_fault};
+use reasons::{
+    Cause, call_fault, column_fault, filter_fault, large_value, row_fault, schema_fault, utf8_fault,
+};
 use schema::Schema;
 use std::alloc::Global;
 use std::io;
@@ -30,10 +32,22 @@ pub fn table_reason(
     }
 }
 
+/// Which line of the file that the call names is no text, if one is none. The file's name is put before it later.
+pub fn no_text_reason(alloc: Global, bytes: &[u8]) -> R<Option<Reason>> {
+    let fault = utf8_fault(alloc, "", bytes)?;
+    Ok(fault.map(|fault| Reason::Text(fault)))
+}
+
+/// Which line of the file of a filter is no text, if one is none.
+pub fn filter_text_reason(alloc: Global, path: &str, bytes: &[u8]) -> R<Option<Reason>> {
+    let fault = utf8_fault(alloc, path, bytes)?;
+    Ok(fault.map(|fault| Reason::Told(Cause::Text(fault))))
+}
+
 /// What is wrong with the schema of a file, if something is. The file's name is put before it later.
 pub fn schema_reason(alloc: Global, bytes: &[u8]) -> R<Option<Reason>> {
     let Ok(text) = text_of(bytes) else {
-        return Ok(line_without_text(bytes).map(|line| Reason::Line(line)));
+        return no_text_reason(alloc, bytes);
     };
     let fault = schema_fault(alloc, "", text)?;
     Ok(fault.map(|fault| Reason::Text(fault)))
@@ -42,7 +56,7 @@ pub fn schema_reason(alloc: Global, bytes: &[u8]) -> R<Option<Reason>> {
 /// What is wrong with the column of a file that is to be added to a table of this schema, if something is.
 fn column_reason(alloc: Global, schema: &Schema, bytes: &[u8]) -> R<Option<Reason>> {
     let Ok(text) = text_of(bytes) else {
-        return Ok(line_without_text(bytes).map(|line| Reason::Line(line)));
+        return no_text_reason(alloc, bytes);
     };
     let fault = column_fault(alloc, schema, "", text)?;
     Ok(fault.map(|fault| Reason::Text(fault)))
@@ -59,7 +73,11 @@ pub fn question_reason<D: Disk>(
         return Ok(None);
     }
     match question {
-        Question::Query { filter, columns, .. } => {
+        Question::Query {
+            filter,
+            columns,
+            ..
+        } => {
             match filter_reason(alloc, store.schema(), *filter)? {
                 Some(reason) => Ok(Some(reason)),
                 None => columns_reason(alloc, store.schema(), columns.as_slice()),
@@ -87,7 +105,7 @@ pub fn change_reason<D: Disk>(
     match change {
         Change::Append { .. } => match text_of(bytes) {
             Ok(text) => append_reason(alloc, store, text, refusal),
-            Err(_) => Ok(line_without_text(bytes).map(|line| Reason::Line(line))),
+            Err(_) => no_text_reason(alloc, bytes),
         },
         Change::AddColumn { .. } => column_reason(alloc, store.schema(), bytes),
         Change::Import { .. } => {
@@ -110,7 +128,7 @@ pub fn script_reason<D: Disk>(
     refusal: &Refusal,
 ) -> Option<Reason> {
     let Ok(text) = text_of(bytes) else {
-        return line_without_text(bytes).map(|line| Reason::Line(line));
+        return no_text_reason(alloc, bytes).unwrap_or(None);
     };
     match refusal {
         Refusal::Script | Refusal::RowShape => {

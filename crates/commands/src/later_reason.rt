@@ -5,15 +5,21 @@ use crate::notes::Notes;
 use crate::part_reason::is_of_bytes;
 use crate::reason::Reason;
 use bits::{R, Refusal};
-use dataset_words::{Call, Change, Task};
+use dataset_words::{Call, Change, Look, Question, Task};
 use footer::read_file;
 use reasons::{Cause, options_fault, output_cause, system_fault};
 use std::alloc::Global;
 use std::rt::Files;
 use std::{fs, io};
 
+/// The number that the system gives the error "File exists".
+const FILE_EXISTS: i32 = 17;
+
 /// The number that the system gives the error "Not a directory".
 const NO_FOLDER: i32 = 20;
+
+/// The number that the system gives the error "Is a directory".
+const FOLDER: i32 = 21;
 
 /// How the path of a part file ends.
 const PART_ENDING: &str = ".parquet";
@@ -33,7 +39,7 @@ impl<F: Files> Refused<'_, F> {
     pub fn reason(&self, refusal: &Refusal, flushed: &io::Result<()>) -> R<Option<Reason>> {
         match refusal {
             Refusal::Device => Ok(Some(self.of_system(flushed)?)),
-            Refusal::NoTable => Ok(Some(self.of_no_table())),
+            Refusal::NoTable => Ok(Some(self.of_no_table()?)),
             Refusal::Limit => Ok(Some(self.of_limit())),
             _ if is_of_bytes(refusal) && self.is_of_stored() => self.of_part(),
             _ => Ok(None),
@@ -59,14 +65,34 @@ impl<F: Files> Refused<'_, F> {
             }
             return Ok(Reason::Told(Cause::System(fault)));
         }
+        if let Err(error) = flushed {
+            return Ok(Reason::Told(output_cause(self.alloc, *error)?));
+        }
         if let Some(reason) = self.of_folder()? {
             return Ok(reason);
         }
-        let cause = match flushed {
-            Ok(()) => Cause::Output,
-            Err(error) => output_cause(self.alloc, *error)?,
+        match self.notes.take_in_the_way() {
+            Some(path) => self.of_node_at(path.as_str()),
+            None => Ok(Reason::Told(Cause::Output)),
+        }
+    }
+
+    /// What stands in the way at a path in the folder: a folder, or something else.
+    fn of_node_at(&self, path: &str) -> R<Reason> {
+        let folder = self.call.folder;
+        let place = format!(in self.alloc; "{folder}/{path}")?;
+        let number = match fs::symlink_metadata(self.rt, place.as_str()) {
+            Ok(metadata) if metadata.is_dir() => FOLDER,
+            _ => FILE_EXISTS,
         };
-        Ok(Reason::Told(cause))
+        self.of_number_at(place.as_str(), number)
+    }
+
+    /// The system's error of this number at a path of the host.
+    fn of_number_at(&self, place: &str, number: i32) -> R<Reason> {
+        let error = io::Error::from_raw_os_error(number);
+        let fault = system_fault(self.alloc, place, error)?;
+        Ok(Reason::Told(Cause::System(fault)))
     }
 
     /// Whether the folder is named by a link to it, which no disk follows.
@@ -77,11 +103,19 @@ impl<F: Files> Refused<'_, F> {
         }
     }
 
+    /// Whether a file may be named in place of the folder.
+    fn may_be_file(&self) -> bool {
+        matches!(
+            self.call.task,
+            Task::Ask(Question::Schema) | Task::Look(Look::Files)
+        )
+    }
+
     /// Why the folder is none.
     fn of_folder(&self) -> R<Option<Reason>> {
         let folder = self.call.folder;
         let error = match fs::metadata(self.rt, folder) {
-            Ok(metadata) if metadata.is_dir() => return Ok(None),
+            Ok(metadata) if metadata.is_dir() || self.may_be_file() => return Ok(None),
             Ok(_) => io::Error::from_raw_os_error(NO_FOLDER),
             Err(error) => error,
         };
@@ -89,12 +123,14 @@ impl<F: Files> Refused<'_, F> {
         Ok(Some(Reason::Told(Cause::System(fault))))
     }
 
-    /// Why the folder has no table: there is no root, or one of another tool.
-    fn of_no_table(&self) -> Reason {
-        if self.root_length().is_some() {
-            Reason::OtherRoot
-        } else {
-            Reason::NoRoot
+    /// Why the folder has no table: there is no root, a folder in its place, or one of another tool.
+    fn of_no_table(&self) -> R<Reason> {
+        let folder = self.call.folder;
+        let place = format!(in self.alloc; "{folder}/_metadata")?;
+        match fs::metadata(self.rt, place.as_str()) {
+            Ok(metadata) if metadata.is_dir() => self.of_number_at(place.as_str(), FOLDER),
+            Ok(_) => Ok(Reason::OtherRoot),
+            Err(_) => Ok(Reason::NoRoot),
         }
     }
 

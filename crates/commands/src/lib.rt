@@ -25,6 +25,7 @@ mod printing;
 mod querying;
 mod readers_lock;
 mod reason;
+mod remarks;
 mod renewing;
 mod row_lines;
 mod running;
@@ -37,8 +38,8 @@ mod unless;
 mod watched;
 
 pub use changing::{add_column, append, remove_rows, rewrite_groups, rewrite_small};
-pub use lock::{Access, Lock};
 pub use first_rows::print_first_rows;
+pub use lock::{Access, Lock};
 pub use looking::{Checking, print_check, print_rows_fit, print_survey};
 pub use making::Folders;
 pub use printing::print_done;

@@ -2,6 +2,7 @@
 
 ghost use Rattle.std.specs.Prelude.{◌≡◌, false, OnOk};
 
+use crate::explaining::{filter_text_reason, no_text_reason};
 use crate::filter_file::{filter_file, with_filter};
 use crate::folder::{bytes_of, disk_of, is_folder, refusal_of};
 use crate::folder_lock::locked;
@@ -12,9 +13,10 @@ use crate::notes::Notes;
 use crate::part_reason::is_of_bytes;
 use crate::querying::print_schema_of;
 use crate::reason::{Reason, print_reason};
+use crate::remarks::{print_doubled_note, print_schema_fits, print_schema_notes};
 use crate::tally::Tally;
 use crate::tasks::found;
-use crate::texts::{line_without_text, text_of};
+use crate::texts::text_of;
 use crate::watched::Watched;
 use bits::{R, Refusal};
 use dataset_words::{Call, Change, Datasets, Look, Question, Task};
@@ -119,7 +121,7 @@ where
         let call = match with_filter(self.alloc, self.call, bytes.as_slice()) {
             Ok(call) => call,
             Err(refusal) => {
-                *why = line_without_text(bytes.as_slice()).map(|line| Reason::Line(line));
+                *why = found(filter_text_reason(self.alloc, path, bytes.as_slice()));
                 return Err(refusal);
             }
         };
@@ -159,6 +161,9 @@ where
             Task::Ask(Question::Schema) if !self.is_of_folder() => {
                 print_schema_of(self.alloc, bytes, out)
             }
+            Task::Look(Look::Files) if !self.is_of_folder() => {
+                print_schema_fits(self.alloc, bytes, out, why)
+            }
             Task::Look(_) if !self.is_of_folder() => {
                 *why = Some(Reason::NoFolder);
                 Err(Refusal::Device)
@@ -188,7 +193,9 @@ where
             Task::Change(Change::Append { rows, .. }) => Some(rows),
             Task::Change(Change::Import { file, .. }) => Some(file),
             Task::Change(Change::AddColumn { schema }) => Some(schema),
-            Task::Ask(Question::Schema) if !self.is_of_folder() => Some(self.call.folder),
+            Task::Ask(Question::Schema) | Task::Look(Look::Files) if !self.is_of_folder() => {
+                Some(self.call.folder)
+            }
             _ => None,
         }
     }
@@ -249,12 +256,16 @@ where
             Look::Files => {
                 let screen = self.screen.clone()?;
                 let mut checking = Checking::new(alloc, &table, screen, shows);
-                print_check(alloc, &mut vault, &table, &mut checking, out)
+                print_check(alloc, &mut vault, &table, &mut checking, out)?;
+                print_schema_notes(alloc, table.schema(), out)
             }
-            Look::Rows { .. } => match text_of(bytes) {
-                Ok(text) => print_rows_fit(alloc, &table, text, out, err, shows, why),
+            Look::Rows { rows } => match text_of(bytes) {
+                Ok(text) => {
+                    print_rows_fit(alloc, &table, text, out, err, shows, why)?;
+                    print_doubled_note(alloc, rows, text, out)
+                }
                 Err(refusal) => {
-                    *why = line_without_text(bytes).map(|line| Reason::Line(line));
+                    *why = found(no_text_reason(alloc, bytes));
                     Err(refusal)
                 }
             },

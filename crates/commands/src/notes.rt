@@ -35,6 +35,8 @@ struct Kept {
     refused: Option<SystemFault>,
     /// The path in the folder at which nothing was last, where no file was read since.
     absent: Option<String>,
+    /// The path in the folder at which something stood in the way last.
+    in_the_way: Option<String>,
     /// The path in the folder that was read last.
     read: Option<String>,
 }
@@ -53,6 +55,7 @@ impl Notes {
         let kept = Kept {
             refused: None,
             absent: None,
+            in_the_way: None,
             read: None,
         };
         Ok(Notes {
@@ -124,6 +127,16 @@ impl Notes {
         }
     }
 
+    /// Keeps that at a path there was something else than a disk was to make or remove there.
+    pub fn note_in_the_way(&self, path: &str) {
+        if let (Ok(path), Ok(mut kept)) = (
+            String::from_str(self.alloc, path),
+            self.kept.try_borrow_mut(),
+        ) {
+            kept.in_the_way = Some(path);
+        }
+    }
+
     /// What the system refused last. It is not kept any more.
     pub fn take_refused(&self) -> Option<SystemFault> {
         match self.kept.try_borrow_mut() {
@@ -136,6 +149,14 @@ impl Notes {
     pub fn take_absent(&self) -> Option<String> {
         match self.kept.try_borrow_mut() {
             Ok(mut kept) => kept.absent.take(),
+            Err(_) => None,
+        }
+    }
+
+    /// The path at which something stood in the way last. It is not kept any more.
+    pub fn take_in_the_way(&self) -> Option<String> {
+        match self.kept.try_borrow_mut() {
+            Ok(mut kept) => kept.in_the_way.take(),
             Err(_) => None,
         }
     }

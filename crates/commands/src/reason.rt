@@ -8,8 +8,6 @@ use std::io::Write;
 /// Why a call is refused, where the refusal alone does not say it.
 #[derive(Drop)]
 pub enum Reason {
-    /// The line of this number is not UTF-8.
-    Line(u64),
     /// What is wrong in the file that the call names. Its name is put before it.
     Text(TextFault),
     /// A cause that says all.
@@ -122,7 +120,6 @@ impl Display for Told<'_> {
     fn fmt<W: fmt::Write>(&self, f: &mut Formatter<W>) -> fmt::Result {
         let (folder, file) = (self.folder, self.file);
         match self.reason {
-            Reason::Line(line) => write!(f, "{file}:{line}: not UTF-8"),
             Reason::Text(fault) => write!(f, "{file}{fault}"),
             Reason::Large(fault) => write!(f, "{file}{fault}"),
             Reason::KeyValue(row, name, fault) => {

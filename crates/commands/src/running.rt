@@ -42,7 +42,12 @@ pub fn run_script<D: Disk, W: Write>(
 }
 
 /// Prints answers, a line each. Later columns stand at the end of the schema, so that it is that of each batch.
-pub fn print_answers<W: Write>(alloc: Global, schema: &Schema, answers: &[Answer], out: &mut W) -> R<()>
+pub fn print_answers<W: Write>(
+    alloc: Global,
+    schema: &Schema,
+    answers: &[Answer],
+    out: &mut W,
+) -> R<()>
     ensures printed { OnOk result ((printed : List ℕ) × AreAnswerLines schema.now answers.now printed × Appends (W.contents out.old) (W.contents out.new) printed) }
 {
     for answer in answers {

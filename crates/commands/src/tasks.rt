@@ -70,9 +70,15 @@ fn answer<D: Disk, W: Write, E: Write>(
             print_first_rows(alloc, store, *filter, names, *limit, out)
         }
         Question::Query {
-            filter, columns, ..
+            filter,
+            columns,
+            ..
         } if columns.is_empty() => print_rows(alloc, store, *filter, None, out, err, shows),
-        Question::Query { filter, columns, .. } => {
+        Question::Query {
+            filter,
+            columns,
+            ..
+        } => {
             let names = owned(alloc, columns.as_slice())?;
             print_rows(
                 alloc,

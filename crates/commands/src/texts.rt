@@ -20,15 +20,3 @@ pub fn owned(alloc: Global, words: &[&str]) -> R<Vec<String>> {
     }
     Ok(texts)
 }
-
-/// The number of the first line of bytes that is not UTF-8, counted from 1, if there is one.
-pub fn line_without_text(bytes: &[u8]) -> Option<u64> {
-    let mut number: u64 = 1;
-    for line in bytes.split(|byte| *byte == b'\n') {
-        if from_utf8(line).is_err() {
-            return Some(number);
-        }
-        number = number.saturating_add(1);
-    }
-    None
-}

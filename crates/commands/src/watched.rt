@@ -32,9 +32,9 @@ impl<D: Explains, S: Write + Drop> Watched<D, S> {
         }
     }
 
-    /// Notes what the disk refused last.
+    /// Notes what the disk refused last, in a call at this path.
     #[cold]
-    fn note(&self, fault: Fault) {
+    fn note(&self, path: &str, fault: Fault) {
         match fault {
             Fault::Failed => {
                 if let Some(failure) = self.disk.failure() {
@@ -48,16 +48,17 @@ impl<D: Explains, S: Write + Drop> Watched<D, S> {
                     self.notes.note_absent(path.as_str());
                 }
             }
-            Fault::Exists | Fault::Memory => {}
+            Fault::Exists => self.notes.note_in_the_way(path),
+            Fault::Memory => {}
         }
     }
 
-    /// The answer of a call of the disk. What it refused is noted.
-    fn noted<T: Drop>(&self, answer: Result<T, Fault>) -> Result<T, Fault>
+    /// The answer of a call of the disk at this path. What it refused is noted.
+    fn noted<T: Drop>(&self, path: &str, answer: Result<T, Fault>) -> Result<T, Fault>
         ensures { result ≡ answer }
     {
         if let Err(fault) = &answer {
-            self.note(*fault);
+            self.note(path, *fault);
         }
         answer
     }
@@ -80,12 +81,12 @@ impl<D: Explains, S: Write + Drop> Disk for Watched<D, S> {
         if answer.is_ok() {
             self.tally.count(Work::Made);
         }
-        self.noted(answer)
+        self.noted(path, answer)
     }
 
     fn make_folder(&mut self, path: &str) -> Result<(), Fault> {
         let answer = self.disk.make_folder(path);
-        self.noted(answer)
+        self.noted(path, answer)
     }
 
     fn read_range(
@@ -100,17 +101,17 @@ impl<D: Explains, S: Write + Drop> Disk for Watched<D, S> {
             self.tally.count(Work::Read(bytes.len()));
             self.notes.note_read(path);
         }
-        self.noted(answer)
+        self.noted(path, answer)
     }
 
     fn length(&mut self, path: &str) -> Result<u64, Fault> {
         let answer = self.disk.length(path);
-        self.noted(answer)
+        self.noted(path, answer)
     }
 
     fn list(&mut self, alloc: Global, folder: &str) -> Result<Vec<Entry>, Fault> {
         let answer = self.disk.list(alloc, folder);
-        self.noted(answer)
+        self.noted(folder, answer)
     }
 
     fn append(&mut self, path: &str, bytes: &[u8]) -> Result<(), Fault> {
@@ -118,27 +119,27 @@ impl<D: Explains, S: Write + Drop> Disk for Watched<D, S> {
         if answer.is_ok() {
             self.tally.count(Work::Wrote { path, bytes });
         }
-        self.noted(answer)
+        self.noted(path, answer)
     }
 
     fn sync(&mut self, path: &str) -> Result<(), Fault> {
         let answer = self.disk.sync(path);
-        self.noted(answer)
+        self.noted(path, answer)
     }
 
     fn sync_folder(&mut self, folder: &str) -> Result<(), Fault> {
         let answer = self.disk.sync_folder(folder);
-        self.noted(answer)
+        self.noted(folder, answer)
     }
 
     fn rename(&mut self, source: &str, target: &str) -> Result<(), Fault> {
         let answer = self.disk.rename(source, target);
-        self.noted(answer)
+        self.noted(target, answer)
     }
 
     fn remove(&mut self, path: &str) -> Result<(), Fault> {
         let answer = self.disk.remove(path);
-        self.noted(answer)
+        self.noted(path, answer)
     }
 
     fn failures(&self) -> u64 {

@@ -31,7 +31,7 @@ fn kind_text(alloc: Global, kind: Kind) -> R<String> {
 }
 
 /// The name of a converted type (`parquet.thrift`, ConvertedType).
-fn name_of(converted: ConvertedType) -> &'static str {
+pub fn name_of(converted: ConvertedType) -> &'static str {
     match converted {
         ConvertedType::Utf8 => "UTF8",
         ConvertedType::Enum => "ENUM",

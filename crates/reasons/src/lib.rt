@@ -3,13 +3,16 @@
 //! Nothing here decides what is refused. A finder is called after a refusal. It looks at the input once more, and finds the
 //! first fault in it: of rows ([`row_fault`]), of scripts ([`call_fault`]), of schemas ([`schema_fault`], [`column_fault`]), of texts
 //! ([`utf8_fault`]), of filters ([`filter_fault`]), of what the system refused ([`system_fault`], [`output_cause`]), and of limits
-//! ([`options_fault`], [`large_value`]). A [`Cause`] is any of them. The crate knows neither the command line nor the host.
+//! ([`options_fault`], [`large_value`]). A [`Cause`] is any of them. Two functions find what is accepted and is worth a note: what
+//! other tools may refuse in a schema ([`schema_notes`]), and members that stand twice ([`doubled_note`]). The crate knows neither
+//! the command line nor the host.
 #![tactic(auto)]
 
 mod as_written;
 mod call_misfit;
 mod cause;
 mod column_type;
+mod doubled;
 mod filter_faults;
 mod json_text;
 mod limit_fault;
@@ -17,12 +20,15 @@ mod misfit;
 mod ordinal;
 mod row_misfit;
 mod schema_misfit;
+mod schema_notes;
 mod system_words;
 mod term_misfit;
 mod text_fault;
 
 pub use cause::{Cause, output_cause};
+pub use doubled::doubled_note;
 pub use filter_faults::{FilterFault, filter_fault};
 pub use limit_fault::{LimitFault, large_value, options_fault};
+pub use schema_notes::schema_notes;
 pub use system_words::{SystemFault, system_fault};
 pub use text_fault::{TextFault, call_fault, column_fault, row_fault, schema_fault, utf8_fault};
