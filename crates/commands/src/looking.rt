@@ -25,8 +25,8 @@ use std::io::Write;
 use upkeep::{Finding, Watch, check, survey_of, text_of_check, text_of_survey};
 use vault::Vault;
 
-/// Prints what a table has, at a glance, as text or as a line of JSON. Groups of fewer rows than this are small. Refused as `survey_of`, and Device where
-/// the output cannot be written.
+/// Prints what a table has, at a glance, as text or as a line of JSON. Groups of fewer rows than this are small. Refused as
+/// `survey_of`, and Device where the output cannot be written.
 pub fn print_survey<D: Disk, W: Write>(
     alloc: Global,
     vault: &mut Vault<D>,
@@ -40,7 +40,7 @@ pub fn print_survey<D: Disk, W: Write>(
     let survey = survey_of(alloc, vault, table, min_rows)?;
     if as_json {
         let line = json_of_survey(alloc, &survey)?;
-        return write_text(line.as_bytes(), out);
+        return write_text(line.as_slice(), out);
     }
     let text = text_of_survey(alloc, &survey)?;
     write_text(text.as_slice(), out)

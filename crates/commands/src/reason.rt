@@ -116,6 +116,45 @@ struct Told<'a> {
     file: &'a str,
 }
 
+impl Told<'_> {
+    /// Writes a reason that is of the root, a group or a part file.
+    fn write_of_stored<W: fmt::Write>(&self, f: &mut Formatter<W>) -> fmt::Result {
+        let folder = self.folder;
+        match self.reason {
+            Reason::Root => write!(f, "{folder}/_metadata is damaged: it describes no table"),
+            Reason::NoRoot => write!(f, "{folder} has no dataset: there is no {folder}/_metadata"),
+            Reason::OtherRoot => {
+                write!(
+                    f,
+                    "{folder}/_metadata was not written by pqds: it describes no table"
+                )
+            }
+            Reason::HasRoot => {
+                write!(f, "{folder}/_metadata is there already, and stays as it is")
+            }
+            Reason::RootOfPart(path) => {
+                write!(
+                    f,
+                    "{folder}/_metadata is damaged: what it says of {path} is not so"
+                )
+            }
+            Reason::Part(path) => write!(f, "{folder}/{path} is damaged"),
+            Reason::NoPart(path) => write!(f, "{folder}/{path}: No such file or directory"),
+            Reason::LoosePart(path) => write!(
+                f,
+                "{folder}/{path} is there already: a new dataset would remove it, as it removes each such file that it does not name"
+            ),
+            Reason::NoGroup(number) => {
+                write!(
+                    f,
+                    "no group has the number {number}: `pqds groups {folder}` prints the numbers"
+                )
+            }
+            reason => write!(f, "{reason}"),
+        }
+    }
+}
+
 impl Display for Told<'_> {
     fn fmt<W: fmt::Write>(&self, f: &mut Formatter<W>) -> fmt::Result {
         let (folder, file) = (self.folder, self.file);
@@ -124,25 +163,6 @@ impl Display for Told<'_> {
             Reason::Large(fault) => write!(f, "{file}{fault}"),
             Reason::KeyValue(row, name, fault) => {
                 write!(f, "{file}: row {row}: the key {name:?} {fault}")
-            }
-            Reason::NoRoot => write!(f, "{folder} has no dataset: there is no {folder}/_metadata"),
-            Reason::OtherRoot => {
-                write!(
-                    f,
-                    "{folder}/_metadata was not written by pqds: it describes no table"
-                )
-            }
-            Reason::RootOfPart(path) => {
-                write!(
-                    f,
-                    "{folder}/_metadata is damaged: what it says of {path} is not so"
-                )
-            }
-            Reason::NoGroup(number) => {
-                write!(
-                    f,
-                    "no group has the number {number}: `pqds groups {folder}` prints the numbers"
-                )
             }
             Reason::Limits(bytes) => write!(
                 f,
@@ -162,21 +182,11 @@ impl Display for Told<'_> {
                 f,
                 "{folder}/_lock cannot be opened, so that somebody may be reading {folder}"
             ),
-            Reason::Root => write!(f, "{folder}/_metadata is damaged: it describes no table"),
-            Reason::HasRoot => {
-                write!(f, "{folder}/_metadata is there already, and stays as it is")
-            }
-            Reason::LoosePart(path) => write!(
-                f,
-                "{folder}/{path} is there already: a new dataset would remove it, as it removes each such file that it does not name"
-            ),
-            Reason::Part(path) => write!(f, "{folder}/{path} is damaged"),
-            Reason::NoPart(path) => write!(f, "{folder}/{path}: No such file or directory"),
             Reason::InDoubt(word) => write!(
                 f,
                 "the disk failed at the commit: all of it is done, or nothing; `pqds {word} {folder}` shows which"
             ),
-            reason => write!(f, "{reason}"),
+            _ => self.write_of_stored(f),
         }
     }
 }

@@ -96,7 +96,11 @@ fn decode_command<'a>(alloc: Global) -> Result<Command<'a>, Error> {
         .about(help::DECODE)
         .long_about(help::DECODE_LONG)
         .after_help(help::DECODE_REFUSALS)
-        .arg(file_named(alloc, "FILE", "The Parquet file to read"))?
+        .arg(file_named(
+            alloc,
+            "FILE",
+            "The Parquet file to read; - is standard input",
+        ))?
         .arg(quiet_flag(alloc))?;
     Ok(decode)
 }
@@ -106,8 +110,16 @@ fn encode_command<'a>(alloc: Global) -> Result<Command<'a>, Error> {
         .about(help::ENCODE)
         .long_about(help::ENCODE_LONG)
         .after_help(help::ENCODE_REFUSALS)
-        .arg(file_named(alloc, "SCHEMA", "The file with the columns, as JSON"))?
-        .arg(file_named(alloc, "ROWS", "The file with the rows, as lines of JSON"))?
+        .arg(file_named(
+            alloc,
+            "SCHEMA",
+            "The file with the columns, as JSON; - is standard input",
+        ))?
+        .arg(file_named(
+            alloc,
+            "ROWS",
+            "The file with the rows, as lines of JSON; - is standard input",
+        ))?
         .arg(file_named(alloc, "OUT", "The Parquet file to make"))?;
     let encode = with_options(alloc, encode)?.arg(quiet_flag(alloc))?;
     Ok(encode)
@@ -129,7 +141,7 @@ fn inspect_command<'a>(alloc: Global) -> Result<Command<'a>, Error> {
         .arg(file_named(
             alloc,
             "FILE",
-            "The Parquet file, or the folder of the dataset, to look into",
+            "The Parquet file, or the folder of the dataset, to look into; - is standard input",
         ))?
         .arg(json_flag(alloc))?
         .arg(min_rows_option(
@@ -139,10 +151,10 @@ fn inspect_command<'a>(alloc: Global) -> Result<Command<'a>, Error> {
     with_waiting(alloc, inspect)
 }
 
-/// The file with the rows to check. Without it the files of a dataset are checked.
+/// The file with the rows to check. Without it the schema is checked, or the files of a dataset.
 fn rows_named<'a>(alloc: Global) -> Arg<'a> {
     Arg::new(alloc, "ROWS").action(ArgAction::Set).help(
-        "The file with the rows, as lines of JSON; without it the files of the dataset are checked",
+        "The file with the rows, as lines of JSON; - is standard input. Without it the schema, or the files of the dataset, are checked",
     )
 }
 
@@ -154,7 +166,7 @@ fn check_command<'a>(alloc: Global) -> Result<Command<'a>, Error> {
         .arg(file_named(
             alloc,
             "SCHEMA",
-            "The file with the columns, as JSON, or the folder of a dataset",
+            "The file with the columns, as JSON, or the folder of a dataset; - is standard input",
         ))?
         .arg(rows_named(alloc))?;
     let check = with_waiting(alloc, check)?.arg(quiet_flag(alloc))?;

@@ -1,7 +1,7 @@
 //! All of the program, over two writers.
 
 ghost use Rattle.std.specs.Prelude.{◌≡◌, ◌≤◌, Some, false, true, OnOk, codes};
-ghost use Rattle.program.specs.Words.{first_word, word_of, has_word, Does, IsDone};
+ghost use Rattle.program.specs.Words.{first_word, word_of, has_word, Decodes, Inspects, Does, IsDone};
 
 use crate::arguments::{Call, call_of};
 use crate::check::check;
@@ -112,7 +112,8 @@ fn terminals_for(words: &[String], terminals: Terminals) -> Terminals
     }
 }
 
-/// Makes the call; where it is refused, `why` may get the reason. Progress is shown where `err` is a terminal; of lines that go to a terminal too, none.
+/// Makes the call; where it is refused, `why` may get the reason. Progress is shown where `err` is a terminal; of lines that go
+/// to a terminal too, none.
 fn make<F: Files + Input, W: Write, E: Write, M: Datasets<W, E>>(
     rt: &F,
     alloc: Global,
@@ -128,25 +129,12 @@ fn make<F: Files + Input, W: Write, E: Write, M: Datasets<W, E>>(
     ensures quiet { terminals.err ≡ false → OnOk result (E.contents err.new ≡ E.contents err.old) }
 {
     match call {
-        Call::Decode { file } => {
-            let bytes = bytes_of(rt, alloc, file, why)?;
-            let shows = terminals.shows_beside_output();
-            match decode(alloc, bytes.as_slice(), out, err, shows) {
-                Ok(()) => Ok(()),
-                Err(refusal) => Err(with_output(alloc, refusal, out, why)),
-            }
-        }
+        Call::Decode { file } => decode_file(rt, alloc, file, out, err, terminals, why),
         Call::Encode { sources, file } => encode(rt, alloc, sources, file, err, terminals.err, why),
         Call::Inspect { file, table, .. } if is_folder(rt, file) => {
             datasets.make(alloc, table, out, err, terminals)
         }
-        Call::Inspect { file, as_json, .. } => {
-            let bytes = bytes_of(rt, alloc, file, why)?;
-            match inspect(alloc, bytes.as_slice(), *as_json, out) {
-                Ok(()) => Ok(()),
-                Err(refusal) => Err(with_output(alloc, refusal, out, why)),
-            }
-        }
+        Call::Inspect { file, as_json, .. } => inspect_file(rt, alloc, file, *as_json, out, why),
         Call::Check { sources, table } if is_folder(rt, sources.schema) => {
             datasets.make(alloc, table, out, err, terminals)
         }
@@ -157,6 +145,45 @@ fn make<F: Files + Input, W: Write, E: Write, M: Datasets<W, E>>(
             }
         }
         Call::Dataset { call } => datasets.make(alloc, call, out, err, terminals),
+    }
+}
+
+/// Prints the rows of a file. Refused as [`bytes_of`] and [`decode`]; then `why` may get the reason.
+fn decode_file<F: Files + Input, W: Write, E: Write>(
+    rt: &F,
+    alloc: Global,
+    file: &str,
+    out: &mut W,
+    err: &mut E,
+    terminals: Terminals,
+    why: &mut Option<Cause>,
+) -> R<()>
+    ensures done { OnOk result (Decodes (W.contents out.old) (W.contents out.new)) }
+    ensures quiet { terminals.err ≡ false → E.contents err.new ≡ E.contents err.old }
+{
+    let bytes = bytes_of(rt, alloc, file, why)?;
+    let shows = terminals.shows_beside_output();
+    match decode(alloc, bytes.as_slice(), out, err, shows) {
+        Ok(()) => Ok(()),
+        Err(refusal) => Err(with_output(alloc, refusal, out, why)),
+    }
+}
+
+/// Prints what a file is. Refused as [`bytes_of`] and [`inspect`]; then `why` may get the reason.
+fn inspect_file<F: Files + Input, W: Write>(
+    rt: &F,
+    alloc: Global,
+    file: &str,
+    as_json: bool,
+    out: &mut W,
+    why: &mut Option<Cause>,
+) -> R<()>
+    ensures done { OnOk result (Inspects (W.contents out.old) (W.contents out.new)) }
+{
+    let bytes = bytes_of(rt, alloc, file, why)?;
+    match inspect(alloc, bytes.as_slice(), as_json, out) {
+        Ok(()) => Ok(()),
+        Err(refusal) => Err(with_output(alloc, refusal, out, why)),
     }
 }
 

@@ -211,12 +211,18 @@ expected there and what was found, and then the line by which encode refuses the
 
 The time and the memory are those of encode.
 
+Without ROWS it checks the schema alone, and prints `ok N columns`.
+
 Where SCHEMA is the folder of a dataset, and there is no ROWS, it reads each part file of the dataset: that it is there and
 can be read, that it has the columns and rows that the dataset says, that its footer and the dataset describe its
 column chunks alike, and that the statistics are true of its values. Prints `ok` and how much there is; or a line for each
 file with what is wrong in it, and is then refused as the first of them counts. A note has the part files that the
 dataset does not name: a query may still read them, or a command was stopped. The next change removes them where no
 query does. Rows of ROWS are rows that append would take. Nothing is changed.
+
+After `ok`, a line that begins with `note: ` says what is accepted here and other tools may refuse: a note that does not go with
+the type of its column, a decimal without a precision or with more digits than its type holds, an empty name. With ROWS of a
+dataset it says in which row a member stands twice: the last one counts. A note is no fault: the status is 0.
 
 Of a dataset, where standard error is a terminal, it shows after each 100000 rows how many were checked, or read of ROWS; at
 the end that is removed. With --quiet it is not shown.";

@@ -70,8 +70,8 @@ fn has_empty_name(leaf: &Leaf) -> bool {
 
 /// What is remarkable in the note of a leaf, if something is.
 fn type_note(alloc: Global, leaf_type: &LeafType) -> R<Option<String>> {
-    match leaf_type.annotation {
-        Annotation::OtherConverted(number) => Ok(Some(number_note(alloc, number)?)),
+    match &leaf_type.annotation {
+        Annotation::OtherConverted(number) => Ok(Some(number_note(alloc, *number)?)),
         Annotation::Known(ConvertedType::Decimal) => decimal_note(alloc, leaf_type),
         _ => Ok(None),
     }
