@@ -240,7 +240,7 @@ fn refused_new(alloc: Global, path: &str, error: io::Error, why: &mut Option<Cau
     ensures which { (result ≡ Memory) ⊎ ((result ≡ Exists) ⊎ (result ≡ Device)) }
 {
     let refusal = refusal_of_new(error);
-    if refusal == Refusal::Device
+    if refusal != Refusal::Memory
         && let Ok(fault) = system_fault(alloc, path, error)
     {
         *why = Some(Cause::System(fault));
