@@ -5,7 +5,7 @@
 use crate::filter_faults::fault_in;
 use crate::json_text::{Text, of_one_line};
 use crate::misfit::Misfit;
-use crate::row_misfit::of_row;
+use crate::row_misfit::{DIGITS, are_digits, of_row};
 use crate::schema_misfit::of_schema;
 use bits::{R, Refusal};
 use jsonrows::schema_from;
@@ -34,6 +34,9 @@ const CALLS: [(&str, &[&str]); 18] = [
     ("add_column", &["field"]),
     ("reopen", &[]),
 ];
+
+/// What a whole number of 64 bits is, in words.
+const NATURAL: &str = "a whole number from 0 to 18446744073709551615";
 
 /// What is wrong with a line that is no call on a table of this schema.
 pub fn of_call(alloc: Global, schema: &Schema, line: &str) -> R<Misfit> {
@@ -119,9 +122,9 @@ fn of_call_member(
             };
         }
         "field" => return of_field_member(alloc, plain),
-        "numbers" => of_all(alloc, json, "an array of group numbers", is_natural)?,
+        "numbers" => of_array(alloc, json, Item::Number)?,
         "columns" if json.is_null() => None,
-        "columns" => of_all(alloc, json, "null or an array of names", is_text)?,
+        "columns" => of_array(alloc, json, Item::Name)?,
         "bytes" => of_bytes(alloc, json)?,
         _ => of_natural(alloc, json)?,
     };
@@ -164,51 +167,63 @@ fn is_natural(json: &Json) -> bool {
     json.as_u64().is_some()
 }
 
-/// Whether a JSON value is a text.
-fn is_text(json: &Json) -> bool {
-    json.is_string()
-}
-
 /// The fault that a JSON value is no whole number of 64 bits, if it is none.
 fn of_natural(alloc: Global, json: &Json) -> R<Option<Misfit>> {
     if is_natural(json) {
         return Ok(None);
     }
-    let wanted = "a whole number from 0 to 18446744073709551615";
-    Ok(Some(Misfit::expected(alloc, wanted, json)?))
+    Ok(Some(Misfit::expected(alloc, NATURAL, json)?))
 }
 
 /// The fault that a JSON value is no text of hexadecimal digits, if it is none.
 fn of_bytes(alloc: Global, json: &Json) -> R<Option<Misfit>> {
-    let wanted = "bytes as lower-case hexadecimal digits, two a byte";
-    let is_well = match json {
-        Json::String(text) => text.len() % 2 == 0 && text.bytes().all(is_digit),
-        _ => false,
-    };
-    if is_well {
-        return Ok(None);
+    match json {
+        Json::String(text) if are_digits(text.as_str()) => Ok(None),
+        _ => Ok(Some(Misfit::expected(alloc, DIGITS, json)?)),
     }
-    Ok(Some(Misfit::expected(alloc, wanted, json)?))
 }
 
-/// Whether a byte is a hexadecimal digit in lower case.
-fn is_digit(byte: u8) -> bool {
-    byte.is_ascii_digit() || matches!(byte, b'a'..=b'f')
+/// What the items of a member that is an array are.
+#[derive(Clone, Copy)]
+enum Item {
+    Number,
+    Name,
 }
 
-/// The fault that a JSON value is no array of such values, if it is none.
-fn of_all<F: Fn(&Json) -> bool>(
-    alloc: Global,
-    json: &Json,
-    wanted: &str,
-    is_well: F,
-) -> R<Option<Misfit>> {
+impl Item {
+    /// Whether a JSON value is one.
+    fn is(self, json: &Json) -> bool {
+        match self {
+            Item::Number => is_natural(json),
+            Item::Name => json.is_string(),
+        }
+    }
+
+    /// What an item is, in words.
+    fn words(self) -> &'static str {
+        match self {
+            Item::Number => NATURAL,
+            Item::Name => "a name",
+        }
+    }
+
+    /// What an array of them is, in words.
+    fn words_of_array(self) -> &'static str {
+        match self {
+            Item::Number => "an array of group numbers",
+            Item::Name => "null or an array of names",
+        }
+    }
+}
+
+/// The fault that a JSON value is no array of such items, if it is none.
+fn of_array(alloc: Global, json: &Json, wanted: Item) -> R<Option<Misfit>> {
     let Json::Array(items) = json else {
-        return Ok(Some(Misfit::expected(alloc, wanted, json)?));
+        return Ok(Some(Misfit::expected(alloc, wanted.words_of_array(), json)?));
     };
     for (place, item) in items.iter().enumerate() {
-        if !is_well(item) {
-            let misfit = Misfit::expected(alloc, "another value", item)?;
+        if !wanted.is(item) {
+            let misfit = Misfit::expected(alloc, wanted.words(), item)?;
             return Ok(Some(misfit.in_item(alloc, place)?));
         }
     }

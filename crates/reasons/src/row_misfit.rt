@@ -10,6 +10,9 @@ use schema::{Field, Kind, LeafType, Order, Repetition};
 use serde_json::{Map, Number, Value as Json};
 use std::alloc::Global;
 
+/// How bytes that are no text are written, in words.
+pub const DIGITS: &str = "bytes as lower-case hexadecimal digits, two a byte";
+
 /// What is wrong with the first of the fields whose member is none of its values, if there is one; else with a
 /// member of no field.
 #[cycle(explaining)]
@@ -56,7 +59,7 @@ fn is_number_of(leaf_type: &LeafType, number: &Number) -> bool {
 }
 
 /// Whether a text has the digits of whole bytes.
-fn are_digits(text: &str) -> bool {
+pub fn are_digits(text: &str) -> bool {
     let are_hexadecimal = text.bytes().all(|byte| byte.is_ascii_digit()
         || matches!(byte, b'a'..=b'f'));
     are_hexadecimal && text.len() % 2 == 0
@@ -94,11 +97,10 @@ pub fn values_of(alloc: Global, leaf_type: &LeafType) -> R<String> {
         (Kind::Int64, false) => "an integer from -9223372036854775808 to 9223372036854775807",
         (Kind::Int64, true) => "an integer from 0 to 18446744073709551615",
         (Kind::ByteArray, _) if leaf_type.is_text() => "a text",
-        (Kind::ByteArray, _) => "bytes as lower-case hexadecimal digits, two a byte",
+        (Kind::ByteArray, _) => DIGITS,
         (Kind::FixedLenByteArray(length), _) => {
-            return Ok(format!(in alloc;
-                "{length} bytes as lower-case hexadecimal digits, two a byte"
-            )?);
+            let digits = DIGITS;
+            return Ok(format!(in alloc; "{length} {digits}")?);
         }
     };
     Ok(String::from_str(alloc, words)?)
