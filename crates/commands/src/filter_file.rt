@@ -30,6 +30,7 @@ pub fn with_filter<'a>(alloc: Global, call: &'a Call<'a>, bytes: &'a [u8]) -> R<
         folder: call.folder,
         waits: call.waits,
         options: call.options,
+        keeps_style: call.keeps_style,
         task: task_with_filter(alloc, &call.task, text)?,
     })
 }

@@ -13,6 +13,7 @@ mod first_rows;
 mod folder;
 mod folder_lock;
 mod import_reason;
+mod kept_style;
 mod key_reason;
 mod later_reason;
 mod lock;

@@ -6,6 +6,7 @@
 ghost use Rattle.std.specs.Prelude.{◌≡◌, false};
 
 use crate::folder::refusal_of;
+use crate::kept_style::kept_options;
 use crate::lock::{Access, Lock};
 use crate::making::{Making, root_reason};
 use crate::printing::print_done;
@@ -17,9 +18,12 @@ use crate::watched::Watched;
 use bits::{R, Refusal};
 use dataset_words::{Change, Question, Task};
 use disk::HostDisk;
+use footer::WriteOptions;
 use std::io::{Input, Write};
 use std::rt::{Clock, Files};
 use store::Store;
+use upkeep::described;
+use vault::Vault;
 
 /// The seconds for which a command that has made a change tries to keep readers out.
 const CLEANING_SECONDS: u64 = 1;
@@ -139,7 +143,7 @@ where
     /// writes.
     fn open(&self, why: &mut Option<Reason>) -> R<Store<Watched<HostDisk<F>, S>>> {
         let disk = self.disk(self.shows_disk())?;
-        let (alloc, folder, options) = (self.alloc, self.call.folder, self.call.options);
+        let (alloc, folder, options) = (self.alloc, self.call.folder, self.options()?);
         let readers = kept_out(self.rt, alloc, folder, 0);
         let store = match &readers {
             Readers::MayBe => opened(store::open_to_read(alloc, disk, options), why)?,
@@ -152,6 +156,21 @@ where
         let mut store = store;
         store.keep_replaced();
         Ok(store)
+    }
+
+    /// How part files are written: as the options of the call say, or in the style of a group that is there.
+    fn options(&self) -> R<WriteOptions> {
+        let options = self.call.options;
+        if !self.call.keeps_style {
+            return Ok(options);
+        }
+        let mut vault = Vault::start(self.disk(false)?);
+        match described(self.alloc, &mut vault) {
+            Ok(table) => Ok(kept_options(options, &table, &self.call.task)),
+            Err(Refusal::Memory) => Err(Refusal::Memory),
+            // The opening is refused too, and says why.
+            Err(_) => Ok(options),
+        }
     }
 
     /// Whether the screen shows what the disk reads and writes.

@@ -12,6 +12,8 @@ pub struct Call<'a> {
     pub waits: Option<u64>,
     /// How part files are written.
     pub options: WriteOptions,
+    /// Whether they are written in the style of a group that is there, in place of that of the options.
+    pub keeps_style: bool,
     pub task: Task<'a>,
 }
 
@@ -63,15 +65,25 @@ pub enum Change<'a> {
         unless: Option<&'a str>,
     },
     /// A column comes at the end; the file has its schema.
-    AddColumn { schema: &'a str },
+    AddColumn {
+        schema: &'a str,
+    },
     /// The rows that satisfy a filter go.
-    Remove { filter: &'a str },
+    Remove {
+        filter: &'a str,
+    },
     /// The groups of these numbers go.
-    RemoveGroups { numbers: Vec<u64> },
+    RemoveGroups {
+        numbers: Vec<u64>,
+    },
     /// The rows of the groups of these numbers are written anew, in full groups.
-    Rewrite { numbers: Vec<u64> },
+    Rewrite {
+        numbers: Vec<u64>,
+    },
     /// The rows of groups with fewer rows than this, where neighbours of one key have fewer too, are written anew, in full groups.
-    RewriteSmall { min_rows: u64 },
+    RewriteSmall {
+        min_rows: u64,
+    },
     /// The rows of all groups are written anew, in full groups.
     RewriteAll,
 }

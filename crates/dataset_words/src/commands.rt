@@ -1,7 +1,7 @@
 //! The commands on a dataset, as the parser of the command line knows them.
 
 use crate::help;
-use crate::options::with_options;
+use crate::options::{with_kept_options, with_options};
 use clap::{Arg, ArgAction, ArgGroup, Command, Error, value_parser};
 use std::alloc::{AllocError, Global};
 
@@ -216,7 +216,7 @@ fn remove_command<'a>(alloc: Global) -> Result<Command<'a>, Error> {
         .arg(filter_option(alloc, "Removes the rows that satisfy this filter"))?
         .arg(numbers_named(alloc, "The numbers of the groups to remove"))?
         .group(either(alloc, "filter", "NUMBER")?)?;
-    let remove = with_options(alloc, remove)?.arg(quiet_flag(alloc))?;
+    let remove = with_kept_options(alloc, remove)?.arg(quiet_flag(alloc))?;
     Ok(remove)
 }
 
@@ -242,7 +242,7 @@ fn rewrite_command<'a>(alloc: Global) -> Result<Command<'a>, Error> {
         .arg(numbers_named(alloc, "The numbers of the groups to rewrite"))?
         .arg(all_flag(alloc))?
         .group(either(alloc, "min-rows", "NUMBER")?.arg("all")?)?;
-    let rewrite = with_options(alloc, rewrite)?.arg(quiet_flag(alloc))?;
+    let rewrite = with_kept_options(alloc, rewrite)?.arg(quiet_flag(alloc))?;
     Ok(rewrite)
 }
 

@@ -10,7 +10,8 @@ put into folders `KEY=value`: a required column of type boolean, int32, int64, o
 is a Parquet file without the key columns, and one file `_metadata` says which parts are the dataset: the layout of partitioned
 datasets of other tools. pyarrow, DuckDB, Dask and fastparquet were seen to read such folders.
 
-DIR is made once SCHEMA and the KEYs are accepted, and the folder above it is synced. That folder must be there.
+DIR is made once SCHEMA and the KEYs are accepted, and the folder above it is synced. That folder must be there. No part file is
+written, so the options of how files are written have no effect: each command that writes rows takes its own.
 
 Refused 24 Exists where DIR has a dataset already, which stays as it is, or part files that a new dataset would remove; 17 Key
 for a KEY that is no such column, comes twice, or for all columns as keys; 4, 6 and 29 for the schema; 25 Device where DIR
@@ -189,7 +190,8 @@ pub const REMOVE: &str = "Removes rows from a dataset";
 pub const REMOVE_LONG: &str = "\
 Removes the rows that satisfy a filter (query says what a filter is; [] holds for every row), or the groups of these numbers
 (groups prints them), and prints `done N`, N the number of rows. All of them go or none, as append says it. A group of which
-some rows go is written anew under a new number; one of which none goes stays as it is.
+some rows go is written anew under a new number; one of which none goes stays as it is. It is written in the style of this call,
+so plain where no --style is given, whatever its style was; with --style keep in that of the first group of the dataset.
 
 Where standard error is a terminal, it shows how much was read from the disk and written to it so far; at the end that is
 removed. With --quiet it is not shown.
@@ -221,7 +223,8 @@ become groups of `--group-rows` rows, the last of them with the rest; the rows s
 these groups (groups prints the numbers); with --min-rows N with those that have fewer than N rows, and next to them a group of
 the same key that has fewer too; with --all with all groups: then all files have the style and the pages of this call, and the
 columns that were added later. Where there are none, nothing is written: `done 0`. All of it is done or nothing, as append
-says it.
+says it. New groups have the style of this call, so plain where no --style is given, whatever their style was; with --style keep
+that of the first of the NUMBERs, or else of the first group of the dataset.
 
 Where standard error is a terminal, it shows how much was read from the disk and written to it so far; at the end that is
 removed. With --quiet it is not shown.

@@ -4,7 +4,7 @@ ghost use Rattle.std.specs.Prelude.{◌≡◌, IfSome, IfOk, codes};
 ghost use Rattle.dataset_words.specs.Words.{task_word, question_word, change_word, look_word};
 
 use crate::call::{Call, Change, Look, Question, Task};
-use crate::options::options_in;
+use crate::options::{keeps_style_in, options_in};
 use bits::{R, Refusal};
 use clap::ArgMatches;
 use footer::WriteOptions;
@@ -167,6 +167,7 @@ pub fn call_in<'a>(alloc: Global, word: &str, matches: &ArgMatches<'a>) -> R<Opt
             folder,
             waits: seconds_in(matches),
             options: options_for(word, matches),
+            keeps_style: has_options(word) && keeps_style_in(matches),
             task,
         })),
         _ => Ok(None),
@@ -212,6 +213,7 @@ pub fn look_call<'a>(folder: &'a str, matches: &ArgMatches<'_>, look: Look<'a>) 
         folder,
         waits: seconds_in(matches),
         options: WriteOptions::standard(),
+        keeps_style: false,
         task: Task::Look(look),
     }
 }
