@@ -1,0 +1,5 @@
+pub mod Finding
+pub mod Texts
+pub mod Reads
+pub mod Forms
+pub mod Laws
