@@ -1,6 +1,7 @@
 //! The numbers that texts are read as.
 
 ghost use Rattle.std.specs.Prelude.{◌≡◌, Some, None};
+ghost use Rattle.valuetext.specs.Decimals.{IsDecimalNumber};
 ghost use Rattle.leaftext.specs.Forms.{in_64_bits, form_read};
 ghost use Rattle.leaftext.specs.Reads.{date_read, time_read, timestamp_read, decimal_read};
 
@@ -55,15 +56,17 @@ fn decimal_from(scale: u8, text: &[u8]) -> Option<i64>
     }
     let found = read_decimal(text, scale);
     match &found {
-        Some(number) => narrowed(*number),
+        Some(number) => narrowed(number),
         None => None,
     }
 }
 
 /// The number, if it has 64 bits.
-fn narrowed(number: i128) -> Option<i64>
-    ensures { result ≡ in_64_bits (Some number) }
+fn narrowed(number: &i128) -> Option<i64>
+    ensures number { result ≡ in_64_bits (Some number.now) }
+    ensures bound { IsDecimalNumber number.now }
 {
+    let number = *number;
     if number < i64::MIN as i128 || number > i64::MAX as i128 {
         return None;
     }

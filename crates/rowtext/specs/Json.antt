@@ -1,5 +1,5 @@
 -- Rows as JSON text (RFC 8259), one line each.
-use Rattle.std.specs.Prelude.{ℕ, ◌%◌, ◌^◌, ℤ, ◌&&◌, List, Option, Some, if◌then◌else◌}
+use Rattle.std.specs.Prelude.{ℕ, ◌%◌, ◌^◌, ℤ, Bool, false, ◌&&◌, List, Option, Some, None, if◌then◌else◌}
 use Rattle.std.specs.Int.{w64, cast_unsigned}
 use Rattle.std.specs.Str.{is_utf8}
 use Rattle.serde_json.specs.Data.{Data, Num, unsigned, Items, no_items, item, Members, no_members, put}
@@ -15,6 +15,8 @@ use Rattle.schema.specs.declared.order.Order.{Order}
 use Rattle.schema.specs.declared.order.Order.TheVariants.{Unsigned}
 use Rattle.schema.specs.Annotations.{LeafType, is_text, order_of}
 use Rattle.schema.specs.Values.{ValueTree, null, boolean, integer, bytes, group, list, ValueTrees, no_values, value}
+use Rattle.leaftext.specs.declared.leaf_form.Form.{Form}
+use Rattle.leaftext.specs.Forms.{form_if, form_text}
 use Rattle.schema.specs.Shape.{Field, leaf, fields, Fields, field, name_of}
 
 -- the unsigned number of the same bits
@@ -38,6 +40,21 @@ leaf_json t (integer z) = json.number (number_json t.kind (order_of t) z)
 leaf_json t (bytes s) = json.string (bytes_json t s)
 leaf_json t _ = json.null
 
+-- a text as a string; else this value
+abbrev pub text_or : Option (List ℕ) → Data → Data
+text_or (Some text) d = json.string text
+text_or None d = d
+
+-- a value of a leaf whose numbers have texts of this form: a number with a text is shown by it
+abbrev pub leaf_shown : Option Form → LeafType → ValueTree → Data
+leaf_shown None t v = leaf_json t v
+leaf_shown (Some form) t (integer z) = text_or (form_text form z) (leaf_json t (integer z))
+leaf_shown (Some form) t v = leaf_json t v
+
+-- a value of a leaf, its repetition aside, with texts or without
+abbrev pub leaf_json_as : Bool → LeafType → ValueTree → Data
+leaf_json_as texts t = leaf_shown (form_if texts t) t
+
 -- each item of a list
 abbrev pub items_json : (ValueTree → Data) → ValueTrees → Items
 items_json shown no_values = no_items
@@ -58,22 +75,40 @@ object_json shown _ = json.null
 
 -- a value of a field; the members of an object, which stand in the byte order of their names
 abbrev mutual
-  pub inside_json : Field → ValueTree → Data
-  inside_json (leaf n r t) v = leaf_json t v
-  inside_json (fields n r a fs) v = object_json (members_json fs) v
+  pub inside_json_as : Bool → Field → ValueTree → Data
+  inside_json_as texts (leaf n r t) v = leaf_json_as texts t v
+  inside_json_as texts (fields n r a fs) v = object_json (members_json_as texts fs) v
 
-  pub field_json : Field → ValueTree → Data
-  field_json (leaf n r t) v = json_as r (leaf_json t) v
-  field_json (fields n r a fs) v = json_as r (object_json (members_json fs)) v
+  pub field_json_as : Bool → Field → ValueTree → Data
+  field_json_as texts (leaf n r t) v = json_as r (leaf_json_as texts t) v
+  field_json_as texts (fields n r a fs) v = json_as r (object_json (members_json_as texts fs)) v
 
-  pub members_json : Fields → ValueTrees → Members
-  members_json (field f fs) (value v vs) = put (name_of f) (field_json f v) (members_json fs vs)
-  members_json _ _ = no_members
+  pub members_json_as : Bool → Fields → ValueTrees → Members
+  members_json_as texts (field f fs) (value v vs) = put (name_of f) (field_json_as texts f v) (members_json_as texts fs vs)
+  members_json_as texts _ _ = no_members
 
 -- a row is an object with a member for each top-level field
-abbrev pub row_json : Fields → ValueTrees → Data
-row_json fs row = json.object (members_json fs row)
+abbrev pub row_json_as : Bool → Fields → ValueTrees → Data
+row_json_as texts fs row = json.object (members_json_as texts fs row)
 
 -- the text of a row
+abbrev pub row_text_as : Bool → Fields → ValueTrees → List ℕ
+row_text_as texts fs row = compact_text (row_json_as texts fs row)
+
+-- ---- without texts
+
+abbrev pub inside_json : Field → ValueTree → Data
+inside_json = inside_json_as false
+
+abbrev pub field_json : Field → ValueTree → Data
+field_json = field_json_as false
+
+abbrev pub members_json : Fields → ValueTrees → Members
+members_json = members_json_as false
+
+abbrev pub row_json : Fields → ValueTrees → Data
+row_json = row_json_as false
+
+-- the text of a row without texts of dates, times and decimals: they are numbers
 abbrev pub row_text : Fields → ValueTrees → List ℕ
-row_text fs row = compact_text (row_json fs row)
+row_text = row_text_as false

@@ -1,5 +1,5 @@
 -- Rows from JSON values (RFC 8259): the row that the object of a line is, by the same table of leaves, groups and repetitions by which `Json` shows one.
-use Rattle.std.specs.Prelude.{ℕ, ◌^◌, ℤ, List, nat_lt, bytes_eq, Option, Some, None, option_map, option_and_then, if◌then◌else◌}
+use Rattle.std.specs.Prelude.{ℕ, ◌^◌, ℤ, Bool, false, List, nat_lt, bytes_eq, Option, Some, None, option_map, option_and_then, if◌then◌else◌}
 use Rattle.std.specs.Ordering.{nat_cmp, match_ordering}
 use Rattle.std.specs.Cmp.Lexicographic.{slice_cmp}
 use Rattle.std.specs.Int.{w32, w64, cast_signed}
@@ -17,6 +17,8 @@ use Rattle.schema.specs.declared.order.Order.{Order}
 use Rattle.schema.specs.declared.order.Order.TheVariants.{Unsigned}
 use Rattle.schema.specs.Annotations.{LeafType, is_text, order_of}
 use Rattle.schema.specs.Values.{ValueTree, null, boolean, integer, bytes, group, list, ValueTrees, no_values, value}
+use Rattle.leaftext.specs.declared.leaf_form.Form.{Form}
+use Rattle.leaftext.specs.Forms.{form_if, form_read}
 use Rattle.schema.specs.Shape.{Field, leaf, fields, Fields, no_fields, field, name_of}
 use Rattle.schema.specs.Fits.{fits_leaf}
 
@@ -45,9 +47,19 @@ scalar_read t (json.number n) = option_map integer (number_read t.kind (order_of
 scalar_read t (json.string s) = option_map bytes (bytes_read t s)
 scalar_read t _ = None
 
--- a value of a leaf, its repetition aside, which fits it
-abbrev pub leaf_read : LeafType → Data → Option ValueTree
-leaf_read t d = option_and_then (λ v. if fits_leaf t v then Some v else None) (scalar_read t d)
+-- the value that a JSON value is by its kind, where the numbers have texts of this form: a string is read as a text, and all else as without texts
+abbrev pub scalar_by : Option Form → LeafType → Data → Option ValueTree
+scalar_by None t d = scalar_read t d
+scalar_by (Some form) t (json.string s) = option_map integer (form_read form s)
+scalar_by (Some form) t d = scalar_read t d
+
+-- a value of a leaf, its repetition aside, which fits it, where the numbers have texts of this form
+abbrev pub leaf_read_by : Option Form → LeafType → Data → Option ValueTree
+leaf_read_by form t d = option_and_then (λ v. if fits_leaf t v then Some v else None) (scalar_by form t d)
+
+-- a value of a leaf, its repetition aside, which fits it, with texts or without
+abbrev pub leaf_read_as : Bool → LeafType → Data → Option ValueTree
+leaf_read_as texts t = leaf_read_by (form_if texts t) t
 
 -- a value and those behind it
 abbrev pub value_before : Option ValueTree → Option ValueTrees → Option ValueTrees
@@ -87,22 +99,40 @@ none_left (member k d ms) = None
 
 -- a value of a field; a value for each field, which takes the member of its name, and no member is left
 abbrev mutual
-  pub inside_read : Field → Data → Option ValueTree
-  inside_read (leaf n r t) d = leaf_read t d
-  inside_read (fields n r a fs) d = object_read (members_read fs) d
+  pub inside_read_as : Bool → Field → Data → Option ValueTree
+  inside_read_as texts (leaf n r t) d = leaf_read_as texts t d
+  inside_read_as texts (fields n r a fs) d = object_read (members_read_as texts fs) d
 
-  pub field_read : Field → Option Data → Option ValueTree
-  field_read (leaf n r t) d = read_as r (leaf_read t) d
-  field_read (fields n r a fs) d = read_as r (object_read (members_read fs)) d
+  pub field_read_as : Bool → Field → Option Data → Option ValueTree
+  field_read_as texts (leaf n r t) d = read_as r (leaf_read_as texts t) d
+  field_read_as texts (fields n r a fs) d = read_as r (object_read (members_read_as texts fs)) d
 
-  pub members_read : Fields → Members → Option ValueTrees
-  members_read no_fields ms = none_left ms
-  members_read (field f fs) ms = value_before (field_read f (get_member (name_of f) ms)) (members_read fs (without (name_of f) ms))
+  pub members_read_as : Bool → Fields → Members → Option ValueTrees
+  members_read_as texts no_fields ms = none_left ms
+  members_read_as texts (field f fs) ms = value_before (field_read_as texts f (get_member (name_of f) ms)) (members_read_as texts fs (without (name_of f) ms))
 
 -- the row that a JSON value is: an object with a member for each top-level field
+abbrev pub row_of_as : Bool → Fields → Data → Option ValueTrees
+row_of_as texts fs (json.object ms) = members_read_as texts fs ms
+row_of_as texts fs _ = None
+
+-- ---- without texts
+
+abbrev pub leaf_read : LeafType → Data → Option ValueTree
+leaf_read = leaf_read_as false
+
+abbrev pub inside_read : Field → Data → Option ValueTree
+inside_read = inside_read_as false
+
+abbrev pub field_read : Field → Option Data → Option ValueTree
+field_read = field_read_as false
+
+abbrev pub members_read : Fields → Members → Option ValueTrees
+members_read = members_read_as false
+
+-- the row that a JSON value is without texts of dates, times and decimals: they are numbers
 abbrev pub row_of : Fields → Data → Option ValueTrees
-row_of fs (json.object ms) = members_read fs ms
-row_of fs _ = None
+row_of = row_of_as false
 
 -- the object that the text of a row line is
 abbrev pub line_of : List ℕ → Option Members

@@ -63,7 +63,7 @@ pub fn put_value(
 {
     match value {
         ValueRef::Bool(boolean) => put_boolean(boolean, out),
-        ValueRef::Int(number) => put_number(numbers, number, out),
+        ValueRef::Int(number) => return put_number(numbers, number, out),
         ValueRef::Bytes(bytes) => return put_bytes(is_text, bytes, out),
         ValueRef::Null | ValueRef::Group(_) | ValueRef::List(_) => put_null(out),
     }

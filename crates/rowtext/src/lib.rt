@@ -36,13 +36,17 @@ mod row_text_sink;
 mod scalars;
 mod spans;
 mod strings;
+mod text_reader;
 mod tokens;
 mod unread;
 
 pub use json_text::json_of;
-pub use laws::rows_read_back;
+pub use laws::{rows_read_back, rows_read_back_as};
 pub use reader::Reader;
 pub use row_plan::RowPlan;
 pub use row_printing::row_to;
-pub use row_reading::{bytes_of_digits, leaf_from, members_from, row_from};
+pub use row_reading::{
+    bytes_of_digits, leaf_from, leaf_from_as, members_from, members_from_as, row_from, row_from_as,
+};
 pub use row_text::RowText;
+pub use text_reader::TextReader;

@@ -9,7 +9,7 @@ ghost use Rattle.schema.specs.Fits.{fits_each};
 ghost use Rattle.schema.specs.Values.{ValueTrees, views};
 ghost use Rattle.schema.specs.Views.{row_view};
 ghost use Rattle.assemble.specs.Sinks.{tokens_each, Visits};
-ghost use Rattle.rowtext.specs.Reading.{members_read, row_of, line_of};
+ghost use Rattle.rowtext.specs.Reading.{members_read, members_read_as, row_of, row_of_as, line_of};
 ghost use Rattle.rowtext.specs.Reader.{schema_of, IsRowOf};
 ghost use Rattle.rowtext.specs.inner.Pieces.{tokens_of};
 
@@ -17,7 +17,7 @@ use crate::names::{Names, names_of};
 use crate::piece_list::Pieces;
 use crate::pieces::{Piece, show_pieces};
 use crate::read_plan::ReadPlan;
-use crate::row_reading::row_from;
+use crate::row_reading::row_from_as;
 use crate::tokens::{members_at, next_token};
 use crate::unread::Unread;
 use assemble::{RowBuilder, RowSink, show_row};
@@ -52,15 +52,16 @@ fn values_of_tokens(
     names: &Names,
     text: &str,
     scratch: &mut Scratch,
+    texts: bool,
 ) -> Result<Vec<Value>, Unread>
-    ensures { IfOk result (λ values. (ms : Members) × (read text.now ≡ Some (object ms)) × (members_read schema.now ms ≡ Some (views values.items))) }
+    ensures { IfOk result (λ values. (ms : Members) × (read text.now ≡ Some (object ms)) × (members_read_as texts schema.now ms ≡ Some (views values.items))) }
 {
     // For the proof: what is known of the schema.
     let _ = schema.leaves();
     let mut tokens = json::Reader::new(text, scratch)?;
     match next_token(&mut tokens)? {
         Token::BeginObject => {
-            let values = members_at(alloc, schema.fields(), names, &mut tokens, DEEPEST)?;
+            let values = members_at(alloc, schema.fields(), names, &mut tokens, DEEPEST, texts)?;
             match tokens.next() {
                 Some(_) => Err(Unread::Unknown),
                 None => Ok(values),
@@ -125,20 +126,27 @@ impl<'a> Reader<'a> {
         })
     }
 
-    /// The row that a text in any form is.
-    fn read_otherwise(&mut self, text: &str) -> R<Row>
-        ensures stands { IfOk result (λ row. (d : Data) × (read text.now ≡ Some d) × (row_of (schema_of self.old) d ≡ Some (row_view row))) }
+    /// The row that a text in any form is, with texts or without.
+    pub(crate) fn read_otherwise(&mut self, text: &str, texts: bool) -> R<Row>
+        ensures stands { IfOk result (λ row. (d : Data) × (read text.now ≡ Some d) × (row_of_as texts (schema_of self.old) d ≡ Some (row_view row))) }
         ensures fits { IfOk result (λ row. IsTrue (fits_each (schema_of self.old) (row_view row))) }
-        ensures shape { result ≡ Err RowShape → (ms : Members) × (line_of text.now ≡ Some ms) × (members_read (schema_of self.old) ms ≡ None) }
+        ensures shape { result ≡ Err RowShape → (ms : Members) × (line_of text.now ≡ Some ms) × (members_read_as texts (schema_of self.old) ms ≡ None) }
         ensures script { result ≡ Err Script → line_of text.now ≡ None }
         ensures which { IfErr result (λ e. (e ≡ RowShape) ⊎ (e ≡ Script) ⊎ (e ≡ Memory)) }
         ensures same { schema_of self.new ≡ schema_of self.old }
     {
         let schema = self.plan.schema();
-        match values_of_tokens(self.alloc, schema, &self.names, text, &mut self.scratch) {
+        match values_of_tokens(
+            self.alloc,
+            schema,
+            &self.names,
+            text,
+            &mut self.scratch,
+            texts,
+        ) {
             Ok(values) => Ok(Row { values }),
             Err(Unread::OutOfMemory) => Err(Refusal::Memory),
-            Err(Unread::Unknown) => row_from(self.alloc, schema, text),
+            Err(Unread::Unknown) => row_from_as(self.alloc, schema, text, texts),
         }
     }
 
@@ -163,7 +171,7 @@ impl<'a> Reader<'a> {
         ) {
             Ok(row) => Ok(row),
             Err(Unread::OutOfMemory) => Err(Refusal::Memory),
-            Err(Unread::Unknown) => self.read_otherwise(text),
+            Err(Unread::Unknown) => self.read_otherwise(text, false),
         }
     }
 
@@ -190,7 +198,7 @@ impl<'a> Reader<'a> {
             }
             Err(Unread::OutOfMemory) => Err(Refusal::Memory),
             Err(Unread::Unknown) => {
-                let row = self.read_otherwise(text)?;
+                let row = self.read_otherwise(text, false)?;
                 show_row(&row, sink)?;
                 Ok(())
             }

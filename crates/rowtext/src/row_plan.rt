@@ -4,12 +4,12 @@ ghost use Rattle.std.specs.Prelude.{◌≡◌, ◌&&◌, ◌==◌, length, IfOk,
 ghost use Rattle.bits.specs.Refusals.{RefusedMemoryOnly};
 ghost use Rattle.schema.specs.Shape.{count};
 ghost use Rattle.schema.specs.Views.{field_view, field_views};
-ghost use Rattle.rowtext.specs.inner.Slots.{Slots, slot_view, slots_view, slots_made, slot_of, key_of, indices_of, put_index, ordered, entries_view, is_counting, is_in_order, order_of, vec_items, order_view, key_in};
-ghost use Rattle.rowtext.specs.Rows.{plan_schema, IsReady};
+ghost use Rattle.rowtext.specs.inner.Slots.{Slots, slot_view, slots_view, slots_as, slot_as, key_of, indices_of, put_index, ordered, entries_view, is_counting, is_in_order, order_of, vec_items, order_view, key_in};
+ghost use Rattle.rowtext.specs.Rows.{plan_schema, IsReady, IsReadyAs};
 
 use crate::key::Key;
 use crate::line::Line;
-use crate::scalars::{Numbers, numbers_of};
+use crate::scalars::{Numbers, numbers_as};
 use crate::strings::put_string;
 use bits::R;
 use schema::{Field, Schema};
@@ -71,7 +71,17 @@ impl<'a> RowPlan<'a> {
         ensures ready { IfOk result IsReady }
         ensures which { RefusedMemoryOnly result }
     {
-        let slots = slots_of(alloc, schema.fields())?;
+        RowPlan::with_texts(alloc, schema, false)
+    }
+
+    /// How rows of the schema are printed, as [`new`](RowPlan::new) finds it; with `texts`, dates, times, timestamps and decimals over
+    /// INT32 and INT64 are printed as texts. It fails only when out of memory.
+    pub fn with_texts(alloc: Global, schema: &'a Schema, texts: bool) -> R<RowPlan<'a>>
+        ensures prints { IfOk result (λ plan. plan_schema plan ≡ schema.now) }
+        ensures ready { IfOk result (IsReadyAs texts) }
+        ensures which { RefusedMemoryOnly result }
+    {
+        let slots = slots_of(alloc, schema.fields(), texts)?;
         let order = order_of(alloc, schema.fields())?;
         Ok(RowPlan {
             schema,
@@ -111,8 +121,8 @@ fn key_of(alloc: Global, name: &str) -> Result<Key, AllocError>
 
 /// What stands at a field.
 #[cycle(slots)]
-fn slot_of(alloc: Global, field: &Field) -> Result<Slot, AllocError>
-    ensures { IfOk result (λ slot. slot_view slot ≡ slot_of (field_view field.now)) }
+fn slot_of(alloc: Global, field: &Field, texts: bool) -> Result<Slot, AllocError>
+    ensures { IfOk result (λ slot. slot_view slot ≡ slot_as texts (field_view field.now)) }
 {
     match field {
         Field::Leaf {
@@ -123,13 +133,13 @@ fn slot_of(alloc: Global, field: &Field) -> Result<Slot, AllocError>
             let key = key_of(alloc, name.as_str())?;
             Ok(Slot::Leaf {
                 key,
-                numbers: numbers_of(leaf_type),
+                numbers: numbers_as(texts, leaf_type),
                 is_text: leaf_type.is_text(),
             })
         }
         Field::Group { name, fields, .. } => {
             let key = key_of(alloc, name.as_str())?;
-            let slots = slots_of(alloc, fields.as_slice())?;
+            let slots = slots_of(alloc, fields.as_slice(), texts)?;
             let order = order_of(alloc, fields.as_slice())?;
             Ok(Slot::Group { key, slots, order })
         }
@@ -138,12 +148,12 @@ fn slot_of(alloc: Global, field: &Field) -> Result<Slot, AllocError>
 
 /// What stands at each of some fields.
 #[cycle(slots)]
-fn slots_of(alloc: Global, fields: &[Field]) -> Result<Vec<Slot>, AllocError>
-    ensures { IfOk result (λ slots. slots_view slots.items ≡ slots_made (field_views fields.now)) }
+fn slots_of(alloc: Global, fields: &[Field], texts: bool) -> Result<Vec<Slot>, AllocError>
+    ensures { IfOk result (λ slots. slots_view slots.items ≡ slots_as texts (field_views fields.now)) }
 {
     let mut slots = Vec::with_capacity(alloc, fields.len())?;
     for field in fields {
-        slots.push(slot_of(alloc, field)?)?;
+        slots.push(slot_of(alloc, field, texts)?)?;
     }
     Ok(slots)
 }

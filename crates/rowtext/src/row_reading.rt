@@ -1,20 +1,22 @@
 //! The row that a text is.
 
 ghost use Rattle.std.specs.BTreeMap.{btree_map_len};
-ghost use Rattle.std.specs.Prelude.{◌≡◌, ◌⊎◌, ◌↔◌, Option, option_map, IfOk, IfErr, IsTrue, string_bytes};
+ghost use Rattle.std.specs.Prelude.{◌≡◌, ◌⊎◌, ◌↔◌, Option, Some, None, option_map, if◌then◌else◌, IfOk, IfErr, IsTrue, string_bytes};
 ghost use Rattle.bits.specs.declared.refusal.Refusal.TheVariants.{Memory, RowShape, Script};
-ghost use Rattle.serde_json.specs.Data.{Data, Members};
+ghost use Rattle.serde_json.specs.Data.{Data, Members, string};
 ghost use Rattle.serde_json.specs.Read.{read};
 ghost use Rattle.serde_json.specs.View.{view, number_view, items_view, members_view};
 ghost use Rattle.schema.specs.Annotations.{order_of};
-ghost use Rattle.schema.specs.Fits.{fits_each};
+ghost use Rattle.schema.specs.Fits.{fits_leaf, fits_each};
 ghost use Rattle.schema.specs.Values.{ValueTree, view as value_view, views};
 ghost use Rattle.schema.specs.Views.{leaf_type_view, field_view, field_views, row_view};
-ghost use Rattle.rowtext.specs.Reading.{number_read, bytes_of_digits, bytes_read, scalar_read, leaf_read, read_as, items_read, inside_read, field_read, members_read, row_of, line_of};
+ghost use Rattle.rowtext.specs.Reading.{number_read, bytes_of_digits, bytes_read, scalar_read, leaf_read, leaf_read_as, leaf_read_by, read_as, items_read, inside_read_as, field_read_as, members_read, members_read_as, row_of, row_of_as, line_of};
 
 use crate::json_text::json_of;
+use crate::scalars::form_if;
 use bits::{R, Refusal};
 use hex::FromHexError;
+use leaftext::{Form, form_read};
 use schema::{Field, Kind, LeafType, Order, Repetition, Row, Schema, Value};
 use serde_json::{Map, Number, Value as Json};
 use std::alloc::{AllocError, Global};
@@ -72,10 +74,57 @@ pub fn leaf_from(
     let Some(value) = scalar_from(alloc, leaf_type, json)? else {
         return Ok(None);
     };
+    Ok(fitting(leaf_type, value))
+}
+
+/// The same with `texts`: a date, a time, a timestamp or a decimal over INT32 and INT64 is also read from its text.
+pub fn leaf_from_as(
+    alloc: Global,
+    leaf_type: &LeafType,
+    json: Json,
+    texts: bool,
+) -> Result<Option<Value>, AllocError>
+    ensures { IfOk result (λ found. option_map value_view found ≡ leaf_read_as texts (leaf_type_view leaf_type.now) (view json)) }
+{
+    match form_if(texts, leaf_type) {
+        Some(form) => formed_from(alloc, leaf_type, form, json),
+        None => leaf_from(alloc, leaf_type, json),
+    }
+}
+
+/// A value of a leaf whose numbers have texts.
+fn formed_from(
+    alloc: Global,
+    leaf_type: &LeafType,
+    form: Form,
+    json: Json,
+) -> Result<Option<Value>, AllocError>
+    ensures { IfOk result (λ found. option_map value_view found ≡ leaf_read_by (Some form) (leaf_type_view leaf_type.now) (view json)) }
+{
+    match json {
+        Json::String(text) => Ok(formed_number(leaf_type, form, text.as_bytes())),
+        _ => leaf_from(alloc, leaf_type, json),
+    }
+}
+
+/// The number of a leaf that a text is read as, if it fits.
+fn formed_number(leaf_type: &LeafType, form: Form, text: &[u8]) -> Option<Value>
+    ensures { option_map value_view result ≡ leaf_read_by (Some form) (leaf_type_view leaf_type.now) (string text.now) }
+{
+    match form_read(form, text) {
+        Some(number) => fitting(leaf_type, Value::Int(number)),
+        None => None,
+    }
+}
+
+/// The value, if it fits the leaf.
+fn fitting(leaf_type: &LeafType, value: Value) -> Option<Value>
+    ensures { option_map value_view result ≡ (if fits_leaf (leaf_type_view leaf_type.now) (value_view value) then Some (value_view value) else None) }
+{
     if leaf_type.fits(&value) {
-        Ok(Some(value))
+        Some(value)
     } else {
-        Ok(None)
+        None
     }
 }
 
@@ -93,10 +142,22 @@ pub fn row_from(alloc: Global, schema: &Schema, text: &str) -> R<Row>
     ensures script { result ≡ Err Script → line_of text.now ≡ None }
     ensures which { IfErr result (λ e. (e ≡ RowShape) ⊎ (e ≡ Script) ⊎ (e ≡ Memory)) }
 {
+    row_from_as(alloc, schema, text, false)
+}
+
+/// The row of the schema that a text is, as [`row_from`] reads it, under the same refusals; with `texts`, dates, times,
+/// timestamps and decimals over INT32 and INT64 are also read from their texts.
+pub fn row_from_as(alloc: Global, schema: &Schema, text: &str, texts: bool) -> R<Row>
+    ensures stands { IfOk result (λ row. (d : Data) × (read text.now ≡ Some d) × (row_of_as texts schema.now d ≡ Some (row_view row))) }
+    ensures fits { IfOk result (λ row. IsTrue (fits_each schema.now (row_view row))) }
+    ensures shape { result ≡ Err RowShape → (ms : Members) × (line_of text.now ≡ Some ms) × (members_read_as texts schema.now ms ≡ None) }
+    ensures script { result ≡ Err Script → line_of text.now ≡ None }
+    ensures which { IfErr result (λ e. (e ≡ RowShape) ⊎ (e ≡ Script) ⊎ (e ≡ Memory)) }
+{
     let Json::Object(members) = json_of(alloc, text)? else {
         return Err(Refusal::Script);
     };
-    match members_from(alloc, schema.fields(), members)? {
+    match members_from_as(alloc, schema.fields(), members, texts)? {
         Some(values) => Ok(Row { values }),
         None => Err(Refusal::RowShape),
     }
@@ -137,13 +198,18 @@ fn scalar_from(alloc: Global, leaf_type: &LeafType, json: Json) -> Result<Option
 
 /// A value of a field, its repetition aside; none where the JSON value is no such value.
 #[cycle(reading)]
-fn inside_from(alloc: Global, field: &Field, json: Json) -> Result<Option<Value>, AllocError>
-    ensures { IfOk result (λ found. option_map value_view found ≡ inside_read (field_view field.now) (view json)) }
+fn inside_from(
+    alloc: Global,
+    field: &Field,
+    json: Json,
+    texts: bool,
+) -> Result<Option<Value>, AllocError>
+    ensures { IfOk result (λ found. option_map value_view found ≡ inside_read_as texts (field_view field.now) (view json)) }
 {
     match field {
-        Field::Leaf { leaf_type, .. } => leaf_from(alloc, leaf_type, json),
+        Field::Leaf { leaf_type, .. } => leaf_from_as(alloc, leaf_type, json, texts),
         Field::Group { fields, .. } => match json {
-            Json::Object(members) => match members_from(alloc, fields.as_slice(), members)? {
+            Json::Object(members) => match members_from_as(alloc, fields.as_slice(), members, texts)? {
                 Some(values) => Ok(Some(Value::Group(values))),
                 None => Ok(None),
             },
@@ -158,12 +224,13 @@ fn items_from(
     alloc: Global,
     field: &Field,
     items: Vec<Json>,
+    texts: bool,
 ) -> Result<Option<Vec<Value>>, AllocError>
-    ensures { IfOk result (λ found. option_map (λ all. views all.items) found ≡ items_read (inside_read (field_view field.now)) (items_view items.items)) }
+    ensures { IfOk result (λ found. option_map (λ all. views all.items) found ≡ items_read (inside_read_as texts (field_view field.now)) (items_view items.items)) }
 {
     let mut all = Vec::with_capacity(alloc, items.len())?;
     for item in items {
-        let Some(value) = inside_from(alloc, field, item)? else {
+        let Some(value) = inside_from(alloc, field, item, texts)? else {
             return Ok(None);
         };
         all.push(value)?;
@@ -188,20 +255,21 @@ fn field_from(
     alloc: Global,
     field: &Field,
     member: Option<Json>,
+    texts: bool,
 ) -> Result<Option<Value>, AllocError>
-    ensures { IfOk result (λ found. option_map value_view found ≡ field_read (field_view field.now) (option_map view member)) }
+    ensures { IfOk result (λ found. option_map value_view found ≡ field_read_as texts (field_view field.now) (option_map view member)) }
 {
     let Some(json) = member else {
         return Ok(value_of_absent(alloc, field.repetition()));
     };
     match field.repetition() {
-        Repetition::Required => inside_from(alloc, field, json),
+        Repetition::Required => inside_from(alloc, field, json, texts),
         Repetition::Optional => match json {
             Json::Null => Ok(Some(Value::Null)),
-            _ => inside_from(alloc, field, json),
+            _ => inside_from(alloc, field, json, texts),
         },
         Repetition::Repeated => match json {
-            Json::Array(items) => match items_from(alloc, field, items)? {
+            Json::Array(items) => match items_from(alloc, field, items, texts)? {
                 Some(values) => Ok(Some(Value::List(values))),
                 None => Ok(None),
             },
@@ -219,18 +287,30 @@ fn are_all_taken(members: &Map<String, Json>) -> bool
 
 /// A value for each field, by the member of its name; none where a member is no such value, or where
 /// one is left.
-#[cycle(reading)]
 pub fn members_from(
     alloc: Global,
     fields: &[Field],
-    mut members: Map<String, Json>,
+    members: Map<String, Json>,
 ) -> Result<Option<Vec<Value>>, AllocError>
     ensures { IfOk result (λ found. option_map (λ all. views all.items) found ≡ members_read (field_views fields.now) (members_view members.entries)) }
+{
+    members_from_as(alloc, fields, members, false)
+}
+
+/// The same with `texts`: dates, times, timestamps and decimals over INT32 and INT64 are also read from their texts.
+#[cycle(reading)]
+pub fn members_from_as(
+    alloc: Global,
+    fields: &[Field],
+    mut members: Map<String, Json>,
+    texts: bool,
+) -> Result<Option<Vec<Value>>, AllocError>
+    ensures { IfOk result (λ found. option_map (λ all. views all.items) found ≡ members_read_as texts (field_views fields.now) (members_view members.entries)) }
 {
     let mut all = Vec::with_capacity(alloc, fields.len())?;
     for field in fields {
         let member = members.remove(field.name());
-        let Some(value) = field_from(alloc, field, member)? else {
+        let Some(value) = field_from(alloc, field, member, texts)? else {
             return Ok(None);
         };
         all.push(value)?;

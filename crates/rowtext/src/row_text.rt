@@ -1,14 +1,14 @@
 //! The text of rows, made of what a sink is shown.
 
-ghost use Rattle.std.specs.Prelude.{◌≡◌, ◌≤◌, ℕ, ◌+◌, ◌++◌, ◌∷◌, [], List, length, drop, Some, IfSome, IfNone, OnSome, IfOk, OnOk, OnErr, IsTrue, option_map};
+ghost use Rattle.std.specs.Prelude.{◌≡◌, ◌≤◌, ℕ, Bool, ◌+◌, ◌++◌, ◌∷◌, [], List, length, drop, Some, IfSome, IfNone, OnSome, IfOk, OnOk, OnErr, IsTrue, option_map};
 ghost use Rattle.schema.specs.Borrowed.{value_ref_view};
 ghost use Rattle.schema.specs.Fits.{fits_each};
 ghost use Rattle.schema.specs.Shape.{Fields};
 ghost use Rattle.schema.specs.Values.{ValueTrees};
 ghost use Rattle.schema.specs.Views.{row_view};
 ghost use Rattle.assemble.specs.Sinks.{Adds, single};
-ghost use Rattle.rowtext.specs.Json.{row_text};
-ghost use Rattle.rowtext.specs.Rows.{plan_schema, IsReady, text_shows, BeginsRow, ShowsRow, BeginsLine, ShowsLine};
+ghost use Rattle.rowtext.specs.Json.{row_text, row_text_as};
+ghost use Rattle.rowtext.specs.Rows.{plan_schema, IsReady, IsReadyAs, text_shows, BeginsRow, BeginsRowAs, ShowsRow, ShowsRowAs, BeginsLine, BeginsLineAs, ShowsLine, ShowsLineAs};
 ghost use Rattle.rowtext.specs.inner.Slots.{leaf_slot, order_view};
 ghost use Rattle.rowtext.specs.inner.Levels.{top_of, state_of, begun, next_slot, left, closed, level_at, entered, seen, held, from_of, braced_at, sorted, kept_starts};
 
@@ -51,6 +51,7 @@ const LEAF_ROOM: usize = 69;
 impl<'a> RowText<'a> {
     /// A printer of rows by the plan, which was shown nothing yet.
     pub fn new(alloc: Global, plan: &'a RowPlan<'a>) -> RowText<'a>
+        ensures begins_as { (texts : Bool) → IsReadyAs texts plan.now → BeginsLineAs texts result (plan_schema plan.now) [] }
         ensures begins { IsReady plan.now → BeginsRow result (plan_schema plan.now) }
         ensures empty { IsReady plan.now → BeginsLine result (plan_schema plan.now) [] }
     {
@@ -308,6 +309,8 @@ impl<'a> RowText<'a> {
     /// are then lost, and the caller makes a new `RowText`.
     #[inline]
     pub fn end_row(&mut self) -> Result<(), AllocError>
+        ensures stands_as { (texts : Bool) (fs : Fields) (lines : List ℕ) (values : ValueTrees) → ShowsLineAs texts self.old fs lines values → IsTrue (fits_each fs values)
+            → OnOk result (BeginsLineAs texts self.new fs (lines ++ (row_text_as texts fs values ++ 10 ∷ []))) }
         ensures stands { (fs : Fields) (lines : List ℕ) (values : ValueTrees) → ShowsLine self.old fs lines values → IsTrue (fits_each fs values)
             → OnOk result (BeginsLine self.new fs (lines ++ (row_text fs values ++ 10 ∷ []))) }
     {
@@ -325,8 +328,8 @@ impl<'a> RowText<'a> {
     /// Ends the row that was shown, as `end_row` does, whatever the order of its fields.
     #[inline(never)]
     fn end_sorted_row(&mut self) -> Result<(), AllocError>
-        ensures stands { (fs : Fields) (lines : List ℕ) (values : ValueTrees) → ShowsLine self.old fs lines values → IsTrue (fits_each fs values)
-            → OnOk result (BeginsLine self.new fs (lines ++ (row_text fs values ++ 10 ∷ []))) }
+        ensures stands_as { (texts : Bool) (fs : Fields) (lines : List ℕ) (values : ValueTrees) → ShowsLineAs texts self.old fs lines values → IsTrue (fits_each fs values)
+            → OnOk result (BeginsLineAs texts self.new fs (lines ++ (row_text_as texts fs values ++ 10 ∷ []))) }
     {
         self.close()?;
         self.text.push(b'\n')?;
@@ -340,6 +343,8 @@ impl<'a> RowText<'a> {
     /// their names at once. The row must fit the schema, and none may have begun. It fails only when out of memory;
     /// all rows that it holds are then lost, and the caller makes a new `RowText`.
     pub fn put_line(&mut self, row: &Row) -> Result<(), AllocError>
+        ensures stands_as { (texts : Bool) (fs : Fields) (lines : List ℕ) → BeginsLineAs texts self.old fs lines → IsTrue (fits_each fs (row_view row.now))
+            → OnOk result (BeginsLineAs texts self.new fs (lines ++ (row_text_as texts fs (row_view row.now) ++ 10 ∷ []))) }
         ensures stands { (fs : Fields) (lines : List ℕ) → BeginsLine self.old fs lines → IsTrue (fits_each fs (row_view row.now))
             → OnOk result (BeginsLine self.new fs (lines ++ (row_text fs (row_view row.now) ++ 10 ∷ []))) }
     {
@@ -358,14 +363,16 @@ impl<'a> RowText<'a> {
     /// The lines of the rows that were ended, where no row has begun after them.
     #[inline]
     pub fn lines(&self) -> &[u8]
-        ensures { (fs : Fields) (lines : List ℕ) → BeginsLine self.now fs lines → result.now ≡ lines }
+        ensures lines_as { (texts : Bool) (fs : Fields) (lines : List ℕ) → BeginsLineAs texts self.now fs lines → result.now ≡ lines }
+        ensures lines { (fs : Fields) (lines : List ℕ) → BeginsLine self.now fs lines → result.now ≡ lines }
     {
         self.text.as_slice()
     }
 
     /// Forgets the lines. Where a row has begun after them, that is lost too.
     pub fn clear_lines(&mut self)
-        ensures { (fs : Fields) (lines : List ℕ) → BeginsLine self.old fs lines → BeginsLine self.new fs [] }
+        ensures again_as { (texts : Bool) (fs : Fields) (lines : List ℕ) → BeginsLineAs texts self.old fs lines → BeginsLineAs texts self.new fs [] }
+        ensures again { (fs : Fields) (lines : List ℕ) → BeginsLine self.old fs lines → BeginsLine self.new fs [] }
     {
         self.text.clear();
         self.begin_row();
@@ -375,8 +382,11 @@ impl<'a> RowText<'a> {
     /// It fails only when out of memory, and leaves `out` unchanged; the row is then lost, and the caller makes a
     /// new `RowText`.
     pub fn put_row(&mut self, out: &mut Vec<u8>) -> Result<(), AllocError>
+        ensures stands_as { (texts : Bool) (fs : Fields) (values : ValueTrees) → ShowsRowAs texts self.old fs values → IsTrue (fits_each fs values)
+            → OnOk result (out.new.items ≡ out.old.items ++ row_text_as texts fs values) }
         ensures stands { (fs : Fields) (values : ValueTrees) → ShowsRow self.old fs values → IsTrue (fits_each fs values)
             → OnOk result (out.new.items ≡ out.old.items ++ row_text fs values) }
+        ensures again_as { (texts : Bool) (fs : Fields) (values : ValueTrees) → ShowsRowAs texts self.old fs values → OnOk result (BeginsRowAs texts self.new fs) }
         ensures again { (fs : Fields) (values : ValueTrees) → ShowsRow self.old fs values → OnOk result (BeginsRow self.new fs) }
         ensures unchanged { OnErr result (out.new.items ≡ out.old.items) }
     {

@@ -3,12 +3,17 @@
 ghost use Rattle.std.specs.Prelude.{◌≡◌, ◌≤◌, ◌++◌, OnOk};
 ghost use Rattle.std.specs.Fmt.{signed_decimal};
 ghost use Rattle.serde_json.specs.Data as json;
-ghost use Rattle.serde_json.specs.Written.{compact_text, number_text};
+ghost use Rattle.serde_json.specs.Find.{of_integer};
+ghost use Rattle.serde_json.specs.Written.{compact_text};
 ghost use Rattle.schema.specs.Annotations.{order_of};
 ghost use Rattle.schema.specs.Views.{leaf_type_view};
-ghost use Rattle.rowtext.specs.inner.Scalars.{number_shown, numbers_of};
+ghost use Rattle.leaftext.specs.Forms.{form_if, form_text};
+ghost use Rattle.rowtext.specs.Json.{text_or};
+ghost use Rattle.rowtext.specs.inner.Scalars.{integer_text, numbers_as, numbers_of};
 
 use crate::line::Line;
+use crate::strings::put_string;
+use leaftext::{Form, form_of, form_text};
 use schema::{Kind, LeafType, Order};
 use std::alloc::AllocError;
 
@@ -24,10 +29,33 @@ pub enum Numbers {
     Signed,
     Unsigned32,
     Unsigned64,
+    /// As texts of this form; a number without a text as a signed one.
+    Texts(Form),
+}
+
+/// The form of the texts of a leaf's numbers, if texts are asked for.
+pub fn form_if(texts: bool, leaf_type: &LeafType) -> Option<Form>
+    ensures { result ≡ form_if texts (leaf_type_view leaf_type.now) }
+{
+    if texts {
+        form_of(leaf_type)
+    } else {
+        None
+    }
+}
+
+/// How the numbers of a leaf are printed, with texts or without.
+pub fn numbers_as(texts: bool, leaf_type: &LeafType) -> Numbers
+    ensures { result ≡ numbers_as (form_if texts (leaf_type_view leaf_type.now)) leaf_type.now.kind (order_of (leaf_type_view leaf_type.now)) }
+{
+    match form_if(texts, leaf_type) {
+        Some(form) => Numbers::Texts(form),
+        None => numbers_of(leaf_type),
+    }
 }
 
 /// How the numbers of a leaf are printed: unsigned where its order is.
-pub fn numbers_of(leaf_type: &LeafType) -> Numbers
+fn numbers_of(leaf_type: &LeafType) -> Numbers
     ensures { result ≡ numbers_of leaf_type.now.kind (order_of (leaf_type_view leaf_type.now)) }
 {
     match (leaf_type.order(), leaf_type.kind) {
@@ -49,27 +77,43 @@ fn put_integer(number: i64, out: &mut Line)
     out.place_natural(number.unsigned_abs());
 }
 
+/// Appends the text of a number in quotes; its digits if it has none.
+#[inline(never)]
+fn put_text(form: Form, number: i64, out: &mut Line) -> Result<(), AllocError>
+    requires { 53 ≤ out.old.ready }
+    ensures { OnOk result (out.new.items ≡ out.old.items ++ compact_text (text_or (form_text form number) (json.number (of_integer number)))) }
+{
+    match form_text(form, number) {
+        Some(text) => put_string(text.as_bytes(), out),
+        None => {
+            put_integer(number, out);
+            Ok(())
+        }
+    }
+}
+
 /// Appends a number of a leaf.
 #[inline(always)]
-pub fn put_number(numbers: Numbers, number: i64, out: &mut Line)
+pub fn put_number(numbers: Numbers, number: i64, out: &mut Line) -> Result<(), AllocError>
     requires { 53 ≤ out.old.ready }
-    ensures { out.new.items ≡ out.old.items ++ number_text (number_shown numbers number) }
+    ensures { OnOk result (out.new.items ≡ out.old.items ++ integer_text numbers number) }
 {
     match numbers {
         Numbers::Signed => put_integer(number, out),
         Numbers::Unsigned32 => out.place_natural(number.cast_unsigned() % NUMBERS_OF_INT32),
         Numbers::Unsigned64 => out.place_natural(number.cast_unsigned()),
+        Numbers::Texts(form) => return put_text(form, number, out),
     }
+    Ok(())
 }
 
 /// Appends a number of a leaf, as [`put_number`] does: a call that ends the caller, which then has no registers to save.
 #[inline(never)]
 pub fn end_with_number(numbers: Numbers, number: i64, out: &mut Line) -> Result<(), AllocError>
     requires { 53 ≤ out.old.ready }
-    ensures { OnOk result (out.new.items ≡ out.old.items ++ number_text (number_shown numbers number)) }
+    ensures { OnOk result (out.new.items ≡ out.old.items ++ integer_text numbers number) }
 {
-    put_number(numbers, number, out);
-    Ok(())
+    put_number(numbers, number, out)
 }
 
 /// Appends a boolean.

@@ -4,20 +4,23 @@ ghost use Rattle.std.specs.Prelude.{◌≡◌, ◌<◌, ◌∷◌, length, Some,
 ghost use Rattle.json.specs.Reads.{token_of};
 ghost use Rattle.serde_json.specs.Data.{string};
 ghost use Rattle.serde_json.specs.Read.{number_of};
+ghost use Rattle.leaftext.specs.Forms.{form_read};
 ghost use Rattle.schema.specs.Annotations.{is_text, order_of};
 ghost use Rattle.schema.specs.Fits.{fits_leaf};
 ghost use Rattle.schema.specs.Law.{AllDiffer, names as names_in, IsValid, AreValid};
 ghost use Rattle.schema.specs.Shape.{repetition_of};
 ghost use Rattle.schema.specs.Values.{view as value_view, views};
 ghost use Rattle.schema.specs.Views.{annotation_view, leaf_type_view, field_view, field_views};
-ghost use Rattle.rowtext.specs.Reading.{number_read, bytes_of_digits, leaf_read, items_read, inside_read, field_read, members_read};
+ghost use Rattle.rowtext.specs.Reading.{number_read, bytes_of_digits, leaf_read, leaf_read_as, leaf_read_by, items_read, inside_read_as, field_read_as, members_read_as};
 ghost use Rattle.rowtext.specs.inner.Fill.{scalar_of, BeginsWith, HoldsItems, HoldsMembers, absent_as, absent_each, is_filled_as, are_filled};
 
 use crate::integers::integer_from;
 use crate::names::{Names, index_of};
 use crate::row_reading::{bytes_of_digits, number_from};
+use crate::scalars::form_if;
 use crate::unread::Unread;
 use json::{Reader, Token};
+use leaftext::{Form, form_read};
 use schema::{Field, LeafType, Repetition, Value};
 use std::alloc::Global;
 
@@ -43,8 +46,45 @@ pub fn fitting(leaf_type: &LeafType, value: Value) -> Result<Value, Unread>
     }
 }
 
-/// A value of a leaf, its repetition aside.
-pub fn leaf_at(alloc: Global, leaf_type: &LeafType, token: Token<'_>) -> Result<Value, Unread>
+/// A value of a leaf, its repetition aside, with texts or without.
+pub fn leaf_at(
+    alloc: Global,
+    leaf_type: &LeafType,
+    token: Token<'_>,
+    texts: bool,
+) -> Result<Value, Unread>
+    ensures { IfOk result (λ value. option_and_then (leaf_read_as texts (leaf_type_view leaf_type.now)) (scalar_of (token_of token.entry)) ≡ Some (value_view value)) }
+{
+    match form_if(texts, leaf_type) {
+        Some(form) => formed_at(leaf_type, form, token),
+        None => plain_at(alloc, leaf_type, token),
+    }
+}
+
+/// A value of a leaf whose numbers have texts.
+fn formed_at(leaf_type: &LeafType, form: Form, token: Token<'_>) -> Result<Value, Unread>
+    ensures { IfOk result (λ value. option_and_then (leaf_read_by (Some form) (leaf_type_view leaf_type.now)) (scalar_of (token_of token.entry)) ≡ Some (value_view value)) }
+{
+    match token {
+        Token::Bool(boolean) => fitting(leaf_type, Value::Bool(boolean)),
+        Token::Number(text) => fitting(leaf_type, Value::Int(integer_at(leaf_type, text)?)),
+        Token::String(text) => fitting(leaf_type, Value::Int(formed_number(form, text)?)),
+        _ => Err(Unread::Unknown),
+    }
+}
+
+/// The number of a leaf that a text is read as.
+fn formed_number(form: Form, text: &str) -> Result<i64, Unread>
+    ensures { IfOk result (λ z. form_read form text.now ≡ Some z) }
+{
+    match form_read(form, text.as_bytes()) {
+        Some(number) => Ok(number),
+        None => Err(Unread::Unknown),
+    }
+}
+
+/// A value of a leaf, its repetition aside, without texts.
+fn plain_at(alloc: Global, leaf_type: &LeafType, token: Token<'_>) -> Result<Value, Unread>
     ensures { IfOk result (λ value. option_and_then (leaf_read (leaf_type_view leaf_type.now)) (scalar_of (token_of token.entry)) ≡ Some (value_view value)) }
 {
     match token {
@@ -64,17 +104,25 @@ pub fn members_at(
     names: &Names,
     tokens: &mut Reader<'_>,
     deep: usize,
+    texts: bool,
 ) -> Result<Vec<Value>, Unread>
     requires differ { AllDiffer (names_in (field_views fields.now)) }
     requires valid { AreValid (field_views fields.now) }
-    ensures { IfOk result (λ values. HoldsMembers (members_read (field_views fields.now)) deep tokens.old (views values.items) tokens.new) }
+    ensures { IfOk result (λ values. HoldsMembers (members_read_as texts (field_views fields.now)) deep tokens.old (views values.items) tokens.new) }
 {
     let mut values = absent_each(alloc, fields)?;
     let mut turn: usize = 0;
     'members: while let Some(name) = tokens.next_key()? {
         let index = index_of(fields, names, turn, name)?;
         let below = names.below(index).ok_or(Unread::Unknown)?;
-        let value = field_at(alloc, field_of(fields, index), below, tokens, deep)?;
+        let value = field_at(
+            alloc,
+            field_of(fields, index),
+            below,
+            tokens,
+            deep,
+            texts,
+        )?;
         put_value(&mut values, index, value);
         turn = turn.saturating_add(1);
     }
@@ -121,15 +169,16 @@ fn inside_at(
     token: Token<'_>,
     tokens: &mut Reader<'_>,
     deep: usize,
+    texts: bool,
 ) -> Result<Value, Unread>
     requires { IsValid (field_view field.now) }
-    ensures { IfOk result (λ value. BeginsWith (inside_read (field_view field.now)) deep (token_of token.entry ∷ tokens.old) (value_view value) tokens.new) }
+    ensures { IfOk result (λ value. BeginsWith (inside_read_as texts (field_view field.now)) deep (token_of token.entry ∷ tokens.old) (value_view value) tokens.new) }
 {
     match field {
-        Field::Leaf { leaf_type, .. } => leaf_at(alloc, leaf_type, token),
+        Field::Leaf { leaf_type, .. } => leaf_at(alloc, leaf_type, token, texts),
         Field::Group { fields, .. } => match token {
             Token::BeginObject if deep > 0 => {
-                let values = members_at(alloc, fields.as_slice(), names, tokens, deep - 1)?;
+                let values = members_at(alloc, fields.as_slice(), names, tokens, deep - 1, texts)?;
                 Ok(Value::Group(values))
             }
             _ => Err(Unread::Unknown),
@@ -145,14 +194,15 @@ fn items_at(
     names: &Names,
     tokens: &mut Reader<'_>,
     deep: usize,
+    texts: bool,
 ) -> Result<Vec<Value>, Unread>
     requires { IsValid (field_view field.now) }
-    ensures { IfOk result (λ values. HoldsItems (items_read (inside_read (field_view field.now))) deep tokens.old (views values.items) tokens.new) }
+    ensures { IfOk result (λ values. HoldsItems (items_read (inside_read_as texts (field_view field.now))) deep tokens.old (views values.items) tokens.new) }
 {
     let mut values = Vec::new(alloc);
     'items: while !tokens.take_end_array() {
         let token = next_token(tokens)?;
-        values.push(inside_at(alloc, field, names, token, tokens, deep)?)?;
+        values.push(inside_at(alloc, field, names, token, tokens, deep, texts)?)?;
     }
     Ok(values)
 }
@@ -165,20 +215,21 @@ fn field_at(
     names: &Names,
     tokens: &mut Reader<'_>,
     deep: usize,
+    texts: bool,
 ) -> Result<Value, Unread>
     requires { IsValid (field_view field.now) }
-    ensures { IfOk result (λ value. BeginsWith (λ d. field_read (field_view field.now) (Some d)) deep tokens.old (value_view value) tokens.new) }
+    ensures { IfOk result (λ value. BeginsWith (λ d. field_read_as texts (field_view field.now) (Some d)) deep tokens.old (value_view value) tokens.new) }
 {
     let token = next_token(tokens)?;
     match field.repetition() {
-        Repetition::Required => inside_at(alloc, field, names, token, tokens, deep),
+        Repetition::Required => inside_at(alloc, field, names, token, tokens, deep, texts),
         Repetition::Optional => match token {
             Token::Null => Ok(Value::Null),
-            _ => inside_at(alloc, field, names, token, tokens, deep),
+            _ => inside_at(alloc, field, names, token, tokens, deep, texts),
         },
         Repetition::Repeated => match token {
             Token::BeginArray if deep > 0 => {
-                let values = items_at(alloc, field, names, tokens, deep - 1)?;
+                let values = items_at(alloc, field, names, tokens, deep - 1, texts)?;
                 Ok(Value::List(values))
             }
             _ => Err(Unread::Unknown),

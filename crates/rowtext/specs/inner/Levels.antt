@@ -3,7 +3,7 @@ use Rattle.std.specs.Prelude.{ℕ, zero, suc, ◌-◌, Bool, true, false, List, 
 use Rattle.std.specs.Borrow.{Bor}
 use Rattle.json.specs.Print.{quoted}
 use Rattle.serde_json.specs.Data as json
-use Rattle.serde_json.specs.Written.{compact_text, number_text, comma_if}
+use Rattle.serde_json.specs.Written.{compact_text, comma_if}
 use Rattle.hex.specs.Hex.{encode_lower}
 use Rattle.schema.specs.Values.{ValueTree, boolean, integer, bytes}
 use Rattle.schema.specs.Shape.{Fields}
@@ -15,8 +15,8 @@ use Rattle.rowtext.specs.declared.level.Level.{Level as CodeLevel}
 use Rattle.rowtext.specs.declared.level.Level.TheVariants.{Row, SortedRow, Group, Unknown, List as ListOf}
 use Rattle.rowtext.specs.declared.level.Outer.{Outer as CodeOuter}
 use Rattle.rowtext.specs.declared.row_text.RowText.{RowText}
-use Rattle.rowtext.specs.inner.Scalars.{number_shown}
-use Rattle.rowtext.specs.inner.Slots.{Slot, leaf_slot, group_slot, Slots, no_slots, slot, slot_view, slots_view, key_in, slots_made, order_of, vec_items}
+use Rattle.rowtext.specs.inner.Scalars.{integer_text}
+use Rattle.rowtext.specs.inner.Slots.{Slot, leaf_slot, group_slot, Slots, no_slots, slot, slot_view, slots_view, key_in, slots_as, order_of, vec_items}
 
 -- ---- the text of a value of a leaf
 
@@ -27,7 +27,7 @@ bytes_text t s = quoted (if t then s else encode_lower s)
 -- the text of a value of a leaf; null for a value that no leaf has
 abbrev pub value_text : Numbers → Bool → ValueTree → List ℕ
 value_text n t (boolean b) = compact_text (json.boolean b)
-value_text n t (integer z) = number_text (number_shown n z)
+value_text n t (integer z) = integer_text n z
 value_text n t (bytes s) = bytes_text t s
 value_text n t _ = compact_text json.null
 
@@ -178,9 +178,13 @@ abbrev pub run : State → List Token → State
 run s [] = s
 run s (t ∷ ts) = run (step s t) ts
 
--- nothing is shown yet of a row, after these lines
+-- nothing is shown yet of a row, after these lines, with texts or without
+abbrev pub root_as : Bool → List ℕ → Fields → State
+root_as texts lines fs = held lines [] (object (slots_as texts fs) (order_of fs) (length lines) 0) []
+
+-- the same without texts
 abbrev pub root : List ℕ → Fields → State
-root lines fs = held lines [] (object (slots_made fs) (order_of fs) (length lines) 0) []
+root = root_as false
 
 -- ---- what the code holds
 

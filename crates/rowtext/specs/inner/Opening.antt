@@ -1,6 +1,6 @@
 -- A schema as one token, by which two schemas are told apart, and the lines before a row as another.
-use Rattle.std.specs.Prelude.{ℕ, ℤ, List, [], ◌∷◌}
-use Rattle.schema.specs.Values.{ValueTree, integer, bytes, group, ValueTrees, no_values, value}
+use Rattle.std.specs.Prelude.{ℕ, ℤ, Bool, true, false, List, [], ◌∷◌}
+use Rattle.schema.specs.Values.{ValueTree, integer, bytes, group, list, ValueTrees, no_values, value}
 use Rattle.schema.specs.Shape.{Fields}
 use Rattle.schema.specs.inner.Code.{Rose, rose, Roses, no_roses, roses, fields_roses}
 use Rattle.assemble.specs.Sinks.{Token, single}
@@ -18,9 +18,14 @@ abbrev mutual
   roses_values no_roses = no_values
   roses_values (roses r rs) = value (rose_value r) (roses_values rs)
 
--- the token that says the schema
+-- the token that says the schema, and whether there are texts
+abbrev pub opening_as : Bool → Fields → Token
+opening_as false fs = single (group (roses_values (fields_roses fs)))
+opening_as true fs = single (list (roses_values (fields_roses fs)))
+
+-- the token that says the schema, without texts
 abbrev pub opening : Fields → Token
-opening fs = single (group (roses_values (fields_roses fs)))
+opening = opening_as false
 
 -- the token that says the lines before a row
 abbrev pub lines_token : List ℕ → Token

@@ -1,7 +1,7 @@
 -- How rows are printed: what stands at each field, and the order of the members of an object, made once for a schema.
 use Rattle.std.specs.Ordering.{nat_cmp, match_ordering}
 use Rattle.std.specs.Cmp.Lexicographic.{slice_cmp}
-use Rattle.std.specs.Prelude.{ℕ, suc, Bool, true, ◌&&◌, ◌==◌, List, [], ◌∷◌, ◌++◌, map, length, Option, Some, None, option_map, String, string_bytes, if◌then◌else◌}
+use Rattle.std.specs.Prelude.{ℕ, suc, Bool, true, false, ◌&&◌, ◌==◌, List, [], ◌∷◌, ◌++◌, map, length, Option, Some, None, option_map, String, string_bytes, if◌then◌else◌}
 use Rattle.std.specs.declared.alloc.Global.{Global}
 use Rattle.std.specs.Global.{Vec}
 use Rattle.std.specs.Borrow.{Bor}
@@ -11,7 +11,8 @@ use Rattle.schema.specs.Shape.{Field, leaf, fields, Fields, no_fields, field, na
 use Rattle.rowtext.specs.declared.scalars.Numbers.{Numbers}
 use Rattle.rowtext.specs.declared.row_plan.Slot.{Slot as CodeSlot, fold-Slot}
 use Rattle.rowtext.specs.declared.row_plan.Slot.TheOpen.{Slot-F}
-use Rattle.rowtext.specs.inner.Scalars.{numbers_of}
+use Rattle.rowtext.specs.inner.Scalars.{numbers_as}
+use Rattle.leaftext.specs.Forms.{form_if}
 
 -- a field: its name as it is printed, between a comma and a colon, and what its values are;
 -- the order of a group is none where its fields stand in the order of their names
@@ -97,10 +98,17 @@ abbrev pub order_of : Fields → Option (List ℕ)
 order_of fs = if is_in_order (indices_of fs) (count fs) then None else Some (indices_of fs)
 
 abbrev mutual
-  pub slot_of : Field → Slot
-  slot_of (leaf n r t) = leaf_slot (key_of n) (numbers_of t.kind (leaf_order t)) (is_text t.kind t.annotation)
-  slot_of (fields n r a fs) = group_slot (key_of n) (slots_made fs) (order_of fs)
+  pub slot_as : Bool → Field → Slot
+  slot_as texts (leaf n r t) = leaf_slot (key_of n) (numbers_as (form_if texts t) t.kind (leaf_order t)) (is_text t.kind t.annotation)
+  slot_as texts (fields n r a fs) = group_slot (key_of n) (slots_as texts fs) (order_of fs)
 
-  pub slots_made : Fields → Slots
-  slots_made no_fields = no_slots
-  slots_made (field f fs) = slot (slot_of f) (slots_made fs)
+  pub slots_as : Bool → Fields → Slots
+  slots_as texts no_fields = no_slots
+  slots_as texts (field f fs) = slot (slot_as texts f) (slots_as texts fs)
+
+-- the same without texts
+abbrev pub slot_of : Field → Slot
+slot_of = slot_as false
+
+abbrev pub slots_made : Fields → Slots
+slots_made = slots_as false

@@ -1,4 +1,6 @@
-use Rattle.std.proofs.Common.{◌∙◌, sym, ap, refl, arith}
+use Rattle.std.proofs.Common.{◌∙◌, sym, ap, subst, arith}
+use Rattle.std.specs.Prelude.{IfSome}
+use Rattle.std.specs.Option.{is_some}
 use Rattle.valuetext.specs.Decimals.{ReadsDecimal, IsDecimalNumber}
 use Rattle.leaftext.specs.Forms.{in_64_bits}
 use Rattle.leaftext.specs.Reads.{decimal_read}
@@ -7,7 +9,11 @@ use Rattle.leaftext.proofs.FormTexts.{unread}
 use Rattle.leaftext.proofs.number_reading.decimal_from.Goals as goal
 
 pub returns-in-Some : goal.returns-in-Some
-returns-in-Some c = ?
+returns-in-Some c =
+    let number : ReadsDecimal c.args.scale c.in-Some.number c.args.text.now = subst (λ o. IfSome o (λ number. ReadsDecimal c.args.scale number c.args.text.now)) c.in-Some.is c.read_decimal-found.ensures.number in
+    c.narrowed.ensures.number ∙ ap in_64_bits (sym (is_read c.args.scale c.in-Some.number c.args.text.now (omega (arith, c.if-scale-gt-MOST_SCALE.false)) number c.narrowed.ensures.bound))
 
 pub returns-in-None : goal.returns-in-None
-returns-in-None c = ?
+returns-in-None c =
+    ap in_64_bits (unread (decimal_read c.args.scale) (λ number text. ReadsDecimal c.args.scale number text × IsDecimalNumber number) (decimals_agree c.args.scale (omega (arith, c.if-scale-gt-MOST_SCALE.false))).1 c.args.text.now
+    (λ number h. c.read_decimal-found.ensures.none (ap is_some c.in-None.is) number h.1 h.0))
