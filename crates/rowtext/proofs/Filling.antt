@@ -17,7 +17,7 @@ use Rattle.schema.specs.Law.{names, AllDiffer, IsValid, AreValid}
 use Rattle.schema.specs.Values.{ValueTree, ValueTrees, no_values, value, view, views}
 use Rattle.schema.specs.Shape.{Field, leaf, fields, Fields, no_fields, field, name_of, repetition_of}
 use Rattle.schema.specs.Views.{field_view, field_views}
-use Rattle.rowtext.specs.Reading.{value_before, read_as, without, field_read, members_read}
+use Rattle.rowtext.specs.Reading.{value_before, read_as, without, field_read_as, members_read_as}
 use Rattle.rowtext.specs.inner.Fill.{IsCalled, absent_as, absent_each, is_filled_as, are_filled, IsValueOf, AreValuesOf}
 use Rattle.rowtext.proofs.Both.{and_true}
 use Rattle.rowtext.proofs.JsonTexts.{IsBefore, AreInOrder}
@@ -118,57 +118,59 @@ apart [] i k n h differ same = h
 apart (g ∷ fs) zero k n h differ same = differ.0 (same ∙ sym h)
 apart (g ∷ fs) (suc i) k n h differ same = apart fs i k n h differ.1 same
 
--- ---- values
+module _ {texts : Bool} where
+  -- ---- values
 
-pub value_within : (fs : List CodeField) (vs : List CodeValue) (ms : Members) (i : ℕ) (k : List ℕ) → IsCalled (field_views fs) i k → AreValuesOf (field_views fs) ms (views vs) → i < length vs
-value_within [] vs ms i k called h = absurd called
-value_within (f ∷ fs) [] ms i k called h = absurd h
-value_within (f ∷ fs) (v ∷ vs) ms zero k called h = omega arith
-value_within (f ∷ fs) (v ∷ vs) ms (suc i) k called h = let less = value_within fs vs (without (name_of (field_view f)) ms) i k called h.1 in omega (arith, less)
+  pub value_within : (fs : List CodeField) (vs : List CodeValue) (ms : Members) (i : ℕ) (k : List ℕ) → IsCalled (field_views fs) i k → AreValuesOf texts (field_views fs) ms (views vs) → i < length vs
+  value_within [] vs ms i k called h = absurd called
+  value_within (f ∷ fs) [] ms i k called h = absurd h
+  value_within (f ∷ fs) (v ∷ vs) ms zero k called h = omega arith
+  value_within (f ∷ fs) (v ∷ vs) ms (suc i) k called h = let less = value_within fs vs (without (name_of (field_view f)) ms) i k called h.1 in omega (arith, less)
 
--- a member was read
-pub values_put : (fs : List CodeField) (vs : List CodeValue) (ms : Members) (i : ℕ) (k : List ℕ) (d : Data) (f : CodeField) (v : CodeValue) → IsCalled (field_views fs) i k → f ≡ get_or fs i f → AllDiffer (names (field_views fs)) → AreInOrder ms
-    → field_read (field_view f) (Some d) ≡ Some (view v) → AreValuesOf (field_views fs) ms (views vs) → AreValuesOf (field_views fs) (put k d ms) (views (slice_set vs i v))
-values_put [] vs ms i k d f v called is differ order here h = absurd called
-values_put (g ∷ fs) [] ms i k d f v called is differ order here h = absurd h
-values_put (g ∷ fs) (w ∷ vs) ms zero k d f v called is differ order here h =
-    let n = name_of (field_view g) in
-    let found : get_member n (put k d ms) ≡ Some d = ap (λ x. get_member x (put k d ms)) called ∙ get_member-put k d ms in
-    let rest : without n (put k d ms) ≡ without n ms = ap (λ x. without x (put k d ms)) called ∙ without-put_same k d ms order ∙ ap (λ x. without x ms) (sym called) in
-    let read : field_read (field_view g) (Some d) ≡ Some (view v) = ap (λ x. field_read (field_view x) (Some d)) (sym is) ∙ here in (
-      subst (λ o. IsValueOf (field_view g) o (view v)) (sym found) read,
-      subst (λ others. AreValuesOf (field_views fs) others (views vs)) (sym rest) h.1,
-    )
-values_put (g ∷ fs) (w ∷ vs) ms (suc i) k d f v called is differ order here h =
-    let n = name_of (field_view g) in
-    let other : n ≡ k → ⊥ = apart fs i k n called differ.0 in (
-      subst (λ o. IsValueOf (field_view g) o (view w)) (sym (get_member-put_other n k d ms other)) h.0,
-      subst (λ others. AreValuesOf (field_views fs) others (views (slice_set vs i v))) (sym (without-put_other n k d ms other order)) (values_put fs vs (without n ms) i k d f v called is differ.1 (order_without n ms order) here h.1),
-    )
+  -- a member was read
+  pub values_put : (fs : List CodeField) (vs : List CodeValue) (ms : Members) (i : ℕ) (k : List ℕ) (d : Data) (f : CodeField) (v : CodeValue) → IsCalled (field_views fs) i k → f ≡ get_or fs i f → AllDiffer (names (field_views fs)) → AreInOrder ms
+      → field_read_as texts (field_view f) (Some d) ≡ Some (view v) → AreValuesOf texts (field_views fs) ms (views vs) → AreValuesOf texts (field_views fs) (put k d ms) (views (slice_set vs i v))
+  values_put [] vs ms i k d f v called is differ order here h = absurd called
+  values_put (g ∷ fs) [] ms i k d f v called is differ order here h = absurd h
+  values_put (g ∷ fs) (w ∷ vs) ms zero k d f v called is differ order here h =
+      let n = name_of (field_view g) in
+      let found : get_member n (put k d ms) ≡ Some d = ap (λ x. get_member x (put k d ms)) called ∙ get_member-put k d ms in
+      let rest : without n (put k d ms) ≡ without n ms = ap (λ x. without x (put k d ms)) called ∙ without-put_same k d ms order ∙ ap (λ x. without x ms) (sym called) in
+      let read : field_read_as texts (field_view g) (Some d) ≡ Some (view v) = ap (λ x. field_read_as texts (field_view x) (Some d)) (sym is) ∙ here in (
+        subst (λ o. IsValueOf texts (field_view g) o (view v)) (sym found) read,
+        subst (λ others. AreValuesOf texts (field_views fs) others (views vs)) (sym rest) h.1,
+      )
+  values_put (g ∷ fs) (w ∷ vs) ms (suc i) k d f v called is differ order here h =
+      let n = name_of (field_view g) in
+      let other : n ≡ k → ⊥ = apart fs i k n called differ.0 in (
+        subst (λ o. IsValueOf texts (field_view g) o (view w)) (sym (get_member-put_other n k d ms other)) h.0,
+        subst (λ others. AreValuesOf texts (field_views fs) others (views (slice_set vs i v))) (sym (without-put_other n k d ms other order)) (values_put fs vs (without n ms) i k d f v called is differ.1 (order_without n ms order) here h.1),
+      )
 
--- no member was read
-pub values_absent : (fs : Fields) → AreValuesOf fs no_members (absent_each fs)
-values_absent no_fields = refl
-values_absent (field f fs) = (refl, values_absent fs)
+  -- no member was read
+  pub values_absent : (fs : Fields) → AreValuesOf texts fs no_members (absent_each fs)
+  values_absent no_fields = refl
+  values_absent (field f fs) = (refl, values_absent fs)
 
 absent_read : (r : Repetition) (inside : Data → Option ValueTree) (v : ValueTree) → is_filled_as r v ≡ true → v ≡ absent_as r → read_as r inside None ≡ Some v
 absent_read Required inside v filled is = absurd (true≢false (sym filled ∙ ap (is_filled_as Required) is))
 absent_read Optional inside v filled is = ap Some (sym is)
 absent_read Repeated inside v filled is = ap Some (sym is)
 
-member_is : (f : Field) (o : Option Data) (v : ValueTree) → is_filled_as (repetition_of f) v ≡ true → IsValueOf f o v → field_read f o ≡ Some v
-member_is (leaf n r t) None v filled is = absent_read r _ v filled is
-member_is (fields n r a fs) None v filled is = absent_read r _ v filled is
-member_is f (Some d) v filled is = is
+module _ {texts : Bool} where
+  member_is : (f : Field) (o : Option Data) (v : ValueTree) → is_filled_as (repetition_of f) v ≡ true → IsValueOf texts f o v → field_read_as texts f o ≡ Some v
+  member_is (leaf n r t) None v filled is = absent_read r _ v filled is
+  member_is (fields n r a fs) None v filled is = absent_read r _ v filled is
+  member_is f (Some d) v filled is = is
 
--- all members were read
-pub values_filled : (fs : Fields) (ms : Members) (vs : ValueTrees) → are_filled fs vs ≡ true → AreValuesOf fs ms vs → members_read fs ms ≡ Some vs
-values_filled no_fields ms no_values filled h = rw h refl
-values_filled no_fields ms (value v vs) filled h = absurd h
-values_filled (field f fs) ms no_values filled h = absurd h
-values_filled (field f fs) ms (value v vs) filled h =
-    let b = and_true (is_filled_as (repetition_of f) v) (are_filled fs vs) filled in
-    ap₂ value_before (member_is f (get_member (name_of f) ms) v b.0 h.0) (values_filled fs (without (name_of f) ms) vs b.1 h.1)
+  -- all members were read
+  pub values_filled : (fs : Fields) (ms : Members) (vs : ValueTrees) → are_filled fs vs ≡ true → AreValuesOf texts fs ms vs → members_read_as texts fs ms ≡ Some vs
+  values_filled no_fields ms no_values filled h = rw h refl
+  values_filled no_fields ms (value v vs) filled h = absurd h
+  values_filled (field f fs) ms no_values filled h = absurd h
+  values_filled (field f fs) ms (value v vs) filled h =
+      let b = and_true (is_filled_as (repetition_of f) v) (are_filled fs vs) filled in
+      ap₂ value_before (member_is f (get_member (name_of f) ms) v b.0 h.0) (values_filled fs (without (name_of f) ms) vs b.1 h.1)
 
 -- ---- the loops
 

@@ -10,7 +10,8 @@ use Rattle.schema.specs.Values.{ValueTree, ValueTrees, no_values, value, group, 
 use Rattle.schema.specs.Values as row
 use Rattle.schema.specs.Shape.{Field, leaf, fields, Fields, no_fields, field, name_of}
 use Rattle.schema.specs.Fits.{fits_leaf, fits_as, is_group, fits, fits_each}
-use Rattle.rowtext.specs.Reading.{scalar_read, leaf_read, value_before, items_read, read_as, object_read, without, none_left, field_read, members_read}
+use Rattle.leaftext.specs.Forms.{form_if}
+use Rattle.rowtext.specs.Reading.{scalar_by, leaf_read_as, value_before, items_read, read_as, object_read, without, none_left, field_read_as, members_read_as}
 
 -- the value is there, and passes the test
 abbrev Passes : {A : Type 0} → (A → Bool) → Option A → Type 0
@@ -84,16 +85,17 @@ end_fits : (ms : Members) → Passes (fits_each no_fields) (none_left ms)
 end_fits no_members = refl
 end_fits (member k d ms) = tt
 
-mutual
-  field_fits : (f : Field) (o : Option Data) → Passes (fits f) (field_read f o)
-  field_fits (leaf n r t) o = as_fits r (leaf_read t) (fits_leaf t) (λ d. leaf_fits t (scalar_read t d)) o
-  field_fits (fields n r a fs) o = as_fits r (object_read (members_read fs)) (is_group (fits_each fs)) (group_fits (members_read fs) (fits_each fs) (members_fit fs)) o
+module _ {texts : Bool} where
+  mutual
+    field_fits : (f : Field) (o : Option Data) → Passes (fits f) (field_read_as texts f o)
+    field_fits (leaf n r t) o = as_fits r (leaf_read_as texts t) (fits_leaf t) (λ d. leaf_fits t (scalar_by (form_if texts t) t d)) o
+    field_fits (fields n r a fs) o = as_fits r (object_read (members_read_as texts fs)) (is_group (fits_each fs)) (group_fits (members_read_as texts fs) (fits_each fs) (members_fit fs)) o
 
-  members_fit : (fs : Fields) (ms : Members) → Passes (fits_each fs) (members_read fs ms)
-  members_fit no_fields ms = end_fits ms
-  members_fit (field f fs) ms =
-      joins (fits f) (fits_each fs) (fits_each (field f fs)) (λ v vs. refl) (field_read f (get_member (name_of f) ms)) (members_read fs (without (name_of f) ms)) (field_fits f (get_member (name_of f) ms)) (members_fit fs (without (name_of f) ms))
+    members_fit : (fs : Fields) (ms : Members) → Passes (fits_each fs) (members_read_as texts fs ms)
+    members_fit no_fields ms = end_fits ms
+    members_fit (field f fs) ms =
+        joins (fits f) (fits_each fs) (fits_each (field f fs)) (λ v vs. refl) (field_read_as texts f (get_member (name_of f) ms)) (members_read_as texts fs (without (name_of f) ms)) (field_fits f (get_member (name_of f) ms)) (members_fit fs (without (name_of f) ms))
 
--- what is read of the members fits
-pub read_fits : (fs : Fields) (ms : Members) (vs : ValueTrees) → Some vs ≡ members_read fs ms → IsTrue (fits_each fs vs)
-read_fits fs ms vs e = subst (Passes (fits_each fs)) (sym e) (members_fit fs ms)
+  -- what is read of the members fits
+  pub read_fits : (fs : Fields) (ms : Members) (vs : ValueTrees) → Some vs ≡ members_read_as texts fs ms → IsTrue (fits_each fs vs)
+  read_fits fs ms vs e = subst (Passes (fits_each fs)) (sym e) (members_fit fs ms)

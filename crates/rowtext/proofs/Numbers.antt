@@ -24,7 +24,7 @@ within_32 (pos n) h = let low : n < 2147483648 = (Decides-ltb n 2147483648).0 h 
 within_32 (negsuc n) h = let low : n < 2147483648 = (Decides-ltb n 2147483648).0 h in (Decides-ltb n 9223372036854775808).1 (omega (arith, low))
 
 -- an integer that a leaf can have has 64 bits
-within : (k : Kind) (z : ℤ) → fits_kind k (integer z) ≡ true → is_within 9223372036854775808 z ≡ true
+pub within : (k : Kind) (z : ℤ) → fits_kind k (integer z) ≡ true → is_within 9223372036854775808 z ≡ true
 within Boolean z h = absurd (true≢false (sym h))
 within Int32 z h = within_32 z h
 within Int64 z h = h

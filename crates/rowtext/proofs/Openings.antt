@@ -1,10 +1,10 @@
 -- A token says one schema.
-use Rattle.std.proofs.Common.{◌≡◌, ℤ, List, [], ◌∷◌, refl, ap, ap₂, sym, ◌∙◌}
-use Rattle.schema.specs.Values.{ValueTree, integer, bytes, group, ValueTrees, no_values, value}
+use Rattle.std.proofs.Common.{◌≡◌, ℤ, Bool, true, false, List, [], ◌∷◌, refl, ap, ap₂, sym, ◌∙◌}
+use Rattle.schema.specs.Values.{ValueTree, integer, bytes, group, list, ValueTrees, no_values, value}
 use Rattle.schema.specs.Shape.{Fields, no_fields}
 use Rattle.schema.specs.inner.Code.{Rose, rose, Roses, no_roses, roses, fields_roses, fields_from, fields_back}
 use Rattle.assemble.specs.Sinks.{Token, single}
-use Rattle.rowtext.specs.inner.Opening.{integers, rose_value, roses_values, opening}
+use Rattle.rowtext.specs.inner.Opening.{integers, rose_value, roses_values, opening_as}
 
 abbrev integers_from : ValueTrees → List ℤ
 integers_from (value (integer z) vs) = z ∷ integers_from vs
@@ -33,10 +33,20 @@ mutual
 
 abbrev schema_from : Token → Fields
 schema_from (single (group vs)) = fields_from (roses_from vs)
+schema_from (single (list vs)) = fields_from (roses_from vs)
 schema_from _ = no_fields
 
-said : (fs : Fields) → schema_from (opening fs) ≡ fs
-said fs = ap fields_from (roses_back (fields_roses fs)) ∙ fields_back fs
+abbrev texts_from : Token → Bool
+texts_from (single (list vs)) = true
+texts_from _ = false
 
-pub one_schema : (fs gs : Fields) → opening fs ≡ opening gs → fs ≡ gs
-one_schema fs gs same = sym (said fs) ∙ ap schema_from same ∙ said gs
+said : (texts : Bool) (fs : Fields) → schema_from (opening_as texts fs) ≡ fs
+said false fs = ap fields_from (roses_back (fields_roses fs)) ∙ fields_back fs
+said true fs = ap fields_from (roses_back (fields_roses fs)) ∙ fields_back fs
+
+texts_said : (texts : Bool) (fs : Fields) → texts_from (opening_as texts fs) ≡ texts
+texts_said false fs = refl
+texts_said true fs = refl
+
+pub one_schema : (a b : Bool) (fs gs : Fields) → opening_as a fs ≡ opening_as b gs → (a ≡ b) × (fs ≡ gs)
+one_schema a b fs gs same = (sym (texts_said a fs) ∙ ap texts_from same ∙ texts_said b gs, sym (said a fs) ∙ ap schema_from same ∙ said b gs)

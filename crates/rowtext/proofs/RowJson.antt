@@ -16,7 +16,9 @@ use Rattle.schema.specs.Values.{ValueTree, null, boolean, integer, bytes, group,
 use Rattle.schema.specs.Shape.{Field, leaf, fields, Fields, no_fields, field, name_of}
 use Rattle.schema.specs.Fits.{fits_kind, fits_leaf, fits_as, is_group, fits, fits_each}
 use Rattle.schema.specs.Reading.{tall, tallest}
-use Rattle.rowtext.specs.Json.{number_json, leaf_json, items_json, json_as, object_json, field_json, members_json}
+use Rattle.leaftext.specs.declared.leaf_form.Form.{Form}
+use Rattle.leaftext.specs.Forms.{form_if, form_text}
+use Rattle.rowtext.specs.Json.{number_json, leaf_json, text_or, leaf_shown, leaf_json_as, items_json, json_as, object_json, field_json_as, members_json_as}
 use Rattle.rowtext.proofs.Both.{and_true}
 use Rattle.rowtext.proofs.JsonTexts.{IsExact, IsBefore, AreInOrder, IsReadable, AreReadable, HaveReadable}
 use Rattle.rowtext.proofs.Numbers.{integer_exact, bits_exact}
@@ -71,13 +73,26 @@ number_exact k (Some Unsigned) z h = bits_exact k z h
 number_exact k (Some FalseFirst) z h = integer_exact k z h
 number_exact k (Some Bytewise) z h = integer_exact k z h
 
-leaf_shown : (t : LeafType) → AreShown (fits_leaf t) (leaf_json t)
-leaf_shown t null h = tt
-leaf_shown t (boolean b) h = tt
-leaf_shown t (integer z) h = number_exact t.kind (order_of t) z (and_true (fits_kind t.kind (integer z)) _ h).0
-leaf_shown t (bytes s) h = tt
-leaf_shown t (group vs) h = tt
-leaf_shown t (list vs) h = tt
+plain_shown : (t : LeafType) → AreShown (fits_leaf t) (leaf_json t)
+plain_shown t null h = tt
+plain_shown t (boolean b) h = tt
+plain_shown t (integer z) h = number_exact t.kind (order_of t) z (and_true (fits_kind t.kind (integer z)) _ h).0
+plain_shown t (bytes s) h = tt
+plain_shown t (group vs) h = tt
+plain_shown t (list vs) h = tt
+
+text_shown : (o : Option (List ℕ)) (d : Data) → IsReadable d → IsReadable (text_or o d)
+text_shown (Some s) d h = tt
+text_shown None d h = h
+
+shown_by : (o : Option Form) (t : LeafType) → AreShown (fits_leaf t) (leaf_shown o t)
+shown_by None t v h = plain_shown t v h
+shown_by (Some form) t null h = tt
+shown_by (Some form) t (boolean b) h = tt
+shown_by (Some form) t (integer z) h = text_shown (form_text form z) (leaf_json t (integer z)) (plain_shown t (integer z) h)
+shown_by (Some form) t (bytes s) h = tt
+shown_by (Some form) t (group vs) h = tt
+shown_by (Some form) t (list vs) h = tt
 
 items_shown : (p : ValueTree → Bool) (shown : ValueTree → Data) → AreShown p shown → (vs : ValueTrees) → each p vs ≡ true → AreReadable (items_json shown vs)
 items_shown p shown one no_values h = tt
@@ -98,33 +113,34 @@ as_shown Repeated p shown one (bytes s) h = tt
 as_shown Repeated p shown one (group vs) h = tt
 as_shown Repeated p shown one (list vs) h = items_shown p shown one vs h
 
-order_of_members : (fs : Fields) (vs : ValueTrees) → AreInOrder (members_json fs vs)
-order_of_members no_fields vs = tt
-order_of_members (field f fs) no_values = tt
-order_of_members (field f fs) (value v vs) = order_put (name_of f) (field_json f v) (members_json fs vs) (order_of_members fs vs)
+module _ {texts : Bool} where
+  order_of_members : (fs : Fields) (vs : ValueTrees) → AreInOrder (members_json_as texts fs vs)
+  order_of_members no_fields vs = tt
+  order_of_members (field f fs) no_values = tt
+  order_of_members (field f fs) (value v vs) = order_put (name_of f) (field_json_as texts f v) (members_json_as texts fs vs) (order_of_members fs vs)
 
-group_shown : (fs : Fields) → ((vs : ValueTrees) → fits_each fs vs ≡ true → HaveReadable (members_json fs vs)) → AreShown (is_group (fits_each fs)) (object_json (members_json fs))
-group_shown fs all null h = tt
-group_shown fs all (boolean b) h = tt
-group_shown fs all (integer z) h = tt
-group_shown fs all (bytes s) h = tt
-group_shown fs all (group vs) h = (order_of_members fs vs, all vs h)
-group_shown fs all (list vs) h = tt
+  group_shown : (fs : Fields) → ((vs : ValueTrees) → fits_each fs vs ≡ true → HaveReadable (members_json_as texts fs vs)) → AreShown (is_group (fits_each fs)) (object_json (members_json_as texts fs))
+  group_shown fs all null h = tt
+  group_shown fs all (boolean b) h = tt
+  group_shown fs all (integer z) h = tt
+  group_shown fs all (bytes s) h = tt
+  group_shown fs all (group vs) h = (order_of_members fs vs, all vs h)
+  group_shown fs all (list vs) h = tt
 
-mutual
-  field_shown : (f : Field) → AreShown (fits f) (field_json f)
-  field_shown (leaf n r t) v h = as_shown r (fits_leaf t) (leaf_json t) (leaf_shown t) v h
-  field_shown (fields n r a fs) v h = as_shown r (is_group (fits_each fs)) (object_json (members_json fs)) (group_shown fs (members_shown fs)) v h
+  mutual
+    field_shown : (f : Field) → AreShown (fits f) (field_json_as texts f)
+    field_shown (leaf n r t) v h = as_shown r (fits_leaf t) (leaf_json_as texts t) (shown_by (form_if texts t) t) v h
+    field_shown (fields n r a fs) v h = as_shown r (is_group (fits_each fs)) (object_json (members_json_as texts fs)) (group_shown fs (members_shown fs)) v h
 
-  members_shown : (fs : Fields) (vs : ValueTrees) → fits_each fs vs ≡ true → HaveReadable (members_json fs vs)
-  members_shown no_fields vs h = tt
-  members_shown (field f fs) no_values h = tt
-  members_shown (field f fs) (value v vs) h =
-      let b = and_true (fits f v) (fits_each fs vs) h in
-      readable_put (name_of f) (field_json f v) (members_json fs vs) (field_shown f v b.0) (members_shown fs vs b.1)
+    members_shown : (fs : Fields) (vs : ValueTrees) → fits_each fs vs ≡ true → HaveReadable (members_json_as texts fs vs)
+    members_shown no_fields vs h = tt
+    members_shown (field f fs) no_values h = tt
+    members_shown (field f fs) (value v vs) h =
+        let b = and_true (fits f v) (fits_each fs vs) h in
+        readable_put (name_of f) (field_json_as texts f v) (members_json_as texts fs vs) (field_shown f v b.0) (members_shown fs vs b.1)
 
-pub row_readable : (fs : Fields) (row : ValueTrees) → IsTrue (fits_each fs row) → IsReadable (json.object (members_json fs row))
-row_readable fs row h = (order_of_members fs row, members_shown fs row h)
+  pub row_readable : (fs : Fields) (row : ValueTrees) → IsTrue (fits_each fs row) → IsReadable (json.object (members_json_as texts fs row))
+  row_readable fs row h = (order_of_members fs row, members_shown fs row h)
 
 -- ---- depth
 
@@ -140,13 +156,26 @@ depth_put k d (member l e ms) n x y = depth_at (slice_cmp nat_cmp k l) _ _ _ n (
 abbrev AreFlat : ℕ → (ValueTree → Data) → Type 0
 AreFlat n shown = (v : ValueTree) → depth (shown v) ≤ n
 
-leaf_flat : (t : LeafType) → AreFlat 0 (leaf_json t)
-leaf_flat t null = omega arith
-leaf_flat t (boolean b) = omega arith
-leaf_flat t (integer z) = omega arith
-leaf_flat t (bytes s) = omega arith
-leaf_flat t (group vs) = omega arith
-leaf_flat t (list vs) = omega arith
+plain_flat : (t : LeafType) → AreFlat 0 (leaf_json t)
+plain_flat t null = omega arith
+plain_flat t (boolean b) = omega arith
+plain_flat t (integer z) = omega arith
+plain_flat t (bytes s) = omega arith
+plain_flat t (group vs) = omega arith
+plain_flat t (list vs) = omega arith
+
+text_flat : (o : Option (List ℕ)) (d : Data) → depth d ≤ 0 → depth (text_or o d) ≤ 0
+text_flat (Some s) d h = omega arith
+text_flat None d h = h
+
+flat_by : (o : Option Form) (t : LeafType) → AreFlat 0 (leaf_shown o t)
+flat_by None t v = plain_flat t v
+flat_by (Some form) t null = omega arith
+flat_by (Some form) t (boolean b) = omega arith
+flat_by (Some form) t (integer z) = text_flat (form_text form z) (leaf_json t (integer z)) (plain_flat t (integer z))
+flat_by (Some form) t (bytes s) = omega arith
+flat_by (Some form) t (group vs) = omega arith
+flat_by (Some form) t (list vs) = omega arith
 
 items_flat : (n : ℕ) (shown : ValueTree → Data) → AreFlat n shown → (vs : ValueTrees) → items_depth (items_json shown vs) ≤ n
 items_flat n shown one no_values = omega arith
@@ -175,18 +204,19 @@ group_flat n shown one (bytes s) = omega arith
 group_flat n shown one (group vs) = let a = one vs in omega (arith, a)
 group_flat n shown one (list vs) = omega arith
 
-mutual
-  field_flat : (f : Field) (v : ValueTree) → depth (field_json f v) ≤ 2 * tall f
-  field_flat (leaf n r t) v = let a = as_flat 0 r (leaf_json t) (leaf_flat t) v in omega (arith, a)
-  field_flat (fields n r a fs) v =
-      let g = group_flat (2 * tallest fs) (members_json fs) (members_flat fs) in
-      let b = as_flat (suc (2 * tallest fs)) r (object_json (members_json fs)) g v in
-      omega (arith, b)
+module _ {texts : Bool} where
+  mutual
+    field_flat : (f : Field) (v : ValueTree) → depth (field_json_as texts f v) ≤ 2 * tall f
+    field_flat (leaf n r t) v = let a = as_flat 0 r (leaf_json_as texts t) (flat_by (form_if texts t) t) v in omega (arith, a)
+    field_flat (fields n r a fs) v =
+        let g = group_flat (2 * tallest fs) (members_json_as texts fs) (members_flat fs) in
+        let b = as_flat (suc (2 * tallest fs)) r (object_json (members_json_as texts fs)) g v in
+        omega (arith, b)
 
-  pub members_flat : (fs : Fields) (vs : ValueTrees) → members_depth (members_json fs vs) ≤ 2 * tallest fs
-  members_flat no_fields vs = omega arith
-  members_flat (field f fs) no_values = omega arith
-  members_flat (field f fs) (value v vs) =
-      let a = field_flat f v in
-      let b = members_flat fs vs in
-      depth_put (name_of f) (field_json f v) (members_json fs vs) (2 * max (tall f) (tallest fs)) (omega (arith, a)) (omega (arith, b))
+    pub members_flat : (fs : Fields) (vs : ValueTrees) → members_depth (members_json_as texts fs vs) ≤ 2 * tallest fs
+    members_flat no_fields vs = omega arith
+    members_flat (field f fs) no_values = omega arith
+    members_flat (field f fs) (value v vs) =
+        let a = field_flat f v in
+        let b = members_flat fs vs in
+        depth_put (name_of f) (field_json_as texts f v) (members_json_as texts fs vs) (2 * max (tall f) (tallest fs)) (omega (arith, a)) (omega (arith, b))

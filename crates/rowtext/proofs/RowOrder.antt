@@ -16,8 +16,8 @@ use Rattle.serde_json.specs.Written.{compact_text, members_text}
 use Rattle.schema.specs.Values.{ValueTrees, no_values, value}
 use Rattle.schema.specs.Shape.{Field, leaf, fields, Fields, no_fields, field, name_of, count}
 use Rattle.schema.specs.Fits.{fits, fits_each}
-use Rattle.rowtext.specs.Json.{field_json, members_json}
-use Rattle.rowtext.specs.inner.Slots.{slot_of, key_in, key_of, put_index, ordered, second, indices_of, is_counting, is_in_order, order_of}
+use Rattle.rowtext.specs.Json.{field_json_as, members_json_as}
+use Rattle.rowtext.specs.inner.Slots.{slot_as, key_in, key_of, put_index, ordered, second, indices_of, is_counting, is_in_order, order_of}
 use Rattle.rowtext.specs.inner.Kept.{nth, in_order, kept_object}
 use Rattle.rowtext.specs.inner.Lines.{keyed, open_text}
 use Rattle.rowtext.specs.inner.Levels.{between, first_or, piece, sorted, braced, braced_at}
@@ -103,46 +103,51 @@ pieces_named at text (e ∷ es) h = ap₂ (λ (a b : List ℕ). a ++ b) h.0 (pie
 
 -- ---- the members of a group
 
+abbrev pub pieces_as : Bool → Fields → ValueTrees → List (List ℕ)
+pieces_as texts (field f fs) (value v vs) = (key_in (slot_as texts f) ++ compact_text (field_json_as texts f v)) ∷ pieces_as texts fs vs
+pieces_as texts _ _ = []
+
 abbrev pub pieces : Fields → ValueTrees → List (List ℕ)
-pieces (field f fs) (value v vs) = (key_in (slot_of f) ++ compact_text (field_json f v)) ∷ pieces fs vs
-pieces _ _ = []
+pieces = pieces_as false
 
-abbrev pub data_at : Fields → ValueTrees → ℕ → Data
-data_at (field f fs) (value v vs) zero = field_json f v
-data_at (field f fs) (value v vs) (suc i) = data_at fs vs i
-data_at _ _ i = json.null
+module _ {texts : Bool} where
+  abbrev pub data_at : Fields → ValueTrees → ℕ → Data
+  data_at (field f fs) (value v vs) zero = field_json_as texts f v
+  data_at (field f fs) (value v vs) (suc i) = data_at fs vs i
+  data_at _ _ i = json.null
 
-key_named : (f : Field) → key_in (slot_of f) ≡ key_of (name_of f)
-key_named (leaf n r t) = refl
-key_named (fields n r a fs) = refl
+  key_named : (f : Field) → key_in (slot_as texts f) ≡ key_of (name_of f)
+  key_named (leaf n r t) = refl
+  key_named (fields n r a fs) = refl
 
--- the names of fields, the first of which has the index i
-in_names : (i : ℕ) (fs : Fields) (vs : ValueTrees) (at : ℕ → Data) (text : ℕ → List ℕ) → fits_each fs vs ≡ true → ((j : ℕ) → at (i + j) ≡ data_at fs vs j) → ((j : ℕ) → text (i + j) ≡ nth (pieces fs vs) j)
-    → (shown_at at (ordered i fs) ≡ members_json fs vs) × AllByRecursion (IsNamed at text) (ordered i fs)
-in_names i no_fields vs at text h d p = (refl, tt)
-in_names i (field f fs) no_values at text h d p = absurd (true≢false (sym h))
-in_names i (field f fs) (value v vs) at text h d p =
-    let q = and_true (fits f v) (fits_each fs vs) h in
-    let zero_at : i ≡ i + 0 = omega arith in
-    let next : (j : ℕ) → suc i + j ≡ i + suc j = λ j. omega arith in
-    let here : at i ≡ field_json f v = ap at zero_at ∙ d 0 in
-    let named : text i ≡ keyed (name_of f) (at i) = ap text zero_at ∙ p 0 ∙ ap₂ (λ (k : List ℕ) (x : Data). k ++ compact_text x) (key_named f) (sym here) in
-    let rest = in_names (suc i) fs vs at text q.1 (λ j. ap at (next j) ∙ d (suc j)) (λ j. ap text (next j) ∙ p (suc j)) in
-    (shown_put at (name_of f) i (ordered (suc i) fs) ∙ ap₂ (put (name_of f)) here rest.0, named_put at text (name_of f) i (ordered (suc i) fs) named rest.1)
+  -- the names of fields, the first of which has the index i
+  in_names : (i : ℕ) (fs : Fields) (vs : ValueTrees) (at : ℕ → Data) (text : ℕ → List ℕ) → fits_each fs vs ≡ true → ((j : ℕ) → at (i + j) ≡ data_at fs vs j) → ((j : ℕ) → text (i + j) ≡ nth (pieces_as texts fs vs) j)
+      → (shown_at at (ordered i fs) ≡ members_json_as texts fs vs) × AllByRecursion (IsNamed at text) (ordered i fs)
+  in_names i no_fields vs at text h d p = (refl, tt)
+  in_names i (field f fs) no_values at text h d p = absurd (true≢false (sym h))
+  in_names i (field f fs) (value v vs) at text h d p =
+      let q = and_true (fits f v) (fits_each fs vs) h in
+      let zero_at : i ≡ i + 0 = omega arith in
+      let next : (j : ℕ) → suc i + j ≡ i + suc j = λ j. omega arith in
+      let here : at i ≡ field_json_as texts f v = ap at zero_at ∙ d 0 in
+      let named : text i ≡ keyed (name_of f) (at i) = ap text zero_at ∙ p 0 ∙ ap₂ (λ (k : List ℕ) (x : Data). k ++ compact_text x) (key_named f) (sym here) in
+      let rest = in_names (suc i) fs vs at text q.1 (λ j. ap at (next j) ∙ d (suc j)) (λ j. ap text (next j) ∙ p (suc j)) in
+      (shown_put at (name_of f) i (ordered (suc i) fs) ∙ ap₂ (put (name_of f)) here rest.0, named_put at text (name_of f) i (ordered (suc i) fs) named rest.1)
 
 from_first : {A : Type 0} (f : ℕ → A) (j : ℕ) → f (0 + j) ≡ f j
 from_first f j = let e : 0 + j ≡ j = omega arith in ap f e
 
--- the pieces in the order of the names
-pub pieces_ordered : (fs : Fields) (vs : ValueTrees) → fits_each fs vs ≡ true → flat_map (nth (pieces fs vs)) (indices_of fs) ≡ open_text (members_json fs vs)
-pieces_ordered fs vs h =
-    let r = in_names 0 fs vs (data_at fs vs) (nth (pieces fs vs)) h (from_first (data_at fs vs)) (from_first (nth (pieces fs vs))) in
-    pieces_named (data_at fs vs) (nth (pieces fs vs)) (ordered 0 fs) r.1 ∙ ap open_text r.0
+module _ {texts : Bool} where
+  -- the pieces in the order of the names
+  pub pieces_ordered : (fs : Fields) (vs : ValueTrees) → fits_each fs vs ≡ true → flat_map (nth (pieces_as texts fs vs)) (indices_of fs) ≡ open_text (members_json_as texts fs vs)
+  pieces_ordered fs vs h =
+      let r = in_names 0 fs vs (data_at fs vs) (nth (pieces_as texts fs vs)) h (from_first (data_at fs vs)) (from_first (nth (pieces_as texts fs vs))) in
+      pieces_named (data_at fs vs) (nth (pieces_as texts fs vs)) (ordered 0 fs) r.1 ∙ ap open_text r.0
 
-count_pieces : (fs : Fields) (vs : ValueTrees) → fits_each fs vs ≡ true → length (pieces fs vs) ≡ count fs
-count_pieces no_fields vs h = refl
-count_pieces (field f fs) no_values h = absurd (true≢false (sym h))
-count_pieces (field f fs) (value v vs) h = ap suc (count_pieces fs vs (and_true (fits f v) (fits_each fs vs) h).1)
+  count_pieces : (fs : Fields) (vs : ValueTrees) → fits_each fs vs ≡ true → length (pieces_as texts fs vs) ≡ count fs
+  count_pieces no_fields vs h = refl
+  count_pieces (field f fs) no_values h = absurd (true≢false (sym h))
+  count_pieces (field f fs) (value v vs) h = ap suc (count_pieces fs vs (and_true (fits f v) (fits_each fs vs) h).1)
 
 -- where the order is that of the fields, the pieces are as they stand
 counted : (os : List ℕ) (ps : List (List ℕ)) (i : ℕ) (text : ℕ → List ℕ) → is_counting i os ≡ true → length os ≡ length ps → ((j : ℕ) → text (i + j) ≡ nth ps j) → flat_map text os ≡ concat ps
@@ -159,33 +164,34 @@ pub flat_same : (f g : ℕ → List ℕ) → ((i : ℕ) → f i ≡ g i) → (os
 flat_same f g h [] = refl
 flat_same f g h (o ∷ os) = ap₂ (λ (a r : List ℕ). a ++ r) (h o) (flat_same f g h os)
 
--- the pieces in the order that the fields have
-pub ordered_by : (fs : Fields) (vs : ValueTrees) → fits_each fs vs ≡ true → (b : Bool) → is_in_order (indices_of fs) (count fs) ≡ b → in_order (pieces fs vs) (if b then None else Some (indices_of fs)) ≡ open_text (members_json fs vs)
-ordered_by fs vs h true is =
-    let ps = pieces fs vs in
-    let os = indices_of fs in
-    let t = and_true (is_counting 0 os) (length os == count fs) is in
-    let same : length os ≡ count fs = grind (arith, nat_tests, t.1) in
-    sym (counted os ps 0 (nth ps) t.0 (same ∙ sym (count_pieces fs vs h)) (from_first (nth ps))) ∙ pieces_ordered fs vs h
-ordered_by fs vs h false is = pieces_ordered fs vs h
+module _ {texts : Bool} where
+  -- the pieces in the order that the fields have
+  pub ordered_by : (fs : Fields) (vs : ValueTrees) → fits_each fs vs ≡ true → (b : Bool) → is_in_order (indices_of fs) (count fs) ≡ b → in_order (pieces_as texts fs vs) (if b then None else Some (indices_of fs)) ≡ open_text (members_json_as texts fs vs)
+  ordered_by fs vs h true is =
+      let ps = pieces_as texts fs vs in
+      let os = indices_of fs in
+      let t = and_true (is_counting 0 os) (length os == count fs) is in
+      let same : length os ≡ count fs = grind (arith, nat_tests, t.1) in
+      sym (counted os ps 0 (nth ps) t.0 (same ∙ sym (count_pieces fs vs h)) (from_first (nth ps))) ∙ pieces_ordered fs vs h
+  ordered_by fs vs h false is = pieces_ordered fs vs h
 
--- the object that they are
-pub object_ordered : (fs : Fields) (vs : ValueTrees) → fits_each fs vs ≡ true → kept_object (pieces fs vs) (order_of fs) ≡ compact_text (json.object (members_json fs vs))
-object_ordered fs vs h = ap (λ (s : List ℕ). braced s ++ 125 ∷ []) (ordered_by fs vs h (is_in_order (indices_of fs) (count fs)) refl) ∙ object_braced (members_json fs vs)
+  -- the object that they are
+  pub object_ordered : (fs : Fields) (vs : ValueTrees) → fits_each fs vs ≡ true → kept_object (pieces_as texts fs vs) (order_of fs) ≡ compact_text (json.object (members_json_as texts fs vs))
+  object_ordered fs vs h = ap (λ (s : List ℕ). braced s ++ 125 ∷ []) (ordered_by fs vs h (is_in_order (indices_of fs) (count fs)) refl) ∙ object_braced (members_json_as texts fs vs)
 
-pub sorted_by : (fs : Fields) (vs : ValueTrees) (pre : List ℕ) → fits_each fs vs ≡ true → (b : Bool) → is_in_order (indices_of fs) (count fs) ≡ b
-    → sorted (pre ++ concat (pieces fs vs)) (starts_of (length pre) (pieces fs vs)) (length pre) (if b then None else Some (indices_of fs)) ≡ pre ++ open_text (members_json fs vs)
-sorted_by fs vs pre h true is = ap (λ (s : List ℕ). pre ++ s) (ordered_by fs vs h true is)
-sorted_by fs vs pre h false is =
-    let ps = pieces fs vs in
-    ap₂ (λ (a r : List ℕ). a ++ r) (take-append_seam pre (concat ps)) (flat_same (piece (pre ++ concat ps) (starts_of (length pre) ps)) (nth ps) (cut ps pre) (indices_of fs) ∙ pieces_ordered fs vs h)
+  pub sorted_by : (fs : Fields) (vs : ValueTrees) (pre : List ℕ) → fits_each fs vs ≡ true → (b : Bool) → is_in_order (indices_of fs) (count fs) ≡ b
+      → sorted (pre ++ concat (pieces_as texts fs vs)) (starts_of (length pre) (pieces_as texts fs vs)) (length pre) (if b then None else Some (indices_of fs)) ≡ pre ++ open_text (members_json_as texts fs vs)
+  sorted_by fs vs pre h true is = ap (λ (s : List ℕ). pre ++ s) (ordered_by fs vs h true is)
+  sorted_by fs vs pre h false is =
+      let ps = pieces_as texts fs vs in
+      ap₂ (λ (a r : List ℕ). a ++ r) (take-append_seam pre (concat ps)) (flat_same (piece (pre ++ concat ps) (starts_of (length pre) ps)) (nth ps) (cut ps pre) (indices_of fs) ∙ pieces_ordered fs vs h)
 
--- the pieces of an object after a text, put in order and braced
-pub object_text : (fs : Fields) (vs : ValueTrees) (pre : List ℕ) → fits_each fs vs ≡ true
-    → braced_at (length pre) (sorted (pre ++ concat (pieces fs vs)) (starts_of (length pre) (pieces fs vs)) (length pre) (order_of fs)) ++ 125 ∷ [] ≡ pre ++ compact_text (json.object (members_json fs vs))
-object_text fs vs pre h =
-    let ms = members_json fs vs in
-    let all = sorted_by fs vs pre h (is_in_order (indices_of fs) (count fs)) refl in
-    ap (λ (s : List ℕ). braced_at (length pre) s ++ 125 ∷ []) all
-    ∙ ap₂ (λ (a r : List ℕ). (a ++ braced r) ++ 125 ∷ []) (take-append_seam pre (open_text ms)) (drop-append_seam pre (open_text ms))
-    ∙ append_assoc pre (braced (open_text ms)) (125 ∷ []) ∙ ap (λ (s : List ℕ). pre ++ s) (object_braced ms)
+  -- the pieces of an object after a text, put in order and braced
+  pub object_text : (fs : Fields) (vs : ValueTrees) (pre : List ℕ) → fits_each fs vs ≡ true
+      → braced_at (length pre) (sorted (pre ++ concat (pieces_as texts fs vs)) (starts_of (length pre) (pieces_as texts fs vs)) (length pre) (order_of fs)) ++ 125 ∷ [] ≡ pre ++ compact_text (json.object (members_json_as texts fs vs))
+  object_text fs vs pre h =
+      let ms = members_json_as texts fs vs in
+      let all = sorted_by fs vs pre h (is_in_order (indices_of fs) (count fs)) refl in
+      ap (λ (s : List ℕ). braced_at (length pre) s ++ 125 ∷ []) all
+      ∙ ap₂ (λ (a r : List ℕ). (a ++ braced r) ++ 125 ∷ []) (take-append_seam pre (open_text ms)) (drop-append_seam pre (open_text ms))
+      ∙ append_assoc pre (braced (open_text ms)) (125 ∷ []) ∙ ap (λ (s : List ℕ). pre ++ s) (object_braced ms)

@@ -7,11 +7,11 @@ use Rattle.std.specs.Ordering.{match_ordering}
 use Rattle.schema.specs.declared.field.Field.{Field as CodeField}
 use Rattle.schema.specs.Shape.{count}
 use Rattle.schema.specs.Views.{field_view, field_views}
-use Rattle.rowtext.specs.inner.Slots.{slot, slots_from, slot_of, slots_made, entries_view, put_index, indices_of, is_in_order, order_of}
+use Rattle.rowtext.specs.inner.Slots.{slot, slots_from, slot_as, slots_as, entries_view, put_index, indices_of, is_in_order, order_of}
 
-pub slots_seen : (fs : List CodeField) → slots_from (map (λ f. slot_of (field_view f)) fs) ≡ slots_made (field_views fs)
-slots_seen [] = refl
-slots_seen (f ∷ fs) = ap (slot (slot_of (field_view f))) (slots_seen fs)
+pub slots_seen : (texts : Bool) (fs : List CodeField) → slots_from (map (λ f. slot_as texts (field_view f)) fs) ≡ slots_as texts (field_views fs)
+slots_seen texts [] = refl
+slots_seen texts (f ∷ fs) = ap (slot (slot_as texts (field_view f))) (slots_seen texts fs)
 
 entries_by : (o : Ordering) (a b c : List (String Global × ℕ)) → entries_view (match_ordering o a b c) ≡ match_ordering o (entries_view a) (entries_view b) (entries_view c)
 entries_by Less a b c = refl

@@ -1,5 +1,5 @@
 -- The text of a row that fits is read as that row.
-use Rattle.std.proofs.Common.{◌≡◌, ◌≢◌, ℕ, zero, suc, nat_lt, ◌≤◌, List, [], ◌∷◌, Bool, true, false, true≢false, ◌&&◌, Option, Some, None, option_map, option_and_then, if◌then◌else◌, Ordering, Less, Equal, Greater, nat_cmp, refl, sym, ap, ap₂, ◌∙◌, arith}
+use Rattle.std.proofs.Common.{◌≡◌, ◌≢◌, ℕ, zero, suc, nat_lt, ◌≤◌, List, [], ◌∷◌, Bool, true, false, true≢false, ◌&&◌, ◌⊎◌, inl, inr, ℤ, Option, Some, None, option_map, option_and_then, if◌then◌else◌, Ordering, Less, Equal, Greater, nat_cmp, refl, sym, ap, ap₂, ◌∙◌, arith}
 use Rattle.std.specs.List.{AllByRecursion}
 use Rattle.std.specs.Str.{is_utf8}
 use Rattle.std.specs.Cmp.Lexicographic.{slice_cmp}
@@ -21,12 +21,16 @@ use Rattle.schema.specs.Values.{ValueTree, null, boolean, integer, bytes, group,
 use Rattle.schema.specs.Shape.{Field, leaf, fields, Fields, no_fields, field, name_of}
 use Rattle.schema.specs.Fits.{are_bytes, fits_kind, is_valid_text, fits_leaf, fits_as, is_group, fits, fits_each}
 use Rattle.schema.specs.Law.{names, AllDiffer, IsValid, AreValid}
-use Rattle.rowtext.specs.Json.{leaf_json, items_json, json_as, object_json, field_json, members_json}
-use Rattle.rowtext.specs.Reading.{bytes_of_digits, scalar_read, leaf_read, value_before, items_read, read_as, object_read, without, field_read, members_read}
-use Rattle.rowtext.specs.Law.{RowsReadBack}
+use Rattle.leaftext.specs.declared.leaf_form.Form.{Form}
+use Rattle.leaftext.specs.Forms.{form_if, form_text, form_read}
+use Rattle.leaftext.proofs.FormTexts.{forms_read_back}
+use Rattle.rowtext.proofs.SameNumbers.{is_number_kind}
+use Rattle.rowtext.specs.Json.{leaf_json, text_or, leaf_shown, leaf_json_as, items_json, json_as, object_json, field_json_as, members_json_as}
+use Rattle.rowtext.specs.Reading.{bytes_of_digits, scalar_read, scalar_by, leaf_read_by, leaf_read_as, value_before, items_read, read_as, object_read, without, field_read_as, members_read_as}
+use Rattle.rowtext.specs.Law.{RowsReadBack, RowsReadBackAs}
 use Rattle.rowtext.proofs.Heights.{at_most_32}
 use Rattle.rowtext.proofs.JsonTexts.{text_back}
-use Rattle.rowtext.proofs.Numbers.{number_back}
+use Rattle.rowtext.proofs.Numbers.{number_back, within}
 use Rattle.rowtext.proofs.RowJson.{row_readable, members_flat}
 use Rattle.rowtext.proofs.HexTexts.{digits_said}
 
@@ -86,8 +90,38 @@ scalar_back t (bytes s) h = let p = and_true (fits_kind t.kind (bytes s)) _ h in
 scalar_back t (group vs) h = absurd (true≢false (sym (and_true (fits_kind t.kind (group vs)) _ h).0 ∙ no_group t.kind vs))
 scalar_back t (list vs) h = absurd (true≢false (sym (and_true (fits_kind t.kind (list vs)) _ h).0 ∙ no_list t.kind vs))
 
-leaf_back : (t : LeafType) → ReadsBack (fits_leaf t) (leaf_json t) (leaf_read t)
-leaf_back t v h = ap (option_and_then (λ (x : ValueTree). if fits_leaf t x then Some x else None)) (scalar_back t v h) ∙ ap (λ (b : Bool). if b then Some v else None) h
+chosen : (t : LeafType) (o : Option ValueTree) (v : ValueTree) → fits_leaf t v ≡ true → o ≡ Some v → option_and_then (λ (x : ValueTree). if fits_leaf t x then Some x else None) o ≡ Some v
+chosen t o v h e = ap (option_and_then (λ (x : ValueTree). if fits_leaf t x then Some x else None)) e ∙ ap (λ (b : Bool). if b then Some v else None) h
+
+-- a number of a leaf whose numbers have texts
+formed_back : (t : LeafType) (form : Form) (z : ℤ) (o : Option (List ℕ)) → form_text form z ≡ o → fits_leaf t (integer z) ≡ true → scalar_by (Some form) t (text_or o (leaf_json t (integer z))) ≡ Some (integer z)
+formed_back t form z (Some text) e h = ap (option_map integer) (forms_read_back form z text (within t.kind z (and_true (fits_kind t.kind (integer z)) _ h).0) e)
+formed_back t form z None e h = scalar_back t (integer z) h
+
+no_bytes : (k : Kind) (s : List ℕ) → (k ≡ Int32) ⊎ (k ≡ Int64) → fits_kind k (bytes s) ≡ true → ⊥
+no_bytes k s (inl e) h = true≢false (sym h ∙ ap (λ x. fits_kind x (bytes s)) e)
+no_bytes k s (inr e) h = true≢false (sym h ∙ ap (λ x. fits_kind x (bytes s)) e)
+
+back_by : (o : Option Form) (t : LeafType) → ((form : Form) → o ≡ Some form → (t.kind ≡ Int32) ⊎ (t.kind ≡ Int64)) → ReadsBack (fits_leaf t) (leaf_shown o t) (scalar_by o t)
+back_by None t numbers v h = scalar_back t v h
+back_by (Some form) t numbers null h = absurd (true≢false (sym (and_true (fits_kind t.kind null) _ h).0 ∙ no_null t.kind))
+back_by (Some form) t numbers (boolean b) h = refl
+back_by (Some form) t numbers (integer z) h = formed_back t form z (form_text form z) refl h
+back_by (Some form) t numbers (bytes s) h = absurd (no_bytes t.kind s (numbers form refl) (and_true (fits_kind t.kind (bytes s)) _ h).0)
+back_by (Some form) t numbers (group vs) h = absurd (true≢false (sym (and_true (fits_kind t.kind (group vs)) _ h).0 ∙ no_group t.kind vs))
+back_by (Some form) t numbers (list vs) h = absurd (true≢false (sym (and_true (fits_kind t.kind (list vs)) _ h).0 ∙ no_list t.kind vs))
+
+are_numbers : (texts : Bool) (t : LeafType) (form : Form) → form_if texts t ≡ Some form → (t.kind ≡ Int32) ⊎ (t.kind ≡ Int64)
+are_numbers true t form e = is_number_kind t.kind t.annotation t.scale form e
+are_numbers false t form e = absurd (cc)
+
+null_by : (o : Option Form) (t : LeafType) → leaf_read_by o t json.null ≡ None
+null_by None t = refl
+null_by (Some form) t = refl
+
+module _ {texts : Bool} where
+  leaf_back : (t : LeafType) → ReadsBack (fits_leaf t) (leaf_json_as texts t) (leaf_read_as texts t)
+  leaf_back t v h = chosen t (scalar_by (form_if texts t) t (leaf_json_as texts t v)) v h (back_by (form_if texts t) t (are_numbers texts t) v h)
 
 -- ---- repetitions
 
@@ -148,10 +182,11 @@ lacks_put : (k l : List ℕ) (d : Data) (ms : Members) → k ≢ l → Lacks k m
 lacks_put k l d no_members other h = (other, tt)
 lacks_put k l d (member j e ms) other h = lacks_at (slice_cmp nat_cmp l j) k _ _ _ (other, h) h (h.0, lacks_put k l d ms other h.1)
 
-lacks_members : (k : List ℕ) (fs : Fields) (vs : ValueTrees) → AllByRecursion (λ m. k ≡ m → ⊥) (names fs) → Lacks k (members_json fs vs)
-lacks_members k no_fields vs h = tt
-lacks_members k (field f fs) no_values h = tt
-lacks_members k (field f fs) (value v vs) h = lacks_put k (name_of f) (field_json f v) (members_json fs vs) h.0 (lacks_members k fs vs h.1)
+module _ {texts : Bool} where
+  lacks_members : (k : List ℕ) (fs : Fields) (vs : ValueTrees) → AllByRecursion (λ m. k ≡ m → ⊥) (names fs) → Lacks k (members_json_as texts fs vs)
+  lacks_members k no_fields vs h = tt
+  lacks_members k (field f fs) no_values h = tt
+  lacks_members k (field f fs) (value v vs) h = lacks_put k (name_of f) (field_json_as texts f v) (members_json_as texts fs vs) h.0 (lacks_members k fs vs h.1)
 
 without-put_at : (o : Ordering) (k l : List ℕ) (d e : Data) (ms : Members) → slice_cmp nat_cmp k l ≡ o → k ≢ l → without k (put k d ms) ≡ ms
     → without k (match_ordering o (member k d (member l e ms)) (member l d ms) (member l e (put k d ms))) ≡ member l e ms
@@ -163,31 +198,35 @@ without-put : (k : List ℕ) (d : Data) (ms : Members) → Lacks k ms → withou
 without-put k d no_members h = rw (tied_itself nat_list_cmp_total k) refl
 without-put k d (member l e ms) h = without-put_at (slice_cmp nat_cmp k l) k l d e ms refl h.0 (without-put k d ms h.1)
 
--- ---- rows
+module _ {texts : Bool} where
+  -- ---- rows
 
-mutual
-  field_back : (f : Field) → IsValid f → (v : ValueTree) → fits f v ≡ true → field_read f (Some (field_json f v)) ≡ Some v
-  field_back (leaf n r t) valid v h = as_back r (fits_leaf t) (leaf_json t) (leaf_read t) (leaf_back t) refl v h
-  field_back (fields n r a fs) valid v h =
-      as_back r (is_group (fits_each fs)) (object_json (members_json fs)) (object_read (members_read fs)) (group_back (fits_each fs) (members_json fs) (members_read fs) (members_back fs valid.0.differ valid.1)) refl v h
+  mutual
+    field_back : (f : Field) → IsValid f → (v : ValueTree) → fits f v ≡ true → field_read_as texts f (Some (field_json_as texts f v)) ≡ Some v
+    field_back (leaf n r t) valid v h = as_back r (fits_leaf t) (leaf_json_as texts t) (leaf_read_as texts t) (leaf_back t) (null_by (form_if texts t) t) v h
+    field_back (fields n r a fs) valid v h =
+        as_back r (is_group (fits_each fs)) (object_json (members_json_as texts fs)) (object_read (members_read_as texts fs)) (group_back (fits_each fs) (members_json_as texts fs) (members_read_as texts fs) (members_back fs valid.0.differ valid.1)) refl v h
 
-  members_back : (fs : Fields) → AllDiffer (names fs) → AreValid fs → (vs : ValueTrees) → fits_each fs vs ≡ true → members_read fs (members_json fs vs) ≡ Some vs
-  members_back no_fields differ valid no_values h = refl
-  members_back no_fields differ valid (value v vs) h = absurd (true≢false (sym h))
-  members_back (field f fs) differ valid no_values h = absurd (true≢false (sym h))
-  members_back (field f fs) differ valid (value v vs) h =
-      let b = and_true (fits f v) (fits_each fs vs) h in
-      let k = name_of f in
-      let d = field_json f v in
-      let ms = members_json fs vs in
-      let here : field_read f (get_member k (put k d ms)) ≡ Some v = ap (field_read f) (get_member-put k d ms) ∙ field_back f valid.0 v b.0 in
-      let rest : members_read fs (without k (put k d ms)) ≡ Some vs = ap (members_read fs) (without-put k d ms (lacks_members k fs vs differ.0)) ∙ members_back fs differ.1 valid.1 vs b.1 in
-      ap₂ value_before here rest
+    members_back : (fs : Fields) → AllDiffer (names fs) → AreValid fs → (vs : ValueTrees) → fits_each fs vs ≡ true → members_read_as texts fs (members_json_as texts fs vs) ≡ Some vs
+    members_back no_fields differ valid no_values h = refl
+    members_back no_fields differ valid (value v vs) h = absurd (true≢false (sym h))
+    members_back (field f fs) differ valid no_values h = absurd (true≢false (sym h))
+    members_back (field f fs) differ valid (value v vs) h =
+        let b = and_true (fits f v) (fits_each fs vs) h in
+        let k = name_of f in
+        let d = field_json_as texts f v in
+        let ms = members_json_as texts fs vs in
+        let here : field_read_as texts f (get_member k (put k d ms)) ≡ Some v = ap (field_read_as texts f) (get_member-put k d ms) ∙ field_back f valid.0 v b.0 in
+        let rest : members_read_as texts fs (without k (put k d ms)) ≡ Some vs = ap (members_read_as texts fs) (without-put k d ms (lacks_members k fs vs differ.0)) ∙ members_back fs differ.1 valid.1 vs b.1 in
+        ap₂ value_before here rest
+
+pub rows_read_back_as : RowsReadBackAs
+rows_read_back_as texts fs row valid within h =
+    let tall = at_most_32 fs valid within in
+    let flat = members_flat {texts = texts} fs row in
+    let d = json.object (members_json_as texts fs row) in
+    let nests : depth d ≤ 127 = omega (arith, tall, flat) in
+    (d, text_back d (row_readable {texts = texts} fs row h) nests, members_back fs valid.0.differ valid.1 row h)
 
 pub rows_read_back : RowsReadBack
-rows_read_back fs row valid within h =
-    let tall = at_most_32 fs valid within in
-    let flat = members_flat fs row in
-    let d = json.object (members_json fs row) in
-    let nests : depth d ≤ 127 = omega (arith, tall, flat) in
-    (d, text_back d (row_readable fs row h) nests, members_back fs valid.0.differ valid.1 row h)
+rows_read_back = rows_read_back_as false

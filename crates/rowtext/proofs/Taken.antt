@@ -17,7 +17,7 @@ use Rattle.schema.specs.declared.value.Value.TheVariants.{List as ListOf}
 use Rattle.schema.specs.Values.{list, no_values, views, view as value_view}
 use Rattle.schema.specs.Views.{field_view, field_views}
 use Rattle.schema.specs.Shape.{Field, leaf, fields, name_of, repetition_of}
-use Rattle.rowtext.specs.Reading.{without, value_before, items_read, inside_read, field_read, members_read}
+use Rattle.rowtext.specs.Reading.{without, value_before, items_read, inside_read_as, field_read_as, members_read_as}
 use Rattle.rowtext.proofs.Forms.{view-List}
 
 taken_or_not : (o : Ordering) (e : Entry) (es rest : List Entry) (ms : Members) → members_view rest ≡ ms
@@ -31,34 +31,35 @@ pub view-remove_entry : (name : List ℕ) (es : List Entry) → members_view (re
 view-remove_entry name [] = refl
 view-remove_entry name (e ∷ es) = taken_or_not (slice_cmp nat_cmp name (string_bytes e.0)) e es _ _ (view-remove_entry name es)
 
--- the first field takes the member of its name
-pub takes : (all rest : List CodeField) (f : CodeField) (name : List ℕ) (es left : List Entry) (taken : Option Value) → all ≡ f ∷ rest → name ≡ name_of (field_view f)
-    → taken ≡ lookup (is_at (λ k. slice_cmp nat_cmp name (string_bytes k))) es → left ≡ remove_entry (is_at (λ k. slice_cmp nat_cmp name (string_bytes k))) es
-    → members_read (field_views all) (members_view es) ≡ value_before (field_read (field_view f) (option_map view taken)) (members_read (field_views rest) (members_view left))
-takes all rest f name es left taken split named found removed =
-    let ms = members_view es in
-    let there : option_map view taken ≡ get_member (name_of (field_view f)) ms = ap (option_map view) found ∙ view-lookup name es ∙ ap (λ n. get_member n ms) named in
-    let others : members_view left ≡ without (name_of (field_view f)) ms = ap members_view removed ∙ view-remove_entry name es ∙ ap (λ n. without n ms) named in
-    ap (λ xs. members_read (field_views xs) ms) split ∙ ap₂ value_before (ap (field_read (field_view f)) (sym there)) (ap (members_read (field_views rest)) (sym others))
+module _ {texts : Bool} where
+  -- the first field takes the member of its name
+  pub takes : (all rest : List CodeField) (f : CodeField) (name : List ℕ) (es left : List Entry) (taken : Option Value) → all ≡ f ∷ rest → name ≡ name_of (field_view f)
+      → taken ≡ lookup (is_at (λ k. slice_cmp nat_cmp name (string_bytes k))) es → left ≡ remove_entry (is_at (λ k. slice_cmp nat_cmp name (string_bytes k))) es
+      → members_read_as texts (field_views all) (members_view es) ≡ value_before (field_read_as texts (field_view f) (option_map view taken)) (members_read_as texts (field_views rest) (members_view left))
+  takes all rest f name es left taken split named found removed =
+      let ms = members_view es in
+      let there : option_map view taken ≡ get_member (name_of (field_view f)) ms = ap (option_map view) found ∙ view-lookup name es ∙ ap (λ n. get_member n ms) named in
+      let others : members_view left ≡ without (name_of (field_view f)) ms = ap members_view removed ∙ view-remove_entry name es ∙ ap (λ n. without n ms) named in
+      ap (λ xs. members_read_as texts (field_views xs) ms) split ∙ ap₂ value_before (ap (field_read_as texts (field_view f)) (sym there)) (ap (members_read_as texts (field_views rest)) (sym others))
 
--- no field is left, and no member
-pub none_left-empty : (all : List CodeField) (es : List Entry) → all ≡ [] → length es ≡ 0 → members_read (field_views all) (members_view es) ≡ Some no_values
-none_left-empty all [] none h = ap (λ xs. members_read (field_views xs) no_members) none
-none_left-empty all (e ∷ es) none h = absurd (omega arith)
+  -- no field is left, and no member
+  pub none_left-empty : (all : List CodeField) (es : List Entry) → all ≡ [] → length es ≡ 0 → members_read_as texts (field_views all) (members_view es) ≡ Some no_values
+  none_left-empty all [] none h = ap (λ xs. members_read_as texts (field_views xs) no_members) none
+  none_left-empty all (e ∷ es) none h = absurd (omega arith)
 
--- no field is left, and a member is
-pub none_left-more : (all : List CodeField) (es : List Entry) → all ≡ [] → (length es ≡ 0 → ⊥) → members_read (field_views all) (members_view es) ≡ None
-none_left-more all [] none h = absurd (h refl)
-none_left-more all (e ∷ es) none h = ap (λ xs. members_read (field_views xs) (members_view (e ∷ es))) none
+  -- no field is left, and a member is
+  pub none_left-more : (all : List CodeField) (es : List Entry) → all ≡ [] → (length es ≡ 0 → ⊥) → members_read_as texts (field_views all) (members_view es) ≡ None
+  none_left-more all [] none h = absurd (h refl)
+  none_left-more all (e ∷ es) none h = ap (λ xs. members_read_as texts (field_views xs) (members_view (e ∷ es))) none
 
-pub repeated-field_read : (f : Field) (ds : Items) → repetition_of f ≡ Repeated → field_read f (Some (json.array ds)) ≡ option_map list (items_read (inside_read f) ds)
-repeated-field_read (leaf n r t) ds e = rw e refl
-repeated-field_read (fields n r a fs) ds e = rw e refl
+  pub repeated-field_read : (f : Field) (ds : Items) → repetition_of f ≡ Repeated → field_read_as texts f (Some (json.array ds)) ≡ option_map list (items_read (inside_read_as texts f) ds)
+  repeated-field_read (leaf n r t) ds e = rw e refl
+  repeated-field_read (fields n r a fs) ds e = rw e refl
 
--- a REPEATED value is the list of what the items of an array are
-pub repeated_read : (f : Field) (items : Vec Value Global) (vs : Vec RowValue Global) → repetition_of f ≡ Repeated → Some (views vs.items) ≡ items_read (inside_read f) (items_view items.items)
-    → Some (value_view (ListOf vs)) ≡ field_read f (Some (view (Array items)))
-repeated_read f items vs r e = ap Some (view-List vs) ∙ ap (option_map list) e ∙ sym (repeated-field_read f (items_view items.items) r) ∙ ap (λ d. field_read f (Some d)) (sym (view-Array items))
+  -- a REPEATED value is the list of what the items of an array are
+  pub repeated_read : (f : Field) (items : Vec Value Global) (vs : Vec RowValue Global) → repetition_of f ≡ Repeated → Some (views vs.items) ≡ items_read (inside_read_as texts f) (items_view items.items)
+      → Some (value_view (ListOf vs)) ≡ field_read_as texts f (Some (view (Array items)))
+  repeated_read f items vs r e = ap Some (view-List vs) ∙ ap (option_map list) e ∙ sym (repeated-field_read f (items_view items.items) r) ∙ ap (λ d. field_read_as texts f (Some d)) (sym (view-Array items))
 
 pub nothing_left : {X : Type 0} (xs : List X) → length xs ≡ 0 → xs ≡ []
 nothing_left [] h = refl

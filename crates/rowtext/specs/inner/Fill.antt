@@ -11,7 +11,7 @@ use Rattle.schema.specs.declared.value.Repetition.TheVariants.{Required, Optiona
 use Rattle.schema.specs.Values.{ValueTree, null, list, ValueTrees, no_values}
 use Rattle.schema.specs.Values as row
 use Rattle.schema.specs.Shape.{Field, Fields, no_fields, field, name_of, repetition_of}
-use Rattle.rowtext.specs.Reading.{without, field_read}
+use Rattle.rowtext.specs.Reading.{without, field_read_as}
 
 -- the field of this index is there, and has this name
 abbrev pub IsCalled : Fields → ℕ → List ℕ → Type 0
@@ -62,13 +62,13 @@ are_filled no_fields no_values = true
 are_filled (field f fs) (row.value v vs) = is_filled_as (repetition_of f) v && are_filled fs vs
 are_filled _ _ = false
 
--- the value of a member, or of an absent one
-abbrev pub IsValueOf : Field → Option Data → ValueTree → Type 0
-IsValueOf f None v = v ≡ absent_as (repetition_of f)
-IsValueOf f (Some d) v = field_read f (Some d) ≡ Some v
+-- the value of a member, with texts or without, or of an absent one
+abbrev pub IsValueOf : Bool → Field → Option Data → ValueTree → Type 0
+IsValueOf texts f None v = v ≡ absent_as (repetition_of f)
+IsValueOf texts f (Some d) v = field_read_as texts f (Some d) ≡ Some v
 
 -- the values so far are those of the members so far, each of which is of a field
-abbrev pub AreValuesOf : Fields → Members → ValueTrees → Type 0
-AreValuesOf no_fields ms no_values = ms ≡ no_members
-AreValuesOf (field f fs) ms (row.value v vs) = IsValueOf f (get_member (name_of f) ms) v × AreValuesOf fs (without (name_of f) ms) vs
-AreValuesOf _ _ _ = ⊥
+abbrev pub AreValuesOf : Bool → Fields → Members → ValueTrees → Type 0
+AreValuesOf texts no_fields ms no_values = ms ≡ no_members
+AreValuesOf texts (field f fs) ms (row.value v vs) = IsValueOf texts f (get_member (name_of f) ms) v × AreValuesOf texts fs (without (name_of f) ms) vs
+AreValuesOf texts _ _ _ = ⊥

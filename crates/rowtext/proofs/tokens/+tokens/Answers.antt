@@ -5,7 +5,7 @@ use Rattle.schema.specs.declared.value.Value.{the_lemmas as of_schema}
 use Rattle.schema.specs.declared.value.Value.TheVariants.{Null}
 use Rattle.schema.specs.Values.{null, view}
 use Rattle.schema.specs.Views.{field_view, field_views}
-use Rattle.rowtext.specs.Reading.{inside_read, field_read}
+use Rattle.rowtext.specs.Reading.{inside_read_as, field_read_as}
 use Rattle.rowtext.proofs.Filling.{called_within, valid_at, value_within}
 use Rattle.rowtext.proofs.Forms.{view-List}
 use Rattle.rowtext.proofs.Turns.{leaf_begins, group_begins, group_valid, null_begins, list_begins, one_begins, begins_shorter, items_begin, items_turn, items_end, members_begin, members_turn, members_shorter, members_end}
@@ -24,13 +24,13 @@ inside_at-returns-in_ok-values-in-BeginObject t c =
     c.as_slice.ensures.value (ap token_of c.in-BeginObject.is) (omega (arith, c.if-deep-gt0.true)) c.in_ok-values-in-BeginObject.ensures
 
 pub items_at-items-init : goal.items_at-items-init
-items_at-items-init t c = items_begin (inside_read (field_view c.args.field.now)) c.args.deep c.args.tokens.now _ c.new-values.ensures.items
+items_at-items-init t c = items_begin (inside_read_as c.args.texts (field_view c.args.field.now)) c.args.deep c.args.tokens.now _ c.new-values.ensures.items
 
 pub items_at-items-smaller : goal.items_at-items-smaller
 items_at-items-smaller t c =
     let l = c.items in
     let going : (after_end_array l.tokens ≡ None) × (c.take_end_array.new.self ≡ l.tokens) = grind arith in
-    let less = begins_shorter (inside_read (field_view c.args.field.now)) c.args.deep _ c.inside_at.new.tokens _ c.in_ok-inside_at.ensures in
+    let less = begins_shorter (inside_read_as c.args.texts (field_view c.args.field.now)) c.args.deep _ c.inside_at.new.tokens _ c.in_ok-inside_at.ensures in
     let same = ap length (sym going.1 ∙ c.in_ok-token.ensures) in
     omega (arith, less, same)
 
@@ -38,13 +38,13 @@ pub items_at-items-preserved : goal.items_at-items-preserved
 items_at-items-preserved t c =
     let l = c.items in
     let going : (after_end_array l.tokens ≡ None) × (c.take_end_array.new.self ≡ l.tokens) = grind arith in
-    items_turn (inside_read (field_view c.args.field.now)) c.args.deep c.args.tokens.now l.tokens _ c.inside_at.new.tokens l.values.items _ c.in_ok-inside_at.field-0 l.invariant going.0 (sym going.1 ∙ c.in_ok-token.ensures) c.in_ok-inside_at.ensures c.in_ok-push.ensures.items
+    items_turn (inside_read_as c.args.texts (field_view c.args.field.now)) c.args.deep c.args.tokens.now l.tokens _ c.inside_at.new.tokens l.values.items _ c.in_ok-inside_at.field-0 l.invariant going.0 (sym going.1 ∙ c.in_ok-token.ensures) c.in_ok-inside_at.ensures c.in_ok-push.ensures.items
 
 pub items_at-returns : goal.items_at-returns
 items_at-returns t c =
     let l = c.items in
     let closed : after_end_array l.tokens ≡ Some c.take_end_array.new.self = grind arith in
-    items_end (inside_read (field_view c.args.field.now)) c.args.deep c.args.tokens.now l.tokens c.take_end_array.new.self l.values.items l.invariant closed
+    items_end (inside_read_as c.args.texts (field_view c.args.field.now)) c.args.deep c.args.tokens.now l.tokens c.take_end_array.new.self l.values.items l.invariant closed
 
 pub field_at-returns-in-Required : goal.field_at-returns-in-Required
 field_at-returns-in-Required t c = one_begins (field_view c.args.field.now) _ c.args.deep c.args.tokens.now _ _ _ (sym c.repetition.ensures ∙ c.in-Required.is) tt c.in_ok-token.ensures c.inside_at.ensures
@@ -76,7 +76,7 @@ pub members_at-members-smaller : goal.members_at-members-smaller
 members_at-members-smaller t c =
     let l = c.members in
     let key : read_key l.tokens ≡ Some (Some c.in-Some.name.now, c.next_key.new.self) = grind arith in
-    members_shorter (λ d. field_read (field_view c.field_of.result.now) (Some d)) c.args.deep l.tokens c.next_key.new.self c.field_at.new.tokens _ _ key c.in_ok-value.ensures
+    members_shorter (λ d. field_read_as c.args.texts (field_view c.field_of.result.now) (Some d)) c.args.deep l.tokens c.next_key.new.self c.field_at.new.tokens _ _ key c.in_ok-value.ensures
 
 pub members_at-members-preserved : goal.members_at-members-preserved
 members_at-members-preserved t c =

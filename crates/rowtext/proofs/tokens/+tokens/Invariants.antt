@@ -1,6 +1,6 @@
 use Rattle.std.proofs.Common.{◌+◌, ◌*◌, length}
 use Rattle.schema.specs.Views.{field_view, field_views}
-use Rattle.rowtext.specs.Reading.{inside_read}
+use Rattle.rowtext.specs.Reading.{inside_read_as}
 use Rattle.rowtext.proofs.Turns.{Remains, Fills}
 use Rattle.rowtext.proofs.tokens.+tokens.Given as goal
 
@@ -17,13 +17,13 @@ abbrev pub decreases-members_at : goal.decreases-members_at
 decreases-members_at l = 3 * l.deep + 2
 
 abbrev pub invariant-items_at-items : goal.invariant-items_at-items
-invariant-items_at-items l = Remains (inside_read (field_view l.field)) l.deep l.initial.tokens l.tokens l.values.items
+invariant-items_at-items l = Remains (inside_read_as l.texts (field_view l.field)) l.deep l.initial.tokens l.tokens l.values.items
 
 abbrev pub decreases-items_at-items : goal.decreases-items_at-items
 decreases-items_at-items l = length l.tokens
 
 abbrev pub invariant-members_at-members : goal.invariant-members_at-members
-invariant-members_at-members l = Fills (field_views l.fields) l.deep l.initial.tokens l.tokens l.values.items
+invariant-members_at-members l = Fills {texts = l.texts} (field_views l.fields) l.deep l.initial.tokens l.tokens l.values.items
 
 abbrev pub decreases-members_at-members : goal.decreases-members_at-members
 decreases-members_at-members l = length l.tokens
