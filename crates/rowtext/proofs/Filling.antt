@@ -118,7 +118,7 @@ apart [] i k n h differ same = h
 apart (g ∷ fs) zero k n h differ same = differ.0 (same ∙ sym h)
 apart (g ∷ fs) (suc i) k n h differ same = apart fs i k n h differ.1 same
 
-module _ {texts : Bool} where
+module _ (texts : Bool) where
   -- ---- values
 
   pub value_within : (fs : List CodeField) (vs : List CodeValue) (ms : Members) (i : ℕ) (k : List ℕ) → IsCalled (field_views fs) i k → AreValuesOf texts (field_views fs) ms (views vs) → i < length vs
@@ -157,7 +157,7 @@ absent_read Required inside v filled is = absurd (true≢false (sym filled ∙ a
 absent_read Optional inside v filled is = ap Some (sym is)
 absent_read Repeated inside v filled is = ap Some (sym is)
 
-module _ {texts : Bool} where
+module _ (texts : Bool) where
   member_is : (f : Field) (o : Option Data) (v : ValueTree) → is_filled_as (repetition_of f) v ≡ true → IsValueOf texts f o v → field_read_as texts f o ≡ Some v
   member_is (leaf n r t) None v filled is = absent_read r _ v filled is
   member_is (fields n r a fs) None v filled is = absent_read r _ v filled is

@@ -85,7 +85,7 @@ end_fits : (ms : Members) → Passes (fits_each no_fields) (none_left ms)
 end_fits no_members = refl
 end_fits (member k d ms) = tt
 
-module _ {texts : Bool} where
+module _ (texts : Bool) where
   mutual
     field_fits : (f : Field) (o : Option Data) → Passes (fits f) (field_read_as texts f o)
     field_fits (leaf n r t) o = as_fits r (leaf_read_as texts t) (fits_leaf t) (λ d. leaf_fits t (scalar_by (form_if texts t) t d)) o

@@ -51,7 +51,7 @@ text_is true true a b h = refl
 text_is true false a b h = absurd (true≢false (sym h))
 text_is false u a b h = refl
 
-module _ {texts : Bool} where
+module _ (texts : Bool) where
   abbrev pub leaf_of : LeafType → List ℕ → Slot
   leaf_of t k = leaf_slot k (numbers_as (form_if texts t) t.kind (leaf_order t)) (is_text t.kind t.annotation)
 
@@ -67,33 +67,32 @@ module _ {texts : Bool} where
   leaf_kept t k (group vs) h = absurd (no_group t.kind vs (and_true (fits_kind t.kind (group vs)) _ h).0)
   leaf_kept t k (list vs) h = absurd (no_list t.kind vs (and_true (fits_kind t.kind (list vs)) _ h).0)
 
--- ---- lists
+  -- ---- lists
 
-module _ (slot : Slot) (p : ValueTree → Bool) (shown : ValueTree → Data) (one : IsKept slot p shown) where
-  items_kept : (later : Bool) (vs : ValueTrees) → each p vs ≡ true → kept_items later slot vs ++ 93 ∷ [] ≡ items_text later (items_json shown vs)
-  items_kept later no_values h = refl
-  items_kept later (value v vs) h =
-      let q = and_true (p v) (each p vs) h in
-      let c = comma_if later in
-      append_assoc c (kept_text slot v ++ kept_items true slot vs) (93 ∷ [])
-      ∙ ap (λ (s : List ℕ). c ++ s) (append_assoc (kept_text slot v) (kept_items true slot vs) (93 ∷ []) ∙ ap₂ (λ (a b : List ℕ). a ++ b) (one v q.0) (items_kept true vs q.1))
+  module _ (slot : Slot) (p : ValueTree → Bool) (shown : ValueTree → Data) (one : IsKept slot p shown) where
+    items_kept : (later : Bool) (vs : ValueTrees) → each p vs ≡ true → kept_items later slot vs ++ 93 ∷ [] ≡ items_text later (items_json shown vs)
+    items_kept later no_values h = refl
+    items_kept later (value v vs) h =
+        let q = and_true (p v) (each p vs) h in
+        let c = comma_if later in
+        append_assoc c (kept_text slot v ++ kept_items true slot vs) (93 ∷ [])
+        ∙ ap (λ (s : List ℕ). c ++ s) (append_assoc (kept_text slot v) (kept_items true slot vs) (93 ∷ []) ∙ ap₂ (λ (a b : List ℕ). a ++ b) (one v q.0) (items_kept true vs q.1))
 
-  as_kept : kept_text slot null ≡ compact_text json.null → (r : Repetition) → IsKept slot (fits_as r p) (json_as r shown)
-  as_kept none Required v h = one v h
-  as_kept none Optional null h = none
-  as_kept none Optional (boolean b) h = one (boolean b) h
-  as_kept none Optional (integer z) h = one (integer z) h
-  as_kept none Optional (bytes x) h = one (bytes x) h
-  as_kept none Optional (group vs) h = one (group vs) h
-  as_kept none Optional (list vs) h = one (list vs) h
-  as_kept none Repeated null h = absurd (true≢false (sym h))
-  as_kept none Repeated (boolean b) h = absurd (true≢false (sym h))
-  as_kept none Repeated (integer z) h = absurd (true≢false (sym h))
-  as_kept none Repeated (bytes x) h = absurd (true≢false (sym h))
-  as_kept none Repeated (group vs) h = absurd (true≢false (sym h))
-  as_kept none Repeated (list vs) h = ap (λ (s : List ℕ). 91 ∷ s) (items_kept false vs h)
+    as_kept : kept_text slot null ≡ compact_text json.null → (r : Repetition) → IsKept slot (fits_as r p) (json_as r shown)
+    as_kept none Required v h = one v h
+    as_kept none Optional null h = none
+    as_kept none Optional (boolean b) h = one (boolean b) h
+    as_kept none Optional (integer z) h = one (integer z) h
+    as_kept none Optional (bytes x) h = one (bytes x) h
+    as_kept none Optional (group vs) h = one (group vs) h
+    as_kept none Optional (list vs) h = one (list vs) h
+    as_kept none Repeated null h = absurd (true≢false (sym h))
+    as_kept none Repeated (boolean b) h = absurd (true≢false (sym h))
+    as_kept none Repeated (integer z) h = absurd (true≢false (sym h))
+    as_kept none Repeated (bytes x) h = absurd (true≢false (sym h))
+    as_kept none Repeated (group vs) h = absurd (true≢false (sym h))
+    as_kept none Repeated (list vs) h = ap (λ (s : List ℕ). 91 ∷ s) (items_kept false vs h)
 
-module _ {texts : Bool} where
   -- ---- groups and rows
 
   abbrev pub group_of : Fields → List ℕ → Slot
@@ -103,7 +102,7 @@ module _ {texts : Bool} where
   ArePieces fs = (vs : ValueTrees) → fits_each fs vs ≡ true → kept_pieces (slots_as texts fs) vs ≡ pieces_as texts fs vs
 
   object_kept : (fs : Fields) → ArePieces fs → (vs : ValueTrees) → fits_each fs vs ≡ true → kept_object (kept_pieces (slots_as texts fs) vs) (order_of fs) ≡ compact_text (json.object (members_json_as texts fs vs))
-  object_kept fs all vs h = ap (λ ps. kept_object ps (order_of fs)) (all vs h) ∙ object_ordered fs vs h
+  object_kept fs all vs h = ap (λ ps. kept_object ps (order_of fs)) (all vs h) ∙ object_ordered texts fs vs h
 
   group_kept : (fs : Fields) (k : List ℕ) → ArePieces fs → IsKept (group_of fs k) (is_group (fits_each fs)) (object_json (members_json_as texts fs))
   group_kept fs k all null h = absurd (true≢false (sym h))

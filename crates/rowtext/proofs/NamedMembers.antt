@@ -243,7 +243,7 @@ names_end fs first js rest is_first read spans ks bs so later is added =
     let os = so.0 in
     let w = whole fs spans os read so.1.0 added.0 in
     let vs = w.0 in
-    let said : flat_map (text_in fs os) js ≡ open_text (members_json fs vs) = flat_same (text_in fs os) (nth (pieces fs vs)) w.1.1.1 js ∙ ap (flat_map (nth (pieces fs vs))) is ∙ pieces_ordered fs vs w.1.0 in
+    let said : flat_map (text_in fs os) js ≡ open_text (members_json fs vs) = flat_same (text_in fs os) (nth (pieces fs vs)) w.1.1.1 js ∙ ap (flat_map (nth (pieces fs vs))) is ∙ pieces_ordered false fs vs w.1.0 in
     let end : with_comma is_first rest ≡ rest = ap (λ b. with_comma b rest) later in
     (vs, (w.1.0, (so.1.1.0 ∙ ap₂ (λ (a b : List ℕ). a ++ b) said end, added.1 ∙ ap (λ x. tokens_of ks ++ x) w.1.1.0)))
 

@@ -1,5 +1,5 @@
 -- The JSON value of a row can be printed and read again: its numbers are exact, its names rise, and it nests no deeper than the fields.
-use Rattle.std.proofs.Common.{◌≡◌, ℕ, suc, ◌*◌, ◌≤◌, max, ℤ, List, Bool, true, Option, Some, None, Ordering, Less, Equal, Greater, nat_cmp, refl, ap, ◌∙◌, arith}
+use Rattle.std.proofs.Common.{false, ◌≡◌, ℕ, suc, ◌*◌, ◌≤◌, max, ℤ, List, Bool, true, Option, Some, None, Ordering, Less, Equal, Greater, nat_cmp, refl, ap, ◌∙◌, arith}
 use Rattle.std.specs.Prelude.{IsTrue}
 use Rattle.std.specs.Cmp.Lexicographic.{slice_cmp}
 use Rattle.std.specs.Ordering.{match_ordering, ordering_reverse}
@@ -18,7 +18,7 @@ use Rattle.schema.specs.Fits.{fits_kind, fits_leaf, fits_as, is_group, fits, fit
 use Rattle.schema.specs.Reading.{tall, tallest}
 use Rattle.leaftext.specs.declared.leaf_form.Form.{Form}
 use Rattle.leaftext.specs.Forms.{form_if, form_text}
-use Rattle.rowtext.specs.Json.{number_json, leaf_json, text_or, leaf_shown, leaf_json_as, items_json, json_as, object_json, field_json_as, members_json_as}
+use Rattle.rowtext.specs.Json.{number_json, leaf_json, text_or, leaf_shown, leaf_json_as, items_json, json_as, object_json, field_json_as, members_json, members_json_as}
 use Rattle.rowtext.proofs.Both.{and_true}
 use Rattle.rowtext.proofs.JsonTexts.{IsExact, IsBefore, AreInOrder, IsReadable, AreReadable, HaveReadable}
 use Rattle.rowtext.proofs.Numbers.{integer_exact, bits_exact}
@@ -113,7 +113,7 @@ as_shown Repeated p shown one (bytes s) h = tt
 as_shown Repeated p shown one (group vs) h = tt
 as_shown Repeated p shown one (list vs) h = items_shown p shown one vs h
 
-module _ {texts : Bool} where
+module _ (texts : Bool) where
   order_of_members : (fs : Fields) (vs : ValueTrees) → AreInOrder (members_json_as texts fs vs)
   order_of_members no_fields vs = tt
   order_of_members (field f fs) no_values = tt
@@ -139,72 +139,71 @@ module _ {texts : Bool} where
         let b = and_true (fits f v) (fits_each fs vs) h in
         readable_put (name_of f) (field_json_as texts f v) (members_json_as texts fs vs) (field_shown f v b.0) (members_shown fs vs b.1)
 
-  pub row_readable : (fs : Fields) (row : ValueTrees) → IsTrue (fits_each fs row) → IsReadable (json.object (members_json_as texts fs row))
-  row_readable fs row h = (order_of_members fs row, members_shown fs row h)
+  pub row_readable_as : (fs : Fields) (row : ValueTrees) → IsTrue (fits_each fs row) → IsReadable (json.object (members_json_as texts fs row))
+  row_readable_as fs row h = (order_of_members fs row, members_shown fs row h)
 
--- ---- depth
+  -- ---- depth
 
-depth_at : (o : Ordering) (a b c : Members) (n : ℕ) → members_depth a ≤ n → members_depth b ≤ n → members_depth c ≤ n → members_depth (match_ordering o a b c) ≤ n
-depth_at Less a b c n x y z = x
-depth_at Equal a b c n x y z = y
-depth_at Greater a b c n x y z = z
+  depth_at : (o : Ordering) (a b c : Members) (n : ℕ) → members_depth a ≤ n → members_depth b ≤ n → members_depth c ≤ n → members_depth (match_ordering o a b c) ≤ n
+  depth_at Less a b c n x y z = x
+  depth_at Equal a b c n x y z = y
+  depth_at Greater a b c n x y z = z
 
-depth_put : (k : List ℕ) (d : Data) (ms : Members) (n : ℕ) → depth d ≤ n → members_depth ms ≤ n → members_depth (put k d ms) ≤ n
-depth_put k d no_members n x y = omega (arith, x)
-depth_put k d (member l e ms) n x y = depth_at (slice_cmp nat_cmp k l) _ _ _ n (omega (arith, x, y)) (omega (arith, x, y)) (let z = depth_put k d ms n x (omega (arith, y)) in omega (arith, y, z))
+  depth_put : (k : List ℕ) (d : Data) (ms : Members) (n : ℕ) → depth d ≤ n → members_depth ms ≤ n → members_depth (put k d ms) ≤ n
+  depth_put k d no_members n x y = omega (arith, x)
+  depth_put k d (member l e ms) n x y = depth_at (slice_cmp nat_cmp k l) _ _ _ n (omega (arith, x, y)) (omega (arith, x, y)) (let z = depth_put k d ms n x (omega (arith, y)) in omega (arith, y, z))
 
-abbrev AreFlat : ℕ → (ValueTree → Data) → Type 0
-AreFlat n shown = (v : ValueTree) → depth (shown v) ≤ n
+  abbrev AreFlat : ℕ → (ValueTree → Data) → Type 0
+  AreFlat n shown = (v : ValueTree) → depth (shown v) ≤ n
 
-plain_flat : (t : LeafType) → AreFlat 0 (leaf_json t)
-plain_flat t null = omega arith
-plain_flat t (boolean b) = omega arith
-plain_flat t (integer z) = omega arith
-plain_flat t (bytes s) = omega arith
-plain_flat t (group vs) = omega arith
-plain_flat t (list vs) = omega arith
+  plain_flat : (t : LeafType) → AreFlat 0 (leaf_json t)
+  plain_flat t null = omega arith
+  plain_flat t (boolean b) = omega arith
+  plain_flat t (integer z) = omega arith
+  plain_flat t (bytes s) = omega arith
+  plain_flat t (group vs) = omega arith
+  plain_flat t (list vs) = omega arith
 
-text_flat : (o : Option (List ℕ)) (d : Data) → depth d ≤ 0 → depth (text_or o d) ≤ 0
-text_flat (Some s) d h = omega arith
-text_flat None d h = h
+  text_flat : (o : Option (List ℕ)) (d : Data) → depth d ≤ 0 → depth (text_or o d) ≤ 0
+  text_flat (Some s) d h = omega arith
+  text_flat None d h = h
 
-flat_by : (o : Option Form) (t : LeafType) → AreFlat 0 (leaf_shown o t)
-flat_by None t v = plain_flat t v
-flat_by (Some form) t null = omega arith
-flat_by (Some form) t (boolean b) = omega arith
-flat_by (Some form) t (integer z) = text_flat (form_text form z) (leaf_json t (integer z)) (plain_flat t (integer z))
-flat_by (Some form) t (bytes s) = omega arith
-flat_by (Some form) t (group vs) = omega arith
-flat_by (Some form) t (list vs) = omega arith
+  flat_by : (o : Option Form) (t : LeafType) → AreFlat 0 (leaf_shown o t)
+  flat_by None t v = plain_flat t v
+  flat_by (Some form) t null = omega arith
+  flat_by (Some form) t (boolean b) = omega arith
+  flat_by (Some form) t (integer z) = text_flat (form_text form z) (leaf_json t (integer z)) (plain_flat t (integer z))
+  flat_by (Some form) t (bytes s) = omega arith
+  flat_by (Some form) t (group vs) = omega arith
+  flat_by (Some form) t (list vs) = omega arith
 
-items_flat : (n : ℕ) (shown : ValueTree → Data) → AreFlat n shown → (vs : ValueTrees) → items_depth (items_json shown vs) ≤ n
-items_flat n shown one no_values = omega arith
-items_flat n shown one (value v vs) = let a = one v in let b = items_flat n shown one vs in omega (arith, a, b)
+  items_flat : (n : ℕ) (shown : ValueTree → Data) → AreFlat n shown → (vs : ValueTrees) → items_depth (items_json shown vs) ≤ n
+  items_flat n shown one no_values = omega arith
+  items_flat n shown one (value v vs) = let a = one v in let b = items_flat n shown one vs in omega (arith, a, b)
 
-as_flat : (n : ℕ) (r : Repetition) (shown : ValueTree → Data) → AreFlat n shown → AreFlat (suc n) (json_as r shown)
-as_flat n Required shown one v = let a = one v in omega (arith, a)
-as_flat n Optional shown one null = omega arith
-as_flat n Optional shown one (boolean b) = let a = one (boolean b) in omega (arith, a)
-as_flat n Optional shown one (integer z) = let a = one (integer z) in omega (arith, a)
-as_flat n Optional shown one (bytes s) = let a = one (bytes s) in omega (arith, a)
-as_flat n Optional shown one (group vs) = let a = one (group vs) in omega (arith, a)
-as_flat n Optional shown one (list vs) = let a = one (list vs) in omega (arith, a)
-as_flat n Repeated shown one null = omega arith
-as_flat n Repeated shown one (boolean b) = omega arith
-as_flat n Repeated shown one (integer z) = omega arith
-as_flat n Repeated shown one (bytes s) = omega arith
-as_flat n Repeated shown one (group vs) = omega arith
-as_flat n Repeated shown one (list vs) = let a = items_flat n shown one vs in omega (arith, a)
+  as_flat : (n : ℕ) (r : Repetition) (shown : ValueTree → Data) → AreFlat n shown → AreFlat (suc n) (json_as r shown)
+  as_flat n Required shown one v = let a = one v in omega (arith, a)
+  as_flat n Optional shown one null = omega arith
+  as_flat n Optional shown one (boolean b) = let a = one (boolean b) in omega (arith, a)
+  as_flat n Optional shown one (integer z) = let a = one (integer z) in omega (arith, a)
+  as_flat n Optional shown one (bytes s) = let a = one (bytes s) in omega (arith, a)
+  as_flat n Optional shown one (group vs) = let a = one (group vs) in omega (arith, a)
+  as_flat n Optional shown one (list vs) = let a = one (list vs) in omega (arith, a)
+  as_flat n Repeated shown one null = omega arith
+  as_flat n Repeated shown one (boolean b) = omega arith
+  as_flat n Repeated shown one (integer z) = omega arith
+  as_flat n Repeated shown one (bytes s) = omega arith
+  as_flat n Repeated shown one (group vs) = omega arith
+  as_flat n Repeated shown one (list vs) = let a = items_flat n shown one vs in omega (arith, a)
 
-group_flat : (n : ℕ) (shown : ValueTrees → Members) → ((vs : ValueTrees) → members_depth (shown vs) ≤ n) → AreFlat (suc n) (object_json shown)
-group_flat n shown one null = omega arith
-group_flat n shown one (boolean b) = omega arith
-group_flat n shown one (integer z) = omega arith
-group_flat n shown one (bytes s) = omega arith
-group_flat n shown one (group vs) = let a = one vs in omega (arith, a)
-group_flat n shown one (list vs) = omega arith
+  group_flat : (n : ℕ) (shown : ValueTrees → Members) → ((vs : ValueTrees) → members_depth (shown vs) ≤ n) → AreFlat (suc n) (object_json shown)
+  group_flat n shown one null = omega arith
+  group_flat n shown one (boolean b) = omega arith
+  group_flat n shown one (integer z) = omega arith
+  group_flat n shown one (bytes s) = omega arith
+  group_flat n shown one (group vs) = let a = one vs in omega (arith, a)
+  group_flat n shown one (list vs) = omega arith
 
-module _ {texts : Bool} where
   mutual
     field_flat : (f : Field) (v : ValueTree) → depth (field_json_as texts f v) ≤ 2 * tall f
     field_flat (leaf n r t) v = let a = as_flat 0 r (leaf_json_as texts t) (flat_by (form_if texts t) t) v in omega (arith, a)
@@ -220,3 +219,6 @@ module _ {texts : Bool} where
         let a = field_flat f v in
         let b = members_flat fs vs in
         depth_put (name_of f) (field_json_as texts f v) (members_json_as texts fs vs) (2 * max (tall f) (tallest fs)) (omega (arith, a)) (omega (arith, b))
+
+pub row_readable : (fs : Fields) (row : ValueTrees) → IsTrue (fits_each fs row) → IsReadable (json.object (members_json fs row))
+row_readable = row_readable_as false

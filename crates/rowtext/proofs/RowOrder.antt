@@ -110,7 +110,11 @@ pieces_as texts _ _ = []
 abbrev pub pieces : Fields → ValueTrees → List (List ℕ)
 pieces = pieces_as false
 
-module _ {texts : Bool} where
+pub flat_same : (f g : ℕ → List ℕ) → ((i : ℕ) → f i ≡ g i) → (os : List ℕ) → flat_map f os ≡ flat_map g os
+flat_same f g h [] = refl
+flat_same f g h (o ∷ os) = ap₂ (λ (a r : List ℕ). a ++ r) (h o) (flat_same f g h os)
+
+module _ (texts : Bool) where
   abbrev pub data_at : Fields → ValueTrees → ℕ → Data
   data_at (field f fs) (value v vs) zero = field_json_as texts f v
   data_at (field f fs) (value v vs) (suc i) = data_at fs vs i
@@ -134,10 +138,9 @@ module _ {texts : Bool} where
       let rest = in_names (suc i) fs vs at text q.1 (λ j. ap at (next j) ∙ d (suc j)) (λ j. ap text (next j) ∙ p (suc j)) in
       (shown_put at (name_of f) i (ordered (suc i) fs) ∙ ap₂ (put (name_of f)) here rest.0, named_put at text (name_of f) i (ordered (suc i) fs) named rest.1)
 
-from_first : {A : Type 0} (f : ℕ → A) (j : ℕ) → f (0 + j) ≡ f j
-from_first f j = let e : 0 + j ≡ j = omega arith in ap f e
+  from_first : {A : Type 0} (f : ℕ → A) (j : ℕ) → f (0 + j) ≡ f j
+  from_first f j = let e : 0 + j ≡ j = omega arith in ap f e
 
-module _ {texts : Bool} where
   -- the pieces in the order of the names
   pub pieces_ordered : (fs : Fields) (vs : ValueTrees) → fits_each fs vs ≡ true → flat_map (nth (pieces_as texts fs vs)) (indices_of fs) ≡ open_text (members_json_as texts fs vs)
   pieces_ordered fs vs h =
@@ -149,22 +152,17 @@ module _ {texts : Bool} where
   count_pieces (field f fs) no_values h = absurd (true≢false (sym h))
   count_pieces (field f fs) (value v vs) h = ap suc (count_pieces fs vs (and_true (fits f v) (fits_each fs vs) h).1)
 
--- where the order is that of the fields, the pieces are as they stand
-counted : (os : List ℕ) (ps : List (List ℕ)) (i : ℕ) (text : ℕ → List ℕ) → is_counting i os ≡ true → length os ≡ length ps → ((j : ℕ) → text (i + j) ≡ nth ps j) → flat_map text os ≡ concat ps
-counted [] [] i text c n p = refl
-counted [] (q ∷ qs) i text c n p = absurd (omega (arith, n))
-counted (o ∷ os) [] i text c n p = absurd (omega (arith, n))
-counted (o ∷ os) (q ∷ qs) i text c n p =
-    let b = and_true (o == i) (is_counting (suc i) os) c in
-    let same : o ≡ i + 0 = grind (arith, nat_tests, b.0) in
-    let next : (j : ℕ) → suc i + j ≡ i + suc j = λ j. omega arith in
-    ap₂ (λ (a r : List ℕ). a ++ r) (ap text same ∙ p 0) (counted os qs (suc i) text b.1 (omega (arith, n)) (λ j. ap text (next j) ∙ p (suc j)))
+  -- where the order is that of the fields, the pieces are as they stand
+  counted : (os : List ℕ) (ps : List (List ℕ)) (i : ℕ) (text : ℕ → List ℕ) → is_counting i os ≡ true → length os ≡ length ps → ((j : ℕ) → text (i + j) ≡ nth ps j) → flat_map text os ≡ concat ps
+  counted [] [] i text c n p = refl
+  counted [] (q ∷ qs) i text c n p = absurd (omega (arith, n))
+  counted (o ∷ os) [] i text c n p = absurd (omega (arith, n))
+  counted (o ∷ os) (q ∷ qs) i text c n p =
+      let b = and_true (o == i) (is_counting (suc i) os) c in
+      let same : o ≡ i + 0 = grind (arith, nat_tests, b.0) in
+      let next : (j : ℕ) → suc i + j ≡ i + suc j = λ j. omega arith in
+      ap₂ (λ (a r : List ℕ). a ++ r) (ap text same ∙ p 0) (counted os qs (suc i) text b.1 (omega (arith, n)) (λ j. ap text (next j) ∙ p (suc j)))
 
-pub flat_same : (f g : ℕ → List ℕ) → ((i : ℕ) → f i ≡ g i) → (os : List ℕ) → flat_map f os ≡ flat_map g os
-flat_same f g h [] = refl
-flat_same f g h (o ∷ os) = ap₂ (λ (a r : List ℕ). a ++ r) (h o) (flat_same f g h os)
-
-module _ {texts : Bool} where
   -- the pieces in the order that the fields have
   pub ordered_by : (fs : Fields) (vs : ValueTrees) → fits_each fs vs ≡ true → (b : Bool) → is_in_order (indices_of fs) (count fs) ≡ b → in_order (pieces_as texts fs vs) (if b then None else Some (indices_of fs)) ≡ open_text (members_json_as texts fs vs)
   ordered_by fs vs h true is =

@@ -26,56 +26,55 @@ use Rattle.rowtext.proofs.RowOrder.{starts_of, pieces_as, object_text}
 abbrev pub IsPrinted : Slot → (ValueTree → Bool) → (ValueTree → Data) → Type 0
 IsPrinted slot p shown = (v : ValueTree) → p v ≡ true → (s : State) → next_slot s.here ≡ Some slot → run s (tokens v) ≡ more (begun s) (compact_text (shown v))
 
-module _ {texts : Bool} where
+module _ (texts : Bool) where
   -- ---- leaves
 
-  leaf_printed : (t : LeafType) (k : List ℕ) → IsPrinted (leaf_of {texts = texts} t k) (fits_leaf t) (leaf_json_as texts t)
-  leaf_printed t k null h s next = ap (λ o. more (begun s) (text_at o null)) next ∙ ap (more (begun s)) (leaf_kept t k null h)
-  leaf_printed t k (boolean b) h s next = ap (λ o. more (begun s) (text_at o (boolean b))) next ∙ ap (more (begun s)) (leaf_kept t k (boolean b) h)
-  leaf_printed t k (integer z) h s next = ap (λ o. more (begun s) (text_at o (integer z))) next ∙ ap (more (begun s)) (leaf_kept t k (integer z) h)
-  leaf_printed t k (bytes x) h s next = ap (λ o. more (begun s) (text_at o (bytes x))) next ∙ ap (more (begun s)) (leaf_kept t k (bytes x) h)
+  leaf_printed : (t : LeafType) (k : List ℕ) → IsPrinted (leaf_of texts t k) (fits_leaf t) (leaf_json_as texts t)
+  leaf_printed t k null h s next = ap (λ o. more (begun s) (text_at o null)) next ∙ ap (more (begun s)) (leaf_kept texts t k null h)
+  leaf_printed t k (boolean b) h s next = ap (λ o. more (begun s) (text_at o (boolean b))) next ∙ ap (more (begun s)) (leaf_kept texts t k (boolean b) h)
+  leaf_printed t k (integer z) h s next = ap (λ o. more (begun s) (text_at o (integer z))) next ∙ ap (more (begun s)) (leaf_kept texts t k (integer z) h)
+  leaf_printed t k (bytes x) h s next = ap (λ o. more (begun s) (text_at o (bytes x))) next ∙ ap (more (begun s)) (leaf_kept texts t k (bytes x) h)
   leaf_printed t k (group vs) h s next = absurd (no_group t.kind vs (and_true (fits_kind t.kind (group vs)) _ h).0)
   leaf_printed t k (list vs) h s next = absurd (no_list t.kind vs (and_true (fits_kind t.kind (list vs)) _ h).0)
 
--- ---- lists
+  -- ---- lists
 
-module _ (slot : Slot) (p : ValueTree → Bool) (shown : ValueTree → Data) (one : IsPrinted slot p shown) where
-  list_printed : (vs : ValueTrees) → each p vs ≡ true → (text starts : List ℕ) (later : Bool) (l : Level) (ls : List Level)
-      → left (more (run (held text starts (items (Some slot) later) (l ∷ ls)) (tokens_each vs)) (93 ∷ [])) ≡ held (text ++ items_text later (items_json shown vs)) starts l ls
-  list_printed no_values h text starts later l ls = refl
-  list_printed (value v vs) h text starts later l ls =
-      let q = and_true (p v) (each p vs) h in
-      let s = held text starts (items (Some slot) later) (l ∷ ls) in
-      let c = compact_text (shown v) in
-      ap (λ x. left (more x (93 ∷ []))) (run_append s (tokens v) (tokens_each vs) ∙ ap (λ x. run x (tokens_each vs)) (one v q.0 s refl))
-      ∙ list_printed vs q.1 ((text ++ comma_if later) ++ c) starts true l ls
-      ∙ ap (λ (x : List ℕ). held x starts l ls) (append_assoc (text ++ comma_if later) c _ ∙ append_assoc text (comma_if later) _)
+  module _ (slot : Slot) (p : ValueTree → Bool) (shown : ValueTree → Data) (one : IsPrinted slot p shown) where
+    list_printed : (vs : ValueTrees) → each p vs ≡ true → (text starts : List ℕ) (later : Bool) (l : Level) (ls : List Level)
+        → left (more (run (held text starts (items (Some slot) later) (l ∷ ls)) (tokens_each vs)) (93 ∷ [])) ≡ held (text ++ items_text later (items_json shown vs)) starts l ls
+    list_printed no_values h text starts later l ls = refl
+    list_printed (value v vs) h text starts later l ls =
+        let q = and_true (p v) (each p vs) h in
+        let s = held text starts (items (Some slot) later) (l ∷ ls) in
+        let c = compact_text (shown v) in
+        ap (λ x. left (more x (93 ∷ []))) (run_append s (tokens v) (tokens_each vs) ∙ ap (λ x. run x (tokens_each vs)) (one v q.0 s refl))
+        ∙ list_printed vs q.1 ((text ++ comma_if later) ++ c) starts true l ls
+        ∙ ap (λ (x : List ℕ). held x starts l ls) (append_assoc (text ++ comma_if later) c _ ∙ append_assoc text (comma_if later) _)
 
-  abbrev IsNullPrinted : Type 0
-  IsNullPrinted = (s : State) → next_slot s.here ≡ Some slot → run s (single null ∷ []) ≡ more (begun s) (compact_text json.null)
+    abbrev IsNullPrinted : Type 0
+    IsNullPrinted = (s : State) → next_slot s.here ≡ Some slot → run s (single null ∷ []) ≡ more (begun s) (compact_text json.null)
 
-  as_printed : IsNullPrinted → (r : Repetition) → IsPrinted slot (fits_as r p) (json_as r shown)
-  as_printed none Required v h s next = one v h s next
-  as_printed none Optional null h s next = none s next
-  as_printed none Optional (boolean b) h s next = one (boolean b) h s next
-  as_printed none Optional (integer z) h s next = one (integer z) h s next
-  as_printed none Optional (bytes x) h s next = one (bytes x) h s next
-  as_printed none Optional (group vs) h s next = one (group vs) h s next
-  as_printed none Optional (list vs) h s next = one (list vs) h s next
-  as_printed none Repeated null h s next = absurd (true≢false (sym h))
-  as_printed none Repeated (boolean b) h s next = absurd (true≢false (sym h))
-  as_printed none Repeated (integer z) h s next = absurd (true≢false (sym h))
-  as_printed none Repeated (bytes x) h s next = absurd (true≢false (sym h))
-  as_printed none Repeated (group vs) h s next = absurd (true≢false (sym h))
-  as_printed none Repeated (list vs) h s next =
-      let b = begun s in
-      let first = more (entered b (items (next_slot s.here) false)) (91 ∷ []) in
-      run_append first (tokens_each vs) (list_ends ∷ [])
-      ∙ ap (λ o. left (more (run (more (entered b (items o false)) (91 ∷ [])) (tokens_each vs)) (93 ∷ []))) next
-      ∙ list_printed vs h (b.text ++ 91 ∷ []) b.starts false b.here b.outer
-      ∙ ap (λ (x : List ℕ). held x b.starts b.here b.outer) (append_assoc b.text (91 ∷ []) _)
+    as_printed : IsNullPrinted → (r : Repetition) → IsPrinted slot (fits_as r p) (json_as r shown)
+    as_printed none Required v h s next = one v h s next
+    as_printed none Optional null h s next = none s next
+    as_printed none Optional (boolean b) h s next = one (boolean b) h s next
+    as_printed none Optional (integer z) h s next = one (integer z) h s next
+    as_printed none Optional (bytes x) h s next = one (bytes x) h s next
+    as_printed none Optional (group vs) h s next = one (group vs) h s next
+    as_printed none Optional (list vs) h s next = one (list vs) h s next
+    as_printed none Repeated null h s next = absurd (true≢false (sym h))
+    as_printed none Repeated (boolean b) h s next = absurd (true≢false (sym h))
+    as_printed none Repeated (integer z) h s next = absurd (true≢false (sym h))
+    as_printed none Repeated (bytes x) h s next = absurd (true≢false (sym h))
+    as_printed none Repeated (group vs) h s next = absurd (true≢false (sym h))
+    as_printed none Repeated (list vs) h s next =
+        let b = begun s in
+        let first = more (entered b (items (next_slot s.here) false)) (91 ∷ []) in
+        run_append first (tokens_each vs) (list_ends ∷ [])
+        ∙ ap (λ o. left (more (run (more (entered b (items o false)) (91 ∷ [])) (tokens_each vs)) (93 ∷ []))) next
+        ∙ list_printed vs h (b.text ++ 91 ∷ []) b.starts false b.here b.outer
+        ∙ ap (λ (x : List ℕ). held x b.starts b.here b.outer) (append_assoc b.text (91 ∷ []) _)
 
-module _ {texts : Bool} where
   -- ---- groups and rows
 
   -- the values of fields leave their pieces
@@ -85,24 +84,23 @@ module _ {texts : Bool} where
       → run (held text starts (object (slots_as texts fs) o f n) outer) (tokens_each vs)
       ≡ held (text ++ concat (pieces_as texts fs vs)) (with_starts o starts (starts_of (length text) (pieces_as texts fs vs))) (object no_slots o f n) outer
 
--- where the order stays, starts are not needed
-started_none : (o : Option (List ℕ)) (starts : List ℕ) → starts ≡ with_starts o starts []
-started_none None starts = refl
-started_none (Some order) starts = sym (append-nil starts)
+  -- where the order stays, starts are not needed
+  started_none : (o : Option (List ℕ)) (starts : List ℕ) → starts ≡ with_starts o starts []
+  started_none None starts = refl
+  started_none (Some order) starts = sym (append-nil starts)
 
-started_more : (o : Option (List ℕ)) (starts : List ℕ) (at : ℕ) (later : List ℕ) → with_starts o (with_starts o starts (at ∷ [])) later ≡ with_starts o starts (at ∷ later)
-started_more None starts at later = refl
-started_more (Some order) starts at later = append_assoc starts (at ∷ []) later
+  started_more : (o : Option (List ℕ)) (starts : List ℕ) (at : ℕ) (later : List ℕ) → with_starts o (with_starts o starts (at ∷ [])) later ≡ with_starts o starts (at ∷ later)
+  started_more None starts at later = refl
+  started_more (Some order) starts at later = append_assoc starts (at ∷ []) later
 
-sorted_started : (o : Option (List ℕ)) (text starts added : List ℕ) (f : ℕ) → sorted text (drop (length starts) (with_starts o starts added)) f o ≡ sorted text added f o
-sorted_started None text starts added f = refl
-sorted_started (Some order) text starts added f = ap (λ (a : List ℕ). sorted text a f (Some order)) (drop-append_seam starts added)
+  sorted_started : (o : Option (List ℕ)) (text starts added : List ℕ) (f : ℕ) → sorted text (drop (length starts) (with_starts o starts added)) f o ≡ sorted text added f o
+  sorted_started None text starts added f = refl
+  sorted_started (Some order) text starts added f = ap (λ (a : List ℕ). sorted text a f (Some order)) (drop-append_seam starts added)
 
-started_before : (o : Option (List ℕ)) (starts added : List ℕ) → kept_starts o (length starts) (with_starts o starts added) ≡ starts
-started_before None starts added = refl
-started_before (Some order) starts added = take-append_seam starts added
+  started_before : (o : Option (List ℕ)) (starts added : List ℕ) → kept_starts o (length starts) (with_starts o starts added) ≡ starts
+  started_before None starts added = refl
+  started_before (Some order) starts added = take-append_seam starts added
 
-module _ {texts : Bool} where
   -- an object that is closed
   object_closed : (fs : Fields) (vs : ValueTrees) → fits_each fs vs ≡ true → (text starts : List ℕ) (outer : List Level)
       → closed (held (text ++ concat (pieces_as texts fs vs)) (with_starts (order_of fs) starts (starts_of (length text) (pieces_as texts fs vs))) (object no_slots (order_of fs) (length text) (length starts)) outer)
@@ -112,9 +110,9 @@ module _ {texts : Bool} where
       let l = object no_slots (order_of fs) (length text) (length starts) in
       ap₂ (λ (a b : List ℕ). held (braced_at (length text) a ++ 125 ∷ []) b l outer)
       (sorted_started (order_of fs) (text ++ concat ps) starts (starts_of (length text) ps) (length text)) (started_before (order_of fs) starts (starts_of (length text) ps))
-      ∙ ap (λ (a : List ℕ). held a starts l outer) (object_text fs vs text h)
+      ∙ ap (λ (a : List ℕ). held a starts l outer) (object_text texts fs vs text h)
 
-  group_printed : (fs : Fields) (k : List ℕ) → ArePrinted fs → IsPrinted (group_of {texts = texts} fs k) (is_group (fits_each fs)) (object_json (members_json_as texts fs))
+  group_printed : (fs : Fields) (k : List ℕ) → ArePrinted fs → IsPrinted (group_of texts fs k) (is_group (fits_each fs)) (object_json (members_json_as texts fs))
   group_printed fs k all null h s next = absurd (true≢false (sym h))
   group_printed fs k all (boolean b) h s next = absurd (true≢false (sym h))
   group_printed fs k all (integer z) h s next = absurd (true≢false (sym h))
@@ -128,15 +126,14 @@ module _ {texts : Bool} where
       ∙ ap (λ x. left (closed x)) (all vs h b.text b.starts (order_of fs) (length b.text) (length b.starts) (b.here ∷ b.outer))
       ∙ ap left (object_closed fs vs h b.text b.starts (b.here ∷ b.outer))
 
-null_in : (slot : Slot) → text_at (Some slot) null ≡ compact_text json.null → (s : State) → next_slot s.here ≡ Some slot → run s (single null ∷ []) ≡ more (begun s) (compact_text json.null)
-null_in slot is s next = ap (λ o. more (begun s) (text_at o null)) next ∙ ap (more (begun s)) is
+  null_in : (slot : Slot) → text_at (Some slot) null ≡ compact_text json.null → (s : State) → next_slot s.here ≡ Some slot → run s (single null ∷ []) ≡ more (begun s) (compact_text json.null)
+  null_in slot is s next = ap (λ o. more (begun s) (text_at o null)) next ∙ ap (more (begun s)) is
 
-module _ {texts : Bool} where
   mutual
     field_printed : (f : Field) → IsPrinted (slot_as texts f) (fits f) (field_json_as texts f)
-    field_printed (leaf n r t) v h s next = as_printed (leaf_of {texts = texts} t (key_of n)) (fits_leaf t) (leaf_json_as texts t) (leaf_printed t (key_of n)) (null_in (leaf_of {texts = texts} t (key_of n)) refl) r v h s next
+    field_printed (leaf n r t) v h s next = as_printed (leaf_of texts t (key_of n)) (fits_leaf t) (leaf_json_as texts t) (leaf_printed t (key_of n)) (null_in (leaf_of texts t (key_of n)) refl) r v h s next
     field_printed (fields n r a fs) v h s next =
-        as_printed (group_of {texts = texts} fs (key_of n)) (is_group (fits_each fs)) (object_json (members_json_as texts fs)) (group_printed fs (key_of n) (fields_printed fs)) (null_in (group_of {texts = texts} fs (key_of n)) refl) r v h s next
+        as_printed (group_of texts fs (key_of n)) (is_group (fits_each fs)) (object_json (members_json_as texts fs)) (group_printed fs (key_of n) (fields_printed fs)) (null_in (group_of texts fs (key_of n)) refl) r v h s next
 
     fields_printed : (fs : Fields) → ArePrinted fs
     fields_printed no_fields no_values h text starts o f n outer = ap₂ (λ (a b : List ℕ). held a b (object no_slots o f n) outer) (sym (append-nil text)) (started_none o starts)

@@ -31,7 +31,7 @@ use Rattle.rowtext.specs.Law.{RowsReadBack, RowsReadBackAs}
 use Rattle.rowtext.proofs.Heights.{at_most_32}
 use Rattle.rowtext.proofs.JsonTexts.{text_back}
 use Rattle.rowtext.proofs.Numbers.{number_back, within}
-use Rattle.rowtext.proofs.RowJson.{row_readable, members_flat}
+use Rattle.rowtext.proofs.RowJson.{row_readable_as, members_flat}
 use Rattle.rowtext.proofs.HexTexts.{digits_said}
 
 and_true : (a b : Bool) → (a && b) ≡ true → (a ≡ true) × (b ≡ true)
@@ -119,86 +119,84 @@ null_by : (o : Option Form) (t : LeafType) → leaf_read_by o t json.null ≡ No
 null_by None t = refl
 null_by (Some form) t = refl
 
-module _ {texts : Bool} where
+module _ (texts : Bool) where
   leaf_back : (t : LeafType) → ReadsBack (fits_leaf t) (leaf_json_as texts t) (leaf_read_as texts t)
   leaf_back t v h = chosen t (scalar_by (form_if texts t) t (leaf_json_as texts t v)) v h (back_by (form_if texts t) t (are_numbers texts t) v h)
 
--- ---- repetitions
+  -- ---- repetitions
 
-items_back : (p : ValueTree → Bool) (shown : ValueTree → Data) (inside : Data → Option ValueTree) → ReadsBack p shown inside → (vs : ValueTrees) → each p vs ≡ true → items_read inside (items_json shown vs) ≡ Some vs
-items_back p shown inside one no_values h = refl
-items_back p shown inside one (value v vs) h =
-    let b = and_true (p v) (each p vs) h in
-    ap₂ value_before (one v b.0) (items_back p shown inside one vs b.1)
+  items_back : (p : ValueTree → Bool) (shown : ValueTree → Data) (inside : Data → Option ValueTree) → ReadsBack p shown inside → (vs : ValueTrees) → each p vs ≡ true → items_read inside (items_json shown vs) ≡ Some vs
+  items_back p shown inside one no_values h = refl
+  items_back p shown inside one (value v vs) h =
+      let b = and_true (p v) (each p vs) h in
+      ap₂ value_before (one v b.0) (items_back p shown inside one vs b.1)
 
-none_is : {A B : Type 0} (o : Option A) (x : A) → o ≡ None → o ≡ Some x → B
-none_is None x e f = cc
-none_is (Some y) x e f = cc
+  none_is : {A B : Type 0} (o : Option A) (x : A) → o ≡ None → o ≡ Some x → B
+  none_is None x e f = cc
+  none_is (Some y) x e f = cc
 
--- what is there is no null
-there_back : (inside : Data → Option ValueTree) (v : ValueTree) (d : Data) → inside json.null ≡ None → inside d ≡ Some v → read_as Optional inside (Some d) ≡ Some v
-there_back inside v json.null none is = none_is (inside json.null) v none is
-there_back inside v (json.boolean b) none is = is
-there_back inside v (json.number n) none is = is
-there_back inside v (json.string s) none is = is
-there_back inside v (json.array ds) none is = is
-there_back inside v (json.object ms) none is = is
+  -- what is there is no null
+  there_back : (inside : Data → Option ValueTree) (v : ValueTree) (d : Data) → inside json.null ≡ None → inside d ≡ Some v → read_as Optional inside (Some d) ≡ Some v
+  there_back inside v json.null none is = none_is (inside json.null) v none is
+  there_back inside v (json.boolean b) none is = is
+  there_back inside v (json.number n) none is = is
+  there_back inside v (json.string s) none is = is
+  there_back inside v (json.array ds) none is = is
+  there_back inside v (json.object ms) none is = is
 
-as_back : (r : Repetition) (p : ValueTree → Bool) (shown : ValueTree → Data) (inside : Data → Option ValueTree) → ReadsBack p shown inside → inside json.null ≡ None → (v : ValueTree) → fits_as r p v ≡ true → read_as r inside (Some (json_as r shown v)) ≡ Some v
-as_back Required p shown inside one none v h = one v h
-as_back Optional p shown inside one none null h = refl
-as_back Optional p shown inside one none (boolean b) h = there_back inside (boolean b) (shown (boolean b)) none (one (boolean b) h)
-as_back Optional p shown inside one none (integer z) h = there_back inside (integer z) (shown (integer z)) none (one (integer z) h)
-as_back Optional p shown inside one none (bytes s) h = there_back inside (bytes s) (shown (bytes s)) none (one (bytes s) h)
-as_back Optional p shown inside one none (group vs) h = there_back inside (group vs) (shown (group vs)) none (one (group vs) h)
-as_back Optional p shown inside one none (list vs) h = there_back inside (list vs) (shown (list vs)) none (one (list vs) h)
-as_back Repeated p shown inside one none null h = absurd (true≢false (sym h))
-as_back Repeated p shown inside one none (boolean b) h = absurd (true≢false (sym h))
-as_back Repeated p shown inside one none (integer z) h = absurd (true≢false (sym h))
-as_back Repeated p shown inside one none (bytes s) h = absurd (true≢false (sym h))
-as_back Repeated p shown inside one none (group vs) h = absurd (true≢false (sym h))
-as_back Repeated p shown inside one none (list vs) h = ap (option_map list) (items_back p shown inside one vs h)
+  as_back : (r : Repetition) (p : ValueTree → Bool) (shown : ValueTree → Data) (inside : Data → Option ValueTree) → ReadsBack p shown inside → inside json.null ≡ None → (v : ValueTree) → fits_as r p v ≡ true → read_as r inside (Some (json_as r shown v)) ≡ Some v
+  as_back Required p shown inside one none v h = one v h
+  as_back Optional p shown inside one none null h = refl
+  as_back Optional p shown inside one none (boolean b) h = there_back inside (boolean b) (shown (boolean b)) none (one (boolean b) h)
+  as_back Optional p shown inside one none (integer z) h = there_back inside (integer z) (shown (integer z)) none (one (integer z) h)
+  as_back Optional p shown inside one none (bytes s) h = there_back inside (bytes s) (shown (bytes s)) none (one (bytes s) h)
+  as_back Optional p shown inside one none (group vs) h = there_back inside (group vs) (shown (group vs)) none (one (group vs) h)
+  as_back Optional p shown inside one none (list vs) h = there_back inside (list vs) (shown (list vs)) none (one (list vs) h)
+  as_back Repeated p shown inside one none null h = absurd (true≢false (sym h))
+  as_back Repeated p shown inside one none (boolean b) h = absurd (true≢false (sym h))
+  as_back Repeated p shown inside one none (integer z) h = absurd (true≢false (sym h))
+  as_back Repeated p shown inside one none (bytes s) h = absurd (true≢false (sym h))
+  as_back Repeated p shown inside one none (group vs) h = absurd (true≢false (sym h))
+  as_back Repeated p shown inside one none (list vs) h = ap (option_map list) (items_back p shown inside one vs h)
 
-group_back : (p : ValueTrees → Bool) (shown : ValueTrees → Members) (all : Members → Option ValueTrees) → ((vs : ValueTrees) → p vs ≡ true → all (shown vs) ≡ Some vs) → ReadsBack (is_group p) (object_json shown) (object_read all)
-group_back p shown all one null h = absurd (true≢false (sym h))
-group_back p shown all one (boolean b) h = absurd (true≢false (sym h))
-group_back p shown all one (integer z) h = absurd (true≢false (sym h))
-group_back p shown all one (bytes s) h = absurd (true≢false (sym h))
-group_back p shown all one (group vs) h = ap (option_map group) (one vs h)
-group_back p shown all one (list vs) h = absurd (true≢false (sym h))
+  group_back : (p : ValueTrees → Bool) (shown : ValueTrees → Members) (all : Members → Option ValueTrees) → ((vs : ValueTrees) → p vs ≡ true → all (shown vs) ≡ Some vs) → ReadsBack (is_group p) (object_json shown) (object_read all)
+  group_back p shown all one null h = absurd (true≢false (sym h))
+  group_back p shown all one (boolean b) h = absurd (true≢false (sym h))
+  group_back p shown all one (integer z) h = absurd (true≢false (sym h))
+  group_back p shown all one (bytes s) h = absurd (true≢false (sym h))
+  group_back p shown all one (group vs) h = ap (option_map group) (one vs h)
+  group_back p shown all one (list vs) h = absurd (true≢false (sym h))
 
--- ---- members of other names
+  -- ---- members of other names
 
-abbrev Lacks : List ℕ → Members → Type 0
-Lacks k no_members = Unit {0}
-Lacks k (member l d ms) = (k ≢ l) × Lacks k ms
+  abbrev Lacks : List ℕ → Members → Type 0
+  Lacks k no_members = Unit {0}
+  Lacks k (member l d ms) = (k ≢ l) × Lacks k ms
 
-lacks_at : (o : Ordering) (k : List ℕ) (a b c : Members) → Lacks k a → Lacks k b → Lacks k c → Lacks k (match_ordering o a b c)
-lacks_at Less k a b c x y z = x
-lacks_at Equal k a b c x y z = y
-lacks_at Greater k a b c x y z = z
+  lacks_at : (o : Ordering) (k : List ℕ) (a b c : Members) → Lacks k a → Lacks k b → Lacks k c → Lacks k (match_ordering o a b c)
+  lacks_at Less k a b c x y z = x
+  lacks_at Equal k a b c x y z = y
+  lacks_at Greater k a b c x y z = z
 
-lacks_put : (k l : List ℕ) (d : Data) (ms : Members) → k ≢ l → Lacks k ms → Lacks k (put l d ms)
-lacks_put k l d no_members other h = (other, tt)
-lacks_put k l d (member j e ms) other h = lacks_at (slice_cmp nat_cmp l j) k _ _ _ (other, h) h (h.0, lacks_put k l d ms other h.1)
+  lacks_put : (k l : List ℕ) (d : Data) (ms : Members) → k ≢ l → Lacks k ms → Lacks k (put l d ms)
+  lacks_put k l d no_members other h = (other, tt)
+  lacks_put k l d (member j e ms) other h = lacks_at (slice_cmp nat_cmp l j) k _ _ _ (other, h) h (h.0, lacks_put k l d ms other h.1)
 
-module _ {texts : Bool} where
   lacks_members : (k : List ℕ) (fs : Fields) (vs : ValueTrees) → AllByRecursion (λ m. k ≡ m → ⊥) (names fs) → Lacks k (members_json_as texts fs vs)
   lacks_members k no_fields vs h = tt
   lacks_members k (field f fs) no_values h = tt
   lacks_members k (field f fs) (value v vs) h = lacks_put k (name_of f) (field_json_as texts f v) (members_json_as texts fs vs) h.0 (lacks_members k fs vs h.1)
 
-without-put_at : (o : Ordering) (k l : List ℕ) (d e : Data) (ms : Members) → slice_cmp nat_cmp k l ≡ o → k ≢ l → without k (put k d ms) ≡ ms
-    → without k (match_ordering o (member k d (member l e ms)) (member l d ms) (member l e (put k d ms))) ≡ member l e ms
-without-put_at Less k l d e ms is other later = rw (tied_itself nat_list_cmp_total k) refl
-without-put_at Equal k l d e ms is other later = absurd (other (exact_bytes k l is))
-without-put_at Greater k l d e ms is other later = rw is (ap (member l e) later)
+  without-put_at : (o : Ordering) (k l : List ℕ) (d e : Data) (ms : Members) → slice_cmp nat_cmp k l ≡ o → k ≢ l → without k (put k d ms) ≡ ms
+      → without k (match_ordering o (member k d (member l e ms)) (member l d ms) (member l e (put k d ms))) ≡ member l e ms
+  without-put_at Less k l d e ms is other later = rw (tied_itself nat_list_cmp_total k) refl
+  without-put_at Equal k l d e ms is other later = absurd (other (exact_bytes k l is))
+  without-put_at Greater k l d e ms is other later = rw is (ap (member l e) later)
 
-without-put : (k : List ℕ) (d : Data) (ms : Members) → Lacks k ms → without k (put k d ms) ≡ ms
-without-put k d no_members h = rw (tied_itself nat_list_cmp_total k) refl
-without-put k d (member l e ms) h = without-put_at (slice_cmp nat_cmp k l) k l d e ms refl h.0 (without-put k d ms h.1)
+  without-put : (k : List ℕ) (d : Data) (ms : Members) → Lacks k ms → without k (put k d ms) ≡ ms
+  without-put k d no_members h = rw (tied_itself nat_list_cmp_total k) refl
+  without-put k d (member l e ms) h = without-put_at (slice_cmp nat_cmp k l) k l d e ms refl h.0 (without-put k d ms h.1)
 
-module _ {texts : Bool} where
   -- ---- rows
 
   mutual
@@ -223,10 +221,10 @@ module _ {texts : Bool} where
 pub rows_read_back_as : RowsReadBackAs
 rows_read_back_as texts fs row valid within h =
     let tall = at_most_32 fs valid within in
-    let flat = members_flat {texts = texts} fs row in
+    let flat = members_flat texts fs row in
     let d = json.object (members_json_as texts fs row) in
     let nests : depth d ≤ 127 = omega (arith, tall, flat) in
-    (d, text_back d (row_readable {texts = texts} fs row h) nests, members_back fs valid.0.differ valid.1 row h)
+    (d, text_back d (row_readable_as texts fs row h) nests, members_back texts fs valid.0.differ valid.1 row h)
 
 pub rows_read_back : RowsReadBack
 rows_read_back = rows_read_back_as false

@@ -289,7 +289,7 @@ braced_instead (x ∷ o) mid new h = let same : mid ≡ o ++ 125 ∷ new = cc in
 
 -- fields in the order of their names
 pub in_order : (fs : Fields) (vs : ValueTrees) → order_of fs ≡ None → fits_each fs vs ≡ true → members_shown fs vs ≡ open_text (members_json fs vs)
-in_order fs vs none fit = as_pieces fs vs ∙ sym (ap (put_in_order (pieces fs vs)) none) ∙ ordered_by fs vs fit (is_in_order (indices_of fs) (count fs)) refl
+in_order fs vs none fit = as_pieces fs vs ∙ sym (ap (put_in_order (pieces fs vs)) none) ∙ ordered_by false fs vs fit (is_in_order (indices_of fs) (count fs)) refl
 
 pub order_read : (fs : Fields) (old new : List ℕ) (ks bs : List Piece) → order_of fs ≡ None → AreRead (fits_each fs) (members_shown fs) old new ks bs → AreRead (fits_each fs) (λ vs. open_text (members_json fs vs)) old new ks bs
 order_read fs old new ks bs none h = (h.0, (h.1.0, (h.1.1.0 ∙ ap (λ s. s ++ new) (in_order fs h.0 none h.1.0), h.1.1.1)))

@@ -31,7 +31,7 @@ pub view-remove_entry : (name : List ℕ) (es : List Entry) → members_view (re
 view-remove_entry name [] = refl
 view-remove_entry name (e ∷ es) = taken_or_not (slice_cmp nat_cmp name (string_bytes e.0)) e es _ _ (view-remove_entry name es)
 
-module _ {texts : Bool} where
+module _ (texts : Bool) where
   -- the first field takes the member of its name
   pub takes : (all rest : List CodeField) (f : CodeField) (name : List ℕ) (es left : List Entry) (taken : Option Value) → all ≡ f ∷ rest → name ≡ name_of (field_view f)
       → taken ≡ lookup (is_at (λ k. slice_cmp nat_cmp name (string_bytes k))) es → left ≡ remove_entry (is_at (λ k. slice_cmp nat_cmp name (string_bytes k))) es

@@ -41,7 +41,7 @@ some_of : {A B : Type 0} (f : A → Option B) (o : Option A) (b : B) → option_
 some_of f None b e = absurd (cc)
 some_of f (Some a) b e = (a, refl, e)
 
-module _ {texts : Bool} where
+module _ (texts : Bool) where
   pub leaf_begins : {E : Type 0} (f : CodeField) (n : String Global) (r : Repetition) (t : CodeLeafType) (deep : ℕ) (k : Token) (ts : List Token) (answer : Result CodeValue E) → f ≡ Leaf n r t
       → IfOk answer (λ v. option_and_then (leaf_read_as texts (leaf_type_view t)) (scalar_of k) ≡ Some (view v)) → IfOk answer (λ v. BeginsWith (inside_read_as texts (field_view f)) deep (k ∷ ts) (view v) ts)
   leaf_begins f n r t deep k ts answer is = IfOk-weaker answer _ _ (λ v h.
@@ -61,7 +61,7 @@ group_valid f n r a fs xs is same valid =
     let here = subst IsValid (ap field_view is ∙ view-Group n r a fs) valid in
     subst (λ ys. AllDiffer (names (field_views ys)) × AreValid (field_views ys)) (sym same) (here.0.differ, here.1)
 
-module _ {texts : Bool} where
+module _ (texts : Bool) where
   optional_null : (f : Field) → repetition_of f ≡ Optional → field_read_as texts f (Some json.null) ≡ Some null
   optional_null (leaf n r t) h = rw h refl
   optional_null (fields n r a fs) h = rw h refl
@@ -74,7 +74,7 @@ module _ {texts : Bool} where
   list_begins f deep old rest new v vs r some is seen h = (
     array h.0,
     ap (λ ts. converted of_json (value deep ts)) is ∙ array_read deep rest new h.0 some h.1,
-    repeated-field_read f h.0 r ∙ ap (option_map list) h.2 ∙ ap Some (sym seen),
+    repeated-field_read texts f h.0 r ∙ ap (option_map list) h.2 ∙ ap Some (sym seen),
   )
 
 null_none : (o : Option Form) (t : LeafType) → leaf_read_by o t json.null ≡ None
@@ -97,7 +97,7 @@ one_inside Optional inside (json.array ds) v one none h = h
 one_inside Optional inside (json.object ms) v one none h = h
 one_inside Repeated inside d v one none h = absurd one
 
-module _ {texts : Bool} where
+module _ (texts : Bool) where
   one_read : (f : Field) (d : Data) (v : ValueTree) → IsOne (repetition_of f) → inside_read_as texts f d ≡ Some v → field_read_as texts f (Some d) ≡ Some v
   one_read (leaf n r t) d v one h = one_inside r (leaf_read_as texts t) d v one (null_none (form_if texts t) t) h
   one_read (fields n r a fs) d v one h = one_inside r (object_read (members_read_as texts fs)) d v one refl h
@@ -139,7 +139,7 @@ items_turn inside deep first ts start r values new v so going same here grown =
 pub items_end : (inside : Data → Option ValueTree) (deep : ℕ) (first ts r : List Token) (values : List CodeValue) → Remains inside deep first ts values → after_end_array ts ≡ Some r → HoldsItems (items_read inside) deep first (views values) r
 items_end inside deep first ts r values so closed = subst (λ x. HoldsItems (items_read inside) deep first x r) (joined-none (views values)) (so.2 no_items no_values r (items_over (value deep) so.0 ts r so.1 closed) refl)
 
-module _ {texts : Bool} where
+module _ (texts : Bool) where
   -- ---- members
 
   -- the values so far are those of the members so far, with which the members that are left are put
@@ -149,7 +149,7 @@ module _ {texts : Bool} where
       × (converted (λ js. of_members js no_members) (members (value deep) (length first) first) ≡ converted (λ js. of_members js ms) (members (value deep) n ts))
 
   pub members_begin : (fs : Fields) (deep : ℕ) (ts : List Token) (values : List CodeValue) → views values ≡ absent_each fs → Fills fs deep ts ts values
-  members_begin fs deep ts values absent = (length ts, no_members, omega arith, tt, subst (AreValuesOf texts fs no_members) (sym absent) (values_absent fs), refl)
+  members_begin fs deep ts values absent = (length ts, no_members, omega arith, tt, subst (AreValuesOf texts fs no_members) (sym absent) (values_absent texts fs), refl)
 
   pub members_turn : (xs : List CodeField) (deep : ℕ) (first ts s r : List Token) (values new : List CodeValue) (i : ℕ) (k : List ℕ) (f : CodeField) (v : CodeValue) → Fills (field_views xs) deep first ts values → AllDiffer (names (field_views xs))
       → read_key ts ≡ Some (Some k, s) → IsCalled (field_views xs) i k → f ≡ get_or xs i f → BeginsWith (λ d. field_read_as texts (field_view f) (Some d)) deep s (view v) r → new ≡ slice_set values i v → Fills (field_views xs) deep first r new
@@ -162,7 +162,7 @@ module _ {texts : Bool} where
         put k here.0 ms,
         omega (arith, so.2, less, lesser),
         order_put k here.0 ms so.3,
-        subst (λ ys. AreValuesOf texts (field_views xs) (put k here.0 ms) (views ys)) (sym made) (values_put xs values ms i k here.0 f v called is differ so.3 here.2 so.4),
+        subst (λ ys. AreValuesOf texts (field_views xs) (put k here.0 ms) (views ys)) (sym made) (values_put texts xs values ms i k here.0 f v called is differ so.3 here.2 so.4),
         so.5 ∙ member_read (value deep) ms n k ts s r here.0 (omega (arith, so.2, less)) key here.1,
       )
 
@@ -172,11 +172,11 @@ members_shorter inside deep ts s r k v key here =
     let lesser = value_shorter deep s r here.0 here.1 in
     omega (arith, less, lesser)
 
-module _ {texts : Bool} where
-  pub members_end : (fs : Fields) (deep : ℕ) (first ts r : List Token) (values xs : List CodeValue) → Fills fs deep first ts values → read_key ts ≡ Some (None, r) → xs ≡ values → are_filled fs (views xs) ≡ true
+module _ (texts : Bool) where
+  pub members_end : (fs : Fields) (deep : ℕ) (first ts r : List Token) (values xs : List CodeValue) → Fills texts fs deep first ts values → read_key ts ≡ Some (None, r) → xs ≡ values → are_filled fs (views xs) ≡ true
       → HoldsMembers (members_read_as texts fs) deep first (views values) r
   members_end fs deep first ts r values xs so closed same filled =
-      (so.1, so.5 ∙ members_over (value deep) so.1 so.0 ts r so.2 closed, values_filled fs so.1 (views values) (ap (λ ys. are_filled fs (views ys)) (sym same) ∙ filled) so.4)
+      (so.1, so.5 ∙ members_over (value deep) so.1 so.0 ts r so.2 closed, values_filled texts fs so.1 (views values) (ap (λ ys. are_filled fs (views ys)) (sym same) ∙ filled) so.4)
 
   -- ---- the whole text
 

@@ -2,6 +2,5 @@ pub mod Json
 pub mod Reading
 pub mod Rows
 pub mod Reader
-pub mod TextReader
 pub mod Law
 pub mod inner

@@ -36,7 +36,6 @@ mod row_text_sink;
 mod scalars;
 mod spans;
 mod strings;
-mod text_reader;
 mod tokens;
 mod unread;
 
@@ -49,4 +48,4 @@ pub use row_reading::{
     bytes_of_digits, leaf_from, leaf_from_as, members_from, members_from_as, row_from, row_from_as,
 };
 pub use row_text::RowText;
-pub use text_reader::TextReader;
+pub use scalars::form_if;

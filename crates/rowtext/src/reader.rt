@@ -10,7 +10,7 @@ ghost use Rattle.schema.specs.Values.{ValueTrees, views};
 ghost use Rattle.schema.specs.Views.{row_view};
 ghost use Rattle.assemble.specs.Sinks.{tokens_each, Visits};
 ghost use Rattle.rowtext.specs.Reading.{members_read, members_read_as, row_of, row_of_as, line_of};
-ghost use Rattle.rowtext.specs.Reader.{schema_of, IsRowOf};
+ghost use Rattle.rowtext.specs.Reader.{schema_of, IsRowOf, IsRowAs};
 ghost use Rattle.rowtext.specs.inner.Pieces.{tokens_of};
 
 use crate::names::{Names, names_of};
@@ -127,7 +127,7 @@ impl<'a> Reader<'a> {
     }
 
     /// The row that a text in any form is, with texts or without.
-    pub(crate) fn read_otherwise(&mut self, text: &str, texts: bool) -> R<Row>
+    fn read_otherwise(&mut self, text: &str, texts: bool) -> R<Row>
         ensures stands { IfOk result (λ row. (d : Data) × (read text.now ≡ Some d) × (row_of_as texts (schema_of self.old) d ≡ Some (row_view row))) }
         ensures fits { IfOk result (λ row. IsTrue (fits_each (schema_of self.old) (row_view row))) }
         ensures shape { result ≡ Err RowShape → (ms : Members) × (line_of text.now ≡ Some ms) × (members_read_as texts (schema_of self.old) ms ≡ None) }
@@ -173,6 +173,44 @@ impl<'a> Reader<'a> {
             Err(Unread::OutOfMemory) => Err(Refusal::Memory),
             Err(Unread::Unknown) => self.read_otherwise(text, false),
         }
+    }
+
+    /// The row that a text is, as [`read`](Reader::read) returns it, under the same refusals; with `texts`, dates, times,
+    /// timestamps and decimals over INT32 and INT64 are also read from their texts, and each line is read by tokens.
+    pub fn read_as(&mut self, text: &str, texts: bool) -> R<Row>
+        ensures stands { IfOk result (λ row. (d : Data) × (read text.now ≡ Some d) × (row_of_as texts (schema_of self.old) d ≡ Some (row_view row))) }
+        ensures fits { IfOk result (λ row. IsTrue (fits_each (schema_of self.old) (row_view row))) }
+        ensures shape { result ≡ Err RowShape → (ms : Members) × (line_of text.now ≡ Some ms) × (members_read_as texts (schema_of self.old) ms ≡ None) }
+        ensures script { result ≡ Err Script → line_of text.now ≡ None }
+        ensures which { IfErr result (λ e. (e ≡ RowShape) ⊎ (e ≡ Script) ⊎ (e ≡ Memory)) }
+        ensures same { schema_of self.new ≡ schema_of self.old }
+    {
+        if texts {
+            self.read_otherwise(text, true)
+        } else {
+            self.read(text)
+        }
+    }
+
+    /// Shows a sink the values of the row that a text is, as [`read_to`](Reader::read_to) does, under the same refusals; with
+    /// `texts`, as [`read_as`](Reader::read_as) reads it.
+    ///
+    /// Refused RowShape or Script, it has shown nothing. Out of memory, it may have shown a part of the row.
+    pub fn read_to_as<K: RowSink>(&mut self, text: &str, sink: &mut K, texts: bool) -> R<()>
+        ensures stands { OnOk result (Visits (K.shows sink.old) (K.shows sink.new) tokens_each (IsRowAs texts (schema_of self.old) text.now)) }
+        ensures unshown { IfErr result (λ e. (e ≡ Memory) ⊎ (sink.new ≡ sink.old)) }
+        ensures shape { result ≡ Err RowShape → (ms : Members) × (line_of text.now ≡ Some ms) × (members_read_as texts (schema_of self.old) ms ≡ None) }
+        ensures script { result ≡ Err Script → line_of text.now ≡ None }
+        ensures which { IfErr result (λ e. (e ≡ RowShape) ⊎ (e ≡ Script) ⊎ (e ≡ Memory)) }
+        ensures same { schema_of self.new ≡ schema_of self.old }
+        ensures base_stays { K.base sink.new ≡ K.base sink.old }
+    {
+        if !texts {
+            return self.read_to(text, sink);
+        }
+        let row = self.read_otherwise(text, true)?;
+        show_row(&row, sink)?;
+        Ok(())
     }
 
     /// Shows a sink the values of the row that a text is, under the same refusals as `read`, and reads it in the same

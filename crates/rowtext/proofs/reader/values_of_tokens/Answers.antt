@@ -18,4 +18,4 @@ pub returns-in-None : goal.returns-in-None
 returns-in-None c =
     let last : c.members_at.new.tokens ≡ [] = grind arith in
     let held = subst (λ (fs : Fields). HoldsMembers (members_read_as c.args.texts fs) 126 c.next_token.new.tokens (views c.in_ok-values-in-BeginObject.values.items) c.members_at.new.tokens) c.fields.ensures c.in_ok-values-in-BeginObject.ensures in
-    line_read c.args.text.now c.args.schema.now _ c.next_token.new.tokens c.members_at.new.tokens _ c.in_ok-tokens.ensures.ok (c.in_ok-next_token.ensures ∙ ap (λ k. token_of k ∷ c.next_token.new.tokens) c.in-BeginObject.is) last held
+    line_read c.args.texts c.args.text.now c.args.schema.now _ c.next_token.new.tokens c.members_at.new.tokens _ c.in_ok-tokens.ensures.ok (c.in_ok-next_token.ensures ∙ ap (λ k. token_of k ∷ c.next_token.new.tokens) c.in-BeginObject.is) last held

@@ -10,7 +10,7 @@ use Rattle.rowtext.proofs.row_reading.+reading.Goals as goal
 
 pub field_from-returns-in-Some-2 : goal.field_from-returns-in-Some-2
 field_from-returns-in-Some-2 t c =
-    rw (c.in-Some.is, c.in-Array.is) (repeated_read _ c.in-Array.items c.in-Some-2.values (sym c.repetition-2.ensures ∙ c.in-Repeated.is) (rw c.in-Some-2.is at c.in_ok-values-in-Array.ensures))
+    rw (c.in-Some.is, c.in-Array.is) (repeated_read c.args.texts _ c.in-Array.items c.in-Some-2.values (sym c.repetition-2.ensures ∙ c.in-Repeated.is) (rw c.in-Some-2.is at c.in_ok-values-in-Array.ensures))
 
 pub items_from-loop-item-preserved : goal.items_from-loop-item-preserved
 items_from-loop-item-preserved t c =
@@ -37,7 +37,7 @@ members_from_as-returns-in_default t c =
     let l = c.loop-field in
     let f = c.field-item.result in
     let here : drop l.field-index c.args.fields.now ≡ f ∷ drop (l.field-index + 1) c.args.fields.now = drop_more c.args.fields.now l.field-index f (omega arith) ∙ ap (λ y. y ∷ drop (l.field-index + 1) c.args.fields.now) (sym c.field-item.is) in
-    let taken = takes _ _ f c.name.result.now l.members.entries _ c.remove-member.result here c.name.ensures c.remove-member.ensures.value c.remove-member.ensures.entries in
+    let taken = takes c.args.texts _ _ f c.name.result.now l.members.entries _ c.remove-member.result here c.name.ensures c.remove-member.ensures.value c.remove-member.ensures.entries in
     stops l.all.items _ _ _ (rw c.in_default.is at c.in_ok-value.ensures) (l.invariant ∙ ap (behind l.all.items) taken)
 
 pub members_from_as-loop-field-preserved : goal.members_from_as-loop-field-preserved
@@ -45,17 +45,17 @@ members_from_as-loop-field-preserved t c =
     let l = c.loop-field in
     let f = c.field-item.result in
     let here : drop l.field-index c.args.fields.now ≡ f ∷ drop (l.field-index + 1) c.args.fields.now = drop_more c.args.fields.now l.field-index f (omega arith) ∙ ap (λ y. y ∷ drop (l.field-index + 1) c.args.fields.now) (sym c.field-item.is) in
-    let taken = takes _ _ f c.name.result.now l.members.entries _ c.remove-member.result here c.name.ensures c.remove-member.ensures.value c.remove-member.ensures.entries in
+    let taken = takes c.args.texts _ _ f c.name.result.now l.members.entries _ c.remove-member.result here c.name.ensures c.remove-member.ensures.value c.remove-member.ensures.entries in
     rw c.in_ok-push.ensures.items (goes_on l.all.items c.in-Some.value _ _ _ (rw c.in-Some.is at c.in_ok-value.ensures) (l.invariant ∙ ap (behind l.all.items) taken))
 
 pub members_from_as-returns-then-are_all_taken : goal.members_from_as-returns-then-are_all_taken
 members_from_as-returns-then-are_all_taken t c =
     let l = c.loop-field in
     let none = drop_all l.field-index c.args.fields.now (omega arith) in
-    ends l.all.items _ _ (none_left-empty _ _ none (c.if-are_all_taken.ensures.0 refl)) l.invariant
+    ends l.all.items _ _ (none_left-empty c.args.texts _ _ none (c.if-are_all_taken.ensures.0 refl)) l.invariant
 
 pub members_from_as-returns : goal.members_from_as-returns
 members_from_as-returns t c =
     let l = c.loop-field in
     let none = drop_all l.field-index c.args.fields.now (omega arith) in
-    fails l.all.items _ _ (none_left-more _ _ none (λ h. true≢false (sym (c.if-are_all_taken.ensures.1 h)))) l.invariant
+    fails l.all.items _ _ (none_left-more c.args.texts _ _ none (λ h. true≢false (sym (c.if-are_all_taken.ensures.1 h)))) l.invariant

@@ -12,7 +12,7 @@ use Rattle.rowtext.proofs.Turns.{leaf_begins, group_begins, group_valid, null_be
 use Rattle.rowtext.proofs.tokens.+tokens.Goals as goal
 
 pub inside_at-returns-in-Leaf : goal.inside_at-returns-in-Leaf
-inside_at-returns-in-Leaf t c = leaf_begins c.args.field.now c.in-Leaf.name c.in-Leaf.repetition c.in-Leaf.leaf_type c.args.deep (token_of c.args.token) c.args.tokens.now c.leaf_at.result c.in-Leaf.is c.leaf_at.ensures
+inside_at-returns-in-Leaf t c = leaf_begins c.args.texts c.args.field.now c.in-Leaf.name c.in-Leaf.repetition c.in-Leaf.leaf_type c.args.deep (token_of c.args.token) c.args.tokens.now c.leaf_at.result c.in-Leaf.is c.leaf_at.ensures
 
 pub inside_at-members_at-requires : goal.inside_at-members_at-requires
 inside_at-members_at-requires t c =
@@ -20,7 +20,7 @@ inside_at-members_at-requires t c =
 
 pub inside_at-returns-in_ok-values-in-BeginObject : goal.inside_at-returns-in_ok-values-in-BeginObject
 inside_at-returns-in_ok-values-in-BeginObject t c =
-    group_begins c.args.field.now c.in-Group.name c.in-Group.repetition c.in-Group.annotation c.in-Group.fields c.as_slice.result.now c.args.deep (token_of c.args.token) c.args.tokens.now c.members_at.new.tokens c.in_ok-values-in-BeginObject.values c.in-Group.is
+    group_begins c.args.texts c.args.field.now c.in-Group.name c.in-Group.repetition c.in-Group.annotation c.in-Group.fields c.as_slice.result.now c.args.deep (token_of c.args.token) c.args.tokens.now c.members_at.new.tokens c.in_ok-values-in-BeginObject.values c.in-Group.is
     c.as_slice.ensures.value (ap token_of c.in-BeginObject.is) (omega (arith, c.if-deep-gt0.true)) c.in_ok-values-in-BeginObject.ensures
 
 pub items_at-items-init : goal.items_at-items-init
@@ -47,21 +47,21 @@ items_at-returns t c =
     items_end (inside_read_as c.args.texts (field_view c.args.field.now)) c.args.deep c.args.tokens.now l.tokens c.take_end_array.new.self l.values.items l.invariant closed
 
 pub field_at-returns-in-Required : goal.field_at-returns-in-Required
-field_at-returns-in-Required t c = one_begins (field_view c.args.field.now) _ c.args.deep c.args.tokens.now _ _ _ (sym c.repetition.ensures ∙ c.in-Required.is) tt c.in_ok-token.ensures c.inside_at.ensures
+field_at-returns-in-Required t c = one_begins c.args.texts (field_view c.args.field.now) _ c.args.deep c.args.tokens.now _ _ _ (sym c.repetition.ensures ∙ c.in-Required.is) tt c.in_ok-token.ensures c.inside_at.ensures
 
 pub field_at-returns-in-Null : goal.field_at-returns-in-Null
 field_at-returns-in-Null t c =
     let seen : view Null ≡ null = search (rules, of_schema) in
-    null_begins (field_view c.args.field.now) c.args.deep c.args.tokens.now c.next_token.new.tokens Null (sym c.repetition.ensures ∙ c.in-Optional.is) (c.in_ok-token.ensures ∙ ap (λ k. token_of k ∷ c.next_token.new.tokens) c.in-Null.is) seen
+    null_begins c.args.texts (field_view c.args.field.now) c.args.deep c.args.tokens.now c.next_token.new.tokens Null (sym c.repetition.ensures ∙ c.in-Optional.is) (c.in_ok-token.ensures ∙ ap (λ k. token_of k ∷ c.next_token.new.tokens) c.in-Null.is) seen
 
 pub field_at-returns-in_ok-values-in-BeginArray : goal.field_at-returns-in_ok-values-in-BeginArray
 field_at-returns-in_ok-values-in-BeginArray t c =
     let found = c.in_ok-values-in-BeginArray in
-    list_begins (field_view c.args.field.now) c.args.deep c.args.tokens.now c.next_token.new.tokens c.items_at.new.tokens _ found.values.items (sym c.repetition.ensures ∙ c.in-Repeated.is) (omega (arith, c.if-deep-gt0.true))
+    list_begins c.args.texts (field_view c.args.field.now) c.args.deep c.args.tokens.now c.next_token.new.tokens c.items_at.new.tokens _ found.values.items (sym c.repetition.ensures ∙ c.in-Repeated.is) (omega (arith, c.if-deep-gt0.true))
     (c.in_ok-token.ensures ∙ ap (λ k. token_of k ∷ c.next_token.new.tokens) c.in-BeginArray.is) (view-List found.values) found.ensures
 
 pub members_at-members-init : goal.members_at-members-init
-members_at-members-init t c = members_begin (field_views c.args.fields.now) c.args.deep c.args.tokens.now c.in_ok-values.values.items c.in_ok-values.ensures
+members_at-members-init t c = members_begin c.args.texts (field_views c.args.fields.now) c.args.deep c.args.tokens.now c.in_ok-values.values.items c.in_ok-values.ensures
 
 pub members_at-field_of-requires : goal.members_at-field_of-requires
 members_at-field_of-requires t c = called_within c.args.fields.now c.in_ok-index.index c.in-Some.name.now c.in_ok-index.ensures
@@ -70,7 +70,7 @@ pub members_at-field_at-requires : goal.members_at-field_at-requires
 members_at-field_at-requires t c = (search rules, valid_at c.args.fields.now c.in_ok-index.index c.in-Some.name.now c.field_of.result.now c.in_ok-index.ensures c.field_of.ensures c.requires.valid)
 
 pub members_at-put_value-requires : goal.members_at-put_value-requires
-members_at-put_value-requires t c = value_within c.args.fields.now c.members.values.items c.members.invariant.1 c.in_ok-index.index c.in-Some.name.now c.in_ok-index.ensures c.members.invariant.4
+members_at-put_value-requires t c = value_within c.args.texts c.args.fields.now c.members.values.items c.members.invariant.1 c.in_ok-index.index c.in-Some.name.now c.in_ok-index.ensures c.members.invariant.4
 
 pub members_at-members-smaller : goal.members_at-members-smaller
 members_at-members-smaller t c =
@@ -82,15 +82,15 @@ pub members_at-members-preserved : goal.members_at-members-preserved
 members_at-members-preserved t c =
     let l = c.members in
     let key : read_key l.tokens ≡ Some (Some c.in-Some.name.now, c.next_key.new.self) = grind arith in
-    members_turn c.args.fields.now c.args.deep c.args.tokens.now l.tokens c.next_key.new.self c.field_at.new.tokens l.values.items _ c.in_ok-index.index c.in-Some.name.now c.field_of.result.now c.in_ok-value.value l.invariant c.requires.differ key
+    members_turn c.args.texts c.args.fields.now c.args.deep c.args.tokens.now l.tokens c.next_key.new.self c.field_at.new.tokens l.values.items _ c.in_ok-index.index c.in-Some.name.now c.field_of.result.now c.in_ok-value.value l.invariant c.requires.differ key
     c.in_ok-index.ensures c.field_of.ensures c.in_ok-value.ensures c.put_value.ensures
 
 pub members_at-returns-then-are_filled : goal.members_at-returns-then-are_filled
 members_at-returns-then-are_filled t c =
     let l = c.members in
     let closed : read_key l.tokens ≡ Some (None, c.next_key.new.self) = grind arith in
-    members_end (field_views c.args.fields.now) c.args.deep c.args.tokens.now l.tokens c.next_key.new.self l.values.items c.as_slice.result.now l.invariant closed c.as_slice.ensures.value (sym c.are_filled.ensures ∙ c.if-are_filled.true)
+    members_end c.args.texts (field_views c.args.fields.now) c.args.deep c.args.tokens.now l.tokens c.next_key.new.self l.values.items c.as_slice.result.now l.invariant closed c.as_slice.ensures.value (sym c.are_filled.ensures ∙ c.if-are_filled.true)
 
 pub field_at-returns-in_default : goal.field_at-returns-in_default
 field_at-returns-in_default t c =
-    one_begins (field_view c.args.field.now) _ c.args.deep c.args.tokens.now _ _ _ (sym c.repetition.ensures ∙ c.in-Optional.is) tt c.in_ok-token.ensures c.inside_at-in_default.ensures
+    one_begins c.args.texts (field_view c.args.field.now) _ c.args.deep c.args.tokens.now _ _ _ (sym c.repetition.ensures ∙ c.in-Optional.is) tt c.in_ok-token.ensures c.inside_at-in_default.ensures

@@ -23,7 +23,7 @@ abbrev pub decreases-items_at-items : goal.decreases-items_at-items
 decreases-items_at-items l = length l.tokens
 
 abbrev pub invariant-members_at-members : goal.invariant-members_at-members
-invariant-members_at-members l = Fills {texts = l.texts} (field_views l.fields) l.deep l.initial.tokens l.tokens l.values.items
+invariant-members_at-members l = Fills l.texts (field_views l.fields) l.deep l.initial.tokens l.tokens l.values.items
 
 abbrev pub decreases-members_at-members : goal.decreases-members_at-members
 decreases-members_at-members l = length l.tokens

@@ -14,4 +14,4 @@ returns-in-Ok-clause-stands c =
 pub returns-in-Ok-clause-fits : goal.returns-in-Ok-clause-fits
 returns-in-Ok-clause-fits c =
     let h = c.in-Ok.ensures in
-    read_fits c.args.self.now.plan h.0 _ (sym (subst (λ (fs : Fields). members_read_as c.args.texts fs h.0 ≡ Some (views c.in-Ok.values.items)) c.schema-schema.ensures h.2))
+    read_fits c.args.texts c.args.self.now.plan h.0 _ (sym (subst (λ (fs : Fields). members_read_as c.args.texts fs h.0 ≡ Some (views c.in-Ok.values.items)) c.schema-schema.ensures h.2))

@@ -1,4 +1,4 @@
-use Rattle.std.proofs.Common.{◌++◌, ◌∷◌, [], List, ℕ, refl, sym, ap, subst, ◌∙◌, append_assoc}
+use Rattle.std.proofs.Common.{false, ◌++◌, ◌∷◌, [], List, ℕ, refl, sym, ap, subst, ◌∙◌, append_assoc}
 use Rattle.std.specs.Prelude.{IsTrue, option_map}
 use Rattle.schema.specs.Fits.{fits_each}
 use Rattle.schema.specs.Views.{row_view}
@@ -21,7 +21,7 @@ returns-clause-stands_as c = λ texts fs lines shown h.
     let ready = shown.1.1.0 in
     let row = c.args.row.now in
     let values = row_view row in
-    let printed = row_printed {texts = shown.0} own (slots_view c.slots.result.now) (slots_view plan.slots.items) (order_view c.order.result) (option_map vec_items plan.order) c.as_slice.result.now row.values.items c.args.self.now.text.items c.put_object.new.out.items
+    let printed = row_printed shown.0 own (slots_view c.slots.result.now) (slots_view plan.slots.items) (order_view c.order.result) (option_map vec_items plan.order) c.as_slice.result.now row.values.items c.args.self.now.text.items c.put_object.new.out.items
     c.in_ok-put_object.ensures (ap slots_view c.slots.ensures) ready.0 c.order.ensures ready.1 c.as_slice.ensures.value (subst (λ gs. IsTrue (fits_each gs values)) same h) in
     let before = ap (λ s. s.text) shown.1.1.1 in
     let all = lines ++ (row_text_as texts fs values ++ 10 ∷ []) in
