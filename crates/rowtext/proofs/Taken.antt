@@ -1,5 +1,5 @@
 -- A member that is taken out of an object, and the values of fields by their members.
-use Rattle.std.proofs.Common.{◌≡◌, List, [], ◌∷◌, ℕ, length, Option, Some, None, option_map, Vec, Global, Ordering, Less, Equal, Greater, cond, is_eq, string_bytes, nat_cmp, refl, sym, ap, ap₂, ◌∙◌, arith}
+use Rattle.std.proofs.Common.{Bool, ◌≡◌, List, [], ◌∷◌, ℕ, length, Option, Some, None, option_map, Vec, Global, Ordering, Less, Equal, Greater, cond, is_eq, string_bytes, nat_cmp, refl, sym, ap, ap₂, ◌∙◌, arith}
 use Rattle.std.specs.Cmp.Lexicographic.{slice_cmp}
 use Rattle.std.specs.Ordering.{match_ordering}
 use Rattle.std.specs.BTreeMap.{is_at}

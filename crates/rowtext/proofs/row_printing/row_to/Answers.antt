@@ -1,4 +1,4 @@
-use Rattle.std.proofs.Common.{◌++◌, List, ℕ, sym, ap, ◌∙◌}
+use Rattle.std.proofs.Common.{false, ◌++◌, List, ℕ, sym, ap, ◌∙◌}
 use Rattle.schema.specs.Views.{row_view}
 use Rattle.rowtext.specs.Json.{row_text}
 use Rattle.rowtext.specs.inner.Slots.{slots_view, slots_made, order_of, order_view, vec_items}
