@@ -64,7 +64,7 @@ is_read scale number text most h small =
     let few : nat_le (places_in text) scale ≡ true = le-leb (places_in text) scale (subst (λ p. p ≤ scale) (sym places) h.2) in
     let number_fits : is_decimal_number (number_written text) ≡ true = is_number (number_written text) (subst IsDecimalNumber (sym shown) h.4.1) in
     let printed : bytes_eq text (decimal_text (places_in text) (number_written text)) ≡ true =
-        bytes_same text (decimal_text (places_in text) (number_written text)) (h.4.2 ∙ ap (λ p. decimal_text p h.1) (sym places) ∙ ap (decimal_text (places_in text)) (sym shown)) in
+    bytes_same text (decimal_text (places_in text) (number_written text)) (h.4.2 ∙ ap (λ p. decimal_text p h.1) (sym places) ∙ ap (decimal_text (places_in text)) (sym shown)) in
     let all = and_is (nat_le scale 38) _ (le-leb scale 38 most) (and_is (nat_le (places_in text) scale) _ few (and_is (is_decimal_number (number_written text)) _ number_fits printed)) in
     let is : number_written text *ℤ pos (10 ^ (scale - places_in text)) ≡ number = ap (λ p. number_written text *ℤ pos (10 ^ (scale - p))) places ∙ ap (λ z. z *ℤ pos (10 ^ (scale - h.0))) shown ∙ sym h.3 in
     if_lets _ (scaled (number_written text *ℤ pos (10 ^ (scale - places_in text)))) all ∙ ap scaled is ∙ lets (is_decimal_number number) number (is_number number small)

@@ -102,6 +102,7 @@ places_are (suc k) nanos text t sub clock places low h =
   where
     last : (i n : ℕ) → i ≤ suc n → (i ≤ n) ⊎ (i ≡ suc n)
     last i n h = grind (arith, h)
+
     here : places ≡ suc k → is_in_places (suc k) nanos text ≡ true
     here same =
         let at = subst (λ p. IsInPlaces t p text) same h in

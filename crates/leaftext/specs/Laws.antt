@@ -16,12 +16,15 @@ Prints text_of IsText = (number : ℤ) (text : List ℕ) → (text_of number ≡
 abbrev pub Reads : (List ℕ → Option ℤ) → (ℤ → List ℕ → Type 0) → Type 0
 Reads read IsRead = (number : ℤ) (text : List ℕ) → (read text ≡ Some number) ↔ IsRead number text
 
+-- the functions of dates agree with their relation
 abbrev pub DatesAgree : Type 0
 DatesAgree = Prints date_text_of IsDateText × Reads date_read IsDateText
 
+-- those of times of day, in each unit
 abbrev pub TimesAgree : Type 0
 TimesAgree = (unit : TimeUnit) → Prints (time_text_of unit) (IsTimeText unit) × Reads (time_read unit) (ReadsTime unit)
 
+-- those of timestamps, in each unit
 abbrev pub TimestampsAgree : Type 0
 TimestampsAgree = (unit : TimeUnit) → Prints (timestamp_text_of unit) (IsTimestampText unit) × Reads (timestamp_read unit) (ReadsTimestamp unit)
 

@@ -97,15 +97,19 @@ row_text_as texts fs row = compact_text (row_json_as texts fs row)
 
 -- ---- without texts
 
+-- a value of a field, its repetition aside, without texts
 abbrev pub inside_json : Field → ValueTree → Data
 inside_json = inside_json_as false
 
+-- a value of a field, without texts
 abbrev pub field_json : Field → ValueTree → Data
 field_json = field_json_as false
 
+-- the members of an object, without texts
 abbrev pub members_json : Fields → ValueTrees → Members
 members_json = members_json_as false
 
+-- a row, without texts
 abbrev pub row_json : Fields → ValueTrees → Data
 row_json = row_json_as false
 

@@ -118,15 +118,19 @@ row_of_as texts fs _ = None
 
 -- ---- without texts
 
+-- a value of a leaf, its repetition aside, which fits it, without texts
 abbrev pub leaf_read : LeafType → Data → Option ValueTree
 leaf_read = leaf_read_as false
 
+-- a value of a field, its repetition aside, without texts
 abbrev pub inside_read : Field → Data → Option ValueTree
 inside_read = inside_read_as false
 
+-- a value of a field, without texts
 abbrev pub field_read : Field → Option Data → Option ValueTree
 field_read = field_read_as false
 
+-- a value for each field, without texts
 abbrev pub members_read : Fields → Members → Option ValueTrees
 members_read = members_read_as false
 

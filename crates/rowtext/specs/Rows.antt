@@ -50,14 +50,18 @@ ShowsRowAs texts r fs values = (lines : List ℕ) × ShowsLineAs texts r fs line
 
 -- ---- without texts
 
+-- as `BeginsLineAs`, without texts
 abbrev pub BeginsLine : RowText → Fields → List ℕ → Type 0
 BeginsLine = BeginsLineAs false
 
+-- as `ShowsLineAs`, without texts
 abbrev pub ShowsLine : RowText → Fields → List ℕ → ValueTrees → Type 0
 ShowsLine = ShowsLineAs false
 
+-- as `BeginsRowAs`, without texts
 abbrev pub BeginsRow : RowText → Fields → Type 0
 BeginsRow = BeginsRowAs false
 
+-- as `ShowsRowAs`, without texts
 abbrev pub ShowsRow : RowText → Fields → ValueTrees → Type 0
 ShowsRow = ShowsRowAs false

@@ -209,7 +209,12 @@ fn inside_from(
     match field {
         Field::Leaf { leaf_type, .. } => leaf_from_as(alloc, leaf_type, json, texts),
         Field::Group { fields, .. } => match json {
-            Json::Object(members) => match members_from_as(alloc, fields.as_slice(), members, texts)? {
+            Json::Object(members) => match members_from_as(
+                alloc,
+                fields.as_slice(),
+                members,
+                texts,
+            )? {
                 Some(values) => Ok(Some(Value::Group(values))),
                 None => Ok(None),
             },

@@ -37,11 +37,7 @@ pub enum Numbers {
 pub fn form_if(texts: bool, leaf_type: &LeafType) -> Option<Form>
     ensures { result ≡ form_if texts (leaf_type_view leaf_type.now) }
 {
-    if texts {
-        form_of(leaf_type)
-    } else {
-        None
-    }
+    if texts { form_of(leaf_type) } else { None }
 }
 
 /// How the numbers of a leaf are printed, with texts or without.

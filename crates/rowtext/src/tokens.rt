@@ -115,14 +115,7 @@ pub fn members_at(
     'members: while let Some(name) = tokens.next_key()? {
         let index = index_of(fields, names, turn, name)?;
         let below = names.below(index).ok_or(Unread::Unknown)?;
-        let value = field_at(
-            alloc,
-            field_of(fields, index),
-            below,
-            tokens,
-            deep,
-            texts,
-        )?;
+        let value = field_at(alloc, field_of(fields, index), below, tokens, deep, texts)?;
         put_value(&mut values, index, value);
         turn = turn.saturating_add(1);
     }

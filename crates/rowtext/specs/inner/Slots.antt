@@ -110,5 +110,6 @@ abbrev mutual
 abbrev pub slot_of : Field → Slot
 slot_of = slot_as false
 
+-- the slots of fields, without texts
 abbrev pub slots_made : Fields → Slots
 slots_made = slots_as false
