@@ -1,20 +1,17 @@
 -- Days and their texts.
-use Rattle.std.proofs.Common.{◌≡◌, ℕ, zero, suc, ◌+◌, ◌-◌, ◌<◌, ◌≤◌, ℤ, pos, negsuc, neg_ℤ, ◌-ℤ◌, ◌+ℤ◌, ◌≤ℤ◌, List, Bool, true, Option, Some, None, refl, sym, ◌∙◌, ap, subst, arith}
+use Rattle.std.proofs.Common.{◌≡◌, ℕ, zero, suc, ◌<◌, ◌≤◌, ℤ, pos, negsuc, ◌-ℤ◌, ◌+ℤ◌, ◌≤ℤ◌, List, true, Option, Some, None, refl, sym, ◌∙◌, ap, subst, arith}
 use Rattle.std.specs.Ordering.{int_eq}
 use Rattle.std.proofs.lemmas.Bool.Decides.{Decides-int_eq}
 use Rattle.jiff_core.specs.declared.civil.date.Date.{Date}
 use Rattle.jiff_core.specs.Calendar.{days_in_month, days_from_civil}
-use Rattle.jiff_core.specs.Date.{epoch_day}
-use Rattle.jiff_core.proofs.DateLemmas.{epoch_day_range, epoch_day-ordinal, days_from_civil-max}
+use Rattle.jiff_core.proofs.DateLemmas.{epoch_day_range}
 use Rattle.jiff_core.proofs.SignedLemmas.{signed_arith}
-use Rattle.jiff_fmt.specs.Text.{date_text}
 use Rattle.valuetext.specs.Dates.{IsDateText}
 use Rattle.valuetext.proofs.DateTexts.{one_day, one_text}
-use Rattle.leaftext.specs.Finding.{first_below}
-use Rattle.leaftext.specs.Texts.{ymd_text, text_if_day, date_text_of}
+use Rattle.leaftext.specs.Texts.{ymd_text, date_text_of}
 use Rattle.leaftext.specs.Reads.{is_this, all_days, days_before, date_read}
 use Rattle.leaftext.specs.Laws.{DatesAgree}
-use Rattle.leaftext.proofs.Tests.{passed, stopped, lets, found_at, missed_at, answers, same_bytes, bytes_same, false_true}
+use Rattle.leaftext.proofs.Tests.{passed, stopped, found_at, missed_at, answers, same_bytes, bytes_same, false_true}
 
 -- a year, a month and a day that the calendar has, as a date
 abbrev date_at : (y m d : ℕ) → y < 9999 → m < 12 → d < days_in_month (pos (suc y)) (suc m) → Date

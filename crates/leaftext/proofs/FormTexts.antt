@@ -1,13 +1,10 @@
 -- The texts of numbers, by their forms.
-use Rattle.std.proofs.Common.{◌≡◌, ℕ, ◌≤◌, ℤ, pos, negsuc, ◌≤ℤ◌, List, Bool, true, false, Option, Some, None, option_map, if◌then◌else◌, refl, sym, ◌∙◌, ap, arith}
+use Rattle.std.proofs.Common.{◌≡◌, ℕ, ℤ, List, true, Option, Some, None, refl, sym, ◌∙◌, ap}
 use Rattle.std.specs.Prelude.{IfSome, IsNone}
 use Rattle.schema.specs.Fits.{is_within}
-use Rattle.valuetext.specs.declared.unit.TimeUnit.{TimeUnit}
-use Rattle.valuetext.specs.Decimals.{IsDecimalText}
 use Rattle.valuetext.proofs.TimeTexts as time_texts
 use Rattle.valuetext.proofs.TimestampTexts as timestamp_texts
 use Rattle.valuetext.proofs.DecimalTexts as decimal_texts
-use Rattle.leaftext.specs.declared.leaf_form.Form.{Form}
 use Rattle.leaftext.specs.declared.leaf_form.Form.TheVariants.{Date, Time, Timestamp, Decimal}
 use Rattle.leaftext.specs.Forms.{in_64_bits, FormsReadBack}
 use Rattle.leaftext.specs.Reads.{decimal_read}

@@ -1,5 +1,5 @@
 -- Times of day and their texts.
-use Rattle.std.proofs.Common.{◌≡◌, ℕ, zero, suc, ◌+◌, ◌-◌, ◌*◌, ◌/◌, ◌%◌, ◌^◌, ◌==◌, ◌<◌, ◌≤◌, ◌⊎◌, inl, inr, nat_lt, ℤ, pos, negsuc, ◌*ℤ◌, ◌<ℤ◌, ◌≤ℤ◌, List, Bool, true, false, ◌&&◌, ◌||◌, Option, Some, None, refl, sym, ◌∙◌, ap, subst, arith}
+use Rattle.std.proofs.Common.{◌≡◌, ℕ, zero, suc, ◌-◌, ◌*◌, ◌/◌, ◌%◌, ◌^◌, ◌==◌, ◌<◌, ◌≤◌, ◌⊎◌, inl, inr, nat_lt, ℤ, pos, negsuc, List, true, Option, Some, None, refl, sym, ◌∙◌, ap, subst, arith}
 use Rattle.std.specs.Prelude.{bytes_eq}
 use Rattle.std.proofs.lemmas.Bool.Decides.{Decides-ltb, Decides-eqb}
 use Rattle.jiff_core.specs.declared.civil.time.Time.{Time}
@@ -11,8 +11,7 @@ use Rattle.valuetext.specs.declared.unit.TimeUnit.{TimeUnit}
 use Rattle.valuetext.specs.declared.unit.TimeUnit.TheVariants.{Millis, Micros}
 use Rattle.valuetext.specs.Units.{nanos_of, unit_places, per_day}
 use Rattle.valuetext.specs.Times.{IsTimeOf, IsTimeText, IsInPlaces, ReadsTime}
-use Rattle.valuetext.proofs.TimeTexts.{one_number, one_text, within_day}
-use Rattle.leaftext.specs.Finding.{first_below}
+use Rattle.valuetext.proofs.TimeTexts.{one_number, within_day}
 use Rattle.leaftext.specs.Texts.{clock_text, time_text_of}
 use Rattle.leaftext.specs.Reads.{is_in_places, is_in_some_places, is_written, time_read}
 use Rattle.leaftext.specs.Laws.{TimesAgree}

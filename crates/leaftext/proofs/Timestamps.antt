@@ -1,5 +1,5 @@
 -- Timestamps and their texts.
-use Rattle.std.proofs.Common.{◌≡◌, ℕ, ◌==◌, ◌<◌, ◌≤◌, ◌⊎◌, inl, inr, ℤ, pos, ◌+ℤ◌, ◌-ℤ◌, ◌*ℤ◌, ◌<ℤ◌, ◌≤ℤ◌, List, [], ◌∷◌, ◌++◌, take, slice_index, Bool, true, false, ◌||◌, Option, Some, None, Result, Ok, Err, if◌then◌else◌, refl, sym, ◌∙◌, ap, subst, arith}
+use Rattle.std.proofs.Common.{◌≡◌, ℕ, ◌==◌, inl, inr, ℤ, pos, ◌+ℤ◌, ◌-ℤ◌, ◌*ℤ◌, List, [], ◌∷◌, ◌++◌, take, slice_index, Bool, true, false, ◌||◌, Option, Some, None, Result, Ok, Err, if◌then◌else◌, refl, sym, ◌∙◌, ap, subst, arith}
 use Rattle.std.specs.Int.{int_div_euclid, int_rem_euclid}
 use Rattle.std.specs.Result.{result_ok}
 use Rattle.std.proofs.lemmas.Bool.Decides.{Decides-eqb}
@@ -12,14 +12,13 @@ use Rattle.valuetext.specs.declared.unit.TimeUnit.{TimeUnit}
 use Rattle.valuetext.specs.declared.unit.TimeUnit.TheVariants.{Millis, Micros}
 use Rattle.valuetext.specs.Units.{per_second, per_day}
 use Rattle.valuetext.specs.Dates.{IsDateText}
-use Rattle.valuetext.specs.Times.{IsTimeText, ReadsTime}
-use Rattle.valuetext.specs.Timestamps.{IsMoment, IsTimestampText, ReadsTimestamp, IsZone, IsSeparator, zone_of, clock_of, seconds_ahead}
-use Rattle.valuetext.proofs.TimeTexts.{within_day}
-use Rattle.valuetext.proofs.TimestampTexts.{moment_of, time_within, one_text, one_number, parts_of}
+use Rattle.valuetext.specs.Times.{IsTimeText}
+use Rattle.valuetext.specs.Timestamps.{IsMoment, IsTimestampText, ReadsTimestamp, IsSeparator, zone_of, clock_of, seconds_ahead}
+use Rattle.valuetext.proofs.TimestampTexts.{moment_of, time_within, parts_of}
 use Rattle.leaftext.specs.Texts.{date_text_of, time_text_of, date_and_time, timestamp_text_of}
 use Rattle.leaftext.specs.Reads.{date_read, time_read, moment_read, zone_read, timestamp_read}
 use Rattle.leaftext.specs.Laws.{TimestampsAgree}
-use Rattle.leaftext.proofs.Tests.{either_true, or_left, or_right, false_true}
+use Rattle.leaftext.proofs.Tests.{either_true, or_left, or_right}
 use Rattle.leaftext.proofs.Dates as dates
 use Rattle.leaftext.proofs.Times as times
 

@@ -1,5 +1,5 @@
 -- What is found by going through numbers.
-use Rattle.std.specs.Prelude.{ℕ, zero, suc, Option, Some, None}
+use Rattle.std.specs.Prelude.{ℕ, zero, suc, Option, None}
 use Rattle.std.specs.Option.{option_or}
 
 -- the first that is found of the numbers below n; None if nothing is

@@ -5,7 +5,7 @@ use Rattle.std.specs.Str.{is_utf8}
 use Rattle.json.specs.Print.{quoted}
 use Rattle.serde_json.specs.Data.{Data}
 use Rattle.serde_json.specs.Data as json
-use Rattle.serde_json.specs.Written.{compact_text, number_text, comma_if, items_text}
+use Rattle.serde_json.specs.Written.{compact_text, comma_if, items_text}
 use Rattle.hex.specs.Hex.{encode_lower}
 use Rattle.schema.specs.declared.value.Repetition.{Repetition}
 use Rattle.schema.specs.declared.value.Repetition.TheVariants.{Required, Optional, Repeated}

@@ -22,7 +22,7 @@ use Rattle.schema.specs.Shape.{Field, leaf, fields, Fields, no_fields, field, na
 use Rattle.schema.specs.Fits.{are_bytes, fits_kind, is_valid_text, fits_leaf, fits_as, is_group, fits, fits_each}
 use Rattle.schema.specs.Law.{names, AllDiffer, IsValid, AreValid}
 use Rattle.leaftext.specs.declared.leaf_form.Form.{Form}
-use Rattle.leaftext.specs.Forms.{form_if, form_text, form_read}
+use Rattle.leaftext.specs.Forms.{form_if, form_text}
 use Rattle.leaftext.proofs.FormTexts.{forms_read_back}
 use Rattle.rowtext.proofs.SameNumbers.{is_number_kind}
 use Rattle.rowtext.specs.Json.{leaf_json, text_or, leaf_shown, leaf_json_as, items_json, json_as, object_json, field_json_as, members_json_as}

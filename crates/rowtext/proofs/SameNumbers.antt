@@ -1,11 +1,10 @@
 -- A number is printed as it is shown, with texts or without.
-use Rattle.std.proofs.Common.{◌≡◌, ℤ, Bool, true, false, ◌⊎◌, inl, inr, Option, Some, None, refl, sym, ap, ◌∙◌}
+use Rattle.std.proofs.Common.{◌≡◌, ℤ, Bool, true, false, ◌⊎◌, inl, inr, Option, Some, None, refl, sym, ap}
 use Rattle.serde_json.specs.Data.{Data}
 use Rattle.serde_json.specs.Data as json
 use Rattle.serde_json.specs.Find.{of_integer}
 use Rattle.serde_json.specs.Written.{compact_text, number_text}
 use Rattle.schema.specs.Annotations.{LeafType, Annotation, plain, known, other_converted, other_logical, order_of, order_over}
-use Rattle.schema.specs.declared.annotation.ConvertedType.{ConvertedType}
 use Rattle.schema.specs.declared.annotation.ConvertedType.TheVariants as converted
 use Rattle.schema.specs.Values.{ValueTree, null, boolean, integer, bytes, group, list}
 use Rattle.leaftext.specs.declared.leaf_form.Form.{Form}
