@@ -21,10 +21,12 @@ mod script_reader;
 mod value_json;
 
 pub use answer_printing::{answer_to, group_to};
-pub use call_reading::call_from;
-pub use filter_reading::filter_from;
+pub use call_reading::{call_from, call_from_as};
+pub use filter_reading::{filter_from, filter_from_as};
 pub use laws::schemas_read_back;
-pub use rowtext::{Reader, RowPlan, RowText, row_from, row_to, rows_read_back};
+pub use rowtext::{
+    Reader, RowPlan, RowText, row_from, row_from_as, row_to, rows_read_back, rows_read_back_as,
+};
 pub use schema_printing::schema_to;
 pub use schema_reading::schema_from;
 pub use script_reader::ScriptReader;
