@@ -40,7 +40,7 @@ naturals_form (string s) = tt
 naturals_form (array ds) = each_form natural_of (listed ds) natural_form
 naturals_form (object ms) = tt
 
-module _ {texts : Bool} where
+module _ (texts : Bool) where
   row_form : (fs : Fields) (d : Data) → AreOfForm (row_in_as texts fs d)
   row_form fs null = tt
   row_form fs (boolean b) = tt
@@ -81,26 +81,26 @@ pub then_fault : {A B : Type 0} (r : Result A Refusal) (f : A → Result B Refus
 then_fault r f Memory h = tt
 then_fault r f e h = ap (λ q. q >>= f) h
 
-module _ {texts : Bool} where
+module _ (texts : Bool) where
   -- ---- calls
 
   made_form : (fs : Fields) (d : Data) (f : Form) → AreOfForm (call_by_as texts fs d f)
-  made_form fs d form.Append = then_form (rows_at_as texts fs d) _ (member_form (codes "rows") d (rows_of_as texts fs) (rows_form fs)) (λ rows. tt)
+  made_form fs d form.Append = then_form (rows_at_as texts fs d) _ (member_form (codes "rows") d (rows_of_as texts fs) (rows_form texts fs)) (λ rows. tt)
   made_form fs d form.BeginAppend = tt
-  made_form fs d form.Stage = then_form (natural_at (codes "job") d) _ (member_form (codes "job") d natural_of natural_form) (λ job. then_form (rows_at_as texts fs d) _ (member_form (codes "rows") d (rows_of_as texts fs) (rows_form fs)) (λ rows. tt))
+  made_form fs d form.Stage = then_form (natural_at (codes "job") d) _ (member_form (codes "job") d natural_of natural_form) (λ job. then_form (rows_at_as texts fs d) _ (member_form (codes "rows") d (rows_of_as texts fs) (rows_form texts fs)) (λ rows. tt))
   made_form fs d form.Commit = then_form (natural_at (codes "job") d) _ (member_form (codes "job") d natural_of natural_form) (λ job. tt)
   made_form fs d form.Abort = then_form (natural_at (codes "job") d) _ (member_form (codes "job") d natural_of natural_form) (λ job. tt)
-  made_form fs d form.Remove = then_form (filter_at_as texts fs d) _ (member_form (codes "filter") d (filter_of_as texts (leaves_of fs)) (filter_form (leaves_of fs))) (λ terms. tt)
+  made_form fs d form.Remove = then_form (filter_at_as texts fs d) _ (member_form (codes "filter") d (filter_of_as texts (leaves_of fs)) (filter_form texts (leaves_of fs))) (λ terms. tt)
   made_form fs d form.RemoveGroups = then_form (numbers_at d) _ (member_form (codes "numbers") d naturals_of naturals_form) (λ numbers. tt)
   made_form fs d form.BeginRewrite = then_form (numbers_at d) _ (member_form (codes "numbers") d naturals_of naturals_form) (λ numbers. tt)
   made_form fs d form.StepRewrite = then_form (natural_at (codes "job") d) _ (member_form (codes "job") d natural_of natural_form) (λ job. tt)
   made_form fs d form.PlanRewrite = then_form (natural_at (codes "min_rows") d) _ (member_form (codes "min_rows") d natural_of natural_form) (λ least. tt)
   made_form fs d form.Query =
-      then_form (filter_at_as texts fs d) _ (member_form (codes "filter") d (filter_of_as texts (leaves_of fs)) (filter_form (leaves_of fs))) (λ terms. then_form (columns_at d) _ (member_form (codes "columns") d columns_of columns_form) (λ columns. tt))
+      then_form (filter_at_as texts fs d) _ (member_form (codes "filter") d (filter_of_as texts (leaves_of fs)) (filter_form texts (leaves_of fs))) (λ terms. then_form (columns_at d) _ (member_form (codes "columns") d columns_of columns_form) (λ columns. tt))
   made_form fs d form.Fetch = then_form (natural_at (codes "cursor") d) _ (member_form (codes "cursor") d natural_of natural_form) (λ cursor. tt)
   made_form fs d form.Close = then_form (natural_at (codes "cursor") d) _ (member_form (codes "cursor") d natural_of natural_form) (λ cursor. tt)
   made_form fs d form.Groups = tt
-  made_form fs d form.Count = then_form (filter_at_as texts fs d) _ (member_form (codes "filter") d (filter_of_as texts (leaves_of fs)) (filter_form (leaves_of fs))) (λ terms. tt)
+  made_form fs d form.Count = then_form (filter_at_as texts fs d) _ (member_form (codes "filter") d (filter_of_as texts (leaves_of fs)) (filter_form texts (leaves_of fs))) (λ terms. tt)
   made_form fs d form.Import = then_form (bytes_at d) _ (member_form (codes "bytes") d bytes_of bytes_form) (λ bytes. tt)
   made_form fs d form.AddColumn = tt
   made_form fs d form.Reopen = tt
@@ -148,7 +148,7 @@ ok_or_err a e h = absurd (cc)
 no_column : (d : Data) (f : Form) → form_of d ≡ Ok f → (f ≡ form.AddColumn → ⊥) → (es : List Element) → IsNewColumn d es → ⊥
 no_column d f is other es h = other (same_form (form_of d) f form.AddColumn is h.formed)
 
-module _ {texts : Bool} where
+module _ (texts : Bool) where
   -- ---- of a JSON value
 
   -- the form is at fault
@@ -163,7 +163,7 @@ module _ {texts : Bool} where
   call_refused fs d f Script is other h = (ap (λ r. r >>= call_by_as texts fs d) is ∙ h, no_column d f is other)
   call_refused fs d f RowShape is other h = ap (λ r. r >>= call_by_as texts fs d) is ∙ h
   call_refused fs d f Memory is other h = tt
-  call_refused fs d f e is other h = absurd (subst AreOfForm h (made_form fs d f))
+  call_refused fs d f e is other h = absurd (subst AreOfForm h (made_form texts fs d f))
 
   pub call_made : (fs : Fields) (d : Data) (f : Form) (call : Call) → form_of d ≡ Ok f → call_by_as texts fs d f ≡ Ok call → IsCallAs texts fs d call
   call_made fs d f call is made = inl (ap (λ r. r >>= call_by_as texts fs d) is ∙ made)
@@ -185,14 +185,14 @@ memory_or_script : (e : Refusal) → HasCause (λ x. x ≡ Script) e → (e ≡ 
 memory_or_script Memory h = inl refl
 memory_or_script e h = inr h
 
-module _ {texts : Bool} where
+module _ (texts : Bool) where
   -- why a field is no column is why the call is refused
   pub field_refused : (d field : Data) (e : Refusal) → form_of d ≡ Ok form.AddColumn → get (codes "field") d ≡ Some field → (IsFault e → (es : List Element) → SaysColumn field es → ⊥) → HasCause (λ x. x ≡ Script) e
       → (fs : Fields) → IsRefusedValueAs texts fs d e
   field_refused d field e is there none h fs =
       elim (memory_or_script e h) [
         | inl m ↦ subst (IsRefusedValueAs texts fs d) (sym m) tt
-        | inr s ↦ subst (IsRefusedValueAs texts fs d) (sym s) (column_refused fs d is (no_elements_said d field there (subst (λ x. IsFault x → (es : List Element) → SaysColumn field es → ⊥) s none tt)))
+        | inr s ↦ subst (IsRefusedValueAs texts fs d) (sym s) (column_refused texts fs d is (no_elements_said d field there (subst (λ x. IsFault x → (es : List Element) → SaysColumn field es → ⊥) s none tt)))
       ]
 
 -- the field nests no deeper than the call
@@ -224,7 +224,7 @@ pub form_not_only : (d : Data) (o : Option Data) (s : List ℕ) (f : Form) (ns :
 form_not_only d o s f ns b there text named names only is =
     form_at d o s there text ∙ ap (λ x. or_fault Script x >>= form_if d) named ∙ ap (λ t. form_chosen f t) (ap (λ xs. has_only xs d) (sym names) ∙ sym only ∙ is)
 
-module _ {texts : Bool} where
+module _ (texts : Bool) where
   pub column_made : (fs : Fields) (d field : Data) (es : List Element) → form_of d ≡ Ok form.AddColumn → get (codes "field") d ≡ Some field → SaysColumn field es → IsCallAs texts fs d (add_column es)
   column_made fs d field es is there say = inr (es, record { field = field; formed = is; there = there; say = say }, refl)
 
@@ -252,15 +252,15 @@ module _ {texts : Bool} where
 
 -- ---- results
 
-pub at_schema : {X : Type 0} (fs : Fields) (P : Fields → X → Type 0) (r : Result X Refusal) → IfOk r (λ x. (gs : Fields) → P gs x) → IfOk r (P fs)
-at_schema fs P (Ok x) h = h fs
-at_schema fs P (Err e) h = tt
+pub at_schema : {X : Type 0} (texts : Bool) (fs : Fields) (P : Bool → Fields → X → Type 0) (r : Result X Refusal) → IfOk r (λ x. (b : Bool) (gs : Fields) → P b gs x) → IfOk r (P texts fs)
+at_schema texts fs P (Ok x) h = h texts fs
+at_schema texts fs P (Err e) h = tt
 
-module _ {texts : Bool} where
+module _ (texts : Bool) where
   pub calls_made : {X : Type 0} (seen : X → Call) (fs : Fields) (d : Data) (f : Form) (r : Result X Refusal) → form_of d ≡ Ok f → IfOk r (λ x. call_by_as texts fs d f ≡ Ok (seen x)) → IfOk r (λ x. IsCallAs texts fs d (seen x))
-  calls_made seen fs d f (Ok x) is h = call_made fs d f (seen x) is h
+  calls_made seen fs d f (Ok x) is h = call_made texts fs d f (seen x) is h
   calls_made seen fs d f (Err e) is h = tt
 
   pub calls_refused : {X : Type 0} (fs : Fields) (d : Data) (f : Form) (r : Result X Refusal) → form_of d ≡ Ok f → (f ≡ form.AddColumn → ⊥) → RefusedOnly (λ e. call_by_as texts fs d f ≡ Err e) r → IfErr r (IsRefusedValueAs texts fs d)
   calls_refused fs d f (Ok x) is other h = tt
-  calls_refused fs d f (Err e) is other h = call_refused fs d f e is other h
+  calls_refused fs d f (Err e) is other h = call_refused texts fs d f e is other h

@@ -85,7 +85,7 @@ kind_form (string s) = tt
 kind_form (array ds) = tt
 kind_form (object ms) = tt
 
-module _ {texts : Bool} where
+module _ (texts : Bool) where
   single_form : (t : Option LeafType) (d : Data) → AreOfForm (single_value_as texts t d)
   single_form (Some t) d = either_form (is_of_kind_as (form_if texts t) t.kind d) (or_fault RowShape (leaf_read_as texts t d)) (by_kind d) (shape_form (leaf_read_as texts t d)) (kind_form d)
   single_form None d = kind_form d
@@ -94,15 +94,15 @@ list_form : (r : Result (List ValueTree) Refusal) → AreOfForm r → AreOfForm 
 list_form (Ok vs) h = tt
 list_form (Err e) h = h
 
-module _ {texts : Bool} where
+module _ (texts : Bool) where
   mutual
     value_form : (t : Option LeafType) (d : Data) → AreOfForm (value_of_as texts t d)
-    value_form t null = single_form t null
-    value_form t (boolean b) = single_form t (boolean b)
-    value_form t (number n) = single_form t (number n)
-    value_form t (string s) = single_form t (string s)
+    value_form t null = single_form texts t null
+    value_form t (boolean b) = single_form texts t (boolean b)
+    value_form t (number n) = single_form texts t (number n)
+    value_form t (string s) = single_form texts t (string s)
     value_form t (array ds) = list_form (values_of_as texts t ds) (values_form t ds)
-    value_form t (object ms) = single_form t (object ms)
+    value_form t (object ms) = single_form texts t (object ms)
 
     values_form : (t : Option LeafType) (ds : Items) → AreOfForm (values_of_as texts t ds)
     values_form t no_items = tt
@@ -139,12 +139,12 @@ only_form : (r : Result (List Term) Refusal) → AreOfForm r → AreOfForm (only
 only_form (Ok ts) h = tt
 only_form (Err e) h = h
 
-module _ {texts : Bool} where
+module _ (texts : Bool) where
   filter_form_in : (leaves : List Leaf) (ds : List Data) → AreOfForm (filter_in_as texts leaves ds)
   filter_form_in leaves [] = tt
   filter_form_in leaves (d ∷ ds) =
-      either_form (is_triple d) (only_and (each_of (term_of_as texts leaves) (d ∷ ds))) (each_of (and_of_as texts leaves) (d ∷ ds)) (only_form (each_of (term_of_as texts leaves) (d ∷ ds)) (each_form (term_of_as texts leaves) (d ∷ ds) (term_form leaves)))
-      (each_form (and_of_as texts leaves) (d ∷ ds) (and_form leaves))
+      either_form (is_triple d) (only_and (each_of (term_of_as texts leaves) (d ∷ ds))) (each_of (and_of_as texts leaves) (d ∷ ds)) (only_form (each_of (term_of_as texts leaves) (d ∷ ds)) (each_form (term_of_as texts leaves) (d ∷ ds) (term_form texts leaves)))
+      (each_form (and_of_as texts leaves) (d ∷ ds) (and_form texts leaves))
 
   pub filter_form : (leaves : List Leaf) (d : Data) → AreOfForm (filter_of_as texts leaves d)
   filter_form leaves null = tt
@@ -157,12 +157,12 @@ module _ {texts : Bool} where
 pub some_same : {A : Type 0} (x y : A) → Some x ≡ Some y → x ≡ y
 some_same x y e = cc
 
-module _ {texts : Bool} where
+module _ (texts : Bool) where
   refused_at : (leaves : List Leaf) (text : List ℕ) (d : Data) (e : Refusal) → read text ≡ Some d → HasCause (λ x. filter_of_as texts leaves d ≡ Err x) e → IsRefusedFilterAs texts leaves text e
   refused_at leaves text d Script reads h = λ x r. ap (filter_of_as texts leaves) (some_same x d (sym r ∙ reads)) ∙ h
   refused_at leaves text d RowShape reads h = (d, reads, h)
   refused_at leaves text d Memory reads h = tt
-  refused_at leaves text d e reads h = absurd (subst AreOfForm h (filter_form leaves d))
+  refused_at leaves text d e reads h = absurd (subst AreOfForm h (filter_form texts leaves d))
 
   -- what the JSON value is refused for, the text is refused for
   pub refused : {X : Type 0} (leaves : List Leaf) (text : List ℕ) (d : Data) (r : Result X Refusal) → read text ≡ Some d → RefusedOnly (λ x. filter_of_as texts leaves d ≡ Err x) r → IfErr r (IsRefusedFilterAs texts leaves text)

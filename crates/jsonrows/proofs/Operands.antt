@@ -1,5 +1,5 @@
 -- Arrays of a filter, item by item, and the leaf of a term.
-use Rattle.std.proofs.Common.{◌≡◌, ◌≢◌, ℕ, ◌+◌, ◌<◌, true, List, [], ◌∷◌, length, get_or, map, drop, Option, Some, Vec, Global, Result, Err, refl, sym, ap, ◌∙◌}
+use Rattle.std.proofs.Common.{Bool, ◌≡◌, ◌≢◌, ℕ, ◌+◌, ◌<◌, true, List, [], ◌∷◌, length, get_or, map, drop, Option, Some, Vec, Global, Result, Err, refl, sym, ap, ◌∙◌}
 use Rattle.std.specs.Str.{bytes_eq}
 use Rattle.std.specs.Cmp.Lexicographic.{pointwise, pointwise_decides, bytes_decides}
 use Rattle.bits.specs.declared.refusal.Refusal.{Refusal}
@@ -30,7 +30,7 @@ pub of_array : {R : Type 0} (F : Data → R) (G : List Data → R) (json : Value
 of_array F G json v xs by_items is same =
     ap (λ ys. G (map view ys)) same ∙ ap G (sym (listed-view v.items)) ∙ sym (by_items (items_view v.items)) ∙ ap F (sym (ap view is ∙ view-Array v))
 
-module _ {texts : Bool} where
+module _ (texts : Bool) where
   -- ---- values
 
   each_value : (t : Option LeafType) (ds : Items) → values_of_as texts t ds ≡ each_of (value_of_as texts t) (listed ds)
@@ -51,9 +51,9 @@ passed_over leaves i l names lt is other =
     let no = not_true (pointwise bytes_eq (leaf_view l).path names) (λ e. other ((pointwise_decides bytes_decides (leaf_view l).path names).0 e)) in
     ap (λ ls. leaf_named ls names) (reads leaf_view leaves i l lt is) ∙ rw no refl
 
-module _ {texts : Bool} where
+module _ (texts : Bool) where
   pub list_seen : (t : Option LeafType) (json : Value) (v : Vec Value Global) (xs : List Value) → json ≡ Array v → xs ≡ v.items → list_value (each_of (value_of_as texts t) (map view xs)) ≡ value_of_as texts t (view json)
-  list_seen t json v xs is same = of_array (value_of_as texts t) (λ ds. list_value (each_of (value_of_as texts t) ds)) json v xs (λ ds. ap list_value (each_value t ds)) is same
+  list_seen t json v xs is same = of_array (value_of_as texts t) (λ ds. list_value (each_of (value_of_as texts t) ds)) json v xs (λ ds. ap list_value (each_value texts t ds)) is same
 
   -- the fault of a list is that of its items
   pub list_fault : (t : Option LeafType) (d : Data) (made : Result (List ValueTree) Refusal) → list_value made ≡ value_of_as texts t d → (e : Refusal) → HasCause (λ x. made ≡ Err x) e → HasCause (λ x. value_of_as texts t d ≡ Err x) e

@@ -1,4 +1,4 @@
-use Rattle.std.proofs.Common.{sym, ap, ◌∙◌}
+use Rattle.std.proofs.Common.{Bool, sym, ap, ◌∙◌}
 use Rattle.serde_json.specs.View.{view}
 use Rattle.schema.specs.Shape.{Fields}
 use Rattle.jsonrows.specs.Calls.{IsRefusedValueAs}
@@ -14,4 +14,4 @@ pub returns-in_err-elements-clause-which : goal.returns-in_err-elements-clause-w
 returns-in_err-elements-clause-which c =
     let e = c.in_err-elements.field-0.0 in
     passes (λ x. (texts : Bool) (fs : Fields) → IsRefusedValueAs texts fs (view c.args.json.now) x) c.from_residual.result e c.from_residual.ensures.1
-    (field_refused (view c.args.json.now) (view c.in-Some.field.now) e c.requires.formed (sym c.get.ensures ∙ ap (option_map (λ v. view v.now)) c.in-Some.is) c.in_err-elements.ensures.only c.in_err-elements.ensures.which)
+    (λ texts. field_refused texts (view c.args.json.now) (view c.in-Some.field.now) e c.requires.formed (sym c.get.ensures ∙ ap (option_map (λ v. view v.now)) c.in-Some.is) c.in_err-elements.ensures.only c.in_err-elements.ensures.which)

@@ -20,12 +20,12 @@ pub value_of-returns-in_err-values-in-Array-clause-which : goal.value_of-returns
 value_of-returns-in_err-values-in-Array-clause-which t c =
     let leaf_type = option_map (λ t. leaf_type_view t.now) c.args.leaf_type in
     let d = view c.args.json.now in
-    let same = list_seen leaf_type c.args.json.now c.in-Array.items c.as_slice.result.now c.in-Array.is c.as_slice.ensures.value in
+    let same = list_seen c.args.texts leaf_type c.args.json.now c.in-Array.items c.as_slice.result.now c.in-Array.is c.as_slice.ensures.value in
     let e = c.in_err-values-in-Array.field-0.0 in
-    passes (HasCause (λ x. value_of_as c.args.texts leaf_type d ≡ Err x)) c.from_residual.result e c.from_residual.ensures.1 (list_fault leaf_type d (each_of (value_of_as c.args.texts leaf_type) (map view c.as_slice.result.now)) same e c.in_err-values-in-Array.ensures.which)
+    passes (HasCause (λ x. value_of_as c.args.texts leaf_type d ≡ Err x)) c.from_residual.result e c.from_residual.ensures.1 (list_fault c.args.texts leaf_type d (each_of (value_of_as c.args.texts leaf_type) (map view c.as_slice.result.now)) same e c.in_err-values-in-Array.ensures.which)
 
 pub value_of-returns-in_ok-values-in-Array-clause-made : goal.value_of-returns-in_ok-values-in-Array-clause-made
 value_of-returns-in_ok-values-in-Array-clause-made t c =
     let leaf_type = option_map (λ t. leaf_type_view t.now) c.args.leaf_type in
-    let same = list_seen leaf_type c.args.json.now c.in-Array.items c.as_slice.result.now c.in-Array.is c.as_slice.ensures.value in
+    let same = list_seen c.args.texts leaf_type c.args.json.now c.in-Array.items c.as_slice.result.now c.in-Array.is c.as_slice.ensures.value in
     sym same ∙ ap list_value c.in_ok-values-in-Array.ensures.made ∙ ap Ok (sym (view-List c.in_ok-values-in-Array.values))
