@@ -15,8 +15,7 @@ ghost use Rattle.jsonrows.specs.Filters.{name_of, column_of, operator_named, ope
 
 use bits::{R, Refusal};
 use filter::{Op, Term};
-use leaftext::form_if;
-use rowtext::{json_of, leaf_from_as};
+use rowtext::{form_if, json_of, leaf_from_as};
 use schema::{Kind, Leaf, LeafType, Schema, Value};
 use serde_json::Value as Json;
 use std::alloc::Global;
@@ -56,12 +55,7 @@ pub fn filter_from(alloc: Global, schema: &Schema, text: &str) -> R<Vec<Vec<Term
 
 /// The terms of a filter over the leaves of a schema, as [`filter_from`] reads them, under the same refusals; with `texts`,
 /// values of dates, times, timestamps and decimals over INT32 and INT64 are also read from their texts.
-pub fn filter_from_as(
-    alloc: Global,
-    schema: &Schema,
-    text: &str,
-    texts: bool,
-) -> R<Vec<Vec<Term>>>
+pub fn filter_from_as(alloc: Global, schema: &Schema, text: &str, texts: bool) -> R<Vec<Vec<Term>>>
     ensures stands { IfOk result (λ ands. IsFilterTextAs texts (leaves_of schema.now) text.now (terms_view ands.items)) }
     ensures which { IfErr result (IsRefusedFilterAs texts (leaves_of schema.now) text.now) }
 {
@@ -260,7 +254,12 @@ fn value_of(alloc: Global, leaf_type: Option<&LeafType>, json: &Json, texts: boo
 
 /// The values of a list.
 #[cycle(values)]
-fn values_of(alloc: Global, leaf_type: Option<&LeafType>, items: &[Json], texts: bool) -> R<Vec<Value>>
+fn values_of(
+    alloc: Global,
+    leaf_type: Option<&LeafType>,
+    items: &[Json],
+    texts: bool,
+) -> R<Vec<Value>>
     ensures made { IfOk result (λ values. each_of (value_of_as texts (option_map (λ t. leaf_type_view t.now) leaf_type.entry)) (map view items.now) ≡ Ok
         (map value_view values.items)) }
     ensures which { RefusedOnly (λ e. each_of (value_of_as texts (option_map (λ t. leaf_type_view t.now) leaf_type.entry)) (map view items.now) ≡ Err e) result }
@@ -274,7 +273,14 @@ fn values_of(alloc: Global, leaf_type: Option<&LeafType>, items: &[Json], texts:
 }
 
 /// The term of a column, an operator and a value.
-fn term_by(alloc: Global, leaves: &[Leaf], column: &Json, operator: &Json, value: &Json, texts: bool) -> R<Term>
+fn term_by(
+    alloc: Global,
+    leaves: &[Leaf],
+    column: &Json,
+    operator: &Json,
+    value: &Json,
+    texts: bool,
+) -> R<Term>
     ensures made { IfOk result (λ term. term_by_as texts (map leaf_view leaves.now) (view column.now) (view operator.now) (view value.now) ≡ Ok (term_view term)) }
     ensures which { RefusedOnly (λ e. term_by_as texts (map leaf_view leaves.now) (view column.now) (view operator.now) (view value.now) ≡ Err e) result }
 {
