@@ -32,11 +32,11 @@ is_text scale number text h =
 
 -- ---- reading
 
-if_passed : {A : Type 0} (b : Bool) (o : Option A) (a : A) → (if b then o else None) ≡ Some a → (b ≡ true) × (o ≡ Some a)
+pub if_passed : {A : Type 0} (b : Bool) (o : Option A) (a : A) → (if b then o else None) ≡ Some a → (b ≡ true) × (o ≡ Some a)
 if_passed true o a e = (refl, e)
 if_passed false o a e = absurd (cc)
 
-if_lets : {A : Type 0} (b : Bool) (o : Option A) → b ≡ true → (if b then o else None) ≡ o
+pub if_lets : {A : Type 0} (b : Bool) (o : Option A) → b ≡ true → (if b then o else None) ≡ o
 if_lets true o e = refl
 if_lets false o e = absurd (cc)
 

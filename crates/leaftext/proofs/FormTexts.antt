@@ -5,7 +5,7 @@ use Rattle.schema.specs.Fits.{is_within}
 use Rattle.valuetext.proofs.TimeTexts as time_texts
 use Rattle.valuetext.proofs.TimestampTexts as timestamp_texts
 use Rattle.valuetext.proofs.DecimalTexts as decimal_texts
-use Rattle.leaftext.specs.declared.leaf_form.Form.TheVariants.{Date, Time, Timestamp, Decimal}
+use Rattle.leaftext.specs.declared.leaf_form.Form.TheVariants.{Date, Time, Timestamp, Decimal, ShortestBytes, FixedBytes}
 use Rattle.leaftext.specs.Forms.{in_64_bits, FormsReadBack}
 use Rattle.leaftext.specs.Reads.{decimal_read}
 use Rattle.leaftext.specs.Laws.{Prints, Reads}
@@ -24,6 +24,8 @@ forms_read_back (Timestamp unit) number text small e = timestamps.is_read unit n
 forms_read_back (Decimal scale) number text small e =
     let is = decimals.text_is scale number text e in
     within (decimal_read scale text) number (decimals.is_read scale number text is.0 (decimal_texts.read_back scale number text is) is.1) small
+forms_read_back (ShortestBytes scale) number text small e = absurd (cc)
+forms_read_back (FixedBytes scale n) number text small e = absurd (cc)
 
 -- a number that has no text
 pub no_text : (text_of : ℤ → Option (List ℕ)) (IsText : ℤ → List ℕ → Type 0) → Prints text_of IsText → (number : ℤ) → ((text : List ℕ) → IsText number text → ⊥) → None ≡ text_of number

@@ -4,3 +4,4 @@ pub mod Times
 pub mod Timestamps
 pub mod Decimals
 pub mod FormTexts
+pub mod BytesTexts

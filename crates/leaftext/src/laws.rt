@@ -1,7 +1,7 @@
 //! What holds of the definitions.
 
-ghost use Rattle.leaftext.specs.Forms.{FormsReadBack};
-ghost use Rattle.leaftext.specs.Laws.{DatesAgree, TimesAgree, TimestampsAgree, DecimalsAgree};
+ghost use Rattle.leaftext.specs.Forms.{FormBytesReadBack, FormsReadBack};
+ghost use Rattle.leaftext.specs.Laws.{DatesAgree, TimesAgree, TimestampsAgree, DecimalsAgree, ShortestBytesAgree, FixedBytesAgree};
 
 /// The texts of days and the relation of `valuetext` are the same.
 #[tactic(auto, using(crate::proofs::Dates::dates_agree))]
@@ -27,4 +27,19 @@ pub fn decimals_agree()
 /// The text of a number is read as that number.
 pub fn forms_read_back()
     ensures { FormsReadBack }
+{}
+
+/// The texts of bytes of any length, and the relations of `valuetext`, are the same.
+pub fn shortest_bytes_agree()
+    ensures { ShortestBytesAgree }
+{}
+
+/// The texts of bytes of one length, and the relations of `valuetext`, are the same.
+pub fn fixed_bytes_agree()
+    ensures { FixedBytesAgree }
+{}
+
+/// The text of bytes is read as those bytes.
+pub fn bytes_read_back()
+    ensures { FormBytesReadBack }
 {}

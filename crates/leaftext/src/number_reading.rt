@@ -11,7 +11,8 @@ use valuetext::{TimeUnit, read_date, read_decimal, read_time, read_timestamp};
 /// The greatest scale of a decimal that is read.
 const MOST_SCALE: u8 = 38;
 
-/// The number of a leaf that a text is read as. None exactly if it is read as none of 64 bits.
+/// The number of a leaf that a text is read as. None exactly if it is read as none of 64 bits, or the
+/// form is one of bytes.
 pub fn form_read(form: Form, text: &[u8]) -> Option<i64>
     ensures { result ≡ form_read form text.now }
 {
@@ -20,6 +21,7 @@ pub fn form_read(form: Form, text: &[u8]) -> Option<i64>
         Form::Time(unit) => time_from(unit, text),
         Form::Timestamp(unit) => timestamp_from(unit, text),
         Form::Decimal(scale) => decimal_from(scale, text),
+        Form::ShortestBytes(_) | Form::FixedBytes(_, _) => None,
     }
 }
 

@@ -11,8 +11,8 @@ use valuetext::{TimeUnit, date_text, decimal_text, time_text, timestamp_text};
 /// The greatest scale of a decimal that has a text.
 const MOST_SCALE: u8 = 38;
 
-/// The text of a number of a leaf. None exactly if it has none: a date outside the years 0001 to 9999, or a time
-/// outside the day.
+/// The text of a number of a leaf. None exactly if it has none: a date outside the years 0001 to 9999, a time outside
+/// the day, or a form of bytes.
 pub fn form_text(form: Form, number: i64) -> Option<ArrayString<80>>
     ensures { option_map (λ text. text.bytes) result ≡ form_text form number }
 {
@@ -21,6 +21,7 @@ pub fn form_text(form: Form, number: i64) -> Option<ArrayString<80>>
         Form::Time(unit) => text_of_time(unit, number),
         Form::Timestamp(unit) => text_of_timestamp(unit, number),
         Form::Decimal(scale) => text_of_decimal(scale, number),
+        Form::ShortestBytes(_) | Form::FixedBytes(_, _) => None,
     }
 }
 

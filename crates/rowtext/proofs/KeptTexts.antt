@@ -21,7 +21,7 @@ use Rattle.rowtext.specs.Json.{leaf_json, leaf_json_as, items_json, json_as, obj
 use Rattle.rowtext.specs.inner.Scalars.{numbers_as}
 use Rattle.rowtext.specs.inner.Slots.{Slot, Slots, leaf_slot, group_slot, slot_as, slots_as, key_of, key_in, order_of}
 use Rattle.rowtext.specs.inner.Kept.{kept_text, kept_items, kept_pieces, kept_object}
-use Rattle.rowtext.proofs.SameNumbers.{integer_is, IsOther, other_shown}
+use Rattle.rowtext.proofs.SameNumbers.{integer_is, bytes_are, IsOther, other_shown}
 use Rattle.rowtext.proofs.Both.{and_true}
 use Rattle.rowtext.proofs.RowOrder.{pieces_as, object_ordered}
 
@@ -45,12 +45,6 @@ no_list Int64 vs h = true≢false (sym h)
 no_list ByteArray vs h = true≢false (sym h)
 no_list (FixedLenByteArray n) vs h = true≢false (sym h)
 
--- text that fits is UTF-8
-text_is : (t u : Bool) (a b : List ℕ) → (if t then u else true) ≡ true → (if t then a else b) ≡ (if t && u then a else b)
-text_is true true a b h = refl
-text_is true false a b h = absurd (true≢false (sym h))
-text_is false u a b h = refl
-
 module _ (texts : Bool) where
   abbrev pub leaf_of : LeafType → List ℕ → Slot
   leaf_of t k = leaf_slot k (numbers_as (form_if texts t) t.kind (leaf_order t)) (is_text t.kind t.annotation)
@@ -62,8 +56,7 @@ module _ (texts : Bool) where
   leaf_kept t k null h = other_kept t null tt
   leaf_kept t k (boolean b) h = other_kept t (boolean b) tt
   leaf_kept t k (integer z) h = integer_is texts t z
-  leaf_kept t k (bytes x) h =
-      ap quoted (text_is (is_text t.kind t.annotation) (is_utf8 x) x (encode_lower x) (and_true (fits_kind t.kind (bytes x)) _ h).1) ∙ other_kept t (bytes x) tt
+  leaf_kept t k (bytes x) h = bytes_are texts t x (and_true (fits_kind t.kind (bytes x)) _ h).1
   leaf_kept t k (group vs) h = absurd (no_group t.kind vs (and_true (fits_kind t.kind (group vs)) _ h).0)
   leaf_kept t k (list vs) h = absurd (no_list t.kind vs (and_true (fits_kind t.kind (list vs)) _ h).0)
 

@@ -13,6 +13,7 @@ pub mod RowJson
 pub mod RowsBack
 pub mod MovedDigits
 pub mod EscapedBytes
+pub mod HexObjects
 pub mod Unescaping
 pub mod SameNumbers
 pub mod Digits

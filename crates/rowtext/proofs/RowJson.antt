@@ -17,8 +17,8 @@ use Rattle.schema.specs.Shape.{Field, leaf, fields, Fields, no_fields, field, na
 use Rattle.schema.specs.Fits.{fits_kind, fits_leaf, fits_as, is_group, fits, fits_each}
 use Rattle.schema.specs.Reading.{tall, tallest}
 use Rattle.leaftext.specs.declared.leaf_form.Form.{Form}
-use Rattle.leaftext.specs.Forms.{form_if, form_text}
-use Rattle.rowtext.specs.Json.{number_json, leaf_json, text_or, leaf_shown, leaf_json_as, items_json, json_as, object_json, field_json_as, members_json, members_json_as}
+use Rattle.leaftext.specs.Forms.{form_if, form_text, form_bytes_text}
+use Rattle.rowtext.specs.Json.{number_json, leaf_json, text_or, hex_json, leaf_shown, leaf_json_as, items_json, json_as, object_json, field_json_as, members_json, members_json_as}
 use Rattle.rowtext.proofs.Both.{and_true}
 use Rattle.rowtext.proofs.JsonTexts.{IsExact, IsBefore, AreInOrder, IsReadable, AreReadable, HaveReadable}
 use Rattle.rowtext.proofs.Numbers.{integer_exact, bits_exact}
@@ -90,7 +90,7 @@ shown_by None t v h = plain_shown t v h
 shown_by (Some form) t null h = tt
 shown_by (Some form) t (boolean b) h = tt
 shown_by (Some form) t (integer z) h = text_shown (form_text form z) (leaf_json t (integer z)) (plain_shown t (integer z) h)
-shown_by (Some form) t (bytes s) h = tt
+shown_by (Some form) t (bytes s) h = text_shown (form_bytes_text form s) (hex_json s) ((tt, tt), (tt, tt))
 shown_by (Some form) t (group vs) h = tt
 shown_by (Some form) t (list vs) h = tt
 
@@ -164,16 +164,16 @@ module _ (texts : Bool) where
   plain_flat t (group vs) = omega arith
   plain_flat t (list vs) = omega arith
 
-  text_flat : (o : Option (List ℕ)) (d : Data) → depth d ≤ 0 → depth (text_or o d) ≤ 0
+  text_flat : (o : Option (List ℕ)) (d : Data) → depth d ≤ 1 → depth (text_or o d) ≤ 1
   text_flat (Some s) d h = omega arith
   text_flat None d h = h
 
-  flat_by : (o : Option Form) (t : LeafType) → AreFlat 0 (leaf_shown o t)
-  flat_by None t v = plain_flat t v
+  flat_by : (o : Option Form) (t : LeafType) → AreFlat 1 (leaf_shown o t)
+  flat_by None t v = let a = plain_flat t v in omega (arith, a)
   flat_by (Some form) t null = omega arith
   flat_by (Some form) t (boolean b) = omega arith
-  flat_by (Some form) t (integer z) = text_flat (form_text form z) (leaf_json t (integer z)) (plain_flat t (integer z))
-  flat_by (Some form) t (bytes s) = omega arith
+  flat_by (Some form) t (integer z) = text_flat (form_text form z) (leaf_json t (integer z)) (omega arith)
+  flat_by (Some form) t (bytes s) = text_flat (form_bytes_text form s) (hex_json s) (omega arith)
   flat_by (Some form) t (group vs) = omega arith
   flat_by (Some form) t (list vs) = omega arith
 
@@ -206,7 +206,7 @@ module _ (texts : Bool) where
 
   mutual
     field_flat : (f : Field) (v : ValueTree) → depth (field_json_as texts f v) ≤ 2 * tall f
-    field_flat (leaf n r t) v = let a = as_flat 0 r (leaf_json_as texts t) (flat_by (form_if texts t) t) v in omega (arith, a)
+    field_flat (leaf n r t) v = let a = as_flat 1 r (leaf_json_as texts t) (flat_by (form_if texts t) t) v in omega (arith, a)
     field_flat (fields n r a fs) v =
         let g = group_flat (2 * tallest fs) (members_json_as texts fs) (members_flat fs) in
         let b = as_flat (suc (2 * tallest fs)) r (object_json (members_json_as texts fs)) g v in

@@ -1,6 +1,7 @@
 -- The text of a row that fits is read as that row.
 use Rattle.std.proofs.Common.{◌≡◌, ◌≢◌, ℕ, zero, suc, nat_lt, ◌≤◌, List, [], ◌∷◌, Bool, true, false, true≢false, ◌&&◌, ◌⊎◌, inl, inr, ℤ, Option, Some, None, option_map, option_and_then, if◌then◌else◌, Ordering, Less, Equal, Greater, nat_cmp, refl, sym, ap, ap₂, ◌∙◌, arith}
 use Rattle.std.specs.List.{AllByRecursion}
+use Rattle.std.specs.Option.{option_or}
 use Rattle.std.specs.Str.{is_utf8}
 use Rattle.std.specs.Cmp.Lexicographic.{slice_cmp}
 use Rattle.std.specs.Ordering.{match_ordering}
@@ -22,11 +23,12 @@ use Rattle.schema.specs.Shape.{Field, leaf, fields, Fields, no_fields, field, na
 use Rattle.schema.specs.Fits.{are_bytes, fits_kind, is_valid_text, fits_leaf, fits_as, is_group, fits, fits_each}
 use Rattle.schema.specs.Law.{names, AllDiffer, IsValid, AreValid}
 use Rattle.leaftext.specs.declared.leaf_form.Form.{Form}
-use Rattle.leaftext.specs.Forms.{form_if, form_text}
+use Rattle.leaftext.specs.declared.leaf_form.Form.TheVariants.{Date, Time, Timestamp, Decimal, ShortestBytes, FixedBytes}
+use Rattle.leaftext.specs.Forms.{form_if, form_text, form_read, form_bytes_text, form_bytes_read}
 use Rattle.leaftext.proofs.FormTexts.{forms_read_back}
-use Rattle.rowtext.proofs.SameNumbers.{is_number_kind}
-use Rattle.rowtext.specs.Json.{leaf_json, text_or, leaf_shown, leaf_json_as, items_json, json_as, object_json, field_json_as, members_json_as}
-use Rattle.rowtext.specs.Reading.{bytes_of_digits, scalar_read, scalar_by, leaf_read_by, leaf_read_as, value_before, items_read, read_as, object_read, without, field_read_as, members_read_as}
+use Rattle.leaftext.proofs.BytesTexts.{bytes_read_back}
+use Rattle.rowtext.specs.Json.{leaf_json, text_or, hex_name, hex_json, leaf_shown, leaf_json_as, items_json, json_as, object_json, field_json_as, members_json_as}
+use Rattle.rowtext.specs.Reading.{bytes_of_digits, hex_read, scalar_read, scalar_by, leaf_read_by, leaf_read_as, value_before, items_read, read_as, object_read, without, field_read_as, members_read_as}
 use Rattle.rowtext.specs.Law.{RowsReadBack, RowsReadBackAs}
 use Rattle.rowtext.proofs.Heights.{at_most_32}
 use Rattle.rowtext.proofs.JsonTexts.{text_back}
@@ -93,27 +95,39 @@ scalar_back t (list vs) h = absurd (true≢false (sym (and_true (fits_kind t.kin
 chosen : (t : LeafType) (o : Option ValueTree) (v : ValueTree) → fits_leaf t v ≡ true → o ≡ Some v → option_and_then (λ (x : ValueTree). if fits_leaf t x then Some x else None) o ≡ Some v
 chosen t o v h e = ap (option_and_then (λ (x : ValueTree). if fits_leaf t x then Some x else None)) e ∙ ap (λ (b : Bool). if b then Some v else None) h
 
--- a number of a leaf whose numbers have texts
+-- a number of a leaf whose values have texts
 formed_back : (t : LeafType) (form : Form) (z : ℤ) (o : Option (List ℕ)) → form_text form z ≡ o → fits_leaf t (integer z) ≡ true → scalar_by (Some form) t (text_or o (leaf_json t (integer z))) ≡ Some (integer z)
-formed_back t form z (Some text) e h = ap (option_map integer) (forms_read_back form z text (within t.kind z (and_true (fits_kind t.kind (integer z)) _ h).0) e)
+formed_back t form z (Some text) e h =
+    ap (λ x. option_or (option_map integer x) (option_map bytes (form_bytes_read form text))) (forms_read_back form z text (within t.kind z (and_true (fits_kind t.kind (integer z)) _ h).0) e)
 formed_back t form z None e h = scalar_back t (integer z) h
 
-no_bytes : (k : Kind) (s : List ℕ) → (k ≡ Int32) ⊎ (k ≡ Int64) → fits_kind k (bytes s) ≡ true → ⊥
-no_bytes k s (inl e) h = true≢false (sym h ∙ ap (λ x. fits_kind x (bytes s)) e)
-no_bytes k s (inr e) h = true≢false (sym h ∙ ap (λ x. fits_kind x (bytes s)) e)
+-- a text of bytes is that of no number
+no_number : (form : Form) (s text : List ℕ) → form_bytes_text form s ≡ Some text → form_read form text ≡ None
+no_number Date s text e = absurd (cc)
+no_number (Time unit) s text e = absurd (cc)
+no_number (Timestamp unit) s text e = absurd (cc)
+no_number (Decimal scale) s text e = absurd (cc)
+no_number (ShortestBytes scale) s text e = refl
+no_number (FixedBytes scale n) s text e = refl
 
-back_by : (o : Option Form) (t : LeafType) → ((form : Form) → o ≡ Some form → (t.kind ≡ Int32) ⊎ (t.kind ≡ Int64)) → ReadsBack (fits_leaf t) (leaf_shown o t) (scalar_by o t)
-back_by None t numbers v h = scalar_back t v h
-back_by (Some form) t numbers null h = absurd (true≢false (sym (and_true (fits_kind t.kind null) _ h).0 ∙ no_null t.kind))
-back_by (Some form) t numbers (boolean b) h = refl
-back_by (Some form) t numbers (integer z) h = formed_back t form z (form_text form z) refl h
-back_by (Some form) t numbers (bytes s) h = absurd (no_bytes t.kind s (numbers form refl) (and_true (fits_kind t.kind (bytes s)) _ h).0)
-back_by (Some form) t numbers (group vs) h = absurd (true≢false (sym (and_true (fits_kind t.kind (group vs)) _ h).0 ∙ no_group t.kind vs))
-back_by (Some form) t numbers (list vs) h = absurd (true≢false (sym (and_true (fits_kind t.kind (list vs)) _ h).0 ∙ no_list t.kind vs))
+-- the digits in an object are those of the bytes
+hex_back : (s : List ℕ) → are_bytes s ≡ true → hex_read (member hex_name (json.string (encode_lower s)) no_members) ≡ Some s
+hex_back s are = digits_said s (byte_at s are)
 
-are_numbers : (texts : Bool) (t : LeafType) (form : Form) → form_if texts t ≡ Some form → (t.kind ≡ Int32) ⊎ (t.kind ≡ Int64)
-are_numbers true t form e = is_number_kind t.kind t.annotation t.scale form e
-are_numbers false t form e = absurd (cc)
+-- bytes of a leaf whose values have texts
+bytes_back : (t : LeafType) (form : Form) (s : List ℕ) (o : Option (List ℕ)) → form_bytes_text form s ≡ o → are_bytes s ≡ true → scalar_by (Some form) t (text_or o (hex_json s)) ≡ Some (bytes s)
+bytes_back t form s (Some text) e are =
+    ap (λ x. option_or (option_map integer x) (option_map bytes (form_bytes_read form text))) (no_number form s text e) ∙ ap (option_map bytes) (bytes_read_back form s text are e)
+bytes_back t form s None e are = ap (option_map bytes) (hex_back s are)
+
+back_by : (o : Option Form) (t : LeafType) → ReadsBack (fits_leaf t) (leaf_shown o t) (scalar_by o t)
+back_by None t v h = scalar_back t v h
+back_by (Some form) t null h = absurd (true≢false (sym (and_true (fits_kind t.kind null) _ h).0 ∙ no_null t.kind))
+back_by (Some form) t (boolean b) h = refl
+back_by (Some form) t (integer z) h = formed_back t form z (form_text form z) refl h
+back_by (Some form) t (bytes s) h = bytes_back t form s (form_bytes_text form s) refl (kind_bytes t.kind s (and_true (fits_kind t.kind (bytes s)) _ h).0)
+back_by (Some form) t (group vs) h = absurd (true≢false (sym (and_true (fits_kind t.kind (group vs)) _ h).0 ∙ no_group t.kind vs))
+back_by (Some form) t (list vs) h = absurd (true≢false (sym (and_true (fits_kind t.kind (list vs)) _ h).0 ∙ no_list t.kind vs))
 
 null_by : (o : Option Form) (t : LeafType) → leaf_read_by o t json.null ≡ None
 null_by None t = refl
@@ -121,7 +135,7 @@ null_by (Some form) t = refl
 
 module _ (texts : Bool) where
   leaf_back : (t : LeafType) → ReadsBack (fits_leaf t) (leaf_json_as texts t) (leaf_read_as texts t)
-  leaf_back t v h = chosen t (scalar_by (form_if texts t) t (leaf_json_as texts t v)) v h (back_by (form_if texts t) t (are_numbers texts t) v h)
+  leaf_back t v h = chosen t (scalar_by (form_if texts t) t (leaf_json_as texts t v)) v h (back_by (form_if texts t) t v h)
 
   -- ---- repetitions
 

@@ -1,5 +1,5 @@
 -- A member that is taken out of an object, and the values of fields by their members.
-use Rattle.std.proofs.Common.{Bool, ◌≡◌, List, [], ◌∷◌, ℕ, length, Option, Some, None, option_map, Vec, Global, Ordering, Less, Equal, Greater, cond, is_eq, string_bytes, nat_cmp, refl, sym, ap, ap₂, ◌∙◌, arith}
+use Rattle.std.proofs.Common.{Bool, ◌≡◌, List, [], ◌∷◌, ℕ, length, Option, Some, None, option_map, option_and_then, Vec, Global, Ordering, Less, Equal, Greater, cond, is_eq, string_bytes, nat_cmp, refl, sym, ap, ap₂, ◌∙◌, arith}
 use Rattle.std.specs.Cmp.Lexicographic.{slice_cmp}
 use Rattle.std.specs.Ordering.{match_ordering}
 use Rattle.std.specs.BTreeMap.{is_at}
@@ -17,7 +17,8 @@ use Rattle.schema.specs.declared.value.Value.TheVariants.{List as ListOf}
 use Rattle.schema.specs.Values.{list, no_values, views, view as value_view}
 use Rattle.schema.specs.Views.{field_view, field_views}
 use Rattle.schema.specs.Shape.{Field, leaf, fields, name_of, repetition_of}
-use Rattle.rowtext.specs.Reading.{without, value_before, items_read, inside_read_as, field_read_as, members_read_as}
+use Rattle.rowtext.specs.Json.{hex_name}
+use Rattle.rowtext.specs.Reading.{digits_read, if_alone, hex_read, without, value_before, items_read, inside_read_as, field_read_as, members_read_as}
 use Rattle.rowtext.proofs.Forms.{view-List}
 
 taken_or_not : (o : Ordering) (e : Entry) (es rest : List Entry) (ms : Members) → members_view rest ≡ ms
@@ -30,6 +31,40 @@ taken_or_not Greater e es rest ms is = ap (member (string_bytes e.0) (view e.1))
 pub view-remove_entry : (name : List ℕ) (es : List Entry) → members_view (remove_entry (is_at (λ k. slice_cmp nat_cmp name (string_bytes k))) es) ≡ without name (members_view es)
 view-remove_entry name [] = refl
 view-remove_entry name (e ∷ es) = taken_or_not (slice_cmp nat_cmp name (string_bytes e.0)) e es _ _ (view-remove_entry name es)
+
+-- ---- the digits in an object
+
+none_alone : (ms : Members) → if_alone None ms ≡ None
+none_alone no_members = refl
+none_alone (member k d ms) = refl
+
+alone_left : (o : Option Data) (es : List Entry) → length es ≡ 0 → if_alone o (members_view es) ≡ o
+alone_left o [] h = refl
+alone_left o (e ∷ es) h = absurd (omega arith)
+
+more_left : (o : Option Data) (es : List Entry) → (length es ≡ 0 → ⊥) → if_alone o (members_view es) ≡ None
+more_left o [] h = absurd (h refl)
+more_left o (e ∷ es) h = refl
+
+-- an object without this member
+pub hex_none : (es : List Entry) (taken : Option Value) → taken ≡ lookup (is_at (λ k. slice_cmp nat_cmp hex_name (string_bytes k))) es → taken ≡ None → None ≡ hex_read (members_view es)
+hex_none es taken found none =
+    let there : None ≡ get_member hex_name (members_view es) = ap (option_map view) (sym none ∙ found) ∙ view-lookup hex_name es in
+    ap (option_and_then digits_read) (sym (none_alone (without hex_name (members_view es))) ∙ ap (λ o. if_alone o (without hex_name (members_view es))) there)
+
+-- an object with other members too
+pub hex_more : (es left : List Entry) → left ≡ remove_entry (is_at (λ k. slice_cmp nat_cmp hex_name (string_bytes k))) es → (length left ≡ 0 → ⊥) → None ≡ hex_read (members_view es)
+hex_more es left removed more =
+    let others : members_view left ≡ without hex_name (members_view es) = ap members_view removed ∙ view-remove_entry hex_name es in
+    ap (option_and_then digits_read) (sym (more_left (get_member hex_name (members_view es)) left more) ∙ ap (if_alone (get_member hex_name (members_view es))) others)
+
+-- an object with this member alone
+pub hex_one : (es left : List Entry) (taken : Option Value) (v : Value) → taken ≡ lookup (is_at (λ k. slice_cmp nat_cmp hex_name (string_bytes k))) es → taken ≡ Some v
+    → left ≡ remove_entry (is_at (λ k. slice_cmp nat_cmp hex_name (string_bytes k))) es → length left ≡ 0 → digits_read (view v) ≡ hex_read (members_view es)
+hex_one es left taken v found some removed none =
+    let there : Some (view v) ≡ get_member hex_name (members_view es) = ap (option_map view) (sym some ∙ found) ∙ view-lookup hex_name es in
+    let others : members_view left ≡ without hex_name (members_view es) = ap members_view removed ∙ view-remove_entry hex_name es in
+    ap (option_and_then digits_read) (sym (alone_left (Some (view v)) left none) ∙ ap₂ if_alone there others)
 
 module _ (texts : Bool) where
   -- the first field takes the member of its name

@@ -1,8 +1,8 @@
 -- Rows as JSON text (RFC 8259), one line each.
-use Rattle.std.specs.Prelude.{ℕ, ◌%◌, ◌^◌, ℤ, Bool, false, ◌&&◌, List, Option, Some, None, if◌then◌else◌}
+use Rattle.std.specs.Prelude.{ℕ, ◌%◌, ◌^◌, ℤ, Bool, false, ◌&&◌, List, [], ◌∷◌, Option, Some, None, if◌then◌else◌}
 use Rattle.std.specs.Int.{w64, cast_unsigned}
 use Rattle.std.specs.Str.{is_utf8}
-use Rattle.serde_json.specs.Data.{Data, Num, unsigned, Items, no_items, item, Members, no_members, put}
+use Rattle.serde_json.specs.Data.{Data, Num, unsigned, Items, no_items, item, Members, no_members, member, put}
 use Rattle.serde_json.specs.Data as json
 use Rattle.serde_json.specs.Find.{of_integer}
 use Rattle.serde_json.specs.Written.{compact_text}
@@ -16,7 +16,7 @@ use Rattle.schema.specs.declared.order.Order.TheVariants.{Unsigned}
 use Rattle.schema.specs.Annotations.{LeafType, is_text, order_of}
 use Rattle.schema.specs.Values.{ValueTree, null, boolean, integer, bytes, group, list, ValueTrees, no_values, value}
 use Rattle.leaftext.specs.declared.leaf_form.Form.{Form}
-use Rattle.leaftext.specs.Forms.{form_if, form_text}
+use Rattle.leaftext.specs.Forms.{form_if, form_text, form_bytes_text}
 use Rattle.schema.specs.Shape.{Field, leaf, fields, Fields, field, name_of}
 
 -- the unsigned number of the same bits
@@ -45,10 +45,23 @@ abbrev pub text_or : Option (List ℕ) → Data → Data
 text_or (Some text) d = json.string text
 text_or None d = d
 
--- a value of a leaf whose numbers have texts of this form: a number with a text is shown by it
+-- hex
+abbrev pub hex_name : List ℕ
+hex_name = 104 ∷ 101 ∷ 120 ∷ []
+
+-- bytes as an object with one member, hex, which has their digits: as a string, the digits could be the text of other bytes
+abbrev pub hex_json : List ℕ → Data
+hex_json s = json.object (member hex_name (json.string (encode_lower s)) no_members)
+
+-- bytes of a leaf whose values have texts of this form: by their text, or else by their digits
+abbrev pub bytes_shown : Form → List ℕ → Data
+bytes_shown form s = text_or (form_bytes_text form s) (hex_json s)
+
+-- a value of a leaf whose values have texts of this form: a number with a text is shown by it, and bytes as `bytes_shown` has them
 abbrev pub leaf_shown : Option Form → LeafType → ValueTree → Data
 leaf_shown None t v = leaf_json t v
 leaf_shown (Some form) t (integer z) = text_or (form_text form z) (leaf_json t (integer z))
+leaf_shown (Some form) t (bytes s) = bytes_shown form s
 leaf_shown (Some form) t v = leaf_json t v
 
 -- a value of a leaf, its repetition aside, with texts or without

@@ -3,6 +3,7 @@ use Rattle.std.specs.Prelude.{ℕ, ◌^◌, ℤ, Bool, false, List, nat_lt, byte
 use Rattle.std.specs.Ordering.{nat_cmp, match_ordering}
 use Rattle.std.specs.Cmp.Lexicographic.{slice_cmp}
 use Rattle.std.specs.Int.{w32, w64, cast_signed}
+use Rattle.std.specs.Option.{option_or}
 use Rattle.std.specs.Result.{result_ok}
 use Rattle.serde_json.specs.Data.{Data, Num, Items, no_items, item, Members, no_members, member}
 use Rattle.serde_json.specs.Data as json
@@ -18,7 +19,8 @@ use Rattle.schema.specs.declared.order.Order.TheVariants.{Unsigned}
 use Rattle.schema.specs.Annotations.{LeafType, is_text, order_of}
 use Rattle.schema.specs.Values.{ValueTree, null, boolean, integer, bytes, group, list, ValueTrees, no_values, value}
 use Rattle.leaftext.specs.declared.leaf_form.Form.{Form}
-use Rattle.leaftext.specs.Forms.{form_if, form_read}
+use Rattle.leaftext.specs.Forms.{form_if, form_read, form_bytes_read}
+use Rattle.rowtext.specs.Json.{hex_name}
 use Rattle.schema.specs.Shape.{Field, leaf, fields, Fields, no_fields, field, name_of}
 use Rattle.schema.specs.Fits.{fits_leaf}
 
@@ -47,13 +49,38 @@ scalar_read t (json.number n) = option_map integer (number_read t.kind (order_of
 scalar_read t (json.string s) = option_map bytes (bytes_read t s)
 scalar_read t _ = None
 
--- the value that a JSON value is by its kind, where the numbers have texts of this form: a string is read as a text, and all else as without texts
+-- the members of other names
+abbrev pub without : List ℕ → Members → Members
+without k no_members = no_members
+without k (member l d ms) = match_ordering (slice_cmp nat_cmp k l) (member l d (without k ms)) ms (member l d (without k ms))
+
+-- the bytes whose digits a string is
+abbrev pub digits_read : Data → Option (List ℕ)
+digits_read (json.string s) = bytes_of_digits s
+digits_read _ = None
+
+-- a member, if no others are left
+abbrev pub if_alone : Option Data → Members → Option Data
+if_alone found no_members = found
+if_alone found (member k d ms) = None
+
+-- the bytes that an object with one member, hex, has the digits of
+abbrev pub hex_read : Members → Option (List ℕ)
+hex_read ms = option_and_then digits_read (if_alone (get_member hex_name ms) (without hex_name ms))
+
+-- the value that a text of this form is read as: a number, or bytes
+abbrev pub text_read_as : Form → List ℕ → Option ValueTree
+text_read_as form s = option_or (option_map integer (form_read form s)) (option_map bytes (form_bytes_read form s))
+
+-- the value that a JSON value is by its kind, where the values have texts of this form: a string is read as a text, an object by its digits, and all else
+-- as without texts
 abbrev pub scalar_by : Option Form → LeafType → Data → Option ValueTree
 scalar_by None t d = scalar_read t d
-scalar_by (Some form) t (json.string s) = option_map integer (form_read form s)
+scalar_by (Some form) t (json.string s) = text_read_as form s
+scalar_by (Some form) t (json.object ms) = option_map bytes (hex_read ms)
 scalar_by (Some form) t d = scalar_read t d
 
--- a value of a leaf, its repetition aside, which fits it, where the numbers have texts of this form
+-- a value of a leaf, its repetition aside, which fits it, where the values have texts of this form
 abbrev pub leaf_read_by : Option Form → LeafType → Data → Option ValueTree
 leaf_read_by form t d = option_and_then (λ v. if fits_leaf t v then Some v else None) (scalar_by form t d)
 
@@ -86,11 +113,6 @@ read_as Repeated inside (Some d) = None
 abbrev pub object_read : (Members → Option ValueTrees) → Data → Option ValueTree
 object_read all (json.object ms) = option_map group (all ms)
 object_read all _ = None
-
--- the members of other names
-abbrev pub without : List ℕ → Members → Members
-without k no_members = no_members
-without k (member l d ms) = match_ordering (slice_cmp nat_cmp k l) (member l d (without k ms)) ms (member l d (without k ms))
 
 -- nothing where a member is left, which is unknown
 abbrev pub none_left : Members → Option ValueTrees

@@ -116,9 +116,14 @@ fn put_kept(slot: &Slot, value: &Value, out: &mut Line) -> Result<(), AllocError
         (Value::Group(values), _) => put_group(slot, values.as_slice(), out),
         (Value::List(items), _) => put_list(slot, items.as_slice(), out),
         (Value::Int(number), Slot::Leaf { numbers, .. }) => end_with_number(*numbers, *number, out),
-        (Value::Bytes(bytes), Slot::Leaf { is_text, .. }) => {
-            end_with_bytes(*is_text, bytes.as_slice(), out)
-        }
+        (
+            Value::Bytes(bytes),
+            Slot::Leaf {
+                numbers,
+                is_text,
+                ..
+            },
+        ) => end_with_bytes(*numbers, *is_text, bytes.as_slice(), out),
         (Value::Bool(boolean), Slot::Leaf { .. }) => {
             put_boolean(*boolean, out);
             Ok(())

@@ -3,20 +3,21 @@
 ghost use Rattle.std.specs.BTreeMap.{btree_map_len};
 ghost use Rattle.std.specs.Prelude.{◌≡◌, ◌⊎◌, ◌↔◌, Option, Some, None, option_map, if◌then◌else◌, IfOk, IfErr, IsTrue, string_bytes};
 ghost use Rattle.bits.specs.declared.refusal.Refusal.TheVariants.{Memory, RowShape, Script};
-ghost use Rattle.serde_json.specs.Data.{Data, Members, string};
+ghost use Rattle.serde_json.specs.Data.{Data, Members, string, object};
 ghost use Rattle.serde_json.specs.Read.{read};
 ghost use Rattle.serde_json.specs.View.{view, number_view, items_view, members_view};
 ghost use Rattle.schema.specs.Annotations.{order_of};
 ghost use Rattle.schema.specs.Fits.{fits_leaf, fits_each};
 ghost use Rattle.schema.specs.Values.{ValueTree, view as value_view, views};
 ghost use Rattle.schema.specs.Views.{leaf_type_view, field_view, field_views, row_view};
-ghost use Rattle.rowtext.specs.Reading.{number_read, bytes_of_digits, bytes_read, scalar_read, leaf_read, leaf_read_as, leaf_read_by, read_as, items_read, inside_read_as, field_read_as, members_read, members_read_as, row_of, row_of_as, line_of};
+ghost use Rattle.leaftext.specs.declared.leaf_form.Form.{Form as FormOf};
+ghost use Rattle.rowtext.specs.Reading.{digits_read, hex_read, text_read_as, number_read, bytes_of_digits, bytes_read, scalar_read, leaf_read, leaf_read_as, leaf_read_by, read_as, items_read, inside_read_as, field_read_as, members_read, members_read_as, row_of, row_of_as, line_of};
 
 use crate::json_text::json_of;
 use crate::scalars::form_if;
 use bits::{R, Refusal};
 use hex::FromHexError;
-use leaftext::{Form, form_read};
+use leaftext::{Form, form_bytes_read, form_read};
 use schema::{Field, Kind, LeafType, Order, Repetition, Row, Schema, Value};
 use serde_json::{Map, Number, Value as Json};
 use std::alloc::{AllocError, Global};
@@ -92,7 +93,7 @@ pub fn leaf_from_as(
     }
 }
 
-/// A value of a leaf whose numbers have texts.
+/// A value of a leaf whose values have texts.
 fn formed_from(
     alloc: Global,
     leaf_type: &LeafType,
@@ -102,18 +103,79 @@ fn formed_from(
     ensures { IfOk result (λ found. option_map value_view found ≡ leaf_read_by (Some form) (leaf_type_view leaf_type.now) (view json)) }
 {
     match json {
-        Json::String(text) => Ok(formed_number(leaf_type, form, text.as_bytes())),
+        Json::String(text) => text_from(alloc, leaf_type, form, text.as_bytes()),
+        Json::Object(members) => digits_from(alloc, leaf_type, members),
         _ => leaf_from(alloc, leaf_type, json),
     }
 }
 
-/// The number of a leaf that a text is read as, if it fits.
-fn formed_number(leaf_type: &LeafType, form: Form, text: &[u8]) -> Option<Value>
-    ensures { option_map value_view result ≡ leaf_read_by (Some form) (leaf_type_view leaf_type.now) (string text.now) }
+/// The value of a leaf that a text is read as, if it fits.
+fn text_from(
+    alloc: Global,
+    leaf_type: &LeafType,
+    form: Form,
+    text: &[u8],
+) -> Result<Option<Value>, AllocError>
+    ensures { IfOk result (λ found. option_map value_view found ≡ leaf_read_by (Some form) (leaf_type_view leaf_type.now) (string text.now)) }
 {
-    match form_read(form, text) {
-        Some(number) => fitting(leaf_type, Value::Int(number)),
-        None => None,
+    match value_of_text(alloc, form, text)? {
+        Some(value) => Ok(fitting(leaf_type, value)),
+        None => Ok(None),
+    }
+}
+
+/// The value that a text of this form is read as.
+pub fn value_of_text(alloc: Global, form: Form, text: &[u8]) -> Result<Option<Value>, AllocError>
+    ensures { IfOk result (λ found. option_map value_view found ≡ text_read_as form text.now) }
+{
+    if let Some(number) = form_read(form, text) {
+        return Ok(Some(Value::Int(number)));
+    }
+    match form_bytes_read(form, text) {
+        Some(bytes) => Ok(Some(Value::Bytes(Vec::from_slice(alloc, bytes.as_slice())?))),
+        None => Ok(None),
+    }
+}
+
+/// The bytes of a leaf that an object with one member, hex, has the digits of, if they fit.
+fn digits_from(
+    alloc: Global,
+    leaf_type: &LeafType,
+    members: Map<String, Json>,
+) -> Result<Option<Value>, AllocError>
+    ensures { (form : FormOf) → IfOk result (λ found. option_map value_view found
+        ≡ leaf_read_by (Some form) (leaf_type_view leaf_type.now) (object (members_view members.entries))) }
+{
+    match bytes_of_members(alloc, members)? {
+        Some(bytes) => Ok(fitting(leaf_type, Value::Bytes(bytes))),
+        None => Ok(None),
+    }
+}
+
+/// The bytes that an object with one member, hex, has the digits of.
+fn bytes_of_members(
+    alloc: Global,
+    mut members: Map<String, Json>,
+) -> Result<Option<Vec<u8>>, AllocError>
+    ensures { IfOk result (λ found. option_map (λ bytes. bytes.items) found ≡ hex_read (members_view members.entries)) }
+{
+    let Some(member) = members.remove("hex") else {
+        return Ok(None);
+    };
+    if are_all_taken(&members) {
+        bytes_of_member(alloc, member)
+    } else {
+        Ok(None)
+    }
+}
+
+/// The bytes whose digits a string is.
+fn bytes_of_member(alloc: Global, json: Json) -> Result<Option<Vec<u8>>, AllocError>
+    ensures { IfOk result (λ found. option_map (λ bytes. bytes.items) found ≡ digits_read (view json)) }
+{
+    match json {
+        Json::String(digits) => bytes_of_digits(alloc, digits.as_str()),
+        _ => Ok(None),
     }
 }
 

@@ -54,7 +54,7 @@ impl<'a> RowSink for RowText<'a> {
         }
         match self.take_leaf() {
             None => show_bytes(text, self),
-            Some(leaf) => { place_bytes(leaf.is_text, text, &mut self.text) }
+            Some(leaf) => { place_bytes(leaf.numbers, leaf.is_text, text, &mut self.text) }
         }
     }
 

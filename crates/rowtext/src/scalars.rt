@@ -23,17 +23,17 @@ const NUMBERS_OF_INT32: u64 = 4_294_967_296;
 /// Room for a sign and 20 digits, and 32 bytes by which they are moved.
 pub const NUMBER_ROOM: usize = 53;
 
-/// How the numbers of a leaf are printed.
+/// How the numbers of a leaf are printed, and its bytes if they are no text.
 #[derive(Clone, Copy)]
 pub enum Numbers {
     Signed,
     Unsigned32,
     Unsigned64,
-    /// As texts of this form; a number without a text as a signed one.
+    /// As texts of this form; a number without a text as a signed one, and bytes without one as an object with their digits.
     Texts(Form),
 }
 
-/// The form of the texts of a leaf's numbers, if texts are asked for.
+/// The form of the texts of a leaf's values, if texts are asked for.
 pub fn form_if(texts: bool, leaf_type: &LeafType) -> Option<Form>
     ensures { result ≡ form_if texts (leaf_type_view leaf_type.now) }
 {

@@ -4,23 +4,22 @@ ghost use Rattle.std.specs.Prelude.{◌≡◌, ◌<◌, ◌∷◌, length, Some,
 ghost use Rattle.json.specs.Reads.{token_of};
 ghost use Rattle.serde_json.specs.Data.{string};
 ghost use Rattle.serde_json.specs.Read.{number_of};
-ghost use Rattle.leaftext.specs.Forms.{form_read};
 ghost use Rattle.schema.specs.Annotations.{is_text, order_of};
 ghost use Rattle.schema.specs.Fits.{fits_leaf};
 ghost use Rattle.schema.specs.Law.{AllDiffer, names as names_in, IsValid, AreValid};
 ghost use Rattle.schema.specs.Shape.{repetition_of};
 ghost use Rattle.schema.specs.Values.{view as value_view, views};
 ghost use Rattle.schema.specs.Views.{annotation_view, leaf_type_view, field_view, field_views};
-ghost use Rattle.rowtext.specs.Reading.{number_read, bytes_of_digits, leaf_read, leaf_read_as, leaf_read_by, items_read, inside_read_as, field_read_as, members_read_as};
+ghost use Rattle.rowtext.specs.Reading.{text_read_as, number_read, bytes_of_digits, leaf_read, leaf_read_as, leaf_read_by, items_read, inside_read_as, field_read_as, members_read_as};
 ghost use Rattle.rowtext.specs.inner.Fill.{scalar_of, BeginsWith, HoldsItems, HoldsMembers, absent_as, absent_each, is_filled_as, are_filled};
 
 use crate::integers::integer_from;
 use crate::names::{Names, index_of};
-use crate::row_reading::{bytes_of_digits, number_from};
+use crate::row_reading::{bytes_of_digits, number_from, value_of_text};
 use crate::scalars::form_if;
 use crate::unread::Unread;
 use json::{Reader, Token};
-use leaftext::{Form, form_read};
+use leaftext::Form;
 use schema::{Field, LeafType, Repetition, Value};
 use std::alloc::Global;
 
@@ -56,29 +55,34 @@ pub fn leaf_at(
     ensures { IfOk result (λ value. option_and_then (leaf_read_as texts (leaf_type_view leaf_type.now)) (scalar_of (token_of token.entry)) ≡ Some (value_view value)) }
 {
     match form_if(texts, leaf_type) {
-        Some(form) => formed_at(leaf_type, form, token),
+        Some(form) => formed_at(alloc, leaf_type, form, token),
         None => plain_at(alloc, leaf_type, token),
     }
 }
 
-/// A value of a leaf whose numbers have texts.
-fn formed_at(leaf_type: &LeafType, form: Form, token: Token<'_>) -> Result<Value, Unread>
+/// A value of a leaf whose values have texts; one that is an object is not read here.
+fn formed_at(
+    alloc: Global,
+    leaf_type: &LeafType,
+    form: Form,
+    token: Token<'_>,
+) -> Result<Value, Unread>
     ensures { IfOk result (λ value. option_and_then (leaf_read_by (Some form) (leaf_type_view leaf_type.now)) (scalar_of (token_of token.entry)) ≡ Some (value_view value)) }
 {
     match token {
         Token::Bool(boolean) => fitting(leaf_type, Value::Bool(boolean)),
         Token::Number(text) => fitting(leaf_type, Value::Int(integer_at(leaf_type, text)?)),
-        Token::String(text) => fitting(leaf_type, Value::Int(formed_number(form, text)?)),
+        Token::String(text) => fitting(leaf_type, formed_text(alloc, form, text)?),
         _ => Err(Unread::Unknown),
     }
 }
 
-/// The number of a leaf that a text is read as.
-fn formed_number(form: Form, text: &str) -> Result<i64, Unread>
-    ensures { IfOk result (λ z. form_read form text.now ≡ Some z) }
+/// The value that a text of this form is read as.
+fn formed_text(alloc: Global, form: Form, text: &str) -> Result<Value, Unread>
+    ensures { IfOk result (λ value. text_read_as form text.now ≡ Some (value_view value)) }
 {
-    match form_read(form, text.as_bytes()) {
-        Some(number) => Ok(number),
+    match value_of_text(alloc, form, text.as_bytes())? {
+        Some(value) => Ok(value),
         None => Err(Unread::Unknown),
     }
 }

@@ -6,6 +6,8 @@
 #[cfg(test)]
 mod codecs;
 #[cfg(test)]
+mod decimal_bytes;
+#[cfg(test)]
 mod long_values;
 #[cfg(test)]
 mod number_texts;

@@ -1,13 +1,13 @@
 -- Bytes in two's complement.
-use Rattle.std.proofs.Common.{◌≡◌, ℕ, ◌+◌, ◌-◌, ◌*◌, ◌^◌, ◌<◌, ◌≤◌, ℤ, pos, negsuc, ◌+ℤ◌, ◌-ℤ◌, ◌*ℤ◌, ◌≤ℤ◌, ◌⊎◌, inl, inr, List, [], ◌∷◌, length, drop, take, neg_ℤ, slice_index, refl, sym, ◌∙◌, ap, arith}
+use Rattle.std.proofs.Common.{◌≡◌, ℕ, zero, suc, ◌&&◌, ◌||◌, ◌==◌, nat_lt, nat_le, true, false, true≢false, subst, Bool, ◌+◌, ◌-◌, ◌*◌, ◌^◌, ◌<◌, ◌≤◌, ℤ, pos, negsuc, ◌+ℤ◌, ◌-ℤ◌, ◌*ℤ◌, ◌≤ℤ◌, ◌⊎◌, inl, inr, List, [], ◌∷◌, length, drop, take, neg_ℤ, slice_index, refl, sym, ◌∙◌, ap, arith}
 use Rattle.std.proofs.lemmas.Bool.Decides.{nat_tests}
-use Rattle.std.proofs.lemmas.List.{drop_all, take_all}
+use Rattle.std.proofs.lemmas.List.{drop_all, take_all, length-drop}
 use Rattle.std.proofs.Math.Seq.{drop-cons}
 use Rattle.std.proofs.Math.Numerals.{add-one}
 use Rattle.std.proofs.Math.Nat.{pow-suc, pow-le-pow_right}
 use Rattle.jiff_core.specs.Calendar.{IsBetween}
 use Rattle.jiff_core.proofs.SignedLemmas.{signed_arith}
-use Rattle.valuetext.specs.TwosComplement.{AreByteValues, signed_byte, signed_after, signed_of, BytesReadBack}
+use Rattle.valuetext.specs.TwosComplement.{AreByteValues, signed_byte, signed_after, signed_of, repeats_sign, AreShortest, BytesReadBack, ShortestAreFewest}
 
 -- what comes after one number and bytes tells both
 pub same_after : (a b : ℤ) (xs ys : List ℕ) → AreByteValues xs → AreByteValues ys → length xs ≡ length ys → signed_after a xs ≡ signed_after b ys → (a ≡ b) × (xs ≡ ys)
@@ -21,7 +21,7 @@ same_after a b (x ∷ xs) (y ∷ ys) p q e h =
     let byte : x ≡ y = omega (arith, signed_arith, rest.0, p.0, q.0) in
     (number, ap (λ z. z ∷ xs) byte ∙ ap (λ zs. y ∷ zs) rest.1)
 
-signed_is : (b : ℕ) → b < 256 → ((b < 128) × (signed_byte b ≡ pos b)) ⊎ ((128 ≤ b) × (signed_byte b ≡ pos b -ℤ pos 256))
+pub signed_is : (b : ℕ) → b < 256 → ((b < 128) × (signed_byte b ≡ pos b)) ⊎ ((128 ≤ b) × (signed_byte b ≡ pos b -ℤ pos 256))
 signed_is b h = grind (arith, nat_tests)
 
 same_byte : (a b : ℕ) → a < 256 → b < 256 → signed_byte a ≡ signed_byte b → a ≡ b
@@ -110,3 +110,113 @@ too_few rest m xs (y ∷ ys) p q e f g =
       | inl a ↦ (omega (arith, signed_arith, same.0, a), omega (arith, signed_arith, same.0, a))
       | inr a ↦ (omega (arith, signed_arith, same.0, a, q.0), omega (arith, signed_arith, same.0, a, q.0))
     ]
+
+-- ---- the shortest bytes
+
+-- what is before the bytes cannot be left out: with the first of them it is more than one byte
+abbrev pub IsNeeded : ℤ → List ℕ → Type 0
+IsNeeded rest [] = Unit {0}
+IsNeeded rest (b ∷ bytes) = IsBetween (neg_ℤ (pos 128)) (pos 127) (rest *ℤ pos 256 +ℤ pos b) → ⊥
+
+pub none_needed : (rest : ℤ) (xs : List ℕ) → xs ≡ [] → IsNeeded rest xs
+none_needed rest xs e = rw e tt
+
+pub one_needed : (rest x : ℤ) (b : ℕ) (xs ys : List ℕ) → ys ≡ b ∷ xs → rest ≡ x *ℤ pos 256 +ℤ pos b → (IsBetween (neg_ℤ (pos 128)) (pos 127) rest → ⊥) → IsNeeded x ys
+one_needed rest x b xs ys e f large = rw (e, ← f) large
+
+-- a number within its bytes leaves one within a byte less
+pub less_within : (n x : ℤ) (b i j : ℕ) → i ≡ j + 1 → b < 256 → n ≡ x *ℤ pos 256 +ℤ pos b → IsBetween (pos 0 -ℤ pos (128 * 256 ^ i)) (pos (128 * 256 ^ i) -ℤ pos 1) n
+    → IsBetween (pos 0 -ℤ pos (128 * 256 ^ j)) (pos (128 * 256 ^ j) -ℤ pos 1) x
+less_within n x b i j e small f h =
+    let power : 256 ^ i ≡ 256 ^ j * 256 = rw (e, add-one) (pow-suc 256 j) in
+    (omega (arith, signed_arith, h.0, power, f, small), omega (arith, signed_arith, h.1, power, f, small))
+
+-- no byte less is one byte
+pub last_within : (n : ℤ) (i : ℕ) → 15 ≤ i → IsBetween (pos 0 -ℤ pos (128 * 256 ^ (15 - i))) (pos (128 * 256 ^ (15 - i)) -ℤ pos 1) n → IsBetween (neg_ℤ (pos 128)) (pos 127) n
+last_within n i h inv =
+    let none : 15 - i ≡ 0 = omega (arith, h) in
+    subst (λ j. IsBetween (pos 0 -ℤ pos (128 * 256 ^ j)) (pos (128 * 256 ^ j) -ℤ pos 1) n) none inv
+
+-- a byte before others that is a number of one byte
+pub one_before : (rest x m : ℤ) (b : ℕ) (xs ys : List ℕ) → ys ≡ b ∷ xs → IsBetween (neg_ℤ (pos 128)) (pos 127) rest → rest ≡ x *ℤ pos 256 +ℤ pos b → b < 256 → signed_after rest xs ≡ m → signed_of ys ≡ m
+one_before rest x m b xs ys e one f small inv = rw e (ap (λ z. signed_after z xs) (byte_is rest x b one f small) ∙ inv)
+  where
+    byte_is : (rest x : ℤ) (b : ℕ) → IsBetween (neg_ℤ (pos 128)) (pos 127) rest → rest ≡ x *ℤ pos 256 +ℤ pos b → b < 256 → signed_byte b ≡ rest
+    byte_is rest x b one f small =
+        elim (signed_is b small) [
+          | inl a ↦ omega (arith, signed_arith, a, one, f, small)
+          | inr a ↦ omega (arith, signed_arith, a, one, f, small)
+        ]
+
+-- a byte before bytes that need it
+sign_kept : (rest x : ℤ) (b : ℕ) (xs : List ℕ) → IsBetween (neg_ℤ (pos 128)) (pos 127) rest → rest ≡ x *ℤ pos 256 +ℤ pos b → b < 256 → AreByteValues xs → IsNeeded rest xs → repeats_sign (b ∷ xs) ≡ false
+unfolding AreByteValues
+sign_kept rest x b [] one e small all needed = refl
+sign_kept rest x b (c ∷ xs) one e small all needed = grind (arith, signed_arith, nat_tests)
+
+-- more bytes leave a number that is no byte none
+stays_large : (n : ℤ) (us : List ℕ) → AreByteValues us → IsBetween (neg_ℤ (pos 128)) (pos 127) (signed_after n us) → IsBetween (neg_ℤ (pos 128)) (pos 127) n
+unfolding signed_after AreByteValues
+stays_large n [] all h = h
+stays_large n (u ∷ us) all h =
+    let more = stays_large (n *ℤ pos 256 +ℤ pos u) us all.1 h in
+    (omega (arith, signed_arith, more.0, more.1, all.0), omega (arith, signed_arith, more.0, more.1, all.0))
+
+-- bytes go on after their first ones
+pub after_first : (n : ℤ) (k : ℕ) (xs : List ℕ) → signed_after n xs ≡ signed_after (signed_after n (take k xs)) (drop k xs)
+unfolding signed_after
+after_first n zero xs = refl
+after_first n (suc k) [] = refl
+after_first n (suc k) (x ∷ xs) = after_first (n *ℤ pos 256 +ℤ pos x) k xs
+
+taken_all : (k : ℕ) (xs : List ℕ) → AreByteValues xs → AreByteValues (take k xs)
+unfolding AreByteValues
+taken_all zero xs all = tt
+taken_all (suc k) [] all = tt
+taken_all (suc k) (x ∷ xs) all = (all.0, taken_all k xs all.1)
+
+dropped_all : (k : ℕ) (xs : List ℕ) → AreByteValues xs → AreByteValues (drop k xs)
+unfolding AreByteValues
+dropped_all zero xs all = all
+dropped_all (suc k) [] all = tt
+dropped_all (suc k) (x ∷ xs) all = dropped_all k xs all.1
+
+-- two bytes that are one repeat the sign
+is_repeated : (x u : ℕ) (xs : List ℕ) → x < 256 → u < 256 → IsBetween (neg_ℤ (pos 128)) (pos 127) (signed_byte x *ℤ pos 256 +ℤ pos u) → repeats_sign (x ∷ (u ∷ xs)) ≡ true
+is_repeated x u xs p q h = grind (arith, signed_arith, nat_tests)
+
+one_byte : (b : ℕ) → b < 256 → IsBetween (neg_ℤ (pos 128)) (pos 127) (signed_byte b)
+one_byte b h =
+    elim (signed_is b h) [
+      | inl a ↦ (omega (arith, signed_arith, a), omega (arith, signed_arith, a))
+      | inr a ↦ (omega (arith, signed_arith, a, h), omega (arith, signed_arith, a, h))
+    ]
+
+-- bytes that do not repeat the sign are no longer than others after whose first byte the same number comes
+not_longer : (x y k : ℕ) (xs ys : List ℕ) → x < 256 → y < 256 → AreByteValues xs → AreByteValues ys → repeats_sign (x ∷ xs) ≡ false → length xs ≡ suc k + length ys → signed_after (signed_byte x) xs ≡ signed_after (signed_byte y) ys → ⊥
+unfolding signed_after AreByteValues
+not_longer x y k [] ys p q all others first long same = absurd (omega (arith, long))
+not_longer x y k (u ∷ us) ys p q all others first long same =
+    let n = signed_byte x *ℤ pos 256 +ℤ pos u in
+    let tail = same_after (signed_after n (take k us)) (signed_byte y) (drop k us) ys (dropped_all k us all.1) others (omega (arith, long, length-drop k us)) (sym (after_first n k us) ∙ same) in
+    let one : IsBetween (neg_ℤ (pos 128)) (pos 127) (signed_after n (take k us)) = subst (IsBetween (neg_ℤ (pos 128)) (pos 127)) (sym tail.0) (one_byte y q) in
+    let small = stays_large n (take k us) (taken_all k us all.1) one in
+    true≢false (sym (is_repeated x u us p all.0 small) ∙ first)
+
+fewest : (a b : List ℕ) → AreByteValues a → AreByteValues b → AreShortest a → 1 ≤ length b → signed_of a ≡ signed_of b → length b < length a → ⊥
+unfolding AreByteValues
+fewest [] b p q short some same less = omega (arith, short.0)
+fewest (x ∷ xs) [] p q short some same less = omega (arith, some)
+fewest (x ∷ xs) (y ∷ ys) p q short some same less = not_longer x y (length xs - length ys - 1) xs ys p.0 q.0 p.1 q.1 short.1 (omega (arith, less)) same
+
+at_most : (m n : ℕ) → (n < m → ⊥) → m ≤ n
+at_most m n h = grind (arith, h)
+
+pub shortest_are_fewest : ShortestAreFewest
+shortest_are_fewest a b p q short some same =
+    let few = at_most (length a) (length b) (fewest a b p q short some same) in
+    (few, λ other. bytes_read_back a b p q (omega (arith, few, other)) same)
+
+-- a byte before bytes that need it makes the shortest
+pub shortest_made : (rest x : ℤ) (b : ℕ) (xs ys : List ℕ) → ys ≡ b ∷ xs → IsBetween (neg_ℤ (pos 128)) (pos 127) rest → rest ≡ x *ℤ pos 256 +ℤ pos b → b < 256 → AreByteValues xs → IsNeeded rest xs → AreShortest ys
+shortest_made rest x b xs ys e one f small all needed = rw e (omega arith, sign_kept rest x b xs one f small all needed)

@@ -1,5 +1,5 @@
 -- Numbers as bytes in two's complement, the highest byte first: LogicalTypes.md, DECIMAL.
-use Rattle.std.specs.Prelude.{◌≡◌, ℕ, ◌<◌, ◌==◌, ◌&&◌, ◌||◌, nat_lt, nat_le, Bool, false, if◌then◌else◌, ℤ, pos, ◌+ℤ◌, ◌-ℤ◌, ◌*ℤ◌, List, [], ◌∷◌, length}
+use Rattle.std.specs.Prelude.{◌≡◌, ℕ, ◌<◌, ◌≤◌, ◌==◌, ◌&&◌, ◌||◌, nat_lt, nat_le, Bool, false, if◌then◌else◌, ℤ, pos, ◌+ℤ◌, ◌-ℤ◌, ◌*ℤ◌, List, [], ◌∷◌, length}
 
 -- each is a byte
 unfoldable pub AreByteValues : List ℕ → Type 0
@@ -29,3 +29,13 @@ repeats_sign (a ∷ (b ∷ bytes)) = ((a == 0) && nat_lt b 128) || ((a == 255) &
 -- bytes of one length are those of one number
 abbrev pub BytesReadBack : Type 0
 BytesReadBack = (a b : List ℕ) → AreByteValues a → AreByteValues b → length a ≡ length b → signed_of a ≡ signed_of b → a ≡ b
+
+-- there are bytes, and the first does not only repeat the sign of the second
+abbrev pub AreShortest : List ℕ → Type 0
+AreShortest bytes = (1 ≤ length bytes) × (repeats_sign bytes ≡ false)
+
+-- of all bytes that are a number, those whose first one does not only repeat the sign are the shortest, and no other bytes are as short
+abbrev pub ShortestAreFewest : Type 0
+ShortestAreFewest =
+    (a b : List ℕ) → AreByteValues a → AreByteValues b → AreShortest a → 1 ≤ length b → signed_of a ≡ signed_of b
+    → (length a ≤ length b) × (length b ≤ length a → a ≡ b)

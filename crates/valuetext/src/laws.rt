@@ -1,6 +1,6 @@
 //! What holds of the definitions.
 
-ghost use Rattle.valuetext.specs.TwosComplement.{BytesReadBack};
+ghost use Rattle.valuetext.specs.TwosComplement.{BytesReadBack, ShortestAreFewest};
 ghost use Rattle.valuetext.specs.Laws.{DatesReadBack, TimesReadBack, TimestampsReadBack, DecimalsReadBack};
 
 /// A day has one text, which is that of no other day.
@@ -28,4 +28,11 @@ pub fn decimals_read_back()
 #[tactic(auto, using(crate::proofs::ByteNumbers::bytes_read_back))]
 pub fn bytes_read_back()
     ensures { BytesReadBack }
+{}
+
+/// Of all bytes that are a number in two's complement, those whose first one does not only repeat the sign are the
+/// shortest, and no other bytes are as short.
+#[tactic(auto, using(crate::proofs::ByteNumbers::shortest_are_fewest))]
+pub fn shortest_are_fewest()
+    ensures { ShortestAreFewest }
 {}

@@ -15,9 +15,10 @@ mod unit;
 pub use dates::{date_text, read_date};
 pub use decimals::{decimal_text, read_decimal};
 pub use laws::{
-    bytes_read_back, dates_read_back, decimals_read_back, times_read_back, timestamps_read_back,
+    bytes_read_back, dates_read_back, decimals_read_back, shortest_are_fewest, times_read_back,
+    timestamps_read_back,
 };
 pub use times::{read_time, time_text};
 pub use timestamps::{read_timestamp, timestamp_text};
-pub use twos_complement::{bytes_of, number_of, repeats_sign};
+pub use twos_complement::{bytes_of, number_of, repeats_sign, shortest_bytes_of};
 pub use unit::TimeUnit;

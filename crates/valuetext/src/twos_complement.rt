@@ -1,6 +1,6 @@
 //! Numbers as bytes in two's complement, the highest byte first.
 
-ghost use Rattle.std.specs.Prelude.{◌≡◌, ◌<◌, ◌≤◌, ◌-◌, ◌^◌, ◌⊎◌, ◌+◌, ◌∷◌, ◌*ℤ◌, ◌+ℤ◌, ℕ, ℤ, pos, neg_ℤ, List, length, IfSome, IsNone};
+ghost use Rattle.std.specs.Prelude.{◌≡◌, ◌<◌, ◌≤◌, ◌-◌, ◌^◌, ◌⊎◌, ◌+◌, ◌∷◌, ◌*ℤ◌, ◌+ℤ◌, ◌↔◌, ℕ, ℤ, pos, neg_ℤ, List, length, IfSome, IsNone, IsTrue};
 ghost use Rattle.jiff_core.specs.Calendar.{IsBetween};
 ghost use Rattle.arrayvec.specs.ArrayVec.{array_vec_len};
 ghost use Rattle.valuetext.specs.TwosComplement as twos;
@@ -31,6 +31,7 @@ fn with_byte(number: i128, byte: u8) -> i128
 /// The number that 1 to 16 bytes are. None exactly for no bytes or more than 16.
 pub fn number_of(bytes: &[u8]) -> Option<i128>
     ensures number { IfSome result (λ number. number ≡ twos.signed_of bytes.now) }
+    ensures few { IfSome result (λ _. (1 ≤ length bytes.now) × (length bytes.now ≤ 16)) }
     ensures none { IsNone result → (length bytes.now ≡ 0) ⊎ (16 < length bytes.now) }
 {
     let [first, rest @ ..] = bytes else {
@@ -79,6 +80,7 @@ pub fn bytes_of(number: i128, len: usize) -> Option<ArrayVec<u8, 16>>
     requires { (1 ≤ len) × (len ≤ 16) }
     ensures number { IfSome result (λ bytes. twos.signed_of bytes.items ≡ number) }
     ensures length { IfSome result (λ bytes. array_vec_len bytes ≡ len) }
+    ensures bytes { IfSome result (λ bytes. twos.AreByteValues bytes.items) }
     ensures none { IsNone result → (bytes : List ℕ) → twos.AreByteValues bytes → length bytes ≡ len → ¬ (twos.signed_of bytes ≡ number) }
 {
     let mut bytes = ArrayVec::new();
@@ -94,4 +96,33 @@ pub fn bytes_of(number: i128, len: usize) -> Option<ArrayVec<u8, 16>>
     let (_, first) = split_byte(rest);
     put_first(first, &mut bytes);
     Some(bytes)
+}
+
+/// Whether the number is one from -128 to 127.
+fn is_one_byte(number: i128) -> bool
+    ensures { IsTrue result ↔ IsBetween (neg_ℤ (pos 128)) (pos 127) number }
+{
+    number >= -128 && number <= 127
+}
+
+/// The shortest bytes that are the number: from 1 to 16, and the first does not only repeat the sign of the second.
+pub fn shortest_bytes_of(number: i128) -> ArrayVec<u8, 16>
+    ensures number { twos.signed_of result.items ≡ number }
+    ensures shortest { twos.AreShortest result.items }
+    ensures bytes { twos.AreByteValues result.items }
+    ensures length { array_vec_len result ≤ 16 }
+{
+    let mut bytes = ArrayVec::new();
+    let mut rest = number;
+    'bytes: for _ in 0..15_usize {
+        if is_one_byte(rest) {
+            break;
+        }
+        let (before, byte) = split_byte(rest);
+        put_first(byte, &mut bytes);
+        rest = before;
+    }
+    let (_, first) = split_byte(rest);
+    put_first(first, &mut bytes);
+    bytes
 }

@@ -9,6 +9,8 @@ use Rattle.schema.specs.Values.{ValueTree, boolean, integer, bytes}
 use Rattle.schema.specs.Shape.{Fields}
 use Rattle.assemble.specs.Sinks.{Token, single, group_begins, group_ends, list_begins, list_ends}
 use Rattle.rowtext.specs.declared.scalars.Numbers.{Numbers}
+use Rattle.rowtext.specs.declared.scalars.Numbers.TheVariants.{Texts}
+use Rattle.rowtext.specs.Json.{bytes_shown}
 use Rattle.rowtext.specs.declared.row_plan.Slot.{Slot as CodeSlot}
 use Rattle.rowtext.specs.declared.row_plan.RowPlan.{RowPlan}
 use Rattle.rowtext.specs.declared.level.Level.{Level as CodeLevel}
@@ -20,15 +22,20 @@ use Rattle.rowtext.specs.inner.Slots.{Slot, leaf_slot, group_slot, Slots, no_slo
 
 -- ---- the text of a value of a leaf
 
--- the text of bytes: themselves in quotes if they are text, and else their hexadecimal digits in quotes
-abbrev pub bytes_text : Bool → List ℕ → List ℕ
-bytes_text t s = quoted (if t then s else encode_lower s)
+-- the text of bytes that are no text: as their form shows them, and else their hexadecimal digits in quotes
+abbrev pub digits_text : Numbers → List ℕ → List ℕ
+digits_text (Texts form) s = compact_text (bytes_shown form s)
+digits_text _ s = quoted (encode_lower s)
+
+-- the text of bytes: themselves in quotes if they are text
+abbrev pub bytes_text : Numbers → Bool → List ℕ → List ℕ
+bytes_text n t s = if t then quoted s else digits_text n s
 
 -- the text of a value of a leaf; null for a value that no leaf has
 abbrev pub value_text : Numbers → Bool → ValueTree → List ℕ
 value_text n t (boolean b) = compact_text (json.boolean b)
 value_text n t (integer z) = integer_text n z
-value_text n t (bytes s) = bytes_text t s
+value_text n t (bytes s) = bytes_text n t s
 value_text n t _ = compact_text json.null
 
 -- the text of a value at a slot; null if the slot is not that of a leaf, or there is none

@@ -33,3 +33,6 @@ returns-then-rest-ltminus128-clause-none c = λ _ bytes all len is.
       | then-rest-ltminus128-via-then-rest-ltminus128 w ↦ omega (arith, signed_arith, few, w.if-rest-ltminus128.true)
       | then-rest-ltminus128-via-else-rest-ltminus128+then-rest-gt127 w ↦ omega (arith, signed_arith, few, w.if-rest-gt127.true)
     ]
+
+pub returns-clause-bytes : goal.returns-clause-bytes
+returns-clause-bytes c = one_are _ c.bytes.bytes.items c.put_first-2.new.bytes.items c.put_first-2.ensures.items c.split_byte-first.ensures.byte c.bytes.invariant.all
