@@ -15,4 +15,7 @@ pub mod ShownWriter
 pub mod DroppedRow
 pub mod WrittenWithin
 pub mod OneMeaning
+pub mod FirstGroups
+pub mod FirstRows
+pub mod OneFirst
 pub mod AskedDictionaries

@@ -24,7 +24,7 @@ one_groups law front fs (g ∷ gs) (a ∷ xs) [] schema p q = absurd q
 one_groups law front fs (g ∷ gs) (a ∷ xs) (b ∷ ys) schema p q =
     ap (λ (x : List ValueTrees). x ∷ xs) (law front fs g a b schema p.1 q.1) ∙ ap (λ (t : List (List ValueTrees)). b ∷ t) (one_groups law front fs gs xs ys schema p.2 q.2)
 
-one_held : GroupsHaveOneList → (front : List ℕ) (fs : Fields) (gs : List GroupMeta) (rows others : List ValueTrees) → IsSchema fs → GroupsMean front fs gs rows → GroupsMean front fs gs others → rows ≡ others
+pub one_held : GroupsHaveOneList → (front : List ℕ) (fs : Fields) (gs : List GroupMeta) (rows others : List ValueTrees) → IsSchema fs → GroupsMean front fs gs rows → GroupsMean front fs gs others → rows ≡ others
 one_held law front fs gs rows others schema p q =
     p.joined ∙ ap (λ (t : List (List ValueTrees)). flat_map (λ g. g) t) (one_groups law front fs gs p.groups q.groups schema p.each q.each) ∙ sym q.joined
 

@@ -1,6 +1,7 @@
 pub mod File
 pub mod Greatest
 pub mod Faults
+pub mod FirstRows
 pub mod Writing
 pub mod Own
 pub mod Writer

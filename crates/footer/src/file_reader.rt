@@ -8,7 +8,9 @@ ghost use Rattle.schema.specs.Views.{rows_view};
 ghost use Rattle.metadata.specs.Views.{group_meta_view};
 ghost use Rattle.footer.specs.File.{LiesHere, GroupsMean, FileMeans};
 ghost use Rattle.footer.specs.Faults.{HasGroupsFault, IsOverLimit, HasFault};
+ghost use Rattle.footer.specs.FirstRows.{MeansFirstRows, IsFirstOverLimit, HasFirstFault};
 
+use crate::first_groups::first_groups;
 use crate::footer_reading::parts_and_record;
 use crate::groups::check_groups;
 use crate::groups_left::GroupsLeft;
@@ -19,8 +21,8 @@ use schema::{Row, Schema, a_list_means_one_schema};
 use std::alloc::Global;
 use std::marker::Model;
 
-/// A file that was accepted: all of it was read and checked, and its rows can be taken one by one. A clause
-/// sees the bytes before the footer, the schema and the records of the groups.
+/// A file that was accepted, or its first groups: all of it, or of them, was read and checked, and its rows can be taken one by
+/// one. A clause sees the bytes before the footer, the schema and the records of the groups that were accepted.
 #[derive(Drop)]
 pub struct FileReader<'a> {
     /// The bytes before the footer.
@@ -87,6 +89,33 @@ impl<'a> FileReader<'a> {
         })
     }
 
+    /// Accepts the first groups of a file that have `count` rows together by their records, or all groups where they have fewer;
+    /// or refuses the file.
+    ///
+    /// The file then has the rows of these groups, which begin with its first `count` rows. These groups, and the footer, are read
+    /// and checked as by [`new`](FileReader::new). The groups after them are neither read nor checked, whatever their bytes are.
+    ///
+    /// Refused as `new`, for faults of the footer, of the schema and of these groups.
+    pub fn of_first_rows(alloc: Global, bytes: &'a [u8], count: u64) -> R<FileReader<'a>>
+        ensures stands { IfOk result (λ file. (rows : List ValueTrees) × MeansFirstRows count bytes.now file.schema rows × rows_of_file file rows) }
+        ensures alone { IfOk result (λ file. (fs : Fields) (rows : List ValueTrees) → MeansFirstRows count bytes.now fs rows
+            → (fs ≡ file.schema) × rows_of_file file rows) }
+        ensures within_limits { OnOk result (IsFirstOverLimit count bytes.now → ⊥) }
+        ensures only { OnFault result ((fs : Fields) (rows : List ValueTrees) → MeansFirstRows count bytes.now fs rows → ⊥) }
+        ensures which { IfErr result (HasFirstFault count bytes.now) }
+    {
+        a_list_means_one_schema();
+        let (front, record) = parts_and_record(alloc, bytes)?;
+        let schema = Schema::new(alloc, record.schema.as_slice())?;
+        let groups = first_groups(record.row_groups, count);
+        check_groups(alloc, front, groups.as_slice(), &schema)?;
+        Ok(FileReader {
+            front,
+            groups,
+            schema,
+        })
+    }
+
     /// The schema of the file.
     pub fn schema(&self) -> &Schema
         ensures { result.now ≡ self.now.schema }
@@ -94,7 +123,7 @@ impl<'a> FileReader<'a> {
         &self.schema
     }
 
-    /// The rows of the file, from the first one. Nothing is read yet.
+    /// The rows of the groups that were accepted, from the first one. Nothing is read yet.
     pub fn rows(&self, alloc: Global) -> Rows<'_>
         ensures { (rows : List ValueTrees) → rows_of_file self.now rows → rows_stand result rows }
     {

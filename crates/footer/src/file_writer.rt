@@ -131,6 +131,12 @@ impl<'a> FileWriter<'a> {
         self.waiting.end_row()
     }
 
+    /// How many bytes the groups take that are written so far, with the file's first four bytes: for who begins
+    /// another file where one grows large. Rows that wait, and the footer, are not among them.
+    pub fn written_bytes(&self) -> usize {
+        self.bytes.len()
+    }
+
     /// The bytes of a file that means all rows that were given, laid out as by [`write_file`](crate::write_file).
     /// Refused Limit only where they are too much for a file.
     pub fn finish(mut self) -> R<Vec<u8>>

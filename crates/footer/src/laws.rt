@@ -1,6 +1,13 @@
 //! What holds of the definitions.
 
-ghost use Rattle.footer.specs.Laws.{FilesMeanOneList, FilesHaveDictionaries};
+ghost use Rattle.footer.specs.Laws.{
+  FilesMeanOneList,
+  FirstRowsAreOneList,
+  FirstRowsAreOfTheFile,
+  FilesHaveFirstRows,
+  FirstRowsAreEnough,
+  FilesHaveDictionaries,
+};
 
 use metadata::one_footer;
 use row_group::one_meaning;
@@ -10,6 +17,19 @@ use schema::a_list_means_one_schema;
 /// them.
 pub fn one_list_of_rows()
     ensures { FilesMeanOneList }
+{
+    one_footer();
+    a_list_means_one_schema();
+    one_meaning();
+}
+
+/// The first rows of a file are one list, also where nobody has read them: `count` rows or more, or all of the file. Where the
+/// whole file means rows, they begin with the first `count` of these.
+pub fn one_list_of_first_rows()
+    ensures one { FirstRowsAreOneList }
+    ensures of_the_file { FirstRowsAreOfTheFile }
+    ensures exist { FilesHaveFirstRows }
+    ensures enough { FirstRowsAreEnough }
 {
     one_footer();
     a_list_means_one_schema();
