@@ -20,17 +20,17 @@ use Rattle.filter.specs.Terms.{then_rest, each_of}
 use Rattle.table.specs.declared.answer.Answer.{Answer}
 use Rattle.table.specs.declared.answer.Answer.TheVariants.{Done, Job, Cursor, Batch, End, More, Plan, Groups, Count, Accepted, Refused}
 use Rattle.table.specs.declared.answer.GroupInfo.{GroupInfo}
-use Rattle.rowtext.specs.Json.{field_json}
+use Rattle.rowtext.specs.Json.{field_json_as}
 use Rattle.rowtext.proofs.JsonTexts.{IsExact, IsReadable, AreReadable, HaveReadable}
-use Rattle.rowtext.proofs.RowJson.{row_readable}
+use Rattle.rowtext.proofs.RowJson.{row_readable_as}
 use Rattle.jsonrows.specs.Filters.{◌>>=◌}
-use Rattle.jsonrows.specs.Answers.{natural, naturals, one_member, put_column, columns_json, row_of_columns, key_value_json, group_members, group_json, listed_as, refusal_number, refusal_name, answer_json}
+use Rattle.jsonrows.specs.Answers.{natural, naturals, one_member, put_column_as, columns_json_as, row_of_columns_as, key_value_json, group_members, group_json, listed_as, refusal_number, refusal_name, answer_json_as}
 
 -- what was made has no float
-abbrev IsWhole : Result Data Refusal → Type 0
+abbrev pub IsWhole : Result Data Refusal → Type 0
 IsWhole r = IfOk r (λ d. has_float d ≡ false)
 
-abbrev AreWhole : Result (List Data) Refusal → Type 0
+abbrev pub AreWhole : Result (List Data) Refusal → Type 0
 AreWhole r = IfOk r (λ ds. items_have_float (items_of ds) ≡ false)
 
 abbrev HasWhole : Result Members Refusal → Type 0
@@ -60,8 +60,8 @@ mutual
   members_none no_members h = refl
   members_none (member k d ms) h = rw (readable_none d h.0) (members_none ms h.1)
 
-field_none : (f : Field) (v : ValueTree) → fits f v ≡ true → has_float (field_json f v) ≡ false
-field_none f v h = readable_none (field_json f v) (row_readable (field f no_fields) (value v no_values) (rw h refl)).1.0
+field_none : (texts : Bool) (f : Field) (v : ValueTree) → fits f v ≡ true → has_float (field_json_as texts f v) ≡ false
+field_none texts f v h = readable_none (field_json_as texts f v) (row_readable_as texts (field f no_fields) (value v no_values) (rw h refl)).1.0
 
 -- ---- members
 
@@ -77,7 +77,7 @@ later_none d ms h = by (has_float d) h
     by true k = absurd (true≢false k)
     by false k = k
 
-put_none : (k : List ℕ) (d : Data) (ms : Members) → has_float d ≡ false → members_have_float ms ≡ false → members_have_float (put k d ms) ≡ false
+pub put_none : (k : List ℕ) (d : Data) (ms : Members) → has_float d ≡ false → members_have_float ms ≡ false → members_have_float (put k d ms) ≡ false
 put_none k d no_members h g = rw h refl
 put_none k d (member l e ms) h g =
     let rest = later_none e ms g in
@@ -87,20 +87,21 @@ put_none k d (member l e ms) h g =
     others true more x = absurd (true≢false x)
     others false more x = more x
 
-put_column_none : (o : Option Field) (v : ValueTree) (r : Result Members Refusal) → HasWhole r → HasWhole (put_column o v r)
-put_column_none None v r h = tt
-put_column_none (Some f) v (Err e) h = tt
-put_column_none (Some f) v (Ok ms) h = by (fits f v) refl
-  where
-    by : (b : Bool) → fits f v ≡ b → HasWhole (put_column (Some f) v (Ok ms))
-    by true e = rw e (put_none (name_of f) (field_json f v) ms (field_none f v e) h)
-    by false e = rw e tt
+module _ (texts : Bool) where
+  put_column_none : (o : Option Field) (v : ValueTree) (r : Result Members Refusal) → HasWhole r → HasWhole (put_column_as texts o v r)
+  put_column_none None v r h = tt
+  put_column_none (Some f) v (Err e) h = tt
+  put_column_none (Some f) v (Ok ms) h = by (fits f v) refl
+    where
+      by : (b : Bool) → fits f v ≡ b → HasWhole (put_column_as texts (Some f) v (Ok ms))
+      by true e = rw e (put_none (name_of f) (field_json_as texts f v) ms (field_none texts f v e) h)
+      by false e = rw e tt
 
-columns_none : (fs : Fields) (places : List ℕ) (vs : ValueTrees) → HasWhole (columns_json fs places vs)
-columns_none fs [] no_values = refl
-columns_none fs [] (value v vs) = tt
-columns_none fs (i ∷ places) no_values = tt
-columns_none fs (i ∷ places) (value v vs) = put_column_none (field_at i fs) v (columns_json fs places vs) (columns_none fs places vs)
+  columns_none : (fs : Fields) (places : List ℕ) (vs : ValueTrees) → HasWhole (columns_json_as texts fs places vs)
+  columns_none fs [] no_values = refl
+  columns_none fs [] (value v vs) = tt
+  columns_none fs (i ∷ places) no_values = tt
+  columns_none fs (i ∷ places) (value v vs) = put_column_none (field_at i fs) v (columns_json_as texts fs places vs) (columns_none fs places vs)
 
 -- ---- lists
 
@@ -109,7 +110,7 @@ then_none (Err e) rs h k = tt
 then_none (Ok d) (Err e) h k = tt
 then_none (Ok d) (Ok ds) h k = rw h k
 
-each_none : {X : Type 0} (f : X → Result Data Refusal) → ((x : X) → IsWhole (f x)) → (xs : List X) → AreWhole (each_of f xs)
+pub each_none : {X : Type 0} (f : X → Result Data Refusal) → ((x : X) → IsWhole (f x)) → (xs : List X) → AreWhole (each_of f xs)
 each_none f one [] = refl
 each_none f one (x ∷ xs) = then_none (f x) (each_of f xs) (one x) (each_none f one xs)
 
@@ -126,18 +127,18 @@ listed_none : (name : List ℕ) (r : Result (List Data) Refusal) → AreWhole r 
 listed_none name (Err e) h = tt
 listed_none name (Ok ds) h = one_none name (json.array (items_of ds)) h
 
-row_none : (fs : Fields) (places : List ℕ) (row : ValueTrees) → IsWhole (row_of_columns fs places row)
-row_none fs places row = by (columns_json fs places row) (columns_none fs places row)
+row_none : (texts : Bool) (fs : Fields) (places : List ℕ) (row : ValueTrees) → IsWhole (row_of_columns_as texts fs places row)
+row_none texts fs places row = by (columns_json_as texts fs places row) (columns_none texts fs places row)
   where
     by : (r : Result Members Refusal) → HasWhole r → IsWhole (r >>= (λ ms. Ok (json.object ms)))
     by (Ok ms) h = h
     by (Err e) h = tt
 
-integer_none : (z : ℤ) → has_float (json.number (of_integer z)) ≡ false
+pub integer_none : (z : ℤ) → has_float (json.number (of_integer z)) ≡ false
 integer_none (pos n) = refl
 integer_none (negsuc n) = refl
 
-key_none : (v : ValueTree) → IsWhole (key_value_json v)
+pub key_none : (v : ValueTree) → IsWhole (key_value_json v)
 key_none null = tt
 key_none (boolean b) = refl
 key_none (integer z) = integer_none z
@@ -163,23 +164,23 @@ group_none g = by (each_of key_value_json (key_view g.key)) (each_none key_value
     by (Ok key) h = members_of_group g key h
     by (Err e) h = tt
 
-answer_whole : (fs : Fields) (a : Answer) → IsWhole (answer_json fs a)
-answer_whole fs (Done n) = refl
-answer_whole fs (Job n) = refl
-answer_whole fs (Cursor n) = refl
-answer_whole fs (Batch b) = listed_none (codes "batch") (each_of (row_of_columns fs b.places.items) (rows_view b.rows.items)) (each_none (row_of_columns fs b.places.items) (row_none fs b.places.items) (rows_view b.rows.items))
-answer_whole fs End = refl
-answer_whole fs (More left) = refl
-answer_whole fs (Plan ns) = one_none (codes "plan") (naturals ns.items) (naturals_none ns.items)
-answer_whole fs (Groups gs) = listed_none (codes "groups") (each_of group_json gs.items) (each_none group_json group_none gs.items)
-answer_whole fs (Count n) = refl
-answer_whole fs Accepted = refl
-answer_whole fs (Refused r) =
+answer_whole : (texts : Bool) (fs : Fields) (a : Answer) → IsWhole (answer_json_as texts fs a)
+answer_whole texts fs (Done n) = refl
+answer_whole texts fs (Job n) = refl
+answer_whole texts fs (Cursor n) = refl
+answer_whole texts fs (Batch b) = listed_none (codes "batch") (each_of (row_of_columns_as texts fs b.places.items) (rows_view b.rows.items)) (each_none (row_of_columns_as texts fs b.places.items) (row_none texts fs b.places.items) (rows_view b.rows.items))
+answer_whole texts fs End = refl
+answer_whole texts fs (More left) = refl
+answer_whole texts fs (Plan ns) = one_none (codes "plan") (naturals ns.items) (naturals_none ns.items)
+answer_whole texts fs (Groups gs) = listed_none (codes "groups") (each_of group_json gs.items) (each_none group_json group_none gs.items)
+answer_whole texts fs (Count n) = refl
+answer_whole texts fs Accepted = refl
+answer_whole texts fs (Refused r) =
     let number = put (codes "refused") (natural (refusal_number r)) no_members in
     put_none (codes "name") (json.string (refusal_name r)) number refl (put_none (codes "refused") (natural (refusal_number r)) no_members refl refl)
 
-pub answer_none : (fs : Fields) (a : Answer) (d : Data) → answer_json fs a ≡ Ok d → has_float d ≡ false
-answer_none fs a d e = subst IsWhole e (answer_whole fs a)
+pub answer_none : (texts : Bool) (fs : Fields) (a : Answer) (d : Data) → answer_json_as texts fs a ≡ Ok d → has_float d ≡ false
+answer_none texts fs a d e = subst IsWhole e (answer_whole texts fs a)
 
 pub group_none_of : (g : GroupInfo) (d : Data) → group_json g ≡ Ok d → has_float d ≡ false
 group_none_of g d e = subst IsWhole e (group_none g)

@@ -19,10 +19,10 @@ use Rattle.schema.specs.Fits.{fits}
 use Rattle.schema.specs.Keys.{field_at}
 use Rattle.schema.specs.Views.{field_view, field_views}
 use Rattle.filter.proofs.Tests.{not_true}
-use Rattle.rowtext.specs.Json.{field_json}
+use Rattle.rowtext.specs.Json.{field_json_as}
 use Rattle.rowtext.proofs.Forms.{view-Bytes}
 use Rattle.jsonrows.specs.inner.ValueJson.{IsShownSo, IsMisfit}
-use Rattle.jsonrows.specs.Answers.{one_member, put_column, columns_json, key_value_json, listed_as}
+use Rattle.jsonrows.specs.Answers.{one_member, put_column_as, columns_json_as, key_value_json, listed_as}
 
 -- the field at a place of some fields
 pub field_there : (fs : List CodeField) (i : ℕ) (f : CodeField) (rest : List CodeField) → drop i fs ≡ f ∷ rest → field_at i (field_views fs) ≡ Some (field_view f)
@@ -39,60 +39,61 @@ no_field_there (g ∷ fs) (suc i) h = no_field_there fs i h
 abbrev key_if : List ℕ → Bool → Result Data Refusal
 key_if s b = if b then Ok (string s) else Err RowShape
 
-abbrev put_if : Bool → Field → ValueTree → Members → Result Members Refusal
-put_if b f v ms = if b then Ok (put (name_of f) (field_json f v) ms) else Err RowShape
+module _ (texts : Bool) where
+  abbrev put_if : Bool → Field → ValueTree → Members → Result Members Refusal
+  put_if b f v ms = if b then Ok (put (name_of f) (field_json_as texts f v) ms) else Err RowShape
 
--- a column is refused only so
-pub put_fault : (o : Option Field) (v : ValueTree) (r : Result Members Refusal) (e : Refusal) → put_column o v r ≡ Err e → Err RowShape ≡ put_column o v r
-put_fault None v r e h = refl
-put_fault (Some f) v (Err x) e h = refl
-put_fault (Some f) v (Ok ms) e h = by (fits f v) h
-  where
-    by : (b : Bool) → put_if b f v ms ≡ Err e → Err RowShape ≡ put_if b f v ms
-    by true k = absurd (cc)
-    by false k = refl
+  -- a column is refused only so
+  pub put_fault : (o : Option Field) (v : ValueTree) (r : Result Members Refusal) (e : Refusal) → put_column_as texts o v r ≡ Err e → Err RowShape ≡ put_column_as texts o v r
+  put_fault None v r e h = refl
+  put_fault (Some f) v (Err x) e h = refl
+  put_fault (Some f) v (Ok ms) e h = by (fits f v) h
+    where
+      by : (b : Bool) → put_if b f v ms ≡ Err e → Err RowShape ≡ put_if b f v ms
+      by true k = absurd (cc)
+      by false k = refl
 
-later_fault : (o : Option Field) (v : ValueTree) → put_column o v (Err RowShape) ≡ Err RowShape
-later_fault None v = refl
-later_fault (Some f) v = refl
+  later_fault : (o : Option Field) (v : ValueTree) → put_column_as texts o v (Err RowShape) ≡ Err RowShape
+  later_fault None v = refl
+  later_fault (Some f) v = refl
 
-pub put_refused : (fs rest : List CodeField) (i : ℕ) (f : CodeField) (w : Value) (ms : Members) (e : Refusal) → drop i fs ≡ f ∷ rest → HasCause (IsMisfit (fits (field_view f) (value_view w))) e
-    → HasCause (λ x. put_column (field_at i (field_views fs)) (value_view w) (Ok ms) ≡ Err x) e
-put_refused fs rest i f w ms Memory here h = tt
-put_refused fs rest i f w ms e here h =
-    ap (λ o. put_column o (value_view w) (Ok ms)) (field_there fs i f rest here) ∙ ap (λ b. put_if b (field_view f) (value_view w) ms) h.1 ∙ ap Err (sym h.0)
+  pub put_refused : (fs rest : List CodeField) (i : ℕ) (f : CodeField) (w : Value) (ms : Members) (e : Refusal) → drop i fs ≡ f ∷ rest → HasCause (IsMisfit (fits (field_view f) (value_view w))) e
+      → HasCause (λ x. put_column_as texts (field_at i (field_views fs)) (value_view w) (Ok ms) ≡ Err x) e
+  put_refused fs rest i f w ms Memory here h = tt
+  put_refused fs rest i f w ms e here h =
+      ap (λ o. put_column_as texts o (value_view w) (Ok ms)) (field_there fs i f rest here) ∙ ap (λ b. put_if b (field_view f) (value_view w) ms) h.1 ∙ ap Err (sym h.0)
 
-pub put_done : {X : Type 0} (r : Result X Refusal) (fs rest : List CodeField) (i : ℕ) (f : CodeField) (w : Value) (old new : Members) (name : List ℕ) (d : Data) → drop i fs ≡ f ∷ rest
-    → IsShownSo (fits (field_view f) (value_view w)) (field_json (field_view f) (value_view w)) d → name ≡ name_of (field_view f) → OnOk r (new ≡ put name d old)
-    → OnOk r (put_column (field_at i (field_views fs)) (value_view w) (Ok old) ≡ Ok new)
-put_done (Err e) fs rest i f w old new name d here shown named h = tt
-put_done (Ok x) fs rest i f w old new name d here shown named h =
-    ap (λ o. put_column o (value_view w) (Ok old)) (field_there fs i f rest here) ∙ ap (λ b. put_if b (field_view f) (value_view w) old) shown.0
-    ∙ ap Ok (ap₂ (λ k x. put k x old) (sym named) (sym shown.1) ∙ sym h)
+  pub put_done : {X : Type 0} (r : Result X Refusal) (fs rest : List CodeField) (i : ℕ) (f : CodeField) (w : Value) (old new : Members) (name : List ℕ) (d : Data) → drop i fs ≡ f ∷ rest
+      → IsShownSo (fits (field_view f) (value_view w)) (field_json_as texts (field_view f) (value_view w)) d → name ≡ name_of (field_view f) → OnOk r (new ≡ put name d old)
+      → OnOk r (put_column_as texts (field_at i (field_views fs)) (value_view w) (Ok old) ≡ Ok new)
+  put_done (Err e) fs rest i f w old new name d here shown named h = tt
+  put_done (Ok x) fs rest i f w old new name d here shown named h =
+      ap (λ o. put_column_as texts o (value_view w) (Ok old)) (field_there fs i f rest here) ∙ ap (λ b. put_if b (field_view f) (value_view w) old) shown.0
+      ∙ ap Ok (ap₂ (λ k x. put k x old) (sym named) (sym shown.1) ∙ sym h)
 
--- what is refused of the later columns is refused of all
-pub fault_after : (fs : Fields) (i : ℕ) (places : List ℕ) (vs : List Value) → columns_json fs (drop i places) (views (drop i vs)) ≡ Err RowShape → columns_json fs places (views vs) ≡ Err RowShape
-fault_after fs zero places vs h = h
-fault_after fs (suc i) [] [] h = h
-fault_after fs (suc i) [] (v ∷ vs) h = refl
-fault_after fs (suc i) (p ∷ places) [] h = refl
-fault_after fs (suc i) (p ∷ places) (v ∷ vs) h = ap (put_column (field_at p fs) (value_view v)) (fault_after fs i places vs h) ∙ later_fault (field_at p fs) (value_view v)
+  -- what is refused of the later columns is refused of all
+  pub fault_after : (fs : Fields) (i : ℕ) (places : List ℕ) (vs : List Value) → columns_json_as texts fs (drop i places) (views (drop i vs)) ≡ Err RowShape → columns_json_as texts fs places (views vs) ≡ Err RowShape
+  fault_after fs zero places vs h = h
+  fault_after fs (suc i) [] [] h = h
+  fault_after fs (suc i) [] (v ∷ vs) h = refl
+  fault_after fs (suc i) (p ∷ places) [] h = refl
+  fault_after fs (suc i) (p ∷ places) (v ∷ vs) h = ap (put_column_as texts (field_at p fs) (value_view v)) (fault_after fs i places vs h) ∙ later_fault (field_at p fs) (value_view v)
 
-pub columns-lengths : (fs : Fields) (places : List ℕ) (vs : List Value) → length places ≢ length vs → columns_json fs places (views vs) ≡ Err RowShape
-columns-lengths fs [] [] h = absurd (h refl)
-columns-lengths fs [] (v ∷ vs) h = refl
-columns-lengths fs (p ∷ places) [] h = refl
-columns-lengths fs (p ∷ places) (v ∷ vs) h = ap (put_column (field_at p fs) (value_view v)) (columns-lengths fs places vs (λ e. h (ap suc e))) ∙ later_fault (field_at p fs) (value_view v)
+  pub columns-lengths : (fs : Fields) (places : List ℕ) (vs : List Value) → length places ≢ length vs → columns_json_as texts fs places (views vs) ≡ Err RowShape
+  columns-lengths fs [] [] h = absurd (h refl)
+  columns-lengths fs [] (v ∷ vs) h = refl
+  columns-lengths fs (p ∷ places) [] h = refl
+  columns-lengths fs (p ∷ places) (v ∷ vs) h = ap (put_column_as texts (field_at p fs) (value_view v)) (columns-lengths fs places vs (λ e. h (ap suc e))) ∙ later_fault (field_at p fs) (value_view v)
 
--- a column that is refused is refused for all
-pub column_fault : (fs : Fields) (places ps : List ℕ) (vs others : List Value) (i p : ℕ) (v : Value) (ms : Members) (e : Refusal) → drop i places ≡ p ∷ ps → drop i vs ≡ v ∷ others → columns_json fs ps (views others) ≡ Ok ms
-    → HasCause (λ x. put_column (field_at p fs) (value_view v) (Ok ms) ≡ Err x) e → HasCause (λ x. columns_json fs places (views vs) ≡ Err x) e
-column_fault fs places ps vs others i p v ms Memory at there later h = tt
-column_fault fs places ps vs others i p v ms e at there later h =
-    let o = field_at p fs in
-    let shape = put_fault o (value_view v) (Ok ms) e h in
-    let here : columns_json fs (drop i places) (views (drop i vs)) ≡ Err RowShape = ap₂ (λ xs ys. columns_json fs xs (views ys)) at there ∙ ap (put_column o (value_view v)) later ∙ sym shape in
-    fault_after fs i places vs here ∙ shape ∙ h
+  -- a column that is refused is refused for all
+  pub column_fault : (fs : Fields) (places ps : List ℕ) (vs others : List Value) (i p : ℕ) (v : Value) (ms : Members) (e : Refusal) → drop i places ≡ p ∷ ps → drop i vs ≡ v ∷ others → columns_json_as texts fs ps (views others) ≡ Ok ms
+      → HasCause (λ x. put_column_as texts (field_at p fs) (value_view v) (Ok ms) ≡ Err x) e → HasCause (λ x. columns_json_as texts fs places (views vs) ≡ Err x) e
+  column_fault fs places ps vs others i p v ms Memory at there later h = tt
+  column_fault fs places ps vs others i p v ms e at there later h =
+      let o = field_at p fs in
+      let shape = put_fault o (value_view v) (Ok ms) e h in
+      let here : columns_json_as texts fs (drop i places) (views (drop i vs)) ≡ Err RowShape = ap₂ (λ xs ys. columns_json_as texts fs xs (views ys)) at there ∙ ap (put_column_as texts o (value_view v)) later ∙ sym shape in
+      fault_after fs i places vs here ∙ shape ∙ h
 
 -- ---- values of a key
 

@@ -13,6 +13,10 @@ pub mod Made
 pub mod Operands
 pub mod FilterFaults
 pub mod AnswerFloats
+pub mod ColumnNames
+pub mod KnownColumns
+pub mod GroupColumnFloats
 pub mod ShownValues
 pub mod Columns
 pub mod CallFaults
+pub mod PresentValues

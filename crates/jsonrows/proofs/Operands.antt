@@ -1,5 +1,5 @@
 -- Arrays of a filter, item by item, and the leaf of a term.
-use Rattle.std.proofs.Common.{◌≡◌, ◌≢◌, ℕ, ◌+◌, ◌<◌, true, List, [], ◌∷◌, length, get_or, map, drop, Option, Some, Vec, Global, Result, Err, refl, sym, ap, ◌∙◌}
+use Rattle.std.proofs.Common.{Bool, ◌≡◌, ◌≢◌, ℕ, ◌+◌, ◌<◌, true, List, [], ◌∷◌, length, get_or, map, drop, Option, Some, Vec, Global, Result, Err, refl, sym, ap, ◌∙◌}
 use Rattle.std.specs.Str.{bytes_eq}
 use Rattle.std.specs.Cmp.Lexicographic.{pointwise, pointwise_decides, bytes_decides}
 use Rattle.bits.specs.declared.refusal.Refusal.{Refusal}
@@ -16,7 +16,7 @@ use Rattle.schema.specs.Views.{leaf_view}
 use Rattle.filter.specs.Terms.{then_rest, each_of}
 use Rattle.filter.proofs.Places.{reads}
 use Rattle.filter.proofs.Tests.{not_true}
-use Rattle.jsonrows.specs.Filters.{listed, leaf_named, list_value, value_of, values_of}
+use Rattle.jsonrows.specs.Filters.{listed, leaf_named, list_value, value_of_as, values_of_as}
 
 listed-of : (ds : List Data) → listed (items_of ds) ≡ ds
 listed-of [] = refl
@@ -30,11 +30,12 @@ pub of_array : {R : Type 0} (F : Data → R) (G : List Data → R) (json : Value
 of_array F G json v xs by_items is same =
     ap (λ ys. G (map view ys)) same ∙ ap G (sym (listed-view v.items)) ∙ sym (by_items (items_view v.items)) ∙ ap F (sym (ap view is ∙ view-Array v))
 
--- ---- values
+module _ (texts : Bool) where
+  -- ---- values
 
-each_value : (t : Option LeafType) (ds : Items) → values_of t ds ≡ each_of (value_of t) (listed ds)
-each_value t no_items = refl
-each_value t (item d ds) = ap (then_rest (value_of t d)) (each_value t ds)
+  each_value : (t : Option LeafType) (ds : Items) → values_of_as texts t ds ≡ each_of (value_of_as texts t) (listed ds)
+  each_value t no_items = refl
+  each_value t (item d ds) = ap (then_rest (value_of_as texts t d)) (each_value t ds)
 
 -- ---- leaves
 
@@ -50,10 +51,11 @@ passed_over leaves i l names lt is other =
     let no = not_true (pointwise bytes_eq (leaf_view l).path names) (λ e. other ((pointwise_decides bytes_decides (leaf_view l).path names).0 e)) in
     ap (λ ls. leaf_named ls names) (reads leaf_view leaves i l lt is) ∙ rw no refl
 
-pub list_seen : (t : Option LeafType) (json : Value) (v : Vec Value Global) (xs : List Value) → json ≡ Array v → xs ≡ v.items → list_value (each_of (value_of t) (map view xs)) ≡ value_of t (view json)
-list_seen t json v xs is same = of_array (value_of t) (λ ds. list_value (each_of (value_of t) ds)) json v xs (λ ds. ap list_value (each_value t ds)) is same
+module _ (texts : Bool) where
+  pub list_seen : (t : Option LeafType) (json : Value) (v : Vec Value Global) (xs : List Value) → json ≡ Array v → xs ≡ v.items → list_value (each_of (value_of_as texts t) (map view xs)) ≡ value_of_as texts t (view json)
+  list_seen t json v xs is same = of_array (value_of_as texts t) (λ ds. list_value (each_of (value_of_as texts t) ds)) json v xs (λ ds. ap list_value (each_value texts t ds)) is same
 
--- the fault of a list is that of its items
-pub list_fault : (t : Option LeafType) (d : Data) (made : Result (List ValueTree) Refusal) → list_value made ≡ value_of t d → (e : Refusal) → HasCause (λ x. made ≡ Err x) e → HasCause (λ x. value_of t d ≡ Err x) e
-list_fault t d made is Memory h = tt
-list_fault t d made is e h = sym is ∙ ap list_value h
+  -- the fault of a list is that of its items
+  pub list_fault : (t : Option LeafType) (d : Data) (made : Result (List ValueTree) Refusal) → list_value made ≡ value_of_as texts t d → (e : Refusal) → HasCause (λ x. made ≡ Err x) e → HasCause (λ x. value_of_as texts t d ≡ Err x) e
+  list_fault t d made is Memory h = tt
+  list_fault t d made is e h = sym is ∙ ap list_value h

@@ -19,7 +19,7 @@ use Rattle.schema.specs.Values.{ValueTree, ValueTrees, list, view as value_view,
 use Rattle.schema.specs.Views.{field_view, field_views}
 use Rattle.schema.specs.Shape.{Field, leaf, fields, repetition_of}
 use Rattle.schema.specs.Fits.{fits, fits_inside, fits_each}
-use Rattle.rowtext.specs.Json.{bytes_json, inside_json, items_json, field_json}
+use Rattle.rowtext.specs.Json.{bytes_json, inside_json_as, items_json, field_json_as}
 use Rattle.rowtext.proofs.Forms.{view-List}
 use Rattle.filter.proofs.Tests.{not_true}
 use Rattle.jsonrows.specs.inner.ValueJson.{IsMisfit}
@@ -42,16 +42,16 @@ repeated_fits : (f : Field) (vs : ValueTrees) → repetition_of f ≡ Repeated �
 repeated_fits (leaf n r t) vs e = rw e refl
 repeated_fits (fields n r a fs) vs e = rw e refl
 
-repeated_json : (f : Field) (vs : ValueTrees) → repetition_of f ≡ Repeated → json.array (items_json (inside_json f) vs) ≡ field_json f (list vs)
-repeated_json (leaf n r t) vs e = rw e refl
-repeated_json (fields n r a fs) vs e = rw e refl
+repeated_json : (texts : Bool) (f : Field) (vs : ValueTrees) → repetition_of f ≡ Repeated → json.array (items_json (inside_json_as texts f) vs) ≡ field_json_as texts f (list vs)
+repeated_json texts (leaf n r t) vs e = rw e refl
+repeated_json texts (fields n r a fs) vs e = rw e refl
 
 -- a REPEATED value is a list of values that fit, and is shown as an array of them
 pub list_fits : (f : Field) (w : Value) (vs : Vec Value Global) (xs : List Value) → repetition_of f ≡ Repeated → w ≡ ListOf vs → xs ≡ vs.items → each (fits_inside f) (views xs) ≡ fits f (value_view w)
 list_fits f w vs xs r is same = ap (λ ys. each (fits_inside f) (views ys)) same ∙ repeated_fits f (views vs.items) r ∙ ap (fits f) (sym (ap value_view is ∙ view-List vs))
 
-pub list_json : (f : Field) (w : Value) (vs : Vec Value Global) (xs : List Value) → repetition_of f ≡ Repeated → w ≡ ListOf vs → xs ≡ vs.items → json.array (items_json (inside_json f) (views xs)) ≡ field_json f (value_view w)
-list_json f w vs xs r is same = ap (λ ys. json.array (items_json (inside_json f) (views ys))) same ∙ repeated_json f (views vs.items) r ∙ ap (field_json f) (sym (ap value_view is ∙ view-List vs))
+pub list_json : (texts : Bool) (f : Field) (w : Value) (vs : Vec Value Global) (xs : List Value) → repetition_of f ≡ Repeated → w ≡ ListOf vs → xs ≡ vs.items → json.array (items_json (inside_json_as texts f) (views xs)) ≡ field_json_as texts f (value_view w)
+list_json texts f w vs xs r is same = ap (λ ys. json.array (items_json (inside_json_as texts f) (views ys))) same ∙ repeated_json texts f (views vs.items) r ∙ ap (field_json_as texts f) (sym (ap value_view is ∙ view-List vs))
 
 -- ---- fields one by one
 

@@ -1,5 +1,5 @@
 -- Answers as JSON values (RFC 8259), the members of each object in the byte order of their names; or the refusal of an answer that has none.
-use Rattle.std.specs.Prelude.{ℕ, true, codes, List, [], ◌∷◌, map, Option, Some, if◌then◌else◌, Result, Ok, Err}
+use Rattle.std.specs.Prelude.{ℕ, Bool, true, false, codes, List, [], ◌∷◌, map, Option, Some, if◌then◌else◌, Result, Ok, Err}
 use Rattle.std.specs.Str.{is_utf8}
 use Rattle.serde_json.specs.Data.{Data, number, unsigned, string, boolean, array, object, Members, no_members, put}
 use Rattle.serde_json.specs.Find.{of_integer}
@@ -16,7 +16,7 @@ use Rattle.filter.specs.Terms.{each_of}
 use Rattle.table.specs.declared.answer.Answer.{Answer}
 use Rattle.table.specs.declared.answer.Answer.TheVariants.{Done, Job, Cursor, Batch, End, More, Plan, Groups, Count, Accepted, Refused}
 use Rattle.table.specs.declared.answer.GroupInfo.{GroupInfo}
-use Rattle.rowtext.specs.Json.{field_json}
+use Rattle.rowtext.specs.Json.{field_json_as}
 use Rattle.jsonrows.specs.Filters.{◌>>=◌}
 
 -- an object of one member
@@ -33,20 +33,20 @@ naturals ns = array (items_of (map natural ns))
 
 -- ---- rows of a batch
 
--- a value at its column, before the columns that come later
-abbrev pub put_column : Option Field → ValueTree → Result Members Refusal → Result Members Refusal
-put_column (Some f) v (Ok ms) = if fits f v then Ok (put (name_of f) (field_json f v) ms) else Err refusal.RowShape
-put_column _ v _ = Err refusal.RowShape
+-- a value at its column, with texts or without, before the columns that come later
+abbrev pub put_column_as : Bool → Option Field → ValueTree → Result Members Refusal → Result Members Refusal
+put_column_as texts (Some f) v (Ok ms) = if fits f v then Ok (put (name_of f) (field_json_as texts f v) ms) else Err refusal.RowShape
+put_column_as texts _ v _ = Err refusal.RowShape
 
--- The members of a row of the columns at these places of the schema. RowShape where a place has no field, or a value does not fit it.
-abbrev pub columns_json : Fields → List ℕ → ValueTrees → Result Members Refusal
-columns_json fs [] no_values = Ok no_members
-columns_json fs (i ∷ places) (item v vs) = put_column (field_at i fs) v (columns_json fs places vs)
-columns_json fs _ _ = Err refusal.RowShape
+-- The members of a row of the columns at these places of the schema, with texts or without. RowShape where a place has no field, or a value does not fit it.
+abbrev pub columns_json_as : Bool → Fields → List ℕ → ValueTrees → Result Members Refusal
+columns_json_as texts fs [] no_values = Ok no_members
+columns_json_as texts fs (i ∷ places) (item v vs) = put_column_as texts (field_at i fs) v (columns_json_as texts fs places vs)
+columns_json_as texts fs _ _ = Err refusal.RowShape
 
--- a row of a batch as an object with a member for each of the columns at these places; RowShape if it does not fit them
-abbrev pub row_of_columns : Fields → List ℕ → ValueTrees → Result Data Refusal
-row_of_columns fs places row = columns_json fs places row >>= (λ ms. Ok (object ms))
+-- a row of a batch as an object with a member for each of the columns at these places, with texts or without; RowShape if it does not fit them
+abbrev pub row_of_columns_as : Bool → Fields → List ℕ → ValueTrees → Result Data Refusal
+row_of_columns_as texts fs places row = columns_json_as texts fs places row >>= (λ ms. Ok (object ms))
 
 -- ---- groups
 
@@ -142,16 +142,23 @@ refused_json r = object (put (codes "name") (string (refusal_name r)) (put (code
 abbrev pub listed_as : List ℕ → Result (List Data) Refusal → Result Data Refusal
 listed_as name ds = ds >>= (λ all. Ok (one_member name (array (items_of all))))
 
--- an answer over the table's schema as an object; RowShape if a row of a batch does not fit its columns, or a key has a value that no key column has
+-- an answer over the table's schema as an object, the rows of a batch with texts or without;
+-- RowShape if a row of a batch does not fit its columns, or a key has a value that no key column has
+abbrev pub answer_json_as : Bool → Fields → Answer → Result Data Refusal
+answer_json_as texts fs (Done n) = Ok (one_member (codes "done") (natural n))
+answer_json_as texts fs (Job n) = Ok (one_member (codes "job") (natural n))
+answer_json_as texts fs (Cursor n) = Ok (one_member (codes "cursor") (natural n))
+answer_json_as texts fs (Batch b) = listed_as (codes "batch") (each_of (row_of_columns_as texts fs b.places.items) (rows_view b.rows.items))
+answer_json_as texts fs End = Ok (one_member (codes "end") (boolean true))
+answer_json_as texts fs (More left) = Ok (one_member (codes "more") (boolean left))
+answer_json_as texts fs (Plan ns) = Ok (one_member (codes "plan") (naturals ns.items))
+answer_json_as texts fs (Groups gs) = listed_as (codes "groups") (each_of group_json gs.items)
+answer_json_as texts fs (Count n) = Ok (one_member (codes "count") (natural n))
+answer_json_as texts fs Accepted = Ok (one_member (codes "ok") (boolean true))
+answer_json_as texts fs (Refused r) = Ok (refused_json r)
+
+-- ---- without texts
+
+-- an answer over the table's schema as an object, without texts of dates, times and decimals
 abbrev pub answer_json : Fields → Answer → Result Data Refusal
-answer_json fs (Done n) = Ok (one_member (codes "done") (natural n))
-answer_json fs (Job n) = Ok (one_member (codes "job") (natural n))
-answer_json fs (Cursor n) = Ok (one_member (codes "cursor") (natural n))
-answer_json fs (Batch b) = listed_as (codes "batch") (each_of (row_of_columns fs b.places.items) (rows_view b.rows.items))
-answer_json fs End = Ok (one_member (codes "end") (boolean true))
-answer_json fs (More left) = Ok (one_member (codes "more") (boolean left))
-answer_json fs (Plan ns) = Ok (one_member (codes "plan") (naturals ns.items))
-answer_json fs (Groups gs) = listed_as (codes "groups") (each_of group_json gs.items)
-answer_json fs (Count n) = Ok (one_member (codes "count") (natural n))
-answer_json fs Accepted = Ok (one_member (codes "ok") (boolean true))
-answer_json fs (Refused r) = Ok (refused_json r)
+answer_json = answer_json_as false

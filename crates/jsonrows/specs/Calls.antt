@@ -1,5 +1,5 @@
 -- Calls as JSON values (RFC 8259): an object with the call's name and exactly the members of its form, in any order.
-use Rattle.std.specs.Prelude.{◌≡◌, ◌⊎◌, ℕ, bytes_eq, codes, List, [], ◌∷◌, Option, Some, None, if◌then◌else◌, Result, Ok, Err}
+use Rattle.std.specs.Prelude.{◌≡◌, ◌⊎◌, ℕ, Bool, false, bytes_eq, codes, List, [], ◌∷◌, Option, Some, None, if◌then◌else◌, Result, Ok, Err}
 use Rattle.serde_json.specs.Data.{Data, null, number, string, array, object}
 use Rattle.serde_json.specs.Find.{as_u64, get}
 use Rattle.serde_json.specs.Read.{read}
@@ -12,10 +12,10 @@ use Rattle.schema.specs.Stripe.{leaves_of}
 use Rattle.schema.specs.Elements.{Element}
 use Rattle.filter.specs.Terms.{Term, each_of}
 use Rattle.table.specs.Calls.{Call, append, begin_append, stage, commit, abort, remove, remove_groups, begin_rewrite, step_rewrite, plan_rewrite, query, fetch, close, groups, count, import, add_column, reopen}
-use Rattle.rowtext.specs.Reading.{bytes_of_digits, members_read}
+use Rattle.rowtext.specs.Reading.{bytes_of_digits, members_read_as}
 use Rattle.jsonrows.specs.declared.call_form.Form.{Form}
 use Rattle.jsonrows.specs.declared.call_form.Form.TheVariants as form
-use Rattle.jsonrows.specs.Filters.{listed, ◌>>=◌, or_fault, name_of, filter_of}
+use Rattle.jsonrows.specs.Filters.{listed, ◌>>=◌, or_fault, name_of, filter_of_as}
 use Rattle.jsonrows.specs.SchemaJson.{has_only, SaysColumn}
 
 -- ---- what one member is
@@ -31,14 +31,14 @@ naturals_of (array ds) = each_of natural_of (listed ds)
 naturals_of _ = Err Script
 
 -- a row of the schema; Script if the value is no object, RowShape if the object is no row
-abbrev pub row_in : Fields → Data → Result ValueTrees Refusal
-row_in fs (object ms) = or_fault RowShape (members_read fs ms)
-row_in fs _ = Err Script
+abbrev pub row_in_as : Bool → Fields → Data → Result ValueTrees Refusal
+row_in_as texts fs (object ms) = or_fault RowShape (members_read_as texts fs ms)
+row_in_as texts fs _ = Err Script
 
 -- an array of rows of the schema; Script if the value is no array, and the refusal of the first row that has one
-abbrev pub rows_of : Fields → Data → Result (List ValueTrees) Refusal
-rows_of fs (array ds) = each_of (row_in fs) (listed ds)
-rows_of fs _ = Err Script
+abbrev pub rows_of_as : Bool → Fields → Data → Result (List ValueTrees) Refusal
+rows_of_as texts fs (array ds) = each_of (row_in_as texts fs) (listed ds)
+rows_of_as texts fs _ = Err Script
 
 -- an array of the names of columns, or null for all columns; Script for all else
 abbrev pub columns_of : Data → Result (Option (List (List ℕ))) Refusal
@@ -105,8 +105,8 @@ abbrev pub form_of : Data → Result Form Refusal
 form_of d = (member_of (codes "call") d >>= form_by) >>= form_if d
 
 -- the rows of a call, from its member `rows`
-abbrev pub rows_at : Fields → Data → Result (List ValueTrees) Refusal
-rows_at fs d = member_of (codes "rows") d >>= rows_of fs
+abbrev pub rows_at_as : Bool → Fields → Data → Result (List ValueTrees) Refusal
+rows_at_as texts fs d = member_of (codes "rows") d >>= rows_of_as texts fs
 
 -- the number of a call at the member of this name, such as `job` or `cursor`
 abbrev pub natural_at : List ℕ → Data → Result ℕ Refusal
@@ -117,8 +117,8 @@ abbrev pub numbers_at : Data → Result (List ℕ) Refusal
 numbers_at d = member_of (codes "numbers") d >>= naturals_of
 
 -- the ANDs of terms of a call over the leaves of the schema, from its member `filter`
-abbrev pub filter_at : Fields → Data → Result (List (List Term)) Refusal
-filter_at fs d = member_of (codes "filter") d >>= filter_of (leaves_of fs)
+abbrev pub filter_at_as : Bool → Fields → Data → Result (List (List Term)) Refusal
+filter_at_as texts fs d = member_of (codes "filter") d >>= filter_of_as texts (leaves_of fs)
 
 -- the names of the columns of a query, from its member `columns`; none for all columns
 abbrev pub columns_at : Data → Result (Option (List (List ℕ))) Refusal
@@ -129,29 +129,29 @@ abbrev pub bytes_at : Data → Result (List ℕ) Refusal
 bytes_at d = member_of (codes "bytes") d >>= bytes_of
 
 -- the call of a form by its members, which are read in this order; the elements of a new column are said by `IsNewColumn`
-abbrev pub call_by : Fields → Data → Form → Result Call Refusal
-call_by fs d form.Append = rows_at fs d >>= (λ rows. Ok (append rows))
-call_by fs d form.BeginAppend = Ok begin_append
-call_by fs d form.Stage = natural_at (codes "job") d >>= (λ job. rows_at fs d >>= (λ rows. Ok (stage job rows)))
-call_by fs d form.Commit = natural_at (codes "job") d >>= (λ job. Ok (commit job))
-call_by fs d form.Abort = natural_at (codes "job") d >>= (λ job. Ok (abort job))
-call_by fs d form.Remove = filter_at fs d >>= (λ terms. Ok (remove terms))
-call_by fs d form.RemoveGroups = numbers_at d >>= (λ numbers. Ok (remove_groups numbers))
-call_by fs d form.BeginRewrite = numbers_at d >>= (λ numbers. Ok (begin_rewrite numbers))
-call_by fs d form.StepRewrite = natural_at (codes "job") d >>= (λ job. Ok (step_rewrite job))
-call_by fs d form.PlanRewrite = natural_at (codes "min_rows") d >>= (λ least. Ok (plan_rewrite least))
-call_by fs d form.Query = filter_at fs d >>= (λ terms. columns_at d >>= (λ columns. Ok (query terms columns)))
-call_by fs d form.Fetch = natural_at (codes "cursor") d >>= (λ cursor. Ok (fetch cursor))
-call_by fs d form.Close = natural_at (codes "cursor") d >>= (λ cursor. Ok (close cursor))
-call_by fs d form.Groups = Ok groups
-call_by fs d form.Count = filter_at fs d >>= (λ terms. Ok (count terms))
-call_by fs d form.Import = bytes_at d >>= (λ bytes. Ok (import bytes))
-call_by fs d form.AddColumn = Err Script
-call_by fs d form.Reopen = Ok reopen
+abbrev pub call_by_as : Bool → Fields → Data → Form → Result Call Refusal
+call_by_as texts fs d form.Append = rows_at_as texts fs d >>= (λ rows. Ok (append rows))
+call_by_as texts fs d form.BeginAppend = Ok begin_append
+call_by_as texts fs d form.Stage = natural_at (codes "job") d >>= (λ job. rows_at_as texts fs d >>= (λ rows. Ok (stage job rows)))
+call_by_as texts fs d form.Commit = natural_at (codes "job") d >>= (λ job. Ok (commit job))
+call_by_as texts fs d form.Abort = natural_at (codes "job") d >>= (λ job. Ok (abort job))
+call_by_as texts fs d form.Remove = filter_at_as texts fs d >>= (λ terms. Ok (remove terms))
+call_by_as texts fs d form.RemoveGroups = numbers_at d >>= (λ numbers. Ok (remove_groups numbers))
+call_by_as texts fs d form.BeginRewrite = numbers_at d >>= (λ numbers. Ok (begin_rewrite numbers))
+call_by_as texts fs d form.StepRewrite = natural_at (codes "job") d >>= (λ job. Ok (step_rewrite job))
+call_by_as texts fs d form.PlanRewrite = natural_at (codes "min_rows") d >>= (λ least. Ok (plan_rewrite least))
+call_by_as texts fs d form.Query = filter_at_as texts fs d >>= (λ terms. columns_at d >>= (λ columns. Ok (query terms columns)))
+call_by_as texts fs d form.Fetch = natural_at (codes "cursor") d >>= (λ cursor. Ok (fetch cursor))
+call_by_as texts fs d form.Close = natural_at (codes "cursor") d >>= (λ cursor. Ok (close cursor))
+call_by_as texts fs d form.Groups = Ok groups
+call_by_as texts fs d form.Count = filter_at_as texts fs d >>= (λ terms. Ok (count terms))
+call_by_as texts fs d form.Import = bytes_at d >>= (λ bytes. Ok (import bytes))
+call_by_as texts fs d form.AddColumn = Err Script
+call_by_as texts fs d form.Reopen = Ok reopen
 
 -- the call that a JSON value is; the call that adds a column is not among them, and is Script here
-abbrev pub call_of : Fields → Data → Result Call Refusal
-call_of fs d = form_of d >>= call_by fs d
+abbrev pub call_of_as : Bool → Fields → Data → Result Call Refusal
+call_of_as texts fs d = form_of d >>= call_by_as texts fs d
 
 -- the call that adds a column of these elements
 pub record IsNewColumn (d : Data) (es : List Element) : Type 0 where
@@ -163,21 +163,31 @@ pub record IsNewColumn (d : Data) (es : List Element) : Type 0 where
 -- ---- whole texts
 
 -- a JSON value is this call
-abbrev pub IsCall : Fields → Data → Call → Type 0
-IsCall fs d call = (call_of fs d ≡ Ok call) ⊎ ((es : List Element) × IsNewColumn d es × (call ≡ add_column es))
+abbrev pub IsCallAs : Bool → Fields → Data → Call → Type 0
+IsCallAs texts fs d call = (call_of_as texts fs d ≡ Ok call) ⊎ ((es : List Element) × IsNewColumn d es × (call ≡ add_column es))
 
 -- a text is JSON, and its value is this call
-abbrev pub IsCallText : Fields → List ℕ → Call → Type 0
-IsCallText fs text call = (d : Data) × (read text ≡ Some d) × IsCall fs d call
+abbrev pub IsCallTextAs : Bool → Fields → List ℕ → Call → Type 0
+IsCallTextAs texts fs text call = (d : Data) × (read text ≡ Some d) × IsCallAs texts fs d call
 
 -- a JSON value is refused so: it is no call, or its first fault is a value that its leaf cannot hold or a row that is none of the schema
-abbrev pub IsRefusedValue : Fields → Data → Refusal → Type 0
-IsRefusedValue fs d Script = (call_of fs d ≡ Err Script) × ((es : List Element) → IsNewColumn d es → ⊥)
-IsRefusedValue fs d RowShape = call_of fs d ≡ Err RowShape
-IsRefusedValue fs d Memory = Unit {0}
-IsRefusedValue fs d _ = ⊥
+abbrev pub IsRefusedValueAs : Bool → Fields → Data → Refusal → Type 0
+IsRefusedValueAs texts fs d Script = (call_of_as texts fs d ≡ Err Script) × ((es : List Element) → IsNewColumn d es → ⊥)
+IsRefusedValueAs texts fs d RowShape = call_of_as texts fs d ≡ Err RowShape
+IsRefusedValueAs texts fs d Memory = Unit {0}
+IsRefusedValueAs texts fs d _ = ⊥
 
 -- a text is refused so: it is no JSON, or its value is refused so
+abbrev pub IsRefusedCallAs : Bool → Fields → List ℕ → Refusal → Type 0
+IsRefusedCallAs texts fs text Script = (d : Data) → read text ≡ Some d → IsRefusedValueAs texts fs d Script
+IsRefusedCallAs texts fs text e = HasCause (λ x. (d : Data) × (read text ≡ Some d) × IsRefusedValueAs texts fs d x) e
+
+-- ---- without texts
+
+-- a text is JSON, and its value is this call, without texts of dates, times and decimals
+abbrev pub IsCallText : Fields → List ℕ → Call → Type 0
+IsCallText = IsCallTextAs false
+
+-- a text is refused so, without texts of dates, times and decimals
 abbrev pub IsRefusedCall : Fields → List ℕ → Refusal → Type 0
-IsRefusedCall fs text Script = (d : Data) → read text ≡ Some d → IsRefusedValue fs d Script
-IsRefusedCall fs text e = HasCause (λ x. (d : Data) × (read text ≡ Some d) × IsRefusedValue fs d x) e
+IsRefusedCall = IsRefusedCallAs false

@@ -15,7 +15,9 @@ use Rattle.schema.specs.Stripe.{Leaf}
 use Rattle.filter.specs.declared.term.Op.{Op}
 use Rattle.filter.specs.declared.term.Op.TheVariants as op
 use Rattle.filter.specs.Terms.{Term, then_rest, each_of}
-use Rattle.rowtext.specs.Reading.{leaf_read}
+use Rattle.leaftext.specs.declared.leaf_form.Form.{Form}
+use Rattle.leaftext.specs.Forms.{form_if}
+use Rattle.rowtext.specs.Reading.{leaf_read_as}
 
 -- the items of an array
 abbrev pub listed : Items → List Data
@@ -78,6 +80,23 @@ is_of_kind ByteArray (string s) = true
 is_of_kind (FixedLenByteArray n) (string s) = true
 is_of_kind _ _ = false
 
+-- values of this physical type are bytes
+abbrev pub is_kind_of_bytes : Kind → Bool
+is_kind_of_bytes ByteArray = true
+is_kind_of_bytes (FixedLenByteArray n) = true
+is_kind_of_bytes _ = false
+
+-- the same where the values have texts: a string too, and an object where they are bytes
+abbrev pub is_of_formed_kind : Kind → Data → Bool
+is_of_formed_kind k (string s) = true
+is_of_formed_kind k (object ms) = is_kind_of_bytes k
+is_of_formed_kind k d = is_of_kind k d
+
+-- the same where the values have texts of a form, or none
+abbrev pub is_of_kind_as : Option Form → Kind → Data → Bool
+is_of_kind_as None k d = is_of_kind k d
+is_of_kind_as (Some form) k d = is_of_formed_kind k d
+
 -- a value by its JSON kind: text as its bytes, a number of 64 bits with its sign
 abbrev pub by_kind : Data → Result ValueTree Refusal
 by_kind null = Ok value.null
@@ -88,9 +107,9 @@ by_kind (array ds) = Err Script
 by_kind (object ms) = Err Script
 
 -- a value as in the rows of its leaf, and by its kind where that is another one or there is no leaf
-abbrev pub single_value : Option LeafType → Data → Result ValueTree Refusal
-single_value (Some t) d = if is_of_kind t.kind d then or_fault RowShape (leaf_read t d) else by_kind d
-single_value None d = by_kind d
+abbrev pub single_value_as : Bool → Option LeafType → Data → Result ValueTree Refusal
+single_value_as texts (Some t) d = if is_of_kind_as (form_if texts t) t.kind d then or_fault RowShape (leaf_read_as texts t d) else by_kind d
+single_value_as texts None d = by_kind d
 
 -- the list of some values, or their refusal
 abbrev pub list_value : Result (List ValueTree) Refusal → Result ValueTree Refusal
@@ -98,42 +117,42 @@ list_value (Ok vs) = Ok (value.list (trees_of vs))
 list_value (Err e) = Err e
 
 abbrev mutual
-  pub value_of : Option LeafType → Data → Result ValueTree Refusal
-  value_of t null = single_value t null
-  value_of t (boolean b) = single_value t (boolean b)
-  value_of t (number n) = single_value t (number n)
-  value_of t (string s) = single_value t (string s)
-  value_of t (array ds) = list_value (values_of t ds)
-  value_of t (object ms) = single_value t (object ms)
+  pub value_of_as : Bool → Option LeafType → Data → Result ValueTree Refusal
+  value_of_as texts t null = single_value_as texts t null
+  value_of_as texts t (boolean b) = single_value_as texts t (boolean b)
+  value_of_as texts t (number n) = single_value_as texts t (number n)
+  value_of_as texts t (string s) = single_value_as texts t (string s)
+  value_of_as texts t (array ds) = list_value (values_of_as texts t ds)
+  value_of_as texts t (object ms) = single_value_as texts t (object ms)
 
-  pub values_of : Option LeafType → Items → Result (List ValueTree) Refusal
-  values_of t no_items = Ok []
-  values_of t (item d ds) = then_rest (value_of t d) (values_of t ds)
+  pub values_of_as : Bool → Option LeafType → Items → Result (List ValueTree) Refusal
+  values_of_as texts t no_items = Ok []
+  values_of_as texts t (item d ds) = then_rest (value_of_as texts t d) (values_of_as texts t ds)
 
 -- ---- terms
 
 -- a term by its three members
-abbrev pub term_by : List Leaf → Data → Data → Data → Result Term Refusal
-term_by leaves c o v = do
+abbrev pub term_by_as : Bool → List Leaf → Data → Data → Data → Result Term Refusal
+term_by_as texts leaves c o v = do
   names ← column_of c
   operator ← operator_of o
-  operand ← value_of (leaf_named leaves names) v
+  operand ← value_of_as texts (leaf_named leaves names) v
   Ok (record { column = names; op = operator; value = operand })
 
 -- the term of three values: a column, an operator and an operand; Script for any other number of them
-abbrev pub term_in : List Leaf → List Data → Result Term Refusal
-term_in leaves (c ∷ o ∷ v ∷ []) = term_by leaves c o v
-term_in leaves _ = Err Script
+abbrev pub term_in_as : Bool → List Leaf → List Data → Result Term Refusal
+term_in_as texts leaves (c ∷ o ∷ v ∷ []) = term_by_as texts leaves c o v
+term_in_as texts leaves _ = Err Script
 
 -- a term is an array of a column, an operator and a value
-abbrev pub term_of : List Leaf → Data → Result Term Refusal
-term_of leaves (array ds) = term_in leaves (listed ds)
-term_of leaves _ = Err Script
+abbrev pub term_of_as : Bool → List Leaf → Data → Result Term Refusal
+term_of_as texts leaves (array ds) = term_in_as texts leaves (listed ds)
+term_of_as texts leaves _ = Err Script
 
 -- an AND is an array of terms
-abbrev pub and_of : List Leaf → Data → Result (List Term) Refusal
-and_of leaves (array ds) = each_of (term_of leaves) (listed ds)
-and_of leaves _ = Err Script
+abbrev pub and_of_as : Bool → List Leaf → Data → Result (List Term) Refusal
+and_of_as texts leaves (array ds) = each_of (term_of_as texts leaves) (listed ds)
+and_of_as texts leaves _ = Err Script
 
 -- there are three values, the second a string
 abbrev pub are_triple : List Data → Bool
@@ -151,22 +170,36 @@ only_and (Ok terms) = Ok (terms ∷ [])
 only_and (Err e) = Err e
 
 -- an array of ANDs, or of triples, which are one AND
-abbrev pub filter_in : List Leaf → List Data → Result (List (List Term)) Refusal
-filter_in leaves [] = Ok []
-filter_in leaves (d ∷ ds) = if is_triple d then only_and (each_of (term_of leaves) (d ∷ ds)) else each_of (and_of leaves) (d ∷ ds)
+abbrev pub filter_in_as : Bool → List Leaf → List Data → Result (List (List Term)) Refusal
+filter_in_as texts leaves [] = Ok []
+filter_in_as texts leaves (d ∷ ds) = if is_triple d then only_and (each_of (term_of_as texts leaves) (d ∷ ds)) else each_of (and_of_as texts leaves) (d ∷ ds)
 
 -- the ANDs of terms that a JSON value is: an array of ANDs, or of the triples of one AND; Script if it is no array
-abbrev pub filter_of : List Leaf → Data → Result (List (List Term)) Refusal
-filter_of leaves (array ds) = filter_in leaves (listed ds)
-filter_of leaves _ = Err Script
+abbrev pub filter_of_as : Bool → List Leaf → Data → Result (List (List Term)) Refusal
+filter_of_as texts leaves (array ds) = filter_in_as texts leaves (listed ds)
+filter_of_as texts leaves _ = Err Script
 
 -- a text is JSON, and these ANDs of terms
-abbrev pub IsFilterText : List Leaf → List ℕ → List (List Term) → Type 0
-IsFilterText leaves text ands = (d : Data) × (read text ≡ Some d) × (filter_of leaves d ≡ Ok ands)
+abbrev pub IsFilterTextAs : Bool → List Leaf → List ℕ → List (List Term) → Type 0
+IsFilterTextAs texts leaves text ands = (d : Data) × (read text ≡ Some d) × (filter_of_as texts leaves d ≡ Ok ands)
 
 -- a text is refused so: it is no JSON, or its first fault is this one
+abbrev pub IsRefusedFilterAs : Bool → List Leaf → List ℕ → Refusal → Type 0
+IsRefusedFilterAs texts leaves text Script = (d : Data) → read text ≡ Some d → filter_of_as texts leaves d ≡ Err Script
+IsRefusedFilterAs texts leaves text RowShape = (d : Data) × (read text ≡ Some d) × (filter_of_as texts leaves d ≡ Err RowShape)
+IsRefusedFilterAs texts leaves text Memory = Unit {0}
+IsRefusedFilterAs texts leaves text _ = ⊥
+
+-- ---- without texts
+
+-- the ANDs of terms that a JSON value is, without texts of dates, times and decimals
+abbrev pub filter_of : List Leaf → Data → Result (List (List Term)) Refusal
+filter_of = filter_of_as false
+
+-- a text is JSON, and these ANDs of terms, without texts of dates, times and decimals
+abbrev pub IsFilterText : List Leaf → List ℕ → List (List Term) → Type 0
+IsFilterText = IsFilterTextAs false
+
+-- a text is refused so, without texts of dates, times and decimals
 abbrev pub IsRefusedFilter : List Leaf → List ℕ → Refusal → Type 0
-IsRefusedFilter leaves text Script = (d : Data) → read text ≡ Some d → filter_of leaves d ≡ Err Script
-IsRefusedFilter leaves text RowShape = (d : Data) × (read text ≡ Some d) × (filter_of leaves d ≡ Err RowShape)
-IsRefusedFilter leaves text Memory = Unit {0}
-IsRefusedFilter leaves text _ = ⊥
+IsRefusedFilter = IsRefusedFilterAs false

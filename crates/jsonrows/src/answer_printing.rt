@@ -8,7 +8,7 @@ ghost use Rattle.serde_json.specs.Written.{compact_text};
 ghost use Rattle.schema.specs.Values.{view as value_view};
 ghost use Rattle.schema.specs.Views.{field_views, key_view};
 ghost use Rattle.filter.specs.Terms.{each_of};
-ghost use Rattle.jsonrows.specs.Answers.{one_member, natural, naturals, key_value_json, group_json, answer_json};
+ghost use Rattle.jsonrows.specs.Answers.{one_member, natural, naturals, key_value_json, group_json, answer_json, answer_json_as};
 
 use crate::batch_json::rows_json;
 use crate::refusal_json::refused_json;
@@ -29,7 +29,16 @@ pub fn answer_to(alloc: Global, schema: &Schema, answer: &Answer) -> R<String>
     ensures stands { IfOk result (λ text. (d : Data) × (answer_json schema.now answer.now ≡ Ok d) × (string_bytes text ≡ compact_text d)) }
     ensures which { RefusedOnly (λ e. answer_json schema.now answer.now ≡ Err e) result }
 {
-    let shown = answer_json(alloc, schema.fields(), answer)?;
+    answer_to_as(alloc, schema, answer, false)
+}
+
+/// The text of an answer, as [`answer_to`] returns it, under the same refusals; with `texts`, dates, times, timestamps and
+/// decimals over INT32 and INT64 in the rows of a batch are printed as texts. The keys of groups are printed as without.
+pub fn answer_to_as(alloc: Global, schema: &Schema, answer: &Answer, texts: bool) -> R<String>
+    ensures stands { IfOk result (λ text. (d : Data) × (answer_json_as texts schema.now answer.now ≡ Ok d) × (string_bytes text ≡ compact_text d)) }
+    ensures which { RefusedOnly (λ e. answer_json_as texts schema.now answer.now ≡ Err e) result }
+{
+    let shown = answer_json(alloc, schema.fields(), answer, texts)?;
     let text = shown.to_string(alloc)?;
     Ok(text)
 }
@@ -47,10 +56,10 @@ pub fn group_to(alloc: Global, group: &GroupInfo) -> R<String>
     Ok(text)
 }
 
-/// The JSON value of an answer.
-fn answer_json(alloc: Global, fields: &[Field], answer: &Answer) -> R<Json>
-    ensures shown { IfOk result (λ shown. answer_json (field_views fields.now) answer.now ≡ Ok (view shown)) }
-    ensures which { RefusedOnly (λ e. answer_json (field_views fields.now) answer.now ≡ Err e) result }
+/// The JSON value of an answer, with texts or without.
+fn answer_json(alloc: Global, fields: &[Field], answer: &Answer, texts: bool) -> R<Json>
+    ensures shown { IfOk result (λ shown. answer_json_as texts (field_views fields.now) answer.now ≡ Ok (view shown)) }
+    ensures which { RefusedOnly (λ e. answer_json_as texts (field_views fields.now) answer.now ≡ Err e) result }
 {
     match answer {
         Answer::Done(count) => one_member(alloc, "done", Json::from(*count)),
@@ -62,6 +71,7 @@ fn answer_json(alloc: Global, fields: &[Field], answer: &Answer) -> R<Json>
                 fields,
                 batch.places.as_slice(),
                 batch.rows.as_slice(),
+                texts,
             )?;
             one_member(alloc, "batch", Json::Array(rows))
         }
@@ -130,8 +140,8 @@ fn group_json(alloc: Global, group: &GroupInfo) -> R<Json>
     Ok(Json::Object(members))
 }
 
-/// The values of a key.
-fn key_json(alloc: Global, values: &[Value]) -> R<Vec<Json>>
+/// The values of a key. Refused RowShape where no key column has one of them.
+pub fn key_json(alloc: Global, values: &[Value]) -> R<Vec<Json>>
     ensures shown { IfOk result (λ all. each_of key_value_json (map value_view values.now) ≡ Ok (map view all.items)) }
     ensures which { RefusedOnly (λ e. each_of key_value_json (map value_view values.now) ≡ Err e) result }
 {

@@ -6,60 +6,61 @@ ghost use Rattle.serde_json.specs.View.{view};
 ghost use Rattle.schema.specs.Views.{row_view, rows_view};
 ghost use Rattle.filter.specs.Terms.{terms_view, each_of};
 ghost use Rattle.table.specs.Views.{columns_view};
-ghost use Rattle.jsonrows.specs.Calls.{natural_of, naturals_of, row_in, rows_of, columns_of, bytes_of, rows_at, natural_at, numbers_at, filter_at, columns_at, bytes_at};
+ghost use Rattle.jsonrows.specs.Calls.{natural_of, naturals_of, row_in_as, rows_of_as, columns_of, bytes_of};
+ghost use Rattle.jsonrows.specs.Calls.{rows_at_as, natural_at, numbers_at, filter_at_as, columns_at, bytes_at};
 
 use crate::filter_reading::{filter_of, names_from};
 use bits::{R, Refusal};
 use filter::Term;
-use rowtext::{bytes_of_digits, members_from};
+use rowtext::{bytes_of_digits, members_from_as};
 use schema::{Row, Schema};
 use serde_json::Value as Json;
 use std::alloc::Global;
 
 /// The rows of a call.
-pub fn rows_at(alloc: Global, schema: &Schema, json: &Json) -> R<Vec<Row>>
-    ensures made { IfOk result (λ rows. rows_at schema.now (view json.now) ≡ Ok (rows_view rows.items)) }
-    ensures which { RefusedOnly (λ e. rows_at schema.now (view json.now) ≡ Err e) result }
+pub fn rows_at(alloc: Global, schema: &Schema, json: &Json, texts: bool) -> R<Vec<Row>>
+    ensures made { IfOk result (λ rows. rows_at_as texts schema.now (view json.now) ≡ Ok (rows_view rows.items)) }
+    ensures which { RefusedOnly (λ e. rows_at_as texts schema.now (view json.now) ≡ Err e) result }
 {
     let Some(member) = json.get("rows") else {
         return Err(Refusal::Script);
     };
-    rows_of(alloc, schema, member)
+    rows_of(alloc, schema, member, texts)
 }
 
 /// The rows that a JSON value is.
-fn rows_of(alloc: Global, schema: &Schema, json: &Json) -> R<Vec<Row>>
-    ensures made { IfOk result (λ rows. rows_of schema.now (view json.now) ≡ Ok (rows_view rows.items)) }
-    ensures which { RefusedOnly (λ e. rows_of schema.now (view json.now) ≡ Err e) result }
+fn rows_of(alloc: Global, schema: &Schema, json: &Json, texts: bool) -> R<Vec<Row>>
+    ensures made { IfOk result (λ rows. rows_of_as texts schema.now (view json.now) ≡ Ok (rows_view rows.items)) }
+    ensures which { RefusedOnly (λ e. rows_of_as texts schema.now (view json.now) ≡ Err e) result }
 {
     match json {
-        Json::Array(items) => rows_in(alloc, schema, items.as_slice()),
+        Json::Array(items) => rows_in(alloc, schema, items.as_slice(), texts),
         _ => Err(Refusal::Script),
     }
 }
 
 /// The rows that JSON values are.
-fn rows_in(alloc: Global, schema: &Schema, items: &[Json]) -> R<Vec<Row>>
-    ensures made { IfOk result (λ rows. each_of (row_in schema.now) (map view items.now) ≡ Ok (rows_view rows.items)) }
-    ensures which { RefusedOnly (λ e. each_of (row_in schema.now) (map view items.now) ≡ Err e) result }
+fn rows_in(alloc: Global, schema: &Schema, items: &[Json], texts: bool) -> R<Vec<Row>>
+    ensures made { IfOk result (λ rows. each_of (row_in_as texts schema.now) (map view items.now) ≡ Ok (rows_view rows.items)) }
+    ensures which { RefusedOnly (λ e. each_of (row_in_as texts schema.now) (map view items.now) ≡ Err e) result }
 {
     let mut rows = Vec::with_capacity(alloc, items.len())?;
     for item in items {
-        let row = row_in(alloc, schema, item)?;
+        let row = row_in(alloc, schema, item, texts)?;
         rows.push(row)?;
     }
     Ok(rows)
 }
 
 /// The row that a JSON value is.
-fn row_in(alloc: Global, schema: &Schema, json: &Json) -> R<Row>
-    ensures made { IfOk result (λ row. row_in schema.now (view json.now) ≡ Ok (row_view row)) }
-    ensures which { RefusedOnly (λ e. row_in schema.now (view json.now) ≡ Err e) result }
+fn row_in(alloc: Global, schema: &Schema, json: &Json, texts: bool) -> R<Row>
+    ensures made { IfOk result (λ row. row_in_as texts schema.now (view json.now) ≡ Ok (row_view row)) }
+    ensures which { RefusedOnly (λ e. row_in_as texts schema.now (view json.now) ≡ Err e) result }
 {
     let Json::Object(members) = json.clone()? else {
         return Err(Refusal::Script);
     };
-    match members_from(alloc, schema.fields(), members)? {
+    match members_from_as(alloc, schema.fields(), members, texts)? {
         Some(values) => Ok(Row { values }),
         None => Err(Refusal::RowShape),
     }
@@ -126,12 +127,12 @@ fn naturals_in(alloc: Global, items: &[Json]) -> R<Vec<u64>>
 }
 
 /// The filter of a call.
-pub fn filter_at(alloc: Global, schema: &Schema, json: &Json) -> R<Vec<Vec<Term>>>
-    ensures made { IfOk result (λ terms. filter_at schema.now (view json.now) ≡ Ok (terms_view terms.items)) }
-    ensures which { RefusedOnly (λ e. filter_at schema.now (view json.now) ≡ Err e) result }
+pub fn filter_at(alloc: Global, schema: &Schema, json: &Json, texts: bool) -> R<Vec<Vec<Term>>>
+    ensures made { IfOk result (λ terms. filter_at_as texts schema.now (view json.now) ≡ Ok (terms_view terms.items)) }
+    ensures which { RefusedOnly (λ e. filter_at_as texts schema.now (view json.now) ≡ Err e) result }
 {
     match json.get("filter") {
-        Some(member) => filter_of(alloc, schema.leaves(), member),
+        Some(member) => filter_of(alloc, schema.leaves(), member, texts),
         None => Err(Refusal::Script),
     }
 }

@@ -9,12 +9,16 @@ ghost use Rattle.schema.specs.Stripe.{leaves_of};
 ghost use Rattle.schema.specs.Values.{view as value_view};
 ghost use Rattle.schema.specs.Views.{leaf_view, leaf_type_view};
 ghost use Rattle.filter.specs.Terms.{names_of, term_view, terms_view, each_of};
-ghost use Rattle.rowtext.specs.Reading.{leaf_read};
-ghost use Rattle.jsonrows.specs.Filters.{name_of, column_of, operator_named, operator_of, leaf_named, is_of_kind, by_kind, or_fault, single_value, value_of, term_by, term_in, term_of, and_of, are_triple, is_triple, filter_in, filter_of, IsFilterText, IsRefusedFilter};
+ghost use Rattle.leaftext.specs.Forms.{form_if};
+ghost use Rattle.rowtext.specs.Reading.{leaf_read_as};
+ghost use Rattle.jsonrows.specs.Filters.{name_of, column_of, operator_named, operator_of, leaf_named, is_of_kind};
+ghost use Rattle.jsonrows.specs.Filters.{is_kind_of_bytes, is_of_formed_kind, is_of_kind_as};
+ghost use Rattle.jsonrows.specs.Filters.{by_kind, or_fault, single_value_as, value_of_as, term_by_as, term_in_as, term_of_as, and_of_as, are_triple, is_triple, filter_in_as, filter_of_as};
+ghost use Rattle.jsonrows.specs.Filters.{IsFilterText, IsFilterTextAs, IsRefusedFilter, IsRefusedFilterAs};
 
 use bits::{R, Refusal};
 use filter::{Op, Term};
-use rowtext::{json_of, leaf_from};
+use rowtext::{form_if, json_of, leaf_from_as};
 use schema::{Kind, Leaf, LeafType, Schema, Value};
 use serde_json::Value as Json;
 use std::alloc::Global;
@@ -49,8 +53,17 @@ pub fn filter_from(alloc: Global, schema: &Schema, text: &str) -> R<Vec<Vec<Term
     ensures stands { IfOk result (λ ands. IsFilterText (leaves_of schema.now) text.now (terms_view ands.items)) }
     ensures which { IfErr result (IsRefusedFilter (leaves_of schema.now) text.now) }
 {
+    filter_from_as(alloc, schema, text, false)
+}
+
+/// The terms of a filter over the leaves of a schema, as [`filter_from`] reads them, under the same refusals; with `texts`,
+/// values of dates, times, timestamps and decimals over INT32 and INT64 are also read from their texts.
+pub fn filter_from_as(alloc: Global, schema: &Schema, text: &str, texts: bool) -> R<Vec<Vec<Term>>>
+    ensures stands { IfOk result (λ ands. IsFilterTextAs texts (leaves_of schema.now) text.now (terms_view ands.items)) }
+    ensures which { IfErr result (IsRefusedFilterAs texts (leaves_of schema.now) text.now) }
+{
     let json = json_of(alloc, text)?;
-    filter_of(alloc, schema.leaves(), &json)
+    filter_of(alloc, schema.leaves(), &json, texts)
 }
 
 /// The operator of a word, where it is one of these.
@@ -168,6 +181,34 @@ fn is_of_kind(kind: Kind, json: &Json) -> bool
     )
 }
 
+/// Whether values of this physical type are bytes.
+fn is_kind_of_bytes(kind: Kind) -> bool
+    ensures { result ≡ is_kind_of_bytes kind }
+{
+    matches!(kind, Kind::ByteArray | Kind::FixedLenByteArray(_))
+}
+
+/// The same where the values have texts: a string too, and an object where they are bytes.
+fn is_of_formed_kind(kind: Kind, json: &Json) -> bool
+    ensures { result ≡ is_of_formed_kind kind (view json.now) }
+{
+    match json {
+        Json::String(_) => true,
+        Json::Object(_) => is_kind_of_bytes(kind),
+        Json::Null | Json::Bool(_) | Json::Number(_) | Json::Array(_) => is_of_kind(kind, json),
+    }
+}
+
+/// The same for a leaf, with texts or without.
+fn is_of_kind_as(texts: bool, leaf_type: &LeafType, json: &Json) -> bool
+    ensures { result ≡ is_of_kind_as (form_if texts (leaf_type_view leaf_type.now)) leaf_type.now.kind (view json.now) }
+{
+    match form_if(texts, leaf_type) {
+        Some(_) => is_of_formed_kind(leaf_type.kind, json),
+        None => is_of_kind(leaf_type.kind, json),
+    }
+}
+
 /// A value by its JSON kind: text as its bytes, a number as an integer.
 fn by_kind(alloc: Global, json: &Json) -> R<Value>
     ensures made { IfOk result (λ value. by_kind (view json.now) ≡ Ok (value_view value)) }
@@ -187,26 +228,26 @@ fn by_kind(alloc: Global, json: &Json) -> R<Value>
 }
 
 /// A value of a leaf. Refused RowShape where the leaf cannot have it.
-fn leaf_value(alloc: Global, leaf_type: &LeafType, json: &Json) -> R<Value>
-    ensures made { IfOk result (λ value. or_fault RowShape (leaf_read (leaf_type_view leaf_type.now) (view json.now)) ≡ Ok (value_view value)) }
-    ensures which { RefusedOnly (λ e. or_fault RowShape (leaf_read (leaf_type_view leaf_type.now) (view json.now)) ≡ Err e) result }
+fn leaf_value(alloc: Global, leaf_type: &LeafType, json: &Json, texts: bool) -> R<Value>
+    ensures made { IfOk result (λ value. or_fault RowShape (leaf_read_as texts (leaf_type_view leaf_type.now) (view json.now)) ≡ Ok (value_view value)) }
+    ensures which { RefusedOnly (λ e. or_fault RowShape (leaf_read_as texts (leaf_type_view leaf_type.now) (view json.now)) ≡ Err e) result }
 {
     let json = json.clone()?;
-    match leaf_from(alloc, leaf_type, json)? {
+    match leaf_from_as(alloc, leaf_type, json, texts)? {
         Some(value) => Ok(value),
         None => Err(Refusal::RowShape),
     }
 }
 
 /// A value that is no list: as in the rows of its leaf, or by its kind.
-fn single_value(alloc: Global, leaf_type: Option<&LeafType>, json: &Json) -> R<Value>
-    ensures made { IfOk result (λ value. single_value (option_map (λ t. leaf_type_view t.now) leaf_type.entry) (view json.now) ≡ Ok (value_view value)) }
-    ensures which { RefusedOnly (λ e. single_value (option_map (λ t. leaf_type_view t.now) leaf_type.entry) (view json.now) ≡ Err e) result }
+fn single_value(alloc: Global, leaf_type: Option<&LeafType>, json: &Json, texts: bool) -> R<Value>
+    ensures made { IfOk result (λ value. single_value_as texts (option_map (λ t. leaf_type_view t.now) leaf_type.entry) (view json.now) ≡ Ok (value_view value)) }
+    ensures which { RefusedOnly (λ e. single_value_as texts (option_map (λ t. leaf_type_view t.now) leaf_type.entry) (view json.now) ≡ Err e) result }
 {
     match leaf_type {
         Some(leaf_type) => {
-            if is_of_kind(leaf_type.kind, json) {
-                leaf_value(alloc, leaf_type, json)
+            if is_of_kind_as(texts, leaf_type, json) {
+                leaf_value(alloc, leaf_type, json, texts)
             } else {
                 by_kind(alloc, json)
             }
@@ -217,102 +258,114 @@ fn single_value(alloc: Global, leaf_type: Option<&LeafType>, json: &Json) -> R<V
 
 /// The value of a term, at its leaf where there is one.
 #[cycle(values)]
-fn value_of(alloc: Global, leaf_type: Option<&LeafType>, json: &Json) -> R<Value>
-    ensures made { IfOk result (λ value. value_of (option_map (λ t. leaf_type_view t.now) leaf_type.entry) (view json.now) ≡ Ok (value_view value)) }
-    ensures which { RefusedOnly (λ e. value_of (option_map (λ t. leaf_type_view t.now) leaf_type.entry) (view json.now) ≡ Err e) result }
+fn value_of(alloc: Global, leaf_type: Option<&LeafType>, json: &Json, texts: bool) -> R<Value>
+    ensures made { IfOk result (λ value. value_of_as texts (option_map (λ t. leaf_type_view t.now) leaf_type.entry) (view json.now) ≡ Ok (value_view value)) }
+    ensures which { RefusedOnly (λ e. value_of_as texts (option_map (λ t. leaf_type_view t.now) leaf_type.entry) (view json.now) ≡ Err e) result }
 {
     match json {
         Json::Array(items) => {
-            let values = values_of(alloc, leaf_type, items.as_slice())?;
+            let values = values_of(alloc, leaf_type, items.as_slice(), texts)?;
             Ok(Value::List(values))
         }
         Json::Null | Json::Bool(_) | Json::Number(_) | Json::String(_) | Json::Object(_) => {
-            single_value(alloc, leaf_type, json)
+            single_value(alloc, leaf_type, json, texts)
         }
     }
 }
 
 /// The values of a list.
 #[cycle(values)]
-fn values_of(alloc: Global, leaf_type: Option<&LeafType>, items: &[Json]) -> R<Vec<Value>>
-    ensures made { IfOk result (λ values. each_of (value_of (option_map (λ t. leaf_type_view t.now) leaf_type.entry)) (map view items.now) ≡ Ok
+fn values_of(
+    alloc: Global,
+    leaf_type: Option<&LeafType>,
+    items: &[Json],
+    texts: bool,
+) -> R<Vec<Value>>
+    ensures made { IfOk result (λ values. each_of (value_of_as texts (option_map (λ t. leaf_type_view t.now) leaf_type.entry)) (map view items.now) ≡ Ok
         (map value_view values.items)) }
-    ensures which { RefusedOnly (λ e. each_of (value_of (option_map (λ t. leaf_type_view t.now) leaf_type.entry)) (map view items.now) ≡ Err e) result }
+    ensures which { RefusedOnly (λ e. each_of (value_of_as texts (option_map (λ t. leaf_type_view t.now) leaf_type.entry)) (map view items.now) ≡ Err e) result }
 {
     let mut values = Vec::with_capacity(alloc, items.len())?;
     for item in items {
-        let value = value_of(alloc, leaf_type, item)?;
+        let value = value_of(alloc, leaf_type, item, texts)?;
         values.push(value)?;
     }
     Ok(values)
 }
 
 /// The term of a column, an operator and a value.
-fn term_by(alloc: Global, leaves: &[Leaf], column: &Json, operator: &Json, value: &Json) -> R<Term>
-    ensures made { IfOk result (λ term. term_by (map leaf_view leaves.now) (view column.now) (view operator.now) (view value.now) ≡ Ok (term_view term)) }
-    ensures which { RefusedOnly (λ e. term_by (map leaf_view leaves.now) (view column.now) (view operator.now) (view value.now) ≡ Err e) result }
+fn term_by(
+    alloc: Global,
+    leaves: &[Leaf],
+    column: &Json,
+    operator: &Json,
+    value: &Json,
+    texts: bool,
+) -> R<Term>
+    ensures made { IfOk result (λ term. term_by_as texts (map leaf_view leaves.now) (view column.now) (view operator.now) (view value.now) ≡ Ok (term_view term)) }
+    ensures which { RefusedOnly (λ e. term_by_as texts (map leaf_view leaves.now) (view column.now) (view operator.now) (view value.now) ≡ Err e) result }
 {
     let column = column_of(alloc, column)?;
     let op = operator_of(operator)?;
     let leaf_type = leaf_named(leaves, column.as_slice());
-    let value = value_of(alloc, leaf_type, value)?;
+    let value = value_of(alloc, leaf_type, value, texts)?;
     Ok(Term { column, op, value })
 }
 
 /// The term of some members, of which there are to be three.
-fn term_in(alloc: Global, leaves: &[Leaf], members: &[Json]) -> R<Term>
-    ensures made { IfOk result (λ term. term_in (map leaf_view leaves.now) (map view members.now) ≡ Ok (term_view term)) }
-    ensures which { RefusedOnly (λ e. term_in (map leaf_view leaves.now) (map view members.now) ≡ Err e) result }
+fn term_in(alloc: Global, leaves: &[Leaf], members: &[Json], texts: bool) -> R<Term>
+    ensures made { IfOk result (λ term. term_in_as texts (map leaf_view leaves.now) (map view members.now) ≡ Ok (term_view term)) }
+    ensures which { RefusedOnly (λ e. term_in_as texts (map leaf_view leaves.now) (map view members.now) ≡ Err e) result }
 {
     match members {
-        [column, operator, value] => term_by(alloc, leaves, column, operator, value),
+        [column, operator, value] => term_by(alloc, leaves, column, operator, value, texts),
         _ => Err(Refusal::Script),
     }
 }
 
 /// The term that a JSON value is.
-fn term_of(alloc: Global, leaves: &[Leaf], json: &Json) -> R<Term>
-    ensures made { IfOk result (λ term. term_of (map leaf_view leaves.now) (view json.now) ≡ Ok (term_view term)) }
-    ensures which { RefusedOnly (λ e. term_of (map leaf_view leaves.now) (view json.now) ≡ Err e) result }
+fn term_of(alloc: Global, leaves: &[Leaf], json: &Json, texts: bool) -> R<Term>
+    ensures made { IfOk result (λ term. term_of_as texts (map leaf_view leaves.now) (view json.now) ≡ Ok (term_view term)) }
+    ensures which { RefusedOnly (λ e. term_of_as texts (map leaf_view leaves.now) (view json.now) ≡ Err e) result }
 {
     match json {
-        Json::Array(members) => term_in(alloc, leaves, members.as_slice()),
+        Json::Array(members) => term_in(alloc, leaves, members.as_slice(), texts),
         _ => Err(Refusal::Script),
     }
 }
 
 /// The terms of an AND.
-fn terms_of(alloc: Global, leaves: &[Leaf], items: &[Json]) -> R<Vec<Term>>
-    ensures made { IfOk result (λ terms. each_of (term_of (map leaf_view leaves.now)) (map view items.now) ≡ Ok (map term_view terms.items)) }
-    ensures which { RefusedOnly (λ e. each_of (term_of (map leaf_view leaves.now)) (map view items.now) ≡ Err e) result }
+fn terms_of(alloc: Global, leaves: &[Leaf], items: &[Json], texts: bool) -> R<Vec<Term>>
+    ensures made { IfOk result (λ terms. each_of (term_of_as texts (map leaf_view leaves.now)) (map view items.now) ≡ Ok (map term_view terms.items)) }
+    ensures which { RefusedOnly (λ e. each_of (term_of_as texts (map leaf_view leaves.now)) (map view items.now) ≡ Err e) result }
 {
     let mut terms = Vec::with_capacity(alloc, items.len())?;
     for item in items {
-        let term = term_of(alloc, leaves, item)?;
+        let term = term_of(alloc, leaves, item, texts)?;
         terms.push(term)?;
     }
     Ok(terms)
 }
 
 /// The AND that a JSON value is.
-fn and_of(alloc: Global, leaves: &[Leaf], json: &Json) -> R<Vec<Term>>
-    ensures made { IfOk result (λ terms. and_of (map leaf_view leaves.now) (view json.now) ≡ Ok (map term_view terms.items)) }
-    ensures which { RefusedOnly (λ e. and_of (map leaf_view leaves.now) (view json.now) ≡ Err e) result }
+fn and_of(alloc: Global, leaves: &[Leaf], json: &Json, texts: bool) -> R<Vec<Term>>
+    ensures made { IfOk result (λ terms. and_of_as texts (map leaf_view leaves.now) (view json.now) ≡ Ok (map term_view terms.items)) }
+    ensures which { RefusedOnly (λ e. and_of_as texts (map leaf_view leaves.now) (view json.now) ≡ Err e) result }
 {
     match json {
-        Json::Array(items) => terms_of(alloc, leaves, items.as_slice()),
+        Json::Array(items) => terms_of(alloc, leaves, items.as_slice(), texts),
         _ => Err(Refusal::Script),
     }
 }
 
 /// The ANDs that JSON values are.
-fn ands_of(alloc: Global, leaves: &[Leaf], items: &[Json]) -> R<Vec<Vec<Term>>>
-    ensures made { IfOk result (λ ands. each_of (and_of (map leaf_view leaves.now)) (map view items.now) ≡ Ok (terms_view ands.items)) }
-    ensures which { RefusedOnly (λ e. each_of (and_of (map leaf_view leaves.now)) (map view items.now) ≡ Err e) result }
+fn ands_of(alloc: Global, leaves: &[Leaf], items: &[Json], texts: bool) -> R<Vec<Vec<Term>>>
+    ensures made { IfOk result (λ ands. each_of (and_of_as texts (map leaf_view leaves.now)) (map view items.now) ≡ Ok (terms_view ands.items)) }
+    ensures which { RefusedOnly (λ e. each_of (and_of_as texts (map leaf_view leaves.now)) (map view items.now) ≡ Err e) result }
 {
     let mut ands = Vec::with_capacity(alloc, items.len())?;
     for item in items {
-        let terms = and_of(alloc, leaves, item)?;
+        let terms = and_of(alloc, leaves, item, texts)?;
         ands.push(terms)?;
     }
     Ok(ands)
@@ -339,31 +392,31 @@ fn is_triple(json: &Json) -> bool
 }
 
 /// The ANDs that the members of an array are: triples are one AND.
-fn filter_in(alloc: Global, leaves: &[Leaf], items: &[Json]) -> R<Vec<Vec<Term>>>
-    ensures made { IfOk result (λ ands. filter_in (map leaf_view leaves.now) (map view items.now) ≡ Ok (terms_view ands.items)) }
-    ensures which { RefusedOnly (λ e. filter_in (map leaf_view leaves.now) (map view items.now) ≡ Err e) result }
+fn filter_in(alloc: Global, leaves: &[Leaf], items: &[Json], texts: bool) -> R<Vec<Vec<Term>>>
+    ensures made { IfOk result (λ ands. filter_in_as texts (map leaf_view leaves.now) (map view items.now) ≡ Ok (terms_view ands.items)) }
+    ensures which { RefusedOnly (λ e. filter_in_as texts (map leaf_view leaves.now) (map view items.now) ≡ Err e) result }
 {
     match items {
         [] => Ok(Vec::new(alloc)),
         [first, ..] => {
             if is_triple(first) {
-                let terms = terms_of(alloc, leaves, items)?;
+                let terms = terms_of(alloc, leaves, items, texts)?;
                 let ands = vec![in alloc; terms]?;
                 Ok(ands)
             } else {
-                ands_of(alloc, leaves, items)
+                ands_of(alloc, leaves, items, texts)
             }
         }
     }
 }
 
 /// The filter that a JSON value is.
-pub fn filter_of(alloc: Global, leaves: &[Leaf], json: &Json) -> R<Vec<Vec<Term>>>
-    ensures made { IfOk result (λ ands. filter_of (map leaf_view leaves.now) (view json.now) ≡ Ok (terms_view ands.items)) }
-    ensures which { RefusedOnly (λ e. filter_of (map leaf_view leaves.now) (view json.now) ≡ Err e) result }
+pub fn filter_of(alloc: Global, leaves: &[Leaf], json: &Json, texts: bool) -> R<Vec<Vec<Term>>>
+    ensures made { IfOk result (λ ands. filter_of_as texts (map leaf_view leaves.now) (view json.now) ≡ Ok (terms_view ands.items)) }
+    ensures which { RefusedOnly (λ e. filter_of_as texts (map leaf_view leaves.now) (view json.now) ≡ Err e) result }
 {
     match json {
-        Json::Array(items) => filter_in(alloc, leaves, items.as_slice()),
+        Json::Array(items) => filter_in(alloc, leaves, items.as_slice(), texts),
         _ => Err(Refusal::Script),
     }
 }

@@ -3,10 +3,10 @@
 ghost use Rattle.std.specs.Prelude.{◌≡◌, IfOk, IfErr, OnErr, unwrap_or, option_map};
 ghost use Rattle.bits.specs.Refusals.{RefusedMemoryOnly};
 ghost use Rattle.table.specs.Views.{call_view};
-ghost use Rattle.jsonrows.specs.Calls.{IsCallText, IsRefusedCall};
+ghost use Rattle.jsonrows.specs.Calls.{IsCallText, IsCallTextAs, IsRefusedCall, IsRefusedCallAs};
 ghost use Rattle.jsonrows.specs.Scripts.{next_schema, IsAfter};
 
-use crate::call_reading::call_from;
+use crate::call_reading::call_from_as;
 use bits::{R, Refusal};
 use schema::Schema;
 use std::alloc::Global;
@@ -42,7 +42,17 @@ impl ScriptReader {
         ensures which { IfErr result (IsRefusedCall (next_schema self.old) line.now) }
         ensures unchanged { OnErr result (next_schema self.new ≡ next_schema self.old) }
     {
-        let call = call_from(alloc, &self.schema, line)?;
+        self.read_as(alloc, line, false)
+    }
+
+    /// The same with `texts`, as `call_from_as` reads the line.
+    pub fn read_as(&mut self, alloc: Global, line: &str, texts: bool) -> R<Call>
+        ensures stands { IfOk result (λ call. IsCallTextAs texts (next_schema self.old) line.now (call_view call)) }
+        ensures after { IfOk result (λ call. IsAfter (call_view call) (next_schema self.old) (next_schema self.new)) }
+        ensures which { IfErr result (IsRefusedCallAs texts (next_schema self.old) line.now) }
+        ensures unchanged { OnErr result (next_schema self.new ≡ next_schema self.old) }
+    {
+        let call = call_from_as(alloc, &self.schema, line, texts)?;
         if let Some(schema) = grown(alloc, &self.schema, &call)? {
             self.schema = schema;
         }

@@ -1,18 +1,21 @@
 //! What a file is, by its footer and its page headers.
 
-ghost use Rattle.std.specs.Prelude.{IfOk, IfErr, List, ℕ};
+ghost use Rattle.std.specs.Prelude.{◌≡◌, ◌↔◌, IfOk, IfErr, List, ℕ, None};
 ghost use Rattle.metadata.specs.Records.{FileMeta as FileRecord};
 ghost use Rattle.footer.specs.File.{IsFile};
+ghost use Rattle.bits.specs.Refusals.{RefusedMemoryOnly};
 ghost use Rattle.footer.specs.Faults.{HasFooterFault};
+ghost use Rattle.reports.specs.Verdict.{IsAccepted};
 
 use crate::inspect_chunks::group_of;
 use crate::inspect_pages::MOST_PAGES;
-use crate::inspect_problems::problems_of;
+use crate::inspect_problems::{problems_of, what_of_refusal};
 use crate::inspect_report::{FileReport, KeyValueReport};
 use crate::inspect_schema::{fields_of, shown, shown_where_given};
-use crate::inspect_text::text_of_report;
+use crate::inspect_text::{problem_text, text_of_report};
+use crate::verdict::refusal_of_file;
 use bits::{R, Refusal};
-use footer::read_footer;
+use footer::{MOST_BYTES_OF_FILE, MOST_BYTES_OF_FOOTER, read_footer};
 use metadata::FileMeta;
 use schema::{Leaf, Schema};
 use std::alloc::{AllocError, Global};
@@ -21,7 +24,7 @@ use std::alloc::{AllocError, Global};
 const BYTES_AFTER_FOOTER: usize = 8;
 
 /// What a file is, as text for a person or as a line of JSON. Only the footer and the page headers are read, and
-/// no value. Refused as [`read_footer`] is. Time is linear in the footer and in the page headers that are listed, at
+/// no value, but for the groups that `decode` may refuse by these: they are read as `decode` reads them. Refused as [`read_footer`] is. Time is linear in the footer and in the page headers that are listed, at
 /// most [`MOST_PAGES`]; no memory is asked for by an announced number.
 pub fn report_text(alloc: Global, bytes: &[u8], as_json: bool) -> R<Vec<u8>>
     ensures stands { IfOk result (λ text. (front : List ℕ) × (meta : FileRecord) × IsFile bytes.now front meta) }
@@ -35,6 +38,71 @@ pub fn report_text(alloc: Global, bytes: &[u8], as_json: bool) -> R<Vec<u8>>
         text_of_report(alloc, &report)?
     };
     Ok(text)
+}
+
+/// What is wrong with the bytes of a file, and where: the first of its problems, as a sentence. None exactly where `decode`
+/// accepts the file. It fails only when out of memory.
+pub fn first_problem(alloc: Global, bytes: &[u8]) -> R<Option<String>>
+    ensures verdict { IfOk result (λ found. (found ≡ None) ↔ IsAccepted bytes.now) }
+    ensures which { RefusedMemoryOnly result }
+{
+    match refusal_of_file(alloc, bytes)? {
+        Some(refusal) => Ok(Some(what_of_bytes(alloc, bytes, &refusal)?)),
+        None => Ok(None),
+    }
+}
+
+/// What is wrong with the bytes of a file that is refused so. It fails only when out of memory.
+fn what_of_bytes(alloc: Global, bytes: &[u8], refusal: &Refusal) -> Result<String, AllocError> {
+    match read_footer(alloc, bytes) {
+        Ok(record) => what_of_file(alloc, bytes, &record, refusal),
+        Err(Refusal::Memory) => Err(AllocError),
+        Err(frame) => what_of_frame(alloc, bytes, &frame),
+    }
+}
+
+/// What is wrong with a file with this footer that is refused so: the first problem of its schema and its groups.
+fn what_of_file(
+    alloc: Global,
+    bytes: &[u8],
+    record: &FileMeta,
+    refusal: &Refusal,
+) -> Result<String, AllocError> {
+    let schema = schema_of(alloc, record)?;
+    let front = front_of(bytes, footer_length(bytes).unwrap_or(0));
+    let mut places = Vec::new(alloc);
+    for place in 0..record.row_groups.len() {
+        places.push(place)?;
+    }
+    let problems = problems_of(alloc, front, record, &schema, places.as_slice())?;
+    match problems.first() {
+        Some(problem) => problem_text(alloc, problem),
+        None => what_of_refusal(alloc, refusal),
+    }
+}
+
+/// What is wrong with a file whose footer cannot be read.
+fn what_of_frame(alloc: Global, bytes: &[u8], refusal: &Refusal) -> Result<String, AllocError> {
+    let (length, footer) = (bytes.len(), footer_length(bytes).unwrap_or(0));
+    match refusal {
+        Refusal::Magic => String::from_str(
+            alloc,
+            "it does not begin and end with PAR1: no Parquet file, one that was cut, or an encrypted one",
+        ),
+        Refusal::Truncated if length < 12 => format!(in alloc;
+            "it has {length} bytes, and a Parquet file has 12 at least"
+        ),
+        Refusal::Truncated => format!(in alloc;
+            "it is cut: it has {length} bytes, and its footer of {footer} ends early"
+        ),
+        Refusal::Limit if length > MOST_BYTES_OF_FILE => format!(in alloc;
+            "it has {length} bytes, of {MOST_BYTES_OF_FILE} at most"
+        ),
+        Refusal::Limit => format!(in alloc;
+            "its footer has {footer} bytes, of {MOST_BYTES_OF_FOOTER} at most"
+        ),
+        _ => String::from_str(alloc, "its footer is no struct of the wanted shape"),
+    }
 }
 
 /// The length of the footer that a file announces.
@@ -90,12 +158,17 @@ fn report_of(alloc: Global, bytes: &[u8], record: &FileMeta) -> Result<FileRepor
     let front = front_of(bytes, footer_bytes);
     let schema = schema_of(alloc, record)?;
     let mut groups = Vec::new(alloc);
+    let mut suspects = Vec::new(alloc);
     let mut room = MOST_PAGES;
-    for group in &record.row_groups {
+    for (place, group) in record.row_groups.iter().enumerate() {
         let leaves = leaves_of(&schema);
-        groups.push(group_of(alloc, front, group, leaves, &mut room)?)?;
+        let (report, is_suspect) = group_of(alloc, front, group, leaves, &mut room)?;
+        groups.push(report)?;
+        if is_suspect {
+            suspects.push(place)?;
+        }
     }
-    let not_read = problems_of(alloc, record, groups.as_slice(), &schema)?;
+    let not_read = problems_of(alloc, front, record, &schema, suspects.as_slice())?;
     Ok(FileReport {
         bytes: bytes.len(),
         footer_bytes,

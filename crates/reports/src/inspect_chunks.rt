@@ -2,6 +2,7 @@
 
 use crate::inspect_names::{codec_name, encoding_name, name_or_number, type_name};
 use crate::inspect_pages::{Pages, Unlisted, pages_of};
+use crate::inspect_problems::{is_suspect, is_suspect_chunk};
 use crate::inspect_report::{ChunkReport, GroupReport};
 use crate::inspect_schema::{shown, shown_where_given};
 use crate::inspect_statistics::statistics_of;
@@ -21,23 +22,32 @@ pub fn path_of(alloc: Global, meta: &ColumnMeta) -> Result<String, AllocError> {
     Ok(path)
 }
 
-/// A row group; `room` is how many pages may be listed, and then how many more.
+/// A row group, and whether its record or the headers of its pages raise a suspicion that `decode` refuses it; `room` is how many
+/// pages may be listed, and then how many more.
 pub fn group_of(
     alloc: Global,
     front: &[u8],
     group: &GroupMeta,
     leaves: &[Leaf],
     room: &mut usize,
-) -> Result<GroupReport, AllocError> {
+) -> Result<(GroupReport, bool), AllocError> {
     let mut chunks = Vec::new(alloc);
+    let mut suspicion = is_suspect(group, leaves);
     for (place, chunk) in group.columns.iter().enumerate() {
-        chunks.push(chunk_of(alloc, front, chunk, leaves.get(place), room)?)?;
+        let leaf = leaves.get(place);
+        let pages = pages_here(alloc, front, chunk, leaf, *room)?;
+        *room = room.saturating_sub(pages.listed.len());
+        suspicion = suspicion
+            || pages.are_suspect
+            || is_suspect_chunk(alloc, &chunk.meta_data, leaf)?;
+        chunks.push(chunk_of(alloc, chunk, leaf, pages)?)?;
     }
-    Ok(GroupReport {
+    let report = GroupReport {
         rows: group.num_rows,
         bytes: group.total_byte_size,
         chunks,
-    })
+    };
+    Ok((report, suspicion))
 }
 
 /// The names of the encodings that a chunk says it has.
@@ -70,25 +80,19 @@ fn pages_here(
     room: usize,
 ) -> Result<Pages, AllocError> {
     if chunk.file_path.is_some() {
-        return Ok(Pages {
-            listed: Vec::new(alloc),
-            unlisted: Some(Unlisted::OtherFile),
-        });
+        return Ok(Pages::cut(Vec::new(alloc), Unlisted::OtherFile));
     }
     pages_of(alloc, front, &chunk.meta_data, leaf, room)
 }
 
-/// A chunk; `room` is how many pages may be listed, and then how many more.
+/// A chunk with these pages.
 fn chunk_of(
     alloc: Global,
-    front: &[u8],
     chunk: &ChunkMeta,
     leaf: Option<&Leaf>,
-    room: &mut usize,
+    pages: Pages,
 ) -> Result<ChunkReport, AllocError> {
     let meta = &chunk.meta_data;
-    let pages = pages_here(alloc, front, chunk, leaf, *room)?;
-    *room = room.saturating_sub(pages.listed.len());
     Ok(ChunkReport {
         column: path_of(alloc, meta)?,
         kind: name_or_number(alloc, type_name(meta.kind), meta.kind)?,

@@ -1,7 +1,8 @@
 //! What the numbers of the format are called (`parquet.thrift`).
 
-ghost use Rattle.std.specs.Prelude.{◌≡◌, option_map};
+ghost use Rattle.std.specs.Prelude.{◌≡◌, IfOk, option_map, string_bytes};
 ghost use Rattle.reports.specs.Names.{type_name, repetition_name, codec_name, encoding_name, page_name, converted_name, logical_name};
+ghost use Rattle.reports.specs.Notes.{name_or_number};
 
 use std::alloc::{AllocError, Global};
 
@@ -144,7 +145,9 @@ pub fn name_or_number(
     alloc: Global,
     name: Option<&'static str>,
     number: i32,
-) -> Result<String, AllocError> {
+) -> Result<String, AllocError>
+    ensures { IfOk result (λ said. string_bytes said ≡ name_or_number (option_map (λ n. n.now) name.entry) number) }
+{
     match name {
         Some(name) => Ok(String::from_str(alloc, name)?),
         None => Ok(format!(in alloc; "{number}")?),

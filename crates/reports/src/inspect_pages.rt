@@ -18,20 +18,17 @@ pub struct Pages {
     pub listed: Vec<PageReport>,
     /// Why not all pages of the chunk are listed; None where they are.
     pub unlisted: Option<Unlisted>,
+    /// Whether the headers raise a suspicion that `decode` refuses the pages.
+    pub are_suspect: bool,
 }
 
-/// Which of a page's encodings is not read.
-#[derive(Debug, Clone, Copy, PartialEq, Eq)]
-enum NotRead {
-    Levels,
-    Values,
-}
-
-impl NotRead {
-    fn words(self) -> &'static str {
-        match self {
-            NotRead::Levels => "levels",
-            NotRead::Values => "values",
+impl Pages {
+    /// Pages of which no more are listed, since `decode` may refuse the others.
+    pub fn cut(listed: Vec<PageReport>, why: Unlisted) -> Pages {
+        Pages {
+            listed,
+            unlisted: Some(why),
+            are_suspect: true,
         }
     }
 }
@@ -122,22 +119,21 @@ pub fn pages_of(
 ) -> Result<Pages, AllocError> {
     let mut listed = Vec::new(alloc);
     let Some(offset) = start_of(meta) else {
-        let unlisted = Some(Unlisted::Offset);
-        return Ok(Pages { listed, unlisted });
+        return Ok(Pages::cut(listed, Unlisted::Offset));
     };
     let mut walk = Walk {
-        leaf,
         front,
         offset,
         lacking: meta.num_values,
+        has_dictionary: false,
+        is_suspect: false,
     };
     for _ in 0..room {
         if walk.lacking <= 0 {
             break;
         }
-        let unlisted = walk.step(alloc, &mut listed)?;
-        if unlisted.is_some() {
-            return Ok(Pages { listed, unlisted });
+        if let Some(unlisted) = walk.step(alloc, leaf, &mut listed)? {
+            return Ok(Pages::cut(listed, unlisted));
         }
     }
     let unlisted = if walk.lacking > 0 {
@@ -145,7 +141,11 @@ pub fn pages_of(
     } else {
         None
     };
-    Ok(Pages { listed, unlisted })
+    Ok(Pages {
+        listed,
+        unlisted,
+        are_suspect: walk.is_suspect,
+    })
 }
 
 /// What the header that a page's type names says of the page. None for a page of another type.
@@ -183,33 +183,56 @@ fn is_read(encoding: i32, kind: Kind) -> bool {
     }
 }
 
-/// Whether the levels of a page of version 1 are read: those that the leaf has are in RLE.
-fn has_read_levels(header: &DataPageHeader, leaf: &Leaf) -> bool {
+/// Whether the levels of a page are read: those of version 1 that the leaf has are in RLE.
+fn has_read_levels(header: &PageHeader, leaf: &Leaf) -> bool {
+    match &header.data_page_header {
+        Some(own) if header.kind == DATA_PAGE => are_read_levels(own, leaf),
+        _ => true,
+    }
+}
+
+/// Whether the levels of a page of version 1 are read.
+fn are_read_levels(header: &DataPageHeader, leaf: &Leaf) -> bool {
     let definition = header.definition_level_encoding.unwrap_or(RLE);
     let repetition = header.repetition_level_encoding.unwrap_or(RLE);
     (leaf.greatest_definition == 0 || definition == RLE)
         && (leaf.greatest_repetition == 0 || repetition == RLE)
 }
 
-/// Which of a data page's encodings is not read, if one is not. Where all entries are null there are no values,
+/// Whether a page is one that `decode` may refuse for an encoding, by its header. Where all entries are null there are no values,
 /// and any encoding of values is read: in a page of version 1 that is not seen.
-fn not_read(header: &PageHeader, leaf: Option<&Leaf>) -> Option<NotRead> {
-    let leaf = leaf?;
-    let said = said_of(header)?;
-    if header.kind == DICTIONARY_PAGE || said.entries <= said.nulls.unwrap_or(0) {
-        return None;
+fn is_suspect_page(header: &PageHeader, leaf: Option<&Leaf>, has_dictionary: bool) -> bool {
+    let (Some(leaf), Some(said)) = (leaf, said_of(header)) else {
+        return false;
+    };
+    if header.kind == DICTIONARY_PAGE {
+        return said.encoding != PLAIN && said.encoding != PLAIN_DICTIONARY;
     }
-    if let Some(own) = &header.data_page_header
-        && header.kind == DATA_PAGE
-        && !has_read_levels(own, leaf)
-    {
-        return Some(NotRead::Levels);
+    if said.entries <= said.nulls.unwrap_or(0) {
+        return false;
     }
+    let needs_dictionary = matches!(said.encoding, PLAIN_DICTIONARY | RLE_DICTIONARY);
+    !has_read_levels(header, leaf)
+        || !is_read(said.encoding, leaf.leaf_type.kind)
+        || (needs_dictionary && !has_dictionary)
+}
+
+/// Which encoding of a data page that is refused for one it is, in words.
+pub fn what_of_encoding(alloc: Global, page: &PageAt, leaf: &Leaf) -> Result<String, AllocError> {
+    let offset = page.offset;
+    let Some(said) = said_of(&page.header) else {
+        return format!(in alloc; "an encoding of the page at {offset} is not read");
+    };
+    if !has_read_levels(&page.header, leaf) {
+        return format!(in alloc; "the encoding of the levels of the page at {offset} is not read");
+    }
+    let encoding = name_or_number(alloc, encoding_name(said.encoding), said.encoding)?;
     if is_read(said.encoding, leaf.leaf_type.kind) {
-        None
-    } else {
-        Some(NotRead::Values)
+        return format!(in alloc;
+            "encoding {encoding} of the page at {offset} has no dictionary that is read"
+        );
     }
+    format!(in alloc; "encoding {encoding} of the page at {offset} is not read for this type")
 }
 
 /// The page at this offset, whose header has this many bytes.
@@ -218,7 +241,6 @@ fn page_of(
     offset: usize,
     used: usize,
     header: &PageHeader,
-    leaf: Option<&Leaf>,
 ) -> Result<PageReport, AllocError> {
     let said = said_of(header);
     let encoding = match said {
@@ -233,7 +255,6 @@ fn page_of(
         nulls: said.and_then(|said| said.nulls),
         header_bytes: used,
         bytes: header.compressed_page_size,
-        not_read: not_read(header, leaf).map(NotRead::words),
     })
 }
 
@@ -252,43 +273,124 @@ fn lacking_after(lacking: i64, header: &PageHeader) -> Option<i64> {
     }
 }
 
+/// A data page of a chunk.
+#[derive(Drop)]
+pub struct PageAt {
+    pub offset: usize,
+    pub header: PageHeader,
+    /// Whether a dictionary comes before it.
+    pub has_dictionary: bool,
+    /// Why no page is read after it, where its own header says so.
+    pub ends: Option<Unlisted>,
+}
+
+/// The first data page with entries after so many entries of a chunk, by the headers of its pages; None where none is found, or
+/// not among the first [`MOST_PAGES`]. Refused only when out of memory.
+pub fn page_after(
+    alloc: Global,
+    front: &[u8],
+    meta: &ColumnMeta,
+    entries: u64,
+) -> Result<Option<PageAt>, AllocError> {
+    let Some(offset) = start_of(meta) else {
+        return Ok(None);
+    };
+    let mut walk = Walk {
+        front,
+        offset,
+        lacking: meta.num_values,
+        has_dictionary: false,
+        is_suspect: false,
+    };
+    for _ in 0..MOST_PAGES {
+        let Some((header, used)) = walk.header(alloc)? else {
+            return Ok(None);
+        };
+        let offset = walk.offset;
+        let is_wanted = walk.has_passed(meta, entries) && has_entries(&header);
+        let ends = walk.pass(used, &header);
+        if is_wanted {
+            return Ok(Some(PageAt {
+                offset,
+                header,
+                has_dictionary: walk.has_dictionary,
+                ends,
+            }));
+        }
+        if ends.is_some() {
+            return Ok(None);
+        }
+    }
+    Ok(None)
+}
+
+/// Whether a page has entries, by its header.
+fn has_entries(header: &PageHeader) -> bool {
+    match said_of(header) {
+        Some(said) => header.kind != DICTIONARY_PAGE && said.entries != 0,
+        None => false,
+    }
+}
+
 /// A walk over the pages of a chunk.
 #[derive(Drop)]
 struct Walk<'a> {
-    /// The leaf of the chunk, where it has one.
-    leaf: Option<&'a Leaf>,
     /// The bytes of the file before the footer.
     front: &'a [u8],
     offset: usize,
     lacking: i64,
+    /// Whether a dictionary was passed.
+    has_dictionary: bool,
+    /// Whether a header that was passed raises a suspicion that `decode` refuses the pages.
+    is_suspect: bool,
 }
 
 impl<'a> Walk<'a> {
+    /// The header of the next page, and how many bytes it has; None where there is none. Refused only when out of memory.
+    fn header(&self, alloc: Global) -> Result<Option<(PageHeader, usize)>, AllocError> {
+        let Some(rest) = self.front.get(self.offset..) else {
+            return Ok(None);
+        };
+        match PageHeader::read(alloc, rest) {
+            Ok(read) => Ok(Some(read)),
+            Err(Refusal::Memory) => Err(AllocError),
+            Err(_) => Ok(None),
+        }
+    }
+
+    /// Whether so many entries of the chunk are passed.
+    fn has_passed(&self, meta: &ColumnMeta, entries: u64) -> bool {
+        i128::from(meta.num_values) - i128::from(self.lacking) >= i128::from(entries)
+    }
+
+    /// Goes to where the page after this one begins. Returns why that cannot be, where it cannot.
+    fn pass(&mut self, used: usize, header: &PageHeader) -> Option<Unlisted> {
+        let Some(lacking) = lacking_after(self.lacking, header) else {
+            return Some(Unlisted::Entries);
+        };
+        let Some(next) = after(self.offset, used, header, self.front.len()) else {
+            return Some(Unlisted::Size);
+        };
+        self.lacking = lacking;
+        self.offset = next;
+        self.has_dictionary = self.has_dictionary || header.kind == DICTIONARY_PAGE;
+        None
+    }
+
     /// Reads a page's header, lists the page, and goes to where the next one begins. Returns why that cannot
     /// be, where it cannot.
     fn step(
         &mut self,
         alloc: Global,
+        leaf: Option<&Leaf>,
         listed: &mut Vec<PageReport>,
     ) -> Result<Option<Unlisted>, AllocError> {
-        let Some(rest) = self.front.get(self.offset..) else {
+        let Some((header, used)) = self.header(alloc)? else {
             return Ok(Some(Unlisted::Header));
         };
-        let (header, used) = match PageHeader::read(alloc, rest) {
-            Ok(read) => read,
-            Err(Refusal::Memory) => return Err(AllocError),
-            Err(_) => return Ok(Some(Unlisted::Header)),
-        };
-        listed.push(page_of(alloc, self.offset, used, &header, self.leaf)?)?;
-        match lacking_after(self.lacking, &header) {
-            Some(lacking) => self.lacking = lacking,
-            None => return Ok(Some(Unlisted::Entries)),
-        }
-        match after(self.offset, used, &header, self.front.len()) {
-            Some(next) => self.offset = next,
-            None => return Ok(Some(Unlisted::Size)),
-        }
-        Ok(None)
+        listed.push(page_of(alloc, self.offset, used, &header)?)?;
+        self.is_suspect = self.is_suspect || is_suspect_page(&header, leaf, self.has_dictionary);
+        Ok(self.pass(used, &header))
     }
 }
 

@@ -14,7 +14,7 @@ pub struct FileReport {
     pub key_values: Vec<KeyValueReport>,
     pub schema: Vec<FieldReport>,
     pub groups: Vec<GroupReport>,
-    /// What `decode` refuses, as far as the footer and the page headers show it.
+    /// What `decode` refuses, as far as the footer and the page headers raise a suspicion.
     pub not_read: Vec<Problem>,
 }
 
@@ -90,8 +90,6 @@ pub struct PageReport {
     pub nulls: Option<i32>,
     pub header_bytes: usize,
     pub bytes: i32,
-    /// `values` or `levels`, where `decode` does not read their encoding.
-    pub not_read: Option<&'static str>,
 }
 
 /// What `decode` refuses, and where.

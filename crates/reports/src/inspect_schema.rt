@@ -1,9 +1,8 @@
 //! The elements of a schema's list, as they are shown.
 
-use crate::inspect_names::{
-    converted_name, logical_name, name_or_number, repetition_name, type_name,
-};
+use crate::inspect_names::{converted_name, name_or_number, repetition_name, type_name};
 use crate::inspect_report::FieldReport;
+use crate::notes::member_name;
 use schema::Element;
 use std::alloc::{AllocError, Global};
 
@@ -64,14 +63,8 @@ fn annotation_of(alloc: Global, element: &Element) -> Result<Option<String>, All
 
 /// The name of an element's logical type, where it has one: that of the member that is set.
 fn logical_of(alloc: Global, element: &Element) -> Result<Option<String>, AllocError> {
-    let Some(tree) = &element.logical_type else {
-        return Ok(None);
-    };
-    match tree.fields.first() {
-        Some(member) => {
-            let id = i32::from(member.id);
-            Ok(Some(name_or_number(alloc, logical_name(id), id)?))
-        }
+    match &element.logical_type {
+        Some(tree) => member_name(alloc, tree),
         None => Ok(None),
     }
 }

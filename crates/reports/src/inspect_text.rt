@@ -3,6 +3,7 @@
 use crate::inspect_report::{
     ChunkReport, FieldReport, FileReport, GroupReport, PageReport, Problem, StatisticsReport,
 };
+use crate::notes::{converted_words, logical_words};
 use crate::one_line::OneLine;
 use serde_json::Value as Json;
 use std::alloc::{AllocError, Global};
@@ -85,22 +86,19 @@ fn write_head(text: &mut Vec<u8>, report: &FileReport) -> Result<(), AllocError>
 fn meaning_of(alloc: Global, field: &FieldReport) -> Result<String, AllocError> {
     let mut meaning = String::new(alloc);
     if let Some(annotation) = &field.annotation {
-        meaning.push_str(" (")?;
-        meaning.push_str(annotation.as_str())?;
-        if let Some(precision) = field.precision {
-            let scale = field.scale.unwrap_or(0);
-            meaning.push_str(format!(in alloc;
-                ", precision {precision}, scale {scale}"
-            )?.as_str())?;
-        }
-        meaning.push_str(")")?;
+        let words = converted_words(alloc, annotation.as_str(), field.precision, field.scale)?;
+        push_note(alloc, &mut meaning, words.as_str())?;
     }
     if let Some(logical) = &field.logical_type {
-        meaning.push_str(" (logical ")?;
-        meaning.push_str(logical.as_str())?;
-        meaning.push_str(")")?;
+        let words = logical_words(alloc, logical.as_str())?;
+        push_note(alloc, &mut meaning, words.as_str())?;
     }
     Ok(meaning)
+}
+
+/// Adds a note, in brackets after a space.
+fn push_note(alloc: Global, meaning: &mut String, note: &str) -> Result<(), AllocError> {
+    meaning.push_str(format!(in alloc; " ({note})")?.as_str())
 }
 
 /// A line for a field.
@@ -260,21 +258,26 @@ fn write_group(
     Ok(())
 }
 
-/// A line for what `decode` refuses.
-fn write_problem(text: &mut Vec<u8>, problem: &Problem) -> Result<(), AllocError> {
-    let what = &problem.what;
-    match (&problem.column, problem.group) {
-        (Some(column), Some(group)) => {
-            line_at(
-                text,
-                1,
-                format_args!("column {column}, group {group}: {what}"),
-            )
+/// What `decode` refuses, and where: a column, a group, or both.
+#[derive(Clone, Copy)]
+struct Place<'a>(&'a Problem);
+
+impl<'a> Display for Place<'a> {
+    fn fmt<W: fmt::Write>(&self, f: &mut fmt::Formatter<W>) -> fmt::Result {
+        let what = &self.0.what;
+        match (&self.0.column, self.0.group) {
+            (Some(column), Some(group)) => write!(f, "column {column}, group {group}: {what}"),
+            (Some(column), None) => write!(f, "column {column}: {what}"),
+            (None, Some(group)) => write!(f, "group {group}: {what}"),
+            (None, None) => f.write_str(what.as_str()),
         }
-        (Some(column), None) => line_at(text, 1, format_args!("column {column}: {what}")),
-        (None, Some(group)) => line_at(text, 1, format_args!("group {group}: {what}")),
-        (None, None) => line_at(text, 1, what),
     }
+}
+
+/// A problem as a sentence, with its place.
+pub fn problem_text(alloc: Global, problem: &Problem) -> Result<String, AllocError> {
+    let place = Place(problem);
+    format!(in alloc; "{place}")
 }
 
 /// The lines on what `decode` refuses.
@@ -288,7 +291,7 @@ fn write_problems(text: &mut Vec<u8>, problems: &[Problem]) -> Result<(), AllocE
     }
     line(text, "decode refuses this file:")?;
     for problem in problems {
-        write_problem(text, problem)?;
+        line_at(text, 1, Place(problem))?;
     }
     Ok(())
 }

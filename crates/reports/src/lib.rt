@@ -1,4 +1,5 @@
-//! What is said of files, as text: what a Parquet file is ([`report_text`]), and how far a long call is ([`Progress`]). It
+//! What is said of files, as text: what a Parquet file is ([`report_text`]), why it is refused ([`first_problem`]), what a
+//! column says of its values ([`note_of`]), and how far a long call is ([`Progress`]). It
 //! knows neither the command line nor the host.
 #![tactic(auto)]
 
@@ -11,9 +12,13 @@ mod inspect_report;
 mod inspect_schema;
 mod inspect_statistics;
 mod inspect_text;
+mod notes;
 mod one_line;
+mod pages_fault;
 mod progress;
+mod verdict;
 
-pub use inspect::report_text;
+pub use inspect::{first_problem, report_text};
+pub use notes::note_of;
 pub use one_line::OneLine;
 pub use progress::{Progress, Terminals, with_commas};

@@ -9,7 +9,7 @@ ghost use Rattle.upkeep.specs.Intact.{HoldsRows, IsHeldIn, AreHeld, AreLeftovers
 ghost use Rattle.upkeep.specs.Reading.{Looks};
 ghost use Rattle.upkeep.specs.inner.Walk.{paths_of};
 
-use crate::blame::blamed;
+use crate::blame::{blamed, refused_leaf};
 use crate::counting::{Totals, totals_of};
 use crate::findings::{Damage, Finding};
 use crate::naming::part_of_group;
@@ -216,15 +216,16 @@ fn check_bytes(
         × HoldsRows (stored_of (root_of manifest.now)) (group_view group.now) bytes.now) }
 {
     match fault_of_part(alloc, manifest.stored(), group, bytes)? {
-        Some(fault) => add_fault(alloc, manifest, path, bytes, fault, findings),
+        Some(fault) => add_fault(alloc, manifest, group, path, bytes, fault, findings),
         None => Ok(()),
     }
 }
 
-/// Adds a finding for a file with this fault.
+/// Adds a finding for a file with this fault: the refusal of a query that reads the columns of the group, where it is refused.
 fn add_fault(
     alloc: Global,
     manifest: &Manifest,
+    group: &Group,
     path: String,
     bytes: &[u8],
     fault: Fault,
@@ -233,10 +234,31 @@ fn add_fault(
     ensures found { OnOk result (findings.new.items ≡ [] → ⊥) }
 {
     let leaves = manifest.stored().leaves();
-    let leaf = leaf_of(alloc, leaves, bytes, &fault)?;
-    let column = column_of(alloc, leaves, leaf)?;
+    let fault = fault_of_query(alloc, leaves, group, bytes, fault)?;
+    let column = column_of(alloc, leaves, fault.leaf)?;
     let Fault { damage, .. } = fault;
     add_finding(path, column, damage, findings)
+}
+
+/// The fault that a query finds in a file, or else this one, with the leaf that is at fault.
+fn fault_of_query(
+    alloc: Global,
+    leaves: &[Leaf],
+    group: &Group,
+    bytes: &[u8],
+    fault: Fault,
+) -> R<Fault> {
+    if let Some((leaf, refusal)) = refused_leaf(alloc, leaves, group.chunks.as_slice(), bytes)? {
+        return Ok(Fault {
+            damage: Damage::Refused(refusal),
+            leaf: Some(leaf),
+        });
+    }
+    let leaf = leaf_of(alloc, leaves, bytes, &fault)?;
+    Ok(Fault {
+        damage: fault.damage,
+        leaf,
+    })
 }
 
 /// The index of the leaf that is at fault, where it is one.

@@ -13,6 +13,7 @@ mod counting;
 mod describing;
 mod findings;
 mod fronts;
+mod key_texts;
 mod naming;
 mod obstacles;
 mod part;

@@ -2,7 +2,7 @@
 
 use crate::counting::Totals;
 use crate::surveying::{ColumnReport, KeyReport, Survey};
-use crate::text_lines::{line, push_right};
+use crate::text_lines::{Placed, line, push_right};
 use reports::with_commas;
 use std::alloc::{AllocError, Global};
 
@@ -13,17 +13,23 @@ const MOST_SHOWN: usize = 20;
 const LONGEST_BAR: usize = 20;
 
 /// A survey as text, in at most some 90 lines: the columns, how much there is in all, the greatest keys by their bytes with
-/// a bar each, what a rewrite joins, and the files that are too many or missing. Refused only when out of memory.
-pub fn text_of_survey(alloc: Global, survey: &Survey) -> Result<Vec<u8>, AllocError> {
+/// a bar each, what a rewrite joins, and the files that are too many or missing, whose paths begin with that of the folder, unless it is
+/// empty. Refused only when out of memory.
+pub fn text_of_survey(alloc: Global, folder: &str, survey: &Survey) -> Result<Vec<u8>, AllocError> {
     let mut text = Vec::new(alloc);
     write_columns(alloc, &mut text, survey.columns.as_slice())?;
     write_totals(alloc, &mut text, survey)?;
     write_keys(alloc, &mut text, survey.keys.as_slice())?;
     write_small(alloc, &mut text, survey)?;
     let leftovers = survey.leftovers.as_slice();
-    write_files(&mut text, "files that the table does not name", leftovers)?;
+    write_files(
+        &mut text,
+        folder,
+        "files that the table does not name",
+        leftovers,
+    )?;
     let missing = survey.missing.as_slice();
-    write_files(&mut text, "files that are missing", missing)?;
+    write_files(&mut text, folder, "files that are missing", missing)?;
     Ok(text)
 }
 
@@ -44,7 +50,13 @@ fn write_columns(
 fn write_column(text: &mut Vec<u8>, column: &ColumnReport) -> Result<(), AllocError> {
     let (path, kind, repetition) = (&column.path, column.kind, column.repetition);
     let key = if column.is_key { ", key" } else { "" };
-    line(text, format_args!("  {path}: {repetition} {kind}{key}"))
+    match &column.note {
+        Some(note) => line(
+            text,
+            format_args!("  {path}: {repetition} {kind} ({note}){key}"),
+        ),
+        None => line(text, format_args!("  {path}: {repetition} {kind}{key}")),
+    }
 }
 
 /// A line with how many others there are that are not shown, if there are any.
@@ -116,10 +128,10 @@ fn write_key(
     let rows = with_commas(alloc, rows)?;
     let groups = with_commas(alloc, groups)?;
     let bytes = with_commas(alloc, bytes)?;
-    let folder = if key.folder.is_empty() {
+    let name = if key.key.is_empty() {
         "(no keys)"
     } else {
-        key.folder.as_str()
+        key.key.as_str()
     };
     write_row(
         text,
@@ -127,7 +139,7 @@ fn write_key(
         bytes.as_str(),
         rows.as_str(),
         groups.as_str(),
-        folder,
+        name,
     )
 }
 
@@ -150,17 +162,17 @@ fn write_row(
     bytes: &str,
     rows: &str,
     groups: &str,
-    folder: &str,
+    name: &str,
 ) -> Result<(), AllocError> {
     push_right(text, bytes, 19)?;
     push_right(text, rows, 16)?;
     push_right(text, groups, 10)?;
-    if folder.is_empty() {
+    if name.is_empty() {
         return line(text, "");
     }
     push_right(text, bar, LONGEST_BAR + 2)?;
     text.extend_from_slice(b"  ")?;
-    line(text, folder)
+    line(text, name)
 }
 
 /// The line of what a rewrite joins.
@@ -175,11 +187,20 @@ fn write_small(alloc: Global, text: &mut Vec<u8>, survey: &Survey) -> Result<(),
 }
 
 /// The lines of some files.
-fn write_files(text: &mut Vec<u8>, what: &str, files: &[String]) -> Result<(), AllocError> {
+fn write_files(
+    text: &mut Vec<u8>,
+    folder: &str,
+    what: &str,
+    files: &[String],
+) -> Result<(), AllocError> {
     let count = files.len();
     line(text, format_args!("{what}: {count}"))?;
     for file in files.iter().take(MOST_SHOWN) {
-        line(text, format_args!("  {file}"))?;
+        let path = Placed {
+            folder,
+            path: file.as_str(),
+        };
+        line(text, format_args!("  {path}"))?;
     }
     Ok(())
 }

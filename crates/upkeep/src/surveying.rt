@@ -9,6 +9,7 @@ ghost use Rattle.upkeep.specs.inner.Walk.{paths_of};
 
 use crate::checking::path_text;
 use crate::counting::{Totals, totals_of};
+use crate::key_texts::key_text;
 use crate::naming::part_of_group;
 use crate::unnamed::leftovers;
 use bits::{R, Refusal};
@@ -16,6 +17,7 @@ use disk::Disk;
 use manifest::{Group, Manifest};
 use partition::{path_of, same_keys};
 use planning::plan_rewrite;
+use reports::note_of;
 use schema::{Kind, Leaf, Repetition, Step};
 use std::alloc::Global;
 use vault::Vault;
@@ -43,6 +45,8 @@ pub struct ColumnReport {
     /// The names on the way to the leaf, with a `.` between two.
     pub path: String,
     pub kind: &'static str,
+    /// What it says of the meaning of its values, in the words of `inspect`; none where it says nothing.
+    pub note: Option<String>,
     /// The repetition of the last field on the way: required, optional or repeated.
     pub repetition: &'static str,
     /// Whether the leaf is a key column, which the folders name.
@@ -54,6 +58,8 @@ pub struct ColumnReport {
 pub struct KeyReport {
     /// The folder of the key, seen from the table's.
     pub folder: String,
+    /// The same with names and texts as they are, in place of their escapes.
+    pub key: String,
     pub totals: Totals,
 }
 
@@ -127,6 +133,7 @@ fn columns_of(alloc: Global, manifest: &Manifest) -> R<Vec<ColumnReport>> {
         columns.push(ColumnReport {
             path,
             kind: kind_name(leaf.leaf_type.kind),
+            note: note_of(alloc, &leaf.leaf_type)?,
             repetition: repetition_name(leaf.steps.as_slice().last()),
             is_key: is_key(manifest, leaf.steps.as_slice().first()),
         })?;
@@ -200,8 +207,10 @@ fn has_same_key(before: Option<&Group>, group: &Group) -> bool {
 /// The report of a group's key, without a group.
 fn report_of(alloc: Global, manifest: &Manifest, group: &Group) -> R<KeyReport> {
     let folder = path_of(alloc, manifest.keys(), &group.key)?;
+    let key = key_text(alloc, manifest.keys(), &group.key)?;
     Ok(KeyReport {
         folder,
+        key,
         totals: Totals::NONE,
     })
 }

@@ -1,16 +1,19 @@
 use Rattle.std.proofs.Common.{◌≡◌, ◌∷◌, ◌+◌, ◌-◌, drop, refl, sym, ap, subst, ◌∙◌, arith}
 use Rattle.std.proofs.lemmas.List.{drop_more, drop_all}
-use Rattle.bits.specs.Refusals.{HasCause}
+use Rattle.std.specs.Prelude.{IfOk}
+use Rattle.bits.specs.Refusals.{HasCause, RefusedOnly}
 use Rattle.bits.proofs.Passing.{passes}
 use Rattle.serde_json.specs.Data as json
+use Rattle.serde_json.specs.View.{view}
 use Rattle.serde_json.proofs.Views.{view-Array}
-use Rattle.schema.specs.Values.{views, each}
+use Rattle.schema.specs.Values.{view as value_view, views, each}
 use Rattle.schema.specs.Views.{field_view, field_views}
 use Rattle.schema.specs.Fits.{fits, fits_inside, fits_each}
 use Rattle.schema.proofs.Views.{fits_each-lengths}
-use Rattle.rowtext.specs.Json.{inside_json, members_json}
-use Rattle.jsonrows.specs.inner.ValueJson.{IsMisfit}
+use Rattle.rowtext.specs.Json.{inside_json_as, field_json_as, members_json_as}
+use Rattle.jsonrows.specs.inner.ValueJson.{IsShownSo, IsMisfit}
 use Rattle.jsonrows.proofs.ShownValues.{list_fits, list_json, item_misfit, all_fit, all_shown, member_misfit}
+use Rattle.jsonrows.proofs.PresentValues.{not_null, present_json, present_fits}
 use Rattle.jsonrows.proofs.value_json.+showing.Goals as goal
 
 pub field_json-returns-in_err-all-in-List-clause-which : goal.field_json-returns-in_err-all-in-List-clause-which
@@ -25,7 +28,7 @@ field_json-returns-in_ok-all-in-List-clause-shown t c =
     let f = field_view c.args.field.now in
     let repeated = sym c.repetition.ensures ∙ c.in-Repeated.is in
     let same = list_fits f c.args.value.now c.in-List.items c.as_slice.result.now repeated c.in-List.is c.as_slice.ensures.value in
-    let shown = list_json f c.args.value.now c.in-List.items c.as_slice.result.now repeated c.in-List.is c.as_slice.ensures.value in
+    let shown = list_json c.args.texts f c.args.value.now c.in-List.items c.as_slice.result.now repeated c.in-List.is c.as_slice.ensures.value in
     let made = c.in_ok-all-in-List.ensures.shown in
     (sym same ∙ made.0, view-Array c.in_ok-all-in-List.all ∙ ap json.array made.1 ∙ shown)
 
@@ -45,7 +48,7 @@ items_json-returns-clause-shown t c =
     let xs = c.args.items.now in
     let none = drop_all l.item-index xs (omega arith) in (
       all_fit (fits_inside (field_view c.args.field.now)) xs (drop l.item-index xs) none l.invariant.fit,
-      all_shown (inside_json (field_view c.args.field.now)) _ xs (drop l.item-index xs) none l.invariant.made,
+      all_shown (inside_json_as c.args.texts (field_view c.args.field.now)) _ xs (drop l.item-index xs) none l.invariant.made,
     )
 
 pub members_json-returns-then-fields-values-clause-which : goal.members_json-returns-then-fields-values-clause-which
@@ -72,5 +75,19 @@ members_json-returns-clause-shown t c =
     let vs = c.args.values.now in
     let none : l.i ≡ 0 = omega arith in (
       ap (λ n. fits_each (field_views (drop n fs)) (views (drop n vs))) (sym none) ∙ l.invariant.fit,
-      l.invariant.made ∙ ap (λ n. members_json (field_views (drop n fs)) (views (drop n vs))) none,
+      l.invariant.made ∙ ap (λ n. members_json_as c.args.texts (field_views (drop n fs)) (views (drop n vs))) none,
     )
+
+pub field_json-returns-in_default : goal.field_json-returns-in_default
+field_json-returns-in_default t c =
+    let f = field_view c.args.field.now in
+    let v = value_view c.args.value.now in
+    let r = c.inside_json-in_default.result in
+    let optional = sym c.repetition.ensures ∙ c.in-Optional.is in
+    let there = not_null c.args.value.now c.in_default.not-Null in
+    let fit = sym (present_fits f v optional there) in
+    let shown = sym (present_json c.args.texts f v optional there) in
+    record {
+      shown = subst (λ b. IfOk r (λ json. IsShownSo b (field_json_as c.args.texts f v) (view json))) fit (subst (λ d. IfOk r (λ json. IsShownSo (fits_inside f v) d (view json))) shown c.inside_json-in_default.ensures.shown);
+      which = subst (λ b. RefusedOnly (IsMisfit b) r) fit c.inside_json-in_default.ensures.which;
+    }
