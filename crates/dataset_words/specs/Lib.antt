@@ -1,2 +1,5 @@
+pub mod Asked
+pub mod Files
+pub mod Flags
 pub mod Styles
 pub mod Words

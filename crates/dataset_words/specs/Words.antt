@@ -13,7 +13,7 @@ use Rattle.dataset_words.specs.declared.call.Look.TheVariants.{Survey, Files, Ro
 abbrev pub question_word : Question → List ℕ
 question_word (Query filter columns limit) = codes "query"
 question_word (Count filter) = codes "count"
-question_word Groups = codes "groups"
+question_word (Groups stats) = codes "groups"
 question_word Schema = codes "schema"
 
 -- the word of a command that changes a dataset

@@ -12,6 +12,10 @@ pub struct Call<'a> {
     pub waits: Option<u64>,
     /// How part files are written.
     pub options: WriteOptions,
+    /// Whether they are written in the style of a group that is there, in place of that of the options.
+    pub keeps_style: bool,
+    /// Whether dates, times, timestamps and decimals are texts, in rows, in filters and in what is printed.
+    pub texts: bool,
     pub task: Task<'a>,
 }
 
@@ -43,8 +47,10 @@ pub enum Question<'a> {
     Count {
         filter: Option<&'a str>,
     },
-    /// What the groups are.
-    Groups,
+    /// What the groups are, with what is known of their columns or without.
+    Groups {
+        stats: bool,
+    },
     /// What the columns are.
     Schema,
 }

@@ -1,9 +1,12 @@
 //! The commands on a dataset, as the parser of the command line knows them.
 
 use crate::help;
-use crate::options::with_options;
+use crate::options::{with_kept_options, with_options};
 use clap::{Arg, ArgAction, ArgGroup, Command, Error, value_parser};
 use std::alloc::{AllocError, Global};
+
+const QUERY_OUT_HELP: &str =
+    "Makes a Parquet file OUT of the rows, or files in OUT if it is an empty folder; - is standard output";
 
 const ROWS_HELP: &str = "The file with the rows, as lines of JSON; - is standard input";
 
@@ -54,6 +57,14 @@ pub fn quiet_flag<'a>(alloc: Global) -> Arg<'a> {
         .help("Shows no progress where standard error is a terminal")
 }
 
+/// The flag by which dates, times, timestamps and decimals are texts.
+pub fn text_flag<'a>(alloc: Global) -> Arg<'a> {
+    Arg::new(alloc, "text")
+        .long("text")
+        .action(ArgAction::SetTrue)
+        .help("Reads and prints dates, times, timestamps and decimals as texts")
+}
+
 /// A command on the dataset in a folder, which is its first word.
 fn on_dataset<'a>(alloc: Global, word: &'a str) -> Result<Command<'a>, Error> {
     let command = Command::new(alloc, word).arg(folder_named(alloc))?;
@@ -98,14 +109,15 @@ pub fn limit_option<'a>(alloc: Global) -> Arg<'a> {
         .long("limit")
         .value_name("N")
         .value_parser(value_parser!(u64))
-        .help("Prints only the first N rows")
+        .help("Takes only the first N rows")
 }
 
 /// The file that gets the rows in place of standard output.
-pub fn out_option<'a>(alloc: Global) -> Arg<'a> {
-    Arg::new(alloc, "out").long("out").value_name("OUT").help(
-        "Makes a Parquet file OUT of the rows; - is standard output",
-    )
+pub fn out_option<'a>(alloc: Global, help: &'a str) -> Arg<'a> {
+    Arg::new(alloc, "out")
+        .long("out")
+        .value_name("OUT")
+        .help(help)
 }
 
 /// The filter that no row of the dataset may satisfy.
@@ -122,6 +134,14 @@ fn all_flag<'a>(alloc: Global) -> Arg<'a> {
         .long("all")
         .action(ArgAction::SetTrue)
         .help("Rewrites all groups")
+}
+
+/// The flag by which groups are printed with what is known of their columns.
+fn stats_flag<'a>(alloc: Global) -> Arg<'a> {
+    Arg::new(alloc, "stats")
+        .long("stats")
+        .action(ArgAction::SetTrue)
+        .help("Prints the least and the greatest value and the nulls of each column, too")
 }
 
 /// The flag by which a script ends at the first call that is refused.
@@ -163,7 +183,8 @@ fn append_command<'a>(alloc: Global) -> Result<Command<'a>, Error> {
         .long_about(help::APPEND_LONG)
         .after_help(help::APPEND_EXAMPLE)
         .arg(named(alloc, "ROWS", ROWS_HELP))?
-        .arg(unless_option(alloc))?;
+        .arg(unless_option(alloc))?
+        .arg(text_flag(alloc))?;
     let append = with_options(alloc, append)?.arg(quiet_flag(alloc))?;
     Ok(append)
 }
@@ -174,7 +195,8 @@ fn import_command<'a>(alloc: Global) -> Result<Command<'a>, Error> {
         .long_about(help::IMPORT_LONG)
         .after_help(help::IMPORT_EXAMPLE)
         .arg(files_named(alloc))?
-        .arg(unless_option(alloc))?;
+        .arg(unless_option(alloc))?
+        .arg(text_flag(alloc))?;
     let import = with_options(alloc, import)?.arg(quiet_flag(alloc))?;
     Ok(import)
 }
@@ -185,8 +207,9 @@ fn query_command<'a>(alloc: Global) -> Result<Command<'a>, Error> {
         .long_about(help::QUERY_LONG)
         .after_help(help::QUERY_EXAMPLE)
         .arg(filter_option(alloc, "Prints only the rows that satisfy this filter"))?
-        .arg(limit_option(alloc).conflicts_with("out")?)?
-        .arg(out_option(alloc))?
+        .arg(limit_option(alloc))?
+        .arg(out_option(alloc, QUERY_OUT_HELP))?
+        .arg(text_flag(alloc))?
         .arg(words_named(
             alloc,
             "COLUMN",
@@ -201,7 +224,8 @@ fn count_command<'a>(alloc: Global) -> Result<Command<'a>, Error> {
         .about(help::COUNT)
         .long_about(help::COUNT_LONG)
         .after_help(help::COUNT_EXAMPLE)
-        .arg(filter_option(alloc, "Counts only the rows that satisfy this filter"))?;
+        .arg(filter_option(alloc, "Counts only the rows that satisfy this filter"))?
+        .arg(text_flag(alloc))?;
     Ok(count)
 }
 
@@ -209,7 +233,9 @@ fn groups_command<'a>(alloc: Global) -> Result<Command<'a>, Error> {
     let groups = on_dataset(alloc, "groups")?
         .about(help::GROUPS)
         .long_about(help::GROUPS_LONG)
-        .after_help(help::GROUPS_EXAMPLE);
+        .after_help(help::GROUPS_EXAMPLE)
+        .arg(stats_flag(alloc))?
+        .arg(text_flag(alloc))?;
     Ok(groups)
 }
 
@@ -234,8 +260,9 @@ fn remove_command<'a>(alloc: Global) -> Result<Command<'a>, Error> {
         .after_help(help::REMOVE_EXAMPLE)
         .arg(filter_option(alloc, "Removes the rows that satisfy this filter"))?
         .arg(numbers_named(alloc, "The numbers of the groups to remove"))?
+        .arg(text_flag(alloc))?
         .group(either(alloc, "filter", "NUMBER")?)?;
-    let remove = with_options(alloc, remove)?.arg(quiet_flag(alloc))?;
+    let remove = with_kept_options(alloc, remove)?.arg(quiet_flag(alloc))?;
     Ok(remove)
 }
 
@@ -261,7 +288,7 @@ fn rewrite_command<'a>(alloc: Global) -> Result<Command<'a>, Error> {
         .arg(numbers_named(alloc, "The numbers of the groups to rewrite"))?
         .arg(all_flag(alloc))?
         .group(either(alloc, "min-rows", "NUMBER")?.arg("all")?)?;
-    let rewrite = with_options(alloc, rewrite)?.arg(quiet_flag(alloc))?;
+    let rewrite = with_kept_options(alloc, rewrite)?.arg(quiet_flag(alloc))?;
     Ok(rewrite)
 }
 
@@ -275,7 +302,8 @@ fn run_command<'a>(alloc: Global) -> Result<Command<'a>, Error> {
             "SCRIPT",
             "The file with the calls, as lines of JSON; - is standard input",
         ))?
-        .arg(stop_flag(alloc))?;
+        .arg(stop_flag(alloc))?
+        .arg(text_flag(alloc))?;
     with_options(alloc, run)
 }
 

@@ -10,7 +10,8 @@ put into folders `KEY=value`: a required column of type boolean, int32, int64, o
 is a Parquet file without the key columns, and one file `_metadata` says which parts are the dataset: the layout of partitioned
 datasets of other tools. pyarrow, DuckDB, Dask and fastparquet were seen to read such folders.
 
-DIR is made once SCHEMA and the KEYs are accepted, and the folder above it is synced. That folder must be there.
+DIR is made once SCHEMA and the KEYs are accepted, and the folder above it is synced. That folder must be there. No part file is
+written, so the options of how files are written have no effect: each command that writes rows takes its own.
 
 Refused 24 Exists where DIR has a dataset already, which stays as it is, or part files that a new dataset would remove; 17 Key
 for a KEY that is no such column, comes twice, or for all columns as keys; 4, 6 and 29 for the schema; 25 Device where DIR
@@ -40,7 +41,9 @@ Refused 26 InDoubt where the disk failed at the moment of the commit: the rows a
 
 With --unless nothing is appended if a row of the dataset satisfies a filter (query says what a filter is): then it prints
 `done 0`. The count and the append are made under one lock. So a load with a filter that only its own rows satisfy can be run
-again, as by cron or after a kill; the second example has one.";
+again, as by cron or after a kill; the second example has one.
+
+With --text dates, times, timestamps and decimals may be texts, in the rows and in the filter, as query says it.";
 
 pub const APPEND_EXAMPLE: &str = "\
 Example, at the top of the repository:
@@ -78,6 +81,8 @@ the line before the refusal names it. All files are read first: their bytes, and
 
 With --unless nothing is appended if a row of the dataset satisfies a filter, as append says it.
 
+With --text dates, times, timestamps and decimals in the filter may be texts, as query says it.
+
 Where standard error is a terminal, it shows how much was read from the disk and written to it so far; at the end that is
 removed. With --quiet it is not shown.
 
@@ -112,10 +117,24 @@ does each option that takes a filter. Refused 25 Device where the file cannot be
 
 With --limit only the first N of these rows are printed. Groups after them are not read.
 
-With --out the rows are not printed, but OUT is made: a Parquet file of them, in their order, with the COLUMNs in the order of
-the dataset. No file is ever replaced, and OUT appears whole or not at all, as encode says it of its OUT. It may not be in DIR.
-The other options say how it is written. Of OUT `-` the bytes go to standard output, which may not be a terminal. They are in
-memory first: a file has at most 2147483647 bytes, or it is refused 13 Limit. Refused 24 Exists where OUT is there already.
+With --text dates, times, timestamps and decimals are printed as texts: \"2024-05-01\", \"13:05:09.12\", \"2024-05-01T13:05:09.12Z\"
+and \"1176.14\". The filter may have such texts, numbers, and bytes as {\"hex\":\"..\"}; a timestamp may have a blank for the T, no Z,
+or an offset such as +02:00. A value without a text, such as a date after the year 9999, is printed as without --text, and bytes
+as {\"hex\":\"..\"}. Refused 14 for a text that is no value of its column: a day that the month does not have, a second of 60, a
+place too many.
+
+With --out the rows are not printed, but OUT is made: a Parquet file of them, or with --limit of the first N of them, in their
+order, with the COLUMNs in the order of the dataset. No file is ever replaced, and OUT appears whole or not at all, as encode
+says it of its OUT. It may not be in DIR. The other options say how it is written. Of OUT `-` the bytes go to standard output,
+which may not be a terminal. They are in memory first: a file has at most 2147483647 bytes, or it is refused 13 Limit. Refused
+24 Exists where OUT is there already.
+
+With --text and --out the filter may have texts; with --out `-` it is a wrong call, as the bytes of a file are no texts.
+
+Where OUT is an empty folder, files are made in it: part.0.parquet, part.1.parquet and so on, one at least, with the rows in
+their order. A new one begins where one more group would make a file larger than 1 GiB, so one of them is in memory at a time.
+After a refusal none of them is there, or a line names it. After a kill some may be: the next call is refused 24 Exists until
+the folder is empty.
 
 Where standard error is a terminal and standard output is not, standard error shows after each 100000 rows how many were
 printed; at the end that is removed. With --quiet it is not shown.
@@ -143,7 +162,9 @@ pub const COUNT: &str = "Prints how many rows a dataset has";
 
 pub const COUNT_LONG: &str = "\
 Prints how many rows a dataset has, or how many satisfy a filter (query says what a filter is). Without a filter no part
-file is read, with one only the columns in it. Refused as query.";
+file is read, with one only the columns in it. Refused as query.
+
+With --text dates, times, timestamps and decimals in the filter may be texts, as query says it.";
 
 pub const COUNT_EXAMPLE: &str = "\
 Example, at the top of the repository:
@@ -161,7 +182,14 @@ pub const GROUPS: &str = "Prints the groups of a dataset";
 
 pub const GROUPS_LONG: &str = "\
 Prints a line of JSON for each group of rows, in the order of the rows: the bytes of its columns, its key, its number, which
-is in the name of its file, and how many rows it has. No part file is read.";
+is in the name of its file, and how many rows it has. No part file is read.
+
+With --stats it has a member `columns` too, an array of an object for each column that the group's file has: its name, as a
+filter has it; its least and greatest value as `min` and `max`, printed as query prints values; and its number of nulls. A bound
+is missing where _metadata has none: where the column has only nulls or no order, or the value is longer than 64 bytes. Key
+columns are not in the files, nor columns that were added later.
+
+With --text `min` and `max` of dates, times, timestamps and decimals are texts, as query prints them with --text.";
 
 pub const GROUPS_EXAMPLE: &str = "\
 Example, at the top of the repository:
@@ -169,11 +197,13 @@ Example, at the top of the repository:
     ./pqds create numbers sample/two_rows.schema.json
     ./pqds import numbers sample/two_rows.parquet
     ./pqds groups numbers
+    ./pqds groups numbers --stats
 
 prints
 
     done 2
-    {\"bytes\":33,\"key\":[],\"number\":0,\"rows\":2}";
+    {\"bytes\":33,\"key\":[],\"number\":0,\"rows\":2}
+    {\"bytes\":33,\"columns\":[{\"column\":\"x\",\"max\":300,\"min\":1,\"nulls\":0}],\"key\":[],\"number\":0,\"rows\":2}";
 
 pub const SCHEMA: &str = "Prints the columns of a dataset or of a Parquet file";
 
@@ -182,7 +212,8 @@ Prints the columns of the dataset in the folder PATH, with its key columns among
 file PATH. It is a line of JSON, as create and encode take it: create makes a dataset of it into which the file can be
 imported, or a second one with the columns of the first. No part file is read.
 
-Of a file only the footer is read, and refused 1 to 4, 6, 7 or 13 as decode refuses it.";
+Of a file of 64 KiB and more only the first four bytes and the footer are read; a smaller one, and a pipe, are read whole. The
+footer is refused 1 to 4, 6, 7 or 13 as decode refuses it.";
 
 pub const SCHEMA_EXAMPLE: &str = "\
 Example, at the top of the repository:
@@ -202,7 +233,11 @@ pub const REMOVE: &str = "Removes rows from a dataset";
 pub const REMOVE_LONG: &str = "\
 Removes the rows that satisfy a filter (query says what a filter is; [] holds for every row), or the groups of these numbers
 (groups prints them), and prints `done N`, N the number of rows. All of them go or none, as append says it. A group of which
-some rows go is written anew under a new number; one of which none goes stays as it is.
+some rows go is written anew under a new number; one of which none goes stays as it is. It is written in the style of this call,
+so plain where no --style is given, whatever its style was. With --style keep all are written in the style that the first such
+group has: the first that the key and the statistics do not rule out.
+
+With --text dates, times, timestamps and decimals in the filter may be texts, as query says it.
 
 Where standard error is a terminal, it shows how much was read from the disk and written to it so far; at the end that is
 removed. With --quiet it is not shown.
@@ -234,7 +269,8 @@ become groups of `--group-rows` rows, the last of them with the rest; the rows s
 these groups (groups prints the numbers); with --min-rows N with those that have fewer than N rows, and next to them a group of
 the same key that has fewer too; with --all with all groups: then all files have the style and the pages of this call, and the
 columns that were added later. Where there are none, nothing is written: `done 0`. All of it is done or nothing, as append
-says it.
+says it. New groups have the style of this call, so plain where no --style is given, whatever their style was; with --style keep
+that of the first of the groups that are written anew.
 
 Where standard error is a terminal, it shows how much was read from the disk and written to it so far; at the end that is
 removed. With --quiet it is not shown.
@@ -309,7 +345,10 @@ is run. A call that is refused answers {\"name\":\"Full\",\"refused\":22}, and t
 Each call is a commit of its own or none; the answers are printed when all are made.
 
 With --stop a call that is refused is the last one: its answer is printed last, and then `run` is refused as that call is, after
-a line that says how many were made before it, such as `3 of 7 calls were made`. Their commits stay.";
+a line that says how many were made before it, such as `3 of 7 calls were made`. Their commits stay.
+
+With --text dates, times, timestamps and decimals are texts, in the rows and the filters of the calls and in the answers, as query
+says it.";
 
 pub const RUN_EXAMPLE: &str = "\
 Example, at the top of the repository:

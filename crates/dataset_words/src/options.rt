@@ -1,7 +1,8 @@
 //! How files are written, by the words.
 
-ghost use Rattle.std.specs.Prelude.{◌≡◌, codes, option_map};
-ghost use Rattle.clap.specs.Matches.{first_value, found_of};
+ghost use Rattle.std.specs.Prelude.{◌≡◌, ◌↔◌, Some, IsTrue, codes, option_map};
+ghost use Rattle.clap.specs.Matches.{found_of};
+ghost use Rattle.dataset_words.specs.Asked.{HasOptions, KeepsStyle};
 ghost use Rattle.dataset_words.specs.Styles.{style_named};
 
 use clap::{Arg, ArgMatches, Command, Error, value_parser};
@@ -11,6 +12,12 @@ use std::alloc::Global;
 
 /// The words for the styles.
 static STYLES: [&str; 5] = ["plain", "dictionary", "delta", "lengths", "split"];
+
+/// The words for the styles, and that for the style of what is there.
+static STYLES_OR_KEEP: [&str; 6] = ["plain", "dictionary", "delta", "lengths", "split", KEEP];
+
+/// The word for the style of what is there.
+const KEEP: &str = "keep";
 
 fn group_rows_option<'a>(alloc: Global) -> Arg<'a> {
     Arg::new(alloc, "group-rows")
@@ -39,23 +46,56 @@ fn page_version_option<'a>(alloc: Global) -> Arg<'a> {
         .help("The version of the pages: 1 or 2")
 }
 
+/// The option for the style, without its words.
 fn style_option<'a>(alloc: Global) -> Arg<'a> {
     Arg::new(alloc, "style")
         .long("style")
         .value_name("STYLE")
-        .value_parser(STYLES.as_slice())
         .default_value("plain")
-        .help("The encodings of the values")
+}
+
+/// The command, with the options of the rows of groups and pages.
+fn with_rows<'a>(alloc: Global, command: Command<'a>) -> Result<Command<'a>, Error> {
+    let command = command
+        .arg(group_rows_option(alloc))?
+        .arg(page_rows_option(alloc))?
+        .arg(page_version_option(alloc))?;
+    Ok(command)
 }
 
 /// The command, with the options of those that write files.
 pub fn with_options<'a>(alloc: Global, command: Command<'a>) -> Result<Command<'a>, Error> {
-    let command = command
-        .arg(group_rows_option(alloc))?
-        .arg(page_rows_option(alloc))?
-        .arg(page_version_option(alloc))?
-        .arg(style_option(alloc))?;
+    let style = style_option(alloc)
+        .value_parser(STYLES.as_slice())
+        .help("The encodings of the values");
+    let command = with_rows(alloc, command)?.arg(style)?;
     Ok(command)
+}
+
+/// The command, with the options of those that write the rows of groups anew.
+pub fn with_kept_options<'a>(alloc: Global, command: Command<'a>) -> Result<Command<'a>, Error> {
+    let style = style_option(alloc)
+        .value_parser(STYLES_OR_KEEP.as_slice())
+        .help("The encodings of the values; keep: those of the first group that is written anew");
+    let command = with_rows(alloc, command)?.arg(style)?;
+    Ok(command)
+}
+
+/// Whether the words ask for the style of what is there.
+pub fn keeps_style_in(matches: &ArgMatches<'_>) -> bool
+    ensures { KeepsStyle (found_of matches.now) result }
+{
+    is_keep(matches.get_str("style"))
+}
+
+/// Whether a word is that for the style of what is there.
+fn is_keep(word: Option<&str>) -> bool
+    ensures { IsTrue result ↔ (option_map (λ text. text.now) word.entry ≡ Some (codes "keep")) }
+{
+    match word {
+        Some(word) => word == KEEP,
+        None => false,
+    }
 }
 
 /// The style that a word of [`STYLES`] says; `plain` where none is said.
@@ -71,9 +111,9 @@ fn style_of(word: Option<&str>) -> Style
     }
 }
 
-/// How files are written, by the words.
+/// How files are written, by the words; what they do not say is as in the standard options.
 pub fn options_in(matches: &ArgMatches<'_>) -> WriteOptions
-    ensures { result.style ≡ style_named (first_value (found_of matches.now) (codes "style")) }
+    ensures { HasOptions (found_of matches.now) result }
 {
     let standard = WriteOptions::standard();
     let group_rows = matches.get_one::<u32>("group-rows");

@@ -1,32 +1,45 @@
 //! What is asked for by the words of the commands on a dataset.
 
-ghost use Rattle.std.specs.Prelude.{◌≡◌, IfSome, IfOk, codes};
+ghost use Rattle.std.specs.Prelude.{◌≡◌, IfSome, IfOk, codes, map, option_map};
+ghost use Rattle.clap.specs.Matches.{found_of};
+ghost use Rattle.dataset_words.specs.Asked.{HasFlag, HasTexts, MayHaveText, MayHaveNumber, HasNumberOr, HasNumbers, AreNumbers};
+ghost use Rattle.dataset_words.specs.Asked.{HasQuestion, HasChange, HasTask, HasFolder, HasWaiting, IsAsked, IsLookCall};
 ghost use Rattle.dataset_words.specs.Words.{task_word, question_word, change_word, look_word};
 
 use crate::call::{Call, Change, Look, Question, Task};
-use crate::options::options_in;
+use crate::options::{keeps_style_in, options_in};
 use bits::{R, Refusal};
 use clap::ArgMatches;
 use footer::WriteOptions;
 use std::alloc::Global;
 
 /// The words that an argument was given.
-fn words_in<'a>(alloc: Global, matches: &ArgMatches<'a>, name: &str) -> R<Vec<&'a str>> {
+pub fn words_in<'a>(alloc: Global, matches: &ArgMatches<'a>, name: &str) -> R<Vec<&'a str>>
+    ensures { IfOk result (λ words. HasTexts (found_of matches.now) name.now words.items) }
+{
     let words = matches.get_strs(name).unwrap_or(&[]);
     let words = Vec::from_slice(alloc, words)?;
     Ok(words)
 }
 
 /// The group numbers that were given.
-fn numbers_in(alloc: Global, matches: &ArgMatches<'_>) -> R<Vec<u64>> {
+fn numbers_in(alloc: Global, matches: &ArgMatches<'_>) -> R<Vec<u64>>
+    ensures { IfOk result (λ numbers. HasNumbers (found_of matches.now) 64 (codes "NUMBER") numbers.items) }
+{
+    let words = words_in(alloc, matches, "NUMBER")?;
+    numbers_of(alloc, words.as_slice())
+}
+
+/// The numbers that words are.
+fn numbers_of(alloc: Global, words: &[&str]) -> R<Vec<u64>>
+    ensures { IfOk result (λ numbers. AreNumbers 64 (map (λ word. word.now) words.now) numbers.items) }
+{
     let mut numbers = Vec::new(alloc);
-    if let Some(given) = matches.get_many::<u64>("NUMBER") {
-        for number in given {
-            match number {
-                Ok(number) => numbers.push(number)?,
-                // Each passed the parser of its argument, so that this does not come.
-                Err(_) => return Err(Refusal::Script),
-            }
+    for word in words {
+        match word.parse::<u64>() {
+            Ok(number) => numbers.push(number)?,
+            // Each passed the parser of its argument, so that this does not come.
+            Err(_) => return Err(Refusal::Script),
         }
     }
     Ok(numbers)
@@ -34,7 +47,8 @@ fn numbers_in(alloc: Global, matches: &ArgMatches<'_>) -> R<Vec<u64>> {
 
 /// The change that a command makes that names a file.
 fn change_of_file<'a>(word: &str, matches: &ArgMatches<'a>) -> Option<Change<'a>>
-    ensures { IfSome result (λ change. change_word change ≡ word.now) }
+    ensures word { IfSome result (λ change. change_word change ≡ word.now) }
+    ensures asked { IfSome result (HasChange (found_of matches.now)) }
 {
     match word {
         "append" => Some(Change::Append {
@@ -50,34 +64,54 @@ fn change_of_file<'a>(word: &str, matches: &ArgMatches<'a>) -> Option<Change<'a>
 
 /// The change that a command makes that names files, rows or groups, any number of them.
 fn change_of_rows<'a>(alloc: Global, word: &str, matches: &ArgMatches<'a>) -> R<Option<Change<'a>>>
-    ensures { IfOk result (λ found. IfSome found (λ change. change_word change ≡ word.now)) }
+    ensures word { IfOk result (λ found. IfSome found (λ change. change_word change ≡ word.now)) }
+    ensures asked { IfOk result (λ found. IfSome found (HasChange (found_of matches.now))) }
 {
     let change = match word {
         "import" => Change::Import {
             files: words_in(alloc, matches, "FILE")?,
             unless: matches.get_str("unless"),
         },
-        "remove" => match matches.get_str("filter") {
-            Some(filter) => Change::Remove { filter },
-            None => Change::RemoveGroups {
-                numbers: numbers_in(alloc, matches)?,
-            },
-        },
-        "rewrite" if matches.get_flag("all") => Change::RewriteAll,
-        "rewrite" => match matches.get_one::<u64>("min-rows") {
-            Some(min_rows) => Change::RewriteSmall { min_rows },
-            None => Change::Rewrite {
-                numbers: numbers_in(alloc, matches)?,
-            },
-        },
+        "remove" => removal_in(alloc, matches)?,
+        "rewrite" => rewrite_in(alloc, matches)?,
         _ => return Ok(None),
     };
     Ok(Some(change))
 }
 
+/// The rows or the groups that are removed.
+fn removal_in<'a>(alloc: Global, matches: &ArgMatches<'a>) -> R<Change<'a>>
+    ensures word { IfOk result (λ change. change_word change ≡ codes "remove") }
+    ensures asked { IfOk result (HasChange (found_of matches.now)) }
+{
+    match matches.get_str("filter") {
+        Some(filter) => Ok(Change::Remove { filter }),
+        None => Ok(Change::RemoveGroups {
+            numbers: numbers_in(alloc, matches)?,
+        }),
+    }
+}
+
+/// The groups that are written anew.
+fn rewrite_in<'a>(alloc: Global, matches: &ArgMatches<'a>) -> R<Change<'a>>
+    ensures word { IfOk result (λ change. change_word change ≡ codes "rewrite") }
+    ensures asked { IfOk result (HasChange (found_of matches.now)) }
+{
+    if matches.get_flag("all") {
+        return Ok(Change::RewriteAll);
+    }
+    match matches.get_one::<u64>("min-rows") {
+        Some(min_rows) => Ok(Change::RewriteSmall { min_rows }),
+        None => Ok(Change::Rewrite {
+            numbers: numbers_in(alloc, matches)?,
+        }),
+    }
+}
+
 /// The change that a command makes.
 fn change_of<'a>(alloc: Global, word: &str, matches: &ArgMatches<'a>) -> R<Option<Change<'a>>>
-    ensures { IfOk result (λ found. IfSome found (λ change. change_word change ≡ word.now)) }
+    ensures word { IfOk result (λ found. IfSome found (λ change. change_word change ≡ word.now)) }
+    ensures asked { IfOk result (λ found. IfSome found (HasChange (found_of matches.now))) }
 {
     match change_of_file(word, matches) {
         Some(change) => Ok(Some(change)),
@@ -87,7 +121,8 @@ fn change_of<'a>(alloc: Global, word: &str, matches: &ArgMatches<'a>) -> R<Optio
 
 /// The question that a command asks.
 fn question_of<'a>(alloc: Global, word: &str, matches: &ArgMatches<'a>) -> R<Option<Question<'a>>>
-    ensures { IfOk result (λ found. IfSome found (λ question. question_word question ≡ word.now)) }
+    ensures word { IfOk result (λ found. IfSome found (λ question. question_word question ≡ word.now)) }
+    ensures asked { IfOk result (λ found. IfSome found (HasQuestion (found_of matches.now))) }
 {
     let filter = matches.get_str("filter");
     let question = match word {
@@ -97,7 +132,9 @@ fn question_of<'a>(alloc: Global, word: &str, matches: &ArgMatches<'a>) -> R<Opt
             limit: limit_in(matches),
         },
         "count" => Question::Count { filter },
-        "groups" => Question::Groups,
+        "groups" => Question::Groups {
+            stats: matches.get_flag("stats"),
+        },
         "schema" => Question::Schema,
         _ => return Ok(None),
     };
@@ -106,7 +143,8 @@ fn question_of<'a>(alloc: Global, word: &str, matches: &ArgMatches<'a>) -> R<Opt
 
 /// What a command is to do that makes a dataset, or runs a script.
 fn task_of_file<'a>(alloc: Global, word: &str, matches: &ArgMatches<'a>) -> R<Option<Task<'a>>>
-    ensures { IfOk result (λ found. IfSome found (λ task. task_word task ≡ word.now)) }
+    ensures word { IfOk result (λ found. IfSome found (λ task. task_word task ≡ word.now)) }
+    ensures asked { IfOk result (λ found. IfSome found (HasTask (found_of matches.now))) }
 {
     let task = match word {
         "create" => match matches.get_str("SCHEMA") {
@@ -130,7 +168,8 @@ fn task_of_file<'a>(alloc: Global, word: &str, matches: &ArgMatches<'a>) -> R<Op
 
 /// What a command is to do.
 fn task_of<'a>(alloc: Global, word: &str, matches: &ArgMatches<'a>) -> R<Option<Task<'a>>>
-    ensures { IfOk result (λ found. IfSome found (λ task. task_word task ≡ word.now)) }
+    ensures word { IfOk result (λ found. IfSome found (λ task. task_word task ≡ word.now)) }
+    ensures asked { IfOk result (λ found. IfSome found (HasTask (found_of matches.now))) }
 {
     if let Some(question) = question_of(alloc, word, matches)? {
         return Ok(Some(Task::Ask(question)));
@@ -142,21 +181,16 @@ fn task_of<'a>(alloc: Global, word: &str, matches: &ArgMatches<'a>) -> R<Option<
 }
 
 /// The folder that a command is on; of `schema` it may be a file.
-fn folder_in<'a>(matches: &ArgMatches<'a>) -> Option<&'a str> {
+fn folder_in<'a>(matches: &ArgMatches<'a>) -> Option<&'a str>
+    ensures { HasFolder (found_of matches.now) (option_map (λ folder. folder.now) result) }
+{
     matches.get_str("DIR").or(matches.get_str("PATH"))
-}
-
-/// The commands whose words say how files are written.
-fn has_options(word: &str) -> bool {
-    matches!(
-        word,
-        "create" | "append" | "import" | "query" | "remove" | "rewrite" | "run"
-    )
 }
 
 /// The call on a dataset that the first word names, by what was found in the words. None for another word.
 pub fn call_in<'a>(alloc: Global, word: &str, matches: &ArgMatches<'a>) -> R<Option<Call<'a>>>
-    ensures { IfOk result (λ found. IfSome found (λ call. task_word call.task ≡ word.now)) }
+    ensures word { IfOk result (λ found. IfSome found (λ call. task_word call.task ≡ word.now)) }
+    ensures asked { IfOk result (λ found. IfSome found (IsAsked matches.now word.now)) }
 {
     let Some(matches) = matches.subcommand_matches(word) else {
         return Ok(None);
@@ -166,29 +200,33 @@ pub fn call_in<'a>(alloc: Global, word: &str, matches: &ArgMatches<'a>) -> R<Opt
         (Some(folder), Some(task)) => Ok(Some(Call {
             folder,
             waits: seconds_in(matches),
-            options: options_for(word, matches),
+            options: options_in(matches),
+            keeps_style: keeps_style_in(matches),
+            texts: texts_in(matches),
             task,
         })),
         _ => Ok(None),
     }
 }
 
-/// How files are written: as the words say, for a command that takes such words; else by the standard options.
-fn options_for(word: &str, matches: &ArgMatches<'_>) -> WriteOptions {
-    if has_options(word) {
-        options_in(matches)
-    } else {
-        WriteOptions::standard()
-    }
+/// Whether dates, times, timestamps and decimals are texts, by the words; not where they do not say it.
+pub fn texts_in(matches: &ArgMatches<'_>) -> bool
+    ensures { HasFlag (found_of matches.now) (codes "text") result }
+{
+    matches.get_flag("text")
 }
 
 /// The file that gets what a command would print, where the words name one; `-` is standard output.
-pub fn out_in<'a>(matches: &ArgMatches<'a>) -> Option<&'a str> {
+pub fn out_in<'a>(matches: &ArgMatches<'a>) -> Option<&'a str>
+    ensures { MayHaveText (found_of matches.now) (codes "out") result }
+{
     matches.get_str("out")
 }
 
 /// How many rows are printed at most, where the words say it.
-pub fn limit_in(matches: &ArgMatches<'_>) -> Option<u64> {
+pub fn limit_in(matches: &ArgMatches<'_>) -> Option<u64>
+    ensures { MayHaveNumber (found_of matches.now) 64 (codes "limit") result }
+{
     matches.get_one::<u64>("limit")
 }
 
@@ -196,12 +234,16 @@ pub fn limit_in(matches: &ArgMatches<'_>) -> Option<u64> {
 const SMALL_ROWS: u64 = 65_536;
 
 /// The number of rows below which a group is small: as the words say, or else [`SMALL_ROWS`].
-pub fn min_rows_in(matches: &ArgMatches<'_>) -> u64 {
+pub fn min_rows_in(matches: &ArgMatches<'_>) -> u64
+    ensures { HasNumberOr (found_of matches.now) 64 (codes "min-rows") 65536 result }
+{
     matches.get_one::<u64>("min-rows").unwrap_or(SMALL_ROWS)
 }
 
 /// The seconds that a call waits at most for a lock, by the words; None where they do not say it.
-fn seconds_in(matches: &ArgMatches<'_>) -> Option<u64> {
+fn seconds_in(matches: &ArgMatches<'_>) -> Option<u64>
+    ensures { HasWaiting (found_of matches.now) result }
+{
     if matches.get_flag("no-wait") {
         Some(0)
     } else {
@@ -211,12 +253,15 @@ fn seconds_in(matches: &ArgMatches<'_>) -> Option<u64> {
 
 /// The call that looks at the folder of a dataset, as `look` says.
 pub fn look_call<'a>(folder: &'a str, matches: &ArgMatches<'_>, look: Look<'a>) -> Call<'a>
-    ensures { task_word result.task ≡ look_word look.entry }
+    ensures word { task_word result.task ≡ look_word look.entry }
+    ensures asked { IsLookCall (found_of matches.now) folder.entry look.entry result }
 {
     Call {
         folder,
         waits: seconds_in(matches),
         options: WriteOptions::standard(),
+        keeps_style: false,
+        texts: texts_in(matches),
         task: Task::Look(look),
     }
 }

@@ -38,8 +38,9 @@ const CALLS: [(&str, &[&str]); 18] = [
 /// What a whole number of 64 bits is, in words.
 const NATURAL: &str = "a whole number from 0 to 18446744073709551615";
 
-/// What is wrong with a line that is no call on a table of this schema.
-pub fn of_call(alloc: Global, schema: &Schema, line: &str) -> R<Misfit> {
+/// What is wrong with a line that is no call on a table of this schema, where dates, times, timestamps and decimals are texts, or
+/// numbers.
+pub fn of_call(alloc: Global, schema: &Schema, line: &str, texts: bool) -> R<Misfit> {
     let (plain, marked) = match of_one_line(alloc, line)? {
         Text::Json { plain, marked } => (plain, marked),
         Text::None(why) => return Misfit::because(alloc, why.as_str()),
@@ -55,7 +56,7 @@ pub fn of_call(alloc: Global, schema: &Schema, line: &str) -> R<Misfit> {
         let what = format!(in alloc; "there is no call {name:?}")?;
         return Misfit::because(alloc, what.as_str());
     };
-    let misfit = of_call_members(alloc, schema, wanted, plain, members)?;
+    let misfit = of_call_members(alloc, schema, wanted, plain, members, texts)?;
     Ok(Misfit {
         path: String::from_str(alloc, name)?,
         what: misfit.into_text(alloc)?,
@@ -69,6 +70,7 @@ fn of_call_members(
     wanted: &[&str],
     plain: &Map<String, Json>,
     members: &Map<String, Json>,
+    texts: bool,
 ) -> R<Misfit> {
     for (name, _) in members.iter() {
         let is_known = name.as_str() == "call" || wanted.iter().any(|it| *it == name.as_str());
@@ -79,7 +81,7 @@ fn of_call_members(
             );
         }
     }
-    first_misfit(alloc, schema, wanted, plain, members)
+    first_misfit(alloc, schema, wanted, plain, members, texts)
 }
 
 /// What is wrong with the first of these members of a call that is absent, or has another form than its own.
@@ -89,13 +91,14 @@ fn first_misfit(
     wanted: &[&str],
     plain: &Map<String, Json>,
     members: &Map<String, Json>,
+    texts: bool,
 ) -> R<Misfit> {
     for name in wanted {
         let (Some(plain), Some(json)) = (plain.get(*name), members.get(*name)) else {
             let what = "expected a value, found no member of this name";
             return Misfit::because(alloc, what)?.in_member(alloc, name);
         };
-        if let Some(misfit) = of_call_member(alloc, schema, name, plain, json)? {
+        if let Some(misfit) = of_call_member(alloc, schema, name, plain, json, texts)? {
             return Ok(misfit);
         }
     }
@@ -109,11 +112,12 @@ fn of_call_member(
     name: &str,
     plain: &Json,
     json: &Json,
+    texts: bool,
 ) -> R<Option<Misfit>> {
     let misfit = match name {
-        "rows" => return of_rows(alloc, schema, json),
+        "rows" => return of_rows(alloc, schema, json, texts),
         "filter" => {
-            return match fault_in(alloc, schema, plain, json)? {
+            return match fault_in(alloc, schema, plain, json, texts)? {
                 Some(fault) => {
                     let what = format!(in alloc; "{fault}")?;
                     Ok(Some(Misfit::because(alloc, what.as_str())?))
@@ -135,13 +139,13 @@ fn of_call_member(
 }
 
 /// The first of the rows of a call that is none of the schema, and why, if there is one.
-fn of_rows(alloc: Global, schema: &Schema, json: &Json) -> R<Option<Misfit>> {
+fn of_rows(alloc: Global, schema: &Schema, json: &Json, texts: bool) -> R<Option<Misfit>> {
     let Json::Array(rows) = json else {
         let misfit = Misfit::expected(alloc, "an array of rows", json)?;
         return Ok(Some(misfit.in_member(alloc, "rows")?));
     };
     for (place, row) in rows.iter().enumerate() {
-        if let Some(misfit) = of_row(alloc, schema.fields(), row)? {
+        if let Some(misfit) = of_row(alloc, schema.fields(), row, texts)? {
             let number = place.saturating_add(1);
             return Ok(Some(Misfit {
                 path: format!(in alloc; "row {number}")?,

@@ -20,6 +20,8 @@ pub enum Cause {
     System(SystemFault),
     /// A limit is exceeded.
     Limit(LimitFault),
+    /// A line that says all.
+    Said(String),
     /// The reader of the output closed it.
     ClosedPipe,
     /// The output could not be written. The system's words are not known.
@@ -33,6 +35,7 @@ impl Display for Cause {
             Cause::Filter(fault) => write!(f, "{fault}"),
             Cause::System(fault) => write!(f, "{fault}"),
             Cause::Limit(fault) => write!(f, "{fault}"),
+            Cause::Said(line) => f.write_str(line.as_str()),
             Cause::ClosedPipe => f.write_str("the reader closed the pipe"),
             Cause::Output => f.write_str("standard output could not be written"),
         }

@@ -61,11 +61,17 @@ impl FilterFault {
     }
 }
 
-/// What is wrong with the filter that a text is, if something is: which term, and of it what.
-pub fn filter_fault(alloc: Global, schema: &Schema, text: &str) -> R<Option<FilterFault>> {
+/// What is wrong with the filter that a text is, if something is: which term, and of it what. With `texts`, dates, times,
+/// timestamps and decimals are texts.
+pub fn filter_fault(
+    alloc: Global,
+    schema: &Schema,
+    text: &str,
+    texts: bool,
+) -> R<Option<FilterFault>> {
     match of_lines(alloc, text)? {
         Text::None(why) => Ok(Some(FilterFault::of_all(alloc, why.as_str())?)),
-        Text::Json { plain, marked } => fault_in(alloc, schema, &plain, &marked),
+        Text::Json { plain, marked } => fault_in(alloc, schema, &plain, &marked, texts),
     }
 }
 
@@ -75,6 +81,7 @@ pub fn fault_in(
     schema: &Schema,
     plain: &Json,
     marked: &Json,
+    texts: bool,
 ) -> R<Option<FilterFault>> {
     let (Json::Array(items), Json::Array(shown)) = (plain, marked) else {
         return Ok(Some(FilterFault::of_all(alloc, "expected an array of terms")?));
@@ -85,8 +92,8 @@ pub fn fault_in(
             alloc,
             "it has terms next to lists of terms: put each term in a list",
         )?)),
-        (true, false) => fault_in_lists(alloc, schema, items, shown),
-        (false, _) => match fault_in_terms(alloc, schema, items, shown)? {
+        (true, false) => fault_in_lists(alloc, schema, items, shown, texts),
+        (false, _) => match fault_in_terms(alloc, schema, items, shown, texts)? {
             Some((term, what)) => Ok(Some(FilterFault {
                 place: Place::Term(term),
                 what,
@@ -123,6 +130,7 @@ fn fault_in_lists(
     schema: &Schema,
     lists: &[Json],
     shown: &[Json],
+    texts: bool,
 ) -> R<Option<FilterFault>> {
     for (place, (list, marked)) in lists.iter().zip(shown.iter()).enumerate() {
         let (Json::Array(terms), Json::Array(marked)) = (list, marked) else {
@@ -132,7 +140,7 @@ fn fault_in_lists(
                 what,
             }));
         };
-        let found = fault_in_terms(alloc, schema, terms.as_slice(), marked.as_slice())?;
+        let found = fault_in_terms(alloc, schema, terms.as_slice(), marked.as_slice(), texts)?;
         if let Some((term, what)) = found {
             return Ok(Some(FilterFault {
                 place: Place::TermOfList(place, term),
@@ -149,9 +157,10 @@ fn fault_in_terms(
     schema: &Schema,
     terms: &[Json],
     shown: &[Json],
+    texts: bool,
 ) -> R<Option<(usize, String)>> {
     for (place, (term, marked)) in terms.iter().zip(shown.iter()).enumerate() {
-        if let Some(what) = term_misfit(alloc, schema, term, marked)? {
+        if let Some(what) = term_misfit(alloc, schema, term, marked, texts)? {
             return Ok(Some((place, what)));
         }
     }

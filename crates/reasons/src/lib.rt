@@ -14,6 +14,7 @@ mod cause;
 mod column_type;
 mod doubled;
 mod filter_faults;
+mod form_words;
 mod json_text;
 mod limit_fault;
 mod misfit;

@@ -93,12 +93,13 @@ pub fn options_fault(group_rows: u32, page_rows: u32, page_version: u8) -> Optio
 }
 
 /// The first value of the rows of a text that has too many bytes, if there is one. Lines that are too short for one are not
-/// read. Refused as the reader refuses a line that is read.
+/// read. Refused as the reader refuses a line that is read. With `texts`, dates, times, timestamps and decimals are texts.
 pub fn large_value(
     alloc: Global,
     schema: &Schema,
     file: &str,
     text: &str,
+    texts: bool,
 ) -> R<Option<LimitFault>> {
     let mut reader = Reader::new(alloc, schema)?;
     let mut line: u64 = 0;
@@ -107,7 +108,7 @@ pub fn large_value(
         if row_text.len() <= MOST_BYTES {
             continue;
         }
-        let row = reader.read(row_text)?;
+        let row = reader.read_as(row_text, texts)?;
         if let Some((column, bytes)) = large_value_in(schema.fields(), &row) {
             return Ok(Some(LimitFault::Value {
                 file: String::from_str(alloc, file)?,

@@ -3,11 +3,13 @@
 //! Only the readers of `jsonrows` decide whether a line is a row; this finds words for what they refused.
 
 use crate::as_written::marked;
+use crate::form_words::texts_of;
 use crate::json_text::{Text, of_one_line};
 use crate::misfit::Misfit;
 use bits::R;
+use rowtext::{form_if, leaf_from_as};
 use schema::{Field, Kind, LeafType, Order, Repetition};
-use serde_json::{Map, Number, Value as Json};
+use serde_json::{Map, Value as Json};
 use std::alloc::Global;
 
 /// How bytes that are no text are written, in words.
@@ -16,28 +18,33 @@ pub const DIGITS: &str = "bytes as lower-case hexadecimal digits, two a byte";
 /// What is wrong with the first of the fields whose member is none of its values, if there is one; else with a
 /// member of no field.
 #[cycle(explaining)]
-fn of_members(alloc: Global, fields: &[Field], members: &Map<String, Json>) -> R<Option<Misfit>> {
+fn of_members(
+    alloc: Global,
+    fields: &[Field],
+    members: &Map<String, Json>,
+    texts: bool,
+) -> R<Option<Misfit>> {
     for field in fields {
         let member = members.get(field.name());
-        if let Some(misfit) = of_member(alloc, field, member)? {
+        if let Some(misfit) = of_member(alloc, field, member, texts)? {
             return Ok(Some(misfit.in_member(alloc, field.name())?));
         }
     }
     of_names(alloc, fields, members)
 }
 
-/// What is wrong with a line, if something is.
-pub fn of_line(alloc: Global, fields: &[Field], line: &str) -> R<Option<Misfit>> {
+/// What is wrong with a line, if something is, where dates, times, timestamps and decimals are texts, or numbers.
+pub fn of_line(alloc: Global, fields: &[Field], line: &str, texts: bool) -> R<Option<Misfit>> {
     match of_one_line(alloc, line)? {
-        Text::Json { marked, .. } => of_row(alloc, fields, &marked),
+        Text::Json { marked, .. } => of_row(alloc, fields, &marked, texts),
         Text::None(why) => Ok(Some(Misfit::because(alloc, why.as_str())?)),
     }
 }
 
-/// What is wrong with the JSON of a row, if something is.
-pub fn of_row(alloc: Global, fields: &[Field], json: &Json) -> R<Option<Misfit>> {
+/// What is wrong with the JSON of a row, if something is, with texts or without.
+pub fn of_row(alloc: Global, fields: &[Field], json: &Json, texts: bool) -> R<Option<Misfit>> {
     match json {
-        Json::Object(members) => of_members(alloc, fields, members),
+        Json::Object(members) => of_members(alloc, fields, members, texts),
         _ => Ok(Some(Misfit::expected(alloc, "an object", json)?)),
     }
 }
@@ -47,17 +54,6 @@ fn is_unsigned(leaf_type: &LeafType) -> bool {
     matches!(leaf_type.order(), Some(Order::Unsigned))
 }
 
-/// Whether a number is one of a leaf's.
-fn is_number_of(leaf_type: &LeafType, number: &Number) -> bool {
-    match (leaf_type.kind, is_unsigned(leaf_type)) {
-        (Kind::Int32, false) => number.as_i64().is_some_and(|n| i32::try_from(n).is_ok()),
-        (Kind::Int32, true) => number.as_u64().is_some_and(|n| u32::try_from(n).is_ok()),
-        (Kind::Int64, false) => number.as_i64().is_some(),
-        (Kind::Int64, true) => number.as_u64().is_some(),
-        _ => false,
-    }
-}
-
 /// Whether a text has the digits of whole bytes.
 pub fn are_digits(text: &str) -> bool {
     let are_hexadecimal = text.bytes().all(|byte| byte.is_ascii_digit()
@@ -65,31 +61,33 @@ pub fn are_digits(text: &str) -> bool {
     are_hexadecimal && text.len() % 2 == 0
 }
 
-/// Whether a text is one of a leaf's.
-fn is_text_of(leaf_type: &LeafType, text: &str) -> bool {
-    match leaf_type.kind {
-        Kind::ByteArray => leaf_type.is_text() || are_digits(text),
-        Kind::FixedLenByteArray(length) => {
-            are_digits(text) && (text.len() as u64) / 2 == u64::from(length)
-        }
-        _ => false,
+/// Whether a JSON value, with marked numbers, is one of a leaf's: the reader of rows decides.
+fn is_of_leaf(alloc: Global, leaf_type: &LeafType, json: &Json, texts: bool) -> R<bool> {
+    if is_marked(json) {
+        return Ok(false);
     }
+    let value = leaf_from_as(alloc, leaf_type, json.clone()?, texts)?;
+    Ok(value.is_some())
 }
 
-/// Whether a JSON value is one of a leaf's.
-fn is_of_leaf(leaf_type: &LeafType, json: &Json) -> bool {
+/// Whether a JSON value is a marked number, which no leaf has.
+fn is_marked(json: &Json) -> bool {
     match json {
-        Json::Bool(_) => leaf_type.kind == Kind::Boolean,
-        Json::Number(number) => is_number_of(leaf_type, number),
-        Json::String(text) => {
-            marked(text.as_str()).is_none() && is_text_of(leaf_type, text.as_str())
-        }
+        Json::String(text) => marked(text.as_str()).is_some(),
         _ => false,
     }
 }
 
-/// What values a leaf has, in words.
-pub fn values_of(alloc: Global, leaf_type: &LeafType) -> R<String> {
+/// What values a leaf has, in words, with texts or without.
+pub fn values_of(alloc: Global, leaf_type: &LeafType, texts: bool) -> R<String> {
+    match form_if(texts, leaf_type) {
+        Some(form) => texts_of(alloc, leaf_type.kind, form),
+        None => plain_values_of(alloc, leaf_type),
+    }
+}
+
+/// What values a leaf has that has no texts, in words.
+fn plain_values_of(alloc: Global, leaf_type: &LeafType) -> R<String> {
     let words = match (leaf_type.kind, is_unsigned(leaf_type)) {
         (Kind::Boolean, _) => "true or false",
         (Kind::Int32, false) => "an integer from -2147483648 to 2147483647",
@@ -107,21 +105,21 @@ pub fn values_of(alloc: Global, leaf_type: &LeafType) -> R<String> {
 }
 
 /// What is wrong with a value of a leaf, if something is.
-pub fn of_leaf(alloc: Global, leaf_type: &LeafType, json: &Json) -> R<Option<Misfit>> {
-    if is_of_leaf(leaf_type, json) {
+pub fn of_leaf(alloc: Global, leaf_type: &LeafType, json: &Json, texts: bool) -> R<Option<Misfit>> {
+    if is_of_leaf(alloc, leaf_type, json, texts)? {
         return Ok(None);
     }
-    let wanted = values_of(alloc, leaf_type)?;
+    let wanted = values_of(alloc, leaf_type, texts)?;
     Ok(Some(Misfit::expected(alloc, wanted.as_str(), json)?))
 }
 
 /// What is wrong with a value of a field, its repetition aside, if something is.
 #[cycle(explaining)]
-fn of_value(alloc: Global, field: &Field, json: &Json) -> R<Option<Misfit>> {
+fn of_value(alloc: Global, field: &Field, json: &Json, texts: bool) -> R<Option<Misfit>> {
     match field {
-        Field::Leaf { leaf_type, .. } => of_leaf(alloc, leaf_type, json),
+        Field::Leaf { leaf_type, .. } => of_leaf(alloc, leaf_type, json, texts),
         Field::Group { fields, .. } => match json {
-            Json::Object(members) => of_members(alloc, fields.as_slice(), members),
+            Json::Object(members) => of_members(alloc, fields.as_slice(), members, texts),
             _ => Ok(Some(Misfit::expected(alloc, "an object", json)?)),
         },
     }
@@ -129,9 +127,9 @@ fn of_value(alloc: Global, field: &Field, json: &Json) -> R<Option<Misfit>> {
 
 /// What is wrong with the first of the items that is no value of a field, if there is one.
 #[cycle(explaining)]
-fn of_items(alloc: Global, field: &Field, items: &[Json]) -> R<Option<Misfit>> {
+fn of_items(alloc: Global, field: &Field, items: &[Json], texts: bool) -> R<Option<Misfit>> {
     for (number, item) in items.iter().enumerate() {
-        if let Some(misfit) = of_value(alloc, field, item)? {
+        if let Some(misfit) = of_value(alloc, field, item, texts)? {
             return Ok(Some(misfit.in_item(alloc, number)?));
         }
     }
@@ -140,7 +138,12 @@ fn of_items(alloc: Global, field: &Field, items: &[Json]) -> R<Option<Misfit>> {
 
 /// What is wrong with a member, which may be absent, if something is.
 #[cycle(explaining)]
-fn of_member(alloc: Global, field: &Field, member: Option<&Json>) -> R<Option<Misfit>> {
+fn of_member(
+    alloc: Global,
+    field: &Field,
+    member: Option<&Json>,
+    texts: bool,
+) -> R<Option<Misfit>> {
     let Some(json) = member else {
         return match field.repetition() {
             Repetition::Required => Ok(Some(Misfit::because(
@@ -152,9 +155,11 @@ fn of_member(alloc: Global, field: &Field, member: Option<&Json>) -> R<Option<Mi
     };
     match (field.repetition(), json) {
         (Repetition::Optional, Json::Null) => Ok(None),
-        (Repetition::Repeated, Json::Array(items)) => of_items(alloc, field, items.as_slice()),
+        (Repetition::Repeated, Json::Array(items)) => {
+            of_items(alloc, field, items.as_slice(), texts)
+        }
         (Repetition::Repeated, _) => Ok(Some(Misfit::expected(alloc, "an array", json)?)),
-        _ => of_value(alloc, field, json),
+        _ => of_value(alloc, field, json, texts),
     }
 }
 

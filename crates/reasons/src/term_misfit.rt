@@ -6,7 +6,8 @@ use crate::misfit::shown;
 use crate::row_misfit::{of_leaf, values_of};
 use bits::{R, Refusal};
 use filter::Filter;
-use jsonrows::filter_from;
+use jsonrows::filter_from_as;
+use rowtext::form_if;
 use schema::{Field, Kind, LeafType, Repetition, Schema};
 use serde_json::Value as Json;
 use std::alloc::Global;
@@ -17,12 +18,22 @@ const OPERATORS: [&str; 9] = ["==", "=", "!=", "<", "<=", ">", ">=", "in", "not 
 /// How many bytes of a term are shown.
 const SHOWN: usize = 200;
 
-/// What is wrong with a term, if something is. The second value is the same with marked numbers.
+/// The value of a term, and how it is read.
+#[derive(Clone, Copy)]
+struct Found<'a> {
+    is_of_list: bool,
+    value: &'a Json,
+    texts: bool,
+}
+
+/// What is wrong with a term, if something is, where dates, times, timestamps and decimals are texts, or numbers. The second
+/// value is the same with marked numbers.
 pub fn term_misfit(
     alloc: Global,
     schema: &Schema,
     plain: &Json,
     marked: &Json,
+    texts: bool,
 ) -> R<Option<String>> {
     let Json::Array(members) = marked else {
         return Ok(Some(of_form(alloc, plain)?));
@@ -40,21 +51,26 @@ pub fn term_misfit(
         )?;
         return Ok(Some(what));
     }
-    match refusal_of(alloc, schema, plain)? {
+    match refusal_of(alloc, schema, plain, texts)? {
         None => Ok(None),
         Some(Refusal::NoColumn) => Ok(Some(of_column(alloc, schema, column, names)?)),
         Some(refusal) => {
             let is_of_list = word == "in" || word == "not in";
-            Ok(Some(of_value(alloc, schema, names, &refusal, is_of_list, value)?))
+            let found = Found {
+                is_of_list,
+                value,
+                texts,
+            };
+            Ok(Some(of_value(alloc, schema, names, &refusal, &found)?))
         }
     }
 }
 
 /// Why a term is refused, if it is: it is made a filter of its own.
-fn refusal_of(alloc: Global, schema: &Schema, term: &Json) -> R<Option<Refusal>> {
+fn refusal_of(alloc: Global, schema: &Schema, term: &Json, texts: bool) -> R<Option<Refusal>> {
     let term_text = term.to_string(alloc)?;
     let text = format!(in alloc; "[{term_text}]")?;
-    let made = match filter_from(alloc, schema, text.as_str()) {
+    let made = match filter_from_as(alloc, schema, text.as_str(), texts) {
         Ok(ands) => Filter::new(alloc, schema, ands.as_slice()).err(),
         Err(refusal) => Some(refusal),
     };
@@ -140,8 +156,7 @@ fn of_value(
     schema: &Schema,
     names: &[Json],
     refusal: &Refusal,
-    is_of_list: bool,
-    value: &Json,
+    found: &Found<'_>,
 ) -> R<String> {
     let path = joined(alloc, names)?;
     let Some((Field::Leaf { leaf_type, .. }, _)) = field_at(schema, names) else {
@@ -152,34 +167,35 @@ fn of_value(
         Refusal::Unordered => {
             String::from_str(alloc, "its values have no order: use ==, !=, in or not in")?
         }
-        _ if is_of_list => of_list(alloc, leaf_type, value)?,
-        _ => of_operand(alloc, leaf_type, value)?,
+        _ if found.is_of_list => of_list(alloc, leaf_type, found.value, found.texts)?,
+        _ => of_operand(alloc, leaf_type, found.value, found.texts)?,
     };
     Ok(format!(in alloc; "column {path} is {kind}: {what}")?)
 }
 
 /// What is wrong with a list of values of a leaf.
-fn of_list(alloc: Global, leaf_type: &LeafType, value: &Json) -> R<String> {
+fn of_list(alloc: Global, leaf_type: &LeafType, value: &Json, texts: bool) -> R<String> {
     let Json::Array(items) = value else {
         let found = shown(alloc, value)?;
         return Ok(format!(in alloc; "expected an array of values, found {found}")?);
     };
     for item in items {
-        if of_leaf(alloc, leaf_type, item)?.is_some() {
-            return of_operand(alloc, leaf_type, item);
+        if of_leaf(alloc, leaf_type, item, texts)?.is_some() {
+            return of_operand(alloc, leaf_type, item, texts);
         }
     }
     Ok(String::from_str(alloc, "the list has no form of a list of values")?)
 }
 
 /// What was expected in place of a value, and what was found.
-fn of_operand(alloc: Global, leaf_type: &LeafType, value: &Json) -> R<String> {
+fn of_operand(alloc: Global, leaf_type: &LeafType, value: &Json, texts: bool) -> R<String> {
     let found = shown(alloc, value)?;
+    let has_texts = form_if(texts, leaf_type).is_some();
     let is_integer = matches!(leaf_type.kind, Kind::Int32 | Kind::Int64);
-    if is_integer && !is_number(value) {
+    if is_integer && !has_texts && !is_number(value) {
         return Ok(format!(in alloc; "expected an integer, found {found}")?);
     }
-    let wanted = values_of(alloc, leaf_type)?;
+    let wanted = values_of(alloc, leaf_type, texts)?;
     Ok(format!(in alloc; "expected {wanted}, found {found}")?)
 }
 

@@ -45,17 +45,24 @@ impl Display for TextFault {
     }
 }
 
-/// The first line of a text that is no row of a schema, and why; none where each line is one.
-pub fn row_fault(alloc: Global, schema: &Schema, file: &str, text: &str) -> R<Option<TextFault>> {
+/// The first line of a text that is no row of a schema, and why; none where each line is one. With `texts`, dates, times,
+/// timestamps and decimals are texts.
+pub fn row_fault(
+    alloc: Global,
+    schema: &Schema,
+    file: &str,
+    text: &str,
+    texts: bool,
+) -> R<Option<TextFault>> {
     let mut reader = Reader::new(alloc, schema)?;
     let mut number: u64 = 0;
     for line in text.lines() {
         number = number.saturating_add(1);
-        match reader.read(line) {
+        match reader.read_as(line, texts) {
             Ok(_) => {}
             Err(Refusal::Memory) => return Err(Refusal::Memory),
             Err(_) => {
-                let misfit = row_misfit(alloc, schema, line)?;
+                let misfit = row_misfit(alloc, schema, line, texts)?;
                 return Ok(Some(TextFault::in_line(alloc, file, number, misfit)?));
             }
         }
@@ -64,26 +71,32 @@ pub fn row_fault(alloc: Global, schema: &Schema, file: &str, text: &str) -> R<Op
 }
 
 /// Why a line is no row of a schema.
-fn row_misfit(alloc: Global, schema: &Schema, line: &str) -> R<Misfit> {
-    match of_line(alloc, schema.fields(), line)? {
+fn row_misfit(alloc: Global, schema: &Schema, line: &str, texts: bool) -> R<Misfit> {
+    match of_line(alloc, schema.fields(), line, texts)? {
         Some(misfit) => Ok(misfit),
         None => Misfit::because(alloc, "no row of the schema"),
     }
 }
 
 /// The first line of a text that is no call on a table of this schema, and why: which member of it, and of its rows which;
-/// none where each line is a call.
-pub fn call_fault(alloc: Global, schema: &Schema, file: &str, text: &str) -> R<Option<TextFault>> {
+/// none where each line is a call. With `texts`, dates, times, timestamps and decimals are texts.
+pub fn call_fault(
+    alloc: Global,
+    schema: &Schema,
+    file: &str,
+    text: &str,
+    texts: bool,
+) -> R<Option<TextFault>> {
     let own = Schema::new(alloc, schema.elements())?;
     let mut reader = ScriptReader::new(own);
     let mut number: u64 = 0;
     for line in text.lines() {
         number = number.saturating_add(1);
-        match reader.read(alloc, line) {
+        match reader.read_as(alloc, line, texts) {
             Ok(_) => {}
             Err(Refusal::Memory) => return Err(Refusal::Memory),
             Err(_) => {
-                let misfit = of_call(alloc, reader.schema(), line)?;
+                let misfit = of_call(alloc, reader.schema(), line, texts)?;
                 return Ok(Some(TextFault::in_line(alloc, file, number, misfit)?));
             }
         }

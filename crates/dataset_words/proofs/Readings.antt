@@ -1,0 +1,22 @@
+-- What clap reads of a subcommand.
+use Rattle.std.proofs.Common.{◌≡◌, ℕ, List, refl}
+use Rattle.std.specs.Prelude.{Option, Some, None, option_map}
+use Rattle.clap.specs.declared.parser.matches.ArgMatches.{ArgMatches}
+use Rattle.clap.specs.declared.parser.matches.ArgMatches.TheViews.{out-ArgMatches}
+use Rattle.clap.specs.Matches.{subcommand_name_of}
+use Rattle.clap.specs.Walk.{Row}
+use Rattle.clap.specs.Simple.{subcommand_rows_of}
+
+by_parts : {A B C : Type 0} (f : C → A) (g : C → B) (pair : C → A × B) → ((c : C) → pair c ≡ (f c, g c)) → (b : Option C) (x : A) (y : B) → option_map f b ≡ Some x
+    → option_map (λ (p : A × B). p.1) (option_map pair b) ≡ Some y → option_map pair b ≡ Some (x, y)
+by_parts f g pair parts None x y e h = cc
+by_parts f g pair parts (Some c) x y e h =
+    let first : f c ≡ x = cc in
+    let both : (pair c).1 ≡ y = cc in
+    let second : g c ≡ y = rw (← both, parts c) refl in
+    rw (parts c, first, second) refl
+
+-- the subcommand, by its name and by what was found for its arguments
+pub subcommand_found : (m : ArgMatches) (word : List ℕ) (rows : List Row) → subcommand_name_of m ≡ Some word
+    → option_map (λ (p : List ℕ × List Row). p.1) (subcommand_rows_of m) ≡ Some rows → subcommand_rows_of m ≡ Some (word, rows)
+subcommand_found m word rows name found = by_parts _ _ _ (λ c. refl) (out-ArgMatches m).subcommand word rows name found
