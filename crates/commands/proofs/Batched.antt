@@ -70,11 +70,11 @@ pub last_fits : (schema : Fields) (bs : List Batch) (b : Batch) → AreFitting s
 last_fits schema [] b all = all.0
 last_fits schema (c ∷ bs) b all = last_fits schema bs b all.1
 
-printed_more : (schema : Fields) (bs : List Batch) (b : Batch) (before mid after : Option (List ℕ)) → PrintsBatches schema bs before mid → (RowsFit (fields_at b.places 0 schema) b.rows → Appends mid after (batch_lines schema b))
-    → PrintsBatches schema (bs ++ b ∷ []) before after
-printed_more schema bs b before mid after so_far one fit =
-    subst (λ (text : List ℕ). Appends before after text) (sym (flat_map-append (batch_lines schema) bs (b ∷ []) ∙ ap (λ text. flat_map (batch_lines schema) bs ++ text) (append-nil (batch_lines schema b))))
-    (Appends-trans before mid after (flat_map (batch_lines schema) bs) (batch_lines schema b) (so_far (front_fits schema bs b fit)) (one (last_fits schema bs b fit)))
+printed_more : (texts : Bool) (schema : Fields) (bs : List Batch) (b : Batch) (before mid after : Option (List ℕ)) → PrintsBatches texts schema bs before mid → (RowsFit (fields_at b.places 0 schema) b.rows → Appends mid after (batch_lines texts schema b))
+    → PrintsBatches texts schema (bs ++ b ∷ []) before after
+printed_more texts schema bs b before mid after so_far one fit =
+    subst (λ (text : List ℕ). Appends before after text) (sym (flat_map-append (batch_lines texts schema) bs (b ∷ []) ∙ ap (λ text. flat_map (batch_lines texts schema) bs ++ text) (append-nil (batch_lines texts schema b))))
+    (Appends-trans before mid after (flat_map (batch_lines texts schema) bs) (batch_lines texts schema b) (so_far (front_fits schema bs b fit)) (one (last_fits schema bs b fit)))
 
 -- ---- of a store
 
@@ -82,15 +82,15 @@ pub same_table : (n : ℕ) (b : Batch) (s t : State) → Happens s (fetch n) (ba
 same_table n b s t happens = ap (λ (u : State). u.table) happens.1.becomes
 
 module _ {D : Type 0} (state : D → DiskState) where
-  pub begins : (store : Store D) (n : ℕ) (before : Option (List ℕ)) (s : State) → Stands state store s → HasPrinted state store store n before before s
-  begins store n before s stands = record { calls = []; answers = []; last = s; acts = (refl, refl); as_many = refl; fetches = tt; stands = stands; schema = refl; printed = λ fit. Appends-nil before }
+  pub begins : (texts : Bool) (store : Store D) (n : ℕ) (before : Option (List ℕ)) (s : State) → Stands state store s → HasPrinted state texts store store n before before s
+  begins texts store n before s stands = record { calls = []; answers = []; last = s; acts = (refl, refl); as_many = refl; fetches = tt; stands = stands; schema = refl; printed = λ fit. Appends-nil before }
 
   -- a batch more is printed
-  pub goes_on : (old mid new : Store D) (n : ℕ) (before so_far after : Option (List ℕ)) (s : State) (has : HasPrinted state old mid n before so_far s) (b : Batch) (acts : ActsFrom state mid new (fetch n) (batch b) has.last)
-      → (RowsFit (fields_at b.places 0 acts.after.table.schema) b.rows → Appends so_far after (batch_lines acts.after.table.schema b)) → HasPrinted state old new n before after s
-  goes_on old mid new n before so_far after s has b acts one =
+  pub goes_on : (texts : Bool) (old mid new : Store D) (n : ℕ) (before so_far after : Option (List ℕ)) (s : State) (has : HasPrinted state texts old mid n before so_far s) (b : Batch) (acts : ActsFrom state mid new (fetch n) (batch b) has.last)
+      → (RowsFit (fields_at b.places 0 acts.after.table.schema) b.rows → Appends so_far after (batch_lines texts acts.after.table.schema b)) → HasPrinted state texts old new n before after s
+  goes_on texts old mid new n before so_far after s has b acts one =
       let kept : acts.after.table.schema ≡ s.table.schema = ap (λ (t : Table). t.schema) (same_table n b has.last acts.after acts.happens) ∙ has.schema in
-      let here = subst (λ (fs : Fields). RowsFit (fields_at b.places 0 fs) b.rows → Appends so_far after (batch_lines fs b)) kept one in
+      let here = subst (λ (fs : Fields). RowsFit (fields_at b.places 0 fs) b.rows → Appends so_far after (batch_lines texts fs b)) kept one in
       record {
         calls = has.calls ++ fetch n ∷ [];
         answers = has.answers ++ batch b ∷ [];
@@ -100,14 +100,14 @@ module _ {D : Type 0} (state : D → DiskState) where
         fetches = fetches_more n has.calls has.fetches;
         stands = acts.stands;
         schema = kept;
-        printed = subst (λ (bs : List Batch). PrintsBatches s.table.schema bs before after) (sym (one_given n has.calls has.answers b has.as_many))
-            (printed_more s.table.schema (given n has.calls has.answers) b before so_far after has.printed here);
+        printed = subst (λ (bs : List Batch). PrintsBatches texts s.table.schema bs before after) (sym (one_given n has.calls has.answers b has.as_many))
+            (printed_more texts s.table.schema (given n has.calls has.answers) b before so_far after has.printed here);
       }
 
   -- the last fetch
-  pub ends : {T : Type 0} (old mid new : Store D) (n : ℕ) (before so_far after : Option (List ℕ)) (result : Result T Refusal) (s : State) (has : HasPrinted state old mid n before so_far s) (answer : Answer)
-      (acts : ActsFrom state mid new (fetch n) answer has.last) → OnOk result (PrintsAll s.table.schema n (has.calls ++ fetch n ∷ []) (has.answers ++ answer ∷ []) before after) → PrintsLeft state old new n before after result s
-  ends old mid new n before so_far after result s has answer acts all = record {
+  pub ends : {T : Type 0} (texts : Bool) (old mid new : Store D) (n : ℕ) (before so_far after : Option (List ℕ)) (result : Result T Refusal) (s : State) (has : HasPrinted state texts old mid n before so_far s) (answer : Answer)
+      (acts : ActsFrom state mid new (fetch n) answer has.last) → OnOk result (PrintsAll texts s.table.schema n (has.calls ++ fetch n ∷ []) (has.answers ++ answer ∷ []) before after) → PrintsLeft state texts old new n before after result s
+  ends texts old mid new n before so_far after result s has answer acts all = record {
     calls = has.calls ++ fetch n ∷ [];
     answers = has.answers ++ answer ∷ [];
     last = acts.after;
@@ -118,8 +118,8 @@ module _ {D : Type 0} (state : D → DiskState) where
   }
 
   -- it gave the end
-  pub all_printed : (old mid : Store D) (n : ℕ) (before after : Option (List ℕ)) (s : State) (has : HasPrinted state old mid n before after s) → PrintsAll s.table.schema n (has.calls ++ fetch n ∷ []) (has.answers ++ ended ∷ []) before after
-  all_printed old mid n before after s has = record { front = has.calls; told = has.answers; calls_are = refl; answers_are = refl; as_many = has.as_many; printed = has.printed }
+  pub all_printed : (texts : Bool) (old mid : Store D) (n : ℕ) (before after : Option (List ℕ)) (s : State) (has : HasPrinted state texts old mid n before after s) → PrintsAll texts s.table.schema n (has.calls ++ fetch n ∷ []) (has.answers ++ ended ∷ []) before after
+  all_printed texts old mid n before after s has = record { front = has.calls; told = has.answers; calls_are = refl; answers_are = refl; as_many = has.as_many; printed = has.printed }
 
   -- ---- a query, its fetches, and the end of its cursor
 
@@ -128,9 +128,9 @@ module _ {D : Type 0} (state : D → DiskState) where
     asked answer acts = record { calls = query terms columns ∷ []; answers = answer ∷ []; last = acts.after; acts = one_made state old mid (query terms columns) answer s acts; read = refl }
 
     module _ (n : ℕ) (acts : ActsFrom state old mid (query terms columns) (cursor n) s) where
-      pub closed : {T : Type 0} (end new : Store D) (before after : Option (List ℕ)) (result : Result T Refusal) (left : PrintsLeft state mid end n before after result acts.after) (answer : Answer)
+      pub closed : {T : Type 0} (texts : Bool) (end new : Store D) (before after : Option (List ℕ)) (result : Result T Refusal) (left : PrintsLeft state texts mid end n before after result acts.after) (answer : Answer)
           → ActsFrom state end new (close n) answer left.last → OnlyReads state old new s
-      closed end new before after result left answer closing = record {
+      closed texts end new before after result left answer closing = record {
         calls = query terms columns ∷ left.calls ++ close n ∷ [];
         answers = cursor n ∷ left.answers ++ answer ∷ [];
         last = closing.after;
@@ -139,15 +139,15 @@ module _ {D : Type 0} (state : D → DiskState) where
         read = closed_read n left.calls left.fetches;
       }
 
-      pub rows_printed : FinishedQueriesGiveAll → Stands state old s → (end : Store D) (calls : List Call) (answers : List Answer) (last : State) (before after : Option (List ℕ)) → ActsOn state mid calls answers end acts.after last
-          → AreFetches n calls → PrintsAll acts.after.table.schema n calls answers before after → Appends before after (query_lines terms columns s.table)
-      rows_printed law stands end calls answers last before after made fetches all =
+      pub rows_printed : (texts : Bool) → FinishedQueriesGiveAll → Stands state old s → (end : Store D) (calls : List Call) (answers : List Answer) (last : State) (before after : Option (List ℕ)) → ActsOn state mid calls answers end acts.after last
+          → AreFetches n calls → PrintsAll texts acts.after.table.schema n calls answers before after → Appends before after (query_lines texts terms columns s.table)
+      rows_printed texts law stands end calls answers last before after made fetches all =
           let same : acts.after.table ≡ s.table = ap (λ (u : State). u.table) acts.happens.1.1 in
           let later : Run acts.after (all.front ++ fetch n ∷ []) (all.told ++ ended ∷ []) last =
           subst (λ (cs : List Call). Run acts.after cs (all.told ++ ended ∷ []) last) all.calls_are
           (subst (λ (xs : List Answer). Run acts.after calls xs last) all.answers_are (history state mid end calls answers acts.after last made)) in
           let opened : list_all (leaves_open n) all.front ≡ true = leave_open n all.front (fetches_front n all.front (subst (λ (cs : List Call). AreFetches n cs) all.calls_are fetches)) in
           let are : given n all.front all.told ≡ batches terms columns s.table = law s terms columns n all.front all.told last stands.reached all.as_many (acts.after, acts.happens, later) opened in
-          let of_table = subst (λ (t : Table). PrintsBatches t.schema (given n all.front all.told) before after) same all.printed in
-          let printed = subst (λ (bs : List Batch). PrintsBatches s.table.schema bs before after) are of_table in
-          subst (λ (text : List ℕ). Appends before after text) (lines_of_query terms columns s.table) (printed (batches_fit terms columns s.table stands.shows.valid))
+          let of_table = subst (λ (t : Table). PrintsBatches texts t.schema (given n all.front all.told) before after) same all.printed in
+          let printed = subst (λ (bs : List Batch). PrintsBatches texts s.table.schema bs before after) are of_table in
+          subst (λ (text : List ℕ). Appends before after text) (lines_of_query texts terms columns s.table) (printed (batches_fit terms columns s.table stands.shows.valid))

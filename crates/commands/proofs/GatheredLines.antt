@@ -1,5 +1,5 @@
 -- Lines that are gathered one by one, and written now and then.
-use Rattle.std.proofs.Common.{◌≡◌, ℕ, zero, suc, ◌+◌, ◌<◌, List, [], ◌∷◌, ◌++◌, length, get_or, take, Option, refl, sym, ap, subst, ◌∙◌, append_assoc, arith}
+use Rattle.std.proofs.Common.{Bool, ◌≡◌, ℕ, zero, suc, ◌+◌, ◌<◌, List, [], ◌∷◌, ◌++◌, length, get_or, take, Option, refl, sym, ap, subst, ◌∙◌, append_assoc, arith}
 use Rattle.std.specs.Prelude.{IsTrue}
 use Rattle.std.specs.Io.KnownBytes.{Appends}
 use Rattle.std.proofs.KnownBytes.{Appends-trans, Appends-nil}
@@ -11,33 +11,33 @@ use Rattle.schema.specs.Fits.{fits_each, RowsFit}
 use Rattle.schema.specs.Views.{row_view, rows_view}
 use Rattle.schema.specs.declared.row.Row.{Row}
 use Rattle.rowtext.specs.declared.row_text.RowText.{RowText}
-use Rattle.rowtext.specs.Rows.{BeginsLine}
+use Rattle.rowtext.specs.Rows.{BeginsLineAs}
 use Rattle.commands.specs.Querying.{row_line, row_lines}
 use Rattle.commands.specs.inner.Gathering.{AreGathered}
 
 -- one row more has one line more
-pub lines_more : (fs : Fields) (rows : List ValueTrees) (row : ValueTrees) → row_lines fs (rows ++ row ∷ []) ≡ row_lines fs rows ++ row_line fs row
-lines_more fs rows row = flat_map-append (row_line fs) rows (row ∷ []) ∙ ap (λ (t : List ℕ). row_lines fs rows ++ t) (append-nil (row_line fs row))
+pub lines_more : (texts : Bool) (fs : Fields) (rows : List ValueTrees) (row : ValueTrees) → row_lines texts fs (rows ++ row ∷ []) ≡ row_lines texts fs rows ++ row_line texts fs row
+lines_more texts fs rows row = flat_map-append (row_line texts fs) rows (row ∷ []) ∙ ap (λ (t : List ℕ). row_lines texts fs rows ++ t) (append-nil (row_line texts fs row))
 
 -- of no rows
-pub none_yet : (fs : Fields) (text : RowText) (old : Option (List ℕ)) → BeginsLine text fs [] → AreGathered fs [] text old old
-none_yet fs text old begins = record { printed = []; written = Appends-nil old; gathered = []; gathers = begins; joined = refl }
+pub none_yet : (texts : Bool) (fs : Fields) (text : RowText) (old : Option (List ℕ)) → BeginsLineAs texts text fs [] → AreGathered texts fs [] text old old
+none_yet texts fs text old begins = record { printed = []; written = Appends-nil old; gathered = []; gathers = begins; joined = refl }
 
 -- a line that is gathered
-pub one_more : (fs : Fields) (rows : List ValueTrees) (row : ValueTrees) (from to : RowText) (old new : Option (List ℕ)) (p : AreGathered fs rows from old new) → BeginsLine to fs (p.gathered ++ row_line fs row)
-    → AreGathered fs (rows ++ row ∷ []) to old new
-one_more fs rows row from to old new p begins = record {
+pub one_more : (texts : Bool) (fs : Fields) (rows : List ValueTrees) (row : ValueTrees) (from to : RowText) (old new : Option (List ℕ)) (p : AreGathered texts fs rows from old new) → BeginsLineAs texts to fs (p.gathered ++ row_line texts fs row)
+    → AreGathered texts fs (rows ++ row ∷ []) to old new
+one_more texts fs rows row from to old new p begins = record {
   printed = p.printed;
   written = p.written;
-  gathered = p.gathered ++ row_line fs row;
+  gathered = p.gathered ++ row_line texts fs row;
   gathers = begins;
-  joined = lines_more fs rows row ∙ ap (λ (t : List ℕ). t ++ row_line fs row) p.joined ∙ append_assoc p.printed p.gathered (row_line fs row);
+  joined = lines_more texts fs rows row ∙ ap (λ (t : List ℕ). t ++ row_line texts fs row) p.joined ∙ append_assoc p.printed p.gathered (row_line texts fs row);
 }
 
 -- lines that are written and forgotten
-pub all_written : (fs : Fields) (rows : List ValueTrees) (from to : RowText) (old mid new : Option (List ℕ)) (lines : List ℕ) (p : AreGathered fs rows from old mid) → lines ≡ p.gathered → Appends mid new lines → BeginsLine to fs []
-    → AreGathered fs rows to old new
-all_written fs rows from to old mid new lines p same written begins = record {
+pub all_written : (texts : Bool) (fs : Fields) (rows : List ValueTrees) (from to : RowText) (old mid new : Option (List ℕ)) (lines : List ℕ) (p : AreGathered texts fs rows from old mid) → lines ≡ p.gathered → Appends mid new lines → BeginsLineAs texts to fs []
+    → AreGathered texts fs rows to old new
+all_written texts fs rows from to old mid new lines p same written begins = record {
   printed = p.printed ++ lines;
   written = Appends-trans old mid new p.printed lines p.written written;
   gathered = [];
@@ -46,8 +46,8 @@ all_written fs rows from to old mid new lines p same written begins = record {
 }
 
 -- where the last lines are written, all are
-pub all_printed : (fs : Fields) (rows : List ValueTrees) (text : RowText) (old mid new : Option (List ℕ)) (lines : List ℕ) (p : AreGathered fs rows text old mid) → lines ≡ p.gathered → Appends mid new lines → Appends old new (row_lines fs rows)
-all_printed fs rows text old mid new lines p same written =
+pub all_printed : (texts : Bool) (fs : Fields) (rows : List ValueTrees) (text : RowText) (old mid new : Option (List ℕ)) (lines : List ℕ) (p : AreGathered texts fs rows text old mid) → lines ≡ p.gathered → Appends mid new lines → Appends old new (row_lines texts fs rows)
+all_printed texts fs rows text old mid new lines p same written =
     subst (Appends old new) (sym (p.joined ∙ ap (λ (t : List ℕ). p.printed ++ t) (sym same))) (Appends-trans old mid new p.printed lines p.written written)
 
 -- ---- rows one by one

@@ -6,13 +6,15 @@ mod Wanted
 mod Selected
 mod Batched
 mod OkThen
-mod Among
-mod ColumnLeaves
 mod GatheredLines
 mod Counted
 mod Stopped
 mod UnlessThere
 mod Renewed
 mod FirstBatched
-mod FileOfQuery
+mod PartsGiven
+mod FilesOfQuery
 mod StagedFiles
+mod ToldColumns
+mod FileEnds
+pub mod FirstKept

@@ -5,3 +5,8 @@ use Rattle.bits.specs.declared.refusal.Refusal.{Refusal}
 pub ok_always : {T A : Type 0} (result : Result T Refusal) → A → OnOk result A
 ok_always (Ok x) holds = holds
 ok_always (Err e) holds = tt
+
+-- what follows of an Ok holds once it is one
+pub ok_of : {T A B : Type 0} (result : Result T Refusal) → OnOk result A → (A → B) → OnOk result B
+ok_of (Ok x) holds so = so holds
+ok_of (Err e) holds so = tt

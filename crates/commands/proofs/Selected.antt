@@ -17,34 +17,34 @@ use Rattle.commands.proofs.Wanted.{fits_cut}
 
 -- ---- lines
 
-module _ (schema : Fields) (places : List ℕ) (test : Row → Bool) where
+module _ (texts : Bool) (schema : Fields) (places : List ℕ) (test : Row → Bool) where
   abbrev lines_in : List Row → List ℕ
-  lines_in rs = row_lines (fields_at places 0 schema) (map (cut places) (filter test rs))
+  lines_in rs = row_lines texts (fields_at places 0 schema) (map (cut places) (filter test rs))
 
   lines_more : (xs ys : List Row) → lines_in (xs ++ ys) ≡ lines_in xs ++ lines_in ys
   lines_more xs ys =
-      ap (λ rs. row_lines (fields_at places 0 schema) (map (cut places) rs)) (filter-append test xs ys)
-      ∙ (ap (row_lines (fields_at places 0 schema)) (map-append (cut places) (filter test xs) (filter test ys))
-      ∙ flat_map-append (row_line (fields_at places 0 schema)) (map (cut places) (filter test xs)) (map (cut places) (filter test ys)))
+      ap (λ rs. row_lines texts (fields_at places 0 schema) (map (cut places) rs)) (filter-append test xs ys)
+      ∙ (ap (row_lines texts (fields_at places 0 schema)) (map-append (cut places) (filter test xs) (filter test ys))
+      ∙ flat_map-append (row_line texts (fields_at places 0 schema)) (map (cut places) (filter test xs)) (map (cut places) (filter test ys)))
 
-  none_left : (b : Batch) → nat_lt 0 (length b.rows) ≡ false → batch_lines schema b ≡ []
+  none_left : (b : Batch) → nat_lt 0 (length b.rows) ≡ false → batch_lines texts schema b ≡ []
   none_left b e = by b.rows e
     where
-      by : (rs : List Row) → nat_lt 0 (length rs) ≡ false → row_lines (fields_at b.places 0 schema) rs ≡ []
+      by : (rs : List Row) → nat_lt 0 (length rs) ≡ false → row_lines texts (fields_at b.places 0 schema) rs ≡ []
       by [] h = refl
       by (r ∷ rs) h = let none = ltb-false 0 (length (r ∷ rs)) h in absurd (omega (arith, none))
 
-  pub lines_of_batches : (groups : List Group) → flat_map (batch_lines schema) (batches_of test places groups) ≡ lines_in (rows groups)
+  pub lines_of_batches : (groups : List Group) → flat_map (batch_lines texts schema) (batches_of test places groups) ≡ lines_in (rows groups)
   lines_of_batches [] = refl
   lines_of_batches (g ∷ gs) = by (nat_lt 0 (length (batch_of test places g).rows)) refl ∙ (ap (λ text. lines_in g.rows ++ text) (lines_of_batches gs) ∙ sym (lines_more g.rows (rows gs)))
     where
       by : (b : Bool) → nat_lt 0 (length (batch_of test places g).rows) ≡ b
-          → flat_map (batch_lines schema) (if b then batch_of test places g ∷ batches_of test places gs else batches_of test places gs) ≡ lines_in g.rows ++ flat_map (batch_lines schema) (batches_of test places gs)
+          → flat_map (batch_lines texts schema) (if b then batch_of test places g ∷ batches_of test places gs else batches_of test places gs) ≡ lines_in g.rows ++ flat_map (batch_lines texts schema) (batches_of test places gs)
       by true e = refl
-      by false e = ap (λ text. text ++ flat_map (batch_lines schema) (batches_of test places gs)) (sym (none_left (batch_of test places g) e))
+      by false e = ap (λ text. text ++ flat_map (batch_lines texts schema) (batches_of test places gs)) (sym (none_left (batch_of test places g) e))
 
-pub lines_of_query : (terms : Filter) (columns : Columns) (t : Table) → flat_map (batch_lines t.schema) (batches terms columns t) ≡ query_lines terms columns t
-lines_of_query terms columns t = lines_of_batches t.schema (wanted_places columns 0 t.schema) (satisfies t.schema terms) t.groups
+pub lines_of_query : (texts : Bool) (terms : Filter) (columns : Columns) (t : Table) → flat_map (batch_lines texts t.schema) (batches terms columns t) ≡ query_lines texts terms columns t
+lines_of_query texts terms columns t = lines_of_batches texts t.schema (wanted_places columns 0 t.schema) (satisfies t.schema terms) t.groups
 
 -- ---- what fits
 

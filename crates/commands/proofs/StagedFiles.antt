@@ -1,5 +1,5 @@
--- Files whose rows are staged one after another, and calls that leave a table as it was.
-use Rattle.std.proofs.Common.{◌≡◌, ℕ, List, [], ◌∷◌, ◌++◌, map, Result, Ok, Err, refl, sym, ap, subst, ◌∙◌}
+-- Files whose rows are staged one after another, up to the first that is refused.
+use Rattle.std.proofs.Common.{◌≡◌, ◌<◌, ℕ, zero, suc, List, [], ◌∷◌, ◌++◌, map, length, take, drop, get_or, Vec, Global, Result, Ok, Err, inl, inr, refl, sym, ap, subst, ◌∙◌, arith}
 use Rattle.std.proofs.lemmas.List.{map-append}
 use Rattle.bits.specs.declared.refusal.Refusal.{Refusal}
 use Rattle.schema.specs.Shape.{Fields}
@@ -15,9 +15,9 @@ use Rattle.store.specs.declared.store.Store.{Store}
 use Rattle.store.specs.Stands.{Stands}
 use Rattle.store.specs.Promises.{ActsFrom}
 use Rattle.commands.specs.Querying.{ActsOn}
-use Rattle.commands.specs.Importing.{MeanRows, StagesFiles, LeavesTable}
+use Rattle.commands.specs.Importing.{files_view, MeanRows, StagesFiles, IsRefusedFile, RefusesFile, StopsAtFile, ImportsNone, not_opened, not_staged}
 use Rattle.commands.specs.inner.Staged.{StagesOne}
-use Rattle.commands.proofs.OneByOne.{one_before, one_behind}
+use Rattle.commands.proofs.OneByOne.{one_behind}
 
 -- ---- what a call leaves of the table
 
@@ -32,19 +32,19 @@ module _ (s new : State) (call : Call) (e : Refusal) (same : Stays s call new �
   refused_same (failed is on needs stays) = same stays
   refused_same (in_doubt is none doubt) = ap (λ (u : State). u.table) doubt.becomes
 
-pub begin_same : (s new : State) (n : ℕ) → Happens s begin_append (job n) new → new.table ≡ s.table
+begin_same : (s new : State) (n : ℕ) → Happens s begin_append (job n) new → new.table ≡ s.table
 begin_same s new n happens = ap (λ (u : State). u.table) happens.1.1
 
-pub begin_refused : (s new : State) (e : Refusal) → Happens s begin_append (refused e) new → new.table ≡ s.table
+begin_refused : (s new : State) (e : Refusal) → Happens s begin_append (refused e) new → new.table ≡ s.table
 begin_refused s new e happens = refused_same s new begin_append e (λ (stays : Stays s begin_append new). ap (λ (u : State). u.table) stays.is) happens
 
-pub stage_same : (s new : State) (n : ℕ) (rows : List ValueTrees) → Happens s (stage n rows) accepted new → new.table ≡ s.table
+stage_same : (s new : State) (n : ℕ) (rows : List ValueTrees) → Happens s (stage n rows) accepted new → new.table ≡ s.table
 stage_same s new n rows happens = ap (λ (u : State). u.table) happens.1.1.becomes.is
 
-pub stage_refused : (s new : State) (n : ℕ) (rows : List ValueTrees) (e : Refusal) → Happens s (stage n rows) (refused e) new → new.table ≡ s.table
+stage_refused : (s new : State) (n : ℕ) (rows : List ValueTrees) (e : Refusal) → Happens s (stage n rows) (refused e) new → new.table ≡ s.table
 stage_refused s new n rows e happens = refused_same s new (stage n rows) e (λ (stays : Stays s (stage n rows) new). ap (λ (u : State). u.table) stays.is) happens
 
-pub abort_same : {T : Type 0} (s new : State) (n : ℕ) (result : Result T Refusal) → Happens s (abort n) (answered (λ _. accepted) result) new → new.table ≡ s.table
+abort_same : {T : Type 0} (s new : State) (n : ℕ) (result : Result T Refusal) → Happens s (abort n) (answered (λ _. accepted) result) new → new.table ≡ s.table
 abort_same s new n (Ok x) happens = ap (λ (u : State). u.table) happens.1.1
 abort_same s new n (Err e) happens = refused_same s new (abort n) e (λ (stays : Stays s (abort n) new). ap (λ (u : State). u.table) stays.is) happens
 
@@ -55,6 +55,12 @@ mean_more fs [] [] file rows so_far one = (one, tt)
 mean_more fs [] (r ∷ rs) file rows so_far one = absurd so_far
 mean_more fs (f ∷ files) [] file rows so_far one = absurd so_far
 mean_more fs (f ∷ files) (r ∷ rs) file rows so_far one = (so_far.0, mean_more fs files rs file rows so_far.1 one)
+
+-- the file at a place, with those before it and those after it
+pub split_files : (files : List (Vec ℕ Global)) (n : ℕ) (file : Vec ℕ Global) → n < length files → file ≡ get_or files n file → files_view files ≡ files_view (take n files) ++ file.items ∷ files_view (drop (suc n) files)
+split_files [] n file lt is = absurd (omega (arith, lt))
+split_files (f ∷ files) zero file lt is = ap (λ (x : Vec ℕ Global). x.items ∷ files_view files) (sym is)
+split_files (f ∷ files) (suc n) file lt is = ap (λ (bytes : List (List ℕ)). f.items ∷ bytes) (split_files files n file (omega (arith, lt)) is)
 
 -- ---- of a store
 
@@ -79,61 +85,33 @@ module _ {D : Type 0} (state : D → DiskState) where
         table = stage_same has.last acts.after n rows acts.happens ∙ has.table;
       }
 
-  -- no call was made
-  pub as_it_was : (store : Store D) (s : State) → Stands state store s → LeavesTable state store store s
-  as_it_was store s stands = record { calls = []; answers = []; last = s; acts = (refl, refl); stands = stands; table = refl }
-
-  -- after the files that were staged
-  staged_leave : (old new : Store D) (n : ℕ) (files : List (List ℕ)) (s : State) → StagesFiles state old new n files s → LeavesTable state old new s
-  staged_leave old new n files s has = record { calls = map (stage n) has.rows; answers = map (λ _. accepted) has.rows; last = has.last; acts = has.acts; stands = has.stands; table = has.table }
-
-  -- one call before the others
-  pub leaves_before : (old mid new : Store D) (call : Call) (answer : Answer) (s : State) (acts : ActsFrom state old mid call answer s) → acts.after.table ≡ s.table → LeavesTable state mid new acts.after → LeavesTable state old new s
-  leaves_before old mid new call answer s acts same left = record {
-    calls = call ∷ left.calls;
-    answers = answer ∷ left.answers;
-    last = left.last;
-    acts = one_before state old mid new call answer left.calls left.answers s left.last acts left.acts;
-    stands = left.stands;
-    table = left.table ∙ same;
-  }
-
-  -- one call after the others
-  pub leaves_after : (old mid new : Store D) (call : Call) (answer : Answer) (s : State) (left : LeavesTable state old mid s) (acts : ActsFrom state mid new call answer left.last) → acts.after.table ≡ left.last.table → LeavesTable state old new s
-  leaves_after old mid new call answer s left acts same = record {
-    calls = left.calls ++ call ∷ [];
-    answers = left.answers ++ answer ∷ [];
-    last = acts.after;
-    acts = one_behind state old mid new left.calls left.answers call answer s left.last left.acts acts;
-    stands = acts.stands;
-    table = same ∙ left.table;
-  }
-
-  -- calls after others
-  leaves_all : (old mid new : Store D) (s : State) (first : LeavesTable state old mid s) (second : LeavesTable state mid new first.last) → LeavesTable state old new s
-  leaves_all old mid new s first second = record {
-    calls = first.calls ++ second.calls;
-    answers = first.answers ++ second.answers;
-    last = second.last;
-    acts = all_behind old first.calls first.answers s first.acts;
-    stands = second.stands;
-    table = second.table ∙ first.table;
-  }
-    where
-      all_behind : (from : Store D) (calls : List Call) (answers : List Answer) (at : State) → ActsOn state from calls answers mid at first.last → ActsOn state from (calls ++ second.calls) (answers ++ second.answers) new at second.last
-      all_behind from [] [] at made =
-          subst (λ (x : State). ActsOn state from second.calls second.answers new x second.last) made.1 (subst (λ (x : Store D). ActsOn state x second.calls second.answers new first.last second.last) made.0 second.acts)
-      all_behind from (c ∷ calls) (a ∷ answers) at made = (made.0, made.1, all_behind made.0 calls answers made.1.after made.2)
-      all_behind from [] (a ∷ answers) at made = absurd made
-      all_behind from (c ∷ calls) [] at made = absurd made
-
-  -- calls after the files that were staged
-  pub staged_then : (old mid new : Store D) (n : ℕ) (files : List (List ℕ)) (s : State) (has : StagesFiles state old mid n files s) → LeavesTable state mid new has.last → LeavesTable state old new s
-  unfolding staged_leave
-  staged_then old mid new n files s has left = leaves_all old mid new s (staged_leave old mid n files s has) left
+  -- the bytes of a file are refused
+  pub bytes_refused : (store : Store D) (n : ℕ) (file : List ℕ) (e : Refusal) (s : State) → Stands state store s → IsRefusedFile s.table.schema file e → RefusesFile state store store n file e s
+  bytes_refused store n file e s stands why = record { last = s; stands = stands; table = refl; why = inl (why, refl, refl) }
 
   -- the call that stages the rows of a file was made
-  pub stages_one : {T : Type 0} (old new : Store D) (n : ℕ) (file : List ℕ) (rows : List ValueTrees) (s : State) → Stands state old s → (result : Result T Refusal) → FileMeans file s.table.schema rows
+  pub stages_one : {T : Type 0} (old new : Store D) (n : ℕ) (file : List ℕ) (rows : List ValueTrees) (s : State) (result : Result T Refusal) → FileMeans file s.table.schema rows
       → ActsFrom state old new (stage n rows) (answered (λ _. accepted) result) s → StagesOne state old new n file result s
-  stages_one old new n file rows s stands (Ok x) means acts = (rows, means, acts)
-  stages_one old new n file rows s stands (Err e) means acts = leaves_before old new new (stage n rows) (refused e) s acts (stage_refused s acts.after n rows e acts.happens) (as_it_was new acts.after acts.stands)
+  stages_one old new n file rows s (Ok x) means acts = (rows, means, acts)
+  stages_one old new n file rows s (Err e) means acts = record {
+    last = acts.after;
+    stands = acts.stands;
+    table = stage_refused s acts.after n rows e acts.happens;
+    why = inr (rows, means, acts, refl);
+  }
+
+  -- the next file is the first that is refused
+  pub stops_here : (old mid new : Store D) (n : ℕ) (before : List (List ℕ)) (file : List ℕ) (behind : List (List ℕ)) (e : Refusal) (s : State) (has : StagesFiles state old mid n before s) → RefusesFile state mid new n file e has.last
+      → StopsAtFile state old new n (before ++ file ∷ behind) e s
+  stops_here old mid new n before file behind e s has refuses = record { before = before; file = file; behind = behind; joined = refl; mid = mid; staged = has; refuses = refuses }
+
+  -- no file came in
+  pub none_came : (old mid late new : Store D) (n : ℕ) (files : List (List ℕ)) (e : Refusal) {T : Type 0} (result : Result T Refusal) (s : State) (first : ActsFrom state old mid begin_append (job n) s)
+      (stops : StopsAtFile state mid late n files e first.after) → ActsFrom state late new (abort n) (answered (λ _. accepted) result) stops.refuses.last → ImportsNone state old new files e s
+  none_came old mid late new n files e result s first stops ending =
+      let same : stops.refuses.last.table ≡ s.table = stops.refuses.table ∙ (stops.staged.table ∙ begin_same s first.after n first.happens) in
+      not_staged mid late n (answered (λ _. accepted) result) first stops ending (abort_same stops.refuses.last ending.after n result ending.happens ∙ same)
+
+  -- the append was not opened
+  pub none_opened : (old new : Store D) (files : List (List ℕ)) (e : Refusal) (s : State) → ActsFrom state old new begin_append (refused e) s → ImportsNone state old new files e s
+  none_opened old new files e s acts = not_opened acts (begin_refused s acts.after e acts.happens)

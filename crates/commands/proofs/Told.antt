@@ -1,5 +1,5 @@
 -- Lines that are read as rows, one after another.
-use Rattle.std.proofs.Common.{◌≡◌, ◌<◌, ℕ, zero, suc, List, [], ◌∷◌, ◌++◌, length, map, take, drop, get_or, sym, ap, arith}
+use Rattle.std.proofs.Common.{Bool, ◌≡◌, ◌<◌, ℕ, zero, suc, List, [], ◌∷◌, ◌++◌, length, map, take, drop, get_or, sym, ap, arith}
 use Rattle.std.specs.Borrow.{Bor}
 use Rattle.std.proofs.lemmas.List.{map_push}
 use Rattle.bits.specs.declared.refusal.Refusal.{Refusal}
@@ -11,21 +11,21 @@ use Rattle.schema.specs.declared.row.Row.{Row}
 use Rattle.schema.specs.Views.{row_view, rows_view}
 use Rattle.commands.specs.Lines.{IsRowText, AreRowTexts, IsRefusedLine, HasFirstFault}
 
-one_more : (fs : Fields) (texts : List (List ℕ)) (rows : List ValueTrees) (text : List ℕ) (row : ValueTrees) → AreRowTexts fs texts rows → IsRowText fs text row → AreRowTexts fs (texts ++ text ∷ []) (rows ++ row ∷ [])
-one_more fs [] [] text row so_far last = (last, tt)
-one_more fs [] (r ∷ rows) text row so_far last = absurd so_far
-one_more fs (t ∷ texts) [] text row so_far last = absurd so_far
-one_more fs (t ∷ texts) (r ∷ rows) text row so_far last = (so_far.0, one_more fs texts rows text row so_far.1 last)
+one_more : (texts : Bool) (fs : Fields) (lines : List (List ℕ)) (rows : List ValueTrees) (text : List ℕ) (row : ValueTrees) → AreRowTexts texts fs lines rows → IsRowText texts fs text row → AreRowTexts texts fs (lines ++ text ∷ []) (rows ++ row ∷ [])
+one_more texts fs [] [] text row so_far last = (last, tt)
+one_more texts fs [] (r ∷ rows) text row so_far last = absurd so_far
+one_more texts fs (t ∷ lines) [] text row so_far last = absurd so_far
+one_more texts fs (t ∷ lines) (r ∷ rows) text row so_far last = (so_far.0, one_more texts fs lines rows text row so_far.1 last)
 
 -- the rows so far, and that of one more line
-pub told_one_more : (fs : Fields) (texts : List (Bor (List ℕ))) (rows : List Row) (text : Bor (List ℕ)) (row : Row) → IsRowText fs text.now (row_view row)
-    → AreRowTexts fs (map (λ t. t.now) texts) (rows_view rows) → AreRowTexts fs (map (λ t. t.now) (texts ++ text ∷ [])) (rows_view (rows ++ row ∷ []))
-told_one_more fs texts rows text row is so_far =
-    rw (map_push (λ (t : Bor (List ℕ)). t.now) texts text, map_push row_view rows row) (one_more fs (map (λ t. t.now) texts) (rows_view rows) text.now (row_view row) so_far is)
+pub told_one_more : (texts : Bool) (fs : Fields) (lines : List (Bor (List ℕ))) (rows : List Row) (text : Bor (List ℕ)) (row : Row) → IsRowText texts fs text.now (row_view row)
+    → AreRowTexts texts fs (map (λ t. t.now) lines) (rows_view rows) → AreRowTexts texts fs (map (λ t. t.now) (lines ++ text ∷ [])) (rows_view (rows ++ row ∷ []))
+told_one_more texts fs lines rows text row is so_far =
+    rw (map_push (λ (t : Bor (List ℕ)). t.now) lines text, map_push row_view rows row) (one_more texts fs (map (λ t. t.now) lines) (rows_view rows) text.now (row_view row) so_far is)
 
 -- where no line is left
-pub told_all : (fs : Fields) (texts : List (Bor (List ℕ))) (all : List (List ℕ)) (rows : List ValueTrees) → map (λ t. t.now) texts ≡ all → AreRowTexts fs (map (λ t. t.now) texts) rows → AreRowTexts fs all rows
-told_all fs texts all rows e told = rw (← e) told
+pub told_all : (texts : Bool) (fs : Fields) (lines : List (Bor (List ℕ))) (all : List (List ℕ)) (rows : List ValueTrees) → map (λ t. t.now) lines ≡ all → AreRowTexts texts fs (map (λ t. t.now) lines) rows → AreRowTexts texts fs all rows
+told_all texts fs lines all rows e told = rw (← e) told
 
 pub split_there : (all : List (List ℕ)) (n : ℕ) (x : List ℕ) → n < length all → x ≡ get_or all n x → all ≡ take n all ++ x ∷ drop (suc n) all
 split_there [] n x h e = absurd (omega arith)
@@ -37,17 +37,17 @@ with_cause P Q f Memory h = tt
 with_cause P Q f e h = f e h
 
 -- the line that is refused is the first one: those before it are rows
-pub refused_first : (fs : Fields) (texts : List (Bor (List ℕ))) (text : Bor (List ℕ)) (all : List (List ℕ)) (rows : List ValueTrees)
-    → map (λ t. t.now) texts ≡ take (length texts) all → (length texts < length all) × (text.now ≡ get_or all (length texts) text.now)
-    → AreRowTexts fs (map (λ t. t.now) texts) rows → (e : Refusal) → HasCause (IsRefusedLine fs text.now) e → HasCause (HasFirstFault fs all) e
-refused_first fs texts text all rows so_far here told =
-    with_cause (IsRefusedLine fs text.now) (HasFirstFault fs all) (λ e refused.
+pub refused_first : (texts : Bool) (fs : Fields) (lines : List (Bor (List ℕ))) (text : Bor (List ℕ)) (all : List (List ℕ)) (rows : List ValueTrees)
+    → map (λ t. t.now) lines ≡ take (length lines) all → (length lines < length all) × (text.now ≡ get_or all (length lines) text.now)
+    → AreRowTexts texts fs (map (λ t. t.now) lines) rows → (e : Refusal) → HasCause (IsRefusedLine texts fs text.now) e → HasCause (HasFirstFault texts fs all) e
+refused_first texts fs lines text all rows so_far here told =
+    with_cause (IsRefusedLine texts fs text.now) (HasFirstFault texts fs all) (λ e refused.
     record {
-      before = map (λ t. t.now) texts;
+      before = map (λ t. t.now) lines;
       text = text.now;
-      after = drop (suc (length texts)) all;
+      after = drop (suc (length lines)) all;
       rows = rows;
-      joined = rw so_far (split_there all (length texts) text.now here.0 here.1);
+      joined = rw so_far (split_there all (length lines) text.now here.0 here.1);
       read = told;
       refused = refused;
     })

@@ -1,10 +1,13 @@
 pub mod Lines
 pub mod Making
 pub mod Querying
+pub mod GroupColumns
 pub mod First
 pub mod QueryFile
 pub mod Importing
 pub mod Stopping
 pub mod Renewing
 pub mod Unless
+pub mod FileEnds
+pub mod Kept
 pub mod inner

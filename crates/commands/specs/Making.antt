@@ -1,5 +1,5 @@
 -- What a command makes of a store.
-use Rattle.std.specs.Prelude.{◌≡◌, ℕ, List, [], map, Option, Some, None, Result, Ok, Err, OnOk}
+use Rattle.std.specs.Prelude.{◌≡◌, ℕ, Bool, List, [], map, Option, Some, None, Result, Ok, Err, OnOk}
 use Rattle.std.specs.Str.Lines.{lines}
 use Rattle.std.specs.Io.KnownBytes.{Appends}
 use Rattle.bits.specs.declared.refusal.Refusal.{Refusal}
@@ -13,7 +13,7 @@ use Rattle.table.specs.State.{State}
 use Rattle.table.specs.Calls.{Call, append, remove, begin_rewrite, commit, plan_rewrite, add_column, done, job, planned, refused as refused_answer}
 use Rattle.table.specs.Views.{answered, answer_view}
 use Rattle.table.specs.declared.answer.Answer.{Answer}
-use Rattle.jsonrows.specs.Filters.{IsFilterText, IsRefusedFilter}
+use Rattle.jsonrows.specs.Filters.{IsFilterTextAs, IsRefusedFilterAs}
 use Rattle.jsonrows.specs.SchemaJson.{IsSchemaText}
 use Rattle.store.specs.declared.store.Store.{Store}
 use Rattle.store.specs.Stands.{Stands}
@@ -23,15 +23,15 @@ use Rattle.commands.specs.Lines.{AreRowTexts, AreCallTexts, AreRefusedCalls, Are
 
 -- ---- filters
 
--- the filter that a command is given; none is the empty one
-abbrev pub IsAskedFilter : List Leaf → Option (List ℕ) → List (List Term) → Type 0
-IsAskedFilter leaves (Some text) ands = IsFilterText leaves text ands
-IsAskedFilter leaves None ands = ands ≡ []
+-- the filter that a command is given, with texts of dates, times, timestamps and decimals or without; none is the empty one
+abbrev pub IsAskedFilter : Bool → List Leaf → Option (List ℕ) → List (List Term) → Type 0
+IsAskedFilter texts leaves (Some text) ands = IsFilterTextAs texts leaves text ands
+IsAskedFilter texts leaves None ands = ands ≡ []
 
 -- why the filter that a command is given is refused; where none is given, it is not
-abbrev pub IsRefusedFilterOf : List Leaf → Option (List ℕ) → Refusal → Type 0
-IsRefusedFilterOf leaves (Some text) e = IsRefusedFilter leaves text e
-IsRefusedFilterOf leaves None e = ⊥
+abbrev pub IsRefusedFilterOf : Bool → List Leaf → Option (List ℕ) → Refusal → Type 0
+IsRefusedFilterOf texts leaves (Some text) e = IsRefusedFilterAs texts leaves text e
+IsRefusedFilterOf texts leaves None e = ⊥
 
 -- ---- one call
 
@@ -47,12 +47,12 @@ abbrev pub Makes : {D : Type 0} → (D → DiskState) → Store D → Store D �
 Makes state old new IsAsked IsRefused result = (state old.vault.disk).honest → (s : State) → Stands state old s → MakesFrom state old new IsAsked IsRefused result s
 
 -- the rows of a text, one of each line, are to be appended
-abbrev pub AsksAppend : List ℕ → Fields → Call → Type 0
-AsksAppend text fs call = (rows : List ValueTrees) × AreRowTexts fs (lines text) rows × (call ≡ append rows)
+abbrev pub AsksAppend : Bool → List ℕ → Fields → Call → Type 0
+AsksAppend texts text fs call = (rows : List ValueTrees) × AreRowTexts texts fs (lines text) rows × (call ≡ append rows)
 
 -- the rows that satisfy the filter of a text are to be removed
-abbrev pub AsksRemove : List ℕ → Fields → Call → Type 0
-AsksRemove text fs call = (ands : List (List Term)) × IsFilterText (leaves_of fs) text ands × (call ≡ remove ands)
+abbrev pub AsksRemove : Bool → List ℕ → Fields → Call → Type 0
+AsksRemove texts text fs call = (ands : List (List Term)) × IsFilterTextAs texts (leaves_of fs) text ands × (call ≡ remove ands)
 
 -- the columns of a text are to be added (the store takes one alone)
 abbrev pub AsksColumn : List ℕ → Fields → Call → Type 0
@@ -89,16 +89,16 @@ RewritesPlanned state old new min_rows result = (state old.vault.disk).honest �
 
 -- From the one state: the store makes the calls of a text, one of each line; and where the result is Ok a writer got the lines of
 -- their answers, over the schema that the table has then. Or the text is refused, and the store and the writer are as they were.
-pub data RunsScriptFrom {D T : Type 0} (state : D → DiskState) (old new : Store D) (text : List ℕ) (before after : Option (List ℕ)) (result : Result T Refusal)
+pub data RunsScriptFrom {D T : Type 0} (state : D → DiskState) (texts : Bool) (old new : Store D) (text : List ℕ) (before after : Option (List ℕ)) (result : Result T Refusal)
     (s : State) : Type 0 where
-  ran : (calls : List Call) (last : Fields) (answers : List Answer) → AreCallTexts s.table.schema (lines text) calls last
+  ran : (calls : List Call) (last : Fields) (answers : List Answer) → AreCallTexts texts s.table.schema (lines text) calls last
       → (runs : RunsFrom state old new calls (map answer_view answers) s)
-      → OnOk result ((printed : List ℕ) × AreAnswerLines runs.after.table.schema answers printed × Appends before after printed)
-      → RunsScriptFrom state old new text before after result s
-  not_run : (e : Refusal) → AreRefusedCalls s.table.schema (lines text) e → result ≡ Err e → new ≡ old → after ≡ before
-      → RunsScriptFrom state old new text before after result s
+      → OnOk result ((printed : List ℕ) × AreAnswerLines texts runs.after.table.schema answers printed × Appends before after printed)
+      → RunsScriptFrom state texts old new text before after result s
+  not_run : (e : Refusal) → AreRefusedCalls texts s.table.schema (lines text) e → result ≡ Err e → new ≡ old → after ≡ before
+      → RunsScriptFrom state texts old new text before after result s
 
 -- on an honest disk, from each state that the store stands in: the calls of a text are made and their answers printed, or it is refused
-abbrev pub RunsScript : {D T : Type 0} → (D → DiskState) → Store D → Store D → List ℕ → Option (List ℕ) → Option (List ℕ) → Result T Refusal → Type 0
-RunsScript state old new text before after result = (state old.vault.disk).honest → (s : State) → Stands state old s
-    → RunsScriptFrom state old new text before after result s
+abbrev pub RunsScript : {D T : Type 0} → (D → DiskState) → Bool → Store D → Store D → List ℕ → Option (List ℕ) → Option (List ℕ) → Result T Refusal → Type 0
+RunsScript state texts old new text before after result = (state old.vault.disk).honest → (s : State) → Stands state old s
+    → RunsScriptFrom state texts old new text before after result s

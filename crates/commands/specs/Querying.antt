@@ -3,14 +3,14 @@ use Rattle.std.specs.Prelude.{◌≡◌, ℕ, suc, Bool, true, false, IsTrue, Li
 use Rattle.std.specs.List.{list_all}
 use Rattle.std.specs.Io.KnownBytes.{Appends}
 use Rattle.bits.specs.declared.refusal.Refusal.{Refusal}
-use Rattle.schema.specs.Cutting.{is_among}
-use Rattle.schema.specs.Shape.{Fields, no_fields, field}
+use Rattle.schema.specs.Shape.{Fields}
 use Rattle.schema.specs.Stripe.{leaves_of}
 use Rattle.schema.specs.Values.{ValueTrees}
 use Rattle.schema.specs.Listing.{IsSchemaOf}
 use Rattle.metadata.specs.Records.{FileMeta}
 use Rattle.footer.specs.File.{IsFile}
-use Rattle.rowtext.specs.Json.{row_text}
+use Rattle.rowtext.specs.Json.{row_text_as}
+pub use Rattle.columns.specs.Columns.{fields_at}
 use Rattle.disk.specs.State.{State as DiskState}
 use Rattle.table.specs.Table.{Table, rows}
 use Rattle.table.specs.Deciding.{Filter, satisfies}
@@ -28,32 +28,22 @@ use Rattle.commands.specs.Making.{IsAskedFilter, IsRefusedFilterOf}
 
 -- ---- rows
 
--- the fields at these places of a schema, in its order; the first one has this place
-abbrev pub fields_at : List ℕ → ℕ → Fields → Fields
-fields_at places i no_fields = no_fields
-fields_at places i (field f fs) = if is_among places i then field f (fields_at places (suc i) fs) else fields_at places (suc i) fs
-
--- the fields of a schema, where there is one
-abbrev pub fields_in : Option Fields → Fields
-fields_in None = no_fields
-fields_in (Some fs) = fs
-
--- the line of a row, with its line feed
-abbrev pub row_line : Fields → ValueTrees → List ℕ
-row_line fs row = row_text fs row ++ 10 ∷ []
+-- the line of a row, with its line feed, with texts of dates, times, timestamps and decimals or without
+abbrev pub row_line : Bool → Fields → ValueTrees → List ℕ
+row_line texts fs row = row_text_as texts fs row ++ 10 ∷ []
 
 -- the lines of rows
-abbrev pub row_lines : Fields → List ValueTrees → List ℕ
-row_lines fs rows = flat_map (row_line fs) rows
+abbrev pub row_lines : Bool → Fields → List ValueTrees → List ℕ
+row_lines texts fs rows = flat_map (row_line texts fs) rows
 
 -- the lines of the rows of a batch: objects of the columns at its places
-abbrev pub batch_lines : Fields → Batch → List ℕ
-batch_lines schema b = row_lines (fields_at b.places 0 schema) b.rows
+abbrev pub batch_lines : Bool → Fields → Batch → List ℕ
+batch_lines texts schema b = row_lines texts (fields_at b.places 0 schema) b.rows
 
 -- the lines of the rows of a table that satisfy, in table order: objects of the wanted columns
-abbrev pub query_lines : Filter → Columns → Table → List ℕ
-query_lines terms columns t =
-    row_lines (fields_at (wanted_places columns 0 t.schema) 0 t.schema) (map (cut (wanted_places columns 0 t.schema)) (filter (satisfies t.schema terms) (rows t.groups)))
+abbrev pub query_lines : Bool → Filter → Columns → Table → List ℕ
+query_lines texts terms columns t =
+    row_lines texts (fields_at (wanted_places columns 0 t.schema) 0 t.schema) (map (cut (wanted_places columns 0 t.schema)) (filter (satisfies t.schema terms) (rows t.groups)))
 
 -- ---- schemas
 
@@ -94,17 +84,17 @@ pub record OnlyReads {D : Type 0} (state : D → DiskState) (old new : Store D) 
 
 -- From the one state: a filter is asked for, the store makes calls that only read, and where the result is Ok a writer got what is
 -- said of that filter. Or the filter is refused, and neither the store nor the writer changed.
-pub data ReadsFrom {D T : Type 0} (state : D → DiskState) (old new : Store D) (asked : Option (List ℕ)) (Prints : Filter → Type 0) (Unchanged : Type 0)
+pub data ReadsFrom {D T : Type 0} (state : D → DiskState) (texts : Bool) (old new : Store D) (asked : Option (List ℕ)) (Prints : Filter → Type 0) (Unchanged : Type 0)
     (result : Result T Refusal) (s : State) : Type 0 where
-  read : (terms : Filter) → IsAskedFilter (leaves_of s.table.schema) asked terms → OnlyReads state old new s → OnOk result (Prints terms)
-      → ReadsFrom state old new asked Prints Unchanged result s
-  not_read : (e : Refusal) → IsRefusedFilterOf (leaves_of s.table.schema) asked e → result ≡ Err e → new ≡ old → Unchanged
-      → ReadsFrom state old new asked Prints Unchanged result s
+  read : (terms : Filter) → IsAskedFilter texts (leaves_of s.table.schema) asked terms → OnlyReads state old new s → OnOk result (Prints terms)
+      → ReadsFrom state texts old new asked Prints Unchanged result s
+  not_read : (e : Refusal) → IsRefusedFilterOf texts (leaves_of s.table.schema) asked e → result ≡ Err e → new ≡ old → Unchanged
+      → ReadsFrom state texts old new asked Prints Unchanged result s
 
 -- on an honest disk, from each state that the store stands in; what is printed is told of that state's table
-abbrev pub Reads : {D T : Type 0} → (D → DiskState) → Store D → Store D → Option (List ℕ) → (Filter → Table → Type 0) → Type 0 → Result T Refusal → Type 0
-Reads state old new asked Prints Unchanged result = (state old.vault.disk).honest → (s : State) → Stands state old s
-    → ReadsFrom state old new asked (λ terms. Prints terms s.table) Unchanged result s
+abbrev pub Reads : {D T : Type 0} → (D → DiskState) → Bool → Store D → Store D → Option (List ℕ) → (Filter → Table → Type 0) → Type 0 → Result T Refusal → Type 0
+Reads state texts old new asked Prints Unchanged result = (state old.vault.disk).honest → (s : State) → Stands state old s
+    → ReadsFrom state texts old new asked (λ terms. Prints terms s.table) Unchanged result s
 
 -- on an honest disk, from each state that the store stands in: where the result is Ok a writer got the lines of the table's groups
 abbrev pub ListsGroups : {D T : Type 0} → (D → DiskState) → Store D → Option (List ℕ) → Option (List ℕ) → Result T Refusal → Type 0

@@ -53,19 +53,19 @@ MakesToRefusal state old new calls answers = (state old.vault.disk).honest → (
 -- From the one state: the store makes the first calls of a text, one of each line, with the answers of a history of the table, none
 -- after one that is refused. Where the result is Ok it says where they stopped, and a writer got the lines of the answers, over the
 -- schema that the table has then. Or the text is refused, and the store and the writer are as they were.
-pub data RunsToRefusalFrom {D : Type 0} (state : D → DiskState)
+pub data RunsToRefusalFrom {D : Type 0} (state : D → DiskState) (texts : Bool)
     (old new : Store D) (text : List ℕ) (before after : Option (List ℕ)) (result : Result (Option Stop) Refusal) (s : State) : Type 0 where
-  ran_to : (made left : List Call) (last : Fields) (answers : List CodeAnswer) → AreCallTexts s.table.schema (lines text) (made ++ left) last
+  ran_to : (made left : List Call) (last : Fields) (answers : List CodeAnswer) → AreCallTexts texts s.table.schema (lines text) (made ++ left) last
       → (runs : RunsFrom state old new made (map answer_view answers) s) → EndAtRefusal answers
       → IfOk result (λ stop. StopsAt (length (made ++ left)) (map answer_view answers) stop × ((printed : List ℕ)
-      × AreAnswerLines runs.after.table.schema answers printed × Appends before after printed))
-      → RunsToRefusalFrom state old new text before after result s
-  not_ran : (e : Refusal) → AreRefusedCalls s.table.schema (lines text) e → result ≡ Err e → new ≡ old → after ≡ before
-      → RunsToRefusalFrom state old new text before after result s
+      × AreAnswerLines texts runs.after.table.schema answers printed × Appends before after printed))
+      → RunsToRefusalFrom state texts old new text before after result s
+  not_ran : (e : Refusal) → AreRefusedCalls texts s.table.schema (lines text) e → result ≡ Err e → new ≡ old → after ≡ before
+      → RunsToRefusalFrom state texts old new text before after result s
 
 -- on an honest disk, from each state that the store stands in: the calls of a text are made up to the first that is refused, and their
 -- answers printed, or the text is refused
-abbrev pub RunsToRefusal : {D : Type 0} → (D → DiskState) → Store D → Store D → List ℕ → Option (List ℕ) → Option (List ℕ)
+abbrev pub RunsToRefusal : {D : Type 0} → (D → DiskState) → Bool → Store D → Store D → List ℕ → Option (List ℕ) → Option (List ℕ)
     → Result (Option Stop) Refusal → Type 0
-RunsToRefusal state old new text before after result = (state old.vault.disk).honest → (s : State) → Stands state old s
-    → RunsToRefusalFrom state old new text before after result s
+RunsToRefusal state texts old new text before after result = (state old.vault.disk).honest → (s : State) → Stands state old s
+    → RunsToRefusalFrom state texts old new text before after result s

@@ -5,7 +5,7 @@ ghost use Rattle.std.specs.Str.Lines.{lines};
 ghost use Rattle.schema.specs.Elements.{elements_view};
 ghost use Rattle.schema.specs.Listed.{listings};
 ghost use Rattle.schema.specs.Stripe.{leaves_of};
-ghost use Rattle.jsonrows.specs.Filters.{IsRefusedFilter};
+ghost use Rattle.jsonrows.specs.Filters.{IsRefusedFilterAs};
 ghost use Rattle.jsonrows.specs.SchemaJson.{IsRefusedSchema};
 ghost use Rattle.commands.specs.Lines.{AreRefusedRows};
 ghost use Rattle.commands.specs.Making.{Makes, AsksAppend, AsksRemove, AsksColumn, Rewrites, RewritesPlanned};
@@ -13,25 +13,27 @@ ghost use Rattle.commands.specs.Making.{Makes, AsksAppend, AsksRemove, AsksColum
 use crate::row_lines::rows_of;
 use bits::R;
 use disk::Disk;
-use jsonrows::{filter_from, schema_from};
+use jsonrows::{filter_from_as, schema_from};
 use schema::{Element, Schema};
 use std::alloc::Global;
 use std::io::Write;
 use store::Store;
 
-/// Appends the rows of a text, one of each line. Refused as `row_from` refuses the first line that is no row, and then as
-/// `Store::append`. Where `shows` says so, `err` shows how many rows were read so far.
+/// Appends the rows of a text, one of each line. With `texts`, dates, times, timestamps and decimals are also read from their
+/// texts. Refused as `row_from_as` refuses the first line that is no row, and then as `Store::append`. Where `shows` says so,
+/// `err` shows how many rows were read so far.
 pub fn append<D: Disk, E: Write>(
     alloc: Global,
     store: &mut Store<D>,
     text: &str,
+    texts: bool,
     err: &mut E,
     shows: bool,
 ) -> R<u64>
-    ensures makes { Makes D.state store.old store.new (AsksAppend text.now) (λ fs. AreRefusedRows fs (lines text.now)) result }
+    ensures makes { Makes D.state store.old store.new (AsksAppend texts text.now) (λ fs. AreRefusedRows texts fs (lines text.now)) result }
     ensures quiet { shows ≡ false → E.contents err.new ≡ E.contents err.old }
 {
-    let rows = rows_of(alloc, store.schema(), text, err, shows)?;
+    let rows = rows_of(alloc, store.schema(), text, texts, err, shows)?;
     store.append(alloc, rows.as_slice())
 }
 
@@ -45,7 +47,7 @@ pub fn add_column<D: Disk>(alloc: Global, store: &mut Store<D>, field: &str) -> 
 }
 
 /// The elements of a schema but its root.
-fn without_root(schema: &Schema) -> &[Element]
+pub fn without_root(schema: &Schema) -> &[Element]
     ensures { elements_view result.now ≡ listings schema.now }
 {
     match schema.elements().split_first() {
@@ -54,12 +56,17 @@ fn without_root(schema: &Schema) -> &[Element]
     }
 }
 
-/// Removes the rows that satisfy the filter of a text. Refused as `filter_from` refuses the text, and then as
-/// `Store::remove`.
-pub fn remove_rows<D: Disk>(alloc: Global, store: &mut Store<D>, filter: &str) -> R<u64>
-    ensures makes { Makes D.state store.old store.new (AsksRemove filter.now) (λ fs. IsRefusedFilter (leaves_of fs) filter.now) result }
+/// Removes the rows that satisfy the filter of a text. With `texts`, dates, times, timestamps and decimals are also read from
+/// their texts. Refused as `filter_from_as` refuses the text, and then as `Store::remove`.
+pub fn remove_rows<D: Disk>(
+    alloc: Global,
+    store: &mut Store<D>,
+    filter: &str,
+    texts: bool,
+) -> R<u64>
+    ensures makes { Makes D.state store.old store.new (AsksRemove texts filter.now) (λ fs. IsRefusedFilterAs texts (leaves_of fs) filter.now) result }
 {
-    let terms = filter_from(alloc, store.schema(), filter)?;
+    let terms = filter_from_as(alloc, store.schema(), filter, texts)?;
     store.remove(alloc, terms.as_slice())
 }
 

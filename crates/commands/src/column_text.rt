@@ -1,7 +1,7 @@
 //! A column as text.
 
-use crate::printing::columns_at;
 use bits::R;
+use columns::columns_at;
 use jsonrows::schema_to;
 use schema::Schema;
 use std::alloc::Global;

@@ -2,6 +2,7 @@
 
 ghost use Rattle.std.specs.Prelude.{◌≡◌, false};
 
+use crate::changing::without_root;
 use crate::explaining::{schema_reason, table_reason};
 use crate::folder::make_folder;
 use crate::lock::{Access, Lock};
@@ -15,13 +16,17 @@ use bits::{R, Refusal};
 use disk::Disk;
 use manifest::Manifest;
 use partition::key_columns;
+use reasons::options_fault;
 use schema::Schema;
 use std::alloc::Global;
 use std::fs;
-use std::io::{Input, Write};
+use std::io::{self, Input, Write};
 use std::rt::{Clock, Files};
 use upkeep::leftovers;
 use vault::Vault;
+
+/// The number that the system gives the error "Is a directory".
+const IS_FOLDER: i32 = 21;
 
 impl<F: Files + Input + Clock + Clone + Drop, S: Write + Clone + Drop> Making<'_, F, S>
 where
@@ -88,13 +93,14 @@ where
     }
 
     /// Makes a table in the folder, which is there. Refused Exists also where part files are in it that a new table would
-    /// remove.
+    /// remove, and Device where a folder has the name of the root.
     fn make_table_in_folder(
         &self,
         schema: &Schema,
         keys: &[String],
         why: &mut Option<Reason>,
     ) -> R<()> {
+        self.check_root_name()?;
         let mut vault = Vault::start(self.disk(false)?);
         if let Some(path) = loose_part(self.alloc, &mut vault, schema, keys)? {
             *why = Some(Reason::LoosePart(path));
@@ -105,9 +111,45 @@ where
             Ok(_) => Ok(()),
             Err((_, refusal)) => {
                 *why = found(table_reason(self.alloc, schema, keys, &refusal));
+                if refusal == Refusal::Limit && !self.has_options_fault() {
+                    *why = Some(wide_root(schema));
+                }
                 Err(refusal)
             }
         }
+    }
+
+    /// Refused Device where a folder has the name of the root: no file could be called so, and that would be seen only at the
+    /// commit, where it is in doubt what was done.
+    fn check_root_name(&self) -> R<()> {
+        let folder = self.call.folder;
+        let path = format!(in self.alloc; "{folder}/_metadata")?;
+        match fs::symlink_metadata(self.rt, path.as_str()) {
+            Ok(metadata) if metadata.is_dir() => {
+                let error = io::Error::from_raw_os_error(IS_FOLDER);
+                self.notes.note_refused(path.as_str(), error);
+                Err(Refusal::Device)
+            }
+            _ => Ok(()),
+        }
+    }
+
+    /// Whether an option of the call is out of its range.
+    fn has_options_fault(&self) -> bool {
+        let options = &self.call.options;
+        options_fault(options.group_rows, options.page_rows, options.page_version).is_some()
+    }
+}
+
+/// That a schema is too much for a root.
+fn wide_root(schema: &Schema) -> Reason {
+    let mut bytes: u64 = 0;
+    for element in without_root(schema) {
+        bytes = bytes.saturating_add(element.name.len() as u64);
+    }
+    Reason::WideRoot {
+        columns: schema.leaves().len(),
+        bytes,
     }
 }
 

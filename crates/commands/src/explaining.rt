@@ -10,12 +10,23 @@ use bits::{R, Refusal};
 use dataset_words::{Change, Question};
 use disk::Disk;
 use reasons::{
-    Cause, call_fault, column_fault, filter_fault, large_value, row_fault, schema_fault, utf8_fault,
+    Cause, call_fault, column_fault, filter_fault, large_value, options_fault, row_fault,
+    schema_fault, utf8_fault,
 };
 use schema::Schema;
 use std::alloc::Global;
 use std::io;
 use store::Store;
+
+/// A text of rows with fewer bytes has no column of 16,777,216 entries: each takes two bytes at least. Nor has it the values of
+/// a part file of 2 GiB.
+const SMALL_TEXT: usize = 16_777_216;
+
+/// How many columns a schema has at most.
+const MOST_COLUMNS: usize = 1_024;
+
+/// With so many rows in a page, the headers of the pages are not what a part file is too long by.
+const FEW_PAGES: u32 = 1_000;
 
 /// Why no table is made of a schema and the names of its keys, where there is more to say than the refusal.
 pub fn table_reason(
@@ -67,6 +78,7 @@ pub fn question_reason<D: Disk>(
     alloc: Global,
     store: &mut Store<D>,
     question: &Question<'_>,
+    texts: bool,
     refusal: &Refusal,
 ) -> R<Option<Reason>> {
     if is_of_parts(refusal) {
@@ -78,12 +90,12 @@ pub fn question_reason<D: Disk>(
             columns,
             ..
         } => {
-            match filter_reason(alloc, store.schema(), *filter)? {
+            match filter_reason(alloc, store.schema(), *filter, texts)? {
                 Some(reason) => Ok(Some(reason)),
                 None => columns_reason(alloc, store.schema(), columns.as_slice()),
             }
         }
-        Question::Count { filter } => filter_reason(alloc, store.schema(), *filter),
+        Question::Count { filter } => filter_reason(alloc, store.schema(), *filter, texts),
         _ => Ok(None),
     }
 }
@@ -94,25 +106,30 @@ pub fn change_reason<D: Disk>(
     store: &mut Store<D>,
     change: &Change<'_>,
     bytes: &[u8],
+    texts: bool,
     refusal: &Refusal,
 ) -> R<Option<Reason>> {
     if *refusal == Refusal::InDoubt {
         return Ok(Some(Reason::InDoubt(shown_by(change))));
     }
-    if let Some(reason) = unless_reason(alloc, store.schema(), change)? {
+    if let Some(reason) = unless_reason(alloc, store.schema(), change, texts)? {
         return Ok(Some(reason));
     }
     match change {
         Change::Append { .. } => match text_of(bytes) {
-            Ok(text) => append_reason(alloc, store, text, refusal),
+            Ok(text) => append_reason(alloc, store, text, texts, refusal),
             Err(_) => no_text_reason(alloc, bytes),
         },
-        Change::AddColumn { .. } => column_reason(alloc, store.schema(), bytes),
+        Change::AddColumn { .. } => match column_reason(alloc, store.schema(), bytes)? {
+            None if *refusal == Refusal::Limit && store.schema().leaves().len() < MOST_COLUMNS =>
+                full_root(alloc, store),
+            reason => Ok(reason),
+        },
         Change::Import { .. } => {
             import_reason(alloc, store.schema(), store.keys(), bytes, refusal)
         }
         Change::Remove { filter } if !is_of_parts(refusal) => {
-            filter_reason(alloc, store.schema(), Some(filter))
+            filter_reason(alloc, store.schema(), Some(filter), texts)
         }
         Change::RemoveGroups { numbers } | Change::Rewrite { numbers }
             if *refusal == Refusal::NoGroup => { group_reason(alloc, store, numbers.as_slice()) }
@@ -125,6 +142,7 @@ pub fn script_reason<D: Disk>(
     alloc: Global,
     store: &Store<D>,
     bytes: &[u8],
+    texts: bool,
     refusal: &Refusal,
 ) -> Option<Reason> {
     let Ok(text) = text_of(bytes) else {
@@ -132,7 +150,7 @@ pub fn script_reason<D: Disk>(
     };
     match refusal {
         Refusal::Script | Refusal::RowShape => {
-            let fault = call_fault(alloc, store.schema(), "", text).unwrap_or(None);
+            let fault = call_fault(alloc, store.schema(), "", text, texts).unwrap_or(None);
             fault.map(|fault| Reason::Text(fault))
         }
         _ => None,
@@ -168,41 +186,64 @@ fn append_reason<D: Disk>(
     alloc: Global,
     store: &Store<D>,
     text: &str,
+    texts: bool,
     refusal: &Refusal,
 ) -> R<Option<Reason>> {
     match refusal {
         Refusal::Script | Refusal::RowShape => {
-            let fault = row_fault(alloc, store.schema(), "", text)?;
+            let fault = row_fault(alloc, store.schema(), "", text, texts)?;
             Ok(fault.map(|fault| Reason::Text(fault)))
         }
         Refusal::Key => {
-            let rows = rows_of(alloc, store.schema(), text, &mut io::sink(), false)?;
+            let rows = rows_of(alloc, store.schema(), text, texts, &mut io::sink(), false)?;
             rows_reason(alloc, store.keys(), rows.as_slice())
         }
-        Refusal::Limit => {
-            let fault = large_value(alloc, store.schema(), "", text)?;
-            Ok(fault.map(|fault| Reason::Large(fault)))
-        }
+        Refusal::Limit => match large_value(alloc, store.schema(), "", text, texts)? {
+            Some(fault) => Ok(Some(Reason::Large(fault))),
+            None if text.len() < SMALL_TEXT => full_root(alloc, store),
+            None => Ok(None),
+        },
         _ => Ok(None),
     }
 }
 
+/// That the root would be too long, where the options of how files are written are not at fault.
+fn full_root<D: Disk>(alloc: Global, store: &Store<D>) -> R<Option<Reason>> {
+    let options = &store.options;
+    let fault = options_fault(options.group_rows, options.page_rows, options.page_version);
+    if fault.is_some() || options.page_rows < FEW_PAGES {
+        return Ok(None);
+    }
+    let root = store.manifest.to_bytes(alloc)?;
+    Ok(Some(Reason::FullRoot(root.len())))
+}
+
 /// Why the filter is refused that no row may satisfy, if the change has one.
-fn unless_reason(alloc: Global, schema: &Schema, change: &Change<'_>) -> R<Option<Reason>> {
+fn unless_reason(
+    alloc: Global,
+    schema: &Schema,
+    change: &Change<'_>,
+    texts: bool,
+) -> R<Option<Reason>> {
     match change {
         Change::Append { unless, .. } | Change::Import { unless, .. } => {
-            filter_reason(alloc, schema, *unless)
+            filter_reason(alloc, schema, *unless, texts)
         }
         _ => Ok(None),
     }
 }
 
 /// Why a filter is refused.
-fn filter_reason(alloc: Global, schema: &Schema, filter: Option<&str>) -> R<Option<Reason>> {
+fn filter_reason(
+    alloc: Global,
+    schema: &Schema,
+    filter: Option<&str>,
+    texts: bool,
+) -> R<Option<Reason>> {
     let Some(text) = filter else {
         return Ok(None);
     };
-    let fault = filter_fault(alloc, schema, text)?;
+    let fault = filter_fault(alloc, schema, text, texts)?;
     Ok(fault.map(|fault| Reason::Filter(fault)))
 }
 

@@ -30,6 +30,8 @@ pub fn with_filter<'a>(alloc: Global, call: &'a Call<'a>, bytes: &'a [u8]) -> R<
         folder: call.folder,
         waits: call.waits,
         options: call.options,
+        keeps_style: call.keeps_style,
+        texts: call.texts,
         task: task_with_filter(alloc, &call.task, text)?,
     })
 }

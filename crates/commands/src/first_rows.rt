@@ -24,7 +24,7 @@ use store::Store;
 use table::{Batch, CursorId, Fetched, queries_give_all};
 
 /// Prints the first `limit` of the rows that satisfy a filter, a line each, in table order: objects of the columns of these
-/// names, or of all. No group after theirs is read.
+/// names, or of all, with `texts` as [`print_rows`](crate::print_rows) does. No group after theirs is read.
 ///
 /// Refused as [`print_rows`](crate::print_rows) is.
 pub fn print_first_rows<D: Disk, W: Write>(
@@ -33,14 +33,15 @@ pub fn print_first_rows<D: Disk, W: Write>(
     filter: Option<&str>,
     columns: Option<&[String]>,
     limit: u64,
+    texts: bool,
     out: &mut W,
 ) -> R<()>
-    ensures prints { Reads D.state store.old store.new (option_map (λ t. t.now) filter.entry)
-        (λ terms table. Appends (W.contents out.old) (W.contents out.new) (first_lines limit terms (names_view columns.entry) table))
+    ensures prints { Reads D.state texts store.old store.new (option_map (λ t. t.now) filter.entry)
+        (λ terms table. Appends (W.contents out.old) (W.contents out.new) (first_lines texts limit terms (names_view columns.entry) table))
         (W.contents out.new ≡ W.contents out.old) result }
 {
-    let terms = filter_of(alloc, store, filter)?;
-    print_first_selected(alloc, store, terms.as_slice(), columns, limit, out)
+    let terms = filter_of(alloc, store, filter, texts)?;
+    print_first_selected(alloc, store, terms.as_slice(), columns, limit, texts, out)
 }
 
 /// Prints the first rows that satisfy terms, as a cursor gives them, which is closed then.
@@ -50,15 +51,16 @@ fn print_first_selected<D: Disk, W: Write>(
     terms: &[Vec<Term>],
     columns: Option<&[String]>,
     limit: u64,
+    texts: bool,
     out: &mut W,
 ) -> R<()>
     ensures prints { (D.state store.old.vault.disk).honest → (s : State) → Stands D.state store.old s
-        → PrintsSelectedFirst D.state store.old store.new limit (terms_view terms.now) (names_view columns.entry)
+        → PrintsSelectedFirst D.state texts store.old store.new limit (terms_view terms.now) (names_view columns.entry)
         (W.contents out.old) (W.contents out.new) result s }
 {
     queries_give_all();
     let cursor = store.query(alloc, terms, columns)?;
-    let printed = print_first_batches(alloc, store, cursor, limit, out);
+    let printed = print_first_batches(alloc, store, cursor, limit, texts, out);
     let closed = store.close(alloc, cursor);
     printed?;
     closed
@@ -70,10 +72,11 @@ fn print_first_batches<D: Disk, W: Write>(
     store: &mut Store<D>,
     cursor: CursorId,
     limit: u64,
+    texts: bool,
     out: &mut W,
 ) -> R<()>
     ensures prints { (D.state store.old.vault.disk).honest → (s : State) → Stands D.state store.old s
-        → PrintsLeftFirst D.state store.old store.new cursor limit (W.contents out.old) (W.contents out.new) result s }
+        → PrintsLeftFirst D.state texts store.old store.new cursor limit (W.contents out.old) (W.contents out.new) result s }
     ensures honest { (D.state store.old.vault.disk).honest → (D.state store.new.vault.disk).honest }
 {
     let mut left = limit;
@@ -83,7 +86,7 @@ fn print_first_batches<D: Disk, W: Write>(
         }
         match store.fetch(alloc, cursor)? {
             Fetched::Batch(batch) => {
-                left = print_first_of(alloc, store.schema(), &batch, left, out)?;
+                left = print_first_of(alloc, store.schema(), &batch, left, texts, out)?;
             }
             Fetched::End => return Ok(()),
         }
@@ -97,18 +100,19 @@ fn print_first_of<W: Write>(
     schema: &Schema,
     batch: &Batch,
     left: u64,
+    texts: bool,
     out: &mut W,
 ) -> R<u64>
     ensures printed { RowsFit (fields_at batch.now.places.items 0 schema.now) (rows_view batch.now.rows.items)
-        → OnOk result (Appends (W.contents out.old) (W.contents out.new) (first_of_lines left (lines_in schema.now (batch_view batch.now)))) }
+        → OnOk result (Appends (W.contents out.old) (W.contents out.new) (first_of_lines left (lines_in texts schema.now (batch_view batch.now)))) }
     ensures left { IfOk result (λ rest. rest ≡ left - length batch.now.rows.items) }
 {
     let count = batch.rows.len() as u64;
     if count <= left {
-        print_batch(alloc, schema, batch, out)?;
+        print_batch(alloc, schema, batch, texts, out)?;
         return Ok(left - count);
     }
     let (first, _) = batch.rows.as_slice().split_at(left as usize);
-    print_rows_at(alloc, schema, batch.places.as_slice(), first, out)?;
+    print_rows_at(alloc, schema, batch.places.as_slice(), first, texts, out)?;
     Ok(0)
 }

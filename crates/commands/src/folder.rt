@@ -23,7 +23,7 @@ pub fn refusal_of(error: io::Error) -> Refusal
 }
 
 /// Whether a path of a file is the standard input.
-fn is_input(path: &str) -> bool {
+pub fn is_input(path: &str) -> bool {
     path == "-" || path == "/dev/stdin"
 }
 
@@ -49,13 +49,13 @@ pub fn bytes_at<F: Files>(rt: &F, alloc: Global, path: &str, notes: &Notes) -> R
 }
 
 /// What is refused where the system refuses something at a path, which is noted.
-fn refused_at(path: &str, error: io::Error, notes: &Notes) -> Refusal {
+pub fn refused_at(path: &str, error: io::Error, notes: &Notes) -> Refusal {
     notes.note_refused(path, error);
     refusal_of(error)
 }
 
 /// All that a reader gives. Refused Device where it cannot be read.
-fn all_of<T: Read>(alloc: Global, path: &str, reader: &mut T, notes: &Notes) -> R<Vec<u8>> {
+pub fn all_of<T: Read>(alloc: Global, path: &str, reader: &mut T, notes: &Notes) -> R<Vec<u8>> {
     let mut bytes = Vec::new(alloc);
     match reader.read_to_end(&mut bytes) {
         Ok(_) => Ok(bytes),

@@ -1,6 +1,6 @@
-//! The rows of a query in a folder of the host, as a file.
+//! The rows of a query in a folder of the host, as files.
 
-ghost use Rattle.std.specs.Prelude.{◌≡◌, false};
+ghost use Rattle.std.specs.Prelude.{◌≡◌, None, false};
 
 use crate::explaining::{filter_text_reason, question_reason};
 use crate::filter_file::with_filter;
@@ -11,9 +11,9 @@ use crate::opening::opened;
 use crate::reason::Reason;
 use crate::tasks::found;
 use crate::texts::owned;
-use crate::writing_query::query_file;
+use crate::writing_query::query_files;
 use bits::{R, Refusal};
-use dataset_words::{Question, Task};
+use dataset_words::{FileSink, Question, Task};
 use disk::Disk;
 use footer::WriteOptions;
 use std::alloc::Global;
@@ -21,18 +21,40 @@ use std::io::{Input, Write};
 use std::rt::{Clock, Files};
 use store::Store;
 
+/// One file, once it is there.
+#[derive(Drop)]
+pub(crate) struct OneFile {
+    pub(crate) bytes: Option<Vec<u8>>,
+}
+
+impl FileSink for OneFile {
+    // What it has is for who made it.
+    ghost taken = { λ one. None };
+
+    fn take(&mut self, file: Vec<u8>) -> R<()> {
+        self.bytes = Some(file);
+        Ok(())
+    }
+
+    fn has_refused(&self) -> bool {
+        false
+    }
+}
+
 impl<F: Files + Input + Clock + Clone + Drop, S: Write + Clone + Drop> Making<'_, F, S>
 where
     F::File: Lock,
 {
-    /// The file of the call with the filter that is the text of a file. Refused Device where that cannot be read, Script where it
+    /// Gives a sink the files of the call with the filter that is the text of a file. Refused Device where that cannot be read, Script where it
     /// is no text, and then as [`give`](Making::give).
-    pub(crate) fn give_with_filter<E: Write>(
+    pub(crate) fn give_with_filter<K: FileSink, E: Write>(
         &self,
         path: &str,
+        most: Option<usize>,
+        sink: &mut K,
         err: &mut E,
         why: &mut Option<Reason>,
-    ) -> R<Vec<u8>>
+    ) -> R<()>
         ensures quiet { self.now.terminals.err ≡ false → E.contents err.new ≡ E.contents err.old }
     {
         let bytes = bytes_of(self.rt, self.alloc, path, self.notes)?;
@@ -51,21 +73,34 @@ where
             terminals: self.terminals,
             notes: self.notes,
         };
-        making.give(err, why)
+        making.give(most, sink, err, why)
     }
 
-    /// Opens the dataset to read it; the bytes of a file of what is asked. Where it is refused, `why` may get the reason.
-    pub(crate) fn give<E: Write>(&self, err: &mut E, why: &mut Option<Reason>) -> R<Vec<u8>>
+    /// Opens the dataset to read it, and gives a sink the files of what is asked, one where `most` is none. Where it is refused,
+    /// `why` may get the reason.
+    pub(crate) fn give<K: FileSink, E: Write>(
+        &self,
+        most: Option<usize>,
+        sink: &mut K,
+        err: &mut E,
+        why: &mut Option<Reason>,
+    ) -> R<()>
         ensures quiet { self.now.terminals.err ≡ false → E.contents err.new ≡ E.contents err.old }
     {
         let lock = self.share(err, why)?;
-        let file = self.file_in_folder(err, why);
+        let given = self.give_in_folder(most, sink, err, why);
         drop(lock);
-        file
+        given
     }
 
-    /// The bytes of a file of what is asked of the dataset, which is opened to read it.
-    fn file_in_folder<E: Write>(&self, err: &mut E, why: &mut Option<Reason>) -> R<Vec<u8>>
+    /// Gives a sink the files of what is asked of the dataset, which is opened to read it.
+    fn give_in_folder<K: FileSink, E: Write>(
+        &self,
+        most: Option<usize>,
+        sink: &mut K,
+        err: &mut E,
+        why: &mut Option<Reason>,
+    ) -> R<()>
         ensures quiet { self.now.terminals.err ≡ false → E.contents err.new ≡ E.contents err.old }
     {
         let Task::Ask(question) = &self.call.task else {
@@ -76,57 +111,50 @@ where
         let disk = self.disk(false)?;
         let mut store = opened(store::open_to_read(self.alloc, disk, options), why)?;
         let shows = self.terminals.err;
-        give_answer(self.alloc, &mut store, question, &options, err, shows, why)
-    }
-}
-
-/// The bytes of a file of what is asked of a store. Where `shows` says so, `err` shows how many rows were read so far. Where it
-/// is refused, `why` may get the reason.
-fn give_answer<D: Disk, E: Write>(
-    alloc: Global,
-    store: &mut Store<D>,
-    question: &Question<'_>,
-    options: &WriteOptions,
-    err: &mut E,
-    shows: bool,
-    why: &mut Option<Reason>,
-) -> R<Vec<u8>>
-    ensures quiet { shows ≡ false → E.contents err.new ≡ E.contents err.old }
-{
-    let given = answer_file(alloc, store, question, options, err, shows);
-    if let Err(refusal) = &given {
-        *why = found(question_reason(alloc, store, question, refusal));
-    }
-    given
-}
-
-/// The bytes of a file of what is asked of a store: of the rows of a query.
-fn answer_file<D: Disk, E: Write>(
-    alloc: Global,
-    store: &mut Store<D>,
-    question: &Question<'_>,
-    options: &WriteOptions,
-    err: &mut E,
-    shows: bool,
-) -> R<Vec<u8>>
-    ensures quiet { shows ≡ false → E.contents err.new ≡ E.contents err.old }
-{
-    match question {
-        Question::Query {
-            filter,
-            columns,
-            ..
-        } if columns.is_empty() => query_file(alloc, store, *filter, None, options, err, shows),
-        Question::Query {
-            filter,
-            columns,
-            ..
-        } => {
-            let names = owned(alloc, columns.as_slice())?;
-            let names = Some(names.as_slice());
-            query_file(alloc, store, *filter, names, options, err, shows)
+        let (alloc, texts) = (self.alloc, self.call.texts);
+        let given = give_answer(
+            alloc, &mut store, question, texts, &options, most, sink, err, shows,
+        );
+        if let Err(refusal) = &given
+            && !sink.has_refused()
+        {
+            *why = found(question_reason(alloc, &mut store, question, texts, refusal));
         }
-        // Only a query has a file.
-        _ => Err(Refusal::Script),
+        given
     }
+}
+
+/// Gives a sink the files of what is asked of a store: of the rows of a query, whose filter is read with texts or without. Where `shows` says so, `err` shows how many rows
+/// were read so far.
+fn give_answer<D: Disk, K: FileSink, E: Write>(
+    alloc: Global,
+    store: &mut Store<D>,
+    question: &Question<'_>,
+    texts: bool,
+    options: &WriteOptions,
+    most: Option<usize>,
+    sink: &mut K,
+    err: &mut E,
+    shows: bool,
+) -> R<()>
+    ensures quiet { shows ≡ false → E.contents err.new ≡ E.contents err.old }
+{
+    let Question::Query {
+        filter,
+        columns,
+        limit,
+    } = question
+    else {
+        // Only a query has files.
+        return Err(Refusal::Script);
+    };
+    let names = owned(alloc, columns.as_slice())?;
+    let names = if names.is_empty() {
+        None
+    } else {
+        Some(names.as_slice())
+    };
+    query_files(
+        alloc, store, *filter, names, *limit, texts, options, most, sink, err, shows,
+    )
 }

@@ -2,9 +2,11 @@
 
 use crate::column_text::column_text;
 use crate::key_reason::rows_reason;
+use crate::part_reason::is_of_bytes;
 use crate::reason::{Difference, Reason};
 use bits::{R, Refusal};
 use footer::{read_file, read_footer};
+use reports::first_problem;
 use schema::{KeyColumn, Schema};
 use std::alloc::Global;
 
@@ -20,18 +22,31 @@ pub fn import_reason(
         Refusal::Codec => Ok(Some(Reason::Compressed)),
         Refusal::Float(_) => Ok(Some(Reason::Cast("integers, decimals or texts"))),
         Refusal::Int96(_) => Ok(Some(Reason::Cast("timestamps of microseconds"))),
-        Refusal::Schema => {
-            let record = read_footer(alloc, bytes)?;
-            let of_file = Schema::new(alloc, record.schema.as_slice())?;
-            let difference = difference(alloc, schema, &of_file)?;
-            Ok(difference.map(|it| Reason::Columns(it)))
-        }
+        Refusal::Schema => match file_reason(alloc, bytes)? {
+            Some(reason) => Ok(Some(reason)),
+            None => schema_reason(alloc, schema, bytes),
+        },
         Refusal::Key => {
             let (_, rows) = read_file(alloc, bytes)?;
             rows_reason(alloc, keys, rows.as_slice())
         }
+        _ if is_of_bytes(refusal) => file_reason(alloc, bytes),
         _ => Ok(None),
     }
+}
+
+/// What is wrong with the bytes of a Parquet file, if something is. The file's name is put before it later.
+pub fn file_reason(alloc: Global, bytes: &[u8]) -> R<Option<Reason>> {
+    let problem = first_problem(alloc, bytes)?;
+    Ok(problem.map(|problem| Reason::File(problem)))
+}
+
+/// In which column a file is not as a table of this schema, if it is not.
+fn schema_reason(alloc: Global, schema: &Schema, bytes: &[u8]) -> R<Option<Reason>> {
+    let record = read_footer(alloc, bytes)?;
+    let of_file = Schema::new(alloc, record.schema.as_slice())?;
+    let difference = difference(alloc, schema, &of_file)?;
+    Ok(difference.map(|it| Reason::Columns(it)))
 }
 
 /// The first column in which a file is not as the table, if there is one.

@@ -40,17 +40,19 @@ pub fn import_files<D: Disk>(
 }
 
 /// Appends the rows of Parquet files as [`import_files`] does, unless some row of the table satisfies a filter: then it returns
-/// 0, and nothing is appended. Refused as `filter_from` refuses the filter, as `Store::count`, and then as [`import_files`].
+/// 0, and nothing is appended. With `texts`, dates, times, timestamps and decimals are also read from their texts in the filter.
+/// Refused as `filter_from_as` refuses the filter, as `Store::count`, and then as [`import_files`].
 pub fn import_files_unless<D: Disk>(
     alloc: Global,
     store: &mut Store<D>,
     filter: &str,
     files: &[Vec<u8>],
+    texts: bool,
     refused: &mut Option<usize>,
 ) -> R<u64>
-    ensures imports { ImportsUnless D.state store.old store.new filter.now (files_view files.now) result }
+    ensures imports { ImportsUnless D.state texts store.old store.new filter.now (files_view files.now) result }
 {
-    let count = count_rows(alloc, store, filter)?;
+    let count = count_rows(alloc, store, filter, texts)?;
     if count > 0 {
         return Ok(0);
     }

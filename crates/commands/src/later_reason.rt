@@ -6,8 +6,8 @@ use crate::part_reason::is_of_bytes;
 use crate::reason::Reason;
 use bits::{R, Refusal};
 use dataset_words::{Call, Change, Look, Question, Task};
-use footer::read_file;
 use reasons::{Cause, options_fault, output_cause, system_fault};
+use reports::first_problem;
 use std::alloc::Global;
 use std::rt::Files;
 use std::{fs, io};
@@ -169,10 +169,9 @@ impl<F: Files> Refused<'_, F> {
         let folder = self.call.folder;
         let place = format!(in self.alloc; "{folder}/{path}")?;
         let bytes = bytes_at(self.rt, self.alloc, place.as_str(), self.notes)?;
-        match read_file(self.alloc, bytes.as_slice()) {
-            Ok(_) => Ok(Some(Reason::RootOfPart(path))),
-            Err(Refusal::Memory) => Err(Refusal::Memory),
-            Err(_) => Ok(Some(Reason::Part(path))),
+        match first_problem(self.alloc, bytes.as_slice())? {
+            Some(problem) => Ok(Some(Reason::Part(path, problem))),
+            None => Ok(Some(Reason::RootOfPart(path))),
         }
     }
 }

@@ -25,11 +25,12 @@ use std::io::Write;
 use upkeep::{Finding, Watch, check, survey_of, text_of_check, text_of_survey};
 use vault::Vault;
 
-/// Prints what a table has, at a glance, as text or as a line of JSON. Groups of fewer rows than this are small. Refused as
+/// Prints what a table in a folder has, at a glance, as text or as a line of JSON. Groups of fewer rows than this are small. Refused as
 /// `survey_of`, and Device where the output cannot be written.
 pub fn print_survey<D: Disk, W: Write>(
     alloc: Global,
     vault: &mut Vault<D>,
+    folder: &str,
     table: &Manifest,
     min_rows: u64,
     as_json: bool,
@@ -42,7 +43,7 @@ pub fn print_survey<D: Disk, W: Write>(
         let line = json_of_survey(alloc, &survey)?;
         return write_text(line.as_slice(), out);
     }
-    let text = text_of_survey(alloc, &survey)?;
+    let text = text_of_survey(alloc, folder, &survey)?;
     write_text(text.as_slice(), out)
 }
 
@@ -82,13 +83,14 @@ fn rows_in(table: &Manifest) -> u64 {
     rows
 }
 
-/// Prints `ok` and how much there is, or a line for each file that is not as the table says; then a note of the part files
+/// Prints `ok` and how much there is in the table of a folder, or a line for each file that is not as the table says; then a note of the part files
 /// that the table does not name, if there are any, which are no fault. With such a line it is refused as the first
 /// of these counts; else as `check`, and Device where the output cannot be written. `checking` shows how far it is, and no
 /// longer once that is printed.
 pub fn print_check<D: Disk, W: Write, S: Write + Drop>(
     alloc: Global,
     vault: &mut Vault<D>,
+    folder: &str,
     table: &Manifest,
     checking: &mut Checking<S>,
     out: &mut W,
@@ -99,7 +101,7 @@ pub fn print_check<D: Disk, W: Write, S: Write + Drop>(
     let checked = check(alloc, vault, table, checking);
     checking.progress.clear(&mut checking.screen);
     let checked = checked?;
-    let text = text_of_check(alloc, &checked)?;
+    let text = text_of_check(alloc, folder, &checked)?;
     write_text(text.as_slice(), out)?;
     first_refusal(checked.findings)
 }
@@ -115,28 +117,30 @@ fn first_refusal(findings: Vec<Finding>) -> R<()>
     }
 }
 
-/// Prints `ok N rows`, N the number of lines, where each line of a text is a row that a table takes.
+/// Prints `ok N rows`, N the number of lines, where each line of a text is a row that a table takes. With `texts`, dates, times,
+/// timestamps and decimals are also read from their texts.
 ///
-/// Refused as `row_from` refuses the first line that is no row, Key for a row whose key has no folder, and Limit for a
+/// Refused as `row_from_as` refuses the first line that is no row, Key for a row whose key has no folder, and Limit for a
 /// value of more than 16,777,216 bytes, which no file of the dataset can have; then `why` gets
 /// the place and what is wrong there. Nothing is appended. Where `shows` says so, `err` shows how many rows were read so far.
 pub fn print_rows_fit<W: Write, E: Write>(
     alloc: Global,
     table: &Manifest,
     text: &str,
+    texts: bool,
     out: &mut W,
     err: &mut E,
     shows: bool,
     why: &mut Option<Reason>,
 ) -> R<()>
-    ensures fit { OnOk result ((rows : List ValueTrees) × AreRowTexts (root_of table.now).schema (lines text.now) rows
+    ensures fit { OnOk result ((rows : List ValueTrees) × AreRowTexts texts (root_of table.now).schema (lines text.now) rows
         × Appends (W.contents out.old) (W.contents out.new) (codes "ok " ++ decimal (length rows) ++ codes " rows\n")) }
     ensures quiet { shows ≡ false → E.contents err.new ≡ E.contents err.old }
 {
-    let rows = match rows_of(alloc, table.schema(), text, err, shows) {
+    let rows = match rows_of(alloc, table.schema(), text, texts, err, shows) {
         Ok(rows) => rows,
         Err(refusal) => {
-            *why = misfit_reason(alloc, table.schema(), text).unwrap_or(None);
+            *why = misfit_reason(alloc, table.schema(), text, texts).unwrap_or(None);
             return Err(refusal);
         }
     };
@@ -144,7 +148,7 @@ pub fn print_rows_fit<W: Write, E: Write>(
         *why = Some(reason);
         return Err(Refusal::Key);
     }
-    if let Some(fault) = large_value(alloc, table.schema(), "", text)? {
+    if let Some(fault) = large_value(alloc, table.schema(), "", text, texts)? {
         *why = Some(Reason::Large(fault));
         return Err(Refusal::Limit);
     }
@@ -154,7 +158,7 @@ pub fn print_rows_fit<W: Write, E: Write>(
 }
 
 /// Why the rows of a text are none of a schema. The file's name is put before it later.
-fn misfit_reason(alloc: Global, schema: &Schema, text: &str) -> R<Option<Reason>> {
-    let fault = row_fault(alloc, schema, "", text)?;
+fn misfit_reason(alloc: Global, schema: &Schema, text: &str, texts: bool) -> R<Option<Reason>> {
+    let fault = row_fault(alloc, schema, "", text, texts)?;
     Ok(fault.map(|fault| Reason::Text(fault)))
 }

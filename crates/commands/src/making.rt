@@ -3,9 +3,12 @@
 ghost use Rattle.std.specs.Prelude.{◌≡◌, false, OnOk};
 
 use crate::explaining::{filter_text_reason, no_text_reason};
+use crate::file_ends::ends_of;
 use crate::filter_file::{filter_file, with_filter};
 use crate::folder::{bytes_of, disk_of, is_folder, refusal_of};
 use crate::folder_lock::locked;
+use crate::giving::OneFile;
+use crate::import_reason::file_reason;
 use crate::later_reason::Refused;
 use crate::lock::{Access, Lock, Patience};
 use crate::looking::{Checking, print_check, print_rows_fit, print_survey};
@@ -19,7 +22,7 @@ use crate::tasks::{bytes_at, found};
 use crate::texts::text_of;
 use crate::watched::Watched;
 use bits::{R, Refusal};
-use dataset_words::{Call, Change, Datasets, Look, Question, Task};
+use dataset_words::{Call, Change, Datasets, FileSink, Look, Question, Task};
 use disk::HostDisk;
 use reports::Terminals;
 use std::alloc::Global;
@@ -34,6 +37,8 @@ pub struct Folders<'a, F: Files + Input + Clock + Clone + Drop, S: Write + Clone
     pub files: &'a F,
     /// Standard error, once more: where it is a terminal, a disk shows on it what it reads and writes.
     pub screen: S,
+    /// How many bytes the groups of one of several files take at most ([`PART_BYTES`](crate::PART_BYTES)).
+    pub part_bytes: usize,
 }
 
 impl<F: Files + Input + Clock + Clone + Drop, S: Write + Clone + Drop, W: Write, E: Write> Datasets<
@@ -46,7 +51,7 @@ where
     // A real folder keeps no model of a disk for certain, so that nothing is said of what it gives.
     ghost prints = { λ folders call old new. Unit {0} };
 
-    ghost gives = { λ folders call file. Unit {0} };
+    ghost gives = { λ folders call files. Unit {0} };
 
     /// The file that a call names is read first. Then the folder is locked, the dataset is opened, the JSON is looked at,
     /// and the call is made; `create` looks at its JSON before it makes the folder. Refused Device where a file, the folder,
@@ -95,6 +100,42 @@ where
         err: &mut E,
         terminals: Terminals,
     ) -> R<Vec<u8>> {
+        let mut one = OneFile { bytes: None };
+        self.give_files(alloc, call, None, &mut one, err, terminals)?;
+        // One file was given.
+        one.bytes.ok_or(Refusal::Script)
+    }
+
+    /// The rows of a query as files. Refused as [`file_of`](Folders::file_of), and as the sink refuses a file.
+    fn files_of<K: FileSink>(
+        &self,
+        alloc: Global,
+        call: &Call<'_>,
+        sink: &mut K,
+        err: &mut E,
+        terminals: Terminals,
+    ) -> R<()> {
+        self.give_files(alloc, call, Some(self.part_bytes), sink, err, terminals)
+    }
+}
+
+impl<F: Files + Input + Clock + Clone + Drop, S: Write + Clone + Drop> Folders<'_, F, S>
+where
+    F::File: Lock,
+{
+    /// Gives a sink the files of what a call asks for, one where `most` is none. Where it is refused and there is more to say than
+    /// the refusal, `err` gets a line, unless the sink refused it.
+    fn give_files<K: FileSink, E: Write>(
+        &self,
+        alloc: Global,
+        call: &Call<'_>,
+        most: Option<usize>,
+        sink: &mut K,
+        err: &mut E,
+        terminals: Terminals,
+    ) -> R<()>
+        ensures quiet { terminals.err ≡ false → OnOk result (E.contents err.new ≡ E.contents err.old) }
+    {
         let notes = Notes::new(alloc)?;
         let making = Making {
             rt: self.files,
@@ -106,13 +147,15 @@ where
         };
         let mut why = None;
         let given = match filter_file(call) {
-            Some(path) => making.give_with_filter(path, err, &mut why),
-            None => making.give(err, &mut why),
+            Some(path) => making.give_with_filter(path, most, sink, err, &mut why),
+            None => making.give(most, sink, err, &mut why),
         };
         match given {
-            Ok(file) => Ok(file),
+            Ok(()) => Ok(()),
             Err(refusal) => {
-                making.explain(&refusal, &Ok(()), why, err);
+                if !sink.has_refused() {
+                    making.explain(&refusal, &Ok(()), why, err);
+                }
                 Err(refusal)
             }
         }
@@ -203,7 +246,13 @@ where
         match &self.call.task {
             Task::Create { keys, .. } => self.make_table(bytes, keys.as_slice(), err, why),
             Task::Ask(Question::Schema) if !self.is_of_folder() => {
-                print_schema_of(self.alloc, bytes, out)
+                let printed = print_schema_of(self.alloc, bytes, out);
+                if let Err(refusal) = &printed
+                    && is_of_bytes(refusal)
+                {
+                    *why = found(file_reason(self.alloc, bytes));
+                }
+                printed
             }
             Task::Look(Look::Files) if !self.is_of_folder() => {
                 print_schema_fits(self.alloc, bytes, out, why)
@@ -231,9 +280,17 @@ where
                 files.push(bytes_of(self.rt, self.alloc, path, self.notes)?)?;
             }
         } else if let Some(path) = self.named_file() {
-            files.push(bytes_of(self.rt, self.alloc, path, self.notes)?)?;
+            files.push(self.bytes_in(path)?)?;
         }
         Ok(files)
+    }
+
+    /// The bytes of the file that the call names; of a file whose schema alone is asked for, its ends.
+    fn bytes_in(&self, path: &str) -> R<Vec<u8>> {
+        match &self.call.task {
+            Task::Ask(Question::Schema) => ends_of(self.rt, self.alloc, path, self.notes),
+            _ => bytes_of(self.rt, self.alloc, path, self.notes),
+        }
     }
 
     /// The files of an import.
@@ -305,7 +362,8 @@ where
     ) -> R<()>
         ensures quiet { self.now.terminals.err ≡ false → E.contents err.new ≡ E.contents err.old }
     {
-        let (alloc, shows) = (self.alloc, self.terminals.err);
+        let (alloc, folder, shows) = (self.alloc, self.call.folder, self.terminals.err);
+        let texts = self.call.texts;
         let mut vault = Vault::start(self.disk(false)?);
         let table = match described(alloc, &mut vault) {
             Ok(table) => table,
@@ -316,17 +374,17 @@ where
         };
         match look {
             Look::Survey { min_rows, as_json } => {
-                print_survey(alloc, &mut vault, &table, *min_rows, *as_json, out)
+                print_survey(alloc, &mut vault, folder, &table, *min_rows, *as_json, out)
             }
             Look::Files => {
                 let screen = self.screen.clone()?;
                 let mut checking = Checking::new(alloc, &table, screen, shows);
-                print_check(alloc, &mut vault, &table, &mut checking, out)?;
+                print_check(alloc, &mut vault, folder, &table, &mut checking, out)?;
                 print_schema_notes(alloc, table.schema(), out)
             }
             Look::Rows { rows } => match text_of(bytes) {
                 Ok(text) => {
-                    print_rows_fit(alloc, &table, text, out, err, shows, why)?;
+                    print_rows_fit(alloc, &table, text, texts, out, err, shows, why)?;
                     print_doubled_note(alloc, rows, text, out)
                 }
                 Err(refusal) => {

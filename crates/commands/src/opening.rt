@@ -6,6 +6,7 @@
 ghost use Rattle.std.specs.Prelude.{◌≡◌, false};
 
 use crate::folder::refusal_of;
+use crate::kept_style::kept_style;
 use crate::lock::{Access, Lock};
 use crate::making::{Making, root_reason};
 use crate::printing::print_done;
@@ -16,7 +17,8 @@ use crate::tasks::{ask, bytes_at, make_change, run};
 use crate::watched::Watched;
 use bits::{R, Refusal};
 use dataset_words::{Change, Question, Task};
-use disk::HostDisk;
+use disk::{Disk, HostDisk};
+use std::alloc::Global;
 use std::io::{Input, Write};
 use std::rt::{Clock, Files};
 use store::Store;
@@ -70,8 +72,10 @@ where
             store::open_to_read(self.alloc, disk, self.call.options),
             why,
         )?;
-        let shows = self.terminals.shows_beside_output();
-        ask(self.alloc, &mut store, question, out, err, shows, why)
+        let (texts, shows) = (self.call.texts, self.terminals.shows_beside_output());
+        ask(
+            self.alloc, &mut store, question, texts, out, err, shows, why,
+        )
     }
 
     /// Locks the folder, opens the dataset and changes it.
@@ -117,12 +121,17 @@ where
     ) -> R<()>
         ensures quiet { self.now.terminals.err ≡ false → E.contents err.new ≡ E.contents err.old }
     {
-        let (alloc, shows) = (self.alloc, self.terminals.err);
+        let (alloc, texts, shows) = (self.alloc, self.call.texts, self.terminals.err);
         match &self.call.task {
             Task::Create { .. } | Task::Look(_) | Task::Ask(_) => Ok(()),
             Task::Change(change) => {
+                if self.call.keeps_style {
+                    keep_style(alloc, store, change, texts)?;
+                }
                 let mut at = None;
-                let done = make_change(alloc, store, change, files, err, shows, why, &mut at);
+                let done = make_change(
+                    alloc, store, change, files, texts, err, shows, why, &mut at,
+                );
                 store.vault.disk.clear();
                 if let (Some(place), Err(refusal)) = (at, &done) {
                     self.name_file(place, refusal, why);
@@ -136,9 +145,9 @@ where
             Task::Run { stops, .. } => {
                 let bytes = bytes_at(files, 0);
                 if *stops {
-                    run_to_refusal(alloc, store, bytes, out, why)
+                    run_to_refusal(alloc, store, bytes, texts, out, why)
                 } else {
-                    run(alloc, store, bytes, out, why)
+                    run(alloc, store, bytes, texts, out, why)
                 }
             }
         }
@@ -188,6 +197,22 @@ where
         }
         drop(readers);
     }
+}
+
+/// Lets a store write the new groups of a change in the style of the first group that the change writes anew. It fails only when
+/// out of memory: a filter that is refused is refused again by the change.
+fn keep_style<D: Disk>(
+    alloc: Global,
+    store: &mut Store<D>,
+    change: &Change<'_>,
+    texts: bool,
+) -> R<()> {
+    match kept_style(alloc, &store.manifest, change, texts) {
+        Ok(Some(style)) => store.options.style = style,
+        Err(Refusal::Memory) => return Err(Refusal::Memory),
+        _ => {}
+    }
+    Ok(())
 }
 
 /// The store that was opened. Where it is refused, `why` may get the reason.

@@ -1,26 +1,27 @@
 //! What the commands print.
 
-ghost use Rattle.std.specs.Prelude.{◌≡◌, ◌∷◌, [], ◌++◌, ℕ, List, Option, Ok, codes, decimal, map, IfOk, OnOk};
+ghost use Rattle.std.specs.Prelude.{◌≡◌, ◌∷◌, [], ◌++◌, ℕ, Bool, List, Option, Ok, codes, decimal, OnOk};
 ghost use Rattle.std.specs.Io.KnownBytes.{Appends};
 ghost use Rattle.serde_json.specs.Data.{Data, Items, array};
 ghost use Rattle.serde_json.specs.Written.{compact_text};
-ghost use Rattle.bits.specs.Refusals.{RefusedOnly, RefusedMemoryOnly};
+ghost use Rattle.bits.specs.Refusals.{RefusedOnly};
 ghost use Rattle.bits.specs.declared.refusal.Refusal.TheVariants.{Device};
 ghost use Rattle.schema.specs.Values.{ValueTrees};
 ghost use Rattle.schema.specs.Shape.{Fields, no_fields};
 ghost use Rattle.schema.specs.Fits.{RowsFit};
-ghost use Rattle.schema.specs.Views.{leaf_view, rows_view};
+ghost use Rattle.schema.specs.Views.{rows_view};
 ghost use Rattle.table.specs.Views.{batch_view};
-ghost use Rattle.jsonrows.specs.Answers.{answer_json, group_json};
+ghost use Rattle.jsonrows.specs.Answers.{answer_json_as, group_json};
 ghost use Rattle.jsonrows.specs.SchemaPrinted.{PrintsFields};
-ghost use Rattle.commands.specs.Querying.{fields_in, fields_at, row_lines, batch_lines};
-ghost use Rattle.commands.specs.inner.Gathering.{is_at, leaves_among, AreGathered};
+ghost use Rattle.commands.specs.Querying.{fields_at, row_lines, batch_lines};
+ghost use Rattle.commands.specs.inner.Gathering.{AreGathered};
 
 use crate::folder::refusal_of;
 use bits::R;
+use columns::columns_at;
 use itoa::Buffer;
-use jsonrows::{RowPlan, RowText, answer_to, group_to, schema_to};
-use schema::{Leaf, Row, Schema};
+use jsonrows::{RowPlan, RowText, answer_to_as, group_to, schema_to};
+use schema::{Row, Schema};
 use std::alloc::Global;
 use std::io::Write;
 use table::{Answer, Batch, GroupInfo};
@@ -56,12 +57,18 @@ pub fn print_number<W: Write>(alloc: Global, number: u64, out: &mut W) -> R<()>
     write_text(line.as_bytes(), out)
 }
 
-/// Prints an answer over a schema, a line of JSON. Refused RowShape for rows that are none of the schema, and Device where
-/// it cannot be written.
-pub fn print_answer<W: Write>(alloc: Global, schema: &Schema, answer: &Answer, out: &mut W) -> R<()>
-    ensures written { OnOk result ((d : Data) × (answer_json schema.now answer.now ≡ Ok d) × Appends (W.contents out.old) (W.contents out.new) (compact_text d ++ 10 ∷ [])) }
+/// Prints an answer over a schema, a line of JSON. With `texts`, dates, times, timestamps and decimals in the rows of a batch are
+/// texts. Refused RowShape for rows that are none of the schema, and Device where it cannot be written.
+pub fn print_answer<W: Write>(
+    alloc: Global,
+    schema: &Schema,
+    answer: &Answer,
+    texts: bool,
+    out: &mut W,
+) -> R<()>
+    ensures written { OnOk result ((d : Data) × (answer_json_as texts schema.now answer.now ≡ Ok d) × Appends (W.contents out.old) (W.contents out.new) (compact_text d ++ 10 ∷ [])) }
 {
-    let mut text = answer_to(alloc, schema, answer)?;
+    let mut text = answer_to_as(alloc, schema, answer, texts)?;
     text.push('\n')?;
     write_text(text.as_bytes(), out)
 }
@@ -76,11 +83,17 @@ pub fn print_columns<W: Write>(alloc: Global, schema: &Schema, out: &mut W) -> R
     write_text(text.as_bytes(), out)
 }
 
-/// Prints the rows of a batch, a line each, as objects of the columns at its places. Refused Device where they cannot be
-/// written.
-pub fn print_batch<W: Write>(alloc: Global, schema: &Schema, batch: &Batch, out: &mut W) -> R<()>
+/// Prints the rows of a batch, a line each, as objects of the columns at its places. With `texts`, dates, times, timestamps and
+/// decimals are texts. Refused Device where they cannot be written.
+pub fn print_batch<W: Write>(
+    alloc: Global,
+    schema: &Schema,
+    batch: &Batch,
+    texts: bool,
+    out: &mut W,
+) -> R<()>
     ensures printed { RowsFit (fields_at batch.now.places.items 0 schema.now) (rows_view batch.now.rows.items)
-        → OnOk result (Appends (W.contents out.old) (W.contents out.new) (batch_lines schema.now (batch_view batch.now))) }
+        → OnOk result (Appends (W.contents out.old) (W.contents out.new) (batch_lines texts schema.now (batch_view batch.now))) }
     ensures which { RefusedOnly (λ e. e ≡ Device) result }
 {
     print_rows_at(
@@ -88,73 +101,43 @@ pub fn print_batch<W: Write>(alloc: Global, schema: &Schema, batch: &Batch, out:
         schema,
         batch.places.as_slice(),
         batch.rows.as_slice(),
+        texts,
         out,
     )
 }
 
-/// Whether the leaf is of a column at one of these places.
-fn is_at(leaf: &Leaf, places: &[usize]) -> bool
-    ensures { result ≡ is_at places.now (leaf_view leaf.now) }
-{
-    match leaf.steps.as_slice().first() {
-        Some(step) => places.contains(&step.place),
-        None => false,
-    }
-}
-
-/// The columns at these places of a schema, in its order, as a schema; none where there are no such columns. It fails only
-/// when out of memory.
-pub fn columns_at(alloc: Global, schema: &Schema, places: &[usize]) -> R<Option<Schema>>
-    ensures columns { IfOk result (λ columns. fields_in columns ≡ fields_at places.now 0 schema.now) }
-    ensures which { RefusedMemoryOnly result }
-{
-    let leaves = leaves_among(alloc, schema.leaves(), places)?;
-    if leaves.is_empty() {
-        return Ok(None);
-    }
-    let columns = schema.cut(alloc, leaves.as_slice())?;
-    Ok(Some(columns))
-}
-
-/// Which of these leaves are of columns at these places.
-fn leaves_among(alloc: Global, leaves: &[Leaf], places: &[usize]) -> R<Vec<usize>>
-    ensures among { IfOk result (λ among. among.items ≡ leaves_among places.now 0 (map leaf_view leaves.now)) }
-    ensures which { RefusedMemoryOnly result }
-{
-    let mut among = Vec::new(alloc);
-    for (index, leaf) in leaves.iter().enumerate() {
-        if is_at(leaf, places) {
-            among.push(index)?;
-        }
-    }
-    Ok(among)
-}
-
-/// Prints rows of the columns at these places of a schema, a line each, as objects of these columns. Refused Device where
-/// they cannot be written.
+/// Prints rows of the columns at these places of a schema, a line each, as objects of these columns, with `texts` as
+/// [`print_batch`] does. Refused Device where they cannot be written.
 pub fn print_rows_at<W: Write>(
     alloc: Global,
     schema: &Schema,
     places: &[usize],
     rows: &[Row],
+    texts: bool,
     out: &mut W,
 ) -> R<()>
     ensures printed { RowsFit (fields_at places.now 0 schema.now) (rows_view rows.now)
-        → OnOk result (Appends (W.contents out.old) (W.contents out.new) (row_lines (fields_at places.now 0 schema.now) (rows_view rows.now))) }
+        → OnOk result (Appends (W.contents out.old) (W.contents out.new) (row_lines texts (fields_at places.now 0 schema.now) (rows_view rows.now))) }
     ensures which { RefusedOnly (λ e. e ≡ Device) result }
 {
     match columns_at(alloc, schema, places)? {
-        Some(columns) => print_lines(alloc, &columns, rows, out),
+        Some(columns) => print_lines(alloc, &columns, rows, texts, out),
         None => print_empty_rows(rows, out),
     }
 }
 
-/// Prints rows of a schema, a line each. Refused Device where they cannot be written.
-fn print_lines<W: Write>(alloc: Global, schema: &Schema, rows: &[Row], out: &mut W) -> R<()>
-    ensures printed { RowsFit schema.now (rows_view rows.now) → OnOk result (Appends (W.contents out.old) (W.contents out.new) (row_lines schema.now (rows_view rows.now))) }
+/// Prints rows of a schema, a line each, with texts or without. Refused Device where they cannot be written.
+fn print_lines<W: Write>(
+    alloc: Global,
+    schema: &Schema,
+    rows: &[Row],
+    texts: bool,
+    out: &mut W,
+) -> R<()>
+    ensures printed { RowsFit schema.now (rows_view rows.now) → OnOk result (Appends (W.contents out.old) (W.contents out.new) (row_lines texts schema.now (rows_view rows.now))) }
     ensures which { RefusedOnly (λ e. e ≡ Device) result }
 {
-    let plan = RowPlan::new(alloc, schema)?;
+    let plan = RowPlan::with_texts(alloc, schema, texts)?;
     let mut text = RowText::new(alloc, &plan);
     for row in rows {
         text.put_line(row)?;
@@ -165,8 +148,8 @@ fn print_lines<W: Write>(alloc: Global, schema: &Schema, rows: &[Row], out: &mut
 
 /// Writes the lines that were gathered once they are many, and forgets them. Refused Device where they cannot be written.
 fn write_full<W: Write>(text: &mut RowText<'_>, out: &mut W) -> R<()>
-    ensures gathered { (fs : Fields) (rows : List ValueTrees) (old : Option (List ℕ)) → AreGathered fs rows text.old old (W.contents out.old)
-        → OnOk result (AreGathered fs rows text.new old (W.contents out.new)) }
+    ensures gathered { (texts : Bool) (fs : Fields) (rows : List ValueTrees) (old : Option (List ℕ)) → AreGathered texts fs rows text.old old (W.contents out.old)
+        → OnOk result (AreGathered texts fs rows text.new old (W.contents out.new)) }
     ensures which { RefusedOnly (λ e. e ≡ Device) result }
 {
     if text.lines().len() < GATHERED_BYTES {
@@ -179,7 +162,7 @@ fn write_full<W: Write>(text: &mut RowText<'_>, out: &mut W) -> R<()>
 
 /// Prints rows without columns, a line each. Refused Device where they cannot be written.
 fn print_empty_rows<W: Write>(rows: &[Row], out: &mut W) -> R<()>
-    ensures printed { OnOk result (Appends (W.contents out.old) (W.contents out.new) (row_lines no_fields (rows_view rows.now))) }
+    ensures printed { (texts : Bool) → OnOk result (Appends (W.contents out.old) (W.contents out.new) (row_lines texts no_fields (rows_view rows.now))) }
     ensures which { RefusedOnly (λ e. e ≡ Device) result }
 {
     for _ in rows {

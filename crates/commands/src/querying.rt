@@ -22,7 +22,7 @@ use bits::{R, Refusal};
 use disk::Disk;
 use filter::Term;
 use footer::read_footer;
-use jsonrows::filter_from;
+use jsonrows::filter_from_as;
 use reports::Progress;
 use schema::Schema;
 use std::alloc::Global;
@@ -30,20 +30,27 @@ use std::io::Write;
 use store::Store;
 use table::{CursorId, Fetched, GroupInfo, queries_give_all};
 
-/// The filter of a text; without one the filter that every row satisfies.
-pub fn filter_of<D: Disk>(alloc: Global, store: &Store<D>, text: Option<&str>) -> R<Vec<Vec<Term>>>
-    ensures stands { (s : State) → Stands D.state store.now s → IfOk result (λ terms. IsAskedFilter (leaves_of s.table.schema) (option_map (λ t. t.now) text.entry) (terms_view terms.items)) }
-    ensures which { (s : State) → Stands D.state store.now s → IfErr result (IsRefusedFilterOf (leaves_of s.table.schema) (option_map (λ t. t.now) text.entry)) }
+/// The filter of a text; without one the filter that every row satisfies. With `texts`, dates, times, timestamps and decimals are
+/// also read from their texts. Refused as `filter_from_as` refuses the text.
+pub fn filter_of<D: Disk>(
+    alloc: Global,
+    store: &Store<D>,
+    text: Option<&str>,
+    texts: bool,
+) -> R<Vec<Vec<Term>>>
+    ensures stands { (s : State) → Stands D.state store.now s → IfOk result (λ terms. IsAskedFilter texts (leaves_of s.table.schema) (option_map (λ t. t.now) text.entry) (terms_view terms.items)) }
+    ensures which { (s : State) → Stands D.state store.now s → IfErr result (IsRefusedFilterOf texts (leaves_of s.table.schema) (option_map (λ t. t.now) text.entry)) }
 {
     match text {
-        Some(text) => filter_from(alloc, store.schema(), text),
+        Some(text) => filter_from_as(alloc, store.schema(), text, texts),
         None => Ok(Vec::new(alloc)),
     }
 }
 
-/// Prints the rows that satisfy a filter, a line each, in table order: objects of the columns of these names, or of all.
+/// Prints the rows that satisfy a filter, a line each, in table order: objects of the columns of these names, or of all. With
+/// `texts`, dates, times, timestamps and decimals are texts, and are also read as such in the filter.
 ///
-/// Refused as `filter_from` refuses the text; as `Store::query` and `Store::fetch`; and Device where the output cannot be
+/// Refused as `filter_from_as` refuses the text; as `Store::query` and `Store::fetch`; and Device where the output cannot be
 /// written. Where a later group is refused, the rows of those before it are printed. Room is that of one group. Where
 /// `shows` says so, `err` shows how many rows were printed so far.
 pub fn print_rows<D: Disk, W: Write, E: Write>(
@@ -51,21 +58,23 @@ pub fn print_rows<D: Disk, W: Write, E: Write>(
     store: &mut Store<D>,
     filter: Option<&str>,
     columns: Option<&[String]>,
+    texts: bool,
     out: &mut W,
     err: &mut E,
     shows: bool,
 ) -> R<()>
-    ensures prints { Reads D.state store.old store.new (option_map (λ t. t.now) filter.entry)
-        (λ terms table. Appends (W.contents out.old) (W.contents out.new) (query_lines terms (names_view columns.entry) table)) (W.contents out.new ≡ W.contents out.old) result }
+    ensures prints { Reads D.state texts store.old store.new (option_map (λ t. t.now) filter.entry)
+        (λ terms table. Appends (W.contents out.old) (W.contents out.new) (query_lines texts terms (names_view columns.entry) table)) (W.contents out.new ≡ W.contents out.old) result }
     ensures quiet { shows ≡ false → E.contents err.new ≡ E.contents err.old }
 {
-    let terms = filter_of(alloc, store, filter)?;
+    let terms = filter_of(alloc, store, filter, texts)?;
     let mut progress = printing_of(alloc, store, terms.as_slice(), shows);
     let printed = print_selected(
         alloc,
         store,
         terms.as_slice(),
         columns,
+        texts,
         out,
         err,
         &mut progress,
@@ -113,18 +122,19 @@ fn print_selected<D: Disk, W: Write, E: Write>(
     store: &mut Store<D>,
     terms: &[Vec<Term>],
     columns: Option<&[String]>,
+    texts: bool,
     out: &mut W,
     err: &mut E,
     progress: &mut Progress,
 ) -> R<()>
     ensures prints { (D.state store.old.vault.disk).honest → (s : State) → Stands D.state store.old s
-        → PrintsSelected D.state store.old store.new (terms_view terms.now) (names_view columns.entry) (W.contents out.old) (W.contents out.new) result s }
+        → PrintsSelected D.state texts store.old store.new (terms_view terms.now) (names_view columns.entry) (W.contents out.old) (W.contents out.new) result s }
     ensures quiet { progress.old.is_shown ≡ false → E.contents err.new ≡ E.contents err.old }
     ensures same { progress.new.is_shown ≡ progress.old.is_shown }
 {
     queries_give_all();
     let cursor = store.query(alloc, terms, columns)?;
-    let printed = print_batches(alloc, store, cursor, out, err, progress);
+    let printed = print_batches(alloc, store, cursor, texts, out, err, progress);
     let closed = store.close(alloc, cursor);
     printed?;
     closed
@@ -135,12 +145,13 @@ fn print_batches<D: Disk, W: Write, E: Write>(
     alloc: Global,
     store: &mut Store<D>,
     cursor: CursorId,
+    texts: bool,
     out: &mut W,
     err: &mut E,
     progress: &mut Progress,
 ) -> R<()>
     ensures prints { (D.state store.old.vault.disk).honest → (s : State) → Stands D.state store.old s
-        → PrintsLeft D.state store.old store.new cursor (W.contents out.old) (W.contents out.new) result s }
+        → PrintsLeft D.state texts store.old store.new cursor (W.contents out.old) (W.contents out.new) result s }
     ensures honest { (D.state store.old.vault.disk).honest → (D.state store.new.vault.disk).honest }
     ensures quiet { progress.old.is_shown ≡ false → E.contents err.new ≡ E.contents err.old }
     ensures same { progress.new.is_shown ≡ progress.old.is_shown }
@@ -148,7 +159,7 @@ fn print_batches<D: Disk, W: Write, E: Write>(
     'batches: for _ in 0..u64::MAX {
         match store.fetch(alloc, cursor)? {
             Fetched::Batch(batch) => {
-                print_batch(alloc, store.schema(), &batch, out)?;
+                print_batch(alloc, store.schema(), &batch, texts, out)?;
                 progress.count_rows(batch.rows.len() as u64, err);
             }
             Fetched::End => return Ok(()),
@@ -157,19 +168,21 @@ fn print_batches<D: Disk, W: Write, E: Write>(
     Err(Refusal::Limit)
 }
 
-/// Prints how many rows satisfy a filter; without one, how many there are. Of a filter only its columns are read.
+/// Prints how many rows satisfy a filter; without one, how many there are. Of a filter only its columns are read. With `texts`,
+/// dates, times, timestamps and decimals are also read from their texts in the filter.
 ///
-/// Refused as `filter_from` refuses the text, as `Store::count`, and Device where the output cannot be written.
+/// Refused as `filter_from_as` refuses the text, as `Store::count`, and Device where the output cannot be written.
 pub fn print_count<D: Disk, W: Write>(
     alloc: Global,
     store: &mut Store<D>,
     filter: Option<&str>,
+    texts: bool,
     out: &mut W,
 ) -> R<()>
-    ensures prints { Reads D.state store.old store.new (option_map (λ t. t.now) filter.entry)
+    ensures prints { Reads D.state texts store.old store.new (option_map (λ t. t.now) filter.entry)
         (λ terms table. Appends (W.contents out.old) (W.contents out.new) (decimal (row_count terms table) ++ codes "\n")) (W.contents out.new ≡ W.contents out.old) result }
 {
-    let terms = filter_of(alloc, store, filter)?;
+    let terms = filter_of(alloc, store, filter, texts)?;
     let count = store.count(alloc, terms.as_slice())?;
     print_number(alloc, count, out)
 }

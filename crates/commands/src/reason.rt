@@ -36,6 +36,12 @@ pub enum Reason {
     RootOfPart(String),
     /// `_metadata` has this many bytes, and would have too many; or another limit is exceeded.
     Limits(u64),
+    /// `_metadata` has this many bytes, and would have too many.
+    FullRoot(usize),
+    /// The columns, with names of so many bytes, are too much for `_metadata`.
+    WideRoot { columns: usize, bytes: u64 },
+    /// What is wrong with the Parquet file that the call names. Its name is put before it.
+    File(String),
     /// No group has this number.
     NoGroup(u64),
     /// The folder has a `_metadata`.
@@ -58,8 +64,8 @@ pub enum Reason {
     Filter(FilterFault),
     /// No column has this name.
     NoColumn(String),
-    /// The part file at this path is damaged.
-    Part(String),
+    /// The part file at this path is damaged, so.
+    Part(String, String),
     /// There is no part file at this path.
     NoPart(String),
     /// The key of this name is none.
@@ -140,7 +146,15 @@ impl Told<'_> {
                     "{folder}/_metadata is damaged: what it says of {path} is not so"
                 )
             }
-            Reason::Part(path) => write!(f, "{folder}/{path} is damaged"),
+            Reason::Part(path, problem) => write!(f, "{folder}/{path} is damaged: {problem}"),
+            Reason::FullRoot(bytes) => write!(
+                f,
+                "{folder}/_metadata has {bytes} bytes, and would have more than 16777216: use fewer groups (`pqds rewrite {folder} --min-rows 65536` joins small ones), or fewer keys"
+            ),
+            Reason::WideRoot { columns, bytes } => write!(
+                f,
+                "{folder}/_metadata would have more than 16777216 bytes: there are {columns} columns, with names of {bytes} bytes: use fewer columns, or shorter names"
+            ),
             Reason::NoPart(path) => write!(f, "{folder}/{path}: No such file or directory"),
             Reason::LoosePart(path) => write!(
                 f,
@@ -163,6 +177,7 @@ impl Display for Told<'_> {
         match self.reason {
             Reason::Text(fault) => write!(f, "{file}{fault}"),
             Reason::Large(fault) => write!(f, "{file}{fault}"),
+            Reason::File(problem) => write!(f, "{file}: {problem}"),
             Reason::KeyValue(row, name, fault) => {
                 write!(f, "{file}: row {row}: the key {name:?} {fault}")
             }

@@ -45,7 +45,7 @@ fn line_of(alloc: Global, name: &str, folder: &str, reason: &Reason) -> R<String
         file: name,
     };
     let line = match reason {
-        Reason::KeyValue(..) => format!(in alloc; "{told}")?,
+        Reason::KeyValue(..) | Reason::File(_) => format!(in alloc; "{told}")?,
         _ => format!(in alloc; "{name}: {told}")?,
     };
     Ok(line)

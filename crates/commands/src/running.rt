@@ -21,7 +21,8 @@ use store::Store;
 use table::{Answer, Call};
 
 /// Makes the calls of a text, one of each line, and prints the answer of each, a line of JSON. A call that is refused is
-/// answered so, and those after it are made.
+/// answered so, and those after it are made. With `texts`, dates, times, timestamps and decimals are texts in what is printed, and
+/// are also read as such in rows and filters.
 ///
 /// Refused as `ScriptReader` refuses the first line that is no call, and then no call was made; Memory, and then none was
 /// made either, or some of the answers are not printed; and Device where the output cannot be written. `has_run` becomes true
@@ -30,15 +31,16 @@ pub fn run_script<D: Disk, W: Write>(
     alloc: Global,
     store: &mut Store<D>,
     text: &str,
+    texts: bool,
     out: &mut W,
     has_run: &mut bool,
 ) -> R<()>
-    ensures runs { RunsScript D.state store.old store.new text.now (W.contents out.old) (W.contents out.new) result }
+    ensures runs { RunsScript D.state texts store.old store.new text.now (W.contents out.old) (W.contents out.new) result }
 {
-    let calls = calls_of(alloc, store.schema(), text)?;
+    let calls = calls_of(alloc, store.schema(), text, texts)?;
     let answers = store.run(alloc, calls.as_slice())?;
     *has_run = true;
-    print_answers(alloc, store.schema(), answers.as_slice(), out)
+    print_answers(alloc, store.schema(), answers.as_slice(), texts, out)
 }
 
 /// Prints answers, a line each. Later columns stand at the end of the schema, so that it is that of each batch.
@@ -46,12 +48,13 @@ pub fn print_answers<W: Write>(
     alloc: Global,
     schema: &Schema,
     answers: &[Answer],
+    texts: bool,
     out: &mut W,
 ) -> R<()>
-    ensures printed { OnOk result ((printed : List ℕ) × AreAnswerLines schema.now answers.now printed × Appends (W.contents out.old) (W.contents out.new) printed) }
+    ensures printed { OnOk result ((printed : List ℕ) × AreAnswerLines texts schema.now answers.now printed × Appends (W.contents out.old) (W.contents out.new) printed) }
 {
     for answer in answers {
-        print_answer(alloc, schema, answer, out)?;
+        print_answer(alloc, schema, answer, texts, out)?;
     }
     Ok(())
 }
@@ -75,15 +78,15 @@ fn reader_for(alloc: Global, schema: &Schema) -> R<ScriptReader>
 /// The calls of a text, one of each line; a last line needs no line feed. Each line is read over the schema with the fields
 /// that the lines before it add.
 ///
-/// Refused as `call_from` refuses the first line that is no call.
-pub fn calls_of(alloc: Global, schema: &Schema, text: &str) -> R<Vec<Call>>
-    ensures stands { IfOk result (λ calls. (last : Fields) × AreCallTexts schema.now (lines text.now) (calls_view calls.items) last) }
-    ensures which { IfErr result (AreRefusedCalls schema.now (lines text.now)) }
+/// Refused as `call_from_as` refuses the first line that is no call.
+pub fn calls_of(alloc: Global, schema: &Schema, text: &str, texts: bool) -> R<Vec<Call>>
+    ensures stands { IfOk result (λ calls. (last : Fields) × AreCallTexts texts schema.now (lines text.now) (calls_view calls.items) last) }
+    ensures which { IfErr result (AreRefusedCalls texts schema.now (lines text.now)) }
 {
     let mut reader = reader_for(alloc, schema)?;
     let mut calls = Vec::new(alloc);
     for line in text.lines() {
-        let call = reader.read(alloc, line)?;
+        let call = reader.read_as(alloc, line, texts)?;
         calls.push(call)?;
     }
     Ok(calls)

@@ -33,7 +33,7 @@ pub struct Stop {
 }
 
 /// Makes the calls of a text, one of each line, up to and with the first that is refused, and prints the answer of each, a
-/// line of JSON. Returns where it stopped, if that is not the end.
+/// line of JSON. Returns where it stopped, if that is not the end. `texts` is as for [`run_script`](crate::run_script).
 ///
 /// Refused as `ScriptReader` refuses the first line that is no call, and then no call was made; Memory, and then none was
 /// made either, or some of the answers are not printed; and Device where the output cannot be written. `has_run` becomes true
@@ -42,15 +42,16 @@ pub fn run_script_to_refusal<D: Disk, W: Write>(
     alloc: Global,
     store: &mut Store<D>,
     text: &str,
+    texts: bool,
     out: &mut W,
     has_run: &mut bool,
 ) -> R<Option<Stop>>
-    ensures runs { RunsToRefusal D.state store.old store.new text.now (W.contents out.old) (W.contents out.new) result }
+    ensures runs { RunsToRefusal D.state texts store.old store.new text.now (W.contents out.old) (W.contents out.new) result }
 {
-    let calls = calls_of(alloc, store.schema(), text)?;
+    let calls = calls_of(alloc, store.schema(), text, texts)?;
     let answers = make_to_refusal(alloc, store, calls.as_slice())?;
     *has_run = true;
-    print_answers(alloc, store.schema(), answers.as_slice(), out)?;
+    print_answers(alloc, store.schema(), answers.as_slice(), texts, out)?;
     Ok(stop_of(calls.len(), answers))
 }
 
@@ -144,11 +145,12 @@ pub fn run_to_refusal<D: Disk, W: Write>(
     alloc: Global,
     store: &mut Store<D>,
     bytes: &[u8],
+    texts: bool,
     out: &mut W,
     why: &mut Option<Reason>,
 ) -> R<()> {
     let mut has_run = false;
-    match made_to_refusal(alloc, store, bytes, out, &mut has_run) {
+    match made_to_refusal(alloc, store, bytes, texts, out, &mut has_run) {
         Ok(None) => Ok(()),
         Ok(Some(stop)) => {
             *why = Some(Reason::Stopped {
@@ -161,7 +163,7 @@ pub fn run_to_refusal<D: Disk, W: Write>(
             *why = if has_run {
                 Some(Reason::Unprinted)
             } else {
-                script_reason(alloc, store, bytes, &refusal)
+                script_reason(alloc, store, bytes, texts, &refusal)
             };
             Err(refusal)
         }
@@ -174,10 +176,11 @@ fn made_to_refusal<D: Disk, W: Write>(
     alloc: Global,
     store: &mut Store<D>,
     bytes: &[u8],
+    texts: bool,
     out: &mut W,
     has_run: &mut bool,
 ) -> R<Option<Stop>> {
-    let stop = run_script_to_refusal(alloc, store, text_of(bytes)?, out, has_run)?;
+    let stop = run_script_to_refusal(alloc, store, text_of(bytes)?, texts, out, has_run)?;
     out.flush().map_err(refusal_of)?;
     Ok(stop)
 }

@@ -23,6 +23,8 @@ struct SurveyObject<'a> {
 #[derive(Drop, Serialize)]
 struct ColumnObject<'a> {
     key: bool,
+    /// What it says of the meaning of its values; null where it says nothing.
+    note: Option<&'a str>,
     path: &'a str,
     repetition: &'a str,
     #[serde(rename = "type")]
@@ -69,6 +71,7 @@ fn columns_of<'a>(alloc: Global, reports: &'a [ColumnReport]) -> R<Vec<ColumnObj
     for report in reports {
         columns.push(ColumnObject {
             key: report.is_key,
+            note: report.note.as_ref().map(String::as_str),
             path: report.path.as_str(),
             repetition: report.repetition,
             kind: report.kind,

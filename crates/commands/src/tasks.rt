@@ -6,6 +6,7 @@ use crate::changing::{add_column, append, remove_rows, rewrite_groups, rewrite_s
 use crate::explaining::{change_reason, question_reason, script_reason};
 use crate::first_rows::print_first_rows;
 use crate::folder::refusal_of;
+use crate::group_columns::print_groups_and_columns;
 use crate::importing::{import_files, import_files_unless};
 use crate::querying::{print_count, print_groups, print_rows, print_schema};
 use crate::reason::Reason;
@@ -25,12 +26,14 @@ pub fn found(reason: R<Option<Reason>>) -> Option<Reason> {
     reason.unwrap_or(None)
 }
 
-/// Prints what is asked of a store. Where `shows` says so, `err` shows how many rows of a query were printed so far. Where
-/// it is refused, `why` may get the reason.
+/// Prints what is asked of a store. With `texts`, dates, times, timestamps and decimals are texts, and are also read as such in a
+/// filter. Where `shows` says so, `err` shows how many rows of a query were printed so far. Where it is refused, `why` may get
+/// the reason.
 pub fn ask<D: Disk, W: Write, E: Write>(
     alloc: Global,
     store: &mut Store<D>,
     question: &Question<'_>,
+    texts: bool,
     out: &mut W,
     err: &mut E,
     shows: bool,
@@ -38,18 +41,19 @@ pub fn ask<D: Disk, W: Write, E: Write>(
 ) -> R<()>
     ensures quiet { shows ≡ false → E.contents err.new ≡ E.contents err.old }
 {
-    let answered = answer(alloc, store, question, out, err, shows);
+    let answered = answer(alloc, store, question, texts, out, err, shows);
     if let Err(refusal) = &answered {
-        *why = found(question_reason(alloc, store, question, refusal));
+        *why = found(question_reason(alloc, store, question, texts, refusal));
     }
     answered
 }
 
-/// Prints what is asked of a store.
+/// Prints what is asked of a store, with texts or without.
 fn answer<D: Disk, W: Write, E: Write>(
     alloc: Global,
     store: &mut Store<D>,
     question: &Question<'_>,
+    texts: bool,
     out: &mut W,
     err: &mut E,
     shows: bool,
@@ -68,13 +72,13 @@ fn answer<D: Disk, W: Write, E: Write>(
             } else {
                 Some(names.as_slice())
             };
-            print_first_rows(alloc, store, *filter, names, *limit, out)
+            print_first_rows(alloc, store, *filter, names, *limit, texts, out)
         }
         Question::Query {
             filter,
             columns,
             ..
-        } if columns.is_empty() => print_rows(alloc, store, *filter, None, out, err, shows),
+        } if columns.is_empty() => print_rows(alloc, store, *filter, None, texts, out, err, shows),
         Question::Query {
             filter,
             columns,
@@ -86,25 +90,28 @@ fn answer<D: Disk, W: Write, E: Write>(
                 store,
                 *filter,
                 Some(names.as_slice()),
+                texts,
                 out,
                 err,
                 shows,
             )
         }
-        Question::Count { filter } => print_count(alloc, store, *filter, out),
-        Question::Groups => print_groups(alloc, store, out),
+        Question::Count { filter } => print_count(alloc, store, *filter, texts, out),
+        Question::Groups { stats: true } => print_groups_and_columns(alloc, store, texts, out),
+        Question::Groups { .. } => print_groups(alloc, store, out),
         Question::Schema => print_schema(alloc, store, out),
     }
 }
 
-/// Changes a store, with the bytes of the files that the change names. Where `shows` says so, `err` shows how many of its rows
-/// were read so far. Where it is refused, `why` may get the reason, and `refused` the place of the file that is refused among
+/// Changes a store, with the bytes of the files that the change names. With `texts`, dates, times, timestamps and decimals are
+/// also read from their texts, in rows and filters. Where `shows` says so, `err` shows how many of its rows were read so far. Where it is refused, `why` may get the reason, and `refused` the place of the file that is refused among
 /// several.
 pub fn make_change<D: Disk, E: Write>(
     alloc: Global,
     store: &mut Store<D>,
     change: &Change<'_>,
     files: &[Vec<u8>],
+    texts: bool,
     err: &mut E,
     shows: bool,
     why: &mut Option<Reason>,
@@ -113,13 +120,13 @@ pub fn make_change<D: Disk, E: Write>(
     ensures quiet { shows ≡ false → E.contents err.new ≡ E.contents err.old }
 {
     let changed = if files.len() > 1 {
-        import_all(alloc, store, change, files, refused)
+        import_all(alloc, store, change, files, texts, refused)
     } else {
-        change_store(alloc, store, change, bytes_at(files, 0), err, shows)
+        change_store(alloc, store, change, bytes_at(files, 0), texts, err, shows)
     };
     if let Err(refusal) = &changed {
         let bytes = bytes_at(files, refused.unwrap_or(0));
-        *why = found(change_reason(alloc, store, change, bytes, refusal));
+        *why = found(change_reason(alloc, store, change, bytes, texts, refusal));
     }
     changed
 }
@@ -138,13 +145,14 @@ fn import_all<D: Disk>(
     store: &mut Store<D>,
     change: &Change<'_>,
     files: &[Vec<u8>],
+    texts: bool,
     refused: &mut Option<usize>,
 ) -> R<u64> {
     match change {
         Change::Import {
             unless: Some(filter),
             ..
-        } => import_files_unless(alloc, store, filter, files, refused),
+        } => import_files_unless(alloc, store, filter, files, texts, refused),
         _ => import_files(alloc, store, files, refused),
     }
 }
@@ -155,6 +163,7 @@ fn change_store<D: Disk, E: Write>(
     store: &mut Store<D>,
     change: &Change<'_>,
     bytes: &[u8],
+    texts: bool,
     err: &mut E,
     shows: bool,
 ) -> R<u64>
@@ -164,15 +173,15 @@ fn change_store<D: Disk, E: Write>(
         Change::Append {
             unless: Some(filter),
             ..
-        } => append_unless(alloc, store, filter, text_of(bytes)?, err, shows),
+        } => append_unless(alloc, store, filter, text_of(bytes)?, texts, err, shows),
         Change::Import {
             unless: Some(filter),
             ..
-        } => import_unless(alloc, store, filter, bytes),
-        Change::Append { .. } => append(alloc, store, text_of(bytes)?, err, shows),
+        } => import_unless(alloc, store, filter, bytes, texts),
+        Change::Append { .. } => append(alloc, store, text_of(bytes)?, texts, err, shows),
         Change::Import { .. } => store.import(alloc, bytes),
         Change::AddColumn { .. } => add_column(alloc, store, text_of(bytes)?),
-        Change::Remove { filter } => remove_rows(alloc, store, filter),
+        Change::Remove { filter } => remove_rows(alloc, store, filter, texts),
         Change::RemoveGroups { numbers } => store.remove_groups(alloc, numbers.as_slice()),
         Change::Rewrite { numbers } => rewrite_groups(alloc, store, numbers.as_slice()),
         Change::RewriteSmall { min_rows } => rewrite_small(alloc, store, *min_rows),
@@ -180,21 +189,22 @@ fn change_store<D: Disk, E: Write>(
     }
 }
 
-/// Makes the calls of a script on a store. Where it is refused, `why` may get the reason.
+/// Makes the calls of a script on a store, with texts or without. Where it is refused, `why` may get the reason.
 pub fn run<D: Disk, W: Write>(
     alloc: Global,
     store: &mut Store<D>,
     bytes: &[u8],
+    texts: bool,
     out: &mut W,
     why: &mut Option<Reason>,
 ) -> R<()> {
     let mut has_run = false;
-    let ran = run_all(alloc, store, bytes, out, &mut has_run);
+    let ran = run_all(alloc, store, bytes, texts, out, &mut has_run);
     if let Err(refusal) = &ran {
         *why = if has_run {
             Some(Reason::Unprinted)
         } else {
-            script_reason(alloc, store, bytes, refusal)
+            script_reason(alloc, store, bytes, texts, refusal)
         };
     }
     ran
@@ -205,9 +215,10 @@ fn run_all<D: Disk, W: Write>(
     alloc: Global,
     store: &mut Store<D>,
     bytes: &[u8],
+    texts: bool,
     out: &mut W,
     has_run: &mut bool,
 ) -> R<()> {
-    run_script(alloc, store, text_of(bytes)?, out, has_run)?;
+    run_script(alloc, store, text_of(bytes)?, texts, out, has_run)?;
     out.flush().map_err(refusal_of)
 }

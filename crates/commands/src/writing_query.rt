@@ -1,23 +1,24 @@
-//! The rows of a query as a Parquet file.
+//! The rows of a query as Parquet files.
 
-ghost use Rattle.std.specs.Prelude.{◌≡◌, List, false, IfOk, OnOk, option_map};
-ghost use Rattle.schema.specs.Values.{ValueTrees};
+ghost use Rattle.std.specs.Prelude.{◌≡◌, Some, true, false, OnOk, option_map};
 ghost use Rattle.schema.specs.Views.{rows_view};
 ghost use Rattle.filter.specs.Terms.{terms_view};
-ghost use Rattle.footer.specs.Writer.{has_rows, schema_of, options_of};
 ghost use Rattle.table.specs.State.{State};
 ghost use Rattle.table.specs.Views.{names_view};
 ghost use Rattle.store.specs.Stands.{Stands};
 ghost use Rattle.commands.specs.Querying.{Reads};
-ghost use Rattle.commands.specs.QueryFile.{IsQueryFile};
-ghost use Rattle.commands.specs.inner.Fetched.{FetchesLeft, TakesRows, TakesBatches, WritesSelected, GivesFile};
+ghost use Rattle.commands.specs.QueryFile.{first_of, GotQueryFiles};
+ghost use Rattle.commands.specs.inner.Parts.{WritesAlike};
+ghost use Rattle.commands.specs.inner.Fetched.{FetchesFirst, TakesRows, TakesFirst, WritesSelected, GivesFiles, fewer, IsEnough};
 
+use crate::part_writer::PartWriter;
 use crate::querying::filter_of;
-use crate::wanted_columns::wanted_schema;
 use bits::{R, Refusal};
+use columns::wanted_schema;
+use dataset_words::FileSink;
 use disk::Disk;
 use filter::Term;
-use footer::{FileWriter, WriteOptions};
+use footer::{MOST_BYTES_OF_FOOTER, WriteOptions};
 use reports::Progress;
 use schema::{Row, Schema};
 use std::alloc::Global;
@@ -25,111 +26,148 @@ use std::io::Write;
 use store::Store;
 use table::{CursorId, Fetched, queries_give_all};
 
-/// The bytes of a Parquet file of the rows that satisfy a filter, in table order, in the columns of these names, or in all;
-/// they are in the order of the schema.
+/// How many bytes the groups of one of several files take at most: with the footer the file has no more than 1 GiB. A file has
+/// more only where a group is greater than each before it.
+pub const PART_BYTES: usize = 1_073_741_824 - MOST_BYTES_OF_FOOTER;
+
+/// Gives a sink Parquet files, one after another, of the rows that satisfy a filter, in table order, or of the first `limit` of
+/// them, in the columns of these names, or in all; they are in the order of the schema. There is one file at least; where `most`
+/// is none, exactly one. Else a further file begins where one more group would make the groups of a file take more than `most`
+/// bytes. No group after the first `limit` rows is read. With `texts`, dates, times, timestamps and decimals are also read from
+/// their texts in the filter.
 ///
-/// Refused as `filter_from` refuses the text; as `Store::query` and `Store::fetch`; Limit for options out of range, and for
-/// rows that are too much for a file. Room is that of the file and of two groups of rows, one that is read and one that is
-/// written. Where `shows` says so, `err` shows how many rows were read so far.
-pub fn query_file<D: Disk, E: Write>(
+/// Refused as `filter_from_as` refuses the text; as `Store::query` and `Store::fetch`; as the sink refuses a file; Limit for
+/// options out of range, and for rows that are too much for a file. Then the sink may have got the files before. Room is that of
+/// one file and of two groups of rows, one that is read and one that is written. Where `shows` says so, `err` shows how many
+/// rows were read so far.
+pub fn query_files<D: Disk, S: FileSink, E: Write>(
     alloc: Global,
     store: &mut Store<D>,
     filter: Option<&str>,
     columns: Option<&[String]>,
+    limit: Option<u64>,
+    texts: bool,
     options: &WriteOptions,
+    most: Option<usize>,
+    sink: &mut S,
     err: &mut E,
     shows: bool,
-) -> R<Vec<u8>>
-    ensures gives { Reads D.state store.old store.new (option_map (λ t. t.now) filter.entry)
-        (λ terms table. IfOk result (λ file. IsQueryFile options.now terms (names_view columns.entry) table file.items)) (Unit {0}) result }
+) -> R<()>
+    ensures gives { Reads D.state texts store.old store.new (option_map (λ t. t.now) filter.entry)
+        (λ terms table. GotQueryFiles options.now terms (names_view columns.entry) limit most table (S.taken sink.old) (S.taken sink.new))
+        (S.taken sink.new ≡ S.taken sink.old) result }
     ensures quiet { shows ≡ false → E.contents err.new ≡ E.contents err.old }
 {
-    let terms = filter_of(alloc, store, filter)?;
+    let terms = filter_of(alloc, store, filter, texts)?;
     let schema = wanted_schema(alloc, store.schema(), columns)?;
     let mut progress = Progress::new(alloc, "read", None, shows);
-    let file = written(
+    let given = give_files(
         alloc,
         store,
         terms.as_slice(),
         columns,
+        limit,
         &schema,
         options,
+        most,
+        sink,
         err,
         &mut progress,
     );
     progress.clear(err);
-    file
+    given
 }
 
-/// The bytes of a file of this schema of the rows that satisfy terms.
-fn written<D: Disk, E: Write>(
+/// Gives a sink files of this schema of the rows that satisfy terms, or of the first of them.
+fn give_files<D: Disk, S: FileSink, E: Write>(
     alloc: Global,
     store: &mut Store<D>,
     terms: &[Vec<Term>],
     columns: Option<&[String]>,
+    limit: Option<u64>,
     schema: &Schema,
     options: &WriteOptions,
+    most: Option<usize>,
+    sink: &mut S,
     err: &mut E,
     progress: &mut Progress,
-) -> R<Vec<u8>>
+) -> R<()>
     ensures gives { (D.state store.old.vault.disk).honest → (s : State) → Stands D.state store.old s
-        → GivesFile D.state store.old store.new options.now schema.now (terms_view terms.now) (names_view columns.entry) result s }
+        → GivesFiles D.state store.old store.new options.now schema.now (terms_view terms.now) (names_view columns.entry) limit most (S.taken sink.old) (S.taken sink.new) result s }
     ensures quiet { progress.old.is_shown ≡ false → E.contents err.new ≡ E.contents err.old }
     ensures same { progress.new.is_shown ≡ progress.old.is_shown }
 {
-    let mut writer = FileWriter::new(alloc, schema, options)?;
-    write_selected(alloc, store, terms, columns, &mut writer, err, progress)?;
-    writer.finish()
+    let mut writer = PartWriter::new(alloc, schema, options, most)?;
+    write_selected(
+        alloc,
+        store,
+        terms,
+        columns,
+        limit,
+        &mut writer,
+        sink,
+        err,
+        progress,
+    )?;
+    let last = writer.finish()?;
+    sink.take(last)
 }
 
-/// Gives a writer the rows that satisfy terms, as a cursor gives them, which is closed then.
-fn write_selected<D: Disk, E: Write>(
+/// Gives a writer the rows that satisfy terms, or the first of them, as a cursor gives them, which is closed then.
+fn write_selected<D: Disk, S: FileSink, E: Write>(
     alloc: Global,
     store: &mut Store<D>,
     terms: &[Vec<Term>],
     columns: Option<&[String]>,
-    writer: &mut FileWriter<'_>,
+    limit: Option<u64>,
+    writer: &mut PartWriter<'_>,
+    sink: &mut S,
     err: &mut E,
     progress: &mut Progress,
 ) -> R<()>
     ensures writes { (D.state store.old.vault.disk).honest → (s : State) → Stands D.state store.old s
-        → WritesSelected D.state store.old store.new (terms_view terms.now) (names_view columns.entry) writer.old writer.new result s }
-    ensures same_schema { schema_of writer.new ≡ schema_of writer.old }
-    ensures same_options { options_of writer.new ≡ options_of writer.old }
+        → WritesSelected D.state store.old store.new (terms_view terms.now) (names_view columns.entry) limit writer.old writer.new (S.taken sink.old) (S.taken sink.new) result s }
+    ensures alike { WritesAlike writer.old writer.new }
     ensures quiet { progress.old.is_shown ≡ false → E.contents err.new ≡ E.contents err.old }
     ensures same { progress.new.is_shown ≡ progress.old.is_shown }
 {
     queries_give_all();
     let cursor = store.query(alloc, terms, columns)?;
-    let given = write_batches(alloc, store, cursor, writer, err, progress);
+    let given = write_batches(alloc, store, cursor, limit, writer, sink, err, progress);
     let closed = store.close(alloc, cursor);
     given?;
     closed
 }
 
-/// Gives a writer the rows that a cursor still gives, and counts them.
-fn write_batches<D: Disk, E: Write>(
+/// Gives a writer the rows that a cursor still gives, or the first of them, and counts them.
+fn write_batches<D: Disk, S: FileSink, E: Write>(
     alloc: Global,
     store: &mut Store<D>,
     cursor: CursorId,
-    writer: &mut FileWriter<'_>,
+    limit: Option<u64>,
+    writer: &mut PartWriter<'_>,
+    sink: &mut S,
     err: &mut E,
     progress: &mut Progress,
 ) -> R<()>
     ensures writes { (D.state store.old.vault.disk).honest → (s : State) → Stands D.state store.old s
-        → FetchesLeft D.state store.old store.new cursor (TakesBatches writer.old writer.new) result s }
+        → FetchesFirst D.state store.old store.new cursor (TakesFirst limit writer.old writer.new (S.taken sink.old) (S.taken sink.new)) (IsEnough limit) result s }
     ensures honest { (D.state store.old.vault.disk).honest → (D.state store.new.vault.disk).honest }
-    ensures same_schema { schema_of writer.new ≡ schema_of writer.old }
-    ensures same_options { options_of writer.new ≡ options_of writer.old }
+    ensures alike { WritesAlike writer.old writer.new }
     ensures quiet { progress.old.is_shown ≡ false → E.contents err.new ≡ E.contents err.old }
     ensures same { progress.new.is_shown ≡ progress.old.is_shown }
 {
+    let mut left = limit;
     'batches: for _ in 0..u64::MAX {
+        if is_used_up(left) {
+            return Ok(());
+        }
         match store.fetch(alloc, cursor)? {
             Fetched::Batch(batch) => {
-                let count = batch.rows.len();
-                write_rows(batch.rows, writer)?;
-                progress.count_rows(count as u64, err);
+                let count = batch.rows.len() as u64;
+                write_rows(first_rows(batch.rows, left), writer, sink)?;
+                left = fewer(left, count);
+                progress.count_rows(count, err);
             }
             Fetched::End => return Ok(()),
         }
@@ -137,14 +175,45 @@ fn write_batches<D: Disk, E: Write>(
     Err(Refusal::Limit)
 }
 
-/// Gives a writer rows, one after another. Refused as `FileWriter::push`.
-fn write_rows(rows: Vec<Row>, writer: &mut FileWriter<'_>) -> R<()>
-    ensures takes { OnOk result (TakesRows writer.old writer.new (rows_view rows.items)) }
-    ensures same_schema { schema_of writer.new ≡ schema_of writer.old }
-    ensures same_options { options_of writer.new ≡ options_of writer.old }
+/// The first of some rows, where there is a limit, or all of them.
+fn first_rows(mut rows: Vec<Row>, limit: Option<u64>) -> Vec<Row>
+    ensures { rows_view result.items ≡ first_of limit (rows_view rows.items) }
+{
+    if let Some(limit) = limit
+        && limit < rows.len() as u64
+    {
+        rows.truncate(limit as usize);
+    }
+    rows
+}
+
+/// Whether no more rows may come.
+fn is_used_up(left: Option<u64>) -> bool
+    ensures { result ≡ true → left ≡ Some 0 }
+{
+    match left {
+        Some(rows) => rows == 0,
+        None => false,
+    }
+}
+
+/// How many more rows there may be after so many, where there is a limit.
+fn fewer(limit: Option<u64>, count: u64) -> Option<u64>
+    ensures { result ≡ fewer limit count }
+{
+    match limit {
+        Some(limit) => Some(limit.saturating_sub(count)),
+        None => None,
+    }
+}
+
+/// Gives a writer rows, one after another. Refused as `PartWriter::push`.
+fn write_rows<S: FileSink>(rows: Vec<Row>, writer: &mut PartWriter<'_>, sink: &mut S) -> R<()>
+    ensures takes { OnOk result (TakesRows writer.old writer.new (S.taken sink.old) (S.taken sink.new) (rows_view rows.items)) }
+    ensures alike { WritesAlike writer.old writer.new }
 {
     for row in rows {
-        writer.push(row)?;
+        writer.push(row, sink)?;
     }
     Ok(())
 }

@@ -2,7 +2,7 @@
 #![tactic(auto)]
 
 use bits::R;
-use commands::Folders;
+use commands::{Folders, PART_BYTES};
 use program::{OUTPUT_BUFFER_BYTES, Terminals, refusal_of, refuse, work};
 use std::env;
 use std::io::{BufWriter, IsTerminal};
@@ -27,6 +27,7 @@ fn run(rt: &HostRuntime) -> R<u8> {
     let datasets = Folders {
         files: rt,
         screen: rt.stderr(),
+        part_bytes: PART_BYTES,
     };
     let words = words.as_slice();
     let status = work(rt, alloc, words, &mut out, &mut err, terminals, &datasets);

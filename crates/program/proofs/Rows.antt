@@ -1,5 +1,5 @@
 -- The rows of a file fit, and what a refusal after that says.
-use Rattle.std.proofs.Common.{◌≡◌, ◌≢◌, ◌⊎◌, inl, inr, ℕ, List, [], ◌∷◌, ◌++◌, flat_map, Result, Ok, Err, refl, subst}
+use Rattle.std.proofs.Common.{◌≡◌, ◌≢◌, ◌⊎◌, inl, inr, ℕ, List, [], ◌∷◌, ◌++◌, flat_map, Option, Some, None, Result, Ok, Err, refl, subst}
 use Rattle.std.specs.Prelude.{IfErr}
 use Rattle.std.proofs.lemmas.List.Concat.{flat_map-cons}
 use Rattle.bits.specs.declared.refusal.Refusal.{Refusal}
@@ -11,6 +11,7 @@ use Rattle.schema.specs.Fits.{RowsFit}
 use Rattle.metadata.specs.Records.{GroupMeta}
 use Rattle.footer.specs.File.{FileMeans, AreGroups}
 use Rattle.footer.specs.Faults.{HasFault}
+use Rattle.program.specs.Program.{MeansUpTo, HasFaultUpTo}
 
 both_fit : (fs : Fields) (rows others : List ValueTrees) → RowsFit fs rows → RowsFit fs others → RowsFit fs (rows ++ others)
 both_fit fs [] others x y = y
@@ -25,6 +26,10 @@ groups_fit front fs (g ∷ gs) (rows ∷ others) h = rw flat_map-cons (both_fit 
 -- what a file means fits its schema
 pub rows_fit : (bytes : List ℕ) (fs : Fields) (rows : List ValueTrees) → FileMeans bytes fs rows → RowsFit fs rows
 rows_fit bytes fs rows means = rw means.held.joined (groups_fit _ fs _ means.held.groups means.held.each)
+
+pub rows_fit_up_to : (limit : Option ℕ) (bytes : List ℕ) (fs : Fields) (rows : List ValueTrees) → MeansUpTo limit bytes fs rows → RowsFit fs rows
+rows_fit_up_to None bytes fs rows means = rows_fit bytes fs rows means
+rows_fit_up_to (Some limit) bytes fs rows means = rw means.held.joined (groups_fit _ fs _ means.held.groups means.held.each)
 
 device_or_memory : (e : Refusal) → HasCause (λ x. x ≡ Device) e → (e ≡ Device) ⊎ (e ≡ Memory)
 device_or_memory Memory h = inr refl
@@ -41,6 +46,13 @@ has_fault bytes e h = elim (device_or_memory e h) [ inl d ↦ inl d | inr m ↦ 
 pub is_of_device : {X : Type 0} (bytes : List ℕ) (r : Result X Refusal) → RefusedOnly (λ x. x ≡ Device) r → IfErr r (λ e. (e ≡ Device) ⊎ HasFault bytes e)
 is_of_device bytes r h = if_err (HasCause (λ x. x ≡ Device)) (λ e. (e ≡ Device) ⊎ HasFault bytes e) (has_fault bytes) r h
 
+has_fault_up_to : (limit : Option ℕ) (bytes : List ℕ) (e : Refusal) → HasCause (λ x. x ≡ Device) e → (e ≡ Device) ⊎ HasFaultUpTo limit bytes e
+has_fault_up_to None bytes e h = has_fault bytes e h
+has_fault_up_to (Some limit) bytes e h = elim (device_or_memory e h) [ inl d ↦ inl d | inr m ↦ inr (rw m tt) ]
+
+pub is_of_device_up_to : {X : Type 0} (limit : Option ℕ) (bytes : List ℕ) (r : Result X Refusal) → RefusedOnly (λ x. x ≡ Device) r → IfErr r (λ e. (e ≡ Device) ⊎ HasFaultUpTo limit bytes e)
+is_of_device_up_to limit bytes r h = if_err (HasCause (λ x. x ≡ Device)) (λ e. (e ≡ Device) ⊎ HasFaultUpTo limit bytes e) (has_fault_up_to limit bytes) r h
+
 no_other : (P : Type 0) (e : Refusal) → HasCause (λ x. x ≡ Device) e → e ≢ Device → e ≢ Memory → P
 no_other P e h d m = elim (device_or_memory e h) [ inl is ↦ absurd (d is) | inr is ↦ absurd (m is) ]
 
@@ -56,6 +68,10 @@ is_no_fault P r h = if_err (HasCause (λ x. x ≡ Device)) (λ e. IsFault e → 
 -- what a reader refuses for is no writer that fails
 pub no_device : (bytes : List ℕ) (e : Refusal) → HasFault bytes e → e ≢ Device
 no_device bytes e h is = subst (HasFault bytes) is h
+
+pub no_device_up_to : (limit : Option ℕ) (bytes : List ℕ) (e : Refusal) → HasFaultUpTo limit bytes e → e ≢ Device
+no_device_up_to None bytes e h is = no_device bytes e h is
+no_device_up_to (Some limit) bytes e h is = subst (HasFaultUpTo (Some limit) bytes) is h
 
 -- a file that was accepted was so whatever is refused then
 pub is_accepted : {X : Type 0} (P : Refusal → Type 0) (Q : Type 0) → Q → (r : Result X Refusal) → IfErr r (λ e. P e ⊎ Q)

@@ -1,37 +1,47 @@
 //! The words that the program knows.
 
-ghost use Rattle.std.specs.Prelude.{◌≡◌, Some, IfSome, IfOk, codes};
-ghost use Rattle.program.specs.Words.{first_word, word_of};
+ghost use Rattle.std.specs.Prelude.{◌≡◌, Bool, Some, IfSome, IfOk, codes};
+ghost use Rattle.program.specs.Words.{first_word, word_of, asks_texts, TakesTexts};
 
 use crate::encode::Sources;
 use crate::help;
+use crate::wrong::fault_of;
 use bits::{R, Refusal};
 use clap::error::ErrorKind;
 use clap::{Arg, ArgAction, ArgMatches, Command, Error};
 use dataset_words::{
     Look, limit_in, limit_option, look_call, min_rows_in, min_rows_option, options_in, out_in,
-    out_option, quiet_flag, with_commands, with_options, with_waiting,
+    out_option, quiet_flag, text_flag, with_commands, with_options, with_waiting, words_in,
 };
 use footer::WriteOptions;
-use std::alloc::Global;
+use std::alloc::{AllocError, Global};
 
-/// What is said where two files are the standard input.
-const INPUT_TWICE: &str =
-    "error: the standard input, -, can be only one of the files (./- names a file)\n";
+/// What is said of the file that gets the rows.
+const OUT_HELP: &str = "Makes a Parquet file OUT of the rows; - is standard output";
+
+/// A file that is made of the rows of another one, or of the first of them, in some columns, or in all where none is named; `-` is
+/// standard output.
+#[derive(Drop)]
+pub struct Copying<'a> {
+    pub file: &'a str,
+    pub path: &'a str,
+    pub columns: Vec<&'a str>,
+    pub limit: Option<u64>,
+    pub options: WriteOptions,
+}
 
 /// What the words ask for.
 #[derive(Drop)]
 pub enum Call<'a> {
-    /// Print the rows of a file, or the first of them.
+    /// Print the rows of a file, or the first of them, with texts of dates, times, timestamps and decimals or without.
     Decode {
         file: &'a str,
         limit: Option<u64>,
+        texts: bool,
     },
-    /// Make a file of the rows of another one; `-` is standard output.
+    /// Make a file of the rows of another one.
     Copy {
-        file: &'a str,
-        path: &'a str,
-        options: WriteOptions,
+        copying: Copying<'a>,
     },
     /// Make a file.
     Encode {
@@ -63,6 +73,7 @@ pub enum Call<'a> {
 /// What the words ask for, or the text on the program's use, where they ask for nothing that it knows.
 pub fn call_of<'a>(alloc: Global, words: &'a [String]) -> R<Result<Call<'a>, String>>
     ensures first { IfOk result (λ said. IfOk said (λ call. first_word words.now ≡ Some (word_of call))) }
+    ensures texts { IfOk result (λ said. IfOk said (TakesTexts (asks_texts words.now))) }
 {
     let program = match program(alloc) {
         Ok(program) => program,
@@ -72,26 +83,24 @@ pub fn call_of<'a>(alloc: Global, words: &'a [String]) -> R<Result<Call<'a>, Str
         Ok(matches) => matches,
         Err(error) => return Ok(Err(error_text(alloc, &error)?)),
     };
-    if let Some(call) = call_in(words, &matches) {
-        if reads_input_twice(&call) {
-            return Ok(Err(String::from_str(alloc, INPUT_TWICE)?));
-        }
-        return Ok(Ok(call));
-    }
-    match dataset_call(alloc, words, &matches)? {
-        Some(call) => Ok(Ok(call)),
+    let Some(call) = known_call(alloc, words, &matches)? else {
         // The files are required, so that this does not come.
-        None => Ok(Err(String::new(alloc))),
+        return Ok(Err(String::new(alloc)));
+    };
+    match fault_of(&call) {
+        Some(fault) => Ok(Err(String::from_str(alloc, fault)?)),
+        None => Ok(Ok(call)),
     }
 }
 
-/// Whether a call names the standard input for two of its files.
-fn reads_input_twice(call: &Call<'_>) -> bool {
-    match call {
-        Call::Encode { sources, .. } | Call::Check { sources, .. } => {
-            sources.schema == "-" && sources.rows == "-"
-        }
-        _ => false,
+/// What the words ask for, by what was found in them: of files, or of a dataset.
+fn known_call<'a>(alloc: Global, words: &[String], matches: &ArgMatches<'a>) -> R<Option<Call<'a>>>
+    ensures first { IfOk result (λ found. IfSome found (λ call. first_word words.now ≡ Some (word_of call))) }
+    ensures texts { IfOk result (λ found. IfSome found (TakesTexts (asks_texts words.now))) }
+{
+    match call_in(alloc, words, matches)? {
+        Some(call) => Ok(Some(call)),
+        None => dataset_call(alloc, words, matches),
     }
 }
 
@@ -101,6 +110,17 @@ fn file_named<'a>(alloc: Global, name: &'a str, help: &'a str) -> Arg<'a> {
         .required(true)
         .action(ArgAction::Set)
         .help(help)
+}
+
+/// The columns that a file is made of.
+fn columns_option<'a>(alloc: Global) -> Result<Arg<'a>, AllocError> {
+    Arg::new(alloc, "columns")
+        .long("columns")
+        .value_name("COLUMN")
+        .action(ArgAction::Append)
+        .num_args(1..)
+        .help("Of --out: makes OUT of these columns alone")
+        .requires_arg("out")
 }
 
 fn decode_command<'a>(alloc: Global) -> Result<Command<'a>, Error> {
@@ -113,8 +133,10 @@ fn decode_command<'a>(alloc: Global) -> Result<Command<'a>, Error> {
             "FILE",
             "The Parquet file to read; - is standard input",
         ))?
-        .arg(limit_option(alloc).conflicts_with("out")?)?
-        .arg(out_option(alloc))?;
+        .arg(limit_option(alloc))?
+        .arg(columns_option(alloc)?)?
+        .arg(out_option(alloc, OUT_HELP))?
+        .arg(text_flag(alloc).conflicts_with("out")?)?;
     let decode = with_options(alloc, decode)?.arg(quiet_flag(alloc))?;
     Ok(decode)
 }
@@ -134,7 +156,8 @@ fn encode_command<'a>(alloc: Global) -> Result<Command<'a>, Error> {
             "ROWS",
             "The file with the rows, as lines of JSON; - is standard input",
         ))?
-        .arg(file_named(alloc, "OUT", "The Parquet file to make"))?;
+        .arg(file_named(alloc, "OUT", "The Parquet file to make"))?
+        .arg(text_flag(alloc))?;
     let encode = with_options(alloc, encode)?.arg(quiet_flag(alloc))?;
     Ok(encode)
 }
@@ -182,7 +205,8 @@ fn check_command<'a>(alloc: Global) -> Result<Command<'a>, Error> {
             "SCHEMA",
             "The file with the columns, as JSON, or the folder of a dataset; - is standard input",
         ))?
-        .arg(rows_named(alloc))?;
+        .arg(rows_named(alloc))?
+        .arg(text_flag(alloc))?;
     let check = with_waiting(alloc, check)?.arg(quiet_flag(alloc))?;
     Ok(check)
 }
@@ -214,38 +238,51 @@ fn error_text(alloc: Global, error: &Error) -> R<String> {
     Ok(text)
 }
 
-fn decode_call<'a>(matches: &ArgMatches<'a>) -> Option<Call<'a>>
-    ensures { IfSome result (λ call. word_of call ≡ codes "decode") }
+fn decode_call<'a>(alloc: Global, words: &[String], matches: &ArgMatches<'a>) -> R<Option<Call<'a>>>
+    ensures word { IfOk result (λ found. IfSome found (λ call. word_of call ≡ codes "decode")) }
+    ensures texts { IfOk result (λ found. IfSome found (TakesTexts (asks_texts words.now))) }
 {
-    let file = matches.get_str("FILE")?;
+    let Some(file) = matches.get_str("FILE") else {
+        return Ok(None);
+    };
     let limit = limit_in(matches);
-    match out_in(matches) {
-        Some(path) => Some(Call::Copy {
-            file,
-            path,
-            options: options_in(matches),
-        }),
-        None => Some(Call::Decode { file, limit }),
-    }
+    let Some(path) = out_in(matches) else {
+        let texts = are_texts(words);
+        return Ok(Some(Call::Decode { file, limit, texts }));
+    };
+    let columns = words_in(alloc, matches, "columns")?;
+    let options = options_in(matches);
+    let copying = Copying {
+        file,
+        path,
+        columns,
+        limit,
+        options,
+    };
+    Ok(Some(Call::Copy { copying }))
 }
 
-fn encode_call<'a>(matches: &ArgMatches<'a>) -> Option<Call<'a>>
-    ensures { IfSome result (λ call. word_of call ≡ codes "encode") }
+fn encode_call<'a>(words: &[String], matches: &ArgMatches<'a>) -> Option<Call<'a>>
+    ensures word { IfSome result (λ call. word_of call ≡ codes "encode") }
+    ensures texts { IfSome result (TakesTexts (asks_texts words.now)) }
 {
     let schema = matches.get_str("SCHEMA")?;
     let rows = matches.get_str("ROWS")?;
     let file = matches.get_str("OUT")?;
     let options = options_in(matches);
+    let texts = are_texts(words);
     let sources = Sources {
         schema,
         rows,
         options,
+        texts,
     };
     Some(Call::Encode { sources, file })
 }
 
 fn inspect_call<'a>(matches: &ArgMatches<'a>) -> Option<Call<'a>>
-    ensures { IfSome result (λ call. word_of call ≡ codes "inspect") }
+    ensures word { IfSome result (λ call. word_of call ≡ codes "inspect") }
+    ensures texts { (asked : Bool) → IfSome result (TakesTexts asked) }
 {
     let file = matches.get_str("FILE")?;
     let as_json = matches.get_flag("json");
@@ -258,8 +295,9 @@ fn inspect_call<'a>(matches: &ArgMatches<'a>) -> Option<Call<'a>>
     })
 }
 
-fn check_call<'a>(matches: &ArgMatches<'a>) -> Option<Call<'a>>
-    ensures { IfSome result (λ call. word_of call ≡ codes "check") }
+fn check_call<'a>(words: &[String], matches: &ArgMatches<'a>) -> Option<Call<'a>>
+    ensures word { IfSome result (λ call. word_of call ≡ codes "check") }
+    ensures texts { IfSome result (TakesTexts (asks_texts words.now)) }
 {
     let schema = matches.get_str("SCHEMA")?;
     let Some(rows) = matches.get_str("ROWS") else {
@@ -267,28 +305,61 @@ fn check_call<'a>(matches: &ArgMatches<'a>) -> Option<Call<'a>>
         return Some(Call::Dataset { call });
     };
     let options = WriteOptions::standard();
+    let texts = are_texts(words);
     let sources = Sources {
         schema,
         rows,
         options,
+        texts,
     };
     let table = look_call(schema, matches, Look::Rows { rows });
     Some(Call::Check { sources, table })
 }
 
+/// Whether dates, times, timestamps and decimals are texts: `--text` is among the words, and no `--` before it.
+fn are_texts(words: &[String]) -> bool
+    ensures { result ≡ asks_texts words.now }
+{
+    for word in words {
+        if word.as_str() == "--" {
+            return false;
+        }
+        if word.as_str() == "--text" {
+            return true;
+        }
+    }
+    false
+}
+
 /// The call that the first word names, by what was found in the words.
-fn call_in<'a>(words: &[String], matches: &ArgMatches<'a>) -> Option<Call<'a>>
-    ensures { IfSome result (λ call. first_word words.now ≡ Some (word_of call)) }
+fn call_in<'a>(alloc: Global, words: &[String], matches: &ArgMatches<'a>) -> R<Option<Call<'a>>>
+    ensures first { IfOk result (λ found. IfSome found (λ call. first_word words.now ≡ Some (word_of call))) }
+    ensures texts { IfOk result (λ found. IfSome found (TakesTexts (asks_texts words.now))) }
+{
+    let Some(word) = words.first() else {
+        return Ok(None);
+    };
+    if word.as_str() == "decode" {
+        return match matches.subcommand_matches("decode") {
+            Some(found) => decode_call(alloc, words, found),
+            None => Ok(None),
+        };
+    }
+    Ok(call_of_files(words, matches))
+}
+
+/// The call besides `decode` that the first word names, by what was found in the words.
+fn call_of_files<'a>(words: &[String], matches: &ArgMatches<'a>) -> Option<Call<'a>>
+    ensures first { IfSome result (λ call. first_word words.now ≡ Some (word_of call)) }
+    ensures texts { IfSome result (TakesTexts (asks_texts words.now)) }
 {
     let word = words.first()?;
-    if word.as_str() == "decode" {
-        decode_call(matches.subcommand_matches("decode")?)
-    } else if word.as_str() == "encode" {
-        encode_call(matches.subcommand_matches("encode")?)
+    if word.as_str() == "encode" {
+        encode_call(words, matches.subcommand_matches("encode")?)
     } else if word.as_str() == "inspect" {
         inspect_call(matches.subcommand_matches("inspect")?)
     } else if word.as_str() == "check" {
-        check_call(matches.subcommand_matches("check")?)
+        check_call(words, matches.subcommand_matches("check")?)
     } else {
         None
     }
@@ -301,6 +372,7 @@ fn dataset_call<'a>(
     matches: &ArgMatches<'a>,
 ) -> R<Option<Call<'a>>>
     ensures first { IfOk result (λ said. IfSome said (λ call. first_word words.now ≡ Some (word_of call))) }
+    ensures texts { IfOk result (λ said. IfSome said (TakesTexts (asks_texts words.now))) }
 {
     let Some(word) = words.first() else {
         return Ok(None);

@@ -1,20 +1,23 @@
 //! All of the program, over two writers.
 
-ghost use Rattle.std.specs.Prelude.{◌≡◌, ◌≤◌, Some, false, true, OnOk, codes};
-ghost use Rattle.program.specs.Words.{first_word, word_of, has_word, Decodes, Inspects, Does, IsDone};
+ghost use Rattle.std.specs.Prelude.{◌≡◌, ◌≤◌, ℕ, List, Option, Some, false, true, map, string_bytes, IfOk, OnOk, codes};
+ghost use Rattle.program.specs.Words.{first_word, word_of, has_word, Decodes, IsCopyAsked, CopiesAsked, Inspects, Saves, Does, IsDone};
 
-use crate::arguments::{Call, call_of};
+use crate::arguments::{Call, Copying, call_of};
 use crate::check::check;
 use crate::copy::copy_of;
 use crate::encode::encode;
 use crate::first_rows::decode_up_to;
 use crate::host::{bytes_of, is_folder};
 use crate::inspect::inspect;
-use crate::putting::{check_free, check_outside, put, puts_to_output};
+use crate::parts::{PartFolder, check_empty};
+use crate::putting::{check_folder_outside, check_free, check_outside, put, puts_to_output};
 use bits::{R, Refusal};
+use columns::has_column;
 use dataset_words::Datasets;
+use footer::FileReader;
 use reasons::{Cause, output_cause};
-use reports::{OneLine, Terminals};
+use reports::{OneLine, Terminals, first_problem};
 use std::alloc::Global;
 use std::fmt::Write as _;
 use std::io::{Input, Write};
@@ -96,7 +99,7 @@ pub fn work<F: Files + Input, W: Write, E: Write, M: Datasets<W, E>>(
 
 /// Says why a call was refused, in one line, whatever the names in it have. Where that cannot be written nothing is left to
 /// be said.
-fn say<E: Write>(err: &mut E, cause: &Cause) {
+pub fn say<E: Write>(err: &mut E, cause: &Cause) {
     let mut line = OneLine(&mut *err);
     if write!(line, "{cause}").is_ok() {
         let _ = err.write_all(b"\n");
@@ -139,19 +142,10 @@ fn make<F: Files + Input, W: Write, E: Write, M: Datasets<W, E>>(
     ensures quiet { terminals.err ≡ false → OnOk result (E.contents err.new ≡ E.contents err.old) }
 {
     match call {
-        Call::Decode { file, limit } => {
-            decode_file(rt, alloc, file, *limit, out, err, terminals, why)
+        Call::Decode { file, limit, texts } => {
+            decode_file(rt, alloc, file, *limit, *texts, out, err, terminals, why)
         }
-        Call::Copy {
-            file,
-            path,
-            options,
-        } => {
-            check_free(rt, alloc, path, why)?;
-            let bytes = bytes_of(rt, alloc, file, why)?;
-            let copy = copy_of(alloc, bytes.as_slice(), options, err, terminals.err)?;
-            put(rt, alloc, path, copy.as_slice(), out, why)
-        }
+        Call::Copy { copying } => copy_file(rt, alloc, copying, out, err, terminals, why),
         Call::Encode { sources, file } => encode(rt, alloc, sources, file, err, terminals.err, why),
         Call::Inspect { file, table, .. } if is_folder(rt, file) => {
             datasets.make(alloc, table, out, err, terminals)
@@ -167,33 +161,170 @@ fn make<F: Files + Input, W: Write, E: Write, M: Datasets<W, E>>(
             }
         }
         Call::Dataset { call } => datasets.make(alloc, call, out, err, terminals),
+        Call::Save { call, path } if is_folder(rt, path) => {
+            save_parts(rt, alloc, call, path, err, terminals, datasets, why)
+        }
         Call::Save { call, path } => {
-            check_free(rt, alloc, path, why)?;
-            check_outside(rt, alloc, path, call.folder, why)?;
-            let file = datasets.file_of(alloc, call, err, terminals)?;
-            put(rt, alloc, path, file.as_slice(), out, why)
+            save_file(rt, alloc, call, path, out, err, terminals, datasets, why)
         }
     }
 }
 
-/// Prints the rows of a file, all or the first so many. Refused as [`bytes_of`] and [`decode_up_to`]; then `why` may get the
+/// Makes a file of the rows of another one. Refused as [`check_free`], [`bytes_of`], [`copied`] and [`put`]; then `why` may get
+/// the reason, also what is wrong with that file.
+fn copy_file<F: Files + Input, W: Write, E: Write>(
+    rt: &F,
+    alloc: Global,
+    copying: &Copying<'_>,
+    out: &mut W,
+    err: &mut E,
+    terminals: Terminals,
+    why: &mut Option<Cause>,
+) -> R<()>
+    ensures done { OnOk result (CopiesAsked copying.now (W.contents out.old) (W.contents out.new)) }
+    ensures quiet { terminals.err ≡ false → OnOk result (E.contents err.new ≡ E.contents err.old) }
+{
+    check_free(rt, alloc, copying.path, why)?;
+    let bytes = bytes_of(rt, alloc, copying.file, why)?;
+    let copy = copied(alloc, bytes.as_slice(), copying, err, terminals.err);
+    let copy = with_problem(alloc, copying.file, bytes.as_slice(), copy, why)?;
+    put(rt, alloc, copying.path, copy.as_slice(), out, why)
+}
+
+/// The bytes of a file of the rows of another one, as it is asked for. Refused as [`copy_of`]; where that is for a column that is
+/// not there, `err` gets a line that says so.
+fn copied<E: Write>(
+    alloc: Global,
+    bytes: &[u8],
+    copying: &Copying<'_>,
+    err: &mut E,
+    shows: bool,
+) -> R<Vec<u8>>
+    ensures stands { IfOk result (λ copy. IsCopyAsked copying.now bytes.now copy.items) }
+    ensures quiet { shows ≡ false → OnOk result (E.contents err.new ≡ E.contents err.old) }
+{
+    let (limit, options) = (copying.limit, &copying.options);
+    if copying.columns.is_empty() {
+        return copy_of(alloc, bytes, None, limit, options, err, shows);
+    }
+    let names = owned(alloc, copying.columns.as_slice())?;
+    match copy_of(
+        alloc,
+        bytes,
+        Some(names.as_slice()),
+        limit,
+        options,
+        err,
+        shows,
+    ) {
+        Ok(copy) => Ok(copy),
+        Err(refusal) => {
+            if refusal == Refusal::NoColumn {
+                say_missing(alloc, bytes, names.as_slice(), err);
+            }
+            Err(refusal)
+        }
+    }
+}
+
+/// Says which of the names is of no column of a file.
+fn say_missing<E: Write>(alloc: Global, bytes: &[u8], names: &[String], err: &mut E) {
+    let Ok(file) = FileReader::of_first_rows(alloc, bytes, 0) else {
+        return;
+    };
+    for name in names {
+        if !has_column(file.schema(), name.as_str()) {
+            let mut line = OneLine(&mut *err);
+            if write!(line, "no column is named {name:?}").is_ok() {
+                let _ = err.write_all(b"\n");
+            }
+            return;
+        }
+    }
+}
+
+/// The words, each as a text of its own.
+fn owned(alloc: Global, words: &[&str]) -> R<Vec<String>>
+    ensures same { IfOk result (λ texts. map string_bytes texts.items ≡ map (λ word. word.now) words.now) }
+{
+    let mut texts = Vec::with_capacity(alloc, words.len())?;
+    for word in words {
+        texts.push(String::from_str(alloc, word)?)?;
+    }
+    Ok(texts)
+}
+
+/// Makes a file of what is asked of a dataset. Refused as [`check_free`], as [`check_outside`], as the call is, and as [`put`]; then
+/// `why` may get the reason.
+fn save_file<F: Files, W: Write, E: Write, M: Datasets<W, E>>(
+    rt: &F,
+    alloc: Global,
+    call: &dataset_words::Call<'_>,
+    path: &str,
+    out: &mut W,
+    err: &mut E,
+    terminals: Terminals,
+    datasets: &M,
+    why: &mut Option<Cause>,
+) -> R<()>
+    ensures done { OnOk result (Saves (M.gives datasets.now) call.now (W.contents out.old) (W.contents out.new)) }
+    ensures quiet { terminals.err ≡ false → OnOk result (E.contents err.new ≡ E.contents err.old) }
+{
+    check_free(rt, alloc, path, why)?;
+    check_outside(rt, alloc, path, call.folder, why)?;
+    let file = datasets.file_of(alloc, call, err, terminals)?;
+    put(rt, alloc, path, file.as_slice(), out, why)
+}
+
+/// Makes files of what is asked of a dataset in an empty folder. Refused as [`check_folder_outside`], as [`check_empty`], as the
+/// call is, and as a file that cannot be made; then `why` may get the reason, the files that were made are removed, and `err`
+/// gets a line for each that stays.
+fn save_parts<F: Files, W: Write, E: Write, M: Datasets<W, E>>(
+    rt: &F,
+    alloc: Global,
+    call: &dataset_words::Call<'_>,
+    folder: &str,
+    err: &mut E,
+    terminals: Terminals,
+    datasets: &M,
+    why: &mut Option<Cause>,
+) -> R<()>
+    ensures done { OnOk result ((old : Option (List ℕ)) → Saves (M.gives datasets.now) call.now old old) }
+    ensures quiet { terminals.err ≡ false → OnOk result (E.contents err.new ≡ E.contents err.old) }
+{
+    check_folder_outside(rt, alloc, folder, call.folder, why)?;
+    check_empty(rt, alloc, folder, why)?;
+    let mut parts = PartFolder::new(rt, alloc, folder);
+    match datasets.files_of(alloc, call, &mut parts, err, terminals) {
+        Ok(()) => Ok(()),
+        Err(refusal) => {
+            parts.remove(err);
+            *why = parts.why();
+            Err(refusal)
+        }
+    }
+}
+
+/// Prints the rows of a file, all or the first so many, with texts or without. Refused as [`bytes_of`] and [`decode_up_to`]; then `why` may get the
 /// reason.
 fn decode_file<F: Files + Input, W: Write, E: Write>(
     rt: &F,
     alloc: Global,
     file: &str,
     limit: Option<u64>,
+    texts: bool,
     out: &mut W,
     err: &mut E,
     terminals: Terminals,
     why: &mut Option<Cause>,
 ) -> R<()>
-    ensures done { OnOk result (Decodes limit (W.contents out.old) (W.contents out.new)) }
+    ensures done { OnOk result (Decodes texts limit (W.contents out.old) (W.contents out.new)) }
     ensures quiet { terminals.err ≡ false → E.contents err.new ≡ E.contents err.old }
 {
     let bytes = bytes_of(rt, alloc, file, why)?;
     let shows = terminals.shows_beside_output();
-    match decode_up_to(alloc, bytes.as_slice(), limit, out, err, shows) {
+    let decoded = decode_up_to(alloc, bytes.as_slice(), limit, texts, out, err, shows);
+    match with_problem(alloc, file, bytes.as_slice(), decoded, why) {
         Ok(()) => Ok(()),
         Err(refusal) => Err(with_output(alloc, refusal, out, why)),
     }
@@ -211,10 +342,34 @@ fn inspect_file<F: Files + Input, W: Write>(
     ensures done { OnOk result (Inspects (W.contents out.old) (W.contents out.new)) }
 {
     let bytes = bytes_of(rt, alloc, file, why)?;
-    match inspect(alloc, bytes.as_slice(), as_json, out) {
+    let inspected = inspect(alloc, bytes.as_slice(), as_json, out);
+    match with_problem(alloc, file, bytes.as_slice(), inspected, why) {
         Ok(()) => Ok(()),
         Err(refusal) => Err(with_output(alloc, refusal, out, why)),
     }
+}
+
+/// The same result. Where it is a refusal of the bytes of a file, `why` gets the name of the file and what is wrong with it, if
+/// something is and there is memory to find it.
+fn with_problem<T: Drop>(
+    alloc: Global,
+    file: &str,
+    bytes: &[u8],
+    given: R<T>,
+    why: &mut Option<Cause>,
+) -> R<T>
+    ensures same { result ≡ given }
+{
+    if let Err(refusal) = &given
+        && *refusal != Refusal::Device
+        && *refusal != Refusal::Memory
+        && *refusal != Refusal::NoColumn
+        && let Ok(Some(problem)) = first_problem(alloc, bytes)
+        && let Ok(line) = format!(in alloc; "{file}: {problem}")
+    {
+        *why = Some(Cause::Said(line));
+    }
+    given
 }
 
 /// The same refusal. Where it is Device, for no reason that is known, `why` gets what the output is refused for: it is asked

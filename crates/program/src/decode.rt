@@ -1,6 +1,6 @@
 //! Files to lines.
 
-ghost use Rattle.std.specs.Prelude.{◌≡◌, ◌≢◌, ◌⊎◌, ℕ, List, Option, false, IfErr, OnOk};
+ghost use Rattle.std.specs.Prelude.{◌≡◌, ◌≢◌, ◌⊎◌, ℕ, Bool, List, Option, false, IfErr, OnOk};
 ghost use Rattle.bits.specs.Refusals.{IsFault, RefusedOnly};
 ghost use Rattle.bits.specs.declared.refusal.Refusal.TheVariants.{Memory, Device};
 ghost use Rattle.schema.specs.Values.{ValueTrees};
@@ -9,7 +9,7 @@ ghost use Rattle.schema.specs.Fits.{RowsFit};
 ghost use Rattle.footer.specs.File.{FileMeans};
 ghost use Rattle.footer.specs.Faults.{HasFault};
 ghost use Rattle.footer.specs.Left.{rows_stand, with_refusal};
-ghost use Rattle.rowtext.specs.Rows.{BeginsLine};
+ghost use Rattle.rowtext.specs.Rows.{BeginsLineAs};
 ghost use Rattle.program.specs.Program.{WritesRowsOf, MeansRows};
 ghost use Rattle.program.specs.inner.Gathered.{AppendsLines, GathersLine, AreGathered, GathersLines, WritesPart};
 
@@ -25,8 +25,8 @@ use std::io::Write;
 /// How many rows are taken at most before progress is counted.
 const ROWS_AT_ONCE: usize = 1_024;
 
-/// Writes the rows that the bytes of a file mean, each as a line of JSON. Refused as [`FileReader::new`] is,
-/// and then nothing is written; Device where a line cannot be written. Once the file was accepted, lines
+/// Writes the rows that the bytes of a file mean, each as a line of JSON; with `texts`, dates, times, timestamps and decimals are
+/// texts. Refused as [`FileReader::new`] is, and then nothing is written; Device where a line cannot be written. Once the file was accepted, lines
 /// are made of the rows one by one, gathered, and written some 64 KiB at a time. If memory runs out at a row, lines
 /// before it may be written already. Where `shows` says so, `err` shows how many rows were decoded so far.
 ///
@@ -35,11 +35,12 @@ const ROWS_AT_ONCE: usize = 1_024;
 pub fn decode<W: Write, E: Write>(
     alloc: Global,
     bytes: &[u8],
+    texts: bool,
     out: &mut W,
     err: &mut E,
     shows: bool,
 ) -> R<()>
-    ensures stands { OnOk result (WritesRowsOf bytes.now (W.contents out.old) (W.contents out.new)) }
+    ensures stands { OnOk result (WritesRowsOf texts bytes.now (W.contents out.old) (W.contents out.new)) }
     ensures only { IfErr result (λ e. IsFault e → e ≢ Device → (fs : Fields) (rows : List ValueTrees) → FileMeans bytes.now fs rows → ⊥) }
     ensures accepted { IfErr result (λ e. ((e ≢ Device) × (W.contents out.new ≡ W.contents out.old)) ⊎ MeansRows bytes.now) }
     ensures which { IfErr result (λ e. (e ≡ Device) ⊎ HasFault bytes.now e) }
@@ -49,7 +50,15 @@ pub fn decode<W: Write, E: Write>(
     let file = FileReader::new(alloc, bytes)?;
     let mut progress = progress_of(alloc, bytes, shows);
     let mut rows = file.rows(alloc);
-    let written = write_rows(alloc, file.schema(), &mut rows, out, err, &mut progress);
+    let written = write_rows(
+        alloc,
+        file.schema(),
+        &mut rows,
+        texts,
+        out,
+        err,
+        &mut progress,
+    );
     progress.clear(err);
     written
 }
@@ -58,8 +67,8 @@ pub fn decode<W: Write, E: Write>(
 // Each row comes through here: what is returned fits a register.
 #[inline(always)]
 pub fn put_line(rows: &mut Rows<'_>, text: &mut RowText<'_>) -> Result<bool, Fault>
-    ensures puts { (fs : Fields) (lines : List ℕ) → BeginsLine text.old fs lines
-        → GathersLine fs (rows_stand rows.old) (rows_stand rows.new) (BeginsLine text.new fs) lines (with_refusal result) }
+    ensures puts { (texts : Bool) (fs : Fields) (lines : List ℕ) → BeginsLineAs texts text.old fs lines
+        → GathersLine texts fs (rows_stand rows.old) (rows_stand rows.new) (BeginsLineAs texts text.new fs) lines (with_refusal result) }
 {
     if !rows.show_next(text)? {
         return Ok(false);
@@ -73,9 +82,9 @@ pub fn put_line(rows: &mut Rows<'_>, text: &mut RowText<'_>) -> Result<bool, Fau
 /// Takes rows and gathers their lines, until these are enough to be written or [`ROWS_AT_ONCE`] rows were taken.
 /// Returns how many, and 0 only after the last row. It fails only when out of memory.
 fn put_lines(rows: &mut Rows<'_>, text: &mut RowText<'_>) -> Result<usize, Fault>
-    ensures puts { (fs : Fields) (all : List ValueTrees) (old new : Option (List ℕ))
-        → AreGathered fs (rows_stand rows.old) (BeginsLine text.old fs) all old new
-        → GathersLines fs (rows_stand rows.new) (BeginsLine text.new fs) all old new result }
+    ensures puts { (texts : Bool) (fs : Fields) (all : List ValueTrees) (old new : Option (List ℕ))
+        → AreGathered texts fs (rows_stand rows.old) (BeginsLineAs texts text.old fs) all old new
+        → GathersLines texts fs (rows_stand rows.new) (BeginsLineAs texts text.new fs) all old new result }
 {
     for count in 0..ROWS_AT_ONCE {
         if !put_line(rows, text)? {
@@ -90,8 +99,8 @@ fn put_lines(rows: &mut Rows<'_>, text: &mut RowText<'_>) -> Result<usize, Fault
 
 /// Writes the lines that were gathered once they are enough. Refused Device where they cannot be written.
 pub fn write_full<W: Write>(text: &mut RowText<'_>, out: &mut W) -> R<()>
-    ensures stands { (fs : Fields) (lines : List ℕ) → BeginsLine text.old fs lines
-        → OnOk result (WritesPart (W.contents out.old) (W.contents out.new) (BeginsLine text.new fs) lines) }
+    ensures stands { (texts : Bool) (fs : Fields) (lines : List ℕ) → BeginsLineAs texts text.old fs lines
+        → OnOk result (WritesPart (W.contents out.old) (W.contents out.new) (BeginsLineAs texts text.new fs) lines) }
     ensures which { RefusedOnly (λ e. e ≡ Device) result }
 {
     if text.lines().len() < OUTPUT_BUFFER_BYTES {
@@ -107,17 +116,18 @@ fn write_rows<W: Write, E: Write>(
     alloc: Global,
     schema: &Schema,
     rows: &mut Rows<'_>,
+    texts: bool,
     out: &mut W,
     err: &mut E,
     progress: &mut Progress,
 ) -> R<()>
     ensures stands { (all : List ValueTrees) → rows_stand rows.old all → RowsFit schema.now all
-        → OnOk result (AppendsLines schema.now all (W.contents out.old) (W.contents out.new)) }
+        → OnOk result (AppendsLines texts schema.now all (W.contents out.old) (W.contents out.new)) }
     ensures which { (all : List ValueTrees) → rows_stand rows.old all → RowsFit schema.now all → RefusedOnly (λ e. e ≡ Device) result }
     ensures quiet { progress.old.is_shown ≡ false → E.contents err.new ≡ E.contents err.old }
     ensures same { progress.new.is_shown ≡ progress.old.is_shown }
 {
-    let plan = RowPlan::new(alloc, schema)?;
+    let plan = RowPlan::with_texts(alloc, schema, texts)?;
     let mut text = RowText::new(alloc, &plan);
     'more: for _ in 0..u64::MAX {
         let count = put_lines(rows, &mut text)?;

@@ -6,7 +6,7 @@ ghost use Rattle.bits.specs.Refusals.{RefusedOnly};
 ghost use Rattle.schema.specs.Values.{ValueTrees};
 ghost use Rattle.assemble.specs.Sinks.{Visits, tokens_each};
 ghost use Rattle.footer.specs.Writer.{has_rows, schema_of, options_of};
-ghost use Rattle.rowtext.specs.Reader.{schema_of as fields_of, IsRowOf};
+ghost use Rattle.rowtext.specs.Reader.{schema_of as fields_of, IsRowAs};
 ghost use Rattle.program.specs.Program.{IsRefusedLine, AreRowTexts, HasFirstFault, IsFileOf, HaveFile, AreRefusedTexts, AreRefusedFiles};
 ghost use Rattle.program.specs.inner.Lines.{IsFileOfLines, IsLinesRefusal, IsLineRefusal, AreTooMuch, HasLine};
 
@@ -24,41 +24,53 @@ use std::alloc::Global;
 use std::io::{Input, Write};
 use std::rt::Files;
 
-/// What a file is made from: the paths of both texts, and how it is written.
+/// What a file is made from: the paths of both texts, how it is written, and whether dates, times, timestamps and decimals are
+/// texts.
 #[derive(Clone, Copy)]
 pub struct Sources<'a> {
     pub schema: &'a str,
     pub rows: &'a str,
     pub options: WriteOptions,
+    pub texts: bool,
 }
 
 /// The bytes of a file that means, in the schema of one text, the rows of the other, one for each line (an
-/// empty line is no row; a last line needs no line feed), laid out as the options say.
+/// empty line is no row; a last line needs no line feed), laid out as the options say. With `texts`, dates, times, timestamps and
+/// decimals are also read from their texts.
 ///
-/// Refused as `schema_from` refuses the schema, or else as `row_from` does the first line that is no row, or
+/// Refused as `schema_from` refuses the schema, or else as `row_from_as` does the first line that is no row, or
 /// else as `write_file` refuses the rows. Time is linear in the texts. Memory is that of the texts, of the file, and
 /// of the rows of one group. Where `shows` says so, `err` shows how many rows were read so far.
 pub fn encoded<E: Write>(
     alloc: Global,
     schema_text: &str,
     rows_text: &str,
+    texts: bool,
     options: &WriteOptions,
     err: &mut E,
     shows: bool,
 ) -> R<Vec<u8>>
-    ensures stands { IfOk result (λ file. IsFileOf options.now schema_text.now rows_text.now file.items) }
-    ensures which { IfErr result (AreRefusedTexts options.now schema_text.now rows_text.now) }
+    ensures stands { IfOk result (λ file. IsFileOf texts options.now schema_text.now rows_text.now file.items) }
+    ensures which { IfErr result (AreRefusedTexts texts options.now schema_text.now rows_text.now) }
     ensures quiet { shows ≡ false → E.contents err.new ≡ E.contents err.old }
 {
     let schema = schema_from(alloc, schema_text)?;
     let mut progress = Progress::new(alloc, "read", None, shows);
-    let made = written(alloc, &schema, options, rows_text, err, &mut progress);
+    let made = written(
+        alloc,
+        &schema,
+        options,
+        rows_text,
+        texts,
+        err,
+        &mut progress,
+    );
     progress.clear(err);
     match made {
         Ok(file) => Ok(file),
         Err(Refusal::Limit) => {
             // A line that is no row is refused before rows that are too much for a file.
-            check_lines(alloc, &schema, rows_text)?;
+            check_lines(alloc, &schema, rows_text, texts)?;
             Err(Refusal::Limit)
         }
         Err(refusal) => Err(refusal),
@@ -78,8 +90,8 @@ pub fn encode<F: Files + Input, E: Write>(
     shows: bool,
     why: &mut Option<Cause>,
 ) -> R<()>
-    ensures options { OnOk result (HaveFile sources.now.options) }
-    ensures which { RefusedOnly (AreRefusedFiles sources.now.options) result }
+    ensures options { OnOk result (HaveFile sources.now.texts sources.now.options) }
+    ensures which { RefusedOnly (AreRefusedFiles sources.now.texts sources.now.options) result }
     ensures quiet { shows ≡ false → E.contents err.new ≡ E.contents err.old }
 {
     let schema_bytes = whole_of(rt, alloc, sources.schema, why)?;
@@ -100,41 +112,43 @@ fn file_of<E: Write>(
     shows: bool,
     why: &mut Option<Cause>,
 ) -> R<Vec<u8>>
-    ensures stands { IfOk result (λ file. IsFileOf sources.now.options schema_text.now rows_text.now file.items) }
-    ensures which { IfErr result (AreRefusedTexts sources.now.options schema_text.now rows_text.now) }
+    ensures stands { IfOk result (λ file. IsFileOf sources.now.texts sources.now.options schema_text.now rows_text.now file.items) }
+    ensures which { IfErr result (AreRefusedTexts sources.now.texts sources.now.options schema_text.now rows_text.now) }
     ensures quiet { shows ≡ false → E.contents err.new ≡ E.contents err.old }
 {
-    let made = encoded(alloc, schema_text, rows_text, &sources.options, err, shows);
+    let (texts, options) = (sources.texts, &sources.options);
+    let made = encoded(alloc, schema_text, rows_text, texts, options, err, shows);
     if let Err(refusal) = &made {
         *why = cause_of(alloc, sources, schema_text, rows_text, refusal).unwrap_or(None);
     }
     made
 }
 
-/// Shows a sink the values of the row of a line. Refused as `row_from` refuses the line, and then it is shown nothing.
-fn show_line<K: RowSink>(reader: &mut Reader<'_>, line: &str, sink: &mut K) -> R<()>
-    ensures stands { OnOk result (Visits (K.shows sink.old) (K.shows sink.new) tokens_each (IsRowOf (fields_of reader.old) line.now)) }
-    ensures which { RefusedOnly (IsRefusedLine (fields_of reader.old) line.now) result }
+/// Shows a sink the values of the row of a line, with texts or without. Refused as `row_from_as` refuses the line, and then it is
+/// shown nothing.
+fn show_line<K: RowSink>(reader: &mut Reader<'_>, line: &str, texts: bool, sink: &mut K) -> R<()>
+    ensures stands { OnOk result (Visits (K.shows sink.old) (K.shows sink.new) tokens_each (IsRowAs texts (fields_of reader.old) line.now)) }
+    ensures which { RefusedOnly (IsRefusedLine texts (fields_of reader.old) line.now) result }
     ensures same { fields_of reader.new ≡ fields_of reader.old }
 {
-    reader.read_to(line, sink)
+    reader.read_to_as(line, sink, texts)
 }
 
-/// Gives a writer the row of a line. Refused as `row_from` refuses the line, or Limit where the rows that the writer
-/// has are too much for a file.
-fn put_line(reader: &mut Reader<'_>, line: &str, writer: &mut FileWriter<'_>) -> R<()>
+/// Gives a writer the row of a line, with texts or without. Refused as `row_from_as` refuses the line, or Limit where the rows
+/// that the writer has are too much for a file.
+fn put_line(reader: &mut Reader<'_>, line: &str, texts: bool, writer: &mut FileWriter<'_>) -> R<()>
     ensures stands { OnOk result ((rows : List ValueTrees) → has_rows writer.old rows → schema_of writer.old ≡ fields_of reader.old
-        → HasLine (fields_of reader.old) (options_of writer.old) line.now rows writer.new) }
-    ensures which { (rows : List ValueTrees) → has_rows writer.old rows → IfErr result (IsLineRefusal (fields_of reader.old) line.now
+        → HasLine texts (fields_of reader.old) (options_of writer.old) line.now rows writer.new) }
+    ensures which { (rows : List ValueTrees) → has_rows writer.old rows → IfErr result (IsLineRefusal texts (fields_of reader.old) line.now
         (AreTooMuch (schema_of writer.old) (options_of writer.old) rows)) }
     ensures same { fields_of reader.new ≡ fields_of reader.old }
 {
     writer.begin_row()?;
-    show_line(reader, line, writer)?;
+    show_line(reader, line, texts, writer)?;
     writer.end_row()
 }
 
-/// The bytes of a file of the rows of a text, one of each line. Refused as `row_from` refuses the first line that
+/// The bytes of a file of the rows of a text, one of each line, with texts or without. Refused as `row_from_as` refuses the first line that
 /// is no row, or Limit where the rows before it are too much for a file. Later lines are then not read. Each row
 /// is counted.
 fn written<E: Write>(
@@ -142,11 +156,12 @@ fn written<E: Write>(
     schema: &Schema,
     options: &WriteOptions,
     text: &str,
+    texts: bool,
     err: &mut E,
     progress: &mut Progress,
 ) -> R<Vec<u8>>
-    ensures stands { IfOk result (λ file. IsFileOfLines options.now schema.now (lines text.now) file.items) }
-    ensures which { IfErr result (IsLinesRefusal schema.now options.now (lines text.now)) }
+    ensures stands { IfOk result (λ file. IsFileOfLines texts options.now schema.now (lines text.now) file.items) }
+    ensures which { IfErr result (IsLinesRefusal texts schema.now options.now (lines text.now)) }
     ensures quiet { progress.old.is_shown ≡ false → E.contents err.new ≡ E.contents err.old }
     ensures same { progress.new.is_shown ≡ progress.old.is_shown }
 {
@@ -154,21 +169,21 @@ fn written<E: Write>(
     let mut writer = FileWriter::new(alloc, schema, options)?;
     let mut rest = text;
     while let Some((line, others)) = split_line(rest) {
-        put_line(&mut reader, line, &mut writer)?;
+        put_line(&mut reader, line, texts, &mut writer)?;
         progress.count_row(err);
         rest = others;
     }
     writer.finish()
 }
 
-/// Reads the rows of a text, one of each line, and keeps none. Refused as the first line is that is no row.
-fn check_lines(alloc: Global, schema: &Schema, text: &str) -> R<()>
-    ensures stands { OnOk result ((rows : List ValueTrees) × AreRowTexts schema.now (lines text.now) rows) }
-    ensures which { RefusedOnly (HasFirstFault schema.now (lines text.now)) result }
+/// Reads the rows of a text, one of each line, with texts or without, and keeps none. Refused as the first line is that is no row.
+fn check_lines(alloc: Global, schema: &Schema, text: &str, texts: bool) -> R<()>
+    ensures stands { OnOk result ((rows : List ValueTrees) × AreRowTexts texts schema.now (lines text.now) rows) }
+    ensures which { RefusedOnly (HasFirstFault texts schema.now (lines text.now)) result }
 {
     let mut reader = Reader::new(alloc, schema)?;
     for line in text.lines() {
-        show_line(&mut reader, line, &mut Discard)?;
+        show_line(&mut reader, line, texts, &mut Discard)?;
     }
     Ok(())
 }

@@ -39,11 +39,17 @@ nothing else. Where its reader closes it early, as head does, the call ends with
 Where standard error is a terminal and standard output is not, standard error shows after each 100000 rows how many
 were printed; at the end that is removed. With --quiet it is not shown.
 
-With --limit only the first N rows are printed. All of the file is accepted before.
+With --limit only the first N rows are printed. Row groups after those that have these rows are not checked: the file is
+accepted, and refused, by its footer and these groups alone.
 
-With --out nothing is printed, but OUT is made: a file of the same rows and columns, written as the other options say. It is
-made as encode makes its OUT, and refused 24 Exists where it is there already. Of OUT `-` the bytes go to standard output,
-which may not be a terminal.
+With --text dates, times, timestamps and decimals are printed as texts: \"2024-05-01\", \"13:05:09.12\", \"2024-05-01T13:05:09.12Z\"
+and \"1176.14\". A value without a text, such as a date after the year 9999, is printed as without --text, and bytes as
+{\"hex\":\"..\"}. With --out it is a wrong call, as a file is made of values, not of their texts.
+
+With --out nothing is printed, but OUT is made: a file of the same rows and columns, written as the other options say; with
+--limit of the first N rows alone, with --columns of these columns alone, in the order of the file. It is made as encode makes
+its OUT, and refused 24 Exists where it is there already, 15 NoColumn for a column that the file does not have. Of OUT `-` the
+bytes go to standard output, which may not be a terminal.
 
 There are no FLOAT, DOUBLE, FLOAT16 or INT96 columns: their values have no order that all tools share. An annotation
 over a type that it is not meant for is kept without meaning, and ranges are not checked: an int_8 column takes any
@@ -98,6 +104,11 @@ SCHEMA is a file with a JSON array of the columns, each an object:
 ROWS is a file with a line of JSON for each row, as decode prints them: an object with a value for each column by
 its name, text where the column is text, and other bytes as hexadecimal digits in lower case. The last line needs
 no line feed; an empty line is no row, and is refused.
+
+With --text dates, times, timestamps and decimals may be texts, as decode prints them with --text, and so may numbers, and bytes
+as {\"hex\":\"..\"}. A timestamp may have a blank for the T, no Z, or an offset such as +02:00, and a decimal fewer places than its
+scale. Refused 14 for a text that is no value of its column: a day that the month does not have, a second of 60, a place too
+many, a date with a time.
 
 OUT is a new file, and no file is ever replaced. It appears whole, or not at all: it is made under another name and
 then called OUT by a link. Only where that link fails is it written under its own name, and if the machine crashes
@@ -155,20 +166,22 @@ its type, codec, encodings, entries, sizes, offsets, statistics and pages; and w
 the footer and the page headers show that.
 
 Only the footer and the page headers are read, and no value: what a file says of itself, its statistics too, is shown
-unchecked, and decode may refuse a file in which nothing is found. At most 100000 pages are listed of a file, and 100
+unchecked, and decode may refuse a file in which nothing is found. Where they raise a suspicion, the row group is read as
+decode reads it, and named only where decode refuses it. At most 100000 pages are listed of a file, and 100
 of the places that decode refuses. The bounds of statistics are shown as decode prints values; those of a column that
 decode does not read, as hexadecimal digits. Of the two kinds of bounds the deprecated ones are shown only where the
 others are missing. Names that are not UTF-8 are shown with replacement characters.
 
 With --json the same is one line of JSON: of a file an object with bytes, footer_bytes, version, rows, created_by,
 key_values, schema (each element with its depth), groups (each with chunks, and these with pages) and not_read; of a
-dataset one with bytes, columns (each with key, path, repetition and type), groups, keys (all of them, each with bytes,
-folder, groups and rows), leftovers, min_rows, missing, rows and small_groups.
+dataset one with bytes, columns (each with key, note, path, repetition and type), groups, keys (all of them, each with
+bytes, folder, groups and rows), leftovers, min_rows, missing, rows and small_groups.
 
-Where FILE is the folder of a dataset it says what the dataset has: the columns and keys; the rows, groups and bytes
-in all and of the twenty keys with the most bytes, with a bar for each; how many groups `rewrite --min-rows N` would
-put together; which part files are there that the dataset does not name, and which it names that are not there. Only
-its _metadata is read, and the names in its folders. Nothing is changed, nor what a stop left behind removed.";
+Where FILE is the folder of a dataset it says what the dataset has: the columns, with what they say of their values, as
+DATE; the rows, groups and bytes in all and of the twenty keys with the most bytes, with a bar for each; how many groups
+`rewrite --min-rows N` would put together; which part files are there that the dataset does not name, and which it names
+that are not there. A key is shown as it is, and not as its folder's name, which is escaped. Only its _metadata is read,
+and the names in its folders. Nothing is changed, nor what a stop left behind removed.";
 
 pub const INSPECT_REFUSALS: &str = "\
 The file is refused, with status 1 and one line on standard error, where its footer cannot be read (or, of a dataset, its
@@ -207,7 +220,7 @@ pub const CHECK: &str = "Says whether rows are of a schema, or whether a dataset
 
 pub const CHECK_LONG: &str = "\
 Says whether encode makes a file of these rows, with its default options, and why not where it does not. Nothing is
-made. SCHEMA and ROWS are as for encode.
+made. SCHEMA and ROWS are as for encode, also with --text.
 
 Prints `ok N rows` where it does. Else standard error has a line that says where the first fault is, what was
 expected there and what was found, and then the line by which encode refuses the same files:
@@ -227,8 +240,8 @@ dataset does not name: a query may still read them, or a command was stopped. Th
 query does. Rows of ROWS are rows that append would take. Nothing is changed.
 
 After `ok`, a line that begins with `note: ` says what is accepted here and other tools may refuse: a note that does not go with
-the type of its column, a decimal without a precision or with more digits than its type holds, an empty name. With ROWS of a
-dataset it says in which row a member stands twice: the last one counts. A note is no fault: the status is 0.
+the type of its column, a decimal without a precision or with more digits than its type holds, an empty name. With ROWS it
+says in which row a member stands twice: the last one counts. A note is no fault: the status is 0.
 
 Of a dataset, where standard error is a terminal, it shows after each 100000 rows how many were checked, or read of ROWS; at
 the end that is removed. With --quiet it is not shown.";

@@ -196,6 +196,20 @@ pub fn put_new<F: Files>(
 ) -> R<()>
     ensures which { RefusedOnly (λ e. (e ≡ Exists) ⊎ (e ≡ Device)) result }
 {
+    make_new(rt, alloc, path, bytes, why)?;
+    sync_folder(rt, alloc, path, why)
+}
+
+/// Makes a new file of these bytes as [`put_new`], but its folder is not synced. Refused as there where no file is made.
+pub fn make_new<F: Files>(
+    rt: &F,
+    alloc: Global,
+    path: &str,
+    bytes: &[u8],
+    why: &mut Option<Cause>,
+) -> R<()>
+    ensures which { RefusedOnly (λ e. (e ≡ Exists) ⊎ (e ≡ Device)) result }
+{
     if fs::symlink_metadata(rt, path).is_ok() {
         return Err(refused_new(alloc, path, io::Error::from_raw_os_error(FILE_EXISTS), why));
     }
@@ -203,10 +217,10 @@ pub fn put_new<F: Files>(
         let beside = name_beside(alloc, path, number)?;
         match make(rt, beside.as_str(), bytes) {
             Ok(()) => {
-                if let Err(error) = give_name(rt, beside.as_str(), path, bytes) {
-                    return Err(refused_new(alloc, path, error, why));
-                }
-                return sync_folder(rt, alloc, path, why);
+                return match give_name(rt, beside.as_str(), path, bytes) {
+                    Ok(()) => Ok(()),
+                    Err(error) => Err(refused_new(alloc, path, error, why)),
+                };
             }
             Err(error) if error.kind() == ErrorKind::AlreadyExists => {}
             Err(error) => return Err(refused_at(alloc, path, error, why)),
@@ -299,7 +313,7 @@ fn folder_of(path: &str) -> &str {
 }
 
 /// Makes the name of a file durable. Refused Device where its folder cannot be opened or synced; then `why` says what that means.
-fn sync_folder<F: Files>(rt: &F, alloc: Global, path: &str, why: &mut Option<Cause>) -> R<()>
+pub fn sync_folder<F: Files>(rt: &F, alloc: Global, path: &str, why: &mut Option<Cause>) -> R<()>
     ensures which { RefusedOnly (λ e. e ≡ Device) result }
 {
     match synced(rt, folder_of(path)) {

@@ -14,8 +14,10 @@ mod first_rows;
 mod help;
 mod host;
 mod inspect;
+mod parts;
 mod putting;
 mod text_lines;
+mod wrong;
 
 pub use arguments::{Call, call_of};
 pub use calls::{refuse, work};

@@ -24,7 +24,8 @@ const NOT_PERMITTED: i32 = 1;
 /// Whether a call gives standard output the bytes of a file.
 pub fn puts_to_output(call: &Call<'_>) -> bool {
     match call {
-        Call::Copy { path, .. } | Call::Save { path, .. } => *path == OUTPUT,
+        Call::Copy { copying } => copying.path == OUTPUT,
+        Call::Save { path, .. } => *path == OUTPUT,
         _ => false,
     }
 }
@@ -53,12 +54,37 @@ pub fn check_outside<F: Files>(
     if path == OUTPUT || !is_within(rt, alloc, folder_of(path), folder) {
         return Ok(());
     }
+    let advice = "it is in the folder of the dataset: name a file elsewhere";
+    Err(refused_place(alloc, path, advice, why))
+}
+
+/// Looks whether a folder is outside of the folder of a dataset. Refused as [`check_outside`].
+pub fn check_folder_outside<F: Files>(
+    rt: &F,
+    alloc: Global,
+    path: &str,
+    folder: &str,
+    why: &mut Option<Cause>,
+) -> R<()> {
+    if !is_within(rt, alloc, path, folder) {
+        return Ok(());
+    }
+    let advice = "it is in the folder of the dataset: name a folder elsewhere";
+    Err(refused_place(alloc, path, advice, why))
+}
+
+/// What is refused where nothing of others may be made at a path; `why` says so, and what to do.
+fn refused_place(
+    alloc: Global,
+    path: &str,
+    advice: &'static str,
+    why: &mut Option<Cause>,
+) -> Refusal {
     let error = io::Error::from_raw_os_error(NOT_PERMITTED);
     if let Ok(fault) = system_fault(alloc, path, error) {
-        let advice = "it is in the folder of the dataset: name a file elsewhere";
         *why = Some(Cause::System(fault.with_advice(advice)));
     }
-    Err(Refusal::Device)
+    Refusal::Device
 }
 
 /// The folder of a file.

@@ -1,12 +1,9 @@
 -- What is done with the batches that a cursor gives, one after another.
-use Rattle.std.specs.Prelude.{◌≡◌, ℕ, List, [], ◌∷◌, ◌++◌, flat_map, length, Vec, Result, OnOk, IfOk}
-use Rattle.std.specs.declared.alloc.Global.{Global}
+use Rattle.std.specs.Prelude.{◌≡◌, ◌≤◌, ◌⊎◌, ◌-◌, ℕ, List, [], ◌∷◌, ◌++◌, flat_map, length, Option, Some, None, Result, OnOk}
 use Rattle.bits.specs.declared.refusal.Refusal.{Refusal}
 use Rattle.schema.specs.Shape.{Fields}
 use Rattle.schema.specs.Values.{ValueTrees}
-use Rattle.footer.specs.declared.file_writer.FileWriter.{FileWriter}
 use Rattle.footer.specs.declared.options.WriteOptions.{WriteOptions}
-use Rattle.footer.specs.Writer.{has_rows}
 use Rattle.disk.specs.State.{State as DiskState}
 use Rattle.table.specs.Deciding.{Filter}
 use Rattle.table.specs.Cursors.{Batch, Columns}
@@ -15,9 +12,11 @@ use Rattle.table.specs.Calls.{Call, fetch, Answer, ended}
 use Rattle.table.specs.Queries.{given}
 use Rattle.store.specs.declared.store.Store.{Store}
 use Rattle.store.specs.Stands.{Stands}
+use Rattle.commands.specs.declared.part_writer.PartWriter.{PartWriter}
 use Rattle.commands.specs.Querying.{ActsOn, OnlyReads}
-use Rattle.commands.specs.QueryFile.{query_rows, IsFileOfRows}
+use Rattle.commands.specs.QueryFile.{query_rows, first_of, GotFiles}
 use Rattle.commands.specs.inner.Batches.{AreFetches}
+use Rattle.commands.specs.inner.Parts.{HasGiven}
 
 -- From the one state the store makes fetches of a cursor, each of which gives a batch, and something is done with these.
 pub record HasFetched {D : Type 0} (state : D → DiskState) (old new : Store D) (n : ℕ) (Done : List Batch → Type 0) (s : State) : Type 0 where
@@ -30,45 +29,67 @@ pub record HasFetched {D : Type 0} (state : D → DiskState) (old new : Store D)
   pub stands : Stands state new last
   pub done : Done (given n calls answers)
 
--- these calls are fetches of a cursor up to its end, and something is done with the batches that they gave
-pub record FetchesAll (n : ℕ) (Done : List Batch → Type 0) (calls : List Call) (answers : List Answer) : Type 0 where
+-- These calls are fetches of a cursor up to its end, or until what it gave is enough, and something is done with the batches that they
+-- gave.
+pub record FetchesUpTo (n : ℕ) (Done Enough : List Batch → Type 0) (calls : List Call) (answers : List Answer) : Type 0 where
   pub front : List Call
   pub told : List Answer
-  pub calls_are : calls ≡ front ++ fetch n ∷ []
-  pub answers_are : answers ≡ told ++ ended ∷ []
   pub as_many : length front ≡ length told
+  pub fetches : AreFetches n front
+  pub over : ((calls ≡ front ++ fetch n ∷ []) × (answers ≡ told ++ ended ∷ [])) ⊎ ((calls ≡ front) × (answers ≡ told) × Enough (given n front told))
   pub done : Done (given n front told)
 
--- From the one state the store makes fetches of a cursor, and where the result is Ok something is done with all that it still gives.
-pub record FetchesLeft {D T : Type 0} (state : D → DiskState) (old new : Store D) (n : ℕ) (Done : List Batch → Type 0) (result : Result T Refusal) (s : State) : Type 0 where
+-- From the one state the store makes fetches of a cursor, and where the result is Ok something is done with all that it still gives, or
+-- with what is enough of it.
+pub record FetchesFirst {D T : Type 0} (state : D → DiskState) (old new : Store D) (n : ℕ) (Done Enough : List Batch → Type 0) (result : Result T Refusal) (s : State) : Type 0 where
   pub calls : List Call
   pub answers : List Answer
   pub last : State
   pub acts : ActsOn state old calls answers new s last
   pub fetches : AreFetches n calls
   pub stands : Stands state new last
-  pub all : OnOk result (FetchesAll n Done calls answers)
+  pub all : OnOk result (FetchesUpTo n Done Enough calls answers)
 
--- ---- a writer of a file
+-- ---- the first rows of batches
 
 -- the rows of batches
 abbrev pub rows_of_each : List Batch → List ValueTrees
 rows_of_each bs = flat_map (λ (b : Batch). b.rows) bs
 
--- a writer is given these rows, after those that it had
-abbrev pub TakesRows : FileWriter → FileWriter → List ValueTrees → Type 0
-TakesRows old new rs = (had : List ValueTrees) → has_rows old had → has_rows new (had ++ rs)
+-- how many more there may be after so many, where there is a limit
+abbrev pub fewer : Option ℕ → ℕ → Option ℕ
+fewer None n = None
+fewer (Some limit) n = Some (limit - n)
 
--- a writer is given the rows of these batches
-abbrev pub TakesBatches : FileWriter → FileWriter → List Batch → Type 0
-TakesBatches old new bs = TakesRows old new (rows_of_each bs)
+-- batches have as many rows as the limit says, or more
+abbrev pub IsEnough : Option ℕ → List Batch → Type 0
+IsEnough None bs = ⊥
+IsEnough (Some limit) bs = limit ≤ length (rows_of_each bs)
 
--- From the one state the store makes calls that only read, and where the result is Ok a writer is given the rows that satisfy.
-pub record WritesSelected {D T : Type 0} (state : D → DiskState) (old new : Store D) (terms : Filter) (columns : Columns) (before after : FileWriter) (result : Result T Refusal) (s : State) : Type 0 where
+-- ---- a writer of files
+
+-- a writer is given these rows, after those that it was given
+abbrev pub TakesRows : PartWriter → PartWriter → Option (List (List ℕ)) → Option (List (List ℕ)) → List ValueTrees → Type 0
+TakesRows old new was is rs = (from : Option (List (List ℕ))) (had : List ValueTrees) → HasGiven from was old had → HasGiven from is new (had ++ rs)
+
+-- a writer is given the first rows of these batches
+abbrev pub TakesFirst : Option ℕ → PartWriter → PartWriter → Option (List (List ℕ)) → Option (List (List ℕ)) → List Batch → Type 0
+TakesFirst limit old new was is bs = TakesRows old new was is (first_of limit (rows_of_each bs))
+
+-- a writer is given the first rows of these batches, and there may be so many more
+abbrev pub TakesSome : Option ℕ → Option ℕ → PartWriter → PartWriter → Option (List (List ℕ)) → Option (List (List ℕ)) → List Batch → Type 0
+TakesSome limit left old new was is bs = TakesFirst limit old new was is bs × (left ≡ fewer limit (length (rows_of_each bs)))
+
+-- From the one state the store makes calls that only read, and where the result is Ok a writer is given the rows that satisfy, or the
+-- first of them.
+pub record WritesSelected {D T : Type 0} (state : D → DiskState) (old new : Store D) (terms : Filter) (columns : Columns) (limit : Option ℕ) (before after : PartWriter)
+    (was is : Option (List (List ℕ))) (result : Result T Refusal) (s : State) : Type 0 where
   pub reads : OnlyReads state old new s
-  pub written : OnOk result (TakesRows before after (query_rows terms columns s.table))
+  pub written : OnOk result (TakesRows before after was is (first_of limit (query_rows terms columns s.table)))
 
--- From the one state the store makes calls that only read, and where the result is Ok it is a file of the rows that satisfy.
-pub record GivesFile {D : Type 0} (state : D → DiskState) (old new : Store D) (options : WriteOptions) (fs : Fields) (terms : Filter) (columns : Columns) (result : Result (Vec ℕ Global) Refusal) (s : State) : Type 0 where
+-- From the one state the store makes calls that only read, and where the result is Ok a sink got files of the rows that satisfy, or of
+-- the first of them.
+pub record GivesFiles {D T : Type 0} (state : D → DiskState) (old new : Store D) (options : WriteOptions) (fs : Fields) (terms : Filter) (columns : Columns) (limit most : Option ℕ)
+    (was is : Option (List (List ℕ))) (result : Result T Refusal) (s : State) : Type 0 where
   pub reads : OnlyReads state old new s
-  pub file : IfOk result (λ (file : Vec ℕ Global). IsFileOfRows options fs (query_rows terms columns s.table) file.items)
+  pub got : OnOk result (GotFiles options fs (first_of limit (query_rows terms columns s.table)) most was is)

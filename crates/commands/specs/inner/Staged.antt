@@ -8,14 +8,14 @@ use Rattle.table.specs.State.{State}
 use Rattle.table.specs.Calls.{stage, accepted}
 use Rattle.store.specs.declared.store.Store.{Store}
 use Rattle.store.specs.Promises.{ActsFrom}
-use Rattle.commands.specs.Importing.{StagesFiles, LeavesTable}
+use Rattle.commands.specs.Importing.{StagesFiles, StopsAtFile, RefusesFile}
 
--- From the one state the store stages the rows of each of some files; or it is refused, and the table is as it was.
+-- From the one state the store stages the rows of each of some files; or the first that cannot be taken is refused.
 abbrev pub StagesAll : {D T : Type 0} → (D → DiskState) → Store D → Store D → ℕ → List (List ℕ) → Result T Refusal → State → Type 0
 StagesAll state old new n files (Ok x) s = StagesFiles state old new n files s
-StagesAll state old new n files (Err e) s = LeavesTable state old new s
+StagesAll state old new n files (Err e) s = StopsAtFile state old new n files e s
 
--- From the one state the store stages the rows of a file; or it is refused, and the table is as it was.
+-- From the one state the store stages the rows of a file; or that file is refused.
 abbrev pub StagesOne : {D T : Type 0} → (D → DiskState) → Store D → Store D → ℕ → List ℕ → Result T Refusal → State → Type 0
 StagesOne state old new n file (Ok x) s = (rows : List ValueTrees) × FileMeans file s.table.schema rows × ActsFrom state old new (stage n rows) accepted s
-StagesOne state old new n file (Err e) s = LeavesTable state old new s
+StagesOne state old new n file (Err e) s = RefusesFile state old new n file e s

@@ -1,5 +1,5 @@
 -- Lines that are read, and what they are refused for.
-use Rattle.std.specs.Prelude.{◌≡◌, ◌⊎◌, ℕ, List, [], ◌∷◌, ◌++◌, IsTrue}
+use Rattle.std.specs.Prelude.{◌≡◌, ◌⊎◌, ℕ, Bool, List, [], ◌∷◌, ◌++◌, IsTrue}
 use Rattle.bits.specs.declared.refusal.Refusal.{Refusal}
 use Rattle.bits.specs.declared.refusal.Refusal.TheVariants.{Limit, Memory, RowShape, Script}
 use Rattle.schema.specs.Values.{ValueTrees}
@@ -14,37 +14,37 @@ use Rattle.footer.specs.Writer.{has_rows, schema_of, options_of}
 use Rattle.program.specs.Program.{IsRowText, AreRowTexts, IsRefusedLine, HasFirstFault}
 
 -- The bytes of a file mean the rows of these lines, in this schema, one for each line, laid out as these options say.
-pub record IsFileOfLines (options : WriteOptions) (fs : Fields) (texts : List (List ℕ)) (bytes : List ℕ) : Type 0 where
+pub record IsFileOfLines (texts : Bool) (options : WriteOptions) (fs : Fields) (all : List (List ℕ)) (bytes : List ℕ) : Type 0 where
   pub rows : List ValueTrees
-  pub read : AreRowTexts fs texts rows
+  pub read : AreRowTexts texts fs all rows
   pub means : FileMeans bytes fs rows
   pub laid_out : IsLaidOut options fs rows bytes
   pub in_range : IsOutOfRange options → ⊥
 
--- the first of the texts that is no row is refused so, or all of their rows are too much for a file by these options
-abbrev pub IsLinesRefusal : Fields → WriteOptions → List (List ℕ) → Refusal → Type 0
-IsLinesRefusal fs o texts RowShape = HasFirstFault fs texts RowShape
-IsLinesRefusal fs o texts Script = HasFirstFault fs texts Script
-IsLinesRefusal fs o texts Limit = (rows : List ValueTrees) → AreRowTexts fs texts rows → IsOutOfRange o ⊎ IsTooMuch fs o rows
-IsLinesRefusal fs o texts Memory = Unit {0}
-IsLinesRefusal fs o texts e = ⊥
+-- the first of the lines that is no row is refused so, or all of their rows are too much for a file by these options
+abbrev pub IsLinesRefusal : Bool → Fields → WriteOptions → List (List ℕ) → Refusal → Type 0
+IsLinesRefusal texts fs o all RowShape = HasFirstFault texts fs all RowShape
+IsLinesRefusal texts fs o all Script = HasFirstFault texts fs all Script
+IsLinesRefusal texts fs o all Limit = (rows : List ValueTrees) → AreRowTexts texts fs all rows → IsOutOfRange o ⊎ IsTooMuch fs o rows
+IsLinesRefusal texts fs o all Memory = Unit {0}
+IsLinesRefusal texts fs o all e = ⊥
 
 -- these rows are too much for a file, whatever rows come after them
 abbrev pub AreTooMuch : Fields → WriteOptions → List ValueTrees → Type 0
 AreTooMuch fs o rows = (later : List ValueTrees) → IsTooMuch fs o (rows ++ later)
 
--- a text is no row, or the rows before it are too much
-abbrev pub IsLineRefusal : Fields → List ℕ → Type 0 → Refusal → Type 0
-IsLineRefusal fs text TooMuch RowShape = IsRefusedLine fs text RowShape
-IsLineRefusal fs text TooMuch Script = IsRefusedLine fs text Script
-IsLineRefusal fs text TooMuch Limit = TooMuch
-IsLineRefusal fs text TooMuch Memory = Unit {0}
-IsLineRefusal fs text TooMuch e = ⊥
+-- a line is no row, or the rows before it are too much
+abbrev pub IsLineRefusal : Bool → Fields → List ℕ → Type 0 → Refusal → Type 0
+IsLineRefusal texts fs line TooMuch RowShape = IsRefusedLine texts fs line RowShape
+IsLineRefusal texts fs line TooMuch Script = IsRefusedLine texts fs line Script
+IsLineRefusal texts fs line TooMuch Limit = TooMuch
+IsLineRefusal texts fs line TooMuch Memory = Unit {0}
+IsLineRefusal texts fs line TooMuch e = ⊥
 
--- a writer that was given these rows was given that of a text too
-pub record HasLine (fs : Fields) (o : WriteOptions) (text : List ℕ) (rows : List ValueTrees) (writer : FileWriter) : Type 0 where
+-- a writer that was given these rows was given that of a line too
+pub record HasLine (texts : Bool) (fs : Fields) (o : WriteOptions) (line : List ℕ) (rows : List ValueTrees) (writer : FileWriter) : Type 0 where
   pub row : ValueTrees
-  pub is : IsRowText fs text row
+  pub is : IsRowText texts fs line row
   pub fits : IsTrue (fits_each fs row)
   pub has : has_rows writer (rows ++ row ∷ [])
   pub schema : schema_of writer ≡ fs

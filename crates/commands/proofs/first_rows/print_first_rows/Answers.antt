@@ -15,7 +15,7 @@ returns-in_err-terms g c = record {
       let old = c.args.store.now in
       let held = g.W.Write.contents c.args.out.now in
       let e = c.in_err-terms.field-0.0 in
-      passed (λ r. ReadsFrom g.D.Disk.state old old (option_map (λ t. t.now) c.args.filter) (λ terms. Appends held held (first_lines c.args.limit terms (names_view c.args.columns) s.table)) (held ≡ held) r s) c.from_residual.result e c.from_residual.ensures.1
+      passed (λ r. ReadsFrom g.D.Disk.state c.args.texts old old (option_map (λ t. t.now) c.args.filter) (λ terms. Appends held held (first_lines c.args.texts c.args.limit terms (names_view c.args.columns) s.table)) (held ≡ held) r s) c.from_residual.result e c.from_residual.ensures.1
       (not_read e (c.in_err-terms.ensures.which s stands) refl refl refl);
 }
 
@@ -26,7 +26,7 @@ returns g c = record {
       let contents = g.W.Write.contents in
       let terms = terms_view c.in_ok-terms.terms.items in
       let selected = c.print_first_selected.ensures.prints honest s stands in
-      let told = subst (λ (ts : List (Vec Term Global)). PrintsSelectedFirst state c.args.store.now c.print_first_selected.new.store c.args.limit (terms_view ts) (names_view c.args.columns) (contents c.args.out.now)
+      let told = subst (λ (ts : List (Vec Term Global)). PrintsSelectedFirst state c.args.texts c.args.store.now c.print_first_selected.new.store c.args.limit (terms_view ts) (names_view c.args.columns) (contents c.args.out.now)
       (contents c.print_first_selected.new.out) c.print_first_selected.result s) c.as_slice.ensures.value selected in
       read terms (c.in_ok-terms.ensures.stands s stands) told.reads told.printed;
 }

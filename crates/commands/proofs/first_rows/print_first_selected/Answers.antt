@@ -19,7 +19,7 @@ returns-in_err-cursor g c = record {
       let e = c.in_err-cursor.field-0.0 in
       record {
         reads = asked g.D.Disk.state c.args.store.now c.query.new.self terms columns s (refused e) (c.in_err-cursor.ensures.acts honest s stands);
-        printed = passed (λ r. OnOk r (Appends before before (first_lines c.args.limit terms columns s.table))) c.from_residual.result e c.from_residual.ensures.1 tt;
+        printed = passed (λ r. OnOk r (Appends before before (first_lines c.args.texts c.args.limit terms columns s.table))) c.from_residual.result e c.from_residual.ensures.1 tt;
       };
 }
 
@@ -36,9 +36,9 @@ returns-in_err-printed g c = record {
       let closing = c.close-closed.ensures.acts (c.print_first_batches-printed.ensures.honest still) left.last left.stands in
       let e = c.in_err-printed.field-0.0 in
       record {
-        reads = closed state c.args.store.now c.query.new.self terms columns s c.in_ok-cursor.cursor acts c.args.limit c.print_first_batches-printed.new.store c.close-closed.new.self (contents c.args.out.now)
+        reads = closed state c.args.texts c.args.store.now c.query.new.self terms columns s c.in_ok-cursor.cursor acts c.args.limit c.print_first_batches-printed.new.store c.close-closed.new.self (contents c.args.out.now)
             (contents c.print_first_batches-printed.new.out) c.print_first_batches-printed.result left (answered (λ _. accepted) c.close-closed.result) closing;
-        printed = passed (λ r. OnOk r (Appends (contents c.args.out.now) (contents c.print_first_batches-printed.new.out) (first_lines c.args.limit terms columns s.table))) c.from_residual-in_err-printed.result e c.from_residual-in_err-printed.ensures.1 tt;
+        printed = passed (λ r. OnOk r (Appends (contents c.args.out.now) (contents c.print_first_batches-printed.new.out) (first_lines c.args.texts c.args.limit terms columns s.table))) c.from_residual-in_err-printed.result e c.from_residual-in_err-printed.ensures.1 tt;
       };
 }
 
@@ -57,9 +57,9 @@ returns g c = record {
       let before = contents c.args.out.now in
       let after = contents c.print_first_batches-printed.new.out in
       record {
-        reads = closed state c.args.store.now c.query.new.self terms columns s c.in_ok-cursor.cursor acts c.args.limit end c.close-closed.new.self before after (Ok tt) left (answered (λ _. accepted) c.close-closed.result) closing;
+        reads = closed state c.args.texts c.args.store.now c.query.new.self terms columns s c.in_ok-cursor.cursor acts c.args.limit end c.close-closed.new.self before after (Ok tt) left (answered (λ _. accepted) c.close-closed.result) closing;
         printed = ok_always c.close-closed.result
-            (rows_printed state c.args.store.now c.query.new.self terms columns s c.in_ok-cursor.cursor acts c.queries_give_all.ensures.beginning c.queries_give_all.ensures.finished stands c.args.limit end left.calls left.answers left.last before after
+            (rows_printed state c.args.texts c.args.store.now c.query.new.self terms columns s c.in_ok-cursor.cursor acts c.queries_give_all.ensures.beginning c.queries_give_all.ensures.finished stands c.args.limit end left.calls left.answers left.last before after
             left.acts left.all);
       };
 }

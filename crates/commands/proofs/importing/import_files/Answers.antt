@@ -1,9 +1,7 @@
 use Rattle.std.proofs.Common.{refl}
 use Rattle.vault.proofs.Chained.{refused as passed}
-use Rattle.table.specs.Calls.{begin_append, abort, job, accepted, refused}
-use Rattle.table.specs.Views.{answered}
 use Rattle.commands.specs.Importing.{files_view, ImportsFrom, all_in, none_in}
-use Rattle.commands.proofs.StagedFiles.{begin_same, begin_refused, abort_same, as_it_was, leaves_before, leaves_after}
+use Rattle.commands.proofs.StagedFiles.{none_opened, none_came}
 use Rattle.commands.proofs.importing.import_files.Goals as goal
 
 pub returns-in_err-job : goal.returns-in_err-job
@@ -12,10 +10,10 @@ returns-in_err-job g c = record {
       let state = g.D.Disk.state in
       let old = c.args.store.now in
       let new = c.begin_append.new.self in
+      let files = files_view c.args.files.now in
       let e = c.in_err-job.field-0.0 in
-      let acts = c.in_err-job.ensures.acts honest s stands in
-      passed (λ r. ImportsFrom state old new (files_view c.args.files.now) r s) c.from_residual.result e c.from_residual.ensures.1
-      (none_in e refl (leaves_before state old new new begin_append (refused e) s acts (begin_refused s acts.after e acts.happens) (as_it_was state new acts.after acts.stands)));
+      passed (λ r. ImportsFrom state old new files r s) c.from_residual.result e c.from_residual.ensures.1
+      (none_in e refl (none_opened state old new files e s (c.in_err-job.ensures.acts honest s stands)));
 }
 
 pub returns-in-Ok : goal.returns-in-Ok
@@ -36,10 +34,10 @@ returns-in-Err g c = record {
       let late = c.stage_files.new.store in
       let new = c.abort.new.self in
       let n = c.in_ok-job.job in
+      let e = c.in-Err.refusal in
       let first = c.in_ok-job.ensures.acts honest s stands in
       let still = c.in_ok-job.ensures.honest.0 honest in
-      let left = c.in-Err.ensures.stages still first.after first.stands in
-      let ending = c.abort.ensures.acts (c.stage_files.ensures.honest still) left.last left.stands in
-      let over = leaves_after state mid late new (abort n) (answered (λ _. accepted) c.abort.result) first.after left ending (abort_same left.last ending.after n c.abort.result ending.happens) in
-      none_in c.in-Err.refusal refl (leaves_before state old mid new begin_append (job n) s first (begin_same s first.after n first.happens) over);
+      let stops = c.in-Err.ensures.stages still first.after first.stands in
+      let ending = c.abort.ensures.acts (c.stage_files.ensures.honest still) stops.refuses.last stops.refuses.stands in
+      none_in e refl (none_came state old mid late new n (files_view c.args.files.now) e c.abort.result s first stops ending);
 }

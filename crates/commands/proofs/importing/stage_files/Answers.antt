@@ -1,10 +1,10 @@
-use Rattle.std.proofs.Common.{◌≡◌, ◌+◌, ◌++◌, ◌∷◌, [], List, Vec, Global, ℕ, take, sym, subst, arith}
+use Rattle.std.proofs.Common.{◌≡◌, ◌+◌, ◌++◌, ◌∷◌, [], List, Vec, Global, ℕ, suc, take, drop, sym, subst, arith}
 use Rattle.std.proofs.lemmas.List.{take_all}
 use Rattle.vault.proofs.Chained.{refused as passed}
 use Rattle.footer.specs.File.{FileMeans}
-use Rattle.commands.specs.Importing.{files_view, StagesFiles}
+use Rattle.commands.specs.Importing.{files_view, StagesFiles, RefusesFile, StopsAtFile}
 use Rattle.commands.specs.inner.Staged.{StagesAll}
-use Rattle.commands.proofs.StagedFiles.{none_staged, staged_more, staged_then}
+use Rattle.commands.proofs.StagedFiles.{none_staged, staged_more, stops_here, split_files}
 use Rattle.commands.proofs.Stopped.{taken}
 use Rattle.commands.proofs.importing.stage_files.Goals as goal
 
@@ -37,10 +37,16 @@ returns-in_err-stage_at-clause-stages g c = λ honest s stands.
     let mid = c.loop-place.store in
     let new = c.stage_at.new.store in
     let n = c.args.job in
+    let all = c.args.files.now in
+    let place = c.loop-place.place in
+    let file = c.index-files-place.result in
+    let e = c.in_err-stage_at.field-0.0 in
     let has = c.loop-place.invariant.stages honest s stands in
     let one = c.in_err-stage_at.ensures.stages (c.loop-place.invariant.honest honest) has.last has.stands in
-    passed (λ r. StagesAll state old new n (files_view c.args.files.now) r s) c.from_residual.result c.in_err-stage_at.field-0.0 c.from_residual.ensures.1
-    (staged_then state old mid new n (files_view (take c.loop-place.place c.args.files.now)) s has one)
+    let refuses = subst (λ (bytes : List ℕ). RefusesFile state mid new n bytes e has.last) c.as_slice.ensures.value one in
+    let stops = stops_here state old mid new n (files_view (take place all)) file.items (files_view (drop (suc place) all)) e s has refuses in
+    passed (λ r. StagesAll state old new n (files_view all) r s) c.from_residual.result e c.from_residual.ensures.1
+    (subst (λ (fs : List (List ℕ)). StopsAtFile state old new n fs e s) (sym (split_files all place file c.loop-place-test.true c.index-files-place.is)) stops)
 
 pub returns-clause-stages : goal.returns-clause-stages
 returns-clause-stages g c = λ honest s stands.

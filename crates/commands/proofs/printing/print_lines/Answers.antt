@@ -5,15 +5,15 @@ use Rattle.schema.specs.Values.{ValueTrees}
 use Rattle.schema.specs.Shape.{Fields}
 use Rattle.schema.specs.Views.{row_view, rows_view}
 use Rattle.schema.specs.declared.row.Row.{Row}
-use Rattle.rowtext.specs.Rows.{BeginsLine}
+use Rattle.rowtext.specs.Rows.{BeginsLineAs}
 use Rattle.commands.specs.inner.Gathering.{AreGathered}
 use Rattle.commands.proofs.GatheredLines.{none_yet, one_more, all_printed, rows_so_far, fits_here}
 use Rattle.commands.proofs.printing.print_lines.Goals as goal
 
 pub loop-row-init : goal.loop-row-init
 loop-row-init g c = λ fit.
-    none_yet c.args.schema.now c.new-text.result (g.W.Write.contents c.args.out.now)
-    (subst (λ (fs : Fields). BeginsLine c.new-text.result fs []) c.in_ok-plan.ensures.prints (c.new-text.ensures.empty c.in_ok-plan.ensures.ready))
+    none_yet c.args.texts c.args.schema.now c.new-text.result (g.W.Write.contents c.args.out.now)
+    (subst (λ (fs : Fields). BeginsLineAs c.args.texts c.new-text.result fs []) c.in_ok-plan.ensures.prints (c.new-text.ensures.begins_as c.args.texts c.in_ok-plan.ensures.ready))
 
 pub loop-row-preserved : goal.loop-row-preserved
 loop-row-preserved g c = λ fit.
@@ -27,9 +27,9 @@ loop-row-preserved g c = λ fit.
     let row = c.row-item.result in
     let p = c.loop-row.invariant fit in
     let done = rows_view (take i all) in
-    let put = c.in_ok-put_line.ensures.stands fs p.gathered p.gathers (fits_here fs all i row c.loop-row-test.true c.row-item.is fit) in
-    subst (λ (rows : List ValueTrees). AreGathered fs rows c.write_full.new.text old new) (sym (rows_so_far all i row c.loop-row-test.true c.row-item.is))
-    (c.in_ok-write_full.ensures.gathered fs (done ++ row_view row ∷ []) old (one_more fs done (row_view row) c.loop-row.text c.put_line.new.self old mid p put))
+    let put = c.in_ok-put_line.ensures.stands_as c.args.texts fs p.gathered p.gathers (fits_here fs all i row c.loop-row-test.true c.row-item.is fit) in
+    subst (λ (rows : List ValueTrees). AreGathered c.args.texts fs rows c.write_full.new.text old new) (sym (rows_so_far all i row c.loop-row-test.true c.row-item.is))
+    (c.in_ok-write_full.ensures.gathered c.args.texts fs (done ++ row_view row ∷ []) old (one_more c.args.texts fs done (row_view row) c.loop-row.text c.put_line.new.self old mid p put))
 
 pub returns-clause-printed : goal.returns-clause-printed
 returns-clause-printed g c = λ fit.
@@ -39,6 +39,6 @@ returns-clause-printed g c = λ fit.
     let old = contents c.args.out.now in
     let mid = contents c.loop-row.out in
     let so_far = c.loop-row.invariant fit in
-    let p = subst (λ (rows : List Row). AreGathered fs (rows_view rows) c.loop-row.text old mid) (take_all c.loop-row.row-index all (omega arith)) so_far in
+    let p = subst (λ (rows : List Row). AreGathered c.args.texts fs (rows_view rows) c.loop-row.text old mid) (take_all c.loop-row.row-index all (omega arith)) so_far in
     on_ok_weaker c.write_text.result
-    (all_printed fs (rows_view all) c.loop-row.text old mid (contents c.write_text.new.out) c.lines.result.now p (c.lines.ensures.lines fs p.gathered p.gathers)) c.write_text.ensures.written
+    (all_printed c.args.texts fs (rows_view all) c.loop-row.text old mid (contents c.write_text.new.out) c.lines.result.now p (c.lines.ensures.lines_as c.args.texts fs p.gathered p.gathers)) c.write_text.ensures.written

@@ -16,7 +16,7 @@ returns-in_err-terms g c = record {
       let old = c.args.store.now in
       let held = g.W.Write.contents c.args.out.now in
       let e = c.in_err-terms.field-0.0 in
-      passed (λ r. ReadsFrom g.D.Disk.state old old (option_map (λ t. t.now) c.args.filter) (λ terms. Appends held held (decimal (row_count terms s.table) ++ codes "\n")) (held ≡ held) r s) c.from_residual.result e c.from_residual.ensures.1
+      passed (λ r. ReadsFrom g.D.Disk.state c.args.texts old old (option_map (λ t. t.now) c.args.filter) (λ terms. Appends held held (decimal (row_count terms s.table) ++ codes "\n")) (held ≡ held) r s) c.from_residual.result e c.from_residual.ensures.1
       (not_read e (c.in_err-terms.ensures.which s stands) refl refl refl);
 }
 

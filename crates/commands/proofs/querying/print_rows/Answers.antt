@@ -14,7 +14,7 @@ returns-in_err-terms-clause-prints g c = λ honest s stands.
     let old = c.args.store.now in
     let held = g.W.Write.contents c.args.out.now in
     let e = c.in_err-terms.field-0.0 in
-    passed (λ r. ReadsFrom g.D.Disk.state old old (option_map (λ t. t.now) c.args.filter) (λ terms. Appends held held (query_lines terms (names_view c.args.columns) s.table)) (held ≡ held) r s) c.from_residual.result e c.from_residual.ensures.1
+    passed (λ r. ReadsFrom g.D.Disk.state c.args.texts old old (option_map (λ t. t.now) c.args.filter) (λ terms. Appends held held (query_lines c.args.texts terms (names_view c.args.columns) s.table)) (held ≡ held) r s) c.from_residual.result e c.from_residual.ensures.1
     (not_read e (c.in_err-terms.ensures.which s stands) refl refl refl)
 
 pub returns-clause-prints : goal.returns-clause-prints
@@ -25,6 +25,6 @@ returns-clause-prints g c = λ honest s stands.
     let columns = names_view c.args.columns in
     let same = c.printing_of-progress.ensures.same in
     let selected = c.print_selected-printed.ensures.prints (rw same honest) s (rw same stands) in
-    let of_old = subst (λ (x : Store g.row.D.Denot). PrintsSelected state x c.print_selected-printed.new.store (terms_view c.as_slice-2.result.now) columns (contents c.args.out.now) (contents c.print_selected-printed.new.out) c.print_selected-printed.result s) same selected in
-    let told = subst (λ (ts : List (Vec Term Global)). PrintsSelected state c.args.store.now c.print_selected-printed.new.store (terms_view ts) columns (contents c.args.out.now) (contents c.print_selected-printed.new.out) c.print_selected-printed.result s) c.as_slice-2.ensures.value of_old in
+    let of_old = subst (λ (x : Store g.row.D.Denot). PrintsSelected state c.args.texts x c.print_selected-printed.new.store (terms_view c.as_slice-2.result.now) columns (contents c.args.out.now) (contents c.print_selected-printed.new.out) c.print_selected-printed.result s) same selected in
+    let told = subst (λ (ts : List (Vec Term Global)). PrintsSelected state c.args.texts c.args.store.now c.print_selected-printed.new.store (terms_view ts) columns (contents c.args.out.now) (contents c.print_selected-printed.new.out) c.print_selected-printed.result s) c.as_slice-2.ensures.value of_old in
     read terms (c.in_ok-terms.ensures.stands s stands) told.reads told.printed

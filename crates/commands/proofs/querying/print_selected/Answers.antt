@@ -17,7 +17,7 @@ returns-in_err-cursor-clause-prints g c = λ honest s stands.
     let e = c.in_err-cursor.field-0.0 in
     record {
       reads = asked g.D.Disk.state c.args.store.now c.query.new.self terms columns s (refused e) (c.in_err-cursor.ensures.acts honest s stands);
-      printed = passed (λ r. OnOk r (Appends before before (query_lines terms columns s.table))) c.from_residual.result e c.from_residual.ensures.1 tt;
+      printed = passed (λ r. OnOk r (Appends before before (query_lines c.args.texts terms columns s.table))) c.from_residual.result e c.from_residual.ensures.1 tt;
     }
 
 pub returns-in_err-printed-clause-prints : goal.returns-in_err-printed-clause-prints
@@ -32,9 +32,9 @@ returns-in_err-printed-clause-prints g c = λ honest s stands.
     let closing = c.close-closed.ensures.acts (c.print_batches-printed.ensures.honest still) left.last left.stands in
     let e = c.in_err-printed.field-0.0 in
     record {
-      reads = closed state c.args.store.now c.query.new.self terms columns s c.in_ok-cursor.cursor acts c.print_batches-printed.new.store c.close-closed.new.self (contents c.args.out.now) (contents c.print_batches-printed.new.out)
+      reads = closed state c.args.store.now c.query.new.self terms columns s c.in_ok-cursor.cursor acts c.args.texts c.print_batches-printed.new.store c.close-closed.new.self (contents c.args.out.now) (contents c.print_batches-printed.new.out)
           c.print_batches-printed.result left (answered (λ _. accepted) c.close-closed.result) closing;
-      printed = passed (λ r. OnOk r (Appends (contents c.args.out.now) (contents c.print_batches-printed.new.out) (query_lines terms columns s.table))) c.from_residual-in_err-printed.result e c.from_residual-in_err-printed.ensures.1 tt;
+      printed = passed (λ r. OnOk r (Appends (contents c.args.out.now) (contents c.print_batches-printed.new.out) (query_lines c.args.texts terms columns s.table))) c.from_residual-in_err-printed.result e c.from_residual-in_err-printed.ensures.1 tt;
     }
 
 pub returns-clause-prints : goal.returns-clause-prints
@@ -51,7 +51,7 @@ returns-clause-prints g c = λ honest s stands.
     let before = contents c.args.out.now in
     let after = contents c.print_batches-printed.new.out in
     record {
-      reads = closed state c.args.store.now c.query.new.self terms columns s c.in_ok-cursor.cursor acts end c.close-closed.new.self before after (Ok tt) left (answered (λ _. accepted) c.close-closed.result) closing;
+      reads = closed state c.args.store.now c.query.new.self terms columns s c.in_ok-cursor.cursor acts c.args.texts end c.close-closed.new.self before after (Ok tt) left (answered (λ _. accepted) c.close-closed.result) closing;
       printed = ok_always c.close-closed.result
-          (rows_printed state c.args.store.now c.query.new.self terms columns s c.in_ok-cursor.cursor acts c.queries_give_all.ensures.finished stands end left.calls left.answers left.last before after left.acts left.fetches left.all);
+          (rows_printed state c.args.store.now c.query.new.self terms columns s c.in_ok-cursor.cursor acts c.args.texts c.queries_give_all.ensures.finished stands end left.calls left.answers left.last before after left.acts left.fetches left.all);
     }

@@ -6,4 +6,4 @@ use Rattle.program.proofs.encode.check_lines.Given as goal
 
 -- the lines so far are rows
 abbrev pub invariant-loop-line : goal.invariant-loop-line
-invariant-loop-line l = ((rows : List ValueTrees) × AreRowTexts l.schema (map (λ text. text.now) l.yielded) rows) × (fields_of l.reader ≡ l.schema)
+invariant-loop-line l = ((rows : List ValueTrees) × AreRowTexts l.texts l.schema (map (λ text. text.now) l.yielded) rows) × (fields_of l.reader ≡ l.schema)

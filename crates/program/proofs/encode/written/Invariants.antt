@@ -11,7 +11,7 @@ use Rattle.program.proofs.encode.written.Given as goal
 abbrev pub invariant-loop-line : goal.invariant-loop-line
 invariant-loop-line g l = shadow (Utf8 l.rest) × (cut : List (Bor (List ℕ))) × record {
   joined : lines l.fn.text ≡ map (λ text. text.now) cut ++ lines l.rest;
-  read : HasRead l.schema l.options (map (λ text. text.now) cut) (fields_of l.reader) l.writer;
+  read : HasRead l.texts l.schema l.options (map (λ text. text.now) cut) (fields_of l.reader) l.writer;
   quiet : l.fn.progress.is_shown ≡ false → g.E.Write.contents l.err ≡ g.E.Write.contents l.fn.err;
   same : l.progress.is_shown ≡ l.fn.progress.is_shown;
 }

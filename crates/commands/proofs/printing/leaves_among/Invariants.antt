@@ -1,8 +1,0 @@
-use Rattle.std.proofs.Common.{◌≡◌, ◌++◌, drop, map}
-use Rattle.schema.specs.Views.{leaf_view}
-use Rattle.commands.specs.inner.Gathering.{leaves_among}
-use Rattle.commands.proofs.printing.leaves_among.Given as goal
-
--- the leaves so far, and those among the leaves that are left, are all
-abbrev pub invariant-loop-index : goal.invariant-loop-index
-invariant-loop-index l = l.among.items ++ leaves_among l.places l.index (map leaf_view (drop l.index l.leaves)) ≡ leaves_among l.places 0 (map leaf_view l.leaves)

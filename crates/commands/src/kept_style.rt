@@ -1,0 +1,175 @@
+//! The style of the groups that are there, for a call that keeps it.
+
+ghost use Rattle.std.specs.Prelude.{◌≡◌, ◌↔◌, Bool, true, IsTrue};
+ghost use Rattle.std.specs.Ordering.{int_eq};
+ghost use Rattle.std.specs.List.{list_any};
+ghost use Rattle.metadata.specs.Views.{chunk_meta_view};
+ghost use Rattle.schema.specs.Keys.{key_columns_view, places_of};
+ghost use Rattle.filter.specs.Test.{tests_in};
+ghost use Rattle.filter.specs.RuledOut.{RuledOut};
+ghost use Rattle.manifest.specs.Groups.{Group as GroupShown, group_view, root_of};
+ghost use Rattle.commands.specs.Kept.{is_encoded, has_encoding, style_of, first_style, is_numbered, TellsWhichMayHold};
+
+use bits::R;
+use dataset_words::Change;
+use filter::Filter;
+use jsonrows::filter_from_as;
+use manifest::{Group, Manifest};
+use metadata::ChunkMeta;
+use planning::plan_rewrite;
+use row_group::Style;
+use schema::KeyColumn;
+use std::alloc::Global;
+
+/// The numbers of encodings (`parquet.thrift`, Encoding).
+const DELTA_BINARY_PACKED: i32 = 5;
+
+const DELTA_LENGTH_BYTE_ARRAY: i32 = 6;
+
+const DELTA_BYTE_ARRAY: i32 = 7;
+
+const RLE_DICTIONARY: i32 = 8;
+
+const BYTE_STREAM_SPLIT: i32 = 9;
+
+/// The style of the first group of a table, in table order, that a change writes anew: of a rewrite the first of its groups, of a
+/// removal the first whose key and statistics do not rule out that a row of it goes. None where there is no such group, and for
+/// other changes. Refused as `filter_from_as` and [`Filter::new`] refuse the filter of a removal, read with texts or without; else only when out of memory.
+pub fn kept_style(
+    alloc: Global,
+    table: &Manifest,
+    change: &Change<'_>,
+    texts: bool,
+) -> R<Option<Style>> {
+    match change {
+        Change::Rewrite { numbers } => Ok(style_among(table, numbers.as_slice())),
+        Change::RewriteSmall { min_rows } => {
+            let numbers = plan_rewrite(alloc, table.groups(), *min_rows)?;
+            Ok(style_among(table, numbers.as_slice()))
+        }
+        Change::RewriteAll => Ok(style_of_first(table)),
+        Change::Remove { filter } => {
+            let terms = filter_from_as(alloc, table.schema(), filter, texts)?;
+            let filter = Filter::new(alloc, table.schema(), terms.as_slice())?;
+            Ok(style_left_by(table, &filter))
+        }
+        _ => Ok(None),
+    }
+}
+
+/// The style of the first group of a table; None where it has no groups.
+fn style_of_first(table: &Manifest) -> Option<Style>
+    ensures { result ≡ first_style (λ _. true) (root_of table.now).groups }
+{
+    match table.groups().group_at(0) {
+        Some(group) => Some(style_of(group)),
+        None => None,
+    }
+}
+
+/// The style of the first group of a table that has one of these numbers; None where none has.
+fn style_among(table: &Manifest, numbers: &[u64]) -> Option<Style>
+    ensures { result ≡ first_style (is_numbered numbers.now) (root_of table.now).groups }
+{
+    let groups = table.groups();
+    for place in 0..groups.len() {
+        match groups.group_at(place) {
+            Some(group) => if is_numbered(group, numbers) {
+                return Some(style_of(group));
+            },
+            None => return None,
+        }
+    }
+    None
+}
+
+/// Whether a group has one of these numbers.
+fn is_numbered(group: &Group, numbers: &[u64]) -> bool
+    ensures { result ≡ is_numbered numbers.now (group_view group.now) }
+{
+    for number in numbers {
+        if group.number == *number {
+            return true;
+        }
+    }
+    false
+}
+
+/// The style of the first group of a table that a filter does not rule out; None where it rules out all.
+fn style_left_by(table: &Manifest, filter: &Filter) -> Option<Style>
+    ensures { (is : GroupShown → Bool) → TellsWhichMayHold (root_of table.now).keys (tests_in filter.now) is → result ≡ first_style is (root_of table.now).groups }
+{
+    let groups = table.groups();
+    for place in 0..groups.len() {
+        match groups.group_at(place) {
+            Some(group) => if may_hold(group, table.keys(), filter) {
+                return Some(style_of(group));
+            },
+            None => return None,
+        }
+    }
+    None
+}
+
+/// Whether the key and the statistics of a group do not rule out that a row of it satisfies a filter.
+fn may_hold(group: &Group, keys: &[KeyColumn], filter: &Filter) -> bool
+    ensures { IsTrue result ↔ (RuledOut (tests_in filter.now) (places_of (key_columns_view keys.now)) (group_view group.now).key (group_view group.now).known → ⊥) }
+{
+    !filter.ruled_out(keys, &group.key, &group.stats)
+}
+
+/// The style in which a group was written, by the encodings of its chunks.
+fn style_of(group: &Group) -> Style
+    ensures { result ≡ style_of (group_view group.now) }
+{
+    if has_encoding(group, RLE_DICTIONARY) {
+        return Style::Dictionary;
+    }
+    if has_encoding(group, BYTE_STREAM_SPLIT) {
+        return Style::Split;
+    }
+    if has_encoding(group, DELTA_BYTE_ARRAY) {
+        return Style::Delta;
+    }
+    if has_encoding(group, DELTA_LENGTH_BYTE_ARRAY) {
+        return Style::Lengths;
+    }
+    if has_encoding(group, DELTA_BINARY_PACKED) {
+        return Style::Delta;
+    }
+    Style::Plain
+}
+
+/// Whether a chunk of a group has values in the encoding of this number.
+fn has_encoding(group: &Group, number: i32) -> bool
+    ensures { result ≡ has_encoding number (group_view group.now) }
+{
+    for chunk in &group.chunks {
+        if is_encoded(chunk, number) {
+            return true;
+        }
+    }
+    false
+}
+
+/// Whether a chunk has values in the encoding of this number.
+fn is_encoded(chunk: &ChunkMeta, number: i32) -> bool
+    ensures { result ≡ is_encoded number (chunk_meta_view chunk.now) }
+{
+    match &chunk.meta_data.encodings {
+        Some(encodings) => is_among(encodings.as_slice(), number),
+        None => false,
+    }
+}
+
+/// Whether a number is among these.
+fn is_among(numbers: &[i32], number: i32) -> bool
+    ensures { result ≡ list_any (int_eq number) numbers.now }
+{
+    for found in numbers {
+        if *found == number {
+            return true;
+        }
+    }
+    false
+}
