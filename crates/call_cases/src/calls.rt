@@ -15,6 +15,9 @@ const LAST_OUT: &str = "last.out";
 /// The file that has what the last call wrote to standard error.
 const LAST_ERR: &str = "last.err";
 
+/// How many bytes the groups of one of several files take at most: so few that such a file has few groups.
+const PART_BYTES: usize = 110;
+
 /// The words of a line after its first, parted by single spaces.
 fn words_of(alloc: Global, line: &str) -> R<Vec<String>> {
     let mut words = Vec::new(alloc);
@@ -54,7 +57,11 @@ fn status_of(
     screen: Screen<'_>,
     terminals: Terminals,
 ) -> u8 {
-    let datasets = Folders { files: rt, screen };
+    let datasets = Folders {
+        files: rt,
+        screen,
+        part_bytes: PART_BYTES,
+    };
     let mut err = screen;
     work(rt, rt.alloc(), words, out, &mut err, terminals, &datasets)
 }

@@ -1,7 +1,7 @@
 //! `pqds decode` where its output cannot be written.
 
 use bits::{R, Refusal};
-use dataset_words::{Call, Datasets};
+use dataset_words::{Call, Datasets, FileSink};
 use program::{Terminals, work};
 use std::alloc::Global;
 use std::fs;
@@ -48,7 +48,7 @@ struct NoDatasets;
 impl<W: Write, E: Write> Datasets<W, E> for NoDatasets {
     ghost prints = { λ nobody call old new. Unit {0} };
 
-    ghost gives = { λ nobody call file. Unit {0} };
+    ghost gives = { λ nobody call files. Unit {0} };
 
     fn make(
         &self,
@@ -68,6 +68,17 @@ impl<W: Write, E: Write> Datasets<W, E> for NoDatasets {
         _err: &mut E,
         _terminals: Terminals,
     ) -> R<Vec<u8>> {
+        Err(Refusal::Device)
+    }
+
+    fn files_of<S: FileSink>(
+        &self,
+        _alloc: Global,
+        _call: &Call<'_>,
+        _sink: &mut S,
+        _err: &mut E,
+        _terminals: Terminals,
+    ) -> R<()> {
         Err(Refusal::Device)
     }
 }

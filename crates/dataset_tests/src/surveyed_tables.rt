@@ -12,6 +12,7 @@ fn large(alloc: Global) -> R<Survey> {
     for number in 1..=1_000u64 {
         keys.push(KeyReport {
             folder: format!(in alloc; "k={number}")?,
+            key: format!(in alloc; "k={number}")?,
             totals: Totals {
                 rows: 100,
                 groups: 10,
@@ -40,7 +41,7 @@ const PRINTED: [&str; 3] = [
 
 /// Whether all that is printed of the large table is a screenful, and has these texts.
 fn is_a_screenful(alloc: Global) -> R<bool> {
-    let bytes = text_of_survey(alloc, &large(alloc)?)?;
+    let bytes = text_of_survey(alloc, "", &large(alloc)?)?;
     let text = String::from_utf8_lossy(alloc, bytes.as_slice())?;
     let text = text.as_str();
     Ok(text.lines().count() < 56 && PRINTED.iter().all(|printed| text.contains(*printed)))

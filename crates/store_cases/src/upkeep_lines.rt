@@ -37,7 +37,11 @@ fn checked(alloc: Global, vault: &mut Vault<MemDisk>) -> R<String> {
     let checked = check(alloc, vault, &manifest, &mut seen)?;
     let rows = seen.0;
     let mut text = format!(in alloc; "{rows} rows checked")?;
-    lines_of(alloc, text_of_check(alloc, &checked)?.as_slice(), &mut text)?;
+    lines_of(
+        alloc,
+        text_of_check(alloc, "", &checked)?.as_slice(),
+        &mut text,
+    )?;
     Ok(text)
 }
 
@@ -46,7 +50,11 @@ fn surveyed(alloc: Global, vault: &mut Vault<MemDisk>, least: u64) -> R<String> 
     let manifest = described(alloc, vault)?;
     let survey = survey_of(alloc, vault, &manifest, least)?;
     let mut text = String::new(alloc);
-    lines_of(alloc, text_of_survey(alloc, &survey)?.as_slice(), &mut text)?;
+    lines_of(
+        alloc,
+        text_of_survey(alloc, "", &survey)?.as_slice(),
+        &mut text,
+    )?;
     Ok(text)
 }
 
