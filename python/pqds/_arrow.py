@@ -204,13 +204,24 @@ def table_of_rows(fields: Sequence[Field], batches: Iterator[List[Dict[str, Any]
 _BOUNDS = {**{it: RANGES[it] for it in ("int_8", "int_16", "uint_8", "uint_16")}, **TICK_RANGES}
 
 
-def table_of_file(fields: Sequence[Field], path: str) -> Any:
-    """A `pyarrow.Table` of a Parquet file with these columns.
+def table_of_files(fields: Sequence[Field], paths: Sequence[str]) -> Any:
+    """A `pyarrow.Table` of Parquet files with these columns, one after another.
 
     None if pyarrow does not read the values of a column as the program means them: then they are taken as lines.
     """
-    pa, parquet = _pa(), importlib.import_module("pyarrow.parquet")
+    pa = _pa()
     schema = pa.schema([_arrow_field(it) for it in fields])
+    tables = [schema.empty_table()]
+    for path in paths:
+        table = _table_of_file(fields, schema, path)
+        if table is None:
+            return None
+        tables.append(table)
+    return pa.concat_tables(tables)
+
+
+def _table_of_file(fields: Sequence[Field], schema: Any, path: str) -> Any:
+    pa, parquet = _pa(), importlib.import_module("pyarrow.parquet")
     try:
         file = parquet.ParquetFile(path)
         if not _are_bounded(file.metadata, fields):

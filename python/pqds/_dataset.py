@@ -25,7 +25,7 @@ from typing import (
 )
 
 from . import _tables
-from ._errors import Limit, NoTable, PqdsError, Refused, Schema, WrongCall
+from ._errors import Exists, Limit, NoTable, PqdsError, Refused, Schema, WrongCall
 from ._filters import Filters, filter_json, filter_text
 from ._options import FileOptions, file_words, limit_words
 from ._program import FIND_OUT, PathLike, call, lines, path_word
@@ -37,8 +37,9 @@ if TYPE_CHECKING:
 
 # A word of a call has at most 131,071 bytes on Linux; a longer filter goes by a file.
 _LONGEST_WORD = 100_000
-# All words of a call have at most 2 MiB; so many numbers of groups fit.
+# All words of a call and the environment have at most 2 MiB; so many numbers of groups fit, and names of so many bytes.
 _MOST_WORDS = 50_000
+_MOST_BYTES = 1_500_000
 
 
 class Whole(NamedTuple):
@@ -170,7 +171,7 @@ class Dataset:
         The program writes the rows as Parquet files in a temporary folder, which pyarrow reads.
         """
         wanted = self._selection(filters, columns)
-        table = self._by_file(wanted, limit)
+        table = self._by_files(wanted, limit)
         return _tables.arrow_table(wanted.fields, self._batches(wanted, limit)) if table is None else table
 
     def to_pandas(
@@ -185,7 +186,7 @@ class Dataset:
         bytes, lists, maps and groups are Python's objects. With pyarrow the rows come as they do for `to_arrow`.
         """
         wanted = self._selection(filters, columns)
-        table = self._by_file(wanted, limit)
+        table = self._by_files(wanted, limit)
         if table is None:
             return _tables.frame(wanted.fields, self._batches(wanted, limit))
         return _tables.frame_of_arrow(wanted.fields, table)
@@ -213,7 +214,7 @@ class Dataset:
         as `count` does for `unless`. If `data` raises an exception, nothing is appended.
         """
         if raw:
-            return self._put(Prepared("append", "-", raw_parts(data)), self._filter(unless))
+            return self._put(Prepared("append", ["-"], raw_parts(data)), self._filter(unless))
         said = self.schema()
         wanted = _filter_of(said, unless)
         with prepared(data, said, floats or {}) as rows:
@@ -222,27 +223,20 @@ class Dataset:
     def import_files(self, files: Union[PathLike, Iterable[PathLike]], unless: Optional[Filters] = None) -> int:
         """Appends the rows of Parquet files, and returns how many.
 
-        The columns of a file are those of the table, with the keys, in their order. Each file is a commit of its own:
-        if one is refused, those before it are in the table, and the text of the exception says how many.
+        All of them come in, in the order of the files and in one commit, or none. The columns of a file are those of
+        the table, with the keys, in their order. `unless` is that of `append`.
 
-        `unless` is that of `append`. It takes one file: after the first of several the filter would hold.
-
-        Raises `Schema` for other columns, `Codec` for compressed files, `Float` and `Int96` for such columns.
+        Raises `Schema` for other columns, `Codec` for compressed files, `Float` and `Int96` for such columns; the
+        `reason` names the file. Raises `Limit` for more files than one call can name.
         """
-        paths: List[PathLike] = [files] if isinstance(files, (str, os.PathLike)) else list(files)
-        if unless is not None and len(paths) > 1:
-            raise TypeError(f"import_files takes one file with unless, found {len(paths)}: each is a commit of its own")
+        paths = [files] if isinstance(files, (str, os.PathLike)) else files
+        names = [path_word(it) for it in paths]
         wanted = self._filter(unless)
-        rows = 0
-        for number, path in enumerate(paths):
-            try:
-                rows += self._put(Prepared("import", path_word(path), None), wanted)
-            except Refused as refused:
-                if len(paths) > 1:
-                    before = f"{path_word(path)}, after {number} files with {rows} rows, which are in the table"
-                    raise type(refused)(f"{before}: {refused.reason}", refused.column) from None
-                raise
-        return rows
+        if not names:
+            return 0
+        if sum(len(os.fsencode(it)) + 9 for it in names) > _MOST_BYTES:
+            raise Limit(f"the names of {len(names)} files are too long for one call: import them in several calls")
+        return self._put(Prepared("import", names, None), wanted)
 
     def remove(self, filters: Optional[Filters] = None, *, groups: Optional[Iterable[Union[int, Group]]] = None) -> int:
         """Removes the rows that satisfy the filters, or whole groups, and returns how many rows.
@@ -346,7 +340,7 @@ class Dataset:
 
     def _put(self, rows: Prepared, unless: Optional[List[Any]] = None) -> int:
         with _filter_words(unless, "--unless") as words:
-            return self._done(rows.command, [*self._file_words, *words], [rows.file], rows.parts)
+            return self._done(rows.command, [*self._file_words, *words], rows.files, rows.parts)
 
     def _script_lines(self, calls: Sequence[Mapping[str, Any]], options: Sequence[str] = ()) -> Iterator[bytes]:
         text = "\n".join(json.dumps(it, ensure_ascii=False, separators=(",", ":")) for it in calls)
@@ -378,19 +372,29 @@ class Dataset:
             for some in lines("query", self._words([*words, *limit_words(limit)], names)):
                 yield json.loads(b"[%b]" % b",".join(some))
 
-    def _by_file(self, wanted: Selection, limit: Optional[int]) -> Any:
-        """The rows as a `pyarrow.Table`, by a file that the program writes; None if they have to come as lines."""
+    def _by_files(self, wanted: Selection, limit: Optional[int]) -> Any:
+        """The rows as a `pyarrow.Table`, by files that the program writes; None if they have to come as lines."""
         names = [it.name for it in wanted.fields]
-        if not names or limit is not None or not _tables.has_arrow():
+        if not names or not _tables.has_arrow():
             return None
         with tempfile.TemporaryDirectory(prefix="pqds-") as folder, _filter_words(wanted.filter) as words:
-            path = os.path.join(folder, "rows.parquet")
             try:
-                self._call("query", [*words, "--out", path], names)
-            except Limit:
-                # The rows are too much for one file, which ends at 2 GiB.
+                files = self._answer_files([*words, *limit_words(limit)], names, folder)
+            except (Limit, WrongCall):
+                # An earlier program writes one file of at most 2 GiB, and takes no limit with it.
                 return None
-            return _tables.table_of_file(wanted.fields, path)
+            return _tables.table_of_files(wanted.fields, files)
+
+    def _answer_files(self, words: Sequence[str], names: Sequence[str], folder: str) -> List[str]:
+        """Writes the answer of a query as files into an empty folder, and names them in the order of their rows."""
+        try:
+            self._call("query", [*words, "--out", folder], names)
+        except Exists:
+            # An earlier program writes one file.
+            file = os.path.join(folder, "part.0.parquet")
+            self._call("query", [*words, "--out", file], names)
+        by_number = sorted(os.listdir(folder), key=lambda it: int(it.split(".")[1]))
+        return [os.path.join(folder, it) for it in by_number]
 
     def _by_groups(self, wanted: Selection) -> Iterator[List[Any]]:
         """The rows of each group that has some, by a script, whose answers the program has in memory all at once."""
@@ -422,10 +426,10 @@ class Selection(NamedTuple):
 
 
 class Prepared(NamedTuple):
-    """How rows go to a table: the command, its file, and the parts of its standard input where the file is `-`."""
+    """How rows go to a table: the command, its files, and the parts of its standard input where the file is `-`."""
 
     command: str
-    file: str
+    files: Sequence[str]
     parts: Optional[Iterable[bytes]]
 
 
@@ -446,16 +450,16 @@ def prepared(
         with table as file:
             # Notes that no type of pyarrow has, such as enum, are not in the file; then the rows go by lines.
             if file_schema(file) == said:
-                yield Prepared("import", file, None)
+                yield Prepared("import", [file], None)
                 return
     parts = RowWriter(fields, floats).parts(_tables.rows_of(data, fields, floats))
     if not is_whole:
-        yield Prepared("append", "-", parts)
+        yield Prepared("append", ["-"], parts)
         return
     with tempfile.NamedTemporaryFile(prefix="pqds-") as lines_file:
         lines_file.writelines(parts)
         lines_file.flush()
-        yield Prepared("append", lines_file.name, None)
+        yield Prepared("append", [lines_file.name], None)
 
 
 def open(path: PathLike, *, wait: Union[bool, int] = True, **files: Unpack[FileOptions]) -> Dataset:  # noqa: A001

@@ -5,6 +5,7 @@ from __future__ import annotations
 import datetime
 import importlib
 import re
+from contextlib import suppress
 from typing import Any, Dict, Iterator, List, Mapping, Sequence
 
 from . import _arrow
@@ -66,8 +67,15 @@ def _column_json(column: Any, name: str, floats: Mapping[str, int]) -> Dict[str,
     raise Schema(f"{name}: no column has the type {kind}: cast it to another")
 
 
+def _are_texts(column: Any) -> bool:
+    """Whether a column has texts and nulls, and nothing else."""
+    return bool(_pd().api.types.infer_dtype(column, skipna=True) == "string")
+
+
 def _object_json(column: Any, name: str) -> Dict[str, Any]:
     """The type of a column of Python's objects, if they are all of one."""
+    if _are_texts(column):
+        return {"type": "bytes", "note": "utf8"}
     kinds = {type(it) for it in column[column.notna()]}
     if len(kinds) == 1:
         kind = kinds.pop()
@@ -106,12 +114,16 @@ def check_frame(frame: Any, fields: Sequence[Field], floats: Mapping[str, int]) 
             raise _arrow.not_in_floats(field.name)
 
 
+def _is_whole(field: Field) -> bool:
+    """Whether a column has integers."""
+    return field.meaning in ("int32", "int64") or field.meaning.startswith(("int_", "uint_"))
+
+
 def _values(column: Any, field: Field) -> List[Any]:
     """The values of a frame's column, null where pandas has none of its kinds of null."""
-    is_whole = field.meaning in ("int32", "int64") or field.meaning.startswith(("int_", "uint_"))
     values = list(column.to_numpy()) if str(column.dtype) == "float32" else column.tolist()
     absent = column.isna().tolist()
-    if is_whole and str(column.dtype) == "float64":
+    if _is_whole(field) and str(column.dtype) == "float64":
         # pandas has integers with nulls as floats; those that are whole are the same numbers.
         values = [int(it) if not gone and it.is_integer() else it for it, gone in zip(values, absent)]
     return [None if gone else it for it, gone in zip(values, absent)]
@@ -144,6 +156,12 @@ def _arrow_column(pa: Any, column: Any, field: Field, floats: Mapping[str, int])
     kind = str(column.dtype)
     if kind != "object" and not kind.startswith("float"):
         return pa.array(column, from_pandas=True)
+    # All at once, where pyarrow says no less than a look at each. If it refuses one, the look at each says which.
+    with suppress(UnicodeError, pa.ArrowException):
+        if field.meaning == "text" and _are_texts(column):
+            return pa.array(column, pa.string(), from_pandas=True)
+        if kind == "float64" and _is_whole(field):
+            return pa.array(column, from_pandas=True).cast(_arrow.type_of(field))
     convert = value_writer(field)
     places = floats.get(field.name)
     printed = []
@@ -190,7 +208,7 @@ def _series_of_arrow(field: Field, column: Any) -> Any:
     if field.meaning == "boolean" or "int" in field.meaning:
         kind = pandas.api.types.pandas_dtype(_number_type(field))
         return pandas.Series(kind.__from_arrow__(column)) if field.is_optional else column.to_pandas().astype(kind)
-    return pandas.Series(column.to_pylist(), dtype=object)
+    return column.to_pandas(date_as_object=True)
 
 
 def _array(field: Field, values: List[Any]) -> Any:

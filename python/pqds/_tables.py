@@ -95,9 +95,9 @@ def has_arrow() -> bool:
     return _arrow.is_there()
 
 
-def table_of_file(fields: Sequence[Field], path: str) -> Any:
-    """A `pyarrow.Table` of a Parquet file, or None if pyarrow would read it as other values."""
-    return _arrow.table_of_file(fields, path)
+def table_of_files(fields: Sequence[Field], paths: Sequence[str]) -> Any:
+    """A `pyarrow.Table` of Parquet files, one after another, or None if pyarrow would read them as other values."""
+    return _arrow.table_of_files(fields, paths)
 
 
 def frame_of_arrow(fields: Sequence[Field], table: Any) -> Any:

@@ -221,9 +221,14 @@ def _ranged(least: int, greatest: int) -> Convert:
 
 
 def _text(value: Any) -> str:
-    if isinstance(value, str):
-        return value
-    raise Misfit(f"expected text, {_found(value)}")
+    if not isinstance(value, str):
+        raise Misfit(f"expected text, {_found(value)}")
+    try:
+        if not value.isascii():
+            value.encode()
+    except UnicodeEncodeError:
+        raise Misfit(f"expected text of UTF-8, which has no half of a surrogate pair, {_found(value)}") from None
+    return value
 
 
 def _bytes(length: Optional[int]) -> Convert:
@@ -483,10 +488,7 @@ class RowWriter:
         some: List[bytes] = []
         size = 0
         for number, row in enumerate(rows, 1):
-            try:
-                line = _encode(self.members(row, number)).encode()
-            except UnicodeEncodeError:
-                raise RowShape(f"row {number}: a text has half of a surrogate pair, which UTF-8 cannot hold") from None
+            line = _encode(self.members(row, number)).encode()
             some.append(line)
             size += len(line)
             if size >= _PART:

@@ -67,8 +67,8 @@ def _frame(table: Dataset, fields: Sequence[Field], files: List[str], filters: A
     """A frame of Dask with a partition for each file.
 
     Dask's own `read_parquet` of the same files does not give the table: it leaves out a column that the first file
-    lacks, makes floats of integers with nulls, fails with `not in` on a group of nulls, and puts the files in the order
-    of their names.
+    lacks, and ends the process with a filter on it; makes floats of integers with nulls; fails with `!=` and `not in`
+    on a file of nulls; and puts the files in the order of their names.
     """
     frames = importlib.import_module("dask.dataframe")
     chosen = tuple(fields) if columns is None else tuple(leaf_at(fields, it) for it in columns)

@@ -2,10 +2,12 @@
 
 from __future__ import annotations
 
+import importlib.util
 import os
 import shlex
 import sys
 import tempfile
+import types
 import unittest
 from pathlib import Path
 from typing import Any, Callable, Dict, List
@@ -26,6 +28,22 @@ ORDERS: List[Dict[str, Any]] = [
     {"name": "order", "rep": "required", "type": "int64"},
     {"name": "cents", "rep": "optional", "type": "int64"},
 ]
+
+
+def mend_cramjam() -> None:
+    """Gives Debian's cramjam a name that it lacks, and that fastparquet asks for when it is imported."""
+    if importlib.util.find_spec("cramjam") is not None:
+        cramjam: Any = importlib.import_module("cramjam")
+        if not hasattr(cramjam, "gzip"):
+            cramjam.gzip = types.SimpleNamespace(compress=None, decompress=None, decompress_into=None)
+
+
+def load_fastparquet() -> Any:
+    """fastparquet, or None if it is not there."""
+    if importlib.util.find_spec("fastparquet") is None:
+        return None
+    mend_cramjam()
+    return importlib.import_module("fastparquet")
 
 
 class RoomCase(unittest.TestCase):

@@ -70,7 +70,7 @@ class Dask(RoomCase):
         pandas.testing.assert_frame_equal(found, self.table.to_pandas())
 
     def test_the_same_filters(self) -> None:
-        for filters in (
+        cases: List[Any] = [
             [("k", "==", "1")],
             [("y", ">", 0), ("n", "<", 5)],
             [[("n", "=", 3)], [("y", "==", 2), ("s", "==", "x")]],
@@ -81,7 +81,8 @@ class Dask(RoomCase):
             [("t", ">", dt.datetime(2024, 1, 1))],
             [("p", "==", Decimal("0.5"))],
             [],
-        ):
+        ]
+        for filters in cases:
             with self.subTest(filters=filters), pqds.dask.reading("t=1", filters, ["n", "k"]) as frame:
                 self.assertEqual(self.rows(frame), self.wanted(filters, ["n", "k"]))
 

@@ -8,7 +8,7 @@ import unittest
 import warnings
 from typing import Any, Dict, List, Tuple
 
-from support import TOP, RoomCase
+from support import TOP, RoomCase, mend_cramjam
 
 PAGE = TOP / "docs/PYTHON.md"
 
@@ -16,7 +16,8 @@ PAGE = TOP / "docs/PYTHON.md"
 def blocks(text: str) -> List[Tuple[str, str, str]]:
     """The blocks of a page: the heading above each, its mark and its lines."""
     found: List[Tuple[str, str, str]] = []
-    heading, mark, lines = "", "", []
+    heading, mark = "", ""
+    lines: List[str] = []
     for line in text.splitlines():
         if line.startswith("```"):
             if mark:
@@ -32,6 +33,7 @@ def blocks(text: str) -> List[Tuple[str, str, str]]:
 @unittest.skipUnless(PAGE.exists(), "docs/PYTHON.md is not here")
 class Document(RoomCase):
     def test_each_block_prints_what_the_page_shows(self) -> None:
+        mend_cramjam()
         names: Dict[str, Any] = {}
         left = set()
         steps = blocks(PAGE.read_text())
@@ -43,10 +45,7 @@ class Document(RoomCase):
                 with contextlib.redirect_stdout(printed), warnings.catch_warnings():
                     warnings.simplefilter("ignore")
                     exec(compile(text, f"{PAGE.name}: {heading}", "exec"), names)
-            except (ModuleNotFoundError, AttributeError) as missing:
-                # fastparquet asks Debian's cramjam for a name that it lacks.
-                if isinstance(missing, AttributeError) and "cramjam" not in str(missing):
-                    raise
+            except ModuleNotFoundError:
                 left.add(heading)
                 continue
             with self.subTest(heading=heading):

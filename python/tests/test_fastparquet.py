@@ -3,16 +3,14 @@
 from __future__ import annotations
 
 import datetime as dt
-import importlib
 import importlib.util
-import types
 import unittest
 from decimal import Decimal
 from pathlib import Path
-from typing import Any, Optional
+from typing import Any, List, Tuple
 from unittest import mock
 
-from support import ORDERS, RoomCase
+from support import ORDERS, RoomCase, load_fastparquet
 
 import pqds
 
@@ -21,17 +19,6 @@ HAS_ARROW = importlib.util.find_spec("pyarrow") is not None
 
 if HAS_PANDAS:
     import pandas as pd
-
-
-def load_fastparquet() -> Optional[Any]:
-    """fastparquet, if it can be imported. Debian's cramjam lacks a name that it asks for."""
-    if importlib.util.find_spec("fastparquet") is None:
-        return None
-    cramjam = importlib.import_module("cramjam")
-
-    if not hasattr(cramjam, "gzip"):
-        cramjam.gzip = types.SimpleNamespace(compress=None, decompress=None, decompress_into=None)
-    return importlib.import_module("fastparquet")
 
 
 FASTPARQUET = load_fastparquet()
@@ -199,7 +186,7 @@ class Both(RoomCase):
         # the measure is pandas, and fastparquet where it has a list of lists.
         ours, theirs = pqds.ParquetFile("ours"), FASTPARQUET.ParquetFile("theirs")
         n, s, k = (self.frame[it] for it in "nsk")
-        for filters, mask in (
+        cases: List[Tuple[Any, Any]] = [
             ([[("n", ">", 1), ("n", "<=", 3)]], (n > 1) & (n <= 3)),
             ([[("n", "==", 1)], [("s", "==", "y")]], (n == 1) | (s == "y")),
             ([[("n", "in", [1, 4])]], n.isin([1, 4])),
@@ -207,7 +194,8 @@ class Both(RoomCase):
             ([("n", ">", 1), ("n", "<=", 3)], (n > 1) & (n <= 3)),
             ([("n", "not in", [1, 4])], ~n.isin([1, 4])),
             ([("k", "==", "a")], k == "a"),
-        ):
+        ]
+        for filters, mask in cases:
             with self.subTest(filters=filters):
                 wanted = self.frame[mask].sort_values("k", kind="stable")["n"].tolist()
                 self.assertEqual(ours.to_pandas(columns=["n"], filters=filters)["n"].tolist(), wanted)

@@ -69,21 +69,43 @@ class Files(RoomCase):
         self.assertEqual(table.import_files(["one"], [("order", "==", 3)]), 2)
         with self.assertRaises(pqds.NoColumn):
             table.import_files("one", [("colour", "==", "red")])
-        with self.assertRaises(TypeError):
-            table.import_files(["one", "one"], [("order", "==", 3)])
+        pqds.encode(ORDERS, [{"region": "east", "order": 9}], "more")
+        for done in (3, 0):
+            self.assertEqual(table.import_files(["one", "more"], [("order", "==", 9)]), done)
         self.assertEqual(table.import_files([], [("order", "==", 3)]), 0)
-        self.assertEqual(table.count(), 4)
+        self.assertEqual(table.count(), 7)
 
-    def test_import_says_which_file_was_refused(self) -> None:
+    def test_several_files_are_one_commit(self) -> None:
+        table = pqds.create("t", ORDERS)
+        for number in range(3):
+            pqds.encode(ORDERS, [{"region": "x", "order": 2 - number}], f"f{number}")
+        words = self.words_of("import", lambda: table.import_files(["f2", Path("f0"), "f1"]), "echo done 3")
+        self.assertEqual(words[-3:], ["f2", "f0", "f1"])
+        self.assertEqual(words.count("import"), 1)
+        self.assertEqual(table.import_files(it for it in ("f2", "f0", "f1")), 3)
+        self.assertEqual([it["order"] for it in table.rows()], [0, 2, 1])
+
+    def test_where_one_file_is_refused_none_comes_in(self) -> None:
         table = pqds.create("t", ORDERS)
         pqds.encode(ORDERS, ROWS, "one")
         pqds.encode(ORDERS[1:], [{"order": 1}], "other")
         with self.assertRaises(pqds.Schema) as caught:
             table.import_files(["one", "other", "one"])
-        self.assertIn("other, after 1 files with 2 rows", caught.exception.reason)
-        self.assertEqual(table.count(), 2)
-        with self.assertRaises(pqds.Device):
-            table.import_files("nowhere")
+        self.assertIn("other: the file has", caught.exception.reason)
+        self.assertEqual(table.count(), 0)
+        for files in ("nowhere", ["one", "nowhere"]):
+            with self.assertRaises(pqds.Device) as absent:
+                table.import_files(files)
+            self.assertIn("nowhere", absent.exception.reason)
+        self.assertEqual(table.count(), 0)
+
+    def test_more_files_than_one_call_can_name(self) -> None:
+        table = pqds.create("t", ORDERS)
+        with self.assertRaises(pqds.Limit):
+            table.import_files(["x" * 200] * 10_000)
+        pqds.encode(ORDERS, ROWS[:1], "one")
+        self.assertEqual(table.import_files(["one"] * 5000), 5000)
+        self.assertEqual(len(table.groups()), 1)
 
 
 if __name__ == "__main__":

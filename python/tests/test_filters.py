@@ -5,7 +5,7 @@ from __future__ import annotations
 import datetime as dt
 import unittest
 from decimal import Decimal
-from typing import Any, Dict, List
+from typing import Any, Callable, Dict, List, Tuple, Type
 
 from support import RoomCase
 
@@ -63,11 +63,12 @@ class Filters(RoomCase):
         self.assertEqual(self.found(three), [2])
 
     def test_empty_filters_hold_for_every_row(self) -> None:
-        for filters in (None, [], ()):
+        cases: List[Any] = [None, [], ()]
+        for filters in cases:
             self.assertEqual(self.found(filters), [1, 2, 3, 4, 5, 6])
 
     def test_values_are_those_of_python(self) -> None:
-        for filters, wanted in (
+        cases: List[Tuple[Any, List[int]]] = [
             ([("s", ">=", "t4")], [4, 5]),
             ([("b", "==", b"\x02")], [2]),
             ([("day", "<", dt.date(2024, 1, 3))], [1, 2]),
@@ -83,12 +84,13 @@ class Filters(RoomCase):
             ([("n", "in", [])], []),
             ([(("in", "x"), "==", 3)], [3]),
             ([[["in", "x"], "<", 3]], [1, 2]),
-        ):
+        ]
+        for filters, wanted in cases:
             with self.subTest(filters=filters):
                 self.assertEqual(self.found(filters), wanted)
 
     def test_wrong_filters(self) -> None:
-        for filters, kind, why in (
+        cases: List[Tuple[Any, Type[pqds.Refused], str]] = [
             ([("m", "==", 1)], pqds.NoColumn, "'m'"),
             ([(("in", "y"), "==", 1)], pqds.NoColumn, "'y'"),
             ([("in", "==", 1)], pqds.NoColumn, "'in'"),
@@ -96,6 +98,7 @@ class Filters(RoomCase):
             ([("n", "==", "1")], pqds.RowShape, "expected an integer"),
             ([("n", "==", 1.0)], pqds.RowShape, "expected an integer"),
             ([("n", "==", None)], pqds.RowShape, "null"),
+            ([("s", "==", "\ud800")], pqds.RowShape, "surrogate"),
             ([("n", "in", 1)], pqds.RowShape, "list of values"),
             ([("s", "in", "abc")], pqds.RowShape, "list of values"),
             ([("day", "==", "2024-01-01")], pqds.RowShape, "expected a date"),
@@ -104,11 +107,13 @@ class Filters(RoomCase):
             ([("n", "==")], pqds.Script, "a term is"),
             (("n", "==", 1), pqds.Script, "an AND is"),
             ("n == 1", pqds.Script, "filters are"),
-        ):
+        ]
+        calls: List[Callable[[Any], Any]] = [self.table.count, self.table.rows, self.table.remove]
+        for filters, kind, why in cases:
             with self.subTest(filters=filters):
-                for call in (self.table.count, self.table.rows, self.table.remove):
+                for call in calls:
                     with self.assertRaises(kind) as caught:
-                        list(call(filters))  # type: ignore[operator]
+                        list(call(filters))
                     self.assertIn(why, caught.exception.reason)
         self.assertEqual(self.table.count(), 6)
 

@@ -9,6 +9,7 @@ import subprocess
 import sys
 import unittest
 from decimal import Decimal
+from pathlib import Path
 from typing import Any, Dict, List
 from unittest import mock
 
@@ -141,6 +142,10 @@ class Frames(RoomCase):
             ({"n": [1], "t": pd.to_datetime(["2024-01-01 00:00:00.000000001"])}, pqds.RowShape, "t: "),
             ({"n": [1], "t": [dt.date(2024, 1, 1)]}, pqds.RowShape, "datetime"),
             ({"n": [1], "s": [5]}, pqds.RowShape, "text"),
+            ({"n": [1, 2], "s": ["a", b"b"]}, pqds.RowShape, "row 2: s: expected text"),
+            ({"n": [1, 2], "s": ["a", "\ud800"]}, pqds.RowShape, "row 2: s: expected text"),
+            ({"n": [1.0, float("inf")]}, pqds.RowShape, "row 2: n: expected an integer"),
+            ({"n": [1, 2], "o": [None, 3e9]}, pqds.RowShape, "row 2: o: expected an integer from"),
             ({"n": [1], "p": [1.5]}, pqds.Float, "floats={'p': 2}"),
             ({"n": [1], "s": pd.Categorical(["a"])}, pqds.RowShape, "categories"),
         ):
@@ -344,6 +349,20 @@ class Arrow(RoomCase):
                 lines = table.to_pandas(filters)
             with mock.patch("pqds.Dataset._batches", side_effect=AssertionError("by lines")):
                 pd.testing.assert_frame_equal(table.to_pandas(filters), lines)
+
+    def test_rows_of_several_files_have_the_order_of_their_numbers(self) -> None:
+        table = pqds.create("t", SCHEMA[:1])
+        table.append([{"n": it} for it in range(3)])
+        for number in (0, 1, 2, 10):
+            pqds.encode(SCHEMA[:1], [{"n": 10 * number + it} for it in range(2)], f"part.{number}.parquet")
+        found: List[Any] = []
+        copy = f'while [ "$1" != --out ]; do shift; done; exec cp {Path.cwd()}/part.*.parquet "$2"'
+        with mock.patch("pqds.Dataset._batches", side_effect=AssertionError("by lines")):
+            words = self.words_of("query", lambda: found.append(table.to_arrow()), copy)
+            self.assertEqual(table.to_arrow()["n"].to_pylist(), [0, 1, 2])
+        self.assertEqual(found[0]["n"].to_pylist(), [0, 1, 10, 11, 20, 21, 100, 101])
+        self.assertEqual(words.count("query"), 1)
+        self.assertFalse(Path(words[words.index("--out") + 1]).exists())
 
     def test_numbers_outside_of_their_range_come_as_lines(self) -> None:
         notes = {"i": "int_8", "u": "uint_16", "d": "date", "m": "time_millis"}

@@ -11,7 +11,7 @@ import time
 import unittest
 from concurrent.futures import ThreadPoolExecutor
 from pathlib import Path
-from typing import Any, Dict, Iterator
+from typing import Any, Callable, Dict, Iterator, List
 
 from support import ORDERS, TOP, RoomCase
 
@@ -92,11 +92,12 @@ class Ends(RoomCase):
     def test_a_killed_change_is_in_doubt_and_a_killed_question_is_not(self) -> None:
         self.fake("kill -9 $$")
         table = pqds.Dataset("t")
-        for call in (
+        calls: List[Callable[[], int]] = [
             lambda: table.remove(groups=[1]),
             lambda: table.rewrite(min_rows=1),
             lambda: table.import_files("f"),
-        ):
+        ]
+        for call in calls:
             with self.assertRaises(pqds.InDoubt) as caught:
                 call()
             self.assertIn("signal 9", caught.exception.reason)
@@ -216,7 +217,9 @@ class Side(RoomCase):
         Path("t/_lock").unlink()
         rows = table.rows()
         self.assertEqual(next(rows)["order"], 0)
-        for change in (lambda: table.remove([]), lambda: pqds.open("../" + Path.cwd().name + "/t").append([])):
+        same = pqds.open("../" + Path.cwd().name + "/t")
+        changes: List[Callable[[], int]] = [lambda: table.remove([]), lambda: same.append([])]
+        for change in changes:
             with self.assertRaises(pqds.WrongCall) as caught:
                 change()
             self.assertIn("close the iterator", str(caught.exception))

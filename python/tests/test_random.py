@@ -152,13 +152,14 @@ class Random(RoomCase):
             if not held or said["rep"] == "repeated" or "fields" in said or is_unordered:
                 continue
             value = held[0]
-            order = (lambda it: it.encode()) if isinstance(value, str) else (lambda it: it)
-            for operator, holds in (
+            order: Callable[[Any], Any] = (lambda it: it.encode()) if isinstance(value, str) else (lambda it: it)
+            comparisons: List[Tuple[str, Callable[[Any, Any], bool]]] = [
                 ("==", lambda one, other: one == other),
                 ("<=", lambda one, other: one <= other),
                 (">", lambda one, other: one > other),
                 ("!=", lambda one, other: one != other),
-            ):
+            ]
+            for operator, holds in comparisons:
                 wanted = [it for it in rows if it[name] is not None and holds(order(it[name]), order(value))]
                 self.assertEqual(list(table.rows([(name, operator, value)])), wanted)
 
