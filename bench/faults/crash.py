@@ -34,10 +34,11 @@ def text_of(*rows):
 
 
 class Command:
-    """A command, the folder that it begins with, and the tables that it may leave: `tables[n]` after n of its commits."""
+    """A command, the folder that it begins with, and the tables that it may leave: `tables[n]` after n of its commits. `gives` is
+    the folder in which it makes files, if it makes any."""
 
-    def __init__(self, words, done, tables, begin="start", answers=None):
-        self.words, self.done, self.tables, self.begin, self.answers = words, done, tables, begin, answers
+    def __init__(self, words, done, tables, begin="start", answers=None, gives=None):
+        self.words, self.done, self.tables, self.begin, self.answers, self.gives = words, done, tables, begin, answers, gives
         self.meanwhile = sum(answers.values(), []) if answers else tables
 
 
@@ -69,6 +70,7 @@ COMMANDS = {
     # Openings that have something to clean away, and those to read that leave it: what a killed append, and a killed rewrite, leave.
     "run after a killed append": Command("run t nothing", "", [START], "append"),
     "run after a killed rewrite": Command("run t nothing", "", [REWRITTEN], "rewrite"),
+    "query to a folder": Command("query t --out answer", "", [START], "answer", gives="answer"),
     "query after a killed append": Command("query t", "".join(it + "\n" for it in START.rows), [START], "append"),
     "query after a killed rewrite": Command("query t", "".join(it + "\n" for it in START.rows), [REWRITTEN], "rewrite"),
 }
@@ -284,6 +286,9 @@ class Disk:
             return self.bound(call.texts[0].decode(), Folder())
         if name in ("unlink", "rmdir"):
             return self.bound(call.texts[0].decode(), None)
+        if name == "link":
+            source, target = (it.decode() for it in call.texts)
+            return self.bound(target, self.node(source))
         if name == "rename":
             source, target = (it.decode() for it in call.texts)
             return self.bound(target, self.node(source)) and self.bound(source, None)
@@ -393,6 +398,9 @@ class Tries:
             put({path: it.encode() for path, it in FILES.items()}, room)
             if name == "folder":
                 put({"t": None, "t/notes.txt": b"notes\n"}, room)
+        elif name == "answer":
+            put(self.begin("start"), room)
+            put({"answer": None}, room)
         elif name == "start":
             put(self.begin("folder"), room)
             for words in ("create t schema k", "append t first", "append t second", "encode schema imported file",
@@ -430,6 +438,7 @@ class OfCommand:
             self.words = [*self.words, "--no-wait"]
         self.tree = tries.begin(self.command.begin)
         self.counts, self.wrong, self.again, self.lock = collections.Counter(), [], set(), threading.Lock()
+        self.files = None
 
     def tell(self, what, why):
         with self.lock:
@@ -441,6 +450,37 @@ class OfCommand:
     def count(self, what, more=1):
         with self.lock:
             self.counts[what] += more
+
+    def given(self):
+        """The files that the command makes, by a run without a fault."""
+        with self.lock:
+            if self.files is None:
+                room = self.tries.place()
+                put(self.tree, room)
+                status, _, said = self.tries.run(room, self.words)
+                if status != 0:
+                    sys.exit(f"{self.name}: status {status}, {said}")
+                self.files = self.files_in(tree_of(room))
+                shutil.rmtree(room)
+            return self.files
+
+    def files_in(self, tree):
+        return {path: it for path, it in tree.items() if path.startswith(f"{self.command.gives}/")}
+
+    def see_given(self, tree, status, what, is_cut=False):
+        """Whether the folder has the files that the command makes, after status 0 all, after a refusal none; after a kill or a
+        power failure some, and what it wrote under other names."""
+        if self.command.gives is None:
+            return
+        whole, there = self.given(), self.files_in(tree)
+        self.count("folders")
+        named = {path: it for path, it in there.items() if path in whole}
+        others = [path for path in there if path not in whole and not path.startswith(f"{self.command.gives}/pqds.new-")]
+        cut = [path for path, it in named.items() if it != whole[path]]
+        # Where an unlink fails what it should take away stays.
+        ends = status in (0, 1) and not is_cut and " at unlink " not in what
+        if others or cut or (ends and len(there) > len(named)) or (status == 0 and named != whole) or (ends and status == 1 and there):
+            self.tell(what, f"status {status}, files in the folder: {', '.join(sorted(there)) or 'none'}; cut: {', '.join(cut) or 'none'}")
 
     def see(self, tree, allowed, what):
         """Whether a room holds one of these tables, counted."""
@@ -499,9 +539,10 @@ class OfCommand:
         if newest(disk.top) != tree:
             self.tell(what, "the record does not lead to the folder that is there")
         seen = self.see(tree, allowed, what)
+        self.see_given(tree, status, what)
         if with_images:
-            self.see_images(disk, allowed, what + ", and the power is cut after it")
-        if seen is not None and status != 0 and seen == self.command.tables[0]:
+            self.see_images(disk, allowed, what + ", and the power is cut after it", status)
+        if seen is not None and status != 0 and seen == self.command.tables[0] and not self.command.gives:
             self.make_again(disk, room, tree, what)
         shutil.rmtree(room)
         return status, found
@@ -526,11 +567,12 @@ class OfCommand:
             if disk.make(call) and with_images:
                 self.see_images(disk, self.command.meanwhile, f"{what}, and the power is cut after {call.name}, call {at + 1}")
 
-    def see_images(self, disk, allowed, what):
+    def see_images(self, disk, allowed, what, status=None):
         found = images(disk.top)
         self.count("images", len(found))
         for tree in found:
             self.see(tree, allowed, what)
+            self.see_given(tree, status, what, True)
 
     def make_again(self, disk, room, tree, what):
         """The same command once more: it is done, and the power is cut after it."""
@@ -648,6 +690,7 @@ class OfCommand:
         if allowed is None:
             self.tell(what, f"status {status}, {out!r}, {said.strip()!r}")
         seen = self.see(tree_of(room), allowed or self.command.tables, what)
+        self.see_given(tree_of(room), status, what)
         if status != 0 and seen == self.command.tables[0]:
             self.refuse_again(room, what + ", and made again")
         shutil.rmtree(room)

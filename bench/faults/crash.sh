@@ -14,6 +14,8 @@
 # `refused 25` and `refused 28` the one before it, but where the line before says that the change was committed: then the one after it
 # alone (of a script, whose answers are lost, any); `refused 26` may come only when the next root was durable. After `run` no file
 # may be left that the table does not name, and others stay.
+# Of `query --out FOLDER` the folder is looked at too: after status 0 it has the whole files, after a refusal none, and after a kill or
+# a power failure no file that is cut has the name of one.
 # Where the table is the one before it, the command is made once more, which must be done, also if the power is cut then.
 #
 # With --beside a reader's lock is held while the command runs, which then has --no-wait: all part files must stay as they were.

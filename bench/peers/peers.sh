@@ -6,9 +6,9 @@
 #
 # ROOM is a folder with Debian's unstable release and these tools in it, in which they run (chroot). Where it is absent it is
 # made, by debootstrap: 1.5 GB and some two minutes. This needs root, Linux and a mirror of Debian. PROGRAM is the program; without
-# it the one that ./pqds builds. The parts are corpus, files, datasets, queries, import, workers and tutorial (the steps of docs/TUTORIAL.md),
-# all of them where none is named; and for figures sums (a sum by key, by workers of Dask) and side (bench/peers/side.py: the same work
-# by each of them). Prints for each how many were tried, equal and refused, with the cause; the status is 1 where there is a
+# it the one that ./pqds builds. The parts are corpus, files, datasets, queries, import, workers, tutorial (the steps of docs/TUTORIAL.md)
+# and sentences (of docs/FORMAT.md), all of them where none is named; and for figures sums (a sum by key, by workers of Dask) and
+# side (bench/peers/side.py: the same work by each of them). Prints for each how many were tried, equal and refused, with the cause; the status is 1 where there is a
 # difference without a cause. It is not in the gate.
 top=$(CDPATH='' cd -- "$(dirname -- "$0")/../.." && pwd) || exit 1
 [ -n "$1" ] || { sed -n '2,/^[^#]/s/^# \{0,1\}//p' "$0" >&2; exit 2; }
@@ -29,7 +29,7 @@ make_room() {
     # A mirror whose lists are some weeks old is taken too; they are signed all the same.
     inside apt-get -o Acquire::Check-Valid-Until=false update >>"$room.log" 2>&1 || return 1
     inside env DEBIAN_FRONTEND=noninteractive apt-get install -y --no-install-recommends python3-pyarrow python3-fastparquet \
-        python3-pandas python3-dask python3-distributed duckdb apache-parquet-testing >>"$room.log" 2>&1 || return 1
+        python3-pandas python3-dask python3-distributed duckdb apache-parquet-testing time >>"$room.log" 2>&1 || return 1
     rm -f "$room.log"
 }
 
@@ -46,4 +46,4 @@ fi
 mkdir -p "$room/opt/pqds" || exit 1
 cp -- "$program" "$room/opt/pqds/pqds" && cp -- "$top"/bench/peers/*.py "$top/docs/TUTORIAL.md" "$room/opt/pqds/" &&
     cp -r -- "$top/sample" "$room/opt/pqds/" && chmod 755 "$room/opt/pqds/pqds" || exit 1
-inside python3 -W ignore /opt/pqds/peers.py /opt/pqds/pqds /usr/share/apache/parquet-testing "$@"
+inside env TIMES="${TIMES:-5}" python3 -W ignore /opt/pqds/peers.py /opt/pqds/pqds /usr/share/apache/parquet-testing "$@"

@@ -5,7 +5,7 @@
 #     bench/peers/python.sh ROOM [PROGRAM]       PROGRAM is the program; without it the one that ./pqds builds
 #
 # Prints what python/tests prints. With the words `--speed ROWS` after PROGRAM it prints instead what frames of so many rows take,
-# beside fastparquet and pyarrow. It is not in the gate.
+# beside fastparquet and pyarrow; with `--workers ROWS`, what so many rows take from four workers of Dask. It is not in the gate.
 top=$(CDPATH='' cd -- "$(dirname -- "$0")/../.." && pwd) || exit 1
 [ -n "$1" ] || { sed -n '2,/^[^#]/s/^# \{0,1\}//p' "$0" | sed '/^top=/d' >&2; exit 2; }
 room=$(CDPATH='' cd -- "$1" && pwd) || exit 1
@@ -14,14 +14,15 @@ program=$2
 if [ -z "$program" ]; then
     program=$("$top/bench/tools/program.sh") || exit 1
 fi
-copy=$room/opt/pqds-module
-rm -rf "$copy" && mkdir -p "$copy/bench/peers" "$copy/crates/bits/src" && cp -r -- "$top/python" "$top/docs" "$top/sample" "$copy/" &&
-    cp -- "$top/crates/bits/src/refusal.rt" "$copy/crates/bits/src/" && cp -- "$top/bench/peers/python_speed.py" "$copy/bench/peers/" &&
-    cp -- "$program" "$copy/pqds" && chmod 755 "$copy/pqds" || exit 1
-if [ "$3" = --speed ]; then
-    set -- /opt/pqds-module/bench/peers/python_speed.py "$4"
-else
-    set -- /opt/pqds-module/python/tests
-fi
-unshare --mount sh -c 'mount -t proc proc "$0/proc" && exec chroot "$0" "$@"' "$room" \
-    env PQDS=/opt/pqds-module/pqds PYTHONPATH=/opt/pqds-module/python python3 -B -W ignore "$@"
+mkdir -p "$room/opt/pqds-module" && cp --remove-destination -- "$program" "$room/opt/pqds-program" && chmod 755 "$room/opt/pqds-program" || exit 1
+here=/opt/pqds-module
+case $3 in
+--speed) set -- "$here/bench/peers/python_speed.py" "$4" ;;
+--workers) set -- "$here/bench/peers/python_workers.py" "$4" ;;
+*) set -- "$here/python/tests" ;;
+esac
+# The repository itself is there as long as the words run.
+unshare --mount sh -c '
+    mount -t proc proc "$0/proc" && mount -t tmpfs tmpfs "$0/dev/shm" && mount --bind "$1" "$0$2" && mount -o remount,bind,ro "$0$2" &&
+        shift 2 && exec chroot "$0" "$@"' "$room" "$top" "$here" \
+    env PQDS=/opt/pqds-program PYTHONPATH="$here/python" python3 -B -W ignore "$@"

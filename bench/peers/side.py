@@ -2,9 +2,11 @@
 
 Each time is the least of some runs in turn, of whose results the counts (or the bytes) are compared. pqds and DuckDB are
 programs, so the start of the process is in their times; pyarrow and fastparquet are measured within a process that has
-imported them. A cell has seconds and processor seconds, and in brackets what pqds takes in times of these. Of what writes a dataset, `synced` is
-the time of all files and folders written and synced: pqds never does it otherwise, the others leave it to the caller."""
-import glob, json, os, shutil, subprocess, time
+imported them. A cell has seconds, processor seconds and the most memory in MB (of pyarrow and fastparquet what the call adds to the
+imports), and in brackets what pqds takes of the first two in times of these. Of what writes a dataset, `synced` is
+the time of all files and folders written and synced: pqds never does it otherwise, the others leave it to the caller.
+The variable TIMES has how many runs there are of each (5)."""
+import glob, json, os, resource, shutil, subprocess, time
 
 import pyarrow as pa
 import pyarrow.dataset as ds
@@ -14,7 +16,7 @@ import pyarrow.parquet as pq
 import fast
 from outside import isolated
 
-TIMES = 5
+TIMES = int(os.environ.get("TIMES", "5"))
 MILLION = 1_000_000
 WHO = ("pqds", "DuckDB", "pyarrow", "fastparquet")
 KEYED = pa.schema([pa.field("k", pa.string(), False), pa.field("n", pa.int64(), False), pa.field("t", pa.string(), False)])
@@ -53,26 +55,34 @@ class Side:
         return self.file(name)
 
 
+NOTED = "/tmp/side.memory"
+
+
 def ran(words, out, environment):
-    """Seconds and processor seconds of a process."""
+    """Seconds, processor seconds and the memory of a process. The system counts as a child's the memory of what began it; so the
+    program `time`, which is small, begins it."""
     with open(out or os.devnull, "wb") as sink:
         begun = time.perf_counter()
-        child = subprocess.Popen(words, stdout=sink, stderr=subprocess.PIPE, env=environment)
+        child = subprocess.Popen(["time", "-q", "-o", NOTED, "-f", "%M", *words], stdout=sink, stderr=subprocess.PIPE, env=environment)
         said = child.stderr.read().decode().strip()
         _, status, used = os.wait4(child.pid, 0)
         seconds = time.perf_counter() - begun
     child.returncode = os.waitstatus_to_exitcode(status)
     if status:
         raise RuntimeError(f"{' '.join(words)[:200]}: {said}")
-    return seconds, used.ru_utime + used.ru_stime
+    return seconds, used.ru_utime + used.ru_stime, int(open(NOTED).read()) >> 10
+
+
+def most_memory():
+    return resource.getrusage(resource.RUSAGE_SELF).ru_maxrss >> 10
 
 
 def within(work, *given):
-    """Seconds and processor seconds of a call, in a process of its own that has imported all."""
+    """Seconds, processor seconds and added memory of a call, in a process of its own that has imported all."""
     def measured():
-        begun, used = time.perf_counter(), time.process_time()
+        begun, used, before = time.perf_counter(), time.process_time(), most_memory()
         work(*given)
-        return time.perf_counter() - begun, time.process_time() - used
+        return time.perf_counter() - begun, time.process_time() - used, most_memory() - before
     found, error = isolated(measured)
     if error:
         raise RuntimeError(error)
@@ -89,7 +99,7 @@ def sync_new(folder, since):
         it = os.open(name, os.O_RDONLY)
         os.fsync(it)
         os.close(it)
-    return time.perf_counter() - begun, time.process_time() - used
+    return time.perf_counter() - begun, time.process_time() - used, 0
 
 
 def remove_all(files):
@@ -97,11 +107,21 @@ def remove_all(files):
     begun, used = time.perf_counter(), time.process_time()
     for file in files:
         os.remove(file)
-    return time.perf_counter() - begun, time.process_time() - used
+    return time.perf_counter() - begun, time.process_time() - used, 0
 
 
 def summed(times, more):
-    return tuple(map(sum, zip(times, more)))
+    return times[0] + more[0], times[1] + more[1], max(times[2], more[2])
+
+
+def repeated(work, count):
+    """The same work so many times, as one."""
+    def all_of_it():
+        times = (0, 0, 0)
+        for _ in range(count):
+            times = summed(times, work())
+        return times
+    return all_of_it
 
 
 def least(works, before=lambda who: None, after=lambda who: None):
@@ -124,8 +144,9 @@ def row(what, found):
         if who not in found:
             cells.append("")
             continue
-        ratio = "" if who == "pqds" else " (" + ", ".join(f"{ours / theirs:.2g}" for ours, theirs in zip(found["pqds"], found[who])) + ")"
-        cells.append(" / ".join(f"{it:.3g}" for it in found[who]) + ratio)
+        times, memory = found[who][:2], found[who][2]
+        ratio = "" if who == "pqds" else " (" + ", ".join(f"{ours / theirs:.2g}" for ours, theirs in zip(found["pqds"], times)) + ")"
+        cells.append(" / ".join(f"{it:.3g}" for it in times) + f" / {memory} MB" + ratio)
     print(f"| {what} | " + " | ".join(cells) + " |", flush=True)
 
 
@@ -227,7 +248,9 @@ class Tables:
         return self.it.duckdb(f"COPY (FROM read_json('{lines}', format='newline_delimited', columns={self.typed})) TO '{target}' ({UNPACKED}{parts})")
 
     def by_pyarrow(self, lines):
-        table = pyarrow.json.read_json(lines, pyarrow.json.ReadOptions(use_threads=False), pyarrow.json.ParseOptions(explicit_schema=self.schema))
+        self.write(pyarrow.json.read_json(lines, pyarrow.json.ReadOptions(use_threads=False), pyarrow.json.ParseOptions(explicit_schema=self.schema)))
+
+    def write(self, table):
         options = ds.ParquetFileFormat().make_write_options(compression="NONE")
         ds.write_dataset(table, self.folder("pyarrow"), format="parquet", partitioning=HIVE if self.keyed else None, file_options=options, use_threads=False,
                          basename_template=f"part-{time.time_ns()}-{{i}}.parquet", existing_data_behavior="overwrite_or_ignore")
@@ -279,29 +302,70 @@ def appends(it):
         tables = Tables(it, keyed)
         appended(it, tables, 1000, 100_000)
         appended(it, tables, MILLION, 0)
-    return tables
+        imported(it, keyed)
+    one_by_one(it)
+
+
+def imported(it, keyed):
+    """A file of a million rows into an empty dataset of each."""
+    tables, file = Tables(it, keyed), it.file("import.parquet")
+    made = {name: [make(i) for i in range(MILLION)] for name, make in tables.columns.items()}
+    pq.write_table(pa.table(made, schema=tables.schema), file, compression="NONE", use_dictionary=False)
+
+    def by_duckdb():
+        folder = tables.folder("DuckDB")
+        os.makedirs(folder, exist_ok=True)
+        target, parts = (folder, ", PARTITION_BY (k), APPEND") if keyed else (f"{folder}/part.parquet", "")
+        return it.duckdb(f"COPY (FROM read_parquet('{file}')) TO '{target}' ({UNPACKED}{parts})")
+
+    def by_fastparquet():
+        frame = fast.fastparquet.ParquetFile(file).to_pandas()
+        fast.fastparquet.write(tables.folder("fastparquet"), frame, compression=None, file_scheme="hive", partition_on=["k"] if keyed else [],
+                               write_index=False, has_nulls=False, object_encoding="utf8")
+
+    works = {"pqds": lambda: it.pqds("import", tables.folder("pqds"), file), "DuckDB": by_duckdb,
+             "pyarrow": lambda: within(lambda: tables.write(pq.read_table(file, use_threads=False))), "fastparquet": lambda: within(by_fastparquet)}
+
+    def after(who):
+        if tables.rows(who)[0] != MILLION:
+            it.tell(f"side, import by {who}: {tables.rows(who)}")
+    row(f"import of 1,000,000 rows, {'100 keys' if keyed else 'no key'}", least(works, tables.clear, after))
+
+
+def one_by_one(it, count=100):
+    """Appends of one row each, to a dataset without a key that is empty at first."""
+    tables = Tables(it, False)
+    works = {who: repeated(work, count) for who, work in tables.works(write_lines(it.file("one.jsonl"), tables.columns, range(1))).items()}
+
+    def after(who):
+        if tables.rows(who)[0] != count:
+            it.tell(f"side, appends of one row by {who}: {tables.rows(who)}")
+    row(f"{count} appends of one row each", least(works, tables.clear, after))
 
 
 # ---- questions ----
 
-def queried(it, tables, what, wanted, key):
-    """Rows of the dataset of a million rows that pqds made, all or those of one key of a hundred: as lines of JSON by the two
-    programs, as a table in memory by the other two."""
+def queried(it, tables, what, wanted, key="", text="", columns=("k", "n", "t")):
+    """Rows of the dataset of a million rows that pqds made, all, those of one key of a hundred or the one with a text, which no
+    statistics rule out, in all columns or some: as lines of JSON by the two programs, as a table in memory by the other two."""
     folder, ours, theirs = tables.folder("pqds"), it.file("ours.jsonl"), it.file("theirs.jsonl")
-    asked = ["--filter", json.dumps([["k", "==", key]])] if key else []
-    where = f"WHERE k = '{key}'" if key else ""
+    column, value = ("k", key) if key else ("t", text)
+    asked = ["--filter", json.dumps([[column, "==", value]])] if value else []
+    where = f"WHERE {column} = '{value}'" if value else ""
     named = f"read_parquet('{folder}/**/*.parquet', hive_partitioning=true, hive_types={{'k': 'VARCHAR'}})"
 
     def by_pyarrow():
-        found = ds.parquet_dataset(f"{folder}/_metadata", partitioning=HIVE).to_table(filter=ds.field("k") == key if key else None, use_threads=False)
+        wanted_rows = ds.field(column) == value if value else None
+        found = ds.parquet_dataset(f"{folder}/_metadata", partitioning=HIVE).to_table(columns=list(columns), filter=wanted_rows, use_threads=False)
         assert found.num_rows == wanted
 
     def by_fastparquet():
-        filters = [("k", "==", key.replace(" ", "%20"))] if key else []
-        assert len(fast.fastparquet.ParquetFile(folder).to_pandas(filters=filters)) == wanted
+        filters = [[(column, "==", value.replace(" ", "%20") if key else value)]] if value else []
+        found = fast.fastparquet.ParquetFile(folder).to_pandas(columns=list(columns), filters=filters, row_filter=bool(text))
+        assert len(found) == wanted
 
-    works = {"pqds": lambda: it.pqds("query", folder, *asked, out=ours),
-             "DuckDB": lambda: it.duckdb(f"COPY (SELECT k, n, t FROM {named} {where}) TO '{theirs}' (FORMAT json)"),
+    works = {"pqds": lambda: it.pqds("query", folder, *([] if len(columns) == 3 else columns), *asked, out=ours),
+             "DuckDB": lambda: it.duckdb(f"COPY (SELECT {', '.join(columns)} FROM {named} {where}) TO '{theirs}' (FORMAT json)"),
              "pyarrow": lambda: within(by_pyarrow), "fastparquet": lambda: within(by_fastparquet)}
     row(what, least(works))
     same_bytes(it, what, [ours, theirs])
@@ -391,6 +455,43 @@ def rewritten(it):
     row("500 files of 200 rows into one", least(works, before, check))
 
 
+def removed(it, tables):
+    """Half of the rows of one key of a hundred: by pqds in one commit, by the others the file of the key is written anew."""
+    first, folder = tables.folder("pqds"), it.file("less")
+    place = f"{folder}/k=key%2042"
+
+    def before(who):
+        shutil.rmtree(folder, ignore_errors=True)
+        shutil.copytree(first, folder)
+
+    def instead(write):
+        old = glob.glob(f"{place}/part.*.parquet")
+        write(old)
+        remove_all(old)
+
+    def by_pyarrow(old):
+        pq.write_table(ds.dataset(old, format="parquet").to_table(filter=ds.field("n") >= MILLION // 2, use_threads=False), f"{place}/new.parquet", compression="NONE")
+
+    def by_fastparquet(old):
+        frame = fast.fastparquet.ParquetFile(old).to_pandas()
+        fast.fastparquet.write(f"{place}/new.parquet", frame[frame["n"] >= MILLION // 2], compression=None, write_index=False, has_nulls=False, object_encoding="utf8")
+
+    def by_duckdb():
+        old = glob.glob(f"{place}/part.*.parquet")
+        return summed(it.duckdb(f"COPY (SELECT * FROM read_parquet('{place}/part.*.parquet', hive_partitioning=false) WHERE n >= {MILLION // 2}) "
+                                f"TO '{place}/new.parquet' ({UNPACKED})"), remove_all(old))
+
+    def check(who):
+        found = sum(pq.read_metadata(file).num_rows for file in glob.glob(f"{place}/*.parquet"))
+        if found != MILLION // 200:
+            it.tell(f"side, remove by {who}: {found} rows")
+
+    asked = json.dumps([["k", "==", "key 42"], ["n", "<", MILLION // 2]])
+    works = {"pqds": lambda: it.pqds("remove", folder, "--filter", asked), "DuckDB": by_duckdb,
+             "pyarrow": lambda: within(instead, by_pyarrow), "fastparquet": lambda: within(instead, by_fastparquet)}
+    row(f"remove of {MILLION // 200:,} of {MILLION:,} rows, of one key", least(works, before, check))
+
+
 def starts(it):
     """What a process that does nothing takes."""
     sample = os.path.join(os.path.dirname(os.path.abspath(__file__)), "sample/two_rows.parquet")
@@ -400,11 +501,17 @@ def starts(it):
 def run(path, room, tell):
     it = Side(path, room, tell)
     both_ways(it)
-    tables = appends(it)
+    appends(it)
     head("questions, rewriting, start")
-    queried(it, tables, f"{MILLION // 100:,} rows of one key of 100", MILLION // 100, "key 42")
-    queried(it, tables, f"all {MILLION:,} rows of 100 keys", MILLION, "")
+    tables = Tables(it, True)
+    tables.clear("pqds")
+    it.pqds("append", tables.folder("pqds"), write_lines(it.file("rows.jsonl"), COLUMNS, range(MILLION)))
+    queried(it, tables, f"{MILLION // 100:,} rows of one key of 100", MILLION // 100, key="key 42")
+    queried(it, tables, f"all {MILLION:,} rows of 100 keys", MILLION)
+    queried(it, tables, f"one column of {MILLION:,} rows of 100 keys", MILLION, columns=["n"])
+    queried(it, tables, f"one row of {MILLION:,} by a text that no statistics rule out", 1, text=text_of(MILLION - 223))
     pruned(it)
     large_root(it)
+    removed(it, tables)
     rewritten(it)
     starts(it)
