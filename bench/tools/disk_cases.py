@@ -4,7 +4,8 @@
     python3 bench/tools/disk_cases.py < crates/disk_cases/stdin > crates/disk_cases/stdout
 
 The model is docs/DISK.md in another language: what each call does, what a call that fails has done, and what a list of words
-leaves of what is not durable. It never runs out of memory.
+leaves of what is not durable. It never runs out of memory. A folder of a host is such a disk that also fails at each path with an
+empty part, `.` or `..`.
 """
 import itertools
 import sys
@@ -178,7 +179,8 @@ class Disk:
     def list(self, folder):
         def names():
             inside = [(path, name.now) for path, name in self.names.items() if name.now is not None and folder_of(path) == folder]
-            return [(path.rpartition("/")[2], now == FOLDER) for path, now in inside]
+            named = [(path.rpartition("/")[2], now == FOLDER) for path, now in inside]
+            return [(name, is_folder) for name, is_folder in named if name]
         return self.call(lambda: None if self.bound(folder) == FOLDER else "Absent", names)
 
     # what a stop leaves
@@ -198,6 +200,34 @@ class Disk:
         for path in gone:
             disk.names[path].now = None
         return disk
+
+
+def is_inside(path):
+    return path == "" or not set(path.split("/")) & {"", ".", ".."}
+
+
+class Folder(Disk):
+    """A folder of a host, with what a crash that loses all that is not durable leaves of a disk."""
+
+    def __init__(self, disk):
+        super().__init__()
+        left = disk.crash([])
+        self.names, self.nodes = left.names, left.nodes
+
+
+def failing_outside(call):
+    def made_inside(self, *words):
+        if all(is_inside(word) for word in words if isinstance(word, str)):
+            return call(self, *words)
+        self.reads += call is Disk.read
+        self.failures += 1
+        raise Fault("Failed")
+    return made_inside
+
+
+for call in (Disk.create, Disk.folder, Disk.append, Disk.sync, Disk.sync_folder, Disk.rename, Disk.remove, Disk.read, Disk.length,
+             Disk.list):
+    setattr(Folder, call.__name__, failing_outside(call))
 
 
 def torn(node, words):
@@ -379,8 +409,10 @@ def lists_of(words):
 
 
 class Cases:
-    def __init__(self):
-        self.disk = Disk()
+    """The disk in memory, and the host while it holds what that disk holds."""
+
+    def __init__(self, disk=None):
+        self.disk, self.host = disk or Disk(), None
 
 
 def need(words, count):
@@ -510,17 +542,32 @@ def made(cases, line):
         return f"refused {refused}", False
 
 
+ON_MEMORY_ALONE = ("new", "crash", "fuse", "fail-once", "shortages", "folder-of", "path-in")
+
+
+def printed(cases, shown_line, line):
+    """The line with what both disks give after `==`, or with what the disk in memory gives after `=`."""
+    text, is_done = made(cases, line)
+    call = line.split()[0]
+    if is_done and call in ("new", "crash"):
+        cases.host = Folder(cases.disk)
+    if is_done and call in ("fuse", "fail-once"):
+        cases.host = None
+    if cases.host is None or call in ON_MEMORY_ALONE:
+        return f"{shown_line} = {text}"
+    on_host, _ = made(Cases(cases.host), line)
+    return f"{shown_line} == {text}" if on_host == text else f"{shown_line} = {text}, on the host {on_host}"
+
+
 def view(disk, looks):
     if not looks:
         return image(disk)
-    cases = Cases()
-    cases.disk = disk
+    cases = Cases(disk)
     return ", ".join(made(cases, look)[0] for look in looks)
 
 
 def row(disk, pick, passes, calls, looks, lists):
-    cases = Cases()
-    cases.disk = disk.crash([])
+    cases = Cases(disk.crash([]))
     cases.disk.fuse(passes, pick)
     text = "ok"
     for call in calls:
@@ -549,28 +596,28 @@ def is_remark(line):
     return line == "" or line.startswith("#")
 
 
-def read_lines(cases, lines, number=None):
+def read_lines(cases, given_lines, number=None):
     """What is printed of lines; a number stands in the place of each `$`."""
-    printed, block = [], None
-    for shown_line in lines:
+    lines, block = [], None
+    for shown_line in given_lines:
         line = shown_line if number is None else shown_line.replace("$", str(number))
         if block is not None and line == "end":
             try:
-                printed += [shown_line] + stops(cases.disk, block[0], block[1:])
+                lines += [shown_line] + stops(cases.disk, block[0], block[1:])
             except Refused as refused:
-                printed.append(f"{shown_line} = refused {refused}")
+                lines.append(f"{shown_line} = refused {refused}")
             block = None
         elif block is not None:
             block += [] if is_remark(line) else [line]
-            printed.append(shown_line)
+            lines.append(shown_line)
         elif line.startswith("stops "):
             block = [line]
-            printed.append(shown_line)
+            lines.append(shown_line)
         elif is_remark(line):
-            printed.append(shown_line)
+            lines.append(shown_line)
         else:
-            printed.append(f"{shown_line} = {made(cases, line)[0]}")
-    return printed
+            lines.append(printed(cases, shown_line, line))
+    return lines
 
 
 def times(cases, head, lines):

@@ -1,6 +1,6 @@
 //! Calls of the disk.
 
-use crate::images::{image, images, left};
+use crate::images::left;
 use crate::lists::{bytes, choices, path};
 use crate::outcome::{Outcome, shown_file, shown_names};
 use bits::{R, Refusal};
@@ -10,7 +10,7 @@ use mem_disk::MemDisk;
 use std::alloc::Global;
 
 /// A call that changes something.
-pub fn change(alloc: Global, disk: &mut MemDisk, words: &[&str]) -> R<Outcome> {
+pub fn change<D: Disk>(alloc: Global, disk: &mut D, words: &[&str]) -> R<Outcome> {
     let at = path(words, 1)?;
     let done = match word(words, 0)? {
         "create" => disk.create(at),
@@ -29,7 +29,7 @@ pub fn change(alloc: Global, disk: &mut MemDisk, words: &[&str]) -> R<Outcome> {
 }
 
 /// `read PATH FROM LEN`: a range of a file's bytes.
-pub fn read(alloc: Global, disk: &mut MemDisk, words: &[&str]) -> R<Outcome> {
+pub fn read<D: Disk>(alloc: Global, disk: &mut D, words: &[&str]) -> R<Outcome> {
     let from = natural(word(words, 2)?)?;
     let len = natural(word(words, 3)?)? as usize;
     match disk.read_range(alloc, path(words, 1)?, from, len) {
@@ -39,7 +39,7 @@ pub fn read(alloc: Global, disk: &mut MemDisk, words: &[&str]) -> R<Outcome> {
 }
 
 /// `length PATH`: how many bytes a file has.
-pub fn length(alloc: Global, disk: &mut MemDisk, words: &[&str]) -> R<Outcome> {
+pub fn length<D: Disk>(alloc: Global, disk: &mut D, words: &[&str]) -> R<Outcome> {
     match disk.length(path(words, 1)?) {
         Ok(length) => Outcome::of_count(alloc, length),
         Err(fault) => Outcome::fault(alloc, fault),
@@ -47,7 +47,7 @@ pub fn length(alloc: Global, disk: &mut MemDisk, words: &[&str]) -> R<Outcome> {
 }
 
 /// `list FOLDER`: the names in a folder.
-pub fn list(alloc: Global, disk: &mut MemDisk, words: &[&str]) -> R<Outcome> {
+pub fn list<D: Disk>(alloc: Global, disk: &mut D, words: &[&str]) -> R<Outcome> {
     match disk.list(alloc, path(words, 1)?) {
         Ok(entries) => Ok(Outcome::of(shown_names(alloc, entries.as_slice())?)),
         Err(fault) => Outcome::fault(alloc, fault),
@@ -55,19 +55,18 @@ pub fn list(alloc: Global, disk: &mut MemDisk, words: &[&str]) -> R<Outcome> {
 }
 
 /// `count FOLDER`: how many names are in a folder.
-pub fn count(alloc: Global, disk: &mut MemDisk, words: &[&str]) -> R<Outcome> {
+pub fn count<D: Disk>(alloc: Global, disk: &mut D, words: &[&str]) -> R<Outcome> {
     match disk.list(alloc, path(words, 1)?) {
         Ok(entries) => Outcome::of_count(alloc, entries.len() as u64),
         Err(fault) => Outcome::fault(alloc, fault),
     }
 }
 
-/// `failures`, `reads`, `shortages`: what the disk counts.
-pub fn counter(alloc: Global, disk: &MemDisk, words: &[&str]) -> R<Outcome> {
+/// `failures`, `reads`: what every disk counts.
+pub fn counter<D: Disk>(alloc: Global, disk: &D, words: &[&str]) -> R<Outcome> {
     let counted = match word(words, 0)? {
         "failures" => disk.failures(),
-        "reads" => disk.reads(),
-        _ => disk.shortages(),
+        _ => disk.reads(),
     };
     Outcome::of_count(alloc, counted)
 }
@@ -93,14 +92,6 @@ pub fn crash(alloc: Global, disk: &mut MemDisk, words: &[&str]) -> R<Outcome> {
     }
     *disk = left(disk, picks.as_slice())?;
     Outcome::ok(alloc)
-}
-
-/// `files`: all folders and files; `images WORD..`: what each list of words leaves.
-pub fn whole(alloc: Global, disk: &mut MemDisk, words: &[&str]) -> R<Outcome> {
-    match word(words, 0)? {
-        "files" => Ok(Outcome::of(image(alloc, disk)?)),
-        _ => Ok(Outcome::of(images(alloc, disk, words_from(words, 1))?)),
-    }
 }
 
 /// A path as it is printed: `""` is the dataset's own folder.

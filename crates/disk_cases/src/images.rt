@@ -12,7 +12,7 @@ use std::alloc::Global;
 const DEPTH: usize = 4;
 
 /// A file's path and its bytes.
-fn shown_path(alloc: Global, disk: &mut MemDisk, path: &str) -> R<String> {
+fn shown_path<D: Disk>(alloc: Global, disk: &mut D, path: &str) -> R<String> {
     let bytes = disk
         .read_range(alloc, path, 0, usize::MAX)
         .map_err(refusal_of)?;
@@ -21,9 +21,9 @@ fn shown_path(alloc: Global, disk: &mut MemDisk, path: &str) -> R<String> {
 }
 
 /// What is in a folder: its files with their bytes and its folders go to `found`, the paths of its folders to `deeper`.
-fn look_into(
+fn look_into<D: Disk>(
     alloc: Global,
-    disk: &mut MemDisk,
+    disk: &mut D,
     folder: &str,
     found: &mut Vec<String>,
     deeper: &mut Vec<String>,
@@ -43,9 +43,9 @@ fn look_into(
 }
 
 /// The folders in some folders.
-fn look_deeper(
+fn look_deeper<D: Disk>(
     alloc: Global,
-    disk: &mut MemDisk,
+    disk: &mut D,
     folders: &[String],
     found: &mut Vec<String>,
 ) -> R<Vec<String>> {
@@ -57,7 +57,7 @@ fn look_deeper(
 }
 
 /// All folders and files as the disk reads, each file with its bytes, in byte order; a call of the disk for each of them.
-pub fn image(alloc: Global, disk: &mut MemDisk) -> R<String> {
+pub fn image<D: Disk>(alloc: Global, disk: &mut D) -> R<String> {
     let mut found = Vec::new(alloc);
     let mut folders = Vec::new(alloc);
     folders.push(String::new(alloc))?;

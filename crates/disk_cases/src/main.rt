@@ -1,11 +1,15 @@
-//! Calls on a disk in memory and on a vault over it, as text: each line of standard input is a call, and the line that is
-//! printed has its outcome after ` = `. Blocks make calls many times over, and stop them at each call of the disk. `stdin` has
-//! the lines and `stdout` what they must print; README.md lists them.
+//! Calls on a disk and on a vault over it, as text: each line of standard input is a call, and the line that is printed has its
+//! outcome. Calls are made on a disk in memory, and on a folder of a host whose files are in memory: after ` == ` is what both
+//! give, after ` = ` what the disk in memory gives alone. Blocks make calls many times over, and stop them at each call of the
+//! disk. `stdin` has the lines and `stdout` what they must print; README.md lists them.
 #![tactic(auto)]
 
 mod calls;
+mod host;
 mod images;
+mod lines;
 mod lists;
+mod mem_files;
 mod outcome;
 mod script;
 mod stops;

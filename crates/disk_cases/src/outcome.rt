@@ -51,6 +51,14 @@ impl Outcome {
         })
     }
 
+    /// The outcome of a line, which is not done where it is refused.
+    pub fn or_refused(alloc: Global, outcome: R<Outcome>) -> R<Outcome> {
+        match outcome {
+            Ok(outcome) => Ok(outcome),
+            Err(refusal) => Outcome::refused(alloc, refusal),
+        }
+    }
+
     /// The outcome of a call of the disk that gives nothing where it is done.
     pub fn of_call(alloc: Global, done: Result<(), Fault>) -> R<Outcome> {
         match done {

@@ -1,71 +1,39 @@
 //! Lines, and blocks of lines that are stopped.
 
-use crate::outcome::Outcome;
+use crate::host::Host;
+use crate::images::left;
+use crate::lines::made;
 use crate::stops::stops;
-use crate::{calls, vault_calls};
-use bits::{R, Refusal};
-use case_words::word;
+use bits::R;
 use mem_disk::MemDisk;
 use std::alloc::Global;
 use vault::Vault;
-
-/// What a call of the vault gives; Script where the word is none.
-fn of_vault(alloc: Global, vault: &mut Vault<MemDisk>, words: &[&str]) -> R<Outcome> {
-    match word(words, 0)? {
-        "put" => vault_calls::put(alloc, vault, words),
-        "forget" => vault_calls::forget(alloc, vault, words),
-        "swap" => vault_calls::swap(alloc, vault, words),
-        "root" => vault_calls::root(alloc, vault),
-        "get" => vault_calls::get(alloc, vault, words),
-        "names" => vault_calls::names(alloc, vault, words),
-        "commit" => vault_calls::commit_all(alloc, vault, words),
-        "settle" => Outcome::of_change(alloc, vault.settle()),
-        "forget-next" => Outcome::of_change(alloc, vault.forget_next()),
-        _ => Err(Refusal::Script),
-    }
-}
-
-/// What a call gives, by its first word; Script where there is no such call.
-pub fn outcome(alloc: Global, vault: &mut Vault<MemDisk>, words: &[&str]) -> R<Outcome> {
-    let disk = &mut vault.disk;
-    match word(words, 0)? {
-        "new" => {
-            *disk = MemDisk::new(alloc);
-            Outcome::ok(alloc)
-        }
-        "create" | "folder" | "append" | "sync" | "sync-folder" | "rename" | "remove" =>
-            calls::change(alloc, disk, words),
-        "read" => calls::read(alloc, disk, words),
-        "length" => calls::length(alloc, disk, words),
-        "list" => calls::list(alloc, disk, words),
-        "count" => calls::count(alloc, disk, words),
-        "failures" | "reads" | "shortages" => calls::counter(alloc, disk, words),
-        "fuse" | "fail-once" => calls::plan(alloc, disk, words),
-        "crash" => calls::crash(alloc, disk, words),
-        "files" | "images" => calls::whole(alloc, disk, words),
-        "folder-of" | "path-in" => calls::of_paths(alloc, words),
-        _ => of_vault(alloc, vault, words),
-    }
-}
-
-/// What a line gives. A line that is no call is not done.
-pub fn made(alloc: Global, vault: &mut Vault<MemDisk>, line: &str) -> R<Outcome> {
-    let words: Vec<&str> = line.split_whitespace().collect(alloc)?;
-    match outcome(alloc, vault, words.as_slice()) {
-        Ok(outcome) => Ok(outcome),
-        Err(refusal) => Outcome::refused(alloc, refusal),
-    }
-}
 
 /// Whether a line is printed as it is.
 pub fn is_remark(line: &str) -> bool {
     line.is_empty() || line.starts_with('#')
 }
 
-/// What stands between two lines: the vault, and the lines of a block that has not ended.
+/// The line as it is printed: with what both disks give, or with what the disk in memory gives and the host, if it gives anything
+/// else.
+fn printed(alloc: Global, shown: &str, text: &str, host: Option<String>) -> R<String> {
+    let gap = if text.starts_with(' ') { "" } else { " " };
+    match host {
+        Some(host) if host.as_str() == text => Ok(format!(in alloc; "{shown} =={gap}{text}")?),
+        Some(host) => {
+            let host = host.as_str().trim_start();
+            Ok(format!(in alloc; "{shown} ={gap}{text}, on the host {host}")?)
+        }
+        None => Ok(format!(in alloc; "{shown} ={gap}{text}")?),
+    }
+}
+
+/// What stands between two lines: the vault, the same on a host while it holds what the vault's disk holds, and the lines of a
+/// block that has not ended.
 #[derive(Drop)]
 pub struct Script {
     vault: Vault<MemDisk>,
+    host: Option<Host>,
     block: Option<Vec<String>>,
 }
 
@@ -74,6 +42,7 @@ impl Script {
     pub fn new(alloc: Global) -> Script {
         Script {
             vault: Vault::start(MemDisk::new(alloc)),
+            host: None,
             block: None,
         }
     }
@@ -93,13 +62,25 @@ impl Script {
             return Ok(String::from_str(alloc, shown)?);
         }
         let outcome = made(alloc, &mut self.vault, line)?;
-        let text = outcome.text;
-        let gap = if text.as_str().starts_with(' ') {
-            ""
-        } else {
-            " "
+        if outcome.is_done {
+            self.keep_level(alloc, line)?;
+        }
+        let host = match &mut self.host {
+            Some(host) => host.made(alloc, line)?,
+            None => None,
         };
-        Ok(format!(in alloc; "{shown} ={gap}{text}")?)
+        printed(alloc, shown, outcome.text.as_str(), host)
+    }
+
+    /// After a line that is done: a host holds what an empty disk or a crashed one holds, and none goes on where calls fail.
+    fn keep_level(&mut self, alloc: Global, line: &str) -> R<()> {
+        if line == "new" || line.starts_with("crash") {
+            self.host = Some(Host::over(alloc, left(&self.vault.disk, &[])?)?);
+        }
+        if line.starts_with("fuse ") || line.starts_with("fail-once ") {
+            self.host = None;
+        }
+        Ok(())
     }
 
     /// A line within a block: it waits for the end, where the block is run.

@@ -7,7 +7,7 @@ use crate::lists::{bytes, path};
 use crate::outcome::{Outcome, shown_file, shown_names};
 use bits::{R, Refusal};
 use case_words::{natural, word, words_from};
-use mem_disk::MemDisk;
+use disk::Disk;
 use std::alloc::Global;
 use vault::Vault;
 
@@ -19,7 +19,7 @@ fn is_no_root(path: &str) -> bool
 }
 
 /// `put PATH BYTES`: puts a file. Script at the root's two paths.
-pub fn put(alloc: Global, vault: &mut Vault<MemDisk>, words: &[&str]) -> R<Outcome> {
+pub fn put<D: Disk>(alloc: Global, vault: &mut Vault<D>, words: &[&str]) -> R<Outcome> {
     let at = path(words, 1)?;
     let bytes = bytes(alloc, words, 2)?;
     if !is_no_root(at) {
@@ -29,7 +29,7 @@ pub fn put(alloc: Global, vault: &mut Vault<MemDisk>, words: &[&str]) -> R<Outco
 }
 
 /// `forget PATH`: lets a file go. Script at the root's two paths.
-pub fn forget(alloc: Global, vault: &mut Vault<MemDisk>, words: &[&str]) -> R<Outcome> {
+pub fn forget<D: Disk>(alloc: Global, vault: &mut Vault<D>, words: &[&str]) -> R<Outcome> {
     let at = path(words, 1)?;
     if !is_no_root(at) {
         return Err(Refusal::Script);
@@ -38,13 +38,13 @@ pub fn forget(alloc: Global, vault: &mut Vault<MemDisk>, words: &[&str]) -> R<Ou
 }
 
 /// `swap BYTES`: swaps the root for these bytes.
-pub fn swap(alloc: Global, vault: &mut Vault<MemDisk>, words: &[&str]) -> R<Outcome> {
+pub fn swap<D: Disk>(alloc: Global, vault: &mut Vault<D>, words: &[&str]) -> R<Outcome> {
     let bytes = bytes(alloc, words, 1)?;
     Outcome::of_change(alloc, vault.swap_root(bytes.as_slice()))
 }
 
 /// `root`: the root's bytes, or `none`.
-pub fn root(alloc: Global, vault: &mut Vault<MemDisk>) -> R<Outcome> {
+pub fn root<D: Disk>(alloc: Global, vault: &mut Vault<D>) -> R<Outcome> {
     match vault.root(alloc) {
         Ok(Some(bytes)) => Ok(Outcome::of(shown_file(alloc, bytes.as_slice())?)),
         Ok(None) => Ok(Outcome::of(String::from_str(alloc, "none")?)),
@@ -53,7 +53,7 @@ pub fn root(alloc: Global, vault: &mut Vault<MemDisk>) -> R<Outcome> {
 }
 
 /// `get PATH FROM LEN`: a range of a file's bytes.
-pub fn get(alloc: Global, vault: &mut Vault<MemDisk>, words: &[&str]) -> R<Outcome> {
+pub fn get<D: Disk>(alloc: Global, vault: &mut Vault<D>, words: &[&str]) -> R<Outcome> {
     let from = natural(word(words, 2)?)?;
     let len = natural(word(words, 3)?)? as usize;
     match vault.get_range(alloc, path(words, 1)?, from, len) {
@@ -63,7 +63,7 @@ pub fn get(alloc: Global, vault: &mut Vault<MemDisk>, words: &[&str]) -> R<Outco
 }
 
 /// `names FOLDER`: the names in a folder.
-pub fn names(alloc: Global, vault: &mut Vault<MemDisk>, words: &[&str]) -> R<Outcome> {
+pub fn names<D: Disk>(alloc: Global, vault: &mut Vault<D>, words: &[&str]) -> R<Outcome> {
     match vault.list(alloc, path(words, 1)?) {
         Ok(entries) => Ok(Outcome::of(shown_names(alloc, entries.as_slice())?)),
         Err(refusal) => Outcome::refused(alloc, refusal),
@@ -104,7 +104,7 @@ fn gone_paths(alloc: Global, words: &[&str]) -> R<Vec<String>> {
 }
 
 /// Puts the files, in order, up to the first that is refused.
-fn put_all(vault: &mut Vault<MemDisk>, files: &[NewFile]) -> R<()> {
+fn put_all<D: Disk>(vault: &mut Vault<D>, files: &[NewFile]) -> R<()> {
     for file in files {
         let path = file.path.as_str();
         if !is_no_root(path) {
@@ -116,7 +116,7 @@ fn put_all(vault: &mut Vault<MemDisk>, files: &[NewFile]) -> R<()> {
 }
 
 /// Lets the paths go. What the disk does not remove stays.
-fn forget_all(vault: &mut Vault<MemDisk>, gone: &[String]) {
+fn forget_all<D: Disk>(vault: &mut Vault<D>, gone: &[String]) {
     for path in gone {
         let path = path.as_str();
         if is_no_root(path) {
@@ -126,7 +126,7 @@ fn forget_all(vault: &mut Vault<MemDisk>, gone: &[String]) {
 }
 
 /// Puts the files, swaps the root for this one, and lets the paths go.
-fn commit(vault: &mut Vault<MemDisk>, files: &[NewFile], root: &[u8], gone: &[String]) -> R<()> {
+fn commit<D: Disk>(vault: &mut Vault<D>, files: &[NewFile], root: &[u8], gone: &[String]) -> R<()> {
     put_all(vault, files)?;
     vault.swap_root(root)?;
     forget_all(vault, gone);
@@ -135,7 +135,7 @@ fn commit(vault: &mut Vault<MemDisk>, files: &[NewFile], root: &[u8], gone: &[St
 
 /// `commit ROOT + PATH BYTES .. ! PATH ..`: puts the files, swaps the root, and lets the paths after `!` go. Script where
 /// one of them is one of the root's two.
-pub fn commit_all(alloc: Global, vault: &mut Vault<MemDisk>, words: &[&str]) -> R<Outcome> {
+pub fn commit_all<D: Disk>(alloc: Global, vault: &mut Vault<D>, words: &[&str]) -> R<Outcome> {
     let root = bytes(alloc, words, 1)?;
     let files = new_files(alloc, words)?;
     let gone = gone_paths(alloc, words)?;
