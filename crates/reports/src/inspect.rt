@@ -1,27 +1,26 @@
 //! What a file is, by its footer and its page headers.
 
-ghost use Rattle.std.specs.Prelude.{◌≡◌, ◌↔◌, IfOk, IfErr, List, ℕ, None};
+ghost use Rattle.std.specs.Prelude.{◌≡◌, ◌↔◌, IfOk, OnOk, IfErr, List, ℕ, None};
 ghost use Rattle.metadata.specs.Records.{FileMeta as FileRecord};
 ghost use Rattle.footer.specs.File.{IsFile};
 ghost use Rattle.bits.specs.Refusals.{RefusedMemoryOnly};
 ghost use Rattle.footer.specs.Faults.{HasFooterFault};
 ghost use Rattle.reports.specs.Verdict.{IsAccepted};
 
-use crate::inspect_chunks::group_of;
+use crate::byte_source::{ByteSource, WholeBytes};
+use crate::ends::{bytes_before_footer, footer_length};
+use crate::inspect_chunks::{GroupSeen, group_of};
 use crate::inspect_pages::MOST_PAGES;
 use crate::inspect_problems::{problems_of, what_of_refusal};
-use crate::inspect_report::{FileReport, KeyValueReport};
+use crate::inspect_report::{FileReport, GroupReport, KeyValueReport, Problem};
 use crate::inspect_schema::{fields_of, shown, shown_where_given};
 use crate::inspect_text::{problem_text, text_of_report};
 use crate::verdict::refusal_of_file;
 use bits::{R, Refusal};
 use footer::{MOST_BYTES_OF_FILE, MOST_BYTES_OF_FOOTER, read_footer};
-use metadata::FileMeta;
+use metadata::{FileMeta, GroupMeta};
 use schema::{Leaf, Schema};
 use std::alloc::{AllocError, Global};
-
-/// How many bytes there are after the footer: its length, and `PAR1`.
-const BYTES_AFTER_FOOTER: usize = 8;
 
 /// What a file is, as text for a person or as a line of JSON. Only the footer and the page headers are read, and
 /// no value, but for the groups that `decode` may refuse by these: they are read as `decode` reads them. Refused as [`read_footer`] is. Time is linear in the footer and in the page headers that are listed, at
@@ -30,8 +29,38 @@ pub fn report_text(alloc: Global, bytes: &[u8], as_json: bool) -> R<Vec<u8>>
     ensures stands { IfOk result (λ text. (front : List ℕ) × (meta : FileRecord) × IsFile bytes.now front meta) }
     ensures which { IfErr result (HasFooterFault bytes.now) }
 {
-    let record = read_footer(alloc, bytes)?;
-    let report = report_of(alloc, bytes, &record)?;
+    let mut source = WholeBytes::new(bytes);
+    let text = report_by_ends(alloc, bytes, &mut source, as_json)?;
+    Ok(text?)
+}
+
+/// What a file is as [`report_text`], where not all of its bytes are there: `ends` are the bytes of a file that has its footer
+/// ([`ends_of`](crate::ends_of)), and the page headers are read from `source`. Of a group that `decode` may refuse for its pages
+/// all is read that is before the footer. Refused as [`read_footer`] refuses the ends; its own result fails where memory is
+/// refused, or the source cannot be read.
+pub fn report_by_ends<S: ByteSource>(
+    alloc: Global,
+    ends: &[u8],
+    source: &mut S,
+    as_json: bool,
+) -> R<Result<Vec<u8>, S::Fault>>
+    ensures stands { OnOk result ((front : List ℕ) × (meta : FileRecord) × IsFile ends.now front meta) }
+    ensures which { IfErr result (HasFooterFault ends.now) }
+{
+    let record = read_footer(alloc, ends)?;
+    let footer_bytes = footer_length(ends).unwrap_or(0);
+    Ok(text_of(alloc, source, footer_bytes, &record, as_json))
+}
+
+/// What is said of a file with this footer, as text.
+fn text_of<S: ByteSource>(
+    alloc: Global,
+    source: &mut S,
+    footer_bytes: usize,
+    record: &FileMeta,
+    as_json: bool,
+) -> Result<Vec<u8>, S::Fault> {
+    let report = report_of(alloc, source, footer_bytes, record)?;
     let text = if as_json {
         json_of_report(alloc, &report)?
     } else {
@@ -57,7 +86,7 @@ fn what_of_bytes(alloc: Global, bytes: &[u8], refusal: &Refusal) -> Result<Strin
     match read_footer(alloc, bytes) {
         Ok(record) => what_of_file(alloc, bytes, &record, refusal),
         Err(Refusal::Memory) => Err(AllocError),
-        Err(frame) => what_of_frame(alloc, bytes, &frame),
+        Err(frame) => footer_problem(alloc, bytes, bytes.len(), &frame),
     }
 }
 
@@ -69,7 +98,7 @@ fn what_of_file(
     refusal: &Refusal,
 ) -> Result<String, AllocError> {
     let schema = schema_of(alloc, record)?;
-    let front = front_of(bytes, footer_length(bytes).unwrap_or(0));
+    let front = front_of(bytes);
     let mut places = Vec::new(alloc);
     for place in 0..record.row_groups.len() {
         places.push(place)?;
@@ -81,9 +110,15 @@ fn what_of_file(
     }
 }
 
-/// What is wrong with a file whose footer cannot be read.
-fn what_of_frame(alloc: Global, bytes: &[u8], refusal: &Refusal) -> Result<String, AllocError> {
-    let (length, footer) = (bytes.len(), footer_length(bytes).unwrap_or(0));
+/// What is wrong with a file of so many bytes whose footer is refused so; `ends` are the bytes of a file that has its footer
+/// ([`ends_of`](crate::ends_of)). It fails only when out of memory.
+pub fn footer_problem(
+    alloc: Global,
+    ends: &[u8],
+    length: usize,
+    refusal: &Refusal,
+) -> Result<String, AllocError> {
+    let footer = footer_length(ends).unwrap_or(0);
     match refusal {
         Refusal::Magic => String::from_str(
             alloc,
@@ -105,21 +140,10 @@ fn what_of_frame(alloc: Global, bytes: &[u8], refusal: &Refusal) -> Result<Strin
     }
 }
 
-/// The length of the footer that a file announces.
-fn footer_length(bytes: &[u8]) -> Option<usize> {
-    let from = bytes.len().checked_sub(BYTES_AFTER_FOOTER)?;
-    let announced = bytes.get(from..)?.get(..4)?;
-    let length = u32::from_le_bytes(<[u8; 4]>::try_from(announced).ok()?);
-    Some(length as usize)
-}
-
 /// The bytes of a file before its footer.
-fn front_of(bytes: &[u8], footer_length: usize) -> &[u8] {
-    let before = bytes
-        .len()
-        .saturating_sub(BYTES_AFTER_FOOTER)
-        .saturating_sub(footer_length);
-    bytes.get(..before).unwrap_or(&[])
+fn front_of(bytes: &[u8]) -> &[u8] {
+    let end = bytes_before_footer(bytes.len(), footer_length(bytes).unwrap_or(0));
+    bytes.get(..end).unwrap_or(&[])
 }
 
 /// The keys of a footer.
@@ -152,25 +176,92 @@ fn leaves_of(schema: &R<Schema>) -> &[Leaf] {
     }
 }
 
-/// What is said of a file with this footer.
-fn report_of(alloc: Global, bytes: &[u8], record: &FileMeta) -> Result<FileReport, AllocError> {
-    let footer_bytes = footer_length(bytes).unwrap_or(0);
-    let front = front_of(bytes, footer_bytes);
-    let schema = schema_of(alloc, record)?;
-    let mut groups = Vec::new(alloc);
-    let mut suspects = Vec::new(alloc);
-    let mut room = MOST_PAGES;
-    for (place, group) in record.row_groups.iter().enumerate() {
-        let leaves = leaves_of(&schema);
-        let (report, is_suspect) = group_of(alloc, front, group, leaves, &mut room)?;
-        groups.push(report)?;
-        if is_suspect {
-            suspects.push(place)?;
+/// The groups of a file as far as they were looked at.
+#[derive(Drop)]
+struct GroupsSeen {
+    groups: Vec<GroupReport>,
+    /// The places of those that raise a suspicion that `decode` refuses them.
+    suspects: Vec<usize>,
+    /// Whether pages have to be read to say what it refuses of them.
+    need_pages: bool,
+    /// How many more pages may be listed.
+    room: usize,
+}
+
+impl GroupsSeen {
+    /// Adds the group at a place.
+    fn add(&mut self, place: usize, group: &GroupMeta, seen: GroupSeen) -> Result<(), AllocError> {
+        if seen.is_suspect() {
+            self.suspects.push(place)?;
         }
+        self.need_pages = self.need_pages || seen.needs_pages();
+        self.room = seen.room;
+        self.groups.push(GroupReport {
+            rows: group.num_rows,
+            bytes: group.total_byte_size,
+            chunks: seen.chunks,
+        })?;
+        Ok(())
     }
-    let not_read = problems_of(alloc, front, record, &schema, suspects.as_slice())?;
+}
+
+/// Looks at the groups of a file. Its footer begins at `end`.
+fn groups_of<S: ByteSource>(
+    alloc: Global,
+    source: &mut S,
+    end: usize,
+    groups: &[GroupMeta],
+    leaves: &[Leaf],
+) -> Result<GroupsSeen, S::Fault> {
+    let mut all = GroupsSeen {
+        groups: Vec::new(alloc),
+        suspects: Vec::new(alloc),
+        need_pages: false,
+        room: MOST_PAGES,
+    };
+    for (place, group) in groups.iter().enumerate() {
+        let seen = group_of(alloc, source, end, group, leaves, all.room)?;
+        all.add(place, group, seen)?;
+    }
+    Ok(all)
+}
+
+/// What is said of a file with this footer.
+fn report_of<S: ByteSource>(
+    alloc: Global,
+    source: &mut S,
+    footer_bytes: usize,
+    record: &FileMeta,
+) -> Result<FileReport, S::Fault> {
+    let end = bytes_before_footer(source.len(), footer_bytes);
+    let schema = schema_of(alloc, record)?;
+    let groups = record.row_groups.as_slice();
+    let seen = groups_of(alloc, source, end, groups, leaves_of(&schema))?;
+    source.look(0, if seen.need_pages { end } else { 0 })?;
+    let places = seen.suspects.as_slice();
+    let not_read = problems_of(alloc, source.window(), record, &schema, places)?;
+    let report = with_groups(
+        alloc,
+        source.len(),
+        footer_bytes,
+        record,
+        seen.groups,
+        not_read,
+    )?;
+    Ok(report)
+}
+
+/// The report on a file of so many bytes with these groups.
+fn with_groups(
+    alloc: Global,
+    bytes: usize,
+    footer_bytes: usize,
+    record: &FileMeta,
+    groups: Vec<GroupReport>,
+    not_read: Vec<Problem>,
+) -> Result<FileReport, AllocError> {
     Ok(FileReport {
-        bytes: bytes.len(),
+        bytes,
         footer_bytes,
         version: record.version,
         rows: record.num_rows,

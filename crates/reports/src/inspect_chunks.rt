@@ -1,9 +1,10 @@
 //! The row groups of a file, with their chunks and pages.
 
+use crate::byte_source::ByteSource;
 use crate::inspect_names::{codec_name, encoding_name, name_or_number, type_name};
 use crate::inspect_pages::{Pages, Unlisted, pages_of};
 use crate::inspect_problems::{is_suspect, is_suspect_chunk};
-use crate::inspect_report::{ChunkReport, GroupReport};
+use crate::inspect_report::ChunkReport;
 use crate::inspect_schema::{shown, shown_where_given};
 use crate::inspect_statistics::statistics_of;
 use metadata::{ChunkMeta, ColumnMeta, GroupMeta};
@@ -22,32 +23,72 @@ pub fn path_of(alloc: Global, meta: &ColumnMeta) -> Result<String, AllocError> {
     Ok(path)
 }
 
-/// A row group, and whether its record or the headers of its pages raise a suspicion that `decode` refuses it; `room` is how many
-/// pages may be listed, and then how many more.
-pub fn group_of(
+/// A row group as far as it was looked at.
+#[derive(Drop)]
+pub struct GroupSeen {
+    pub chunks: Vec<ChunkReport>,
+    /// How many more pages may be listed.
+    pub room: usize,
+    /// Whether its numbers raise a suspicion that `decode` refuses it.
+    has_suspect_numbers: bool,
+    /// Whether a chunk raises one, by its record or the headers of its pages.
+    has_suspect_chunk: bool,
+    /// Whether a chunk is in this file, and its record raises none.
+    has_sound_record: bool,
+}
+
+impl GroupSeen {
+    /// Whether it raises a suspicion that `decode` refuses it.
+    pub fn is_suspect(&self) -> bool {
+        self.has_suspect_numbers || self.has_suspect_chunk
+    }
+
+    /// Whether its pages have to be read to say what `decode` refuses of it: neither its numbers nor the records of all
+    /// its chunks say it.
+    pub fn needs_pages(&self) -> bool {
+        !self.has_suspect_numbers && self.has_suspect_chunk && self.has_sound_record
+    }
+
+    /// Adds a chunk with these pages.
+    fn add(
+        &mut self,
+        alloc: Global,
+        chunk: &ChunkMeta,
+        leaf: Option<&Leaf>,
+        pages: Pages,
+    ) -> Result<(), AllocError> {
+        let has_suspect_record = is_suspect_chunk(alloc, &chunk.meta_data, leaf)?;
+        self.room = self.room.saturating_sub(pages.listed.len());
+        self.has_suspect_chunk = self.has_suspect_chunk || has_suspect_record || pages.are_suspect;
+        self.has_sound_record = self.has_sound_record
+            || !(has_suspect_record || chunk.file_path.is_some());
+        self.chunks.push(chunk_of(alloc, chunk, leaf, pages)?)?;
+        Ok(())
+    }
+}
+
+/// Looks at a row group: its record, and the headers of its pages, at most `room` of them. The footer begins at `end`.
+pub fn group_of<S: ByteSource>(
     alloc: Global,
-    front: &[u8],
+    source: &mut S,
+    end: usize,
     group: &GroupMeta,
     leaves: &[Leaf],
-    room: &mut usize,
-) -> Result<(GroupReport, bool), AllocError> {
-    let mut chunks = Vec::new(alloc);
-    let mut suspicion = is_suspect(group, leaves);
+    room: usize,
+) -> Result<GroupSeen, S::Fault> {
+    let mut seen = GroupSeen {
+        chunks: Vec::new(alloc),
+        room,
+        has_suspect_numbers: is_suspect(group, leaves),
+        has_suspect_chunk: false,
+        has_sound_record: false,
+    };
     for (place, chunk) in group.columns.iter().enumerate() {
         let leaf = leaves.get(place);
-        let pages = pages_here(alloc, front, chunk, leaf, *room)?;
-        *room = room.saturating_sub(pages.listed.len());
-        suspicion = suspicion
-            || pages.are_suspect
-            || is_suspect_chunk(alloc, &chunk.meta_data, leaf)?;
-        chunks.push(chunk_of(alloc, chunk, leaf, pages)?)?;
+        let pages = pages_here(alloc, source, end, chunk, leaf, seen.room)?;
+        seen.add(alloc, chunk, leaf, pages)?;
     }
-    let report = GroupReport {
-        rows: group.num_rows,
-        bytes: group.total_byte_size,
-        chunks,
-    };
-    Ok((report, suspicion))
+    Ok(seen)
 }
 
 /// The names of the encodings that a chunk says it has.
@@ -72,17 +113,18 @@ fn type_of_leaf<'a>(meta: &ColumnMeta, leaf: Option<&'a Leaf>) -> Option<&'a Lea
 }
 
 /// The pages of a chunk, where they are in this file.
-fn pages_here(
+fn pages_here<S: ByteSource>(
     alloc: Global,
-    front: &[u8],
+    source: &mut S,
+    end: usize,
     chunk: &ChunkMeta,
     leaf: Option<&Leaf>,
     room: usize,
-) -> Result<Pages, AllocError> {
+) -> Result<Pages, S::Fault> {
     if chunk.file_path.is_some() {
         return Ok(Pages::cut(Vec::new(alloc), Unlisted::OtherFile));
     }
-    pages_of(alloc, front, &chunk.meta_data, leaf, room)
+    pages_of(alloc, source, end, &chunk.meta_data, leaf, room)
 }
 
 /// A chunk with these pages.

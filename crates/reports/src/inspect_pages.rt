@@ -2,6 +2,7 @@
 
 ghost use Rattle.std.specs.Prelude.{◌≤◌, IfSome};
 
+use crate::byte_source::{ByteSource, WholeBytes, part_of};
 use crate::inspect_names::{encoding_name, name_or_number, page_name};
 use crate::inspect_report::PageReport;
 use bits::Refusal;
@@ -11,6 +12,15 @@ use std::alloc::{AllocError, Global};
 
 /// How many pages are listed of a file.
 pub const MOST_PAGES: usize = 100_000;
+
+/// How many bytes are looked at first where a page's header should be.
+const BYTES_OF_HEADER: usize = 512;
+
+/// How many times as many are looked at next, where it does not end in these.
+const GROWTH: usize = 4;
+
+/// How often that is done. Where a header does not end then, all that is before the footer is looked at, once for all pages.
+const MOST_LOOKS: u32 = 6;
 
 /// The pages of a chunk that are listed.
 #[derive(Debug, Drop)]
@@ -108,31 +118,26 @@ pub fn start_of(meta: &ColumnMeta) -> Option<usize> {
 }
 
 /// Lists the pages of a chunk by their headers, from where they start until they have the chunk's entries, at
-/// most `room` of them. `front` has the bytes of the file before its footer. Where a header is refused, or a
-/// page goes beyond these bytes or has too many entries, the list ends there. Refused only when out of memory.
-pub fn pages_of(
+/// most `room` of them. The footer begins at `end`. Where a header is refused, or a page goes beyond `end` or has
+/// too many entries, the list ends there. Refused only when out of memory, or where the source cannot be read.
+pub fn pages_of<S: ByteSource>(
     alloc: Global,
-    front: &[u8],
+    source: &mut S,
+    end: usize,
     meta: &ColumnMeta,
     leaf: Option<&Leaf>,
     room: usize,
-) -> Result<Pages, AllocError> {
+) -> Result<Pages, S::Fault> {
     let mut listed = Vec::new(alloc);
     let Some(offset) = start_of(meta) else {
         return Ok(Pages::cut(listed, Unlisted::Offset));
     };
-    let mut walk = Walk {
-        front,
-        offset,
-        lacking: meta.num_values,
-        has_dictionary: false,
-        is_suspect: false,
-    };
+    let mut walk = Walk::new(end, offset, meta);
     for _ in 0..room {
         if walk.lacking <= 0 {
             break;
         }
-        if let Some(unlisted) = walk.step(alloc, leaf, &mut listed)? {
+        if let Some(unlisted) = walk.step(alloc, source, leaf, &mut listed)? {
             return Ok(Pages::cut(listed, unlisted));
         }
     }
@@ -285,7 +290,7 @@ pub struct PageAt {
 }
 
 /// The first data page with entries after so many entries of a chunk, by the headers of its pages; None where none is found, or
-/// not among the first [`MOST_PAGES`]. Refused only when out of memory.
+/// not among the first [`MOST_PAGES`]. `front` has the bytes of the file before its footer. Refused only when out of memory.
 pub fn page_after(
     alloc: Global,
     front: &[u8],
@@ -295,15 +300,10 @@ pub fn page_after(
     let Some(offset) = start_of(meta) else {
         return Ok(None);
     };
-    let mut walk = Walk {
-        front,
-        offset,
-        lacking: meta.num_values,
-        has_dictionary: false,
-        is_suspect: false,
-    };
+    let mut source = WholeBytes::new(front);
+    let mut walk = Walk::new(front.len(), offset, meta);
     for _ in 0..MOST_PAGES {
-        let Some((header, used)) = walk.header(alloc)? else {
+        let Some((header, used)) = walk.header(alloc, &mut source)? else {
             return Ok(None);
         };
         let offset = walk.offset;
@@ -332,11 +332,32 @@ fn has_entries(header: &PageHeader) -> bool {
     }
 }
 
+/// What stands where a page's header should be.
+#[derive(Drop)]
+enum Found {
+    /// A header, and how many bytes it has.
+    Header(PageHeader, usize),
+    /// The bytes end before it does.
+    Cut,
+    /// Bytes that are no header, whatever follows.
+    Other,
+}
+
+/// What stands at the start of these bytes. Refused only when out of memory.
+fn found_in(alloc: Global, bytes: &[u8]) -> Result<Found, AllocError> {
+    match PageHeader::read(alloc, bytes) {
+        Ok((header, used)) => Ok(Found::Header(header, used)),
+        Err(Refusal::Memory) => Err(AllocError),
+        Err(Refusal::Truncated) => Ok(Found::Cut),
+        Err(_) => Ok(Found::Other),
+    }
+}
+
 /// A walk over the pages of a chunk.
 #[derive(Drop)]
-struct Walk<'a> {
-    /// The bytes of the file before the footer.
-    front: &'a [u8],
+struct Walk {
+    /// Where the footer begins.
+    end: usize,
     offset: usize,
     lacking: i64,
     /// Whether a dictionary was passed.
@@ -345,16 +366,48 @@ struct Walk<'a> {
     is_suspect: bool,
 }
 
-impl<'a> Walk<'a> {
-    /// The header of the next page, and how many bytes it has; None where there is none. Refused only when out of memory.
-    fn header(&self, alloc: Global) -> Result<Option<(PageHeader, usize)>, AllocError> {
-        let Some(rest) = self.front.get(self.offset..) else {
-            return Ok(None);
-        };
-        match PageHeader::read(alloc, rest) {
-            Ok(read) => Ok(Some(read)),
-            Err(Refusal::Memory) => Err(AllocError),
-            Err(_) => Ok(None),
+impl Walk {
+    /// A walk that has passed no page, and begins at this offset.
+    fn new(end: usize, offset: usize, meta: &ColumnMeta) -> Walk {
+        Walk {
+            end,
+            offset,
+            lacking: meta.num_values,
+            has_dictionary: false,
+            is_suspect: false,
+        }
+    }
+
+    /// The header of the next page, and how many bytes it has; None where there is none. Few bytes are looked at first,
+    /// and more where a header does not end in them. Refused only when out of memory, or where the source cannot be read.
+    fn header<S: ByteSource>(
+        &self,
+        alloc: Global,
+        source: &mut S,
+    ) -> Result<Option<(PageHeader, usize)>, S::Fault> {
+        let left = self.end.saturating_sub(self.offset);
+        let mut count = BYTES_OF_HEADER;
+        for _ in 0..MOST_LOOKS {
+            source.look(self.offset, count.min(left))?;
+            match found_in(alloc, source.window())? {
+                Found::Header(header, used) => return Ok(Some((header, used))),
+                Found::Cut if count < left => count = count.saturating_mul(GROWTH),
+                _ => return Ok(None),
+            }
+        }
+        self.header_in_all(alloc, source)
+    }
+
+    /// The header of the next page as [`header`](Walk::header); all that is before the footer is looked at.
+    fn header_in_all<S: ByteSource>(
+        &self,
+        alloc: Global,
+        source: &mut S,
+    ) -> Result<Option<(PageHeader, usize)>, S::Fault> {
+        source.look(0, self.end)?;
+        match found_in(alloc, part_of(source.window(), self.offset, self.end))? {
+            Found::Header(header, used) => Ok(Some((header, used))),
+            _ => Ok(None),
         }
     }
 
@@ -368,7 +421,7 @@ impl<'a> Walk<'a> {
         let Some(lacking) = lacking_after(self.lacking, header) else {
             return Some(Unlisted::Entries);
         };
-        let Some(next) = after(self.offset, used, header, self.front.len()) else {
+        let Some(next) = after(self.offset, used, header, self.end) else {
             return Some(Unlisted::Size);
         };
         self.lacking = lacking;
@@ -379,18 +432,32 @@ impl<'a> Walk<'a> {
 
     /// Reads a page's header, lists the page, and goes to where the next one begins. Returns why that cannot
     /// be, where it cannot.
-    fn step(
+    fn step<S: ByteSource>(
+        &mut self,
+        alloc: Global,
+        source: &mut S,
+        leaf: Option<&Leaf>,
+        listed: &mut Vec<PageReport>,
+    ) -> Result<Option<Unlisted>, S::Fault> {
+        let Some((header, used)) = self.header(alloc, source)? else {
+            return Ok(Some(Unlisted::Header));
+        };
+        Ok(self.list(alloc, leaf, &header, used, listed)?)
+    }
+
+    /// Lists the page of this header, which has so many bytes, and goes to where the next one begins. Returns why that
+    /// cannot be, where it cannot.
+    fn list(
         &mut self,
         alloc: Global,
         leaf: Option<&Leaf>,
+        header: &PageHeader,
+        used: usize,
         listed: &mut Vec<PageReport>,
     ) -> Result<Option<Unlisted>, AllocError> {
-        let Some((header, used)) = self.header(alloc)? else {
-            return Ok(Some(Unlisted::Header));
-        };
-        listed.push(page_of(alloc, self.offset, used, &header)?)?;
-        self.is_suspect = self.is_suspect || is_suspect_page(&header, leaf, self.has_dictionary);
-        Ok(self.pass(used, &header))
+        listed.push(page_of(alloc, self.offset, used, header)?)?;
+        self.is_suspect = self.is_suspect || is_suspect_page(header, leaf, self.has_dictionary);
+        Ok(self.pass(used, header))
     }
 }
 

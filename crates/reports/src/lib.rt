@@ -3,6 +3,8 @@
 //! knows neither the command line nor the host.
 #![tactic(auto)]
 
+mod byte_source;
+mod ends;
 mod inspect;
 mod inspect_chunks;
 mod inspect_names;
@@ -18,7 +20,9 @@ mod pages_fault;
 mod progress;
 mod verdict;
 
-pub use inspect::{first_problem, report_text};
+pub use byte_source::{ByteSource, WholeBytes, part_of};
+pub use ends::ends_of;
+pub use inspect::{first_problem, footer_problem, report_by_ends, report_text};
 pub use notes::note_of;
 pub use one_line::OneLine;
 pub use progress::{Progress, Terminals, with_commas};
