@@ -1,6 +1,6 @@
 -- What clap reads of a subcommand.
-use Rattle.std.proofs.Common.{◌≡◌, ℕ, List, refl}
-use Rattle.std.specs.Prelude.{Option, Some, None, option_map}
+use Rattle.std.proofs.Common.{◌≡◌, ◌↔◌, ℕ, List, refl}
+use Rattle.std.specs.Prelude.{Option, Some, None, IsSome, IfSome, option_map}
 use Rattle.clap.specs.declared.parser.matches.ArgMatches.{ArgMatches}
 use Rattle.clap.specs.declared.parser.matches.ArgMatches.TheViews.{out-ArgMatches}
 use Rattle.clap.specs.Matches.{subcommand_name_of}
@@ -17,6 +17,12 @@ by_parts f g pair parts (Some c) x y e h =
     rw (parts c, first, second) refl
 
 -- the subcommand, by its name and by what was found for its arguments
-pub subcommand_found : (m : ArgMatches) (word : List ℕ) (rows : List Row) → subcommand_name_of m ≡ Some word
+subcommand_found : (m : ArgMatches) (word : List ℕ) (rows : List Row) → subcommand_name_of m ≡ Some word
     → option_map (λ (p : List ℕ × List Row). p.1) (subcommand_rows_of m) ≡ Some rows → subcommand_rows_of m ≡ Some (word, rows)
 subcommand_found m word rows name found = by_parts _ _ _ (λ c. refl) (out-ArgMatches m).subcommand word rows name found
+
+-- where there are matches of the subcommand of a word, it is the one that was met
+pub met : {M : Type 0} (m : ArgMatches) (word : List ℕ) (rows : M → List Row) (r : Option M) → (IsSome r ↔ (subcommand_name_of m ≡ Some word))
+    → IfSome r (λ x. option_map (λ (p : List ℕ × List Row). p.1) (subcommand_rows_of m) ≡ Some (rows x)) → IfSome r (λ x. subcommand_rows_of m ≡ Some (word, rows x))
+met m word rows None is has = tt
+met m word rows (Some x) is has = subcommand_found m word (rows x) (is.0 refl) has

@@ -154,6 +154,6 @@ pub record IsLookCall (found : Found) (folder : Bor (List ℕ)) (look : Look) (c
   pub keeps_style : call.keeps_style ≡ false
   pub texts : HasFlag found (codes "text") call.texts
 
--- a command that was met in the words, by what was found there, asks for this call
-abbrev pub IsAsked : ArgMatches → List ℕ → Call → Type 0
-IsAsked matches word call = (found : Found) × (subcommand_rows_of matches ≡ Some (word, rows_of found)) × IsCallOf word found call
+-- the words name this command, and this was found for its arguments
+abbrev pub HasMet : ArgMatches → List ℕ → Found → Type 0
+HasMet matches word found = subcommand_rows_of matches ≡ Some (word, rows_of found)

@@ -1,4 +1,5 @@
 pub mod Asked
+pub mod CommandLine
 pub mod Files
 pub mod Flags
 pub mod Styles

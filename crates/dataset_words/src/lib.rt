@@ -15,10 +15,13 @@ mod words;
 
 pub use call::{Call, Change, Look, Question, Task};
 pub use commands::{
-    limit_option, min_rows_option, out_option, quiet_flag, text_flag, with_commands, with_waiting,
+    limit_option, min_rows_option, out_option, quiet_flag, text_flag, with_commands, with_help,
+    with_waiting,
 };
 pub use datasets::Datasets;
 pub use file_sink::FileSink;
 pub use inputs::reads_input_twice;
-pub use options::{options_in, with_options};
-pub use words::{call_in, limit_in, look_call, min_rows_in, out_in, texts_in, words_in};
+pub use options::{Styles, options_in, with_options};
+pub use words::{
+    call_in, found_for, limit_in, look_call, min_rows_in, out_in, quiet_in, texts_in, words_in,
+};

@@ -1,8 +1,9 @@
 //! How files are written, by the words.
 
-ghost use Rattle.std.specs.Prelude.{◌≡◌, ◌↔◌, Some, IsTrue, codes, option_map};
+ghost use Rattle.std.specs.Prelude.{◌≡◌, ◌↔◌, Some, IsTrue, IfOk, codes, option_map};
 ghost use Rattle.clap.specs.Matches.{found_of};
 ghost use Rattle.dataset_words.specs.Asked.{HasOptions, KeepsStyle};
+ghost use Rattle.dataset_words.specs.CommandLine.{AddsRules, IsArg, option, of_u32, of_u8, or_else, style_option, with_rows, with_style};
 ghost use Rattle.dataset_words.specs.Styles.{style_named};
 
 use clap::{Arg, ArgMatches, Command, Error, value_parser};
@@ -19,7 +20,28 @@ static STYLES_OR_KEEP: [&str; 6] = ["plain", "dictionary", "delta", "lengths", "
 /// The word for the style of what is there.
 const KEEP: &str = "keep";
 
-fn group_rows_option<'a>(alloc: Global) -> Arg<'a> {
+/// The words that the option for the style takes.
+#[derive(Clone, Copy)]
+pub struct Styles<'a> {
+    /// The words for the styles.
+    pub words: &'a [&'a str],
+    /// These, and the word for the style of what is there.
+    pub words_or_keep: &'a [&'a str],
+}
+
+impl Styles<'static> {
+    /// The words of the program.
+    pub fn standard() -> Styles<'static> {
+        Styles {
+            words: STYLES.as_slice(),
+            words_or_keep: STYLES_OR_KEEP.as_slice(),
+        }
+    }
+}
+
+fn group_rows_option<'a>(alloc: Global) -> Arg<'a>
+    ensures { IsArg (or_else (codes "131072") (of_u32 (option (codes "group-rows")))) result }
+{
     Arg::new(alloc, "group-rows")
         .long("group-rows")
         .value_name("N")
@@ -28,7 +50,9 @@ fn group_rows_option<'a>(alloc: Global) -> Arg<'a> {
         .help("How many rows a row group has at most: 1 to 16777216")
 }
 
-fn page_rows_option<'a>(alloc: Global) -> Arg<'a> {
+fn page_rows_option<'a>(alloc: Global) -> Arg<'a>
+    ensures { IsArg (or_else (codes "20000") (of_u32 (option (codes "page-rows")))) result }
+{
     Arg::new(alloc, "page-rows")
         .long("page-rows")
         .value_name("N")
@@ -37,7 +61,9 @@ fn page_rows_option<'a>(alloc: Global) -> Arg<'a> {
         .help("How many rows a page has at most: 1 or more")
 }
 
-fn page_version_option<'a>(alloc: Global) -> Arg<'a> {
+fn page_version_option<'a>(alloc: Global) -> Arg<'a>
+    ensures { IsArg (or_else (codes "1") (of_u8 (option (codes "page-version")))) result }
+{
     Arg::new(alloc, "page-version")
         .long("page-version")
         .value_name("N")
@@ -46,16 +72,22 @@ fn page_version_option<'a>(alloc: Global) -> Arg<'a> {
         .help("The version of the pages: 1 or 2")
 }
 
-/// The option for the style, without its words.
-fn style_option<'a>(alloc: Global) -> Arg<'a> {
+/// The option for the style, which is one of these words.
+fn style_option<'a>(alloc: Global, words: &'a [&'a str], help: &'a str) -> Arg<'a>
+    ensures { IsArg (style_option words.entry) result }
+{
     Arg::new(alloc, "style")
         .long("style")
         .value_name("STYLE")
         .default_value("plain")
+        .value_parser(words)
+        .help(help)
 }
 
 /// The command, with the options of the rows of groups and pages.
-fn with_rows<'a>(alloc: Global, command: Command<'a>) -> Result<Command<'a>, Error> {
+fn with_rows<'a>(alloc: Global, command: Command<'a>) -> Result<Command<'a>, Error>
+    ensures { IfOk result (AddsRules with_rows command.entry) }
+{
     let command = command
         .arg(group_rows_option(alloc))?
         .arg(page_rows_option(alloc))?
@@ -64,19 +96,31 @@ fn with_rows<'a>(alloc: Global, command: Command<'a>) -> Result<Command<'a>, Err
 }
 
 /// The command, with the options of those that write files.
-pub fn with_options<'a>(alloc: Global, command: Command<'a>) -> Result<Command<'a>, Error> {
-    let style = style_option(alloc)
-        .value_parser(STYLES.as_slice())
-        .help("The encodings of the values");
+pub fn with_options<'a>(
+    alloc: Global,
+    command: Command<'a>,
+    styles: Styles<'a>,
+) -> Result<Command<'a>, Error>
+    ensures { IfOk result (AddsRules (with_style styles.entry.words) command.entry) }
+{
+    let style = style_option(alloc, styles.words, "The encodings of the values");
     let command = with_rows(alloc, command)?.arg(style)?;
     Ok(command)
 }
 
 /// The command, with the options of those that write the rows of groups anew.
-pub fn with_kept_options<'a>(alloc: Global, command: Command<'a>) -> Result<Command<'a>, Error> {
-    let style = style_option(alloc)
-        .value_parser(STYLES_OR_KEEP.as_slice())
-        .help("The encodings of the values; keep: those of the first group that is written anew");
+pub fn with_kept_options<'a>(
+    alloc: Global,
+    command: Command<'a>,
+    styles: Styles<'a>,
+) -> Result<Command<'a>, Error>
+    ensures { IfOk result (AddsRules (with_style styles.entry.words_or_keep) command.entry) }
+{
+    let style = style_option(
+        alloc,
+        styles.words_or_keep,
+        "The encodings of the values; keep: those of the first group that is written anew",
+    );
     let command = with_rows(alloc, command)?.arg(style)?;
     Ok(command)
 }

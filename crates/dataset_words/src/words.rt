@@ -3,7 +3,7 @@
 ghost use Rattle.std.specs.Prelude.{◌≡◌, IfSome, IfOk, codes, map, option_map};
 ghost use Rattle.clap.specs.Matches.{found_of};
 ghost use Rattle.dataset_words.specs.Asked.{HasFlag, HasTexts, MayHaveText, MayHaveNumber, HasNumberOr, HasNumbers, AreNumbers};
-ghost use Rattle.dataset_words.specs.Asked.{HasQuestion, HasChange, HasTask, HasFolder, HasWaiting, IsAsked, IsLookCall};
+ghost use Rattle.dataset_words.specs.Asked.{HasQuestion, HasChange, HasTask, HasFolder, HasWaiting, HasMet, IsCallOf, IsLookCall};
 ghost use Rattle.dataset_words.specs.Words.{task_word, question_word, change_word, look_word};
 
 use crate::call::{Call, Change, Look, Question, Task};
@@ -187,22 +187,27 @@ fn folder_in<'a>(matches: &ArgMatches<'a>) -> Option<&'a str>
     matches.get_str("DIR").or(matches.get_str("PATH"))
 }
 
-/// The call on a dataset that the first word names, by what was found in the words. None for another word.
-pub fn call_in<'a>(alloc: Global, word: &str, matches: &ArgMatches<'a>) -> R<Option<Call<'a>>>
-    ensures word { IfOk result (λ found. IfSome found (λ call. task_word call.task ≡ word.now)) }
-    ensures asked { IfOk result (λ found. IfSome found (IsAsked matches.now word.now)) }
+/// What was found for the arguments of the command of this word; None where the words name another command.
+pub fn found_for<'m, 'a>(matches: &'m ArgMatches<'a>, word: &str) -> Option<&'m ArgMatches<'a>>
+    ensures { IfSome result (λ found. HasMet matches.now word.now (found_of found.now)) }
 {
-    let Some(matches) = matches.subcommand_matches(word) else {
-        return Ok(None);
-    };
-    let task = task_of(alloc, word, matches)?;
-    match (folder_in(matches), task) {
+    matches.subcommand_matches(word)
+}
+
+/// The call on a dataset that the command of this word asks for, by what was found for its arguments. None for another word, and
+/// where something that is required was not found.
+pub fn call_in<'a>(alloc: Global, word: &str, found: &ArgMatches<'a>) -> R<Option<Call<'a>>>
+    ensures word { IfOk result (λ known. IfSome known (λ call. task_word call.task ≡ word.now)) }
+    ensures asked { IfOk result (λ known. IfSome known (IsCallOf word.now (found_of found.now))) }
+{
+    let task = task_of(alloc, word, found)?;
+    match (folder_in(found), task) {
         (Some(folder), Some(task)) => Ok(Some(Call {
             folder,
-            waits: seconds_in(matches),
-            options: options_in(matches),
-            keeps_style: keeps_style_in(matches),
-            texts: texts_in(matches),
+            waits: seconds_in(found),
+            options: options_in(found),
+            keeps_style: keeps_style_in(found),
+            texts: texts_in(found),
             task,
         })),
         _ => Ok(None),
@@ -214,6 +219,13 @@ pub fn texts_in(matches: &ArgMatches<'_>) -> bool
     ensures { HasFlag (found_of matches.now) (codes "text") result }
 {
     matches.get_flag("text")
+}
+
+/// Whether no progress is to be shown, by the words; it is where they do not say it.
+pub fn quiet_in(matches: &ArgMatches<'_>) -> bool
+    ensures { HasFlag (found_of matches.now) (codes "quiet") result }
+{
+    matches.get_flag("quiet")
 }
 
 /// The file that gets what a command would print, where the words name one; `-` is standard output.

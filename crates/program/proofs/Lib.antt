@@ -3,6 +3,6 @@ pub mod Told
 pub mod Refused
 pub mod Printed
 pub mod Footers
-pub mod Done
+pub mod CommandLines
 pub mod TextLines
 mod Copied

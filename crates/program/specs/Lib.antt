@@ -1,3 +1,6 @@
+pub mod Asked
+pub mod CommandLine
 pub mod Program
+pub mod RefusalLine
 pub mod Words
 pub mod inner

@@ -2,3 +2,4 @@
 pub mod Copied
 pub mod Gathered
 pub mod Lines
+pub mod Met

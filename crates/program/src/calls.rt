@@ -1,17 +1,19 @@
 //! All of the program, over two writers.
 
 ghost use Rattle.std.specs.Prelude.{◌≡◌, ◌≤◌, ℕ, List, Option, Some, false, true, map, string_bytes, IfOk, OnOk, codes};
-ghost use Rattle.program.specs.Words.{first_word, word_of, has_word, Decodes, IsCopyAsked, CopiesAsked, Inspects, Saves, Does, IsDone};
+ghost use Rattle.program.specs.Asked.{IsDone};
+ghost use Rattle.program.specs.Words.{first_word, word_of, Decodes, IsCopyAsked, CopiesAsked, Inspects, Saves, Does};
 
-use crate::arguments::{Call, Copying, call_of};
+use crate::arguments::{Call, Copying, request_of};
 use crate::check::check;
 use crate::copy::copy_of;
 use crate::encode::encode;
 use crate::first_rows::decode_up_to;
-use crate::host::{bytes_of, is_folder};
-use crate::inspect::inspect;
+use crate::host::{bytes_of, is_folder, large_file};
+use crate::inspect::{inspect, inspect_parts};
 use crate::parts::{PartFolder, check_empty};
 use crate::putting::{check_folder_outside, check_free, check_outside, put, puts_to_output};
+use crate::refusal_line::put_refusal;
 use bits::{R, Refusal};
 use columns::has_column;
 use dataset_words::Datasets;
@@ -34,15 +36,12 @@ const USAGE: u8 = 2;
 const FILE_TO_TERMINAL: &[u8] =
     b"error: the bytes of a Parquet file are nothing for a terminal: name a file, or pass them on\n";
 
-/// Says why a call was refused, in one line, whatever the names of columns have in them, and returns the
+/// Says for what a call was refused, in one line, whatever the names of columns have in them, and returns the
 /// status of that. Where that line cannot be written nothing is left to be said.
 pub fn refuse<E: Write>(err: &mut E, refusal: &Refusal) -> u8
     ensures { result ≡ 1 }
 {
-    let mut line = OneLine(err);
-    if write!(line, "refused {refusal}").is_ok() {
-        let _ = err.write_all(b"\n");
-    }
+    let _ = put_refusal(err, refusal);
     REFUSED
 }
 
@@ -66,27 +65,28 @@ pub fn work<F: Files + Input, W: Write, E: Write, M: Datasets<W, E>>(
     datasets: &M,
 ) -> u8
     ensures status { result ≤ 2 }
-    ensures done { result ≡ 0 → IsDone (M.prints datasets.now) (M.gives datasets.now) words.now (W.contents out.old) (W.contents out.new) }
+    ensures done { result ≡ 0 → IsDone (M.prints datasets.now) (M.gives datasets.now) words.now
+        (W.contents out.old) (W.contents out.new) (E.contents err.old) (E.contents err.new) }
     ensures silent { first_word words.now ≡ Some (codes "encode") → W.contents out.new ≡ W.contents out.old }
     ensures quiet { terminals.err ≡ false → result ≡ 0 → E.contents err.new ≡ E.contents err.old }
-    ensures silenced { has_word (codes "--quiet") words.now ≡ true → result ≡ 0 → E.contents err.new ≡ E.contents err.old }
     ensures usage { result ≡ 2 → W.contents out.new ≡ W.contents out.old }
 {
-    let call = match call_of(alloc, words) {
-        Ok(Ok(call)) => call,
+    let request = match request_of(alloc, words) {
+        Ok(Ok(request)) => request,
         Ok(Err(text)) => {
             let _ = err.write_all(text.as_bytes());
             return USAGE;
         }
         Err(refusal) => return refuse(err, &refusal),
     };
-    if terminals.out && puts_to_output(&call) {
+    let call = &request.call;
+    if terminals.out && puts_to_output(call) {
         let _ = err.write_all(FILE_TO_TERMINAL);
         return USAGE;
     }
-    let terminals = terminals_for(words, terminals);
+    let terminals = terminals_for(request.quiet, terminals);
     let mut why = None;
-    match make(rt, alloc, &call, out, err, terminals, datasets, &mut why) {
+    match make(rt, alloc, call, out, err, terminals, datasets, &mut why) {
         Ok(()) => DONE,
         Err(refusal) => {
             if let Some(cause) = &why {
@@ -106,19 +106,11 @@ pub fn say<E: Write>(err: &mut E, cause: &Cause) {
     }
 }
 
-/// Whether the arguments ask that no progress is shown.
-fn are_quiet(words: &[String]) -> bool
-    ensures { result ≡ has_word (codes "--quiet") words.now }
-{
-    words.iter().any(|word| word.as_str() == "--quiet")
-}
-
-/// The terminals on which these arguments let progress be shown: standard error only where they are not quiet.
-fn terminals_for(words: &[String], terminals: Terminals) -> Terminals
+/// The terminals on which progress is shown: standard error only where the call is not to be quiet.
+fn terminals_for(quiet: bool, terminals: Terminals) -> Terminals
     ensures unseen { terminals.err ≡ false → result.err ≡ false }
-    ensures silenced { has_word (codes "--quiet") words.now ≡ true → result.err ≡ false }
+    ensures silenced { quiet ≡ true → result.err ≡ false }
 {
-    let quiet = are_quiet(words);
     Terminals {
         out: terminals.out,
         err: if quiet { false } else { terminals.err },
@@ -330,7 +322,7 @@ fn decode_file<F: Files + Input, W: Write, E: Write>(
     }
 }
 
-/// Prints what a file is. Refused as [`bytes_of`] and [`inspect`]; then `why` may get the reason.
+/// Prints what a file is. A large file is read in parts. Refused as [`bytes_of`] and [`inspect`]; then `why` may get the reason.
 fn inspect_file<F: Files + Input, W: Write>(
     rt: &F,
     alloc: Global,
@@ -341,6 +333,12 @@ fn inspect_file<F: Files + Input, W: Write>(
 ) -> R<()>
     ensures done { OnOk result (Inspects (W.contents out.old) (W.contents out.new)) }
 {
+    if let Some(mut parts) = large_file(rt, alloc, file, why)? {
+        return match inspect_parts(alloc, file, &mut parts, as_json, out, why) {
+            Ok(()) => Ok(()),
+            Err(refusal) => Err(with_output(alloc, refusal, out, why)),
+        };
+    }
     let bytes = bytes_of(rt, alloc, file, why)?;
     let inspected = inspect(alloc, bytes.as_slice(), as_json, out);
     match with_problem(alloc, file, bytes.as_slice(), inspected, why) {

@@ -165,12 +165,13 @@ Says what a Parquet file is: its rows, row groups, writer and key-values; its sc
 its type, codec, encodings, entries, sizes, offsets, statistics and pages; and what decode refuses of it, as far as
 the footer and the page headers show that.
 
-Only the footer and the page headers are read, and no value: what a file says of itself, its statistics too, is shown
-unchecked, and decode may refuse a file in which nothing is found. Where they raise a suspicion, the row group is read as
-decode reads it, and named only where decode refuses it. At most 100000 pages are listed of a file, and 100
-of the places that decode refuses. The bounds of statistics are shown as decode prints values; those of a column that
-decode does not read, as hexadecimal digits. Of the two kinds of bounds the deprecated ones are shown only where the
-others are missing. Names that are not UTF-8 are shown with replacement characters.
+Only the footer and the page headers are read, and no value; of a pipe, and of a file of less than 64 KiB, all bytes are.
+What a file says of itself, its statistics too, is shown unchecked, and decode may refuse a file in which nothing is
+found. Where the page headers raise a suspicion, all bytes before the footer are read, the row group as decode reads it,
+and it is named only where decode refuses it. At most 100000 pages are listed of a file, and 100 of the places that decode
+refuses. The bounds of statistics are shown as decode prints values; those of a column that decode does not read, as
+hexadecimal digits. Of the two kinds of bounds the deprecated ones are shown only where the others are missing. Names that
+are not UTF-8 are shown with replacement characters.
 
 With --json the same is one line of JSON: of a file an object with bytes, footer_bytes, version, rows, created_by,
 key_values, schema (each element with its depth), groups (each with chunks, and these with pages) and not_read; of a

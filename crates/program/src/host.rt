@@ -1,6 +1,6 @@
-//! Files of the host, read whole or made whole.
+//! Files of the host, read whole or in parts, or made whole.
 
-ghost use Rattle.std.specs.Prelude.{◌≡◌, ◌⊎◌, ◌↔◌, ◌≤◌, ◌+◌, OnOk, IfOk, IfErr};
+ghost use Rattle.std.specs.Prelude.{◌≡◌, ◌⊎◌, ◌↔◌, ◌≤◌, ◌+◌, None, take, drop, OnOk, IfOk, IfErr};
 ghost use Rattle.std.specs.Str.{IsUtf8};
 ghost use Rattle.std.specs.IoError.{error_kind};
 ghost use Rattle.std.specs.Io.KnownBytes.{Appends};
@@ -10,14 +10,21 @@ ghost use Rattle.program.specs.Program.{greatest_file};
 
 use bits::{R, Refusal};
 use reasons::{Cause, SystemFault, system_fault, utf8_fault};
+use reports::{ByteSource, part_of};
 use simdutf8::basic::from_utf8;
 use std::alloc::Global;
 use std::fs::{self, File, OpenFile};
-use std::io::{self, ErrorKind, Input, Read, Write};
+use std::io::{self, ErrorKind, Input, Read, Seek, SeekFrom, Write};
 use std::rt::Files;
 
 /// One byte more than a file may have.
 const MORE_THAN_A_FILE: u64 = 2_147_483_648;
+
+/// A file of fewer bytes is read whole.
+const BYTES_OF_SMALL_FILE: u64 = 65_536;
+
+/// How many bytes are read at least where a part of a file is: what stands beside it is often looked at next.
+const BYTES_OF_PART: usize = 4_096;
 
 /// The number that the system gives the error "File exists".
 const FILE_EXISTS: i32 = 17;
@@ -50,6 +57,17 @@ fn refused_at(alloc: Global, path: &str, error: io::Error, why: &mut Option<Caus
         *why = Some(Cause::System(fault));
     }
     refusal_of(error)
+}
+
+/// What is refused where a part of a file cannot be read, or memory for it is refused; `why` gets the path and the system's words
+/// where it is not for memory.
+pub fn refused_in(alloc: Global, path: &str, error: io::Error, why: &mut Option<Cause>) -> Refusal
+    ensures which { (result ≡ Memory) ⊎ (result ≡ Device) }
+{
+    match error.kind() {
+        ErrorKind::OutOfMemory => Refusal::Memory,
+        _ => refused_at(alloc, path, error, why),
+    }
 }
 
 /// All that a reader gives, with room for so many bytes at first. Refused Device where it cannot be read; then `why` gets the
@@ -100,6 +118,124 @@ pub fn bytes_of<F: Files + Input>(
     let room = room_for(&file);
     let mut front = file.take(MORE_THAN_A_FILE);
     all_of(alloc, path, &mut front, room, why)
+}
+
+/// A file of the host that is read in parts. The part that was read last is kept, and not read again.
+#[derive(Drop)]
+pub struct FileParts<T: Read + Seek + Drop> {
+    file: T,
+    length: usize,
+    /// The bytes that were read last.
+    held: Vec<u8>,
+    /// Where these begin in the file.
+    start: usize,
+    /// Where what is looked at begins in them.
+    from: usize,
+    /// How many of them are looked at.
+    count: usize,
+}
+
+impl<T: Read + Seek + Drop> FileParts<T> {
+    /// A file of so many bytes, none of which is read yet.
+    fn new(alloc: Global, file: T, length: usize) -> FileParts<T> {
+        FileParts {
+            file,
+            length,
+            held: Vec::new(alloc),
+            start: 0,
+            from: 0,
+            count: 0,
+        }
+    }
+
+    /// Whether so many bytes from this one on are held.
+    fn holds(&self, from: usize, count: usize) -> bool {
+        match from.checked_sub(self.start) {
+            Some(before) => before.saturating_add(count) <= self.held.len(),
+            None => false,
+        }
+    }
+
+    /// Reads so many bytes from this one on, and holds them. Holds none where they cannot be read.
+    fn read(&mut self, from: usize, count: usize) -> io::Result<()> {
+        self.start = from;
+        let filled = self.fill(count);
+        if filled.is_err() {
+            self.held.clear();
+        }
+        filled
+    }
+
+    /// Fills what is held with so many bytes, from its start in the file on.
+    fn fill(&mut self, count: usize) -> io::Result<()> {
+        self.held.clear();
+        self.held.resize(count, 0)?;
+        self.file.seek(SeekFrom::Start(self.start as u64))?;
+        self.file.read_exact(&mut self.held)
+    }
+}
+
+// The file is the system's: what its bytes are is not known.
+impl<T: Read + Seek + Drop> ByteSource for FileParts<T> {
+    type Fault = io::Error;
+
+    ghost known = { λ s. None };
+
+    ghost seen = { λ s. take s.count (drop s.from s.held.items) };
+
+    fn len(&self) -> usize {
+        self.length
+    }
+
+    fn look(&mut self, from: usize, count: usize) -> Result<(), io::Error> {
+        let from = from.min(self.length);
+        let left = self.length - from;
+        let count = count.min(left);
+        if !self.holds(from, count) {
+            self.count = 0;
+            self.read(from, count.max(BYTES_OF_PART).min(left))?;
+        }
+        self.from = from.saturating_sub(self.start);
+        self.count = count;
+        Ok(())
+    }
+
+    fn window(&self) -> &[u8] {
+        part_of(self.held.as_slice(), self.from, self.count)
+    }
+}
+
+/// The file of the host at a path, to be read in parts. None for the standard input, `-`, for a pipe, and for a file that is
+/// small, or too long to be one: they are read whole. Refused as [`bytes_of`].
+pub fn large_file<F: Files>(
+    rt: &F,
+    alloc: Global,
+    path: &str,
+    why: &mut Option<Cause>,
+) -> R<Option<FileParts<F::File>>>
+    ensures which { RefusedOnly (λ e. e ≡ Device) result }
+{
+    match large_length(rt, path) {
+        Some(length) => {
+            let file = opened(rt, alloc, path, why)?;
+            Ok(Some(FileParts::new(alloc, file, length)))
+        }
+        None => Ok(None),
+    }
+}
+
+/// The length of the file at a path that is read in parts; None for one that is read whole.
+fn large_length<F: Files>(rt: &F, path: &str) -> Option<usize> {
+    if path == INPUT {
+        return None;
+    }
+    let metadata = fs::metadata(rt, path).ok()?;
+    let length = metadata.len();
+    if metadata.is_file() && length >= BYTES_OF_SMALL_FILE && length < MORE_THAN_A_FILE {
+        Some(length as usize)
+    } else {
+        None
+    }
 }
 
 /// The bytes of a file of the host, all of them; `-` is the standard input. Refused as [`bytes_of`]. Room for as many

@@ -1,0 +1,12 @@
+use Rattle.std.proofs.Common.{rules}
+use Rattle.std.specs.Prelude.{codes}
+use Rattle.dataset_words.specs.CommandLine.{IsCommand, on_dataset}
+use Rattle.dataset_words.proofs.Adding.{changed, with_arg}
+use Rattle.dataset_words.proofs.commands.remove_command.Goals as goal
+
+pub returns : goal.returns
+returns c =
+    let begun : IsCommand (on_dataset (codes "remove")) c.in_ok-on_dataset.field-0 = search rules in
+    let told = changed (changed begun c.with_usage.ensures) c.with_help.ensures in
+    let taken = with_arg (with_arg (with_arg told c.in_ok-removal_filter.ensures c.in_ok-arg.ensures) c.numbers_named.ensures c.in_ok-arg-2.ensures) c.text_flag.ensures c.in_ok-remove.ensures in
+    with_arg (changed taken c.in_ok-with_kept_options.ensures) c.quiet_flag.ensures c.in_ok-remove-2.ensures
