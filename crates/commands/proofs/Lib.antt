@@ -17,4 +17,6 @@ mod FilesOfQuery
 mod StagedFiles
 mod ToldColumns
 mod FileEnds
+mod TasksMade
+mod Restyled
 pub mod FirstKept

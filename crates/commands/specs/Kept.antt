@@ -1,5 +1,5 @@
 -- Which style the new groups of a call have that keeps the style of what is there.
-use Rattle.std.specs.Prelude.{◌↔◌, ℕ, ℤ, pos, Bool, true, false, nat_eq, IsTrue, List, [], ◌∷◌, Option, Some, None, if◌then◌else◌}
+use Rattle.std.specs.Prelude.{◌≡◌, ◌↔◌, ℕ, ℤ, pos, Bool, true, false, nat_eq, IsTrue, List, [], ◌∷◌, Option, Some, None, if◌then◌else◌}
 use Rattle.std.specs.Ordering.{int_eq}
 use Rattle.std.specs.List.{list_any}
 use Rattle.row_group.specs.declared.options.Style.{Style}
@@ -9,6 +9,12 @@ use Rattle.metadata.specs.Records.{ChunkMeta}
 use Rattle.filter.specs.Test.{Test}
 use Rattle.filter.specs.RuledOut.{RuledOut}
 use Rattle.manifest.specs.Groups.{Group}
+use Rattle.footer.specs.declared.options.WriteOptions.{WriteOptions}
+use Rattle.disk.specs.State.{State as DiskState}
+use Rattle.table.specs.Table.{Table}
+use Rattle.table.specs.State.{opened}
+use Rattle.store.specs.declared.store.Store.{Store}
+use Rattle.store.specs.Stands.{Stands}
 
 -- whether the encoding of this number is among these, where they are said
 abbrev pub is_said : ℤ → Option (List ℤ) → Bool
@@ -46,3 +52,11 @@ is_numbered numbers g = list_any (nat_eq g.number) numbers
 -- it tells which groups may have a row that satisfies the filter, by their keys and their statistics
 abbrev pub TellsWhichMayHold : List KeyColumn → List (List Test) → (Group → Bool) → Type 0
 TellsWhichMayHold keys tests is = (g : Group) → IsTrue (is g) ↔ (RuledOut tests (places_of keys) g.key g.known → ⊥)
+
+-- a store that is as another one, but for the style in which it writes new groups
+abbrev pub IsRestyled : {D : Type 0} → Store D → Store D → Type 0
+IsRestyled old new = new ≡ record old { options = record old.options { style = new.options.style } }
+
+-- a store that stands as it was opened on a table still does, with the style that it then has
+abbrev pub StaysOpened : {D : Type 0} → (D → DiskState) → Store D → Store D → Type 0
+StaysOpened state old new = (o : WriteOptions) (t : Table) → Stands state old (opened o t) → Stands state new (opened (record o { style = new.options.style }) t)

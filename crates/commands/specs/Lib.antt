@@ -10,4 +10,5 @@ pub mod Renewing
 pub mod Unless
 pub mod FileEnds
 pub mod Kept
+pub mod Tasks
 pub mod inner

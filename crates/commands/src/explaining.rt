@@ -9,6 +9,7 @@ use crate::texts::text_of;
 use bits::{R, Refusal};
 use dataset_words::{Change, Question};
 use disk::Disk;
+use manifest::Manifest;
 use reasons::{
     Cause, call_fault, column_fault, filter_fault, large_value, options_fault, row_fault,
     schema_fault, utf8_fault,
@@ -76,7 +77,7 @@ fn column_reason(alloc: Global, schema: &Schema, bytes: &[u8]) -> R<Option<Reaso
 /// Why a question is refused, where there is more to say than the refusal.
 pub fn question_reason<D: Disk>(
     alloc: Global,
-    store: &mut Store<D>,
+    store: &Store<D>,
     question: &Question<'_>,
     texts: bool,
     refusal: &Refusal,
@@ -103,7 +104,7 @@ pub fn question_reason<D: Disk>(
 /// Why a change is refused, where there is more to say than the refusal; the bytes are those of the file that it names.
 pub fn change_reason<D: Disk>(
     alloc: Global,
-    store: &mut Store<D>,
+    store: &Store<D>,
     change: &Change<'_>,
     bytes: &[u8],
     texts: bool,
@@ -132,7 +133,10 @@ pub fn change_reason<D: Disk>(
             filter_reason(alloc, store.schema(), Some(filter), texts)
         }
         Change::RemoveGroups { numbers } | Change::Rewrite { numbers }
-            if *refusal == Refusal::NoGroup => { group_reason(alloc, store, numbers.as_slice()) }
+            if *refusal == Refusal::NoGroup => Ok(group_reason(
+            &store.manifest,
+            numbers.as_slice(),
+        )),
         _ => Ok(None),
     }
 }
@@ -157,19 +161,24 @@ pub fn script_reason<D: Disk>(
     }
 }
 
-/// The first of these numbers that no group has, if there is one.
-fn group_reason<D: Disk>(
-    alloc: Global,
-    store: &mut Store<D>,
-    numbers: &[u64],
-) -> R<Option<Reason>> {
-    let groups = store.groups(alloc)?;
+/// The first of these numbers that no group of a table has, if there is one.
+fn group_reason(table: &Manifest, numbers: &[u64]) -> Option<Reason> {
     for number in numbers {
-        if !groups.iter().any(|group| group.number == *number) {
-            return Ok(Some(Reason::NoGroup(*number)));
+        if !has_group(table, *number) {
+            return Some(Reason::NoGroup(*number));
         }
     }
-    Ok(None)
+    None
+}
+
+/// Whether a group of a table has this number.
+fn has_group(table: &Manifest, number: u64) -> bool {
+    for block in table.groups().blocks() {
+        if block.groups.iter().any(|group| group.number == number) {
+            return true;
+        }
+    }
+    false
 }
 
 /// The command that shows whether a change was done.

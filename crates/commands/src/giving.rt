@@ -1,6 +1,7 @@
 //! The rows of a query in a folder of the host, as files.
 
 ghost use Rattle.std.specs.Prelude.{◌≡◌, None, false};
+ghost use Rattle.commands.specs.Tasks.{lent_text, lent_texts, columns_named, GivesQuery, GivesAnswer};
 
 use crate::explaining::{filter_text_reason, question_reason};
 use crate::filter_file::with_filter;
@@ -10,7 +11,7 @@ use crate::making::Making;
 use crate::opening::opened;
 use crate::reason::Reason;
 use crate::tasks::found;
-use crate::texts::owned;
+use crate::texts::{columns_named, owned};
 use crate::writing_query::query_files;
 use bits::{R, Refusal};
 use dataset_words::{FileSink, Question, Task};
@@ -118,14 +119,14 @@ where
         if let Err(refusal) = &given
             && !sink.has_refused()
         {
-            *why = found(question_reason(alloc, &mut store, question, texts, refusal));
+            *why = found(question_reason(alloc, &store, question, texts, refusal));
         }
         given
     }
 }
 
-/// Gives a sink the files of what is asked of a store: of the rows of a query, whose filter is read with texts or without. Where `shows` says so, `err` shows how many rows
-/// were read so far.
+/// Gives a sink the files of what is asked of a store: of the rows of a query, whose filter is read with texts or without. Where
+/// `shows` says so, `err` shows how many rows were read so far.
 fn give_answer<D: Disk, K: FileSink, E: Write>(
     alloc: Global,
     store: &mut Store<D>,
@@ -137,24 +138,47 @@ fn give_answer<D: Disk, K: FileSink, E: Write>(
     err: &mut E,
     shows: bool,
 ) -> R<()>
+    ensures gives { GivesAnswer D.state texts store.old store.new question.now options.now most (K.taken sink.old) (K.taken sink.new) result }
     ensures quiet { shows ≡ false → E.contents err.new ≡ E.contents err.old }
 {
-    let Question::Query {
-        filter,
-        columns,
-        limit,
-    } = question
-    else {
+    match question {
+        Question::Query {
+            filter,
+            columns,
+            limit,
+        } => {
+            let names = columns.as_slice();
+            give_query(
+                alloc, store, *filter, names, *limit, texts, options, most, sink, err, shows,
+            )
+        }
         // Only a query has files.
-        return Err(Refusal::Script);
-    };
-    let names = owned(alloc, columns.as_slice())?;
-    let names = if names.is_empty() {
-        None
-    } else {
-        Some(names.as_slice())
-    };
+        _ => Err(Refusal::Script),
+    }
+}
+
+/// Gives a sink files of the rows of a query, all or the first of them, in the columns of these names, or in all where none is
+/// named.
+fn give_query<D: Disk, K: FileSink, E: Write>(
+    alloc: Global,
+    store: &mut Store<D>,
+    filter: Option<&str>,
+    columns: &[&str],
+    limit: Option<u64>,
+    texts: bool,
+    options: &WriteOptions,
+    most: Option<usize>,
+    sink: &mut K,
+    err: &mut E,
+    shows: bool,
+) -> R<()>
+    ensures gives { GivesQuery D.state texts store.old store.new (lent_text filter.entry) (columns_named (lent_texts columns.now)) limit options.now most
+        (K.taken sink.old) (K.taken sink.new) result }
+    ensures quiet { shows ≡ false → E.contents err.new ≡ E.contents err.old }
+{
+    let names = owned(alloc, columns)?;
+    let wanted = columns_named(names.as_slice());
     query_files(
-        alloc, store, *filter, names, *limit, texts, options, most, sink, err, shows,
+        alloc, store, filter, wanted, limit, texts, options, most, sink, err, shows,
     )
 }

@@ -1,17 +1,19 @@
 //! The style of the groups that are there, for a call that keeps it.
 
-ghost use Rattle.std.specs.Prelude.{◌≡◌, ◌↔◌, Bool, true, IsTrue};
+ghost use Rattle.std.specs.Prelude.{◌≡◌, ◌↔◌, Bool, true, false, IsTrue, IfErr};
 ghost use Rattle.std.specs.Ordering.{int_eq};
 ghost use Rattle.std.specs.List.{list_any};
+ghost use Rattle.bits.specs.declared.refusal.Refusal.TheVariants.{Memory};
 ghost use Rattle.metadata.specs.Views.{chunk_meta_view};
 ghost use Rattle.schema.specs.Keys.{key_columns_view, places_of};
 ghost use Rattle.filter.specs.Test.{tests_in};
 ghost use Rattle.filter.specs.RuledOut.{RuledOut};
 ghost use Rattle.manifest.specs.Groups.{Group as GroupShown, group_view, root_of};
-ghost use Rattle.commands.specs.Kept.{is_encoded, has_encoding, style_of, first_style, is_numbered, TellsWhichMayHold};
+ghost use Rattle.commands.specs.Kept.{is_encoded, has_encoding, style_of, first_style, is_numbered, TellsWhichMayHold, IsRestyled, StaysOpened};
 
-use bits::R;
+use bits::{R, Refusal};
 use dataset_words::Change;
+use disk::Disk;
 use filter::Filter;
 use jsonrows::filter_from_as;
 use manifest::{Group, Manifest};
@@ -20,6 +22,7 @@ use planning::plan_rewrite;
 use row_group::Style;
 use schema::KeyColumn;
 use std::alloc::Global;
+use store::Store;
 
 /// The numbers of encodings (`parquet.thrift`, Encoding).
 const DELTA_BINARY_PACKED: i32 = 5;
@@ -54,6 +57,33 @@ pub fn kept_style(
             Ok(style_left_by(table, &filter))
         }
         _ => Ok(None),
+    }
+}
+
+/// Lets a store, where `keeps` says so, write the new groups of a change in the style of the first group that the change writes
+/// anew. It fails only when out of memory: a filter that is refused is refused again by the change.
+pub fn keep_style<D: Disk>(
+    alloc: Global,
+    store: &mut Store<D>,
+    change: &Change<'_>,
+    keeps: bool,
+    texts: bool,
+) -> R<()>
+    ensures style { IsRestyled store.old store.new }
+    ensures stands { StaysOpened D.state store.old store.new }
+    ensures other { keeps ≡ false → store.new ≡ store.old }
+    ensures refused { IfErr result (λ e. (e ≡ Memory) × (store.new ≡ store.old)) }
+{
+    if !keeps {
+        return Ok(());
+    }
+    match kept_style(alloc, &store.manifest, change, texts) {
+        Ok(Some(style)) => {
+            store.options.style = style;
+            Ok(())
+        }
+        Err(Refusal::Memory) => Err(Refusal::Memory),
+        _ => Ok(()),
     }
 }
 

@@ -3,22 +3,21 @@
 //! A call that reads shares the readers' lock, and removes nothing. One that changes the dataset has the folder's lock, and
 //! removes what is not needed any more, at its opening and at its end, where no reader needs it.
 
-ghost use Rattle.std.specs.Prelude.{◌≡◌, false};
+ghost use Rattle.std.specs.Prelude.{◌≡◌, ◌++◌, false, codes, decimal, OnOk};
+ghost use Rattle.std.specs.Io.KnownBytes.{Appends};
 
 use crate::folder::refusal_of;
-use crate::kept_style::kept_style;
 use crate::lock::{Access, Lock};
 use crate::making::{Making, root_reason};
 use crate::printing::print_done;
 use crate::readers_lock::{Readers, kept_out, make_file, shared};
 use crate::reason::Reason;
 use crate::stopping::run_to_refusal;
-use crate::tasks::{ask, bytes_at, make_change, run};
+use crate::tasks::{ask, bytes_at, change_in_style, run};
 use crate::watched::Watched;
 use bits::{R, Refusal};
 use dataset_words::{Change, Question, Task};
-use disk::{Disk, HostDisk};
-use std::alloc::Global;
+use disk::HostDisk;
 use std::io::{Input, Write};
 use std::rt::{Clock, Files};
 use store::Store;
@@ -125,12 +124,10 @@ where
         match &self.call.task {
             Task::Create { .. } | Task::Look(_) | Task::Ask(_) => Ok(()),
             Task::Change(change) => {
-                if self.call.keeps_style {
-                    keep_style(alloc, store, change, texts)?;
-                }
                 let mut at = None;
-                let done = make_change(
-                    alloc, store, change, files, texts, err, shows, why, &mut at,
+                let keeps = self.call.keeps_style;
+                let done = change_in_style(
+                    alloc, store, change, keeps, files, texts, err, shows, why, &mut at,
                 );
                 store.vault.disk.clear();
                 if let (Some(place), Err(refusal)) = (at, &done) {
@@ -199,22 +196,6 @@ where
     }
 }
 
-/// Lets a store write the new groups of a change in the style of the first group that the change writes anew. It fails only when
-/// out of memory: a filter that is refused is refused again by the change.
-fn keep_style<D: Disk>(
-    alloc: Global,
-    store: &mut Store<D>,
-    change: &Change<'_>,
-    texts: bool,
-) -> R<()> {
-    match kept_style(alloc, &store.manifest, change, texts) {
-        Ok(Some(style)) => store.options.style = style,
-        Err(Refusal::Memory) => return Err(Refusal::Memory),
-        _ => {}
-    }
-    Ok(())
-}
-
 /// The store that was opened. Where it is refused, `why` may get the reason.
 pub(crate) fn opened<F: Files + Clone + Drop, S: Write + Drop>(
     made: Result<Store<Watched<HostDisk<F>, S>>, (Watched<HostDisk<F>, S>, Refusal)>,
@@ -232,7 +213,9 @@ pub(crate) fn opened<F: Files + Clone + Drop, S: Write + Drop>(
 }
 
 /// Prints `done N`, and passes all that was printed on. Refused Device where that cannot be done.
-fn tell_done<W: Write>(rows: u64, out: &mut W) -> R<()> {
+fn tell_done<W: Write>(rows: u64, out: &mut W) -> R<()>
+    ensures told { OnOk result (Appends (W.contents out.old) (W.contents out.new) (codes "done " ++ decimal rows ++ codes "\n")) }
+{
     print_done(rows, out)?;
     out.flush().map_err(refusal_of)
 }

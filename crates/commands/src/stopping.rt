@@ -6,6 +6,7 @@ ghost use Rattle.table.specs.Views.{call_view, calls_view, answer_view, answers_
 ghost use Rattle.store.specs.Stands.{Stands};
 ghost use Rattle.store.specs.Promises.{Acts};
 ghost use Rattle.bits.specs.declared.refusal.Refusal.TheVariants.{Memory};
+ghost use Rattle.commands.specs.Tasks.{StopsInBytes, RunsBytesToRefusal};
 ghost use Rattle.commands.specs.Stopping.{is_done, EndAtRefusal, StopsAt, MakesToRefusal, RunsToRefusal};
 
 use crate::explaining::script_reason;
@@ -148,7 +149,9 @@ pub fn run_to_refusal<D: Disk, W: Write>(
     texts: bool,
     out: &mut W,
     why: &mut Option<Reason>,
-) -> R<()> {
+) -> R<()>
+    ensures runs { RunsBytesToRefusal D.state texts store.old store.new bytes.now (W.contents out.old) (W.contents out.new) result }
+{
     let mut has_run = false;
     match made_to_refusal(alloc, store, bytes, texts, out, &mut has_run) {
         Ok(None) => Ok(()),
@@ -179,8 +182,11 @@ fn made_to_refusal<D: Disk, W: Write>(
     texts: bool,
     out: &mut W,
     has_run: &mut bool,
-) -> R<Option<Stop>> {
-    let stop = run_script_to_refusal(alloc, store, text_of(bytes)?, texts, out, has_run)?;
+) -> R<Option<Stop>>
+    ensures stops { StopsInBytes D.state texts store.old store.new bytes.now (W.contents out.old) (W.contents out.new) result }
+{
+    let text = text_of(bytes)?;
+    let stop = run_script_to_refusal(alloc, store, text, texts, out, has_run)?;
     out.flush().map_err(refusal_of)?;
     Ok(stop)
 }

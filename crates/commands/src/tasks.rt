@@ -1,6 +1,10 @@
 //! What is to be done with a store, done.
 
-ghost use Rattle.std.specs.Prelude.{◌≡◌, false};
+ghost use Rattle.std.specs.Prelude.{◌≡◌, false, slice_index_or, []};
+ghost use Rattle.commands.specs.Importing.{files_view};
+ghost use Rattle.commands.specs.Unless.{AsksImport};
+ghost use Rattle.commands.specs.Tasks.{lent_text, lent_texts, columns_named, PrintsQuery, PrintsAnswer, RunsBytes};
+ghost use Rattle.commands.specs.Tasks.{AppendsBytes, AddsColumn, ImportsSeveral, ImportsAsked, MakesAsked, MakesChange, MakesInStyle};
 
 use crate::changing::{add_column, append, remove_rows, rewrite_groups, rewrite_small};
 use crate::explaining::{change_reason, question_reason, script_reason};
@@ -8,11 +12,12 @@ use crate::first_rows::print_first_rows;
 use crate::folder::refusal_of;
 use crate::group_columns::print_groups_and_columns;
 use crate::importing::{import_files, import_files_unless};
+use crate::kept_style::keep_style;
 use crate::querying::{print_count, print_groups, print_rows, print_schema};
 use crate::reason::Reason;
 use crate::renewing::rewrite_all;
 use crate::running::run_script;
-use crate::texts::{owned, text_of};
+use crate::texts::{columns_named, owned, text_of};
 use crate::unless::{append_unless, import_unless};
 use bits::R;
 use dataset_words::{Change, Question};
@@ -39,6 +44,7 @@ pub fn ask<D: Disk, W: Write, E: Write>(
     shows: bool,
     why: &mut Option<Reason>,
 ) -> R<()>
+    ensures prints { PrintsAnswer D.state texts store.old store.new question.now (W.contents out.old) (W.contents out.new) result }
     ensures quiet { shows ≡ false → E.contents err.new ≡ E.contents err.old }
 {
     let answered = answer(alloc, store, question, texts, out, err, shows);
@@ -58,43 +64,17 @@ fn answer<D: Disk, W: Write, E: Write>(
     err: &mut E,
     shows: bool,
 ) -> R<()>
+    ensures prints { PrintsAnswer D.state texts store.old store.new question.now (W.contents out.old) (W.contents out.new) result }
     ensures quiet { shows ≡ false → E.contents err.new ≡ E.contents err.old }
 {
     match question {
         Question::Query {
             filter,
             columns,
-            limit: Some(limit),
+            limit,
         } => {
-            let names = owned(alloc, columns.as_slice())?;
-            let names = if names.is_empty() {
-                None
-            } else {
-                Some(names.as_slice())
-            };
-            print_first_rows(alloc, store, *filter, names, *limit, texts, out)
-        }
-        Question::Query {
-            filter,
-            columns,
-            ..
-        } if columns.is_empty() => print_rows(alloc, store, *filter, None, texts, out, err, shows),
-        Question::Query {
-            filter,
-            columns,
-            ..
-        } => {
-            let names = owned(alloc, columns.as_slice())?;
-            print_rows(
-                alloc,
-                store,
-                *filter,
-                Some(names.as_slice()),
-                texts,
-                out,
-                err,
-                shows,
-            )
+            let names = columns.as_slice();
+            print_query(alloc, store, *filter, names, *limit, texts, out, err, shows)
         }
         Question::Count { filter } => print_count(alloc, store, *filter, texts, out),
         Question::Groups { stats: true } => print_groups_and_columns(alloc, store, texts, out),
@@ -103,9 +83,33 @@ fn answer<D: Disk, W: Write, E: Write>(
     }
 }
 
+/// Prints the rows of a query, all or the first of them, in the columns of these names, or in all where none is named.
+fn print_query<D: Disk, W: Write, E: Write>(
+    alloc: Global,
+    store: &mut Store<D>,
+    filter: Option<&str>,
+    columns: &[&str],
+    limit: Option<u64>,
+    texts: bool,
+    out: &mut W,
+    err: &mut E,
+    shows: bool,
+) -> R<()>
+    ensures prints { PrintsQuery D.state texts store.old store.new (lent_text filter.entry) (columns_named (lent_texts columns.now)) limit
+        (W.contents out.old) (W.contents out.new) result }
+    ensures quiet { shows ≡ false → E.contents err.new ≡ E.contents err.old }
+{
+    let names = owned(alloc, columns)?;
+    let wanted = columns_named(names.as_slice());
+    match limit {
+        Some(limit) => print_first_rows(alloc, store, filter, wanted, limit, texts, out),
+        None => print_rows(alloc, store, filter, wanted, texts, out, err, shows),
+    }
+}
+
 /// Changes a store, with the bytes of the files that the change names. With `texts`, dates, times, timestamps and decimals are
-/// also read from their texts, in rows and filters. Where `shows` says so, `err` shows how many of its rows were read so far. Where it is refused, `why` may get the reason, and `refused` the place of the file that is refused among
-/// several.
+/// also read from their texts, in rows and filters. Where `shows` says so, `err` shows how many of its rows were read so far. Where
+/// it is refused, `why` may get the reason, and `refused` the place of the file that is refused among several.
 pub fn make_change<D: Disk, E: Write>(
     alloc: Global,
     store: &mut Store<D>,
@@ -117,13 +121,10 @@ pub fn make_change<D: Disk, E: Write>(
     why: &mut Option<Reason>,
     refused: &mut Option<usize>,
 ) -> R<u64>
+    ensures makes { MakesChange D.state texts store.old store.new change.now (files_view files.now) result }
     ensures quiet { shows ≡ false → E.contents err.new ≡ E.contents err.old }
 {
-    let changed = if files.len() > 1 {
-        import_all(alloc, store, change, files, texts, refused)
-    } else {
-        change_store(alloc, store, change, bytes_at(files, 0), texts, err, shows)
-    };
+    let changed = change_store(alloc, store, change, files, texts, err, shows, refused);
     if let Err(refusal) = &changed {
         let bytes = bytes_at(files, refused.unwrap_or(0));
         *why = found(change_reason(alloc, store, change, bytes, texts, refusal));
@@ -131,61 +132,144 @@ pub fn make_change<D: Disk, E: Write>(
     changed
 }
 
+/// Makes a change as [`make_change`] does; where `keeps` says so, in the style of the first group that the change writes anew.
+pub fn change_in_style<D: Disk, E: Write>(
+    alloc: Global,
+    store: &mut Store<D>,
+    change: &Change<'_>,
+    keeps: bool,
+    files: &[Vec<u8>],
+    texts: bool,
+    err: &mut E,
+    shows: bool,
+    why: &mut Option<Reason>,
+    refused: &mut Option<usize>,
+) -> R<u64>
+    ensures makes { MakesInStyle D.state keeps texts store.old store.new change.now (files_view files.now) result }
+    ensures quiet { shows ≡ false → E.contents err.new ≡ E.contents err.old }
+{
+    keep_style(alloc, store, change, keeps, texts)?;
+    make_change(alloc, store, change, files, texts, err, shows, why, refused)
+}
+
 /// The bytes of the file at a place; none where there is no such file.
-pub fn bytes_at(files: &[Vec<u8>], place: usize) -> &[u8] {
+pub fn bytes_at(files: &[Vec<u8>], place: usize) -> &[u8]
+    ensures { result.now ≡ slice_index_or (files_view files.now) place [] }
+{
     match files.get(place) {
         Some(bytes) => bytes.as_slice(),
         None => &[],
     }
 }
 
-/// Imports several files into a store. `refused` gets the place of the one that is refused. Only an import names several.
-fn import_all<D: Disk>(
+/// Changes a store, with the bytes of the files that the change names. `refused` gets the place of the one that is refused among
+/// several.
+fn change_store<D: Disk, E: Write>(
     alloc: Global,
     store: &mut Store<D>,
     change: &Change<'_>,
     files: &[Vec<u8>],
     texts: bool,
-    refused: &mut Option<usize>,
-) -> R<u64> {
-    match change {
-        Change::Import {
-            unless: Some(filter),
-            ..
-        } => import_files_unless(alloc, store, filter, files, texts, refused),
-        _ => import_files(alloc, store, files, refused),
-    }
-}
-
-/// Changes a store, with the bytes of the file that the change names.
-fn change_store<D: Disk, E: Write>(
-    alloc: Global,
-    store: &mut Store<D>,
-    change: &Change<'_>,
-    bytes: &[u8],
-    texts: bool,
     err: &mut E,
     shows: bool,
+    refused: &mut Option<usize>,
 ) -> R<u64>
+    ensures makes { MakesChange D.state texts store.old store.new change.now (files_view files.now) result }
     ensures quiet { shows ≡ false → E.contents err.new ≡ E.contents err.old }
 {
     match change {
-        Change::Append {
-            unless: Some(filter),
-            ..
-        } => append_unless(alloc, store, filter, text_of(bytes)?, texts, err, shows),
-        Change::Import {
-            unless: Some(filter),
-            ..
-        } => import_unless(alloc, store, filter, bytes, texts),
-        Change::Append { .. } => append(alloc, store, text_of(bytes)?, texts, err, shows),
-        Change::Import { .. } => store.import(alloc, bytes),
-        Change::AddColumn { .. } => add_column(alloc, store, text_of(bytes)?),
+        Change::Append { unless, .. } => {
+            append_bytes(alloc, store, *unless, bytes_at(files, 0), texts, err, shows)
+        }
+        Change::Import { unless, .. } => import(alloc, store, *unless, files, texts, refused),
+        Change::AddColumn { .. } => add_column_of(alloc, store, bytes_at(files, 0)),
         Change::Remove { filter } => remove_rows(alloc, store, filter, texts),
         Change::RemoveGroups { numbers } => store.remove_groups(alloc, numbers.as_slice()),
         Change::Rewrite { numbers } => rewrite_groups(alloc, store, numbers.as_slice()),
         Change::RewriteSmall { min_rows } => rewrite_small(alloc, store, *min_rows),
         Change::RewriteAll => rewrite_all(alloc, store),
+    }
+}
+
+/// Appends the rows of the lines of bytes; where there is a filter, unless some row satisfies it. Refused Script for bytes that are
+/// no text.
+fn append_bytes<D: Disk, E: Write>(
+    alloc: Global,
+    store: &mut Store<D>,
+    unless: Option<&str>,
+    bytes: &[u8],
+    texts: bool,
+    err: &mut E,
+    shows: bool,
+) -> R<u64>
+    ensures appends { AppendsBytes D.state texts store.old store.new (lent_text unless.entry) bytes.now result }
+    ensures quiet { shows ≡ false → E.contents err.new ≡ E.contents err.old }
+{
+    let text = text_of(bytes)?;
+    match unless {
+        Some(filter) => append_unless(alloc, store, filter, text, texts, err, shows),
+        None => append(alloc, store, text, texts, err, shows),
+    }
+}
+
+/// Puts the column of bytes at the end of the schema. Refused Script for bytes that are no text.
+fn add_column_of<D: Disk>(alloc: Global, store: &mut Store<D>, bytes: &[u8]) -> R<u64>
+    ensures adds { AddsColumn D.state store.old store.new bytes.now result }
+{
+    let text = text_of(bytes)?;
+    add_column(alloc, store, text)
+}
+
+/// ImportsAsked files; where there is a filter, unless some row satisfies it. `refused` gets the place of the one that is refused among
+/// several.
+fn import<D: Disk>(
+    alloc: Global,
+    store: &mut Store<D>,
+    unless: Option<&str>,
+    files: &[Vec<u8>],
+    texts: bool,
+    refused: &mut Option<usize>,
+) -> R<u64>
+    ensures imports { ImportsAsked D.state texts store.old store.new (lent_text unless.entry) (files_view files.now) result }
+{
+    if files.len() > 1 {
+        import_several(alloc, store, unless, files, texts, refused)
+    } else {
+        import_one(alloc, store, unless, bytes_at(files, 0), texts)
+    }
+}
+
+/// ImportsAsked several files in one commit; where there is a filter, unless some row satisfies it. `refused` gets the place of the one
+/// that is refused.
+fn import_several<D: Disk>(
+    alloc: Global,
+    store: &mut Store<D>,
+    unless: Option<&str>,
+    files: &[Vec<u8>],
+    texts: bool,
+    refused: &mut Option<usize>,
+) -> R<u64>
+    ensures imports { ImportsSeveral D.state texts store.old store.new (lent_text unless.entry) (files_view files.now) result }
+{
+    match unless {
+        Some(filter) => import_files_unless(alloc, store, filter, files, texts, refused),
+        None => import_files(alloc, store, files, refused),
+    }
+}
+
+/// ImportsAsked one file; where there is a filter, unless some row satisfies it.
+fn import_one<D: Disk>(
+    alloc: Global,
+    store: &mut Store<D>,
+    unless: Option<&str>,
+    bytes: &[u8],
+    texts: bool,
+) -> R<u64>
+    ensures imports { MakesAsked D.state texts store.old store.new (lent_text unless.entry) (AsksImport bytes.now) (λ fs e. ⊥) result }
+{
+    match unless {
+        Some(filter) => import_unless(alloc, store, filter, bytes, texts),
+        None => store.import(alloc, bytes),
     }
 }
 
@@ -197,7 +281,9 @@ pub fn run<D: Disk, W: Write>(
     texts: bool,
     out: &mut W,
     why: &mut Option<Reason>,
-) -> R<()> {
+) -> R<()>
+    ensures runs { RunsBytes D.state texts store.old store.new bytes.now (W.contents out.old) (W.contents out.new) result }
+{
     let mut has_run = false;
     let ran = run_all(alloc, store, bytes, texts, out, &mut has_run);
     if let Err(refusal) = &ran {
@@ -218,7 +304,10 @@ fn run_all<D: Disk, W: Write>(
     texts: bool,
     out: &mut W,
     has_run: &mut bool,
-) -> R<()> {
-    run_script(alloc, store, text_of(bytes)?, texts, out, has_run)?;
+) -> R<()>
+    ensures runs { RunsBytes D.state texts store.old store.new bytes.now (W.contents out.old) (W.contents out.new) result }
+{
+    let text = text_of(bytes)?;
+    run_script(alloc, store, text, texts, out, has_run)?;
     out.flush().map_err(refusal_of)
 }
