@@ -1,0 +1,12 @@
+pub mod Waits
+pub mod Same
+pub mod CutTokens
+pub mod CutKeys
+pub mod CutShowing
+pub mod Held
+pub mod Taken
+pub mod Ordered
+pub mod Gathering
+pub mod PutParts
+pub mod Adding
+pub mod Schemas
