@@ -123,7 +123,7 @@ fn read_rows<D: Disk>(
 }
 
 /// The path of the group's part file. A key that cannot partition has none: refused Truncated.
-fn path_of(alloc: Global, keys: &[KeyColumn], group: &Group) -> R<String>
+pub(crate) fn path_of(alloc: Global, keys: &[KeyColumn], group: &Group) -> R<String>
     ensures stands { IfOk result (λ path. string_bytes path
         ≡ part_path_of (key_columns_view keys.now) (group_view group.now).key (group_view group.now).number) }
     ensures only { CanPartition (key_columns_view keys.now) (group_view group.now).key → RefusedMemoryOnly result }
@@ -137,7 +137,7 @@ fn path_of(alloc: Global, keys: &[KeyColumn], group: &Group) -> R<String>
 }
 
 /// Whether one of the marks is set.
-fn has_mark(marks: &[bool]) -> bool
+pub(crate) fn has_mark(marks: &[bool]) -> bool
     ensures { result ≡ list_any (λ b. b) marks.now }
 {
     for mark in marks {
