@@ -1,0 +1,22 @@
+use Rattle.std.proofs.Common.{◌≡◌, rules, sym, subst}
+use Rattle.std.specs.Prelude.{option_map}
+use Rattle.thrift_compact.specs.Tree.{Fields}
+use Rattle.metadata.specs.FieldValues.{record_by}
+use Rattle.metadata.specs.FromTree.{dictionary_page_header}
+use Rattle.metadata.specs.inner.Slots.{row_of}
+use Rattle.metadata.proofs.Rows.{dictionary_page_header_made, dictionary_page_header_step, dictionary_page_header_row, dictionary_page_header_same}
+use Rattle.metadata.proofs.Readings.{refused, made_read, made_refused}
+use Rattle.metadata.proofs.dictionary_page_header.DictionaryPageHeaderFromNode.from_unread.Goals as goal
+
+pub returns-clause-stands : goal.returns-clause-stands
+returns-clause-stands c =
+    let v = c.args.value in
+    let same = subst (λ s. (fs : Fields) → dictionary_page_header fs ≡ option_map dictionary_page_header_made (row_of dictionary_page_header_step dictionary_page_header_row s fs)) (sym c.places.ensures) dictionary_page_header_same in
+    made_read _ dictionary_page_header dictionary_page_header_made _ _ _ _ _ same c.in_ok-num_values.ensures.stands
+
+pub returns-in_err-num_values-clause-which : goal.returns-in_err-num_values-clause-which
+returns-in_err-num_values-clause-which c =
+    let v = c.args.value in
+    let same = subst (λ s. (fs : Fields) → dictionary_page_header fs ≡ option_map dictionary_page_header_made (row_of dictionary_page_header_step dictionary_page_header_row s fs)) (sym c.places.ensures) dictionary_page_header_same in
+    refused _ _ v.bytes.now c.from_residual.result c.in_err-num_values.field-0.0 c.from_residual.ensures.1 c.in_err-num_values.ensures.which
+    (made_refused _ dictionary_page_header dictionary_page_header_made _ _ same)
