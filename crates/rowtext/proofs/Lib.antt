@@ -29,13 +29,14 @@ pub mod RowPlans
 pub mod Openings
 pub mod TextLeaves
 pub mod Lines
+pub mod Lexing
 pub mod ShownLeaves
-pub mod ShownRows
+pub mod LinePieces
+pub mod LeafLines
+pub mod WholeLines
 pub mod Sizes
-pub mod PrintedLines
 pub mod PieceShowing
 pub mod PieceLists
-pub mod NamedMembers
 pub mod DigitRuns
 pub mod LaneTests
 pub mod Sorting

@@ -1,12 +1,14 @@
-//! What is left of a line that is read in the form in which rows are printed.
+//! What is left of a line that is read.
 
-ghost use Rattle.std.specs.Prelude.{◌≡◌, ◌≤◌, ℕ, List, ◌∷◌, [], false, length, IfSome, IsTrue, decimal};
+ghost use Rattle.std.specs.Prelude.{◌≡◌, ◌≤◌, ◌⊎◌, ℕ, List, ◌∷◌, [], false, true, length, IfSome, IsTrue, decimal};
 ghost use Rattle.std.specs.Fmt.{signed_decimal};
+ghost use Rattle.json.specs.Lex.{operator, class, operator_lexeme, begins_colon};
 ghost use Rattle.json.specs.Print.{escape, quoted};
+ghost use Rattle.json.specs.Word.{is_space, ends_word};
 ghost use Rattle.rowtext.specs.inner.Escapes.{IsPrintedText};
 
 use crate::escapes::printed_end;
-use crate::integers::natural_front;
+use crate::integers::{natural_front, split_first};
 use crate::pieces::{Piece, text_piece};
 use crate::plain_front::plain_front;
 
@@ -18,8 +20,24 @@ pub struct Cursor<'t> {
     ghost within: { at ≤ length text.now },
 }
 
+/// Whether a byte is a blank between tokens.
+#[inline(always)]
+fn is_blank(byte: u8) -> bool
+    ensures { result ≡ is_space byte }
+{
+    byte == b' ' || byte == b'\t' || byte == b'\n' || byte == b'\r'
+}
+
+/// Whether a byte ends a value.
+#[inline(always)]
+fn is_end(byte: u8) -> bool
+    ensures { IsTrue result → (byte ≡ 44) ⊎ ((byte ≡ 125) ⊎ (byte ≡ 93)) }
+{
+    byte == b',' || byte == b'}' || byte == b']'
+}
+
 impl<'t> Cursor<'t> {
-    ghost use Rattle.rowtext.specs.inner.Lines.{rest_of, Takes};
+    ghost use Rattle.rowtext.specs.inner.Lines.{rest_of, lexemes_of, Takes, TakesText, EndsValue};
     ghost use Rattle.rowtext.specs.inner.Pieces.{IsTextRead};
 
     /// A line of which nothing was read.
@@ -73,6 +91,81 @@ impl<'t> Cursor<'t> {
         }
     }
 
+    /// Passes over blanks.
+    #[inline(always)]
+    pub fn skip_blanks(&mut self)
+        ensures { lexemes_of self.new ≡ lexemes_of self.old }
+    {
+        let bytes = self.text.as_bytes();
+        let mut at = self.at;
+        'blanks: while at < bytes.len() && is_blank(bytes[at]) {
+            at += 1;
+        }
+        self.at = at;
+    }
+
+    /// Passes over these bytes, and the blanks after them, where they stand there.
+    #[inline(always)]
+    pub fn skip_text(&mut self, bytes: &[u8]) -> bool
+        ensures taken { IsTrue result → TakesText self.old self.new bytes.now }
+        ensures unchanged { result ≡ false → rest_of self.new ≡ rest_of self.old }
+    {
+        if self.skip(bytes) {
+            self.skip_blanks();
+            true
+        } else {
+            false
+        }
+    }
+
+    /// Passes over a bracket, a comma or a colon, and the blanks after it.
+    #[inline(always)]
+    pub fn skip_mark(&mut self, mark: u8) -> bool
+        requires { class mark ≡ operator }
+        ensures taken { IsTrue result → lexemes_of self.old ≡ operator_lexeme mark ∷ lexemes_of self.new }
+        ensures unchanged { result ≡ false → rest_of self.new ≡ rest_of self.old }
+    {
+        if self.skip_byte(mark) {
+            self.skip_blanks();
+            true
+        } else {
+            false
+        }
+    }
+
+    /// Whether a comma or a closing bracket stands there.
+    #[inline(always)]
+    fn is_ended(&self) -> bool
+        ensures { IsTrue result → (ends_word (rest_of self.now) ≡ true) × (begins_colon (lexemes_of self.now) ≡ false) }
+    {
+        match split_first(self.rest()) {
+            Some((first, _later)) => is_end(first),
+            None => false,
+        }
+    }
+
+    /// Whether a blank stands there.
+    #[inline(always)]
+    fn is_spaced(&self) -> bool
+        ensures { IsTrue result → ends_word (rest_of self.now) ≡ true }
+    {
+        match self.rest().first() {
+            Some(first) => is_blank(*first),
+            None => false,
+        }
+    }
+
+    /// Passes over blanks after a value. Whether a comma or a closing bracket then stands there.
+    #[inline(always)]
+    pub fn end_value(&mut self) -> bool
+        ensures { IsTrue result → EndsValue self.old self.new }
+    {
+        if self.is_spaced() {
+            self.skip_blanks();
+        }
+        self.is_ended()
+    }
+
     /// The number whose digits stand there.
     #[inline(always)]
     pub fn natural(&mut self) -> Option<u64>
@@ -97,6 +190,12 @@ impl<'t> Cursor<'t> {
         } else {
             i64::try_from(self.natural()?).ok()
         }
+    }
+
+    /// Whether a string stands there.
+    #[inline(always)]
+    pub fn is_string(&self) -> bool {
+        self.rest().first() == Some(&b'"')
     }
 
     /// The string up to a quote, with no escape in it.

@@ -1,7 +1,6 @@
 //! The pieces of a row, of which a few take no allocation.
 
-ghost use Rattle.std.specs.Prelude.{◌≡◌, ◌≤◌, [], ◌∷◌, ◌++◌, length, take, drop, OnOk};
-ghost use Rattle.rowtext.specs.inner.PieceLists.{exchanged};
+ghost use Rattle.std.specs.Prelude.{◌≡◌, ◌≤◌, [], ◌∷◌, ◌++◌, length, take, OnOk};
 
 use crate::pieces::Piece;
 use std::alloc::{AllocError, Global};
@@ -126,23 +125,16 @@ impl<'t> Pieces<'t> {
         Ok(())
     }
 
-    /// Puts the pieces from the second index on before those from the first up to it.
+    /// Removes the pieces from an index on.
     #[inline(always)]
-    pub fn exchange(&mut self, from: usize, middle: usize)
-        requires { (from ≤ middle) × (middle ≤ length self.old.items) }
-        ensures { self.new.items ≡ exchanged from middle self.old.items }
+    pub fn truncate(&mut self, count: usize)
+        requires { count ≤ length self.old.items }
+        ensures { self.new.items ≡ take count self.old.items }
     {
-        let count = self.count;
-        if count > FEW {
-            exchange(self.many.as_mut_slice(), from, middle);
-        } else if count - from == 2 && middle - from == 1 {
-            let first = self.few[from];
-            self.few[from] = self.few[middle];
-            self.few[middle] = first;
+        if self.count <= FEW {
+            self.count = count;
         } else {
-            let mut few = self.few;
-            exchange(&mut few[..count], from, middle);
-            self.few = few;
+            self.many.truncate(count);
         }
     }
 
@@ -155,28 +147,4 @@ impl<'t> Pieces<'t> {
         }
         Ok(())
     }
-}
-
-/// Puts the pieces from an index on before the others.
-#[inline(always)]
-fn rotate(pieces: &mut [Piece<'_>], count: usize)
-    requires { count ≤ length pieces.old }
-    ensures { pieces.new ≡ drop count pieces.old ++ take count pieces.old }
-{
-    if count == 1 && pieces.len() == 2 {
-        let first = pieces[0];
-        pieces[0] = pieces[1];
-        pieces[1] = first;
-    } else {
-        pieces.rotate_left(count);
-    }
-}
-
-/// Puts the pieces from the second index on before those from the first up to it.
-#[inline(always)]
-fn exchange(pieces: &mut [Piece<'_>], from: usize, middle: usize)
-    requires { (from ≤ middle) × (middle ≤ length pieces.old) }
-    ensures { pieces.new ≡ exchanged from middle pieces.old }
-{
-    rotate(&mut pieces[from..], middle - from);
 }

@@ -1,17 +1,16 @@
-//! How rows of a schema are read from the form in which they are printed.
+//! How rows of a schema are read from lines.
 
-ghost use Rattle.std.specs.Prelude.{◌≡◌, true, IfOk, OnOk};
+ghost use Rattle.std.specs.Prelude.{◌≡◌, IfOk, OnOk};
 ghost use Rattle.bits.specs.Refusals.{RefusedMemoryOnly};
-ghost use Rattle.schema.specs.Fits.{fits_each};
 ghost use Rattle.schema.specs.Values.{ValueTrees};
 ghost use Rattle.assemble.specs.Sinks.{tokens_each};
-ghost use Rattle.rowtext.specs.Json.{row_text};
-ghost use Rattle.rowtext.specs.Reader.{IsRowOf};
+ghost use Rattle.rowtext.specs.Reader.{IsRowAs};
 ghost use Rattle.rowtext.specs.inner.Pieces.{Grows};
 
 use crate::cursor::Cursor;
+use crate::names::{Names, names_of};
 use crate::piece_list::Pieces;
-use crate::printed_rows::members_printed;
+use crate::row_lines::members_at;
 use crate::row_plan::RowPlan;
 use crate::unread::Unread;
 use bits::R;
@@ -19,11 +18,16 @@ use schema::Schema;
 use std::alloc::Global;
 use std::marker::Model;
 
-/// How rows of a schema are printed, by which they are read. A clause sees the schema.
+/// How deep the members of a row nest at most.
+const DEEPEST: usize = 126;
+
+/// How rows of a schema are printed, by which they are read, and where its fields are by their names. A clause sees the
+/// schema.
 #[derive(Drop)]
 pub struct ReadPlan<'a> {
     schema: &'a Schema,
     plan: RowPlan<'a>,
+    names: Names,
 }
 
 impl<'a> Model for ReadPlan<'a> {
@@ -48,8 +52,13 @@ impl<'a> ReadPlan<'a> {
         ensures reads { IfOk result (λ plan. plan ≡ schema.now) }
         ensures which { RefusedMemoryOnly result }
     {
+        let names = names_of(alloc, schema.fields())?;
         let plan = RowPlan::new(alloc, schema)?;
-        Ok(ReadPlan { schema, plan })
+        Ok(ReadPlan {
+            schema,
+            plan,
+            names,
+        })
     }
 
     /// The schema.
@@ -59,39 +68,39 @@ impl<'a> ReadPlan<'a> {
         self.schema
     }
 
-    /// Adds the pieces of the row whose printed text a line is.
-    fn printed<'t>(
+    /// Adds the pieces of the row that a text is, where it is of the form that is read at once.
+    pub fn put_pieces<'t>(
         &self,
         alloc: Global,
         text: &'t str,
+        texts: bool,
         pieces: &mut Pieces<'t>,
     ) -> Result<(), Unread>
-        ensures { OnOk result ((values : ValueTrees) ×
-            ((fits_each self.now values ≡ true) × ((text.now ≡ row_text self.now values) × Grows pieces.old.items pieces.new.items (tokens_each values)))) }
+        ensures { OnOk result ((values : ValueTrees) × (IsRowAs texts self.now text.now values × Grows pieces.old.items pieces.new.items (tokens_each values))) }
     {
+        // For the proof: what is known of the schema.
+        let _ = self.schema.leaves();
         let mut line = Cursor::new(text);
+        line.skip_blanks();
+        if !line.skip_mark(b'{') {
+            return Err(Unread::Unknown);
+        }
         let fields = self.schema.fields();
         let slots = self.plan.slots();
-        let order = self.plan.order();
-        members_printed(alloc, fields, slots, order, &mut line, pieces)?;
+        members_at(
+            alloc,
+            fields,
+            slots,
+            &self.names,
+            DEEPEST,
+            texts,
+            &mut line,
+            pieces,
+        )?;
         if line.is_over() {
             Ok(())
         } else {
             Err(Unread::Unknown)
         }
-    }
-
-    /// Adds the pieces of the row that a text is, where it is one as it is printed.
-    pub fn put_pieces<'t>(
-        &self,
-        alloc: Global,
-        text: &'t str,
-        pieces: &mut Pieces<'t>,
-    ) -> Result<(), Unread>
-        ensures { OnOk result ((values : ValueTrees) × (IsRowOf self.now text.now values × Grows pieces.old.items pieces.new.items (tokens_each values))) }
-    {
-        // For the proof: what is known of the schema.
-        let _ = self.schema.leaves();
-        self.printed(alloc, text, pieces)
     }
 }

@@ -1,5 +1,5 @@
 -- Lists of which a few take no allocation.
-use Rattle.std.specs.Prelude.{ℕ, List, ◌++◌, take, drop, slice_range, nat_le, if◌then◌else◌}
+use Rattle.std.specs.Prelude.{ℕ, List, take, nat_le, if◌then◌else◌}
 use Rattle.rowtext.specs.declared.pieces.Piece.{Piece}
 
 -- the pieces of a row
@@ -9,7 +9,3 @@ pub record PieceList : Type 0 where
 -- the items of a list: if there are at most 8, the first `count` of the few, and else those in the allocation
 abbrev pub held : {A : Type 0} → ℕ → List A → List A → List A
 held count few many = if nat_le count 8 then take count few else many
-
--- a list with the items from the second index on before those from the first up to it
-abbrev pub exchanged : {A : Type 0} → ℕ → ℕ → List A → List A
-exchanged from middle xs = take from xs ++ (drop middle xs ++ slice_range xs from middle)

@@ -1,11 +1,18 @@
-use Rattle.std.proofs.Common.{subst}
-use Rattle.std.proofs.lemmas.Result.{on_ok_weaker}
-use Rattle.schema.specs.Law.{IsSchema, IsWithinLimits}
-use Rattle.rowtext.proofs.PrintedLines.{printed_row}
+use Rattle.std.proofs.Common.{◌≡◌, refl, sym, subst, ◌∙◌}
+use Rattle.schema.specs.Law.{names, AllDiffer, AreValid}
+use Rattle.schema.specs.Shape.{Fields}
+use Rattle.schema.specs.Views.{field_views}
+use Rattle.rowtext.proofs.WholeLines.{whole_read}
 use Rattle.rowtext.proofs.read_plan.ReadPlan.put_pieces.Goals as goal
 
-pub returns : goal.returns
-returns c =
-    let valid = subst IsSchema c.self.view_is c.leaves.ensures.valid in
-    let within = subst IsWithinLimits c.self.view_is c.leaves.ensures.within in
-    on_ok_weaker c.printed.result (λ h. (h.0, (printed_row c.args.self.now h.0 c.args.text.now valid within h.1.0 h.1.1.0, h.1.1.1))) c.printed.ensures
+pub members_at-requires-clause-differ : goal.members_at-requires-clause-differ
+members_at-requires-clause-differ c = subst (λ (fs : Fields). AllDiffer (names fs)) (sym c.fields-fields.ensures) c.leaves.ensures.valid.0.differ
+
+pub members_at-requires-clause-valid : goal.members_at-requires-clause-valid
+members_at-requires-clause-valid c = subst AreValid (sym c.fields-fields.ensures) c.leaves.ensures.valid.1
+
+pub returns-then-is_over : goal.returns-then-is_over
+returns-then-is_over c =
+    let same : field_views c.fields-fields.result.now ≡ c.args.self.now = c.fields-fields.ensures ∙ c.self.view_is in
+    whole_read c.args.texts (field_views c.fields-fields.result.now) c.args.self.now c.args.text.now c.new-line.result c.skip_blanks.new.self c.skip_mark.new.self c.members_at.new.line c.args.pieces.now.items c.members_at.new.pieces.items
+    same c.new-line.ensures c.skip_blanks.ensures (c.if-not-skip_mark.ensures.taken refl) c.in_ok-members_at.ensures (c.if-is_over.ensures refl)
