@@ -5,12 +5,14 @@
 #![tactic(auto)]
 
 mod texts;
+mod values;
 mod words;
 
 pub use texts::{
-    agreed, begun, both, hexed, hexed_option, listed, shown_bytes, shown_numbers, written,
+    agreed, begun, both, hexed, hexed_option, joined, listed, shown_bytes, shown_numbers, written,
     yes_or_no,
 };
+pub use values::{entry_parts, shown_entry, shown_value, shown_values, value_of};
 pub use words::{
     bytes, bytes_of, count, natural, naturals, number, numbers, part, range, repeated,
     small_naturals, small_numbers, width, word, words_from,

@@ -186,3 +186,18 @@ pub fn both(alloc: Global, one: R<String>, other: R<String>) -> R<String> {
         (Err(_one), Ok(other)) => Ok(format!(in alloc; "{other} but one is refused")?),
     }
 }
+
+/// Texts with a space between them; `none` where there are none.
+pub fn joined(alloc: Global, texts: &[String]) -> R<String> {
+    let mut all = String::new(alloc);
+    for text in texts {
+        if !all.is_empty() {
+            all.push_str(" ")?;
+        }
+        all.push_str(text.as_str())?;
+    }
+    if all.is_empty() {
+        all.push_str("none")?;
+    }
+    Ok(all)
+}

@@ -1,13 +1,11 @@
 //! Pages, read and written.
 
-use crate::entries::{
-    borrowed, entries_of, shown_entries, shown_entry, shown_value, shown_values, values_of,
-};
+use crate::entries::{borrowed, entries_of, shown_entries, values_of};
 use crate::schemas::leaf_of;
 use bits::{R, Refusal};
 use case_words::{
-    begun, bytes, bytes_of, count, listed, part, shown_numbers, small_naturals, word, words_from,
-    written,
+    begun, bytes, bytes_of, count, listed, part, shown_entry, shown_numbers, shown_value,
+    shown_values, small_naturals, word, words_from, written,
 };
 use dictionary::Dictionary;
 use jsonrows::schema_from;

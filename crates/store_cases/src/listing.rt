@@ -2,6 +2,7 @@
 
 use crate::disks::{Cases, disk_of};
 use bits::{R, Refusal};
+use case_words::joined;
 use disk::{Disk, Entry, Fault, Kind, path_in};
 use mem_disk::MemDisk;
 use std::alloc::Global;
@@ -91,19 +92,4 @@ pub fn all_on(alloc: Global, disk: &mut MemDisk) -> R<String> {
     let files = joined(alloc, files.as_slice())?;
     let folders = joined(alloc, folders.as_slice())?;
     Ok(format!(in alloc; "{files} in {folders}")?)
-}
-
-/// Texts with a space between them; `none` where there are none.
-fn joined(alloc: Global, texts: &[String]) -> R<String> {
-    let mut all = String::new(alloc);
-    for text in texts {
-        if !all.is_empty() {
-            all.push_str(" ")?;
-        }
-        all.push_str(text.as_str())?;
-    }
-    if all.is_empty() {
-        all.push_str("none")?;
-    }
-    Ok(all)
 }

@@ -1,11 +1,12 @@
 //! Dictionaries.
 
 use crate::kinds::kind;
-use crate::texts::{shown, shown_refs, shown_value};
+use crate::texts::shown;
 use crate::values::values;
 use bits::{R, Refusal};
 use case_words::{
-    begun, bytes, count, listed, shown_numbers, small_naturals, word, words_from, written,
+    begun, bytes, count, listed, shown_numbers, shown_value, shown_values, small_naturals, word,
+    words_from, written,
 };
 use dictionary::Dictionary;
 use schema::ValueRef;
@@ -83,7 +84,7 @@ fn look_up(alloc: Global, words: &[&str]) -> R<String> {
     let dictionary = given(alloc, words)?;
     let indexes = small_naturals(alloc, words_from(words, 4))?;
     let values = dictionary.values_of(alloc, &indexes)?;
-    shown_refs(alloc, values.as_slice())
+    shown_values(alloc, values.as_slice())
 }
 
 /// `read-looked-up KIND COUNT BYTES COUNT BYTES`: how many bytes the indexes take, and the entries of that dictionary there.
@@ -92,6 +93,6 @@ fn read_looked_up(alloc: Global, words: &[&str]) -> R<String> {
     let n = count(words, 4)?;
     let bytes = bytes(alloc, words, 5)?;
     let (values, used) = dictionary.decode_refs(alloc, &bytes, n)?;
-    let text = shown_refs(alloc, values.as_slice())?;
+    let text = shown_values(alloc, values.as_slice())?;
     Ok(format!(in alloc; "{used} bytes:{text}")?)
 }

@@ -1,11 +1,12 @@
 //! Lists of values: PLAIN, BYTE_STREAM_SPLIT, and byte arrays by their lengths or their prefixes.
 
 use crate::kinds::kind;
-use crate::texts::{shown, shown_refs, shown_value};
+use crate::texts::shown;
 use crate::values::values;
 use bits::{R, Refusal};
 use case_words::{
-    agreed, begun, both, bytes, count, listed, shown_bytes, word, words_from, written,
+    agreed, begun, both, bytes, count, listed, shown_bytes, shown_value, shown_values, word,
+    words_from, written,
 };
 use delta::{Prefixed, decode_lengths, decode_prefixes, encode_lengths, encode_prefixes};
 use plain::{
@@ -43,7 +44,7 @@ fn read(alloc: Global, read: R<(Vec<Value>, usize)>) -> R<String> {
 /// How many bytes borrowed values take, and the values.
 fn read_refs(alloc: Global, read: R<(Vec<ValueRef<'_>>, usize)>) -> R<String> {
     let (values, used) = read?;
-    let text = shown_refs(alloc, values.as_slice())?;
+    let text = shown_values(alloc, values.as_slice())?;
     Ok(format!(in alloc; "{used} bytes:{text}")?)
 }
 

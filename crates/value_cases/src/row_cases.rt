@@ -1,11 +1,10 @@
 //! Rows and their columns.
 
 use crate::elements::schema;
-use crate::texts::shown_value;
 use crate::values::{rows, shown_row, value};
 use assemble::{Cursor, assemble, next_row};
 use bits::{R, Refusal};
-use case_words::{both, listed, natural, part, repeated, word};
+use case_words::{both, entry_parts, listed, part, repeated, shown_entry, word};
 use schema::{Column, Entry, EntryRef, Row, Schema};
 use shred::{shred, to_columns};
 use std::alloc::Global;
@@ -18,16 +17,6 @@ pub fn outcome(alloc: Global, operation: &str, words: &[&str]) -> Option<R<Strin
         _ => return None,
     };
     Some(outcome)
-}
-
-/// An entry: its repetition level, its definition level and its value.
-fn shown_entry(alloc: Global, entry: EntryRef<'_>) -> R<String> {
-    let (repetition, definition) = (entry.repetition, entry.definition);
-    let value = match entry.value {
-        Some(value) => shown_value(alloc, value)?,
-        None => String::from_str(alloc, "none")?,
-    };
-    Ok(format!(in alloc; "{repetition},{definition},{value}")?)
 }
 
 /// Appends an entry to the text of its column.
@@ -78,29 +67,16 @@ fn columns(alloc: Global, words: &[&str]) -> R<String> {
     )
 }
 
-/// A level.
-fn level(text: &str) -> R<u32> {
-    match u32::try_from(natural(text)?) {
-        Ok(level) => Ok(level),
-        Err(_) => Err(Refusal::Script),
-    }
-}
-
 /// An entry, as cases write it.
 fn entry(alloc: Global, text: &str) -> R<Entry> {
-    let Some((repetition, rest)) = text.split_once(',') else {
-        return Err(Refusal::Script);
-    };
-    let Some((definition, shown)) = rest.split_once(',') else {
-        return Err(Refusal::Script);
-    };
+    let (repetition, definition, shown) = entry_parts(text)?;
     let value = match shown {
-        "none" => None,
-        shown => Some(value(alloc, shown)?),
+        Some(shown) => Some(value(alloc, shown)?),
+        None => None,
     };
     Ok(Entry {
-        repetition: level(repetition)?,
-        definition: level(definition)?,
+        repetition,
+        definition,
         value,
     })
 }

@@ -1,27 +1,9 @@
 //! Values, with groups in round brackets and lists in square ones, and rows of them.
 
-use crate::texts::shown_value;
 use bits::{R, Refusal};
-use case_words::{bytes_of, number, range, repeated};
+use case_words::{range, repeated, shown_value, value_of};
 use schema::{Row, Value, ValueRef};
 use std::alloc::Global;
-
-/// A value that is no group and no list: `null`, `true`, `false`, a number, `'` and a text, or `x` and bytes.
-fn atom(alloc: Global, text: &str) -> R<Value> {
-    if let Some(text) = text.strip_prefix('\'') {
-        return Ok(Value::Bytes(Vec::from_slice(alloc, text.as_bytes())?));
-    }
-    match text {
-        "null" => Ok(Value::Null),
-        "true" => Ok(Value::Bool(true)),
-        "false" => Ok(Value::Bool(false)),
-        "x" => Ok(Value::Bytes(Vec::new(alloc))),
-        _ => match text.strip_prefix('x') {
-            Some(digits) => Ok(Value::Bytes(bytes_of(alloc, digits)?)),
-            None => Ok(Value::Int(number(text)?)),
-        },
-    }
-}
 
 /// Appends the value of a text, or the values that a rule stands for: `100*1`, or `0..8`.
 fn push_atoms(alloc: Global, text: &str, values: &mut Vec<Value>) -> R<()> {
@@ -33,7 +15,7 @@ fn push_atoms(alloc: Global, text: &str, values: &mut Vec<Value>) -> R<()> {
     }
     let (times, text) = repeated(text);
     for _ in 0..times {
-        values.push(atom(alloc, text)?)?;
+        values.push(value_of(alloc, text)?)?;
     }
     Ok(())
 }
@@ -190,12 +172,5 @@ pub fn shown_row(alloc: Global, row: &Row) -> R<String> {
     let mut text = String::from_str(alloc, "(")?;
     put_values(alloc, &mut text, row.values.as_slice())?;
     text.push(')')?;
-    Ok(text)
-}
-
-/// The values of the one top-level text.
-pub fn shown_values(alloc: Global, values: &[Value]) -> R<String> {
-    let mut text = String::new(alloc);
-    put_values(alloc, &mut text, values)?;
     Ok(text)
 }
