@@ -1,6 +1,6 @@
 //! Folders in which other programs have left links, pipes and names that are not UTF-8.
 
-use crate::folders::{check_folder, own_folder};
+use crate::host_folders::{check_folder, own_folder};
 use crate::links::is_linked;
 use crate::odd_names::Odd;
 use crate::rows::{Row, check_calls};

@@ -1,7 +1,7 @@
 //! A disk on a file system that is full, and whose syncs fail.
 
 use crate::faulty_files::Faulty;
-use crate::folders::{check_folder, own_folder};
+use crate::host_folders::{check_folder, own_folder};
 use crate::rows::{Row, check_calls};
 use disk::Fault::Failed;
 use disk::{Disk, HostDisk};

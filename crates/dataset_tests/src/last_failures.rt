@@ -1,6 +1,6 @@
 //! What a real folder's disk keeps of a call that was not done, and a file that takes a name while it is read.
 
-use crate::folders::{check_folder, host_disk, own_folder};
+use crate::host_folders::{check_folder, host_disk, own_folder};
 use crate::rows::{Row, check_calls};
 use crate::swapping_files::Swapping;
 use disk::Fault::{Absent, Exists, Failed};

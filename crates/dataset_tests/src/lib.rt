@@ -13,13 +13,13 @@ mod fake;
 #[cfg(test)]
 mod faulty_files;
 #[cfg(test)]
-mod folders;
-#[cfg(test)]
 mod foreign_names;
 #[cfg(test)]
 mod full_disks;
 #[cfg(test)]
 mod groups;
+#[cfg(test)]
+mod host_folders;
 #[cfg(test)]
 mod last_failures;
 #[cfg(test)]

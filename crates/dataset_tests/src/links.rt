@@ -1,6 +1,6 @@
 //! Links and devices where a file or a folder belongs.
 
-use crate::folders::{check_folder, own_folder};
+use crate::host_folders::{check_folder, own_folder};
 use crate::rows::Row;
 use disk::Fault::{Absent, Exists, Failed};
 use disk::path_in;

@@ -1,6 +1,6 @@
 //! The mode and the group of new files and folders.
 
-use crate::folders::{check_folder, own_folder};
+use crate::host_folders::{check_folder, own_folder};
 use crate::rows::{Row, check_calls};
 use disk::{HostDisk, path_in};
 use std::fs::{self, Permissions};

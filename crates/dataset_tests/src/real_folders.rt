@@ -1,6 +1,6 @@
 //! Each call on a real folder, and the calls that it refuses.
 
-use crate::folders::{check_folder, check_own_folder, has_range, host_disk, own_folder};
+use crate::host_folders::{check_folder, check_own_folder, has_range, host_disk, own_folder};
 use crate::rows::{Row, check_calls};
 use disk::Fault::{Absent, Exists, Failed};
 use disk::{Disk, HostDisk, path_in};

@@ -1,6 +1,6 @@
 //! Tables of calls of a disk.
 
-use crate::folders::{has_names, has_range};
+use crate::host_folders::{has_names, has_range};
 use disk::Fault::Failed;
 use disk::{Disk, Fault};
 use std::alloc::Global;

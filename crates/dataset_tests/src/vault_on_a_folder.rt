@@ -1,6 +1,6 @@
 //! A vault over a real folder.
 
-use crate::folders::{host_disk, own_folder};
+use crate::host_folders::{host_disk, own_folder};
 use bits::R;
 use disk::HostDisk;
 use std::fs;

@@ -3,6 +3,7 @@ use Rattle.std.proofs.Common.{◌≡◌, ◌≢◌, ◌<◌, ◌≤◌, ◌+◌,
 use Rattle.std.specs.Prelude.{Result, Ok, Err, OnOk, is_ok}
 use Rattle.std.specs.List.{slice_get}
 use Rattle.std.specs.declared.alloc.Global.{Global}
+use Rattle.std.specs.HashSet.{HashSet}
 use Rattle.std.proofs.lemmas.Bool.{cases_lt, false≢true}
 use Rattle.std.proofs.lemmas.Option.{slice_get-get_or, slice_get_within, same_Some}
 use Rattle.bits.specs.declared.refusal.Refusal.{Refusal}
@@ -22,9 +23,11 @@ use Rattle.partition.proofs.Nested.{map_taken, fewer_can_partition, folders_nest
 use Rattle.manifest.specs.Groups.{Root}
 use Rattle.schema.specs.Keys.{key_columns_view, key_column_view}
 use Rattle.schema.specs.declared.key.KeyColumn.{KeyColumn as CodeKeyColumn}
-use Rattle.recovery.specs.Opening.{IsNamed, IsPartPath, IsLitter, IsClean}
-use Rattle.recovery.specs.inner.Sweeps.{HasNoNewFile, IsSwept, LeavesSwept, IsKeyFolder, path_at, IsPartEntry, IsLitterAt, LeavesFile, LeavesBelow, IsNoneBelow}
-use Rattle.recovery.proofs.Folders.{found_below, found_file, in_is}
+use Rattle.folders.specs.Named.{IsNamed, IsIn, AreNamed}
+use Rattle.folders.specs.Entries.{IsKeyFolder, path_at, IsPartEntry, IsNoneBelow, IsStrayFile}
+use Rattle.recovery.specs.Opening.{IsPartPath, IsLitter, IsClean}
+use Rattle.recovery.specs.inner.Sweeps.{HasNoNewFile, IsSwept, LeavesSwept, IsLitterAt, LeavesFile, LeavesBelow}
+use Rattle.folders.proofs.Ways.{found_below, found_file, in_is}
 use Rattle.recovery.proofs.Sweeping.{no_new_gone, no_new_on, no_new_read}
 
 -- ---- a part file that the root does not name
@@ -40,6 +43,11 @@ part_path root folder entry key part = (
   part.1,
   ap (λ (f : List ℕ). path_in f (string_bytes entry.name)) (sym key.2) ∙ ap (path_in (path root.keys key.0)) part.2 ∙ sym (in_is (path root.keys key.0) (part_name_of part.0)),
 )
+
+-- what is not among the paths that the root names is litter
+pub stray_is_litter : {S : Type 0} (root : Root) (named : HashSet (String Global) S) → AreNamed root named → (folder : List ℕ) (entry : Entry) (stray : String Global)
+    → IsStrayFile (IsIn named) folder entry (string_bytes stray) → IsLitterAt root folder entry stray
+stray_is_litter root named are folder entry stray is = (is.0, is.1, λ by_root. is.2 ((are (path_at folder entry)).1 by_root))
 
 module _ (root : Root) (folder : List ℕ) (entry : Entry) (key : IsKeyFolder root.keys folder) (litter : String Global) (is : IsLitterAt root folder entry litter) where
   pub litter_is_part : IsPartPath root (string_bytes litter)

@@ -17,7 +17,8 @@ use Rattle.manifest.specs.Groups.{Group, Root, root_of}
 use Rattle.manifest.specs.Root.{stored_of, RootMeans}
 use Rattle.manifest.specs.Table.{path_of_group}
 use Rattle.upkeep.specs.Strays.{AreStrays}
-use Rattle.upkeep.specs.Intact.{HoldsRows, IsNamed, IsHeldIn, AreHeld, AreLeftovers, IsIntact}
+use Rattle.folders.specs.Named.{IsNamed}
+use Rattle.upkeep.specs.Intact.{HoldsRows, IsHeldIn, AreHeld, AreLeftovers, IsIntact}
 
 pub strays_are : (image : Image) (ks keys : List KeyColumn) (P Q : List ℕ → Type 0) (paths : List (List ℕ)) → ks ≡ keys → ((q : List ℕ) → P q ↔ Q q) → AreStrays image ks P paths → AreStrays image keys Q paths
 strays_are image ks keys P Q paths same both are = subst (λ (cs : List KeyColumn). AreStrays image cs Q paths) same (λ path. (

@@ -1,10 +1,8 @@
 pub mod Bounding
 pub mod Filling
-pub mod Folders
 pub mod Fronting
 pub mod Holding
 pub mod Keeping
 pub mod Longer
 pub mod Looking
-pub mod Named
 pub mod Walking

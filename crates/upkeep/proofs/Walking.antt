@@ -22,8 +22,9 @@ use Rattle.partition.proofs.Nested.{map_taken, fewer_can_partition, folders_nest
 use Rattle.schema.specs.Keys.{key_columns_view, key_column_view}
 use Rattle.schema.specs.declared.key.KeyColumn.{KeyColumn as CodeKeyColumn}
 use Rattle.upkeep.specs.Strays.{IsPartPath, IsStray, AreStrays}
-use Rattle.upkeep.specs.inner.Walk.{IsKeyFolder, path_at, IsPartEntry, IsStrayFile, IsNoStrayFile, Adds, FindsFile, FindsFiles, IsFound, Finds, FindsBelow, IsNoneBelow}
-use Rattle.upkeep.proofs.Folders.{found_below, found_file, in_is}
+use Rattle.folders.specs.Entries.{IsKeyFolder, path_at, IsPartEntry, IsStrayFile, IsNoStrayFile, IsNoneBelow}
+use Rattle.upkeep.specs.inner.Walk.{Adds, FindsFile, FindsFiles, IsFound, Finds, FindsBelow}
+use Rattle.folders.proofs.Ways.{found_below, found_file, in_is}
 use Rattle.upkeep.proofs.Looking.{ok_map}
 
 -- ---- more paths

@@ -8,15 +8,12 @@ use Rattle.manifest.specs.Groups.{Group, Root}
 use Rattle.manifest.specs.Root.{stored_of}
 use Rattle.manifest.specs.Parts.{HoldsGroup}
 use Rattle.manifest.specs.Table.{path_of_group}
+use Rattle.folders.specs.Named.{IsNamed}
 use Rattle.upkeep.specs.Strays.{IsStray, AreStrays}
 
 -- in a table whose files have these fields, the bytes are a file of the fields that the group's file has; it holds the group
 abbrev pub HoldsRows : Fields → Group → List ℕ → Type 0
 HoldsRows stored g bytes = (rows : List ValueTrees) × HoldsGroup (first_fields g.width stored) g bytes rows
-
--- the root names this path
-abbrev pub IsNamed : Root → List ℕ → Type 0
-IsNamed root path = (g : Group) × Contains root.groups g × (path_of_group root g ≡ path)
 
 -- the file that a group names is there, and holds the group
 abbrev pub IsHeldIn : Image → Root → Group → Type 0

@@ -1,7 +1,5 @@
 -- Part files in the key folders of a table that nothing names.
-use Rattle.std.specs.Prelude.{◌≡◌, ◌<◌, ◌^◌, ◌↔◌, ℕ, List, Contains, IsTrue, String}
-use Rattle.std.specs.HashSet.{HashSet, contains_text}
-use Rattle.std.specs.declared.alloc.Global.{Global}
+use Rattle.std.specs.Prelude.{◌≡◌, ◌<◌, ◌^◌, ◌↔◌, ℕ, List, Contains}
 use Rattle.schema.specs.Values.{ValueTree}
 use Rattle.schema.specs.Keys.{KeyColumn}
 use Rattle.disk.specs.State.{Image}
@@ -22,7 +20,3 @@ pub record IsStray (image : Image) (keys : List KeyColumn) (Named : List ℕ →
 -- the paths are exactly those of the part files that are there and not named
 abbrev pub AreStrays : Image → List KeyColumn → (List ℕ → Type 0) → List (List ℕ) → Type 0
 AreStrays image keys Named paths = (path : List ℕ) → Contains paths path ↔ IsStray image keys Named path
-
--- a set of paths has this path
-abbrev pub IsIn : {S : Type 0} → HashSet (String Global) S → List ℕ → Type 0
-IsIn named q = IsTrue (contains_text named q)

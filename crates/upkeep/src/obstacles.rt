@@ -4,10 +4,10 @@ ghost use Rattle.std.specs.Prelude.{◌≤◌, length};
 ghost use Rattle.bits.specs.Refusals.{RefusedOnly, RefusedMemoryOnly};
 ghost use Rattle.upkeep.specs.Reading.{Looks, IsDevice};
 
-use crate::paths::path_below;
-use crate::walk::{key_folder, listed};
+use crate::walk::listed;
 use bits::R;
 use disk::{Disk, Entry, Kind};
+use folders::{key_folder, path_below};
 use partition::part_number;
 use schema::KeyColumn;
 use std::alloc::Global;

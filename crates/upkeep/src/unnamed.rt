@@ -6,10 +6,10 @@ ghost use Rattle.upkeep.specs.Intact.{AreLeftovers};
 ghost use Rattle.upkeep.specs.Reading.{Looks};
 ghost use Rattle.upkeep.specs.inner.Walk.{paths_of};
 
-use crate::naming::named_paths;
 use crate::walk::strays;
 use bits::{R, Refusal};
 use disk::{Disk, Fault};
+use folders::named_paths;
 use manifest::Manifest;
 use std::alloc::Global;
 use vault::Vault;

@@ -1,19 +1,18 @@
 //! The part files in the key folders of a table that are not among some paths.
 
-ghost use Rattle.std.specs.Prelude.{◌≡◌, ◌+◌, ◌^◌, ◌<◌, ◌≤◌, IfOk, OnOk, MatchOption, [], ◌∷◌, ◌++◌, length, take, string_bytes, map};
+ghost use Rattle.std.specs.Prelude.{◌≡◌, ◌+◌, ◌<◌, ◌≤◌, IfOk, OnOk, [], ◌∷◌, ◌++◌, length, take, string_bytes, map};
 ghost use Rattle.bits.specs.Refusals.{RefusedOnly, RefusedMemoryOnly};
 ghost use Rattle.schema.specs.Keys.{key_columns_view};
-ghost use Rattle.disk.specs.Paths.{path_in};
 ghost use Rattle.disk.specs.Calls.{AreNamesIn};
-ghost use Rattle.partition.specs.Folders.{part_name_of};
 ghost use Rattle.upkeep.specs.Reading.{Looks, IsDevice};
-ghost use Rattle.upkeep.specs.Strays.{AreStrays, IsIn};
-ghost use Rattle.upkeep.specs.inner.Walk.{IsKeyFolder, IsBelow, IsNoneBelow, IsStrayFile, IsNoStrayFile, FindsFile, FindsFiles, FindsBelow, Finds, paths_of};
+ghost use Rattle.folders.specs.Named.{IsIn};
+ghost use Rattle.folders.specs.Entries.{IsKeyFolder};
+ghost use Rattle.upkeep.specs.Strays.{AreStrays};
+ghost use Rattle.upkeep.specs.inner.Walk.{FindsFile, FindsFiles, FindsBelow, Finds, paths_of};
 
-use crate::paths::path_below;
 use bits::{R, Refusal};
-use disk::{Disk, Entry, Kind};
-use partition::{key_of, part_name, part_number};
+use disk::{Disk, Entry};
+use folders::{key_folder, stray_at};
 use schema::KeyColumn;
 use std::alloc::Global;
 use std::collections::HashSet;
@@ -105,28 +104,6 @@ fn find_below<D: Disk>(
     }
 }
 
-/// The path of an entry that is the folder of a key of these columns; None of another one.
-pub(crate) fn key_folder(
-    alloc: Global,
-    columns: &[KeyColumn],
-    folder: &str,
-    entry: &Entry,
-) -> R<Option<String>>
-    ensures stands { let keys = key_columns_view columns.now in
-        IfOk result (λ found. MatchOption found (IsNoneBelow keys folder.now entry.now) (λ below. IsBelow keys folder.now entry.now below)) }
-    ensures which { RefusedMemoryOnly result }
-{
-    if entry.kind != Kind::Folder {
-        return Ok(None);
-    }
-    let path = path_below(alloc, folder, entry.name.as_str())?;
-    match key_of(alloc, columns, path.as_str()) {
-        Ok(_) => Ok(Some(path)),
-        Err(Refusal::Key) => Ok(None),
-        Err(e) => Err(e),
-    }
-}
-
 /// Adds the strays among the entries of a key folder.
 fn find_files(
     alloc: Global,
@@ -172,45 +149,4 @@ fn push_path(found: &mut Vec<String>, path: String) -> R<()>
 {
     found.push(path)?;
     Ok(())
-}
-
-/// The path of an entry of a key folder that is a part file and not among the named ones; None of another one.
-fn stray_at(
-    alloc: Global,
-    named: &HashSet<String>,
-    folder: &str,
-    entry: &Entry,
-) -> R<Option<String>>
-    ensures stands { IfOk result (λ found. MatchOption found (IsNoStrayFile (IsIn named.now) folder.now entry.now)
-        (λ stray. IsStrayFile (IsIn named.now) folder.now entry.now (string_bytes stray))) }
-    ensures which { RefusedMemoryOnly result }
-{
-    match entry.kind {
-        Kind::File => match part_number(alloc, entry.name.as_str())? {
-            Some(number) => unnamed_part(alloc, named, folder, number),
-            None => Ok(None),
-        },
-        Kind::Folder => Ok(None),
-    }
-}
-
-/// The path of the part file with this number in a folder; None where it is among the named ones.
-fn unnamed_part(
-    alloc: Global,
-    named: &HashSet<String>,
-    folder: &str,
-    number: u64,
-) -> R<Option<String>>
-    ensures stands { let path = path_in folder.now (part_name_of number) in
-        IfOk result (λ found. MatchOption found (IsIn named.now path) (λ stray. (string_bytes stray ≡ path) × (IsIn named.now path → ⊥))) }
-    ensures fits { number < 2 ^ 64 }
-    ensures which { RefusedMemoryOnly result }
-{
-    let name = part_name(alloc, number)?;
-    let path = path_below(alloc, folder, name.as_str())?;
-    if named.contains(path.as_str()) {
-        Ok(None)
-    } else {
-        Ok(Some(path))
-    }
 }

@@ -3,7 +3,8 @@ use Rattle.std.proofs.lemmas.Bool.{false≢true}
 use Rattle.std.proofs.lemmas.Option.{MatchOption-at_some, MatchOption-at_none}
 use Rattle.schema.specs.Keys.{key_columns_view, KeyColumn}
 use Rattle.manifest.specs.Groups.{root_of}
-use Rattle.recovery.specs.inner.Sweeps.{IsSwept, LeavesSwept, IsNoneBelow, IsBelow}
+use Rattle.folders.specs.Entries.{IsNoneBelow, IsBelow}
+use Rattle.recovery.specs.inner.Sweeps.{IsSwept, LeavesSwept}
 use Rattle.recovery.proofs.Sweeping.{read_step, steps_on}
 use Rattle.recovery.proofs.Walking.{swept_after, listed_after, count_columns, columns_front, none_swept, below_swept, below_lasts, more_so_far, IsBelowSwept}
 use Rattle.recovery.proofs.walk.+sweep.Goals as goal

@@ -1,8 +1,9 @@
 use Rattle.std.proofs.Common.{List, ℕ}
 use Rattle.schema.specs.Keys.{key_columns_view}
 use Rattle.manifest.specs.Groups.{root_of}
-use Rattle.upkeep.specs.Strays.{AreStrays, IsIn}
-use Rattle.upkeep.specs.Intact.{IsNamed, AreLeftovers}
+use Rattle.folders.specs.Named.{IsNamed, IsIn}
+use Rattle.upkeep.specs.Strays.{AreStrays}
+use Rattle.upkeep.specs.Intact.{AreLeftovers}
 use Rattle.upkeep.specs.inner.Walk.{paths_of}
 use Rattle.upkeep.proofs.Looking.{looks_here, if_ok_map}
 use Rattle.upkeep.proofs.Keeping.{strays_are}

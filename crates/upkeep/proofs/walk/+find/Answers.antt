@@ -1,8 +1,9 @@
 use Rattle.std.proofs.Common.{◌≡◌, ◌<◌, ◌+◌, List, ℕ, length, take, string_bytes, refl, sym, ◌∙◌, ap, subst, arith}
 use Rattle.std.proofs.lemmas.Option.{MatchOption-at_some, MatchOption-at_none}
 use Rattle.schema.specs.Keys.{key_columns_view, KeyColumn, key_column_view}
-use Rattle.upkeep.specs.Strays.{IsIn}
-use Rattle.upkeep.specs.inner.Walk.{Finds, FindsFiles, FindsBelow, IsNoneBelow, IsBelow, IsKeyFolder, paths_of}
+use Rattle.folders.specs.Named.{IsIn}
+use Rattle.folders.specs.Entries.{IsNoneBelow, IsBelow, IsKeyFolder}
+use Rattle.upkeep.specs.inner.Walk.{Finds, FindsFiles, FindsBelow, paths_of}
 use Rattle.upkeep.proofs.Looking.{looks_here, looks_then, ok_map}
 use Rattle.upkeep.proofs.Walking.{names_in, files_are, finds_before, below_before, nothing_so_far, more_so_far, below_are, none_below, folder_below, count_map, columns_front}
 use Rattle.upkeep.proofs.walk.+find.Goals as goal

@@ -1,7 +1,7 @@
 use Rattle.std.proofs.Common.{◌+◌, ◌-◌, ◌*◌, length}
 use Rattle.schema.specs.Keys.{key_columns_view}
 use Rattle.upkeep.specs.Reading.{Looks}
-use Rattle.upkeep.specs.Strays.{IsIn}
+use Rattle.folders.specs.Named.{IsIn}
 use Rattle.upkeep.specs.inner.Walk.{paths_of}
 use Rattle.upkeep.proofs.Walking.{SoFar}
 use Rattle.upkeep.proofs.walk.+find.Given as goal

@@ -1,5 +1,5 @@
 use Rattle.std.proofs.Common.{arith}
-use Rattle.upkeep.specs.Strays.{IsIn}
+use Rattle.folders.specs.Named.{IsIn}
 use Rattle.upkeep.specs.inner.Walk.{paths_of}
 use Rattle.upkeep.proofs.Walking.{no_files, more_files, all_files}
 use Rattle.upkeep.proofs.walk.find_files.Goals as goal

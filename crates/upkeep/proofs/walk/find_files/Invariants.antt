@@ -1,4 +1,4 @@
-use Rattle.upkeep.specs.Strays.{IsIn}
+use Rattle.folders.specs.Named.{IsIn}
 use Rattle.upkeep.specs.inner.Walk.{paths_of}
 use Rattle.upkeep.proofs.Walking.{FilesSoFar}
 use Rattle.upkeep.proofs.walk.find_files.Given as goal

@@ -1,6 +1,6 @@
 use Rattle.std.proofs.Common.{List, ℕ, [], map, string_bytes, ap, subst}
 use Rattle.schema.specs.Keys.{key_columns_view}
-use Rattle.upkeep.specs.Strays.{IsIn}
+use Rattle.folders.specs.Named.{IsIn}
 use Rattle.upkeep.specs.inner.Walk.{Finds, paths_of}
 use Rattle.upkeep.proofs.Walking.{all_strays}
 use Rattle.upkeep.proofs.walk.strays.Goals as goal

@@ -1,8 +1,8 @@
 use Rattle.std.proofs.Common.{◌≡◌, ◌||◌, ℕ, List, drop}
 use Rattle.std.specs.HashSet.{contains_text}
 use Rattle.manifest.specs.Groups.{root_of, handles_view}
-use Rattle.upkeep.specs.inner.Names.{has_path}
-use Rattle.upkeep.proofs.naming.add_paths.Given as goal
+use Rattle.folders.specs.inner.Names.{has_path}
+use Rattle.folders.proofs.naming.add_paths.Given as goal
 
 -- a path is in the set or a remaining group's exactly when it was in it or is some group's
 abbrev pub invariant-loop-group : goal.invariant-loop-group

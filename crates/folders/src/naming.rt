@@ -6,8 +6,9 @@ ghost use Rattle.std.specs.Str.{bytes_eq};
 ghost use Rattle.bits.specs.Refusals.{RefusedOnly};
 ghost use Rattle.manifest.specs.Groups.{root_of, group_view, handles_view};
 ghost use Rattle.manifest.specs.Table.{path_of_group};
-ghost use Rattle.upkeep.specs.Reading.{IsKey};
-ghost use Rattle.upkeep.specs.inner.Names.{AreNamed, has_path};
+ghost use Rattle.bits.specs.declared.refusal.Refusal.TheVariants.{Key};
+ghost use Rattle.folders.specs.Named.{AreNamed};
+ghost use Rattle.folders.specs.inner.Names.{has_path};
 
 use bits::R;
 use manifest::{Group, Manifest};
@@ -18,9 +19,9 @@ use std::rc::Rc;
 
 /// The paths of all part files that a root names. Time and room are linear in the groups. Refused Key where a group's key
 /// cannot partition, which no root says, and Memory.
-pub(crate) fn named_paths(alloc: Global, manifest: &Manifest) -> R<HashSet<String>>
+pub fn named_paths(alloc: Global, manifest: &Manifest) -> R<HashSet<String>>
     ensures named { IfOk result (λ named. AreNamed (root_of manifest.now) named) }
-    ensures which { RefusedOnly IsKey result }
+    ensures which { RefusedOnly (λ e. e ≡ Key) result }
 {
     let mut named = HashSet::new(alloc);
     for block in manifest.groups().blocks() {
@@ -38,7 +39,7 @@ fn add_paths(
 ) -> R<()>
     ensures adds { OnOk result ((q : List ℕ)
         → contains_text named.new q ≡ (contains_text named.old q || has_path (root_of manifest.now) q (handles_view groups.now))) }
-    ensures which { RefusedOnly IsKey result }
+    ensures which { RefusedOnly (λ e. e ≡ Key) result }
 {
     for group in groups {
         add_path(alloc, manifest, named, group)?;
@@ -50,7 +51,7 @@ fn add_paths(
 fn add_path(alloc: Global, manifest: &Manifest, named: &mut HashSet<String>, group: &Group) -> R<()>
     ensures adds { OnOk result ((q : List ℕ)
         → contains_text named.new q ≡ (bytes_eq (path_of_group (root_of manifest.now) (group_view group.now)) q || contains_text named.old q)) }
-    ensures which { RefusedOnly IsKey result }
+    ensures which { RefusedOnly (λ e. e ≡ Key) result }
 {
     let path = part_of_group(alloc, manifest, group)?;
     named.insert(path)?;
@@ -58,9 +59,9 @@ fn add_path(alloc: Global, manifest: &Manifest, named: &mut HashSet<String>, gro
 }
 
 /// The path of a group's part file. Refused Key where its key cannot partition, which no root says, and Memory.
-pub(crate) fn part_of_group(alloc: Global, manifest: &Manifest, group: &Group) -> R<String>
+pub fn part_of_group(alloc: Global, manifest: &Manifest, group: &Group) -> R<String>
     ensures stands { IfOk result (λ path. string_bytes path ≡ path_of_group (root_of manifest.now) (group_view group.now)) }
-    ensures which { RefusedOnly IsKey result }
+    ensures which { RefusedOnly (λ e. e ≡ Key) result }
 {
     part_path(alloc, manifest.keys(), &group.key, group.number)
 }

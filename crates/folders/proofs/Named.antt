@@ -12,7 +12,8 @@ use Rattle.manifest.specs.declared.group.Group.{Group as CodeGroup}
 use Rattle.manifest.specs.declared.block.Block.{Block}
 use Rattle.manifest.specs.Groups.{Group, Root, group_view, handles_view, groups_of_blocks}
 use Rattle.manifest.specs.Table.{path_of_group}
-use Rattle.upkeep.specs.inner.Names.{AreNamed, has_path}
+use Rattle.folders.specs.Named.{AreNamed}
+use Rattle.folders.specs.inner.Names.{has_path}
 
 -- ---- one of the groups
 
