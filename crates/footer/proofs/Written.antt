@@ -87,6 +87,17 @@ none_given fs o range = record {
   in_range = range;
 }
 
+-- these wait, and none are written
+pub all_wait : (fs : Fields) (o : WriteOptions) (rows : List ValueTrees) → (IsOutOfRange o → ⊥) → length rows ≤ o.group_rows → AreGiven fs o magic [] rows 0 rows
+all_wait fs o rows range few = record {
+  full = [];
+  joined = refl;
+  begun = λ later. none_written fs o later;
+  few = few;
+  counted = refl;
+  in_range = range;
+}
+
 -- one more waits
 pub one_given : (fs : Fields) (o : WriteOptions) (out : List ℕ) (metas : List GroupMeta) (waiting : List ValueTrees) (written : ℕ) (rows : List ValueTrees) (row : ValueTrees) → length waiting < o.group_rows
     → AreGiven fs o out metas waiting written rows → AreGiven fs o out metas (waiting ++ row ∷ []) written (rows ++ row ∷ [])

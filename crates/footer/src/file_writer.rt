@@ -6,7 +6,7 @@ ghost use Rattle.schema.specs.Fits.{fits_each};
 ghost use Rattle.schema.specs.Shape.{Fields};
 ghost use Rattle.schema.specs.Values.{ValueTrees};
 ghost use Rattle.schema.specs.Views.{row_view};
-ghost use Rattle.shred.specs.Buffer.{holds};
+ghost use Rattle.shred.specs.Buffer.{holds, schema_of as rows_schema};
 ghost use Rattle.row_group.specs.Writing.{IsOfRows};
 ghost use Rattle.footer.specs.Faults.{IsOverLimit};
 ghost use Rattle.footer.specs.File.{FileMeans};
@@ -74,6 +74,28 @@ impl<'a> FileWriter<'a> {
             groups: Vec::new(alloc),
             written: 0,
             waiting: RowBuffer::new(alloc, schema)?,
+        })
+    }
+
+    /// A writer of a file of the rows of a buffer, which become its first group. Refused Limit for options out of range, as
+    /// [`new`](FileWriter::new) is, and for more rows than a group has.
+    pub fn of_rows(alloc: Global, rows: RowBuffer<'a>, options: &WriteOptions) -> R<FileWriter<'a>>
+        ensures begins { IfOk result (λ writer. (held : List ValueTrees) → holds rows.entry held → has_rows writer held) }
+        ensures of { IfOk result (λ writer. (schema_of writer ≡ rows_schema rows.entry) × (options_of writer ≡ options.now)) }
+        ensures limit { result ≡ Err Refusal.Limit → IsOutOfRange options.now
+            ⊎ ((held : List ValueTrees) → holds rows.entry held → options.now.group_rows < length held) }
+        ensures which { RefusedOnly (λ e. e ≡ Refusal.Limit) result }
+    {
+        if is_out_of_range(options) || rows.len() > options.group_rows as usize {
+            return Err(Refusal::Limit);
+        }
+        Ok(FileWriter {
+            alloc,
+            options: *options,
+            bytes: Vec::from_slice(alloc, MAGIC)?,
+            groups: Vec::new(alloc),
+            written: 0,
+            waiting: rows,
         })
     }
 
