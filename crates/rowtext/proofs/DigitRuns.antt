@@ -7,7 +7,7 @@ use Rattle.std.proofs.lemmas.Bool.{and_parts, cases_lt, eqb-true}
 use Rattle.std.proofs.lemmas.Bool.Decides.{nat_tests}
 use Rattle.std.proofs.lemmas.List.Elements.{All-head, All-tail}
 use Rattle.hex.specs.Hex.{encode_with, encode_lower, lower_digits}
-use Rattle.rowtext.proofs.ShownRows.{both}
+use Rattle.rowtext.proofs.Both.{both}
 use Rattle.serde_json.specs.Data as json
 use Rattle.schema.specs.declared.value.Kind.{Kind}
 use Rattle.schema.specs.Annotations.{LeafType, is_text}

@@ -1,28 +1,31 @@
--- The values of an object's fields, while its members are read.
-use Rattle.std.proofs.Common.{◌≡◌, ◌≢◌, ℕ, zero, suc, ◌<◌, List, [], ◌∷◌, ◌++◌, length, get_or, Bool, true, false, true≢false, ◌&&◌, Option, Some, None, Ordering, Less, Equal, Greater, nat_cmp, refl, sym, ap, ap₂, subst, ◌∙◌, arith}
-use Rattle.std.specs.Prelude.{slice_set}
+-- The members of an object that were read so far, while its members are read.
+use Rattle.std.proofs.Common.{◌≡◌, ℕ, zero, suc, ◌+◌, ◌-◌, ◌<◌, ◌≤◌, List, [], ◌∷◌, ◌++◌, length, take, drop, get_or, Bool, true, true≢false, Option, Some, None, Ordering, Less, Equal, Greater, nat_cmp, refl, sym, ap, ap₂, subst, ◌∙◌, arith}
+use Rattle.std.specs.Prelude.{slice_range, slice_set, replicate}
 use Rattle.std.specs.List.{AllByRecursion}
 use Rattle.std.specs.Cmp.Lexicographic.{slice_cmp}
 use Rattle.std.specs.Ordering.{match_ordering}
+use Rattle.std.proofs.Math.Seq.{drop-append_seam, take-add}
 use Rattle.std.proofs.lemmas.Cmp.{nat_list_cmp_total, tied_itself}
+use Rattle.std.proofs.lemmas.List.{length-append, take-append-le, drop-append-le, take_all, length-drop, drop-drop}
 use Rattle.std.proofs.lemmas.Map.Lookups.{exact_bytes}
 use Rattle.serde_json.specs.Data.{Data, Members, no_members, member, put}
 use Rattle.serde_json.specs.Find.{get_member}
 use Rattle.serde_json.proofs.Views.{get_member-put, get_member-put_other}
 use Rattle.schema.specs.declared.value.Repetition.{Repetition}
 use Rattle.schema.specs.declared.value.Repetition.TheVariants.{Required, Optional, Repeated}
-use Rattle.schema.specs.declared.value.Value.{Value as CodeValue}
 use Rattle.schema.specs.declared.field.Field.{Field as CodeField}
 use Rattle.schema.specs.Law.{names, AllDiffer, IsValid, AreValid}
-use Rattle.schema.specs.Values.{ValueTree, ValueTrees, no_values, value, view, views}
+use Rattle.schema.specs.Values.{ValueTree, null, list, ValueTrees, no_values, value}
 use Rattle.schema.specs.Shape.{Field, leaf, fields, Fields, no_fields, field, name_of, repetition_of}
 use Rattle.schema.specs.Views.{field_view, field_views}
+use Rattle.assemble.specs.Sinks.{Token, tokens, tokens_each}
 use Rattle.rowtext.specs.Reading.{value_before, read_as, without, field_read_as, members_read_as}
-use Rattle.rowtext.specs.inner.Fill.{IsCalled, absent_as, absent_each, is_filled_as, are_filled, IsValueOf, AreValuesOf}
+use Rattle.rowtext.specs.declared.spans.Span.{Span}
+use Rattle.rowtext.specs.inner.Fill.{IsCalled}
+use Rattle.rowtext.specs.inner.Spans.{absent_tokens, may_lack, is_there, are_there, AreJoined, read_at}
 use Rattle.rowtext.proofs.Both.{and_true}
 use Rattle.rowtext.proofs.JsonTexts.{IsBefore, AreInOrder}
 use Rattle.rowtext.proofs.RowJson.{before_further}
-use Rattle.rowtext.proofs.Joined.{joined, joined-none, joined-push}
 
 -- ---- members of other names
 
@@ -97,15 +100,10 @@ without-put_other q k d (member l e ms) other h = without-put_other_at (slice_cm
 
 -- ---- fields by their index
 
-pub called_within : (fs : List CodeField) (i : ℕ) (k : List ℕ) → IsCalled (field_views fs) i k → i < length fs
-called_within [] i k h = absurd h
-called_within (f ∷ fs) zero k h = omega arith
-called_within (f ∷ fs) (suc i) k h = let less = called_within fs i k h in omega (arith, less)
-
-pub valid_at : (fs : List CodeField) (i : ℕ) (k : List ℕ) (f : CodeField) → IsCalled (field_views fs) i k → f ≡ get_or fs i f → AreValid (field_views fs) → IsValid (field_view f)
-valid_at [] i k f h is valid = absurd h
-valid_at (g ∷ fs) zero k f h is valid = subst (λ x. IsValid (field_view x)) (sym is) valid.0
-valid_at (g ∷ fs) (suc i) k f h is valid = valid_at fs i k f h is valid.1
+pub valid_there : (fs : List CodeField) (i : ℕ) (f : CodeField) → i < length fs → f ≡ get_or fs i f → AreValid (field_views fs) → IsValid (field_view f)
+valid_there [] i f less is valid = absurd (omega (arith, less))
+valid_there (g ∷ fs) zero f less is valid = subst (λ x. IsValid (field_view x)) (sym is) valid.0
+valid_there (g ∷ fs) (suc i) f less is valid = valid_there fs i f (omega (arith, less)) is valid.1
 
 -- the field of an index, and its name
 pub called_there : (fs : List CodeField) (i : ℕ) (f : CodeField) → i < length fs → f ≡ get_or fs i f → IsCalled (field_views fs) i (name_of (field_view f))
@@ -113,84 +111,139 @@ called_there [] i f less is = absurd (omega (arith, less))
 called_there (g ∷ fs) zero f less is = ap (λ x. name_of (field_view x)) (sym is)
 called_there (g ∷ fs) (suc i) f less is = called_there fs i f (omega (arith, less)) is
 
-apart : (fs : List CodeField) (i : ℕ) (k n : List ℕ) → IsCalled (field_views fs) i k → AllByRecursion (λ m. n ≡ m → ⊥) (names (field_views fs)) → n ≡ k → ⊥
-apart [] i k n h differ same = h
-apart (g ∷ fs) zero k n h differ same = differ.0 (same ∙ sym h)
-apart (g ∷ fs) (suc i) k n h differ same = apart fs i k n h differ.1 same
+apart : (fs : Fields) (i : ℕ) (k n : List ℕ) → IsCalled fs i k → AllByRecursion (λ m. n ≡ m → ⊥) (names fs) → n ≡ k → ⊥
+apart no_fields i k n h differ same = h
+apart (field f fs) zero k n h differ same = differ.0 (same ∙ sym h)
+apart (field f fs) (suc i) k n h differ same = apart fs i k n h differ.1 same
+
+-- ---- parts of lists
+
+part_kept : (ks bs : List Token) (m n : ℕ) → m ≤ n → n ≤ length ks → slice_range (ks ++ bs) m n ≡ slice_range ks m n
+part_kept ks bs m n le room =
+    let long : n - m ≤ length (drop m ks) = let e = length-drop m ks in omega (arith, e, le, room) in
+    ap (take (n - m)) (drop-append-le m ks bs (omega (arith, le, room))) ∙ take-append-le (n - m) (drop m ks) bs long
+
+pub part_last : (ks bs : List Token) → slice_range (ks ++ bs) (length ks) (length (ks ++ bs)) ≡ bs
+part_last ks bs =
+    let long : length bs ≤ length (ks ++ bs) - length ks = let e = length-append ks bs in omega (arith, e) in
+    ap (take (length (ks ++ bs) - length ks)) (drop-append_seam ks bs) ∙ take_all (length (ks ++ bs) - length ks) bs long
+
+parts_meet : (xs : List Token) (m n p : ℕ) → m ≤ n → n ≤ p → slice_range xs m n ++ slice_range xs n p ≡ slice_range xs m p
+parts_meet xs m n p le more =
+    let split : m + (n - m) ≡ n = omega (arith, le) in
+    let whole : (n - m) + (p - n) ≡ p - m = omega (arith, le, more) in
+    let later : drop n xs ≡ drop (n - m) (drop m xs) = sym (drop-drop (n - m) m xs ∙ ap (λ k. drop k xs) split) in
+    ap (λ ys. take (n - m) (drop m xs) ++ take (p - n) ys) later ∙ sym (take-add (n - m) (p - n) (drop m xs)) ∙ ap (λ k. take k (drop m xs)) whole
+
+no_part : (xs : List Token) (m n : ℕ) → m ≡ n → slice_range xs m n ≡ []
+no_part xs m n is = let none : n - m ≡ 0 = omega (arith, is) in ap (λ k. take k (drop m xs)) none
+
+-- what a sink is shown of members, by where their tokens are
+abbrev part_in : Field → List Token → Option Span → List Token
+part_in f ts None = absent_tokens (repetition_of f)
+part_in f ts (Some s) = slice_range ts s.from s.to
+
+abbrev pub parts_in : Fields → List Token → List (Option Span) → List Token
+parts_in (field f fs) ts (s ∷ ss) = part_in f ts s ++ parts_in fs ts ss
+parts_in _ ts _ = []
+
+-- ---- what is known so far
 
 module _ (texts : Bool) where
-  -- ---- values
+  -- the member is read as a value, whose tokens are those of its span
+  abbrev Holds : Field → Option Data → Option Span → List Token → Type 0
+  Holds f None None ts = Unit {0}
+  Holds f (Some d) (Some s) ts = (v : ValueTree) × (field_read_as texts f (Some d) ≡ Some v) × (slice_range ts s.from s.to ≡ tokens v) × (s.from ≤ s.to) × (s.to ≤ length ts)
+  Holds f None (Some s) ts = ⊥
+  Holds f (Some d) None ts = ⊥
 
-  pub value_within : (fs : List CodeField) (vs : List CodeValue) (ms : Members) (i : ℕ) (k : List ℕ) → IsCalled (field_views fs) i k → AreValuesOf texts (field_views fs) ms (views vs) → i < length vs
-  value_within [] vs ms i k called h = absurd called
-  value_within (f ∷ fs) [] ms i k called h = absurd h
-  value_within (f ∷ fs) (v ∷ vs) ms zero k called h = omega arith
-  value_within (f ∷ fs) (v ∷ vs) ms (suc i) k called h = let less = value_within fs vs (without (name_of (field_view f)) ms) i k called h.1 in omega (arith, less)
+  -- each member is of a field
+  abbrev pub HoldEach : Fields → Members → List (Option Span) → List Token → Type 0
+  HoldEach no_fields ms [] ts = ms ≡ no_members
+  HoldEach (field f fs) ms (s ∷ ss) ts = Holds f (get_member (name_of f) ms) s ts × HoldEach fs (without (name_of f) ms) ss ts
+  HoldEach _ ms _ ts = ⊥
 
-  -- a member was read
-  pub values_put : (fs : List CodeField) (vs : List CodeValue) (ms : Members) (i : ℕ) (k : List ℕ) (d : Data) (f : CodeField) (v : CodeValue) → IsCalled (field_views fs) i k → f ≡ get_or fs i f → AllDiffer (names (field_views fs)) → AreInOrder ms
-      → field_read_as texts (field_view f) (Some d) ≡ Some (view v) → AreValuesOf texts (field_views fs) ms (views vs) → AreValuesOf texts (field_views fs) (put k d ms) (views (slice_set vs i v))
-  values_put [] vs ms i k d f v called is differ order here h = absurd called
-  values_put (g ∷ fs) [] ms i k d f v called is differ order here h = absurd h
-  values_put (g ∷ fs) (w ∷ vs) ms zero k d f v called is differ order here h =
-      let n = name_of (field_view g) in
-      let found : get_member n (put k d ms) ≡ Some d = ap (λ x. get_member x (put k d ms)) called ∙ get_member-put k d ms in
-      let rest : without n (put k d ms) ≡ without n ms = ap (λ x. without x (put k d ms)) called ∙ without-put_same k d ms order ∙ ap (λ x. without x ms) (sym called) in
-      let read : field_read_as texts (field_view g) (Some d) ≡ Some (view v) = ap (λ x. field_read_as texts (field_view x) (Some d)) (sym is) ∙ here in (
-        subst (λ o. IsValueOf texts (field_view g) o (view v)) (sym found) read,
-        subst (λ others. AreValuesOf texts (field_views fs) others (views vs)) (sym rest) h.1,
-      )
-  values_put (g ∷ fs) (w ∷ vs) ms (suc i) k d f v called is differ order here h =
-      let n = name_of (field_view g) in
-      let other : n ≡ k → ⊥ = apart fs i k n called differ.0 in (
-        subst (λ o. IsValueOf texts (field_view g) o (view w)) (sym (get_member-put_other n k d ms other)) h.0,
-        subst (λ others. AreValuesOf texts (field_views fs) others (views (slice_set vs i v))) (sym (without-put_other n k d ms other order)) (values_put fs vs (without n ms) i k d f v called is differ.1 (order_without n ms order) here h.1),
-      )
+  holds_more : (f : Field) (o : Option Data) (s : Option Span) (ts us : List Token) → Holds f o s ts → Holds f o s (ts ++ us)
+  holds_more f None None ts us h = tt
+  holds_more f None (Some s) ts us h = absurd h
+  holds_more f (Some d) None ts us h = absurd h
+  holds_more f (Some d) (Some s) ts us h =
+      let n = length-append ts us in
+      (h.0, h.1, part_kept ts us s.from s.to h.3 h.4 ∙ h.2, h.3, omega (arith, n, h.4))
+
+  hold_more : (fs : Fields) (ms : Members) (ss : List (Option Span)) (ts us : List Token) → HoldEach fs ms ss ts → HoldEach fs ms ss (ts ++ us)
+  hold_more no_fields ms [] ts us h = h
+  hold_more no_fields ms (s ∷ ss) ts us h = absurd h
+  hold_more (field f fs) ms [] ts us h = absurd h
+  hold_more (field f fs) ms (s ∷ ss) ts us h = (holds_more f (get_member (name_of f) ms) s ts us h.0, hold_more fs (without (name_of f) ms) ss ts us h.1)
 
   -- no member was read
-  pub values_absent : (fs : Fields) → AreValuesOf texts fs no_members (absent_each fs)
-  values_absent no_fields = refl
-  values_absent (field f fs) = (refl, values_absent fs)
+  pub hold_none : (fs : List CodeField) (ts : List Token) → HoldEach (field_views fs) no_members (replicate (length fs) None) ts
+  hold_none [] ts = refl
+  hold_none (f ∷ fs) ts = (tt, hold_none fs ts)
 
-absent_read : (r : Repetition) (inside : Data → Option ValueTree) (v : ValueTree) → is_filled_as r v ≡ true → v ≡ absent_as r → read_as r inside None ≡ Some v
-absent_read Required inside v filled is = absurd (true≢false (sym filled ∙ ap (is_filled_as Required) is))
-absent_read Optional inside v filled is = ap Some (sym is)
-absent_read Repeated inside v filled is = ap Some (sym is)
+  -- one more was read
+  module _ (v : ValueTree) (ts : List Token) (s : Span) (from : s.from ≡ length ts) (to : s.to ≡ length (ts ++ tokens v)) where
+    pub hold_put : (fs : Fields) (ms : Members) (ss : List (Option Span)) (i : ℕ) (k : List ℕ) (d : Data) → IsCalled fs i k → AllDiffer (names fs) → AreInOrder ms → read_at texts fs i d ≡ Some v
+        → HoldEach fs ms ss ts → HoldEach fs (put k d ms) (slice_set ss i (Some s)) (ts ++ tokens v)
+    hold_put no_fields ms ss i k d called differ order read h = absurd called
+    hold_put (field f fs) ms [] i k d called differ order read h = absurd h
+    hold_put (field f fs) ms (r ∷ ss) zero k d called differ order read h =
+        let n = name_of f in
+        let found : get_member n (put k d ms) ≡ Some d = ap (λ x. get_member x (put k d ms)) called ∙ get_member-put k d ms in
+        let rest : without n (put k d ms) ≡ without n ms = ap (λ x. without x (put k d ms)) called ∙ without-put_same k d ms order ∙ ap (λ x. without x ms) (sym called) in
+        let long = length-append ts (tokens v) in
+        let here : Holds f (Some d) (Some s) (ts ++ tokens v) = (v, read, ap₂ (slice_range (ts ++ tokens v)) from to ∙ part_last ts (tokens v), omega (arith, long, from, to), omega (arith, to)) in (
+          subst (λ o. Holds f o (Some s) (ts ++ tokens v)) (sym found) here,
+          subst (λ others. HoldEach fs others ss (ts ++ tokens v)) (sym rest) (hold_more fs (without n ms) ss ts (tokens v) h.1),
+        )
+    hold_put (field f fs) ms (r ∷ ss) (suc i) k d called differ order read h =
+        let n = name_of f in
+        let other : n ≡ k → ⊥ = apart fs i k n called differ.0 in (
+          subst (λ o. Holds f o r (ts ++ tokens v)) (sym (get_member-put_other n k d ms other)) (holds_more f (get_member n ms) r ts (tokens v) h.0),
+          subst (λ others. HoldEach fs others (slice_set ss i (Some s)) (ts ++ tokens v)) (sym (without-put_other n k d ms other order)) (hold_put fs (without n ms) ss i k d called differ.1 (order_without n ms order) read h.1),
+        )
 
-module _ (texts : Bool) where
-  member_is : (f : Field) (o : Option Data) (v : ValueTree) → is_filled_as (repetition_of f) v ≡ true → IsValueOf texts f o v → field_read_as texts f o ≡ Some v
-  member_is (leaf n r t) None v filled is = absent_read r _ v filled is
-  member_is (fields n r a fs) None v filled is = absent_read r _ v filled is
-  member_is f (Some d) v filled is = is
+  -- ---- all were read
 
-  -- all members were read
-  pub values_filled : (fs : Fields) (ms : Members) (vs : ValueTrees) → are_filled fs vs ≡ true → AreValuesOf texts fs ms vs → members_read_as texts fs ms ≡ Some vs
-  values_filled no_fields ms no_values filled h = rw h refl
-  values_filled no_fields ms (value v vs) filled h = absurd h
-  values_filled (field f fs) ms no_values filled h = absurd h
-  values_filled (field f fs) ms (value v vs) filled h =
-      let b = and_true (is_filled_as (repetition_of f) v) (are_filled fs vs) filled in
-      ap₂ value_before (member_is f (get_member (name_of f) ms) v b.0 h.0) (values_filled fs (without (name_of f) ms) vs b.1 h.1)
+  absent_one : (r : Repetition) (inside : Data → Option ValueTree) → may_lack r ≡ true → (v : ValueTree) × (read_as r inside None ≡ Some v) × (absent_tokens r ≡ tokens v)
+  absent_one Required inside h = absurd (true≢false (sym h))
+  absent_one Optional inside h = (null, refl, refl)
+  absent_one Repeated inside h = (list no_values, refl, refl)
 
--- ---- the loops
+  hold_one : (f : Field) (o : Option Data) (s : Option Span) (ts : List Token) → is_there f s ≡ true → Holds f o s ts → (v : ValueTree) × (field_read_as texts f o ≡ Some v) × (part_in f ts s ≡ tokens v)
+  hold_one (leaf n r t) None None ts there h = absent_one r _ there
+  hold_one (fields n r a fs) None None ts there h = absent_one r _ there
+  hold_one f None (Some s) ts there h = absurd h
+  hold_one f (Some d) None ts there h = absurd h
+  hold_one f (Some d) (Some s) ts there h = (h.0, h.1, h.2)
 
--- one more field has no member
-pub absent_more : (vs new : List CodeValue) (v : CodeValue) (f : CodeField) (all rest : List CodeField) (w : ValueTrees) → all ≡ f ∷ rest → view v ≡ absent_as (repetition_of (field_view f)) → new ≡ vs ++ v ∷ []
-    → joined (views vs) (absent_each (field_views all)) ≡ w → joined (views new) (absent_each (field_views rest)) ≡ w
-absent_more vs new v f all rest w split is grown so =
-    let r = absent_each (field_views rest) in
-    ap (λ xs. joined (views xs) r) grown ∙ sym (joined-push vs v r) ∙ ap (λ x. joined (views vs) (value x r)) is ∙ ap (λ fs. joined (views vs) (absent_each (field_views fs))) (sym split) ∙ so
+  pub hold_end : (fs : Fields) (ms : Members) (ss : List (Option Span)) (ts : List Token) → are_there fs ss ≡ true → HoldEach fs ms ss ts → (vs : ValueTrees) × (members_read_as texts fs ms ≡ Some vs) × (parts_in fs ts ss ≡ tokens_each vs)
+  hold_end no_fields ms [] ts there h = (no_values, rw h refl, refl)
+  hold_end no_fields ms (s ∷ ss) ts there h = absurd h
+  hold_end (field f fs) ms [] ts there h = absurd h
+  hold_end (field f fs) ms (s ∷ ss) ts there h =
+      let b = and_true (is_there f s) (are_there fs ss) there in
+      let one = hold_one f (get_member (name_of f) ms) s ts b.0 h.0 in
+      let rest = hold_end fs (without (name_of f) ms) ss ts b.1 h.1 in
+      (value one.0 rest.0, ap₂ value_before one.1 rest.1, ap₂ (λ (x y : List Token). x ++ y) one.2 rest.2)
 
-pub absent_all : (vs : List CodeValue) (left : List CodeField) (w : ValueTrees) → left ≡ [] → joined (views vs) (absent_each (field_views left)) ≡ w → views vs ≡ w
-absent_all vs left w none so = sym (joined-none (views vs)) ∙ ap (λ fs. joined (views vs) (absent_each (field_views fs))) (sym none) ∙ so
+  span_within : (f : Field) (o : Option Data) (s : Span) (ts : List Token) → Holds f o (Some s) ts → (s.from ≤ s.to) × (s.to ≤ length ts)
+  span_within f None s ts h = absurd h
+  span_within f (Some d) s ts h = (h.3, h.4)
 
-and_no : (b : Bool) → (b && false) ≡ false
-and_no true = refl
-and_no false = refl
+  -- one after another in the order of the fields
+  pub hold_joined : (fs : Fields) (ms : Members) (ss : List (Option Span)) (ts : List Token) (from to : ℕ) → AreJoined from ss to → HoldEach fs ms ss ts → (are_there fs ss ≡ true) × (parts_in fs ts ss ≡ slice_range ts from to) × (from ≤ to)
+  hold_joined no_fields ms [] ts from to joins h = (refl, sym (no_part ts from to joins), omega (arith, joins))
+  hold_joined no_fields ms (s ∷ ss) ts from to joins h = absurd h
+  hold_joined (field f fs) ms [] ts from to joins h = absurd h
+  hold_joined (field f fs) ms (None ∷ ss) ts from to joins h = absurd joins
+  hold_joined (field f fs) ms (Some s ∷ ss) ts from to joins h =
+      let rest = hold_joined fs (without (name_of f) ms) ss ts s.to to joins.1 h.1 in
+      let within = span_within f (get_member (name_of f) ms) s ts h.0 in
+      (rest.0, ap (λ x. slice_range ts s.from s.to ++ x) rest.1 ∙ parts_meet ts s.from s.to to within.0 rest.2 ∙ ap (λ m. slice_range ts m to) joins.0, omega (arith, within.0, rest.2, joins.0))
 
--- there is a value for each field
-pub are_filled-lengths : (fs : List CodeField) (vs : List CodeValue) → length fs ≢ length vs → are_filled (field_views fs) (views vs) ≡ false
-are_filled-lengths [] [] h = absurd (h refl)
-are_filled-lengths [] (v ∷ vs) h = refl
-are_filled-lengths (f ∷ fs) [] h = refl
-are_filled-lengths (f ∷ fs) (v ∷ vs) h = rw (are_filled-lengths fs vs (λ e. h (ap suc e))) (and_no (is_filled_as (repetition_of (field_view f)) (view v)))
+  pub read_there : (fs : List CodeField) (i : ℕ) (f : CodeField) (d : Data) → i < length fs → f ≡ get_or fs i f → read_at texts (field_views fs) i d ≡ field_read_as texts (field_view f) (Some d)
+  read_there [] i f d less is = absurd (omega (arith, less))
+  read_there (g ∷ fs) zero f d less is = ap (λ x. field_read_as texts (field_view x) (Some d)) (sym is)
+  read_there (g ∷ fs) (suc i) f d less is = read_there fs i f d (omega (arith, less)) is

@@ -55,13 +55,13 @@ abbrev mutual
 
 -- ---- numbers
 
-number_back : (n : Num) → IsExact n → number_of (number_text n) ≡ Some n
+pub number_back : (n : Num) → IsExact n → number_of (number_text n) ≡ Some n
 number_back (unsigned n) h = number_of-decimal n h
 number_back (negative (pos n)) h = absurd h
 number_back (negative (negsuc n)) h = number_of-negative n h
 number_back (float x) h = absurd h
 
-number_there : (n : Num) → IsExact n → IsNumber (number_text n)
+pub number_there : (n : Num) → IsExact n → IsNumber (number_text n)
 number_there (unsigned n) h = IsNumber-decimal n h
 number_there (negative (pos n)) h = absurd h
 number_there (negative (negsuc n)) h = IsNumber-signed_decimal (negsuc n) (omega (arith, h))

@@ -29,8 +29,12 @@ pub mod RowPlans
 pub mod Openings
 pub mod TextLeaves
 pub mod Lines
+pub mod Lexing
 pub mod ShownLeaves
+pub mod LinePieces
 pub mod ShownRows
+pub mod LeafLines
+pub mod WholeLines
 pub mod Sizes
 pub mod PrintedLines
 pub mod PieceShowing

@@ -23,7 +23,8 @@ use Rattle.rowtext.specs.inner.PieceLists.{exchanged}
 use Rattle.rowtext.specs.inner.Slots.{slot_of, key_in, indices_of}
 use Rattle.rowtext.specs.inner.Spans.{span_tokens, IsSpan, fits_at, member_text, IsNoted, IsMemberRead}
 use Rattle.rowtext.proofs.RowOrder.{pieces, flat_same, pieces_ordered}
-use Rattle.rowtext.proofs.ShownRows.{both, grows_then}
+use Rattle.rowtext.proofs.Both.{both}
+use Rattle.rowtext.proofs.LinePieces.{grows_then}
 
 -- ---- parts
 

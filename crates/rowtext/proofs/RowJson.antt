@@ -66,7 +66,7 @@ readable_put k d (member l e ms) x h = readable_at (slice_cmp nat_cmp k l) _ _ _
 abbrev AreShown : (ValueTree → Bool) → (ValueTree → Data) → Type 0
 AreShown p shown = (v : ValueTree) → p v ≡ true → IsReadable (shown v)
 
-number_exact : (k : Kind) (o : Option Order) (z : ℤ) → fits_kind k (integer z) ≡ true → IsExact (number_json k o z)
+pub number_exact : (k : Kind) (o : Option Order) (z : ℤ) → fits_kind k (integer z) ≡ true → IsExact (number_json k o z)
 number_exact k None z h = integer_exact k z h
 number_exact k (Some Signed) z h = integer_exact k z h
 number_exact k (Some Unsigned) z h = bits_exact k z h

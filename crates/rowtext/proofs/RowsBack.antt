@@ -1,5 +1,5 @@
 -- The text of a row that fits is read as that row.
-use Rattle.std.proofs.Common.{◌≡◌, ◌≢◌, ℕ, zero, suc, nat_lt, ◌≤◌, List, [], ◌∷◌, Bool, true, false, true≢false, ◌&&◌, ◌⊎◌, inl, inr, ℤ, Option, Some, None, option_map, option_and_then, if◌then◌else◌, Ordering, Less, Equal, Greater, nat_cmp, refl, sym, ap, ap₂, ◌∙◌, arith}
+use Rattle.std.proofs.Common.{◌≡◌, ◌≢◌, ℕ, zero, suc, nat_lt, ◌≤◌, List, [], ◌∷◌, Bool, true, false, true≢false, ◌&&◌, ℤ, Option, Some, None, option_map, option_and_then, if◌then◌else◌, Ordering, Less, Equal, Greater, nat_cmp, refl, sym, ap, ap₂, ◌∙◌, arith}
 use Rattle.std.specs.List.{AllByRecursion}
 use Rattle.std.specs.Option.{option_or}
 use Rattle.std.specs.Str.{is_utf8}
@@ -134,7 +134,7 @@ null_by None t = refl
 null_by (Some form) t = refl
 
 module _ (texts : Bool) where
-  leaf_back : (t : LeafType) → ReadsBack (fits_leaf t) (leaf_json_as texts t) (leaf_read_as texts t)
+  pub leaf_back : (t : LeafType) → ReadsBack (fits_leaf t) (leaf_json_as texts t) (leaf_read_as texts t)
   leaf_back t v h = chosen t (scalar_by (form_if texts t) t (leaf_json_as texts t v)) v h (back_by (form_if texts t) t v h)
 
   -- ---- repetitions

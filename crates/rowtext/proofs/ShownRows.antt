@@ -1,11 +1,8 @@
 -- The values of fields that were read as they are shown, and their pieces.
-use Rattle.std.proofs.Common.{◌≡◌, ℕ, zero, suc, ◌+◌, ◌<◌, Bool, true, false, true≢false, ◌&&◌, ◌==◌, List, [], ◌∷◌, ◌++◌, length, get_or, Option, None, option_map, String, Vec, Global, refl, sym, ap, ap₂, subst, ◌∙◌, arith, append_assoc, append-nil, rules}
+use Rattle.std.proofs.Common.{◌≡◌, ℕ, zero, suc, ◌+◌, ◌<◌, Bool, true, false, true≢false, ◌==◌, List, [], ◌∷◌, ◌++◌, Option, None, String, Vec, Global, refl, sym, ap, ap₂, subst, ◌∙◌, arith, append_assoc, append-nil}
 use Rattle.std.specs.List.{concat}
 use Rattle.std.proofs.lemmas.Bool.{ne_eqb}
-use Rattle.std.proofs.lemmas.List.{map-append}
-use Rattle.json.specs.Print.{quoted}
 use Rattle.serde_json.specs.Data.{Data}
-use Rattle.schema.specs.Annotations.{LeafType}
 use Rattle.serde_json.specs.Data as json
 use Rattle.serde_json.specs.Written.{compact_text, comma_if, items_text}
 use Rattle.schema.specs.declared.value.Kind.{Kind}
@@ -22,59 +19,19 @@ use Rattle.schema.specs.Fits.{fits_kind, fits_leaf, fits_as, is_group, fits, fit
 use Rattle.schema.proofs.Seen.{view-Leaf, view-Group}
 use Rattle.rowtext.specs.Json.{leaf_json, items_json, json_as, object_json, inside_json, field_json, members_json, row_text}
 use Rattle.rowtext.specs.declared.cursor.Cursor.{Cursor}
-use Rattle.rowtext.specs.declared.row_plan.Slot.{Slot as CodeSlot, the_lemmas as of_slots}
-use Rattle.rowtext.specs.declared.row_plan.Slot.TheVariants.{Group as SlotGroup}
 use Rattle.rowtext.specs.declared.pieces.Piece.{Piece}
 use Rattle.rowtext.specs.inner.Lines.{rest_of, Takes, IsShown, with_comma, members_shown, open_text}
-use Rattle.rowtext.specs.inner.Pieces.{token_of, tokens_of, Grows, IsAdded, IsRead, AreRead}
-use Rattle.rowtext.specs.inner.Slots.{group_slot, slot_view, slots_view, slot_of, slots_made, key_in, indices_of, is_in_order, order_of, vec_items}
+use Rattle.rowtext.specs.inner.Pieces.{token_of, tokens_of, Grows, IsRead, AreRead}
+use Rattle.rowtext.specs.inner.Slots.{slot_of, key_in, indices_of, is_in_order, order_of}
 use Rattle.rowtext.specs.inner.Kept.{in_order as put_in_order}
 use Rattle.rowtext.specs.inner.Levels.{braced}
-use Rattle.assemble.specs.Sinks.{Token, single, group_begins, group_ends, list_begins, list_ends, tokens, tokens_each}
+use Rattle.assemble.specs.Sinks.{single, group_begins, group_ends, list_begins, list_ends, tokens, tokens_each}
 use Rattle.assemble.specs.inner.Building.{snoc}
 use Rattle.assemble.proofs.Each.{join, join_snoc, join_none}
 use Rattle.assemble.proofs.Showing.{tokens_snoc}
-use Rattle.rowtext.proofs.Both.{and_true}
+use Rattle.rowtext.proofs.Both.{and_true, both}
+use Rattle.rowtext.proofs.LinePieces.{grows_then, one_more, between}
 use Rattle.rowtext.proofs.RowOrder.{pieces, ordered_by, object_braced}
-
--- ---- slots
-
-pub slot_there : (fs : List CodeField) (ss : List CodeSlot) (i : ℕ) (f : CodeField) (s : CodeSlot) → slots_view ss ≡ slots_made (field_views fs) → i < length fs → i < length ss → f ≡ get_or fs i f → s ≡ get_or ss i s → slot_view s ≡ slot_of (field_view f)
-slot_there [] ss i f s same less within is at = absurd (omega (arith, less))
-slot_there (g ∷ fs) [] i f s same less within is at = absurd (omega (arith, within))
-slot_there (g ∷ fs) (t ∷ ss) zero f s same less within is at =
-    let first : slot_view t ≡ slot_of (field_view g) = cc in
-    ap slot_view at ∙ first ∙ ap (λ x. slot_of (field_view x)) (sym is)
-slot_there (g ∷ fs) (t ∷ ss) (suc i) f s same less within is at =
-    let others : slots_view ss ≡ slots_made (field_views fs) = cc in
-    slot_there fs ss i f s others (omega (arith, less)) (omega (arith, within)) is at
-
-view-SlotGroup : (k : List ℕ) (ss : Vec CodeSlot Global) (o : Option (Vec ℕ Global)) → slot_view (SlotGroup k ss o) ≡ group_slot k (slots_view ss.items) (option_map vec_items o)
-view-SlotGroup k ss o = search (rules, of_slots)
-
--- what stands at the fields of a group
-pub group_slots : (f : CodeField) (n : String Global) (r : Repetition) (a : Option GroupAnnotation) (fs : Vec CodeField Global) (s : CodeSlot) (k : List ℕ) (ss : Vec CodeSlot Global) (o : Option (Vec ℕ Global)) → f ≡ Group n r a fs → s ≡ SlotGroup k ss o
-    → slot_view s ≡ slot_of (field_view f) → (slots_view ss.items ≡ slots_made (field_views fs.items)) × (option_map vec_items o ≡ order_of (field_views fs.items))
-group_slots f n r a fs s k ss o is at same =
-    let here = sym (view-SlotGroup k ss o) ∙ ap slot_view (sym at) ∙ same ∙ ap (λ x. slot_of x) (ap field_view is ∙ view-Group n r a fs) in
-    let slots_are : slots_view ss.items ≡ slots_made (field_views fs.items) = cc in
-    let order_is : option_map vec_items o ≡ order_of (field_views fs.items) = cc in
-    (slots_are, order_is)
-
--- ---- pieces
-
--- pieces after those that were added
-pub grows_then : (ks bs cs : List Piece) (ts us : List Token) → Grows ks bs ts → Grows bs cs us → Grows ks cs (ts ++ us)
-grows_then ks bs cs ts us h g = g ∙ ap (λ x. x ++ us) h ∙ append_assoc (tokens_of ks) ts us
-
--- one piece more
-pub one_more : (ks bs : List Piece) (p : Piece) → bs ≡ ks ++ p ∷ [] → Grows ks bs (token_of p ∷ [])
-one_more ks bs p is = ap tokens_of is ∙ map-append token_of ks (p ∷ [])
-
--- pieces between those that begin and end a group or a list
-pub between : (ks bs cs ds : List Piece) (p q : Piece) (ts : List Token) → bs ≡ ks ++ p ∷ [] → Grows bs cs ts → ds ≡ cs ++ q ∷ [] → Grows ks ds (token_of p ∷ (ts ++ token_of q ∷ []))
-between ks bs cs ds p q ts first inside last =
-    grows_then ks bs ds (token_of p ∷ []) (ts ++ token_of q ∷ []) (one_more ks bs p first) (grows_then bs cs ds ts (token_of q ∷ []) inside (one_more cs ds q last))
 
 -- ---- one value
 
@@ -92,10 +49,6 @@ group_shown f n r a fs xs old new ks bs cs ds p q is same begins ends first h la
     let here : IsRead (is_group (fits_each (field_views fs.items))) (object_json (members_json (field_views fs.items))) old new ks ds =
     (group vs, ((ap (λ ys. fits_each (field_views ys) vs) (sym same) ∙ h.1.0, h.1.1.0 ∙ ap (λ ys. row_text (field_views ys) vs ++ rest_of new) same), grown ∙ ap₂ (λ x y. tokens_of ks ++ (x ∷ (tokens_each vs ++ y ∷ []))) begins ends)) in
     subst (λ x. IsRead (fits_inside x) (inside_json x) old new ks ds) there here
-
--- a string, whose bytes were added
-pub string_read : (t : LeafType) (s : List ℕ) (old new : Cursor) (ks ls : List Piece) → Takes old new (quoted s) → IsAdded t s ks ls → IsRead (fits_leaf t) (leaf_json t) old new ks ls
-string_read t s old new ks ls taken h = (bytes h.0, ((h.1.0, taken ∙ ap (λ d. compact_text d ++ rest_of new) (sym h.1.1.0)), h.1.1.1))
 
 no_null : (k : Kind) → fits_kind k null ≡ true → ⊥
 no_null Boolean h = true≢false (sym h)
@@ -159,9 +112,6 @@ ItemsGo passes shown first rest later ks bs =
 
 pub items_begin : (passes : ValueTree → Bool) (shown : ValueTree → Data) (first : List ℕ) (ks : List Piece) → ItemsGo passes shown first first false ks ks
 items_begin passes shown first ks = (no_values, (sym (append-nil (tokens_of ks)), ([], (refl, λ vs h. (h, refl)))))
-
-pub both : (a b : Bool) → a ≡ true → b ≡ true → (a && b) ≡ true
-both a b p q = ap₂ (λ x y. x && y) p q
 
 pub items_turn : (passes : ValueTree → Bool) (shown : ValueTree → Data) (first rest : List ℕ) (mid new : Cursor) (later : Bool) (ks bs cs : List Piece) → ItemsGo passes shown first rest later ks bs → rest ≡ comma_if later ++ rest_of mid
     → IsRead passes shown mid new bs cs → ItemsGo passes shown first (rest_of new) true ks cs

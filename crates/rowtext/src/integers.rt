@@ -1,11 +1,6 @@
 //! Integers from the text of JSON numbers.
 
-ghost use Rattle.std.specs.Prelude.{◌≡◌, ◌+◌, ◌<◌, ◌≤◌, ◌∷◌, ◌++◌, Some, IfSome, decimal, drop, length};
-ghost use Rattle.std.specs.Fmt.{signed_decimal};
-ghost use Rattle.serde_json.specs.Read.{number_of};
-ghost use Rattle.serde_json.specs.View.{number_view};
-
-use serde_json::Number;
+ghost use Rattle.std.specs.Prelude.{◌≡◌, ◌+◌, ◌<◌, ◌≤◌, ◌∷◌, ◌++◌, IfSome, decimal, drop, length};
 
 /// How many digits may stand after one digit in a number that cannot pass 64 bits.
 const FEW_DIGITS: usize = 17;
@@ -25,19 +20,6 @@ pub fn natural_front(bytes: &[u8]) -> Option<(u64, usize)>
     Some((number, count + 1))
 }
 
-/// The integer of 64 bits that the text of a JSON number is; none where it is another number.
-pub fn integer_from(text: &str) -> Option<Number>
-    ensures { IfSome result (λ n. number_of text.now ≡ Some (number_view n)) }
-{
-    let bytes = text.as_bytes();
-    let (first, rest) = split_first(bytes)?;
-    if first == b'-' {
-        Some(Number::from(negative_from(rest)?))
-    } else {
-        Some(Number::from(natural_from(bytes)?))
-    }
-}
-
 /// The value of a decimal digit.
 fn digit_of(byte: u8) -> Option<u64>
     ensures { IfSome result (λ n. (n < 10) × (byte ≡ 48 + n)) }
@@ -50,39 +32,12 @@ fn digit_of(byte: u8) -> Option<u64>
 }
 
 /// The first byte, and the others.
-fn split_first(bytes: &[u8]) -> Option<(u8, &[u8])>
+#[inline(always)]
+pub fn split_first(bytes: &[u8]) -> Option<(u8, &[u8])>
     ensures { IfSome result (λ parts. bytes.now ≡ parts.0 ∷ parts.1.now) }
 {
     let (first, rest) = bytes.split_first()?;
     Some((*first, rest))
-}
-
-/// The number that these digits are after those of another.
-fn number_after(before: u64, digits: &[u8]) -> Option<u64>
-    requires { 0 < before }
-    ensures { IfSome result (λ n. decimal before ++ digits.now ≡ decimal n) }
-{
-    let mut number = before;
-    for byte in digits {
-        let digit = digit_of(*byte)?;
-        number = number.checked_mul(10)?.checked_add(digit)?;
-    }
-    Some(number)
-}
-
-/// The number below 2^64 whose decimal digits these are, with no zero before another digit.
-fn natural_from(digits: &[u8]) -> Option<u64>
-    ensures { IfSome result (λ n. digits.now ≡ decimal n) }
-{
-    let (first, rest) = split_first(digits)?;
-    let first = digit_of(first)?;
-    if first > 0 {
-        number_after(first, rest)
-    } else if digits.len() == 1 {
-        Some(0)
-    } else {
-        None
-    }
 }
 
 /// The number that the digits at the front are after one digit, and how many they are.
@@ -135,15 +90,4 @@ fn more_after(before: u64, digits: &[u8], from: usize) -> Option<(u64, usize)>
         number = number.checked_mul(10)?.checked_add(digit)?;
     }
     Some((number, digits.len()))
-}
-
-/// The number from -2^63 up to -1 whose digits, without its sign, these are.
-fn negative_from(digits: &[u8]) -> Option<i64>
-    ensures { IfSome result (λ z. 45 ∷ digits.now ≡ signed_decimal z) }
-{
-    let number = natural_from(digits)?;
-    if number == 0 {
-        return None;
-    }
-    i64::try_from(-i128::from(number)).ok()
 }

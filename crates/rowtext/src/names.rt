@@ -21,6 +21,16 @@ pub struct Names {
 }
 
 impl Names {
+    /// The index of the field whose member stands after this many, if they stand in the byte order of their names.
+    #[inline(always)]
+    pub fn expected(&self, turn: usize) -> usize {
+        if turn < self.order.len() {
+            self.order[turn]
+        } else {
+            turn
+        }
+    }
+
     /// The names below the field of this index.
     pub fn below(&self, index: usize) -> Option<&Names> {
         self.below.get(index)
@@ -49,20 +59,10 @@ pub fn names_of(alloc: Global, fields: &[Field]) -> Result<Names, AllocError> {
     })
 }
 
-/// The index of the field of this name, where there is one; `turn` is how many members stand before it. Where the
-/// members stand in the byte order of their names or in the order of the fields, it is known by the turn, and else
-/// it is looked up.
-pub fn index_of(fields: &[Field], names: &Names, turn: usize, name: &str) -> Result<usize, Unread>
+/// The index of the field of this name, where there is one.
+pub fn index_of(fields: &[Field], names: &Names, name: &str) -> Result<usize, Unread>
     ensures { IfOk result (λ index. IsCalled (field_views fields.now) index name.now) }
 {
-    if let Some(index) = names.order.get(turn) {
-        if is_called(fields, *index, name) {
-            return Ok(*index);
-        }
-    }
-    if is_called(fields, turn, name) {
-        return Ok(turn);
-    }
     let index = names.indices.get(name).copied().ok_or(Unread::Unknown)?;
     if is_called(fields, index, name) {
         Ok(index)

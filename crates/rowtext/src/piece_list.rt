@@ -146,6 +146,31 @@ impl<'t> Pieces<'t> {
         }
     }
 
+    /// Removes the pieces from an index on.
+    #[inline(always)]
+    pub fn truncate(&mut self, count: usize)
+        requires { count ≤ length self.old.items }
+        ensures { self.new.items ≡ take count self.old.items }
+    {
+        if self.count <= FEW {
+            self.count = count;
+        } else {
+            self.many.truncate(count);
+        }
+    }
+
+    /// Removes all pieces.
+    #[inline(always)]
+    pub fn clear(&mut self)
+        ensures { self.new.items ≡ [] }
+    {
+        if self.count <= FEW {
+            self.count = 0;
+        } else {
+            self.many.clear();
+        }
+    }
+
     /// Adds pieces.
     pub fn extend_from_slice(&mut self, pieces: &[Piece<'t>]) -> Result<(), AllocError>
         ensures { OnOk result (self.new.items ≡ self.old.items ++ pieces.now) }

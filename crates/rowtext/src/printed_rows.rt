@@ -1,6 +1,6 @@
 //! Values of fields from a line in the form in which rows are printed.
 
-ghost use Rattle.std.specs.Prelude.{◌≡◌, ◌<◌, [], ◌∷◌, ◌++◌, false, length, IfOk, OnOk, IsTrue, option_map, slice_index_or};
+ghost use Rattle.std.specs.Prelude.{◌≡◌, [], ◌∷◌, ◌++◌, false, OnOk, IsTrue, option_map};
 ghost use Rattle.serde_json.specs.Written.{comma_if, items_text};
 ghost use Rattle.schema.specs.Fits.{fits, fits_inside, fits_each};
 ghost use Rattle.schema.specs.Values.{each};
@@ -12,9 +12,10 @@ ghost use Rattle.rowtext.specs.inner.Spans.{IsMemberRead};
 ghost use Rattle.rowtext.specs.inner.Slots.{slot_of, slots_made, slot_view, slots_view, key_in, indices_of, order_of, order_view, vec_items};
 
 use crate::cursor::Cursor;
+use crate::leaf_lines::leaf_printed;
 use crate::piece_list::Pieces;
 use crate::pieces::Piece;
-use crate::printed_leaves::leaf_printed;
+use crate::row_lines::{field_there, slot_there};
 use crate::row_plan::Slot;
 use crate::spans::{Span, Spans, put_spans};
 use crate::unread::Unread;
@@ -42,28 +43,6 @@ pub fn members_printed<'t>(
     ordered_printed(alloc, fields, slots, order, line, pieces)?;
     if line.skip_byte(b'}') {
         Ok(())
-    } else {
-        Err(Unread::Unknown)
-    }
-}
-
-/// What stands at the field of an index.
-fn slot_at(slots: &[Slot], index: usize) -> Result<&Slot, Unread>
-    ensures { IfOk result (λ slot. (index < length slots.now) × (slot.now ≡ slice_index_or slots.now index slot.now)) }
-{
-    if index < slots.len() {
-        Ok(&slots[index])
-    } else {
-        Err(Unread::Unknown)
-    }
-}
-
-/// The field of an index.
-fn field_at(fields: &[Field], index: usize) -> Result<&Field, Unread>
-    ensures { IfOk result (λ field. (index < length fields.now) × (field.now ≡ slice_index_or fields.now index field.now)) }
-{
-    if index < fields.len() {
-        Ok(&fields[index])
     } else {
         Err(Unread::Unknown)
     }
@@ -210,7 +189,7 @@ fn in_order<'t>(
         return Err(Unread::Unknown);
     }
     for (i, field) in fields.iter().enumerate() {
-        let slot = slot_at(slots, i)?;
+        let slot = slot_there(slots, i)?;
         if !skip_key(slot, i == 0, line) {
             return Err(Unread::Unknown);
         }
@@ -235,8 +214,8 @@ fn member_printed<'t>(
     ensures { OnOk result (IsMemberRead (field_views fields.now) index is_first (rest_of line.old)
         (rest_of line.new) read.old.items read.new.items spans.old.items spans.new.items) }
 {
-    let field = field_at(fields, index)?;
-    let slot = slot_at(slots, index)?;
+    let field = field_there(fields, index)?;
+    let slot = slot_there(slots, index)?;
     if !skip_key(slot, is_first, line) {
         return Err(Unread::Unknown);
     }

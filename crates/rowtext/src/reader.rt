@@ -3,39 +3,33 @@
 ghost use Rattle.std.specs.Prelude.{◌≡◌, ◌⊎◌, Some, None, Err, IfOk, IfErr, OnOk, IsTrue};
 ghost use Rattle.bits.specs.Refusals.{RefusedMemoryOnly};
 ghost use Rattle.bits.specs.declared.refusal.Refusal.TheVariants.{Memory, RowShape, Script};
-ghost use Rattle.serde_json.specs.Data.{Data, Members, object};
+ghost use Rattle.serde_json.specs.Data.{Data, Members};
 ghost use Rattle.serde_json.specs.Read.{read};
 ghost use Rattle.schema.specs.Fits.{fits_each};
-ghost use Rattle.schema.specs.Values.{ValueTrees, views};
+ghost use Rattle.schema.specs.Values.{ValueTrees};
 ghost use Rattle.schema.specs.Views.{row_view};
 ghost use Rattle.assemble.specs.Sinks.{tokens_each, Visits};
 ghost use Rattle.rowtext.specs.Reading.{members_read, members_read_as, row_of, row_of_as, line_of};
 ghost use Rattle.rowtext.specs.Reader.{schema_of, IsRowOf, IsRowAs};
-ghost use Rattle.rowtext.specs.inner.Pieces.{tokens_of};
+ghost use Rattle.rowtext.specs.inner.Pieces.{IsShownAs};
 
-use crate::names::{Names, names_of};
 use crate::piece_list::Pieces;
 use crate::pieces::{Piece, show_pieces};
 use crate::read_plan::ReadPlan;
 use crate::row_reading::row_from_as;
-use crate::tokens::{members_at, next_token};
 use crate::unread::Unread;
 use assemble::{RowBuilder, RowSink, show_row};
 use bits::{R, Refusal};
-use json::{Scratch, Token};
-use schema::{Row, Schema, Value};
+use json::Scratch;
+use schema::{Row, Schema};
 use std::alloc::{AllocError, Global};
 
-/// How deep the members of a row nest at most.
-const DEEPEST: usize = 126;
-
-/// Reads rows of a schema, one after another. Names are sorted once, and the room for a text, for the bytes of a value,
-/// and for the values of groups and lists that have not ended, is kept from row to row.
+/// Reads rows of a schema, one after another. Names are sorted once, and the room for the bytes of a value, for a string
+/// with escapes, and for the values of groups and lists that have not ended is kept from row to row.
 #[derive(Drop)]
 pub struct Reader<'a> {
     alloc: Global,
     plan: ReadPlan<'a>,
-    names: Names,
     scratch: Scratch,
     /// Where bytes are made that do not stand in the text as they are.
     buffer: Vec<u8>,
@@ -45,64 +39,41 @@ pub struct Reader<'a> {
     room: usize,
 }
 
-/// The values of a row of the schema, where the text is one of the form that is read from tokens.
-fn values_of_tokens(
-    alloc: Global,
-    schema: &Schema,
-    names: &Names,
-    text: &str,
-    scratch: &mut Scratch,
-    texts: bool,
-) -> Result<Vec<Value>, Unread>
-    ensures { IfOk result (λ values. (ms : Members) × (read text.now ≡ Some (object ms)) × (members_read_as texts schema.now ms ≡ Some (views values.items))) }
-{
-    // For the proof: what is known of the schema.
-    let _ = schema.leaves();
-    let mut tokens = json::Reader::new(text, scratch)?;
-    match next_token(&mut tokens)? {
-        Token::BeginObject => {
-            let values = members_at(alloc, schema.fields(), names, &mut tokens, DEEPEST, texts)?;
-            match tokens.next() {
-                Some(_) => Err(Unread::Unknown),
-                None => Ok(values),
-            }
-        }
-        _ => Err(Unread::Unknown),
-    }
-}
-
 /// The row of this many fields that is made of pieces.
 fn row_of_pieces(
     fields: usize,
     pieces: &[Piece<'_>],
     buffer: &mut Vec<u8>,
+    scratch: &mut Scratch,
     builder: &mut RowBuilder,
 ) -> Result<Row, AllocError>
-    ensures { IfOk result (λ row. (values : ValueTrees) → tokens_of pieces.now ≡ tokens_each values → row_view row ≡ values) }
+    ensures { IfOk result (λ row. (values : ValueTrees) → IsShownAs pieces.now values → row_view row ≡ values) }
 {
     builder.begin_row(fields)?;
-    show_pieces(pieces, buffer, builder)?;
+    show_pieces(pieces, buffer, scratch, builder)?;
     Ok(builder.take_row())
 }
 
-/// The row that a text is, where it is the text of a row as it is printed. `room` is how many pieces the row had that
-/// was read so last.
-fn row_printed(
+/// The row that a text is, where it is of the form that is read at once. `room` is how many pieces the row had that was
+/// read so last.
+fn row_at_once(
     alloc: Global,
     plan: &ReadPlan<'_>,
     text: &str,
+    texts: bool,
     room: &mut usize,
     buffer: &mut Vec<u8>,
+    scratch: &mut Scratch,
     builder: &mut RowBuilder,
 ) -> Result<Row, Unread>
-    ensures { IfOk result (λ row. IsRowOf plan.now text.now (row_view row)) }
+    ensures { IfOk result (λ row. IsRowAs texts plan.now text.now (row_view row)) }
 {
     let mut pieces = Pieces::new(alloc);
     pieces.reserve(*room)?;
-    plan.put_pieces(alloc, text, &mut pieces)?;
+    plan.put_pieces(alloc, text, texts, scratch, &mut pieces)?;
     *room = pieces.len();
     let fields = plan.schema().fields().len();
-    let row = row_of_pieces(fields, pieces.as_slice(), buffer, builder)?;
+    let row = row_of_pieces(fields, pieces.as_slice(), buffer, scratch, builder)?;
     Ok(row)
 }
 
@@ -113,12 +84,10 @@ impl<'a> Reader<'a> {
         ensures reads { IfOk result (λ reader. schema_of reader ≡ schema.now) }
         ensures which { RefusedMemoryOnly result }
     {
-        let names = names_of(alloc, schema.fields())?;
         let plan = ReadPlan::new(alloc, schema)?;
         Ok(Reader {
             alloc,
             plan,
-            names,
             scratch: Scratch::new(alloc),
             buffer: Vec::new(alloc),
             builder: RowBuilder::new(alloc, 0)?,
@@ -126,33 +95,9 @@ impl<'a> Reader<'a> {
         })
     }
 
-    /// The row that a text in any form is, with texts or without.
-    fn read_otherwise(&mut self, text: &str, texts: bool) -> R<Row>
-        ensures stands { IfOk result (λ row. (d : Data) × (read text.now ≡ Some d) × (row_of_as texts (schema_of self.old) d ≡ Some (row_view row))) }
-        ensures fits { IfOk result (λ row. IsTrue (fits_each (schema_of self.old) (row_view row))) }
-        ensures shape { result ≡ Err RowShape → (ms : Members) × (line_of text.now ≡ Some ms) × (members_read_as texts (schema_of self.old) ms ≡ None) }
-        ensures script { result ≡ Err Script → line_of text.now ≡ None }
-        ensures which { IfErr result (λ e. (e ≡ RowShape) ⊎ (e ≡ Script) ⊎ (e ≡ Memory)) }
-        ensures same { schema_of self.new ≡ schema_of self.old }
-    {
-        let schema = self.plan.schema();
-        match values_of_tokens(
-            self.alloc,
-            schema,
-            &self.names,
-            text,
-            &mut self.scratch,
-            texts,
-        ) {
-            Ok(values) => Ok(Row { values }),
-            Err(Unread::OutOfMemory) => Err(Refusal::Memory),
-            Err(Unread::Unknown) => row_from_as(self.alloc, schema, text, texts),
-        }
-    }
-
     /// The row that a text is, under the same refusals as `row_from`. A row takes memory for its own values, and
-    /// where its text is longer than those before it. The text of a row as it is printed is read at once; any other
-    /// text is then read again from its tokens, and one that is refused, or names a member twice, by `row_from`.
+    /// where its text is longer than those before it. A text is read at once, with blanks between its tokens or without and
+    /// with its members in any order; one that is refused, or names a member twice, is then read by `row_from`.
     pub fn read(&mut self, text: &str) -> R<Row>
         ensures stands { IfOk result (λ row. (d : Data) × (read text.now ≡ Some d) × (row_of (schema_of self.old) d ≡ Some (row_view row))) }
         ensures fits { IfOk result (λ row. IsTrue (fits_each (schema_of self.old) (row_view row))) }
@@ -161,22 +106,11 @@ impl<'a> Reader<'a> {
         ensures which { IfErr result (λ e. (e ≡ RowShape) ⊎ (e ≡ Script) ⊎ (e ≡ Memory)) }
         ensures same { schema_of self.new ≡ schema_of self.old }
     {
-        match row_printed(
-            self.alloc,
-            &self.plan,
-            text,
-            &mut self.room,
-            &mut self.buffer,
-            &mut self.builder,
-        ) {
-            Ok(row) => Ok(row),
-            Err(Unread::OutOfMemory) => Err(Refusal::Memory),
-            Err(Unread::Unknown) => self.read_otherwise(text, false),
-        }
+        self.read_as(text, false)
     }
 
     /// The row that a text is, as [`read`](Reader::read) returns it, under the same refusals; with `texts`, dates, times,
-    /// timestamps and decimals over INT32 and INT64 are also read from their texts, and each line is read by tokens.
+    /// timestamps and decimals over INT32 and INT64 are also read from their texts.
     pub fn read_as(&mut self, text: &str, texts: bool) -> R<Row>
         ensures stands { IfOk result (λ row. (d : Data) × (read text.now ≡ Some d) × (row_of_as texts (schema_of self.old) d ≡ Some (row_view row))) }
         ensures fits { IfOk result (λ row. IsTrue (fits_each (schema_of self.old) (row_view row))) }
@@ -185,32 +119,20 @@ impl<'a> Reader<'a> {
         ensures which { IfErr result (λ e. (e ≡ RowShape) ⊎ (e ≡ Script) ⊎ (e ≡ Memory)) }
         ensures same { schema_of self.new ≡ schema_of self.old }
     {
-        if texts {
-            self.read_otherwise(text, true)
-        } else {
-            self.read(text)
+        match row_at_once(
+            self.alloc,
+            &self.plan,
+            text,
+            texts,
+            &mut self.room,
+            &mut self.buffer,
+            &mut self.scratch,
+            &mut self.builder,
+        ) {
+            Ok(row) => Ok(row),
+            Err(Unread::OutOfMemory) => Err(Refusal::Memory),
+            Err(Unread::Unknown) => row_from_as(self.alloc, self.plan.schema(), text, texts),
         }
-    }
-
-    /// Shows a sink the values of the row that a text is, as [`read_to`](Reader::read_to) does, under the same refusals; with
-    /// `texts`, as [`read_as`](Reader::read_as) reads it.
-    ///
-    /// Refused RowShape or Script, it has shown nothing. Out of memory, it may have shown a part of the row.
-    pub fn read_to_as<K: RowSink>(&mut self, text: &str, sink: &mut K, texts: bool) -> R<()>
-        ensures stands { OnOk result (Visits (K.shows sink.old) (K.shows sink.new) tokens_each (IsRowAs texts (schema_of self.old) text.now)) }
-        ensures unshown { IfErr result (λ e. (e ≡ Memory) ⊎ (sink.new ≡ sink.old)) }
-        ensures shape { result ≡ Err RowShape → (ms : Members) × (line_of text.now ≡ Some ms) × (members_read_as texts (schema_of self.old) ms ≡ None) }
-        ensures script { result ≡ Err Script → line_of text.now ≡ None }
-        ensures which { IfErr result (λ e. (e ≡ RowShape) ⊎ (e ≡ Script) ⊎ (e ≡ Memory)) }
-        ensures same { schema_of self.new ≡ schema_of self.old }
-        ensures base_stays { K.base sink.new ≡ K.base sink.old }
-    {
-        if !texts {
-            return self.read_to(text, sink);
-        }
-        let row = self.read_otherwise(text, true)?;
-        show_row(&row, sink)?;
-        Ok(())
     }
 
     /// Shows a sink the values of the row that a text is, under the same refusals as `read`, and reads it in the same
@@ -226,17 +148,36 @@ impl<'a> Reader<'a> {
         ensures same { schema_of self.new ≡ schema_of self.old }
         ensures base_stays { K.base sink.new ≡ K.base sink.old }
     {
+        self.read_to_as(text, sink, false)
+    }
+
+    /// Shows a sink the values of the row that a text is, as [`read_to`](Reader::read_to) does, under the same refusals; with
+    /// `texts`, as [`read_as`](Reader::read_as) reads it.
+    ///
+    /// Refused RowShape or Script, it has shown nothing. Out of memory, it may have shown a part of the row.
+    pub fn read_to_as<K: RowSink>(&mut self, text: &str, sink: &mut K, texts: bool) -> R<()>
+        ensures stands { OnOk result (Visits (K.shows sink.old) (K.shows sink.new) tokens_each (IsRowAs texts (schema_of self.old) text.now)) }
+        ensures unshown { IfErr result (λ e. (e ≡ Memory) ⊎ (sink.new ≡ sink.old)) }
+        ensures shape { result ≡ Err RowShape → (ms : Members) × (line_of text.now ≡ Some ms) × (members_read_as texts (schema_of self.old) ms ≡ None) }
+        ensures script { result ≡ Err Script → line_of text.now ≡ None }
+        ensures which { IfErr result (λ e. (e ≡ RowShape) ⊎ (e ≡ Script) ⊎ (e ≡ Memory)) }
+        ensures same { schema_of self.new ≡ schema_of self.old }
+        ensures base_stays { K.base sink.new ≡ K.base sink.old }
+    {
         let mut pieces = Pieces::new(self.alloc);
         pieces.reserve(self.room)?;
-        match self.plan.put_pieces(self.alloc, text, &mut pieces) {
+        match self
+            .plan
+            .put_pieces(self.alloc, text, texts, &mut self.scratch, &mut pieces)
+        {
             Ok(()) => {
                 self.room = pieces.len();
-                show_pieces(pieces.as_slice(), &mut self.buffer, sink)?;
+                show_pieces(pieces.as_slice(), &mut self.buffer, &mut self.scratch, sink)?;
                 Ok(())
             }
             Err(Unread::OutOfMemory) => Err(Refusal::Memory),
             Err(Unread::Unknown) => {
-                let row = self.read_otherwise(text, false)?;
+                let row = row_from_as(self.alloc, self.plan.schema(), text, texts)?;
                 show_row(&row, sink)?;
                 Ok(())
             }

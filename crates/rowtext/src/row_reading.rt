@@ -26,7 +26,7 @@ use std::alloc::{AllocError, Global};
 const NUMBERS_OF_INT32: u64 = 4_294_967_296;
 
 /// The integer of a leaf that a number is: where the leaf's order is unsigned, the one of the same bits.
-pub fn number_from(leaf_type: &LeafType, number: &Number) -> Option<i64>
+fn number_from(leaf_type: &LeafType, number: &Number) -> Option<i64>
     ensures { result ≡ number_read leaf_type.now.kind (order_of (leaf_type_view leaf_type.now)) (number_view number.now) }
 {
     match (leaf_type.order(), leaf_type.kind) {
@@ -125,7 +125,7 @@ fn text_from(
 }
 
 /// The value that a text of this form is read as.
-pub fn value_of_text(alloc: Global, form: Form, text: &[u8]) -> Result<Option<Value>, AllocError>
+fn value_of_text(alloc: Global, form: Form, text: &[u8]) -> Result<Option<Value>, AllocError>
     ensures { IfOk result (λ found. option_map value_view found ≡ text_read_as form text.now) }
 {
     if let Some(number) = form_read(form, text) {

@@ -34,6 +34,7 @@ pub enum Numbers {
 }
 
 /// The form of the texts of a leaf's values, if texts are asked for.
+#[inline(always)]
 pub fn form_if(texts: bool, leaf_type: &LeafType) -> Option<Form>
     ensures { result ≡ form_if texts (leaf_type_view leaf_type.now) }
 {

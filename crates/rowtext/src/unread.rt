@@ -1,13 +1,12 @@
-//! Why a value was not read from tokens.
+//! Why a value was not read.
 
-use json::Invalid;
 use std::alloc::{AllocError, AllocFailed};
 
 /// Why a value was not read.
 #[derive(Clone, Copy, Debug, Drop)]
 pub enum Unread {
     OutOfMemory,
-    /// It is not of the form that is read from tokens. It may be a value of another form, or none.
+    /// It is not of the form that is read at once. It may be a value of another form, or none.
     Unknown,
 }
 
@@ -20,11 +19,5 @@ impl From<AllocError> for Unread {
 impl<T: Drop> From<AllocFailed<T>> for Unread {
     fn from(_e: AllocFailed<T>) -> Unread {
         Unread::OutOfMemory
-    }
-}
-
-impl From<Invalid> for Unread {
-    fn from(_e: Invalid) -> Unread {
-        Unread::Unknown
     }
 }

@@ -1,7 +1,9 @@
 -- The content of a string with escapes, and the bytes for which it stands.
-use Rattle.std.specs.Prelude.{◌≡◌, ℕ, ◌+◌, ◌-◌, ◌*◌, ◌%◌, ◌==◌, true, nat_le, List, [], ◌∷◌, if◌then◌else◌}
+use Rattle.std.specs.Prelude.{◌≡◌, ℕ, ◌+◌, ◌-◌, ◌*◌, ◌%◌, ◌==◌, true, nat_le, List, [], ◌∷◌, ◌++◌, Option, Some, None, if◌then◌else◌}
 use Rattle.std.specs.Str.{is_utf8}
+use Rattle.json.specs.Lex.{between, in_string, lex, tokens}
 use Rattle.json.specs.Print.{escape}
+use Rattle.json.specs.Token.{Token, string}
 use Rattle.schema.specs.Fits.{are_bytes}
 
 -- the byte for which a letter behind a backslash stands
@@ -33,3 +35,26 @@ IsText s = (are_bytes s ≡ true) × (is_utf8 s ≡ true)
 -- the content of a string as the text is printed
 abbrev pub IsPrintedText : List ℕ → List ℕ → Type 0
 IsPrintedText raw s = IsText s × (raw ≡ escape s)
+
+-- ---- strings with escapes in any form
+
+-- the string that tokens begin with; none where they begin with none
+abbrev pub first_string : List Token → Option (List ℕ)
+first_string (string s ∷ ts) = Some s
+first_string _ = None
+
+-- the bytes of the string that a text begins with, in its quotes; none where it begins with none
+abbrev pub string_in : List ℕ → Option (List ℕ)
+string_in text = first_string (tokens text)
+
+abbrev or_empty : Option (List ℕ) → List ℕ
+or_empty None = []
+or_empty (Some s) = s
+
+-- these bytes, or none where the text begins with no string
+abbrev pub bytes_in : List ℕ → List ℕ
+bytes_in text = or_empty (string_in text)
+
+-- a string stands there in its quotes, and the lexer goes on after it with what is left
+abbrev pub IsStringBefore : List ℕ → List ℕ → Type 0
+IsStringBefore text left = (xs : List ℕ) × (text ≡ 34 ∷ xs) × (lex in_string (xs ++ left) ≡ lex between left)

@@ -10,7 +10,8 @@ use Rattle.rowtext.specs.declared.pieces.Piece.TheVariants.{Null, GroupBegins, G
 use Rattle.rowtext.specs.inner.Lines.{rest_of}
 use Rattle.rowtext.specs.inner.PieceLists.{exchanged}
 use Rattle.rowtext.specs.inner.Slots.{slot_view, slots_view, slot_of, slots_made, key_in, order_of, order_view}
-use Rattle.rowtext.proofs.ShownRows.{slot_there, group_slots, group_shown, null_read, list_read, items_begin, items_turn, items_end, members_begin, members_turn, members_end, order_read, object_read}
+use Rattle.rowtext.proofs.LinePieces.{slot_there, group_slots}
+use Rattle.rowtext.proofs.ShownRows.{group_shown, null_read, list_read, items_begin, items_turn, items_end, members_begin, members_turn, members_end, order_read, object_read}
 use Rattle.rowtext.proofs.NamedMembers.{NamesGo, names_begin, names_turn, names_end, member_read, two_exchanged}
 use Rattle.rowtext.proofs.Sorting.{pair}
 use Rattle.rowtext.proofs.Sizes.{size_there, size_group}

@@ -1,4 +1,4 @@
-use Rattle.std.proofs.Common.{◌≡◌, sym, ap, subst, ◌∙◌, true≢false, refl}
+use Rattle.std.proofs.Common.{◌≡◌, sym, subst, true≢false, refl}
 use Rattle.std.specs.Prelude.{IfOk, option_map}
 use Rattle.rowtext.proofs.Taken.{hex_none, hex_more, hex_one}
 use Rattle.rowtext.proofs.row_reading.bytes_of_members.Goals as goal
