@@ -16,7 +16,7 @@ work=$(mktemp -d)
 trap 'rm -rf "$work"' EXIT
 mkdir -p "$work/crates/json_speed/src"
 cp "$top/bench/speed/json.rt.in" "$work/crates/json_speed/src/main.rt"
-for name in bits thrift_compact schema plain hybrid_rle delta dictionary assemble shred statistics filter partition metadata pages row_group footer table rowtext jsonrows; do
+for name in bits thrift_compact schema plain hybrid_rle delta dictionary assemble shred statistics filter partition metadata pages row_group footer table valuetext leaftext rowtext jsonrows; do
     cp -a "$top/crates/$name" "$work/crates/$name"
     grep "^$name:" "$top/crates.txt"
 done > "$work/crates.txt"
