@@ -1,6 +1,6 @@
 -- A row that goes to its key.
 use Rattle.std.proofs.Common.{◌≡◌, ℕ, suc, ◌<◌, ◌≤◌, ◌+◌, Bool, false, List, [], ◌∷◌, ◌++◌, length, get_or, set, map, refl, ap, sym, subst, ◌∙◌, arith, length-append}
-use Rattle.std.specs.Prelude.{◌||◌}
+use Rattle.std.specs.Prelude.{◌||◌, if◌then◌else◌}
 use Rattle.std.specs.List.{AllByRecursion, list_any}
 use Rattle.std.proofs.lemmas.List.{set-set, get_or-set_same}
 use Rattle.schema.specs.Values.{ValueTree, ValueTrees}
@@ -29,6 +29,10 @@ stored_keys k = map (λ parts. parts_view parts.items) k.places.keys
 pub not_among : {X : Type 0} (f : X → Key) (k : Key) (t : X → Bool) → ((x : X) → t x ≡ is_same_key k (f x)) → (xs : List X) → AllByRecursion (λ l. is_same_key k l ≡ false) (map f xs) → list_any t xs ≡ false
 not_among f k t is [] h = refl
 not_among f k t is (x ∷ xs) h = λ i. (is x ∙ h.0) i || not_among f k t is xs h.1 i
+
+-- the keys after one is added that is none of them
+pub keys_added : {X : Type 0} (f : X → Key) (t : X → Bool) (xs : List X) (x : X) → list_any t xs ≡ false → map f (if list_any t xs then xs else xs ++ x ∷ []) ≡ map f xs ++ f x ∷ []
+keys_added f t xs x none = ap (λ (b : Bool). map f (if b then xs else xs ++ x ∷ [])) none ∙ map_push f xs x
 
 -- a new key is placed
 pub placed_new : (columns : List KeyColumn) (old new : KeyBuffers) (rows : List ValueTrees) (k : Key) (b : KeyBuffer) → new.stored ≡ old.stored → new.size ≡ old.size → new.full.items ≡ old.full.items → CanPartition columns k

@@ -1,5 +1,5 @@
 -- What is known of the rows that were taken.
-use Rattle.std.proofs.Common.{◌≡◌, ℕ, true, List, [], ◌∷◌, ◌++◌, length, map, refl, ap, sym, subst, ◌∙◌}
+use Rattle.std.proofs.Common.{◌≡◌, ℕ, ◌+◌, arith, length-append, true, List, [], ◌∷◌, ◌++◌, length, map, refl, ap, sym, subst, ◌∙◌}
 use Rattle.std.specs.Prelude.{Option, Some, None, is_some, option_map, MatchOption}
 use Rattle.std.specs.Borrow.{Bor}
 use Rattle.std.proofs.lemmas.Bool.{false≢true}
@@ -63,3 +63,15 @@ fault_read columns k rows None (Some y) e have split = cc
 fault_read columns k rows (Some x) (Some y) e have split =
     let same : y.now ≡ x = cc in
     subst (λ (z : KeyFault). IsFirstFault columns rows z.row (key_view z.key)) (sym same) split
+
+-- one row more is counted
+pub one_longer : (rows : List ValueTrees) (row : ValueTrees) (count next : ℕ) → count ≡ length rows → next ≡ count + 1 → next ≡ length (rows ++ row ∷ [])
+one_longer rows row count next counted more = omega (arith, counted, more, length-append rows (row ∷ []))
+
+-- where there is no fault, all rows are split
+pub no_fault : (columns : List KeyColumn) (k : KeyBuffers) (rows : List ValueTrees) (f : Option KeyFault) → f ≡ None → AreSplitOr columns k rows f → AreSplit columns k rows
+no_fault columns k rows None e split = split
+no_fault columns k rows (Some x) e split = cc
+
+pub split_or : (columns : List KeyColumn) (k : KeyBuffers) (rows : List ValueTrees) (f : Option KeyFault) → f ≡ None → AreSplit columns k rows → AreSplitOr columns k rows f
+split_or columns k rows f e split = rw e split

@@ -55,11 +55,13 @@ impl<'a> Gathered<'a> {
         ensures size { IfOk result (λ gathered. size_of gathered ≡ size) }
         ensures which { RefusedMemoryOnly result }
     {
+        let row = CutRow::new(alloc, columns, stored)?;
+        let buffers = KeyBuffers::new(alloc, stored, size);
         Ok(Gathered {
             schema,
             columns,
-            buffers: KeyBuffers::new(alloc, stored, size),
-            row: CutRow::new(alloc, columns, stored)?,
+            buffers,
+            row,
         })
     }
 

@@ -78,9 +78,11 @@ impl<'a> KeyBuffers<'a> {
             // Never reached: there is no memory for as many rows.
             return Err(Refusal::Memory);
         };
-        if self.fault.is_none() {
-            self.put(columns, row)?;
+        if self.fault.is_some() {
+            self.count = next;
+            return Ok(());
         }
+        self.put(columns, row)?;
         self.count = next;
         Ok(())
     }
