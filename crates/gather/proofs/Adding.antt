@@ -18,7 +18,7 @@ use Rattle.gather.specs.Groups.{waiting_after, waiting_rows, full_groups}
 use Rattle.gather.specs.KeyBuffers.{HoldsRows, Hold, AreSplit, IsPlaced, PutsAside}
 use Rattle.gather.proofs.BufferRows.{long_keys, key_here, rows_here, keys_set, waits_next, after_short, after_full, filled_short, full_next, waits_new, last_key}
 
-abbrev Key : Type 0
+abbrev pub Key : Type 0
 Key = List ValueTree
 
 -- the keys in the map, in the order of the buffers

@@ -1,5 +1,5 @@
 -- What is known of the rows that were taken.
-use Rattle.std.proofs.Common.{◌≡◌, ℕ, ◌+◌, arith, length-append, true, List, [], ◌∷◌, ◌++◌, length, map, refl, ap, sym, subst, ◌∙◌}
+use Rattle.std.proofs.Common.{◌≡◌, ℕ, ◌+◌, arith, length-append, true, false, List, [], ◌∷◌, ◌++◌, length, map, refl, ap, sym, subst, ◌∙◌}
 use Rattle.std.specs.Prelude.{Option, Some, None, is_some, option_map, MatchOption}
 use Rattle.std.specs.Borrow.{Bor}
 use Rattle.std.proofs.lemmas.Bool.{false≢true}
@@ -75,3 +75,13 @@ no_fault columns k rows (Some x) e split = cc
 
 pub split_or : (columns : List KeyColumn) (k : KeyBuffers) (rows : List ValueTrees) (f : Option KeyFault) → f ≡ None → AreSplit columns k rows → AreSplitOr columns k rows f
 split_or columns k rows f e split = rw e split
+
+-- where a fault is known, not each row has a key that can partition
+pub fault_not : (columns : List KeyColumn) (k : KeyBuffers) (rows : List ValueTrees) (f : Option KeyFault) → is_some f ≡ true → AreSplitOr columns k rows f → HaveKeys columns rows → ⊥
+fault_not columns k rows None e split have = false≢true e
+fault_not columns k rows (Some x) e fault have = fault_is columns rows x.row (key_view x.key) fault have
+
+-- where none is known, all rows are split
+pub split_when : (columns : List KeyColumn) (k : KeyBuffers) (rows : List ValueTrees) (f : Option KeyFault) → is_some f ≡ false → AreSplitOr columns k rows f → AreSplit columns k rows
+split_when columns k rows None e split = split
+split_when columns k rows (Some x) e fault = absurd (false≢true (sym e))

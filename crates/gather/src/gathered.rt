@@ -65,6 +65,27 @@ impl<'a> Gathered<'a> {
         })
     }
 
+    /// The schema of the rows.
+    pub fn schema(&self) -> &'a Schema
+        ensures { result.now ≡ schema_of self.now }
+    {
+        self.schema
+    }
+
+    /// The key columns.
+    pub fn columns(&self) -> &'a [KeyColumn]
+        ensures { key_columns_view result.now ≡ columns_of self.now }
+    {
+        self.columns
+    }
+
+    /// How many rows a group has.
+    pub fn size(&self) -> usize
+        ensures { result ≡ size_of self.now }
+    {
+        self.buffers.size
+    }
+
     /// How many rows there are.
     pub fn len(&self) -> usize
         ensures counted { (rows : List ValueTrees) → holds self.now rows → result ≡ length rows }
