@@ -1,5 +1,5 @@
 -- A row that goes to its key.
-use Rattle.std.proofs.Common.{◌≡◌, ℕ, suc, ◌<◌, ◌≤◌, ◌+◌, Bool, false, List, [], ◌∷◌, ◌++◌, length, get_or, set, map, refl, ap, sym, subst, ◌∙◌, arith, length-append}
+use Rattle.std.proofs.Common.{◌≡◌, ℕ, zero, suc, ◌<◌, ◌≤◌, ◌+◌, Bool, false, List, [], ◌∷◌, ◌++◌, length, get_or, set, map, refl, ap, sym, subst, ◌∙◌, arith, length-append}
 use Rattle.std.specs.Prelude.{◌||◌, if◌then◌else◌}
 use Rattle.std.specs.List.{AllByRecursion, list_any}
 use Rattle.std.proofs.lemmas.List.{set-set, get_or-set_same}
@@ -93,23 +93,23 @@ added_short columns old new rows row at was b n stored size full places waits is
     }
 
 -- the rows fill a group, which is put aside
-pub added_full : (columns : List KeyColumn) (old mid new : KeyBuffers) (rows : List ValueTrees) (row : ValueTrees) (at : ℕ) (was b : KeyBuffer) (n : ℕ) → new.stored ≡ old.stored → new.size ≡ old.size → stored_keys new ≡ stored_keys old
-    → mid.full.items ≡ old.full.items → mid.waiting.items ≡ set old.waiting.items at b → PutsAside at old.stored.now mid.waiting.items mid.full.items new.waiting.items new.full.items
+pub added_full : (columns : List KeyColumn) (old new : KeyBuffers) (rows : List ValueTrees) (row : ValueTrees) (at : ℕ) (was b : KeyBuffer) (n : ℕ) → new.stored ≡ old.stored → new.size ≡ old.size → stored_keys new ≡ stored_keys old
+    → PutsAside at old.stored.now (set old.waiting.items at b) old.full.items new.waiting.items new.full.items
     → IsLonger columns old rows row at was b → ((rs : List ValueTrees) → holds b.rows rs → n ≡ length rs) → old.size ≤ n → IsPlaced columns old rows (key_of_row columns row) at
     → AreSplit columns new (rows ++ row ∷ [])
-added_full columns old mid new rows row at was b n stored size places full waits puts is counts large placed =
+added_full columns old new rows row at was b n stored size places puts is counts large placed =
     let k = key_of_row columns row in
     let held = waiting_rows columns old.size k rows in
     let longer = holds_more columns old rows row at was b is placed in
     let count = one_longer held (row_without_keys columns row) n (counts _ longer.held) in
     let many : old.size ≤ suc (length held) = omega (arith, count, large) in
-    let read : puts.old ≡ b = subst (λ (bs : List KeyBuffer). puts.old ≡ get_or bs at puts.old) waits puts.was ∙ get_or-set_same old.waiting.items at b puts.old is.within in
+    let read : puts.old ≡ b = puts.was ∙ get_or-set_same old.waiting.items at b puts.old is.within in
     let named : key_view puts.old.key ≡ key_view was.key = ap (λ (x : KeyBuffer). key_view x.key) read ∙ is.key in
     let is_k = key_here old.waiting.items at was k is.within is.read placed.key_is in
     let rows_are = puts.aside_rows ∙ ap (λ (x : KeyBuffer). x.rows) read in
     let aside : HoldsRows old.stored.now (held ++ row_without_keys columns row ∷ []) puts.aside = record { schema = ap schema_of rows_are ∙ longer.schema; held = rw rows_are longer.held } in
-    let grows : new.full.items ≡ old.full.items ++ puts.aside ∷ [] = puts.grows ∙ ap (λ (bs : List KeyBuffer). bs ++ puts.aside ∷ []) full in
-    let left : new.waiting.items ≡ set old.waiting.items at puts.fresh = puts.waits ∙ ap (λ (bs : List KeyBuffer). set bs at puts.fresh) waits ∙ set-set old.waiting.items at b puts.fresh in
+    let grows : new.full.items ≡ old.full.items ++ puts.aside ∷ [] = puts.grows in
+    let left : new.waiting.items ≡ set old.waiting.items at puts.fresh = puts.waits ∙ set-set old.waiting.items at b puts.fresh in
     let fresh = puts.fresh_key ∙ named in
     record {
       full = rw (stored, size, grows) (full_next columns old.size old.stored.now rows row old.full.items puts.aside many (puts.aside_key ∙ named ∙ is_k) aside placed.split.full);
@@ -118,3 +118,9 @@ added_full columns old mid new rows row at was b n stored size places full waits
           (subst (λ (rs : List ValueTrees). HoldsRows old.stored.now rs puts.fresh) (sym (after_full old.size held (row_without_keys columns row) many)) puts.fresh_rows) placed.split.waiting);
       places = places ∙ placed.split.places ∙ sym (ap keys_of left ∙ keys_set old.waiting.items at was puts.fresh is.read fresh);
     }
+
+-- what is read twice at a place is the same
+pub same_here : (bs : List KeyBuffer) (at : ℕ) (x y : KeyBuffer) → at < length bs → x ≡ get_or bs at x → y ≡ get_or bs at y → x ≡ y
+same_here [] at x y h p q = absurd (omega (arith, h))
+same_here (b ∷ bs) zero x y h p q = p ∙ sym q
+same_here (b ∷ bs) (suc at) x y h p q = same_here bs at x y (omega (arith, h)) p q

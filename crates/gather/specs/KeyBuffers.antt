@@ -93,3 +93,19 @@ pub record PutsAside (at : ℕ) (fs : Fields) (waiting full waiting_new full_new
   pub fresh_rows : HoldsRows fs [] fresh
   pub aside_key : key_view aside.key ≡ key_view old.key
   pub aside_rows : aside.rows ≡ old.rows
+
+-- only keys were added, with buffers for their rows
+pub record AddsKeys (old new : KeyBuffers) : Type 0 where
+  pub stored : new.stored ≡ old.stored
+  pub size : new.size ≡ old.size
+  pub count : new.count ≡ old.count
+  pub full : new.full ≡ old.full
+  pub fault : new.fault ≡ old.fault
+
+-- only the rows that wait and the full groups changed
+pub record KeepsKeys (old new : KeyBuffers) : Type 0 where
+  pub stored : new.stored ≡ old.stored
+  pub size : new.size ≡ old.size
+  pub count : new.count ≡ old.count
+  pub places : new.places ≡ old.places
+  pub fault : new.fault ≡ old.fault

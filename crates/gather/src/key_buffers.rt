@@ -45,7 +45,7 @@ pub(crate) struct KeyBuffers<'a> {
 }
 
 impl<'a> KeyBuffers<'a> {
-    ghost use Rattle.gather.specs.KeyBuffers.{HaveTaken, AreSplit, AreSplitOr, IsPlaced, HoldGroups, PutsAside};
+    ghost use Rattle.gather.specs.KeyBuffers.{HaveTaken, AreSplit, AreSplitOr, IsPlaced, HoldGroups, PutsAside, AddsKeys, KeepsKeys};
 
     /// No rows.
     pub(crate) fn new(alloc: Global, stored: &'a Schema, size: usize) -> KeyBuffers<'a>
@@ -116,7 +116,7 @@ impl<'a> KeyBuffers<'a> {
         ensures placed { IfOk result (λ found. (rows : List ValueTrees) → let keys = key_columns_view columns.now in AreSplit keys self.old rows
             → MatchOption found (CanPartition keys (parts_view parts.now.items) → ⊥) (λ at. IsPlaced keys self.new rows (parts_view parts.now.items) at)) }
         ensures none { result ≡ Ok None → self.new ≡ self.old }
-        ensures same { self.new ≡ record self.old { waiting = self.new.waiting; places = self.new.places; alike = self.new.alike } }
+        ensures same { AddsKeys self.old self.new }
         ensures which { RefusedMemoryOnly result }
     {
         if let Some(at) = self.places.get_index_of(parts) {
@@ -139,7 +139,7 @@ impl<'a> KeyBuffers<'a> {
         requires schema { schema_of rest.now ≡ self.old.stored.now }
         ensures added { OnOk result ((columns : List Column) (rows : List ValueTrees) (row : ValueTrees) → IsPlaced columns self.old rows (key_of_row columns row) at
             → holds rest.now (row_without_keys columns row ∷ []) → AreSplit columns self.new (rows ++ row ∷ [])) }
-        ensures same { self.new ≡ record self.old { waiting = self.new.waiting; full = self.new.full; alike = self.new.alike } }
+        ensures same { KeepsKeys self.old self.new }
         ensures which { RefusedMemoryOnly result }
     {
         if at >= self.waiting.len() {
@@ -157,7 +157,7 @@ impl<'a> KeyBuffers<'a> {
     fn put_aside(&mut self, at: usize) -> R<()>
         requires within { at < length self.old.waiting.items }
         ensures aside { OnOk result (PutsAside at self.old.stored.now self.old.waiting.items self.old.full.items self.new.waiting.items self.new.full.items) }
-        ensures same { self.new ≡ record self.old { waiting = self.new.waiting; full = self.new.full; alike = self.new.alike } }
+        ensures same { KeepsKeys self.old self.new }
         ensures which { RefusedMemoryOnly result }
     {
         let key = self.waiting[at].key.copied(self.alloc)?;

@@ -27,7 +27,7 @@ returns-clause-placed c = λ rows split.
     let other = subst (AllByRecursion (λ (l : Key). is_same_key k l ≡ false)) split.places stored in
     let named = c.in_ok-key.ensures.stands ∙ ap parts_view c.as_slice.ensures.value in
     let can = subst (CanPartition (key_columns_view c.args.columns.now)) named (c.can_partition.ensures.0 c.if-not-can_partition.false) in
-    let same : parts_view c.in_ok-copies.copies.items ≡ k = c.in_ok-copies.ensures.same ∙ ap parts_view c.as_slice-copies.ensures.value in
+    let same : parts_view c.in_ok-copies.copies.items ≡ k = c.in_ok-copies.ensures.same ∙ ap parts_view c.as_slice-2.ensures.value in
     let absent = not_among (λ x. parts_view x.items) k _ (λ x. same_parts _ (by_kinds _ (λ a b. refl) (λ a b. refl) (λ a b. refl) (λ a b. refl) (λ a b. refl) (λ a b. refl) (λ a b. refl) (λ a b. refl) (λ a b. refl)) c.in_ok-copies.copies.items x.items ∙ ap (λ (l : Key). is_same_key l (parts_view x.items)) same) old.places.keys stored in
     let added = ap (map (λ x. parts_view x.items)) c.in_ok-insert.ensures.keys ∙ keys_added (λ x. parts_view x.items) _ old.places.keys c.in_ok-copies.copies absent ∙ (λ i. split.places i ++ same i ∷ []) in
     placed_new (key_columns_view c.args.columns.now) old _ rows k _ refl refl refl can other named (record { schema = c.in_ok-rows.ensures.of; held = c.in_ok-rows.ensures.begins }) c.in_ok-push.ensures.items added split
