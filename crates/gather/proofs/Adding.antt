@@ -35,10 +35,10 @@ pub keys_added : {X : Type 0} (f : X → Key) (t : X → Bool) (xs : List X) (x 
 keys_added f t xs x none = ap (λ (b : Bool). map f (if b then xs else xs ++ x ∷ [])) none ∙ map_push f xs x
 
 -- a new key is placed
-pub placed_new : (columns : List KeyColumn) (old new : KeyBuffers) (rows : List ValueTrees) (k : Key) (b : KeyBuffer) → new.stored ≡ old.stored → new.size ≡ old.size → new.full.items ≡ old.full.items → CanPartition columns k
+pub placed_new : (columns : List KeyColumn) (old new : KeyBuffers) (rows : List ValueTrees) (k : Key) (b : KeyBuffer) (at : ℕ) → at ≡ length old.waiting.items → new.stored ≡ old.stored → new.size ≡ old.size → new.full.items ≡ old.full.items → CanPartition columns k
     → AllByRecursion (λ l. is_same_key k l ≡ false) (keys_of old.waiting.items) → key_view b.key ≡ k → HoldsRows old.stored.now [] b → new.waiting.items ≡ old.waiting.items ++ b ∷ []
-    → stored_keys new ≡ keys_of old.waiting.items ++ k ∷ [] → AreSplit columns old rows → IsPlaced columns new rows k (length old.waiting.items)
-placed_new columns old new rows k b stored size full can other named empty waits places split =
+    → stored_keys new ≡ keys_of old.waiting.items ++ k ∷ [] → AreSplit columns old rows → IsPlaced columns new rows k at
+placed_new columns old new rows k b at place stored size full can other named empty waits places split =
     let keys : keys_of old.waiting.items ++ k ∷ [] ≡ keys_of new.waiting.items =
     ap (λ (l : Key). keys_of old.waiting.items ++ l ∷ []) (sym named) ∙ sym (map_push (λ (x : KeyBuffer). key_view x.key) old.waiting.items b) ∙ sym (ap keys_of waits) in
     let last = last_key (keys_of old.waiting.items) k in
@@ -49,8 +49,8 @@ placed_new columns old new rows k b stored size full can other named empty waits
         waiting = rw (stored, size, waits) (waits_new columns old.size old.stored.now rows old.waiting.items k b can other named empty split.waiting);
         places = places ∙ keys;
       };
-      within = subst (λ (ks : List Key). length old.waiting.items < length ks) keys (omega (arith, last.0, long));
-      key_is = subst (λ (ks : List Key). get_or ks (length old.waiting.items) k ≡ k) keys (subst (λ (n : ℕ). get_or (keys_of old.waiting.items ++ k ∷ []) n k ≡ k) long last.1);
+      within = subst (λ (ks : List Key). at < length ks) keys (omega (arith, last.0, long, place));
+      key_is = subst (λ (ks : List Key). get_or ks at k ≡ k) keys (subst (λ (n : ℕ). get_or (keys_of old.waiting.items ++ k ∷ []) n k ≡ k) (long ∙ sym place) last.1);
     }
 
 -- the buffer `b` of the key, whose place it has, with one row more than `was`

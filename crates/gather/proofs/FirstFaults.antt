@@ -65,8 +65,8 @@ fault_read columns k rows (Some x) (Some y) e have split =
     subst (λ (z : KeyFault). IsFirstFault columns rows z.row (key_view z.key)) (sym same) split
 
 -- one row more is counted
-pub one_longer : (rows : List ValueTrees) (row : ValueTrees) (count next : ℕ) → count ≡ length rows → next ≡ count + 1 → next ≡ length (rows ++ row ∷ [])
-one_longer rows row count next counted more = omega (arith, counted, more, length-append rows (row ∷ []))
+pub counted_more : (rows : List ValueTrees) (row : ValueTrees) (count next : ℕ) → count ≡ length rows → next ≡ count + 1 → next ≡ length (rows ++ row ∷ [])
+counted_more rows row count next counted more = omega (arith, counted, more, length-append rows (row ∷ []))
 
 -- where there is no fault, all rows are split
 pub no_fault : (columns : List KeyColumn) (k : KeyBuffers) (rows : List ValueTrees) (f : Option KeyFault) → f ≡ None → AreSplitOr columns k rows f → AreSplit columns k rows

@@ -80,11 +80,7 @@ impl<'a> CutRow<'a> {
 
     /// Is shown a null, or a value of a leaf, in no group and no list.
     #[inline(always)]
-    fn value_at_top(
-        &mut self,
-        columns: &[KeyColumn],
-        value: ValueRef<'_>,
-    ) -> Result<(), AllocError>
+    fn value_at_top(&mut self, columns: &[KeyColumn], value: ValueRef<'_>) -> Result<(), AllocError>
         requires top { self.old.depth ≡ 0 }
         ensures shown { OnOk result (Adds (CutShown (key_columns_view columns.now) self.old) (CutShown (key_columns_view columns.now) self.new) (single (value_ref_view value.entry) ∷ [])) }
         ensures same_schema { rest_schema self.new ≡ rest_schema self.old }

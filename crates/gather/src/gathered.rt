@@ -12,8 +12,8 @@ ghost use Rattle.gather.specs.CutRows.{rest_schema};
 ghost use Rattle.gather.specs.Buffers.{Schema-prop};
 
 use crate::cut_row::CutRow;
-use crate::key_buffers::KeyBuffers;
 use crate::key_buffer::{KeyBuffer, KeyFault};
+use crate::key_buffers::KeyBuffers;
 use assemble::{RowSink, show_row};
 use bits::{R, Refusal};
 use schema::{KeyColumn, Row, Schema, ValueRef};

@@ -5,8 +5,8 @@
 
 mod cut_row;
 mod gathered;
-mod key_buffers;
 mod key_buffer;
+mod key_buffers;
 mod part;
 
 pub use gathered::Gathered;

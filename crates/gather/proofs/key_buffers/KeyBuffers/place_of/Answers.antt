@@ -1,4 +1,4 @@
-use Rattle.std.proofs.Common.{◌≡◌, ◌<◌, ◌++◌, ◌∷◌, [], List, false, true, length, get_or, map, refl, ap, sym, subst, ◌∙◌}
+use Rattle.std.proofs.Common.{◌≡◌, ◌<◌, ◌++◌, ◌∷◌, [], List, false, true, length, get_or, map, refl, ap, sym, subst, ◌∙◌, arith}
 use Rattle.std.specs.Prelude.{Bool, is_some, if◌then◌else◌}
 use Rattle.std.specs.List.{AllByRecursion}
 use Rattle.schema.specs.Keys.{key_columns_view}
@@ -30,4 +30,5 @@ returns-clause-placed c = λ rows split.
     let same : parts_view c.in_ok-copies.copies.items ≡ k = c.in_ok-copies.ensures.same ∙ ap parts_view c.as_slice-2.ensures.value in
     let absent = not_among (λ x. parts_view x.items) k _ (λ x. same_parts _ (by_kinds _ (λ a b. refl) (λ a b. refl) (λ a b. refl) (λ a b. refl) (λ a b. refl) (λ a b. refl) (λ a b. refl) (λ a b. refl) (λ a b. refl)) c.in_ok-copies.copies.items x.items ∙ ap (λ (l : Key). is_same_key l (parts_view x.items)) same) old.places.keys stored in
     let added = ap (map (λ x. parts_view x.items)) c.in_ok-insert.ensures.keys ∙ keys_added (λ x. parts_view x.items) _ old.places.keys c.in_ok-copies.copies absent ∙ (λ i. split.places i ++ same i ∷ []) in
-    placed_new (key_columns_view c.args.columns.now) old _ rows k _ refl refl refl can other named (record { schema = c.in_ok-rows.ensures.of; held = c.in_ok-rows.ensures.begins }) c.in_ok-push.ensures.items added split
+    let place : c.len-at.result ≡ length old.waiting.items = omega (arith, c.len-at.ensures) in
+    placed_new (key_columns_view c.args.columns.now) old _ rows k _ c.len-at.result place refl refl refl can other named (record { schema = c.in_ok-rows.ensures.of; held = c.in_ok-rows.ensures.begins }) c.in_ok-push.ensures.items added split
