@@ -64,8 +64,8 @@ whole_dropped old new same restarts (t ∷ u ∷ w ∷ ts) h = absurd h
 pub shown_row : (g : Gathered) (fs : Fields) (rows : List ValueTrees) (values : ValueTrees) → ShowsRow g fs rows values → Holds g rows (tokens_each values)
 shown_row g fs rows values h = subst (λ (rs : List ValueTrees). Holds g rs (tokens_each values)) (rows_back rows) h.1
 
-pub shown_schema : (g : Gathered) (fs : Fields) (rows : List ValueTrees) (values : ValueTrees) → ShowsRow g fs rows values → fs ≡ schema_of g
-shown_schema g fs rows values h = one_schema fs (schema_of g) h.0
+pub shown_schema : (g : Gathered) (fs : Fields) (rows : List ValueTrees) (row : ValueTrees) → ShowsRow g fs rows row → fs ≡ schema_of g
+shown_schema g fs rows row h = one_schema fs (schema_of g) h.0
 
 -- one row more
 pub row_gathered : (old new : Gathered) (rows : List ValueTrees) (values : ValueTrees) → schema_of new ≡ schema_of old → columns_of new ≡ columns_of old → new.buffers.stored ≡ old.buffers.stored → part_count new.row ≡ part_count old.row

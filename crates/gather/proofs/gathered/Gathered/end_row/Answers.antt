@@ -15,3 +15,12 @@ returns-clause-stands c = λ fs rows values shown fit.
     let cut = c.in_ok-end_row.ensures.cut (columns_of g) (schema_of g) values table.keyed (table.besides ∙ sym g.alike) fits so.row in
     row_gathered g _ rows values refl refl c.take.ensures.same_schema (c.restart.ensures.same_parts ∙ c.end_row.ensures.same_parts) fits so (c.in_ok-take.ensures.taken rows values so.gathered.buffers cut)
     (λ columns many. c.restart.ensures.begins columns (c.end_row.ensures.same_parts ∙ many))
+
+pub returns-clause-of : goal.returns-clause-of
+returns-clause-of c = λ fs rows values shown. sym (shown_schema c.args.self.now fs rows values shown)
+
+pub returns-in_err-end_row-clause-of : goal.returns-in_err-end_row-clause-of
+returns-in_err-end_row-clause-of c = λ fs rows values shown. sym (shown_schema c.args.self.now fs rows values shown)
+
+pub returns-in_err-take-clause-of : goal.returns-in_err-take-clause-of
+returns-in_err-take-clause-of c = λ fs rows values shown. sym (shown_schema c.args.self.now fs rows values shown)
