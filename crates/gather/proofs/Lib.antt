@@ -1,0 +1,12 @@
+pub mod WaitingRows
+pub mod SameParts
+pub mod CutTokens
+pub mod CutKeys
+pub mod CutShowing
+pub mod BufferRows
+pub mod FirstFaults
+pub mod GroupOrder
+pub mod Gathering
+pub mod PutParts
+pub mod Adding
+pub mod Schemas
