@@ -22,7 +22,8 @@ cut_at place depth rest key = record { place = place; depth = depth; rest = rest
 
 -- a value that is no group and no list is shown at this depth: at depth 0 it may be of the key
 abbrev pub single_shown : List ℕ → Cut → ValueTree → ℕ → Cut
-single_shown places c v zero = cut_at (suc c.place) 0 (if is_among places c.place then c.rest else c.rest ++ single v ∷ []) (put_at places c.place (kept_value v) c.key)
+single_shown places c v zero =
+    cut_at (suc c.place) 0 (if is_among places c.place then c.rest else c.rest ++ single v ∷ []) (put_at places c.place (kept_value v) c.key)
 single_shown places c v (suc depth) = cut_at c.place (suc depth) (c.rest ++ single v ∷ []) c.key
 
 -- a group or a list begins

@@ -41,7 +41,8 @@ full_groups columns size rows = filled_after columns size [] rows
 pub record AreRests (columns : List KeyColumn) (size : ℕ) (rows : List ValueTrees) (rests : List KeyRows) : Type 0 where
   pub ascending : AreAscending (map (λ p. p.key) rests)
   pub each : AllByRecursion (λ (p : KeyRows). CanPartition columns p.key × (p.rows ≡ waiting_rows columns size p.key rows) × (p.rows ≢ [])) rests
-  pub every : AllByRecursion (λ row. (waiting_rows columns size (key_of_row columns row) rows ≡ []) ⊎ Contains (map (λ p. p.key) rests) (key_of_row columns row)) rows
+  pub every : AllByRecursion (λ row. (waiting_rows columns size (key_of_row columns row) rows ≡ [])
+      ⊎ Contains (map (λ p. p.key) rests) (key_of_row columns row)) rows
 
 -- the groups of rows: those that they fill, in the order in which they do, and then the rest of each key, keys ascending
 pub record AreGroups (columns : List KeyColumn) (size : ℕ) (rows : List ValueTrees) (groups : List KeyRows) : Type 0 where

@@ -68,7 +68,8 @@ impl<'a> CutRow<'a> {
         columns: &[KeyColumn],
         value: ValueRef<'_>,
     ) -> Result<(), AllocError>
-        ensures shown { OnOk result (Adds (CutShown (key_columns_view columns.now) self.old) (CutShown (key_columns_view columns.now) self.new) (single (value_ref_view value.entry) ∷ [])) }
+        ensures shown { OnOk result (Adds (CutShown (key_columns_view columns.now) self.old) (CutShown (key_columns_view columns.now) self.new)
+            (single (value_ref_view value.entry) ∷ [])) }
         ensures same_schema { rest_schema self.new ≡ rest_schema self.old }
         ensures same_parts { part_count self.new ≡ part_count self.old }
     {
@@ -82,7 +83,8 @@ impl<'a> CutRow<'a> {
     #[inline(always)]
     fn value_at_top(&mut self, columns: &[KeyColumn], value: ValueRef<'_>) -> Result<(), AllocError>
         requires top { self.old.depth ≡ 0 }
-        ensures shown { OnOk result (Adds (CutShown (key_columns_view columns.now) self.old) (CutShown (key_columns_view columns.now) self.new) (single (value_ref_view value.entry) ∷ [])) }
+        ensures shown { OnOk result (Adds (CutShown (key_columns_view columns.now) self.old) (CutShown (key_columns_view columns.now) self.new)
+            (single (value_ref_view value.entry) ∷ [])) }
         ensures same_schema { rest_schema self.new ≡ rest_schema self.old }
         ensures same_parts { part_count self.new ≡ part_count self.old }
     {

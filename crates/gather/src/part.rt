@@ -117,7 +117,8 @@ pub(crate) fn put_part(
 ) -> Result<bool, AllocError>
     ensures is { IfOk result (λ here. here ≡ is_among (places_of (key_columns_view columns.now)) place) }
     ensures many { length parts.new.items ≡ length parts.old.items }
-    ensures put { OnOk result (parts_view parts.new.items ≡ put_at (places_of (key_columns_view columns.now)) place (kept_value (value_ref_view value.entry)) (parts_view parts.old.items)) }
+    ensures put { OnOk result (parts_view parts.new.items
+        ≡ put_at (places_of (key_columns_view columns.now)) place (kept_value (value_ref_view value.entry)) (parts_view parts.old.items)) }
 {
     for (i, column) in columns.iter().enumerate() {
         if column.at == place {
