@@ -1,5 +1,5 @@
 -- A row that goes to its key.
-use Rattle.std.proofs.Common.{◌≡◌, ℕ, zero, suc, ◌<◌, ◌≤◌, ◌+◌, Bool, false, List, [], ◌∷◌, ◌++◌, length, get_or, set, map, refl, ap, sym, subst, ◌∙◌, arith, length-append}
+use Rattle.std.proofs.Common.{◌≡◌, ℕ, zero, suc, ◌<◌, ◌≤◌, Bool, false, List, [], ◌∷◌, ◌++◌, length, get_or, set, map, refl, ap, sym, subst, ◌∙◌, arith, length-append}
 use Rattle.std.specs.Prelude.{◌||◌, if◌then◌else◌}
 use Rattle.std.specs.List.{AllByRecursion, list_any}
 use Rattle.std.proofs.lemmas.List.{set-set, get_or-set_same}
@@ -14,7 +14,7 @@ use Rattle.gather.specs.declared.key_buffer.KeyBuffer.{KeyBuffer}
 use Rattle.gather.specs.declared.key_buffers.KeyBuffers.{KeyBuffers}
 use Rattle.gather.specs.Parts.{parts_view}
 use Rattle.gather.specs.Buffers.{keys_of}
-use Rattle.gather.specs.Groups.{waiting_after, waiting_rows, full_groups}
+use Rattle.gather.specs.Groups.{waiting_rows}
 use Rattle.gather.specs.KeyBuffers.{HoldsRows, Hold, AreSplit, IsPlaced, PutsAside}
 use Rattle.gather.proofs.BufferRows.{long_keys, key_here, rows_here, keys_set, waits_next, after_short, after_full, filled_short, full_next, waits_new, last_key}
 

@@ -1,15 +1,15 @@
 -- The key of a row that fits, put together from its values.
-use Rattle.std.proofs.Common.{◌≡◌, ℕ, zero, suc, ◌+◌, ◌<◌, ◌≤◌, Bool, true, false, List, [], ◌∷◌, length, Some, None, refl, ap, ap₂, sym, ◌∙◌, arith, IsTrue, eqb-true}
-use Rattle.std.specs.Prelude.{cond, nat_eq, ◌||◌, if◌then◌else◌, Option}
+use Rattle.std.proofs.Common.{◌≡◌, ℕ, zero, suc, ◌+◌, ◌<◌, Bool, true, false, List, [], ◌∷◌, length, Some, refl, ap, ap₂, sym, ◌∙◌, arith, eqb-true}
+use Rattle.std.specs.Prelude.{nat_eq, ◌||◌, if◌then◌else◌, Option}
 use Rattle.std.specs.List.{AllByRecursion}
 use Rattle.std.proofs.lemmas.Bool.{false≢true, and_parts, eq-eqb}
 use Rattle.schema.specs.declared.key.KeyKind.{KeyKind}
 use Rattle.schema.specs.declared.key.KeyKind.TheVariants.{Boolean, Int32, Int64, Utf8}
 use Rattle.schema.specs.Cutting.{is_among}
-use Rattle.schema.specs.Values.{ValueTree, null, boolean, integer, bytes, group, list, ValueTrees, no_values, value, member_at}
+use Rattle.schema.specs.Values.{ValueTree, boolean, integer, bytes, ValueTrees, no_values, value, member_at}
 use Rattle.schema.specs.Shape.{Field, Fields, no_fields, field}
-use Rattle.schema.specs.Fits.{fits_kind, fits_leaf, fits, fits_each}
-use Rattle.schema.specs.Keys.{KeyColumn, stored_kind, key_type, key_field, field_at, places_of, AreDistinct, AreKeys, key_of_row, width}
+use Rattle.schema.specs.Fits.{fits_kind, fits, fits_each}
+use Rattle.schema.specs.Keys.{KeyColumn, stored_kind, key_field, field_at, places_of, AreDistinct, AreKeys, key_of_row, width}
 use Rattle.gather.specs.Parts.{put_at}
 use Rattle.gather.proofs.CutTokens.{IsSingle, AreSingle, put_each, put_none}
 

@@ -1,5 +1,5 @@
 -- A row that is cut as it is shown.
-use Rattle.std.proofs.Common.{◌≡◌, ℕ, zero, suc, ◌<◌, Bool, true, false, arith, List, [], ◌∷◌, ◌++◌, length, map, refl, ap, sym, subst, ◌∙◌}
+use Rattle.std.proofs.Common.{◌≡◌, ℕ, zero, suc, ◌<◌, Bool, true, false, arith, List, [], ◌∷◌, ◌++◌, length, refl, ap, sym, subst, ◌∙◌}
 use Rattle.std.specs.Prelude.{if◌then◌else◌}
 use Rattle.std.proofs.lemmas.List.{length-map}
 use Rattle.schema.specs.Cutting.{is_among}
@@ -14,7 +14,7 @@ use Rattle.shred.specs.Buffer.{Holds, holds, buffer_shows, ShowsRow}
 use Rattle.shred.specs.inner.Opening.{schema_token, rows_token}
 use Rattle.gather.specs.declared.cut_row.CutRow.{CutRow}
 use Rattle.gather.specs.Parts.{part_view, parts_view, kept_value, put_at}
-use Rattle.gather.specs.CutRows.{Cut, cut_at, single_shown, ended_by, cut_step, cut_run, CutShown, Leaves, IsCut}
+use Rattle.gather.specs.CutRows.{Cut, cut_at, single_shown, ended_by, cut_step, CutShown, Leaves, IsCut}
 use Rattle.gather.proofs.CutTokens.{run_append, row_cut}
 use Rattle.gather.proofs.CutKeys.{fits_single, key_put}
 

@@ -15,7 +15,7 @@ use Rattle.schema.specs.Values.{ValueTree, ValueTrees}
 use Rattle.schema.specs.Views.{key_view}
 use Rattle.schema.specs.Keys.{KeyColumn, key_of_row}
 use Rattle.shred.specs.Buffer.{holds}
-use Rattle.partition.specs.Folders.{is_key, CanPartition}
+use Rattle.partition.specs.Folders.{CanPartition}
 use Rattle.partition.specs.Order.{key_cmp, is_same_key, AreAscending}
 use Rattle.partition.specs.Splitting.{KeyRows}
 use Rattle.partition.specs.inner.Parts.{AreDifferent}
@@ -24,7 +24,7 @@ use Rattle.partition.proofs.WithKeys.{all_map}
 use Rattle.gather.specs.declared.key_buffer.KeyBuffer.{KeyBuffer}
 use Rattle.gather.specs.Groups.{waiting_rows, full_groups}
 use Rattle.gather.specs.Buffers.{keys_of}
-use Rattle.gather.specs.KeyBuffers.{HoldsRows, HoldEach, AreWaiting, HoldsGroup, Hold, HoldGroups}
+use Rattle.gather.specs.KeyBuffers.{HoldsRows, HoldEach, AreWaiting, Hold, HoldGroups}
 
 abbrev Key : Type 0
 Key = List ValueTree

@@ -1,5 +1,5 @@
 -- Buffers whose rows are of one schema.
-use Rattle.std.proofs.Common.{◌≡◌, ℕ, zero, suc, ◌<◌, List, [], ◌∷◌, ◌++◌, length, get_or, set, refl, ap, sym, ◌∙◌, arith}
+use Rattle.std.proofs.Common.{◌≡◌, ℕ, zero, suc, ◌<◌, List, [], ◌∷◌, ◌++◌, length, get_or, set, ap, ◌∙◌, arith}
 use Rattle.schema.specs.Shape.{Fields}
 use Rattle.shred.specs.Buffer.{schema_of}
 use Rattle.gather.specs.declared.key_buffer.KeyBuffer.{KeyBuffer}

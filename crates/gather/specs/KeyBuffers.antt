@@ -7,7 +7,6 @@ use Rattle.schema.specs.Views.{key_view}
 use Rattle.schema.specs.Keys.{KeyColumn, key_of_row}
 use Rattle.shred.specs.Buffer.{schema_of, holds}
 use Rattle.partition.specs.Folders.{CanPartition}
-use Rattle.partition.specs.Order.{is_same_key}
 use Rattle.partition.specs.Splitting.{KeyRows, HaveKeys}
 use Rattle.partition.specs.inner.Parts.{AreDifferent}
 use Rattle.gather.specs.declared.key_buffer.KeyBuffer.{KeyBuffer}

@@ -1,10 +1,9 @@
-use Rattle.std.proofs.Common.{rules, ◌≡◌, ◌<◌, ◌≤◌, ℕ, false, nat_eq, List, length, set, ap, sym, subst, ◌∙◌, arith}
+use Rattle.std.proofs.Common.{rules, ◌≡◌, ◌<◌, ◌≤◌, false, nat_eq, List, length, set, ap, sym, subst, ◌∙◌, arith}
 use Rattle.std.specs.List.{All}
 use Rattle.std.proofs.lemmas.List.{length-map, take_all}
 use Rattle.std.proofs.lemmas.List.Elements.{All-more}
 use Rattle.schema.specs.Borrowed.{value_ref_view}
 use Rattle.schema.specs.Values.{ValueTree}
-use Rattle.schema.specs.declared.key.KeyColumn.{KeyColumn}
 use Rattle.gather.specs.Parts.{part_view, parts_view, kept_value, put_at}
 use Rattle.gather.proofs.CutTokens.{put_none}
 use Rattle.gather.proofs.PutParts.{IsElsewhere, places, among_found, put_found, put_short, among_none, set_part}

@@ -1,7 +1,6 @@
-use Rattle.std.proofs.Common.{◌≡◌, true, List, length, refl, sym, subst, ◌∙◌}
+use Rattle.std.proofs.Common.{◌≡◌, true, refl, sym, subst, ◌∙◌}
 use Rattle.schema.specs.Shape.{Fields}
 use Rattle.schema.specs.Fits.{fits_each}
-use Rattle.schema.specs.Keys.{KeyColumn}
 use Rattle.gather.specs.GatheredRows.{columns_of, schema_of}
 use Rattle.gather.proofs.Gathering.{shown_row, shown_schema, row_gathered}
 use Rattle.gather.proofs.gathered.Gathered.end_row.Goals as goal

@@ -1,8 +1,7 @@
-use Rattle.std.proofs.Common.{◌≡◌, ◌<◌, List, [], ◌∷◌, length, map, refl, ap, sym, subst, ◌∙◌, arith}
+use Rattle.std.proofs.Common.{◌≡◌, ◌<◌, [], ◌∷◌, length, map, refl, ap, sym, subst, ◌∙◌, arith}
 use Rattle.std.proofs.lemmas.List.{get_or-set_same}
 use Rattle.std.proofs.lemmas.Result.{on_ok_weaker}
-use Rattle.schema.specs.Values.{ValueTrees}
-use Rattle.schema.specs.Keys.{KeyColumn, row_without_keys}
+use Rattle.schema.specs.Keys.{row_without_keys}
 use Rattle.shred.specs.Buffer.{holds}
 use Rattle.gather.specs.declared.key_buffer.KeyBuffer.{KeyBuffer}
 use Rattle.gather.specs.Parts.{parts_view}

@@ -1,11 +1,10 @@
-use Rattle.std.proofs.Common.{◌≡◌, ◌<◌, ◌++◌, ◌∷◌, [], List, false, true, length, get_or, map, refl, ap, sym, subst, ◌∙◌, arith}
-use Rattle.std.specs.Prelude.{Bool, is_some, if◌then◌else◌}
+use Rattle.std.proofs.Common.{◌≡◌, ◌<◌, ◌++◌, ◌∷◌, [], List, false, length, get_or, map, refl, ap, sym, subst, ◌∙◌, arith}
+use Rattle.std.specs.Prelude.{is_some}
 use Rattle.std.specs.List.{AllByRecursion}
 use Rattle.schema.specs.Keys.{key_columns_view}
 use Rattle.partition.specs.Folders.{CanPartition}
 use Rattle.partition.specs.Order.{is_same_key}
 use Rattle.partition.proofs.Places.{found_at, absent_from}
-use Rattle.partition.proofs.WithKeys.{map_push}
 use Rattle.gather.specs.Parts.{parts_view}
 use Rattle.gather.proofs.SameParts.{same_parts, by_kinds}
 use Rattle.gather.proofs.Adding.{Key, not_among, keys_added, placed_new}

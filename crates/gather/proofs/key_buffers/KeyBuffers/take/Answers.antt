@@ -1,4 +1,4 @@
-use Rattle.std.proofs.Common.{◌≡◌, ◌+◌, ◌++◌, ◌∷◌, [], length, refl, sym, ◌∙◌}
+use Rattle.std.proofs.Common.{◌++◌, ◌∷◌, [], refl, sym, ◌∙◌}
 use Rattle.schema.specs.Keys.{key_columns_view}
 use Rattle.gather.proofs.FirstFaults.{counted_more, split_same, fault_more}
 use Rattle.gather.proofs.key_buffers.KeyBuffers.take.Goals as goal
