@@ -10,3 +10,4 @@ pub mod Gathering
 pub mod PutParts
 pub mod Adding
 pub mod Schemas
+pub mod EachRow

@@ -4,3 +4,4 @@ pub mod Buffers
 pub mod KeyBuffers
 pub mod CutRows
 pub mod GatheredRows
+pub mod Laws
