@@ -173,16 +173,23 @@ FLAT = {
 }
 
 
-def write_lines(path, columns, places):
+PRINTED = (",", ":")
+BLANKS = (", ", ": ")
+
+# Lines as this program prints them, as Python's json.dumps does, and so with the last column first.
+FORMS = {"printed": (PRINTED, list), "with blanks": (BLANKS, list), "with blanks, in another order": (BLANKS, reversed)}
+
+
+def write_lines(path, columns, places, separators=PRINTED, order=list):
     with open(path, "w") as it:
         for i in places:
-            it.write(json.dumps({name: make(i) for name, make in columns.items()}, separators=(",", ":")) + "\n")
+            it.write(json.dumps({name: columns[name](i) for name in order(list(columns))}, separators=separators) + "\n")
     return path
 
 
 def same_bytes(it, what, files):
     if subprocess.run(["cmp", *files]).returncode:
-        it.tell(f"side, {what}: the lines differ")
+        it.tell(f"side, {what}: the bytes differ")
 
 
 def is_removed(file):
@@ -190,18 +197,36 @@ def is_removed(file):
         os.remove(file)
 
 
+def encoded(it, what, columns, lines, file):
+    """Lines of JSON to a file, by us and by DuckDB."""
+    other = it.file("theirs.parquet")
+    names = {name: "BIGINT" if isinstance(make(0), int) else "VARCHAR" for name, make in columns.items()}
+    schema = it.schema("schema.json", pa.schema([pa.field(name, pa.int64() if kind == "BIGINT" else pa.string()) for name, kind in names.items()]))
+    typed = "{" + ", ".join(f"'{name}': '{kind}'" for name, kind in names.items()) + "}"
+    made = {"pqds": lambda: it.pqds("encode", schema, lines, file),
+            "DuckDB": lambda: it.duckdb(f"COPY (FROM read_json('{lines}', format='newline_delimited', columns={typed})) TO '{other}' ({UNPACKED})")}
+    row(f"encode {what}", least(made, lambda who: is_removed(file if who == "pqds" else other)))
+
+
+def other_forms(it):
+    """Lines of JSON in three forms to files; each form gives the same file."""
+    head(f"{MILLION:,} rows, lines in three forms")
+    for what in ("a number and a text", "20 numbers"):
+        files = []
+        for form, (separators, order) in FORMS.items():
+            lines, file = write_lines(it.file("rows.jsonl"), FLAT[what], range(MILLION), separators, order), it.file(f"ours.{len(files)}.parquet")
+            encoded(it, f"{what}, {form}", FLAT[what], lines, file)
+            files.append(file)
+        for file in files[1:]:
+            same_bytes(it, what, [files[0], file])
+
+
 def both_ways(it):
     """Files of a million rows to lines of JSON, and lines of JSON to files."""
     head(f"{MILLION:,} rows")
     for what, columns in FLAT.items():
-        lines, file, other = write_lines(it.file("rows.jsonl"), columns, range(MILLION)), it.file("ours.parquet"), it.file("theirs.parquet")
-        sample = {name: make(0) for name, make in columns.items()}
-        names = {name: "BIGINT" if isinstance(value, int) else "VARCHAR" for name, value in sample.items()}
-        schema = it.schema("schema.json", pa.schema([pa.field(name, pa.int64() if kind == "BIGINT" else pa.string()) for name, kind in names.items()]))
-        typed = "{" + ", ".join(f"'{name}': '{kind}'" for name, kind in names.items()) + "}"
-        made = {"pqds": lambda: it.pqds("encode", schema, lines, file),
-                "DuckDB": lambda: it.duckdb(f"COPY (FROM read_json('{lines}', format='newline_delimited', columns={typed})) TO '{other}' ({UNPACKED})")}
-        row(f"encode {what}", least(made, lambda who: is_removed(file if who == "pqds" else other)))
+        lines, file = write_lines(it.file("rows.jsonl"), columns, range(MILLION)), it.file("ours.parquet")
+        encoded(it, what, columns, lines, file)
         ours, theirs = it.file("ours.jsonl"), it.file("theirs.jsonl")
         read = {"pqds": lambda: it.pqds("decode", file, out=ours), "DuckDB": lambda: it.duckdb(f"COPY (FROM read_parquet('{file}')) TO '{theirs}' (FORMAT json)")}
         row(f"decode {what}", least(read))
@@ -498,9 +523,14 @@ def starts(it):
     row("start of the process", least({"pqds": lambda: it.pqds("schema", sample), "DuckDB": lambda: it.duckdb("SELECT 1")}))
 
 
+def forms(path, room, tell):
+    other_forms(Side(path, room, tell))
+
+
 def run(path, room, tell):
     it = Side(path, room, tell)
     both_ways(it)
+    other_forms(it)
     appends(it)
     head("questions, rewriting, start")
     tables = Tables(it, True)
