@@ -3,8 +3,8 @@
 use crate::refusals::refusal_of;
 use crate::screen::Screen;
 use bits::{R, Refusal};
-use commands::Folders;
-use program::{Terminals, work};
+use commands::{Folders, HostPlaces};
+use program::{HostPaths, Terminals, work};
 use std::alloc::Global;
 use std::cell::RefCell;
 use std::fs;
@@ -57,13 +57,22 @@ fn status_of(
     screen: Screen<'_>,
     terminals: Terminals,
 ) -> u8 {
-    let datasets = Folders {
-        files: rt,
+    let mut paths = HostPaths { rt };
+    let mut datasets = Folders {
+        places: HostPlaces { files: rt },
         screen,
         part_bytes: PART_BYTES,
     };
     let mut err = screen;
-    work(rt, rt.alloc(), words, out, &mut err, terminals, &datasets)
+    work(
+        &mut paths,
+        rt.alloc(),
+        words,
+        out,
+        &mut err,
+        terminals,
+        &mut datasets,
+    )
 }
 
 /// A call, and what it says: what it prints, where that is asked for, then its lines on standard error, after `! `, then its

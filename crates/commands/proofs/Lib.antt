@@ -20,3 +20,11 @@ mod FileEnds
 mod TasksMade
 mod Restyled
 pub mod FirstKept
+mod CallMade
+mod FilesRead
+mod FilterNamed
+mod HostKnown
+mod OpenedSo
+mod PlacesKept
+mod TasksAt
+mod OfFile

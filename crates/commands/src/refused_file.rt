@@ -1,17 +1,13 @@
 //! Which of several files is refused.
 
-use crate::lock::Lock;
-use crate::making::Making;
+use crate::making::{Making, file_named};
 use crate::reason::{Reason, Told};
 use bits::{R, Refusal};
+use dataset_words::{Change, Task};
 use std::alloc::Global;
-use std::io::{Input, Write};
-use std::rt::{Clock, Files};
+use std::io::Write;
 
-impl<F: Files + Input + Clock + Clone + Drop, S: Write + Clone + Drop> Making<'_, F, S>
-where
-    F::File: Lock,
-{
+impl<S: Write + Clone + Drop> Making<'_, S> {
     /// Puts the name of the file that is refused, which is at this place among those that the call names, before the reason.
     /// Where the refusal is not one of a file, or there is no memory for it, the reason stays as it is.
     pub(crate) fn name_file(&self, place: usize, refusal: &Refusal, why: &mut Option<Reason>) {
@@ -30,9 +26,12 @@ where
 
     /// The name of the file at this place among those that the call names.
     fn file_at(&self, place: usize) -> &str {
-        match self.imported_files() {
-            Some(files) if place < files.len() => files[place],
-            _ => self.named_file().unwrap_or(""),
+        match &self.call.task {
+            Task::Change(Change::Import { files, .. }) if place < files.len() => files[place],
+            task => {
+                let named = file_named(task);
+                named.unwrap_or("")
+            }
         }
     }
 }

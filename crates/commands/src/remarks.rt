@@ -1,5 +1,9 @@
 //! Notes on what is accepted: what other tools may refuse, and what is easily overlooked.
 
+ghost use Rattle.std.specs.Prelude.{OnOk, IfOk, IsUtf8};
+ghost use Rattle.schema.specs.Shape.{Fields};
+ghost use Rattle.jsonrows.specs.SchemaJson.{IsSchemaText};
+
 use crate::explaining::schema_reason;
 use crate::printing::write_text;
 use crate::reason::Reason;
@@ -55,7 +59,9 @@ pub fn print_schema_fits<W: Write>(
     bytes: &[u8],
     out: &mut W,
     why: &mut Option<Reason>,
-) -> R<()> {
+) -> R<()>
+    ensures fits { OnOk result (IsUtf8 bytes.now × (fs : Fields) × IsSchemaText bytes.now fs) }
+{
     match schema_in(alloc, bytes) {
         Ok(schema) => {
             let count = schema.fields().len();
@@ -71,6 +77,10 @@ pub fn print_schema_fits<W: Write>(
 }
 
 /// The schema that the text of a file is. Refused Script for bytes that are no text, and as `schema_from` refuses it.
-pub fn schema_in(alloc: Global, bytes: &[u8]) -> R<Schema> {
-    schema_from(alloc, text_of(bytes)?)
+pub fn schema_in(alloc: Global, bytes: &[u8]) -> R<Schema>
+    ensures text { OnOk result (IsUtf8 bytes.now) }
+    ensures says { IfOk result (IsSchemaText bytes.now) }
+{
+    let text = text_of(bytes)?;
+    schema_from(alloc, text)
 }
