@@ -106,3 +106,4 @@ pub mod RewriteDone
 pub mod RunByRun
 pub mod Idle
 pub mod FreePaths
+pub mod Shown

@@ -33,3 +33,4 @@ pub mod Completing
 pub mod Stepping
 pub mod Removing
 pub mod Rewritten
+pub mod Shown
