@@ -1,6 +1,7 @@
 pub mod Spared
 pub mod InUse
 pub mod Stored
+pub mod Gathering
 pub mod LeftJobs
 pub mod Sound
 pub mod Carried

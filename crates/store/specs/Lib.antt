@@ -24,6 +24,7 @@ pub mod Restarting
 pub mod Prefixes
 pub mod Buffers
 pub mod Filling
+pub mod Gathering
 pub mod Widening
 pub mod Staging
 pub mod Reading

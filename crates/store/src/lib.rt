@@ -7,8 +7,10 @@
 
 mod append_work;
 mod appending;
+mod appending_gathered;
 mod beginning;
 mod bringing;
+mod buffered_part;
 mod buffers;
 mod checks;
 mod cleaning;
