@@ -20,11 +20,7 @@
 # - An append that waits while another folder comes in the place of the dataset's waits for that one, and changes it alone.
 # - A dataset can be appended to itself through a pipe.
 top=$(CDPATH='' cd -- "$(dirname -- "$0")/../.." && pwd) || exit 1
-program=${1:-$("$top/bench/tools/program.sh")} || exit 1
-case $program in
-/*) ;;
-*) program=$PWD/$program ;;
-esac
+program=$(realpath -- "${1:-$("$top/bench/tools/program.sh")}") || exit 1
 room=$(mktemp -d) || exit 1
 trap 'rm -rf "$room"' EXIT
 trap 'exit 130' INT TERM HUP

@@ -7,11 +7,7 @@
 #
 # With STEPS=N there are N steps (50), with SEED=N other moments.
 top=$(CDPATH='' cd -- "$(dirname -- "$0")/../.." && pwd) || exit 1
-program=${1:-$("$top/bench/tools/program.sh")} || exit 1
-case $program in
-/*) ;;
-*) program=$PWD/$program ;;
-esac
+program=$(realpath -- "${1:-$("$top/bench/tools/program.sh")}") || exit 1
 room=$(mktemp -d) || exit 1
 trap 'rm -rf "$room"' EXIT
 trap 'exit 130' INT TERM HUP

@@ -7,6 +7,7 @@ ghost use Rattle.rowtext.specs.inner.Fill.{IsCalled};
 use crate::unread::Unread;
 use schema::Field;
 use std::alloc::{AllocError, Global};
+use std::cell::Cell;
 use std::collections::BTreeMap;
 
 /// The fields of a group by their names, and the names below each.
@@ -14,20 +15,28 @@ use std::collections::BTreeMap;
 pub struct Names {
     /// The index of each field, by its name.
     indices: BTreeMap<String, usize>,
-    /// The indices of the fields in the byte order of their names.
-    order: Vec<usize>,
+    /// The indices of the fields in the order in which their members are expected: at first the byte order of their names, then
+    /// that of the objects read before. They are a guess, which the reader of an object learns while it shares the names.
+    order: Vec<Cell<usize>>,
     /// The names below each field.
     below: Vec<Names>,
 }
 
 impl Names {
-    /// The index of the field whose member stands after this many, if they stand in the byte order of their names.
+    /// The index of the field whose member is expected at a place among the members of an object.
     #[inline(always)]
-    pub fn expected(&self, turn: usize) -> usize {
-        if turn < self.order.len() {
-            self.order[turn]
+    pub fn expected(&self, place: usize) -> usize {
+        if place < self.order.len() {
+            self.order[place].get()
         } else {
-            turn
+            place
+        }
+    }
+
+    /// Expects the member of the field of this index at a place from now on.
+    pub fn expect(&self, place: usize, index: usize) {
+        if let Some(expected) = self.order.get(place) {
+            expected.set(index);
         }
     }
 
@@ -50,7 +59,7 @@ pub fn names_of(alloc: Global, fields: &[Field]) -> Result<Names, AllocError> {
     }
     let mut order = Vec::with_capacity(alloc, fields.len())?;
     for (_, index) in indices.iter() {
-        order.push(*index)?;
+        order.push(Cell::new(*index))?;
     }
     Ok(Names {
         indices,

@@ -156,29 +156,35 @@ fn index_by_name(
     }
 }
 
-/// The index of the field whose name stands there; `turn` is how many members stand before it. Where the members stand in
-/// the byte order of their names or in the order of the fields, it is known by the turn, and else it is looked up.
+/// The index of the field whose name stands there. It is expected at `place` among the members, as in the objects read before, or at
+/// the place after it, where a member is missing; else it is looked up, and expected at this place from now on. `place` becomes
+/// that of the next member.
 #[inline(always)]
 #[tactic(auto, using(crate::proofs::Lexing::name_from))]
 fn index_at(
     fields: &[Field],
     slots: &[Slot],
     names: &Names,
-    turn: usize,
+    place: &mut usize,
     scratch: &mut Scratch,
     line: &mut Cursor<'_>,
 ) -> Result<usize, Unread>
     requires { slots_view slots.now ≡ slots_made (field_views fields.now) }
     ensures { IfOk result (λ index. IsNameAt (field_views fields.now) index line.old line.new) }
 {
-    let expected = names.expected(turn);
+    let here = *place;
+    let expected = names.expected(here);
+    *place = here.saturating_add(1);
     if skip_name(fields, slots, expected, line) {
         return Ok(expected);
     }
-    if skip_name(fields, slots, turn, line) {
-        return Ok(turn);
+    let after = names.expected(*place);
+    if skip_name(fields, slots, after, line) {
+        *place = here.saturating_add(2);
+        return Ok(after);
     }
     let index = index_by_name(fields, names, scratch, line)?;
+    names.expect(here, index);
     Ok(index)
 }
 
@@ -347,7 +353,7 @@ fn member_at<'t>(
     fields: &[Field],
     slots: &[Slot],
     names: &Names,
-    turn: usize,
+    place: &mut usize,
     deep: usize,
     texts: bool,
     scratch: &mut Scratch,
@@ -359,7 +365,7 @@ fn member_at<'t>(
     requires valid { AreValid (field_views fields.now) }
     ensures { OnOk result (IsMemberTaken texts (field_views fields.now) deep line.old line.new pieces.old.items pieces.new.items spans.old.items spans.new.items) }
 {
-    let index = index_at(fields, slots, names, turn, scratch, line)?;
+    let index = index_at(fields, slots, names, place, scratch, line)?;
     let field = field_there(fields, index)?;
     let slot = slot_there(slots, index)?;
     let below = names.below(index).ok_or(Unread::Unknown)?;
@@ -391,13 +397,14 @@ pub fn members_at<'t>(
 {
     let from = pieces.len();
     let mut spans = Spans::new(alloc, fields.len())?;
+    let mut place = 0;
     'members: for turn in 0..usize::MAX {
         let more = is_more(b'}', turn == 0, line)?;
         if !more {
             return arrange(alloc, fields, spans.as_slice(), from, pieces);
         }
         member_at(
-            alloc, fields, slots, names, turn, deep, texts, scratch, line, pieces, &mut spans,
+            alloc, fields, slots, names, &mut place, deep, texts, scratch, line, pieces, &mut spans,
         )?;
     }
     Err(Unread::Unknown)
