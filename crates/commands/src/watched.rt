@@ -19,7 +19,7 @@ pub struct Watched<D: Explains, S: Write + Drop> {
 }
 
 impl<D: Explains, S: Write + Drop> Watched<D, S> {
-    /// Watches the disk of a folder of the host.
+    /// Watches the disk of a folder.
     pub fn new(disk: D, tally: Tally<S>, notes: Notes, folder: String) -> Watched<D, S>
         ensures disk { result.disk ≡ disk }
         ensures tally { result.tally ≡ tally }
@@ -61,6 +61,15 @@ impl<D: Explains, S: Write + Drop> Watched<D, S> {
             self.note(path, *fault);
         }
         answer
+    }
+
+    /// Gives the disk back, once nothing of it is on the screen.
+    pub fn into_inner(self) -> D
+        ensures { result ≡ self.disk }
+    {
+        let mut watched = self;
+        watched.clear();
+        watched.disk
     }
 
     /// Takes what is shown off the screen.
