@@ -19,11 +19,7 @@
 #   other. The next such command makes it where it is not there, readable by all who can read the folder.
 # - An append that waits while another folder comes in the place of the dataset's waits for that one, and changes it alone.
 # - A dataset can be appended to itself through a pipe.
-top=$(CDPATH='' cd -- "$(dirname -- "$0")/../.." && pwd) || exit 1
-program=$(realpath -- "${1:-$("$top/bench/tools/program.sh")}") || exit 1
-room=$(mktemp -d) || exit 1
-trap 'rm -rf "$room"' EXIT
-trap 'exit 130' INT TERM HUP
+. "$(dirname -- "$0")/room.sh"
 python3 - "$program" "$room" <<'PYTHON'
 import fcntl, json, os, pty, shutil, stat, subprocess, sys, threading, time
 

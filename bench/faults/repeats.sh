@@ -6,11 +6,7 @@
 #     bench/faults/repeats.sh [PROGRAM]       this program in place of ./pqds
 #
 # With STEPS=N there are N steps (50), with SEED=N other moments.
-top=$(CDPATH='' cd -- "$(dirname -- "$0")/../.." && pwd) || exit 1
-program=$(realpath -- "${1:-$("$top/bench/tools/program.sh")}") || exit 1
-room=$(mktemp -d) || exit 1
-trap 'rm -rf "$room"' EXIT
-trap 'exit 130' INT TERM HUP
+. "$(dirname -- "$0")/room.sh"
 python3 - "$program" "$room" <<'PYTHON'
 import json, os, random, subprocess, sys, time
 
