@@ -31,10 +31,11 @@ mod names;
 mod node;
 mod reads;
 
-ghost use Rattle.std.specs.Prelude.{◌≡◌};
+ghost use Rattle.std.specs.Prelude.{◌≡◌, option_map};
 
 use crate::fuse::{Fuse, done_of};
 use crate::held::Held;
+use disk::Binding;
 use std::alloc::Global;
 
 /// A disk of folders and files in memory.
@@ -48,7 +49,7 @@ pub struct MemDisk {
 }
 
 impl MemDisk {
-    ghost use Rattle.disk.specs.State.{IsAtRest};
+    ghost use Rattle.disk.specs.State.{IsAtRest, content};
     ghost use Rattle.mem_disk.specs.Disks.{state_of};
     ghost use Rattle.mem_disk.specs.Loose.{empty, image_of};
     ghost use Rattle.mem_disk.specs.Fuses;
@@ -96,6 +97,20 @@ impl MemDisk {
         ensures shortages { self.new.shortages ≡ self.old.shortages }
     {
         self.fuse = Fuse::Once(k, done_of(pick));
+    }
+
+    /// What a path names. It is no call: no fuse burns, and nothing is counted.
+    pub fn named(&self, path: &str) -> Binding
+        ensures { result ≡ (state_of self.now).seen.names path.now }
+    {
+        self.held.binding(path)
+    }
+
+    /// The bytes of the file at a path; None where no file is there. It is no call.
+    pub fn content(&self, path: &str) -> Option<&[u8]>
+        ensures { option_map (λ bytes. bytes.now) result ≡ content (state_of self.now).seen path.now }
+    {
+        self.held.content(path)
     }
 
     /// How many calls that returned Failed have done less than they were to, since a growth was refused in them: of

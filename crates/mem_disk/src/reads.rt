@@ -1,10 +1,11 @@
 //! What is read of what a disk keeps.
 
-ghost use Rattle.std.specs.Prelude.{◌≡◌, ◌<◌, ◌⊎◌, ℕ, length, take, drop, IfErr, IfOk};
+ghost use Rattle.std.specs.Prelude.{◌≡◌, ◌<◌, ◌⊎◌, ℕ, length, take, drop, option_map, IfErr, IfOk};
 ghost use Rattle.disk.specs.Calls.{RangeRead, Measured};
+ghost use Rattle.disk.specs.State.{content};
 ghost use Rattle.disk.specs.declared.fault.Fault.TheVariants.{Absent, Memory};
 ghost use Rattle.mem_disk.specs.States.{AlsoFailed};
-ghost use Rattle.mem_disk.specs.Holding.{loose_held, state_held};
+ghost use Rattle.mem_disk.specs.Holding.{loose_held, image_held, state_held};
 
 use crate::held::Held;
 use disk::{Binding, Fault};
@@ -29,6 +30,16 @@ impl Held {
         ensures { result.now ≡ (loose_held self.now).bytes node }
     {
         &self.nodes[node].bytes
+    }
+
+    /// The bytes of the file at a path; None where no file is there.
+    pub fn content(&self, path: &str) -> Option<&[u8]>
+        ensures { option_map (λ bytes. bytes.now) result ≡ content (image_held self.now) path.now }
+    {
+        match self.binding(path) {
+            Binding::File(node) => Some(self.bytes_of(node)),
+            Binding::Nothing | Binding::Folder => None,
+        }
     }
 
     /// The bytes of a file from `from` on, `len` of them or as many as are there.
