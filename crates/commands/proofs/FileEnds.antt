@@ -1,10 +1,10 @@
 -- A file and its ends have one footer.
-use Rattle.std.proofs.Common.{◌≡◌, ℕ, ◌+◌, ◌-◌, ◌<◌, ◌≤◌, ◌^◌, List, ◌++◌, [], length, take, drop, refl, sym, ap, ◌∙◌, arith, append_assoc, length-append}
+use Rattle.std.proofs.Common.{◌≡◌, ℕ, ◌+◌, ◌-◌, ◌≤◌, List, ◌++◌, [], length, take, drop, refl, sym, ap, ◌∙◌, arith, append_assoc, length-append}
 use Rattle.std.proofs.lemmas.List.{length-take-le, length-drop, take_at, drop_at, take-append-drop, take-take, drop-drop}
 use Rattle.byteorder.specs.Endian.{little_bytes, little_number}
 use Rattle.byteorder.specs.Numbers.{little_number-reads_back}
 use Rattle.footer.specs.File.{magic, IsFramed}
-use Rattle.commands.specs.FileEnds.{ends, announces, HaveOneFooter, EndsHaveTheFooter}
+use Rattle.commands.specs.FileEnds.{ends, announces, EndsHaveTheFooter}
 
 -- what a frame says of the bytes, seen from both ends
 record Seen (bytes front footer : List ℕ) : Type 0 where

@@ -13,6 +13,7 @@ mod UnlessThere
 mod Renewed
 mod FirstBatched
 mod PartsGiven
+mod FilesGiven
 mod FilesOfQuery
 mod StagedFiles
 mod ToldColumns
@@ -20,3 +21,14 @@ mod FileEnds
 mod TasksMade
 mod Restyled
 pub mod FirstKept
+mod CallMade
+mod FilesRead
+mod FilterNamed
+mod HostKnown
+mod OpenedSo
+mod PlacesKept
+mod NewFolders
+mod CreatedSo
+mod TasksAt
+mod OfFile
+mod LooksFound

@@ -1,14 +1,13 @@
 -- A store with another style for its new groups.
-use Rattle.std.proofs.Common.{◌≡◌, List, [], ap, refl, sym, subst}
+use Rattle.std.proofs.Common.{[], ap, refl, sym, subst}
 use Rattle.row_group.specs.declared.options.Style.{Style}
 use Rattle.footer.specs.declared.options.WriteOptions.{WriteOptions}
 use Rattle.footer.specs.Writing.{IsOutOfRange, empty_groups, large_groups, empty_pages, other_version}
 use Rattle.disk.specs.State.{State as DiskState}
 use Rattle.table.specs.Table.{Table}
 use Rattle.table.specs.State.{opened}
-use Rattle.table.specs.Refusing.{IsReached}
 use Rattle.store.specs.declared.store.Store.{Store}
-use Rattle.store.specs.Stands.{Stands, Shows, ShowsOpen}
+use Rattle.store.specs.Stands.{Stands}
 use Rattle.commands.specs.Kept.{IsRestyled, StaysOpened}
 
 -- the style is in no range

@@ -5,7 +5,6 @@ use Rattle.serde_json.specs.Data.{Data}
 use Rattle.bits.specs.declared.refusal.Refusal.{Refusal}
 use Rattle.schema.specs.Stripe.{Leaf, leaves_of}
 use Rattle.disk.specs.State.{State as DiskState}
-use Rattle.table.specs.Table.{Table}
 use Rattle.table.specs.Plans.{summary}
 use Rattle.table.specs.State.{State}
 use Rattle.table.specs.Views.{info_view}

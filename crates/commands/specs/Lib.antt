@@ -11,4 +11,9 @@ pub mod Unless
 pub mod FileEnds
 pub mod Kept
 pub mod Tasks
+pub mod Places
+pub mod Opening
+pub mod Looking
+pub mod Creating
+pub mod Calls
 pub mod inner

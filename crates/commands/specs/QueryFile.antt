@@ -1,5 +1,5 @@
 -- The rows of a query as Parquet files.
-use Rattle.std.specs.Prelude.{◌≡◌, ℕ, List, [], ◌∷◌, ◌++◌, map, filter, take, length, Option, Some, None}
+use Rattle.std.specs.Prelude.{◌≡◌, ℕ, List, [], ◌∷◌, ◌++◌, map, filter, length, Option, None}
 use Rattle.schema.specs.Shape.{Fields}
 use Rattle.schema.specs.Values.{ValueTrees}
 use Rattle.footer.specs.declared.options.WriteOptions.{WriteOptions}

@@ -1,5 +1,5 @@
 -- What a command prints of a store that it only reads.
-use Rattle.std.specs.Prelude.{◌≡◌, ℕ, suc, Bool, true, false, IsTrue, List, [], ◌∷◌, ◌++◌, map, filter, flat_map, Option, Some, None, Result, Err, OnOk, if◌then◌else◌}
+use Rattle.std.specs.Prelude.{◌≡◌, ℕ, Bool, true, false, IsTrue, List, [], ◌∷◌, ◌++◌, map, filter, flat_map, Option, Result, Err, OnOk}
 use Rattle.std.specs.List.{list_all}
 use Rattle.std.specs.Io.KnownBytes.{Appends}
 use Rattle.bits.specs.declared.refusal.Refusal.{Refusal}

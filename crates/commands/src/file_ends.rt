@@ -1,5 +1,8 @@
 //! A file of the host by its ends, where nothing is asked but what its footer says.
 
+ghost use Rattle.std.specs.Prelude.{◌≡◌, ◌⊎◌};
+ghost use Rattle.bits.specs.Refusals.{RefusedOnly};
+
 use crate::folder::{all_of, bytes_of, is_input, refused_at};
 use crate::notes::Notes;
 use bits::{R, Refusal};
@@ -24,7 +27,9 @@ const BYTES_OF_SMALL_FILE: u64 = 65_536;
 /// none of it is read, and the bytes are refused as the file is.
 ///
 /// Refused Device where it cannot be read, which is noted, and Limit where it has more than 2,147,483,647 bytes.
-pub fn ends_of<F: Files + Input>(rt: &F, alloc: Global, path: &str, notes: &Notes) -> R<Vec<u8>> {
+pub fn ends_of<F: Files + Input>(rt: &F, alloc: Global, path: &str, notes: &Notes) -> R<Vec<u8>>
+    ensures which { RefusedOnly (λ e. (e ≡ Refusal.Device) ⊎ (e ≡ Refusal.Limit)) result }
+{
     if is_input(path) {
         return bytes_of(rt, alloc, path, notes);
     }

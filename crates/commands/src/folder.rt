@@ -1,20 +1,24 @@
-//! A dataset in a folder of the host.
+//! Files and folders of the host.
 
 ghost use Rattle.std.specs.Prelude.{◌≡◌, ◌⊎◌};
+ghost use Rattle.bits.specs.Refusals.{HasCause, RefusedOnly, RefusedMemoryOnly};
 
 use crate::notes::Notes;
-use crate::tally::Tally;
-use crate::watched::Watched;
+use crate::places::Node;
 use bits::{R, Refusal};
 use disk::HostDisk;
 use std::alloc::Global;
 use std::fs::{self, File, OpenFile};
-use std::io::{self, ErrorKind, Input, Read, Write};
+use std::io::{self, ErrorKind, Input, Read};
 use std::rt::Files;
+
+/// The number that the system gives the error "Is a directory".
+const IS_FOLDER: i32 = 21;
 
 /// Why a file or a writer could not be used: Memory where a growth was refused, else Device.
 pub fn refusal_of(error: io::Error) -> Refusal
     ensures which { (result ≡ Refusal.Memory) ⊎ (result ≡ Refusal.Device) }
+    ensures caused { HasCause (λ e. e ≡ Refusal.Device) result }
 {
     match error.kind() {
         ErrorKind::OutOfMemory => Refusal::Memory,
@@ -29,7 +33,9 @@ pub fn is_input(path: &str) -> bool {
 
 /// The bytes of a file of the host, all of them; `-` is the standard input. Refused Device where it cannot be read, which is
 /// noted.
-pub fn bytes_of<F: Files + Input>(rt: &F, alloc: Global, path: &str, notes: &Notes) -> R<Vec<u8>> {
+pub fn bytes_of<F: Files + Input>(rt: &F, alloc: Global, path: &str, notes: &Notes) -> R<Vec<u8>>
+    ensures which { RefusedOnly (λ e. e ≡ Refusal.Device) result }
+{
     if is_input(path) {
         all_of(alloc, path, &mut rt.reader(), notes)
     } else {
@@ -38,7 +44,9 @@ pub fn bytes_of<F: Files + Input>(rt: &F, alloc: Global, path: &str, notes: &Not
 }
 
 /// The bytes of the file of the host at a path, all of them. Refused Device where it cannot be read.
-pub fn bytes_at<F: Files>(rt: &F, alloc: Global, path: &str, notes: &Notes) -> R<Vec<u8>> {
+pub fn bytes_at<F: Files>(rt: &F, alloc: Global, path: &str, notes: &Notes) -> R<Vec<u8>>
+    ensures which { RefusedOnly (λ e. e ≡ Refusal.Device) result }
+{
     match File::open(rt, path) {
         Ok(file) => {
             let mut file = file;
@@ -49,13 +57,17 @@ pub fn bytes_at<F: Files>(rt: &F, alloc: Global, path: &str, notes: &Notes) -> R
 }
 
 /// What is refused where the system refuses something at a path, which is noted.
-pub fn refused_at(path: &str, error: io::Error, notes: &Notes) -> Refusal {
+pub fn refused_at(path: &str, error: io::Error, notes: &Notes) -> Refusal
+    ensures caused { HasCause (λ e. e ≡ Refusal.Device) result }
+{
     notes.note_refused(path, error);
     refusal_of(error)
 }
 
 /// All that a reader gives. Refused Device where it cannot be read.
-pub fn all_of<T: Read>(alloc: Global, path: &str, reader: &mut T, notes: &Notes) -> R<Vec<u8>> {
+pub fn all_of<T: Read>(alloc: Global, path: &str, reader: &mut T, notes: &Notes) -> R<Vec<u8>>
+    ensures which { RefusedOnly (λ e. e ≡ Refusal.Device) result }
+{
     let mut bytes = Vec::new(alloc);
     match reader.read_to_end(&mut bytes) {
         Ok(_) => Ok(bytes),
@@ -71,27 +83,55 @@ pub fn is_folder<F: Files>(rt: &F, path: &str) -> bool {
     }
 }
 
-/// The disk of a folder, with what it read and wrote so far. New files take the mode and the group of the root that is there.
-pub fn disk_of<F: Files + Clone + Drop, S: Write + Drop>(
-    rt: &F,
-    alloc: Global,
-    folder: &str,
-    tally: Tally<S>,
-    notes: &Notes,
-) -> R<Watched<HostDisk<F>, S>> {
+/// What is at a path of the host: at the end of a link, where `follows` says so.
+pub fn node_at<F: Files>(rt: &F, path: &str, follows: bool) -> io::Result<Node> {
+    let metadata = if follows {
+        fs::metadata(rt, path)?
+    } else {
+        fs::symlink_metadata(rt, path)?
+    };
+    if metadata.is_dir() {
+        Ok(Node::Folder)
+    } else if metadata.is_symlink() {
+        Ok(Node::Link)
+    } else {
+        Ok(Node::File(metadata.len()))
+    }
+}
+
+/// The disk of a folder. New files take the mode and the group of the root that is there. It fails only when out of memory.
+pub fn disk_of<F: Files + Clone + Drop>(rt: &F, alloc: Global, folder: &str) -> R<HostDisk<F>>
+    ensures memory { RefusedMemoryOnly result }
+{
     let files = rt.clone()?;
-    let notes = notes.shared()?;
-    let name = String::from_str(alloc, folder)?;
     let made = HostDisk::new(alloc, files, folder);
     match made.and_then(|disk| disk.with_files_like("_metadata")) {
-        Ok(disk) => Ok(Watched::new(disk, tally, notes, name)),
+        Ok(disk) => Ok(disk),
         Err(_) => Err(Refusal::Memory),
+    }
+}
+
+/// Refused Device where a folder has the name of the root: no file could be called so, and that would be seen only at the commit,
+/// where it is in doubt what was done.
+pub fn root_is_free<F: Files>(rt: &F, alloc: Global, folder: &str, notes: &Notes) -> R<()>
+    ensures which { RefusedOnly (λ e. e ≡ Refusal.Device) result }
+{
+    let path = format!(in alloc; "{folder}/_metadata")?;
+    match fs::symlink_metadata(rt, path.as_str()) {
+        Ok(metadata) if metadata.is_dir() => {
+            let error = io::Error::from_raw_os_error(IS_FOLDER);
+            notes.note_refused(path.as_str(), error);
+            Err(Refusal::Device)
+        }
+        _ => Ok(()),
     }
 }
 
 /// Makes a folder where nothing is, and makes its name durable, also where it is there. Whether it was made. Refused Device
 /// where it cannot be made or the folder above it not be synced; then none is made.
-pub fn make_folder<F: Files>(rt: &F, alloc: Global, folder: &str, notes: &Notes) -> R<bool> {
+pub fn make_folder<F: Files>(rt: &F, alloc: Global, folder: &str, notes: &Notes) -> R<bool>
+    ensures which { RefusedOnly (λ e. e ≡ Refusal.Device) result }
+{
     let is_new = match make_new(rt, folder) {
         Ok(is_new) => is_new,
         Err(error) => {
@@ -117,7 +157,9 @@ fn make_new<F: Files>(rt: &F, folder: &str) -> io::Result<bool> {
 }
 
 /// Syncs the folder in which this one is. Refused Device where that fails.
-fn sync_above<F: Files>(rt: &F, alloc: Global, folder: &str, notes: &Notes) -> R<()> {
+fn sync_above<F: Files>(rt: &F, alloc: Global, folder: &str, notes: &Notes) -> R<()>
+    ensures which { RefusedOnly (λ e. e ≡ Refusal.Device) result }
+{
     let above = format!(in alloc; "{folder}/..")?;
     match sync_at(rt, above.as_str()) {
         Ok(()) => Ok(()),

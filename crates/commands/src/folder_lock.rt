@@ -1,6 +1,7 @@
 //! The lock on a dataset's folder: one command changes a dataset at a time.
 
-ghost use Rattle.std.specs.Prelude.{◌≡◌, false, OnOk};
+ghost use Rattle.std.specs.Prelude.{◌≡◌, false};
+ghost use Rattle.bits.specs.Refusals.{RefusedOnly};
 
 use crate::folder::{is_folder, refusal_of};
 use crate::lock::{Access, Lock, Patience, take};
@@ -26,6 +27,7 @@ pub fn locked<F: Files + Clock, E: Write>(
 ) -> R<F::File>
 where
     F::File: Lock,
+    ensures which { RefusedOnly (λ e. e ≡ Refusal.Device) result }
     ensures quiet { patience.shows ≡ false → E.contents err.new ≡ E.contents err.old }
 {
     if let Some(opened) = locked_once(rt, folder, access, patience, err, why)? {
@@ -49,6 +51,7 @@ fn locked_once<F: Files + Clock, E: Write>(
 ) -> R<Option<F::File>>
 where
     F::File: Lock,
+    ensures which { RefusedOnly (λ e. e ≡ Refusal.Device) result }
     ensures quiet { patience.shows ≡ false → E.contents err.new ≡ E.contents err.old }
 {
     // A pipe of this name would be waited for.

@@ -1,16 +1,15 @@
 //! Why a call on a folder is refused, found when it is over: by what the disk and the system refused last.
 
-use crate::folder::bytes_at;
 use crate::notes::Notes;
 use crate::part_reason::is_of_bytes;
+use crate::places::{Node, Places};
 use crate::reason::Reason;
 use bits::{R, Refusal};
 use dataset_words::{Call, Change, Look, Question, Task};
 use reasons::{Cause, options_fault, output_cause, system_fault};
 use reports::first_problem;
 use std::alloc::Global;
-use std::rt::Files;
-use std::{fs, io};
+use std::io;
 
 /// The number that the system gives the error "File exists".
 const FILE_EXISTS: i32 = 17;
@@ -21,19 +20,22 @@ const NO_FOLDER: i32 = 20;
 /// The number that the system gives the error "Is a directory".
 const FOLDER: i32 = 21;
 
+/// The path of the root of a dataset in its folder.
+const ROOT: &str = "_metadata";
+
 /// How the path of a part file ends.
 const PART_ENDING: &str = ".parquet";
 
 /// A call that was refused.
 #[derive(Drop)]
-pub struct Refused<'a, F> {
-    pub rt: &'a F,
+pub struct Refused<'a, P> {
+    pub places: &'a P,
     pub alloc: Global,
     pub call: &'a Call<'a>,
     pub notes: &'a Notes,
 }
 
-impl<F: Files> Refused<'_, F> {
+impl<P: Places> Refused<'_, P> {
     /// Why the call is refused, as far as that can be found when it is over. `flushed` is what came of writing the last of the
     /// output.
     pub fn reason(&self, refusal: &Refusal, flushed: &io::Result<()>) -> R<Option<Reason>> {
@@ -79,27 +81,30 @@ impl<F: Files> Refused<'_, F> {
 
     /// What stands in the way at a path in the folder: a folder, or something else.
     fn of_node_at(&self, path: &str) -> R<Reason> {
-        let folder = self.call.folder;
-        let place = format!(in self.alloc; "{folder}/{path}")?;
-        let number = match fs::symlink_metadata(self.rt, place.as_str()) {
-            Ok(metadata) if metadata.is_dir() => FOLDER,
+        let found = self
+            .places
+            .in_folder(self.alloc, self.call.folder, path, false)?;
+        let number = match found {
+            Some(Node::Folder) => FOLDER,
             _ => FILE_EXISTS,
         };
-        self.of_number_at(place.as_str(), number)
+        self.of_number_at(path, number)
     }
 
-    /// The system's error of this number at a path of the host.
-    fn of_number_at(&self, place: &str, number: i32) -> R<Reason> {
+    /// The system's error of this number at a path in the folder.
+    fn of_number_at(&self, path: &str, number: i32) -> R<Reason> {
+        let folder = self.call.folder;
+        let place = format!(in self.alloc; "{folder}/{path}")?;
         let error = io::Error::from_raw_os_error(number);
-        let fault = system_fault(self.alloc, place, error)?;
+        let fault = system_fault(self.alloc, place.as_str(), error)?;
         Ok(Reason::Told(Cause::System(fault)))
     }
 
     /// Whether the folder is named by a link to it, which no disk follows.
     fn is_link(&self) -> bool {
-        match fs::symlink_metadata(self.rt, self.call.folder) {
-            Ok(metadata) => metadata.is_symlink(),
-            Err(_) => false,
+        match self.places.at_folder(self.call.folder, false) {
+            Ok(Node::Link) => true,
+            _ => false,
         }
     }
 
@@ -114,8 +119,9 @@ impl<F: Files> Refused<'_, F> {
     /// Why the folder is none.
     fn of_folder(&self) -> R<Option<Reason>> {
         let folder = self.call.folder;
-        let error = match fs::metadata(self.rt, folder) {
-            Ok(metadata) if metadata.is_dir() || self.may_be_file() => return Ok(None),
+        let error = match self.places.at_folder(folder, true) {
+            Ok(Node::Folder) => return Ok(None),
+            Ok(_) if self.may_be_file() => return Ok(None),
             Ok(_) => io::Error::from_raw_os_error(NO_FOLDER),
             Err(error) => error,
         };
@@ -125,13 +131,17 @@ impl<F: Files> Refused<'_, F> {
 
     /// Why the folder has no table: there is no root, a folder in its place, or one of another tool.
     fn of_no_table(&self) -> R<Reason> {
-        let folder = self.call.folder;
-        let place = format!(in self.alloc; "{folder}/_metadata")?;
-        match fs::metadata(self.rt, place.as_str()) {
-            Ok(metadata) if metadata.is_dir() => self.of_number_at(place.as_str(), FOLDER),
-            Ok(_) => Ok(Reason::OtherRoot),
-            Err(_) => Ok(Reason::NoRoot),
+        match self.root()? {
+            Some(Node::Folder) => self.of_number_at(ROOT, FOLDER),
+            Some(_) => Ok(Reason::OtherRoot),
+            None => Ok(Reason::NoRoot),
         }
+    }
+
+    /// What is where the root should be.
+    fn root(&self) -> R<Option<Node>> {
+        self.places
+            .in_folder(self.alloc, self.call.folder, ROOT, true)
     }
 
     /// Which limit is exceeded: that of an option, or others.
@@ -140,16 +150,16 @@ impl<F: Files> Refused<'_, F> {
         let found = options_fault(options.group_rows, options.page_rows, options.page_version);
         match found {
             Some(fault) => Reason::Told(Cause::Limit(fault)),
-            None => Reason::Limits(self.root_length().unwrap_or(0)),
+            None => Reason::Limits(self.root_length()),
         }
     }
 
-    /// How long the root is; none where that cannot be found.
-    fn root_length(&self) -> Option<u64> {
-        let folder = self.call.folder;
-        let path = format!(in self.alloc; "{folder}/_metadata").ok()?;
-        let metadata = fs::metadata(self.rt, path.as_str()).ok()?;
-        Some(metadata.len())
+    /// How long the root is; 0 where that cannot be found.
+    fn root_length(&self) -> u64 {
+        match self.root() {
+            Ok(Some(Node::File(bytes))) => bytes,
+            _ => 0,
+        }
     }
 
     /// Which part file is absent or damaged, or that the root has a fault: by the path at which nothing was last, or that was
@@ -167,8 +177,9 @@ impl<F: Files> Refused<'_, F> {
             return Ok(Some(Reason::Root));
         }
         let folder = self.call.folder;
-        let place = format!(in self.alloc; "{folder}/{path}")?;
-        let bytes = bytes_at(self.rt, self.alloc, place.as_str(), self.notes)?;
+        let bytes = self
+            .places
+            .part(self.alloc, folder, path.as_str(), self.notes)?;
         match first_problem(self.alloc, bytes.as_slice())? {
             Some(problem) => Ok(Some(Reason::Part(path, problem))),
             None => Ok(Some(Reason::RootOfPart(path))),

@@ -1,5 +1,7 @@
 //! What the system refused, and which file a disk read, kept until the call is made.
 
+ghost use Rattle.bits.specs.Refusals.{RefusedMemoryOnly};
+
 use bits::R;
 use disk::{Disk, Failure, HostDisk};
 use reasons::{SystemFault, system_fault};
@@ -9,12 +11,12 @@ use std::io::{self, ErrorKind};
 use std::rc::Rc;
 use std::rt::Files;
 
-/// A disk that keeps what its last failure and its last absence were about.
+/// A disk that says what its last failure and its last absence were about.
 pub trait Explains: Disk {
     /// What the last failure was about.
     fn failure(&self) -> Option<&Failure>;
 
-    /// What the last absence was about.
+    /// What the last absence was about; None where it was at the path of the call.
     fn absence(&self) -> Option<&Failure>;
 }
 
@@ -63,7 +65,9 @@ pub struct Notes {
 
 impl Notes {
     /// Notes in which nothing is kept.
-    pub fn new(alloc: Global) -> R<Notes> {
+    pub fn new(alloc: Global) -> R<Notes>
+        ensures memory { RefusedMemoryOnly result }
+    {
         let kept = Kept {
             refused: None,
             absent: None,
@@ -77,7 +81,9 @@ impl Notes {
     }
 
     /// The same notes, once more.
-    pub fn shared(&self) -> R<Notes> {
+    pub fn shared(&self) -> R<Notes>
+        ensures memory { RefusedMemoryOnly result }
+    {
         Ok(Notes {
             alloc: self.alloc,
             kept: self.kept.clone()?,

@@ -1,171 +1,257 @@
-//! A dataset opened in a folder of the host, and a call made on it.
+//! A dataset opened in its folder, and a call made on it.
 //!
 //! A call that reads shares the readers' lock, and removes nothing. One that changes the dataset has the folder's lock, and
 //! removes what is not needed any more, at its opening and at its end, where no reader needs it.
 
-ghost use Rattle.std.specs.Prelude.{◌≡◌, ◌++◌, false, codes, decimal, OnOk};
+ghost use Rattle.std.specs.Prelude.{◌≡◌, ◌++◌, false, true, codes, decimal, Ok, Err, OnOk, IfErr, MatchResult};
 ghost use Rattle.std.specs.Io.KnownBytes.{Appends};
+ghost use Rattle.bits.specs.Refusals.{RefusedOnly};
+ghost use Rattle.commands.specs.Importing.{files_view};
+ghost use Rattle.commands.specs.Places.{StaysKnown, IsKeptFrom, InFolder};
+ghost use Rattle.commands.specs.Opening.{OpensToRead, OpensToChange, MayCleanUp};
+ghost use Rattle.commands.specs.Calls.{Answers, Changes, ChangesStore, ChangesDisk, RunsCalls, IsUnshown, TellsDone, state_within, disk_within};
 
 use crate::folder::refusal_of;
-use crate::lock::{Access, Lock};
+use crate::lock::Access;
 use crate::making::{Making, root_reason};
+use crate::notes::Explains;
+use crate::places::Places;
 use crate::printing::print_done;
-use crate::readers_lock::{Readers, kept_out, make_file, shared};
+use crate::readers_lock::Readers;
 use crate::reason::Reason;
 use crate::stopping::run_to_refusal;
 use crate::tasks::{ask, bytes_at, change_in_style, run};
 use crate::watched::Watched;
 use bits::{R, Refusal};
 use dataset_words::{Change, Question, Task};
-use disk::HostDisk;
-use std::io::{Input, Write};
-use std::rt::{Clock, Files};
+use disk::Disk;
+use footer::WriteOptions;
+use std::alloc::Global;
+use std::io::Write;
 use store::Store;
 
 /// The seconds for which a command that has made a change tries to keep readers out.
 const CLEANING_SECONDS: u64 = 1;
 
-impl<F: Files + Input + Clock + Clone + Drop, S: Write + Clone + Drop> Making<'_, F, S>
-where
-    F::File: Lock,
-{
+impl<S: Write + Clone + Drop> Making<'_, S> {
     /// Opens the dataset to read it, and prints what is asked.
-    pub(crate) fn read<W: Write, E: Write>(
+    pub(crate) fn read<P: Places, W: Write, E: Write>(
         &self,
+        places: &mut P,
         question: &Question<'_>,
         out: &mut W,
         err: &mut E,
         why: &mut Option<Reason>,
     ) -> R<()>
+        ensures comes { InFolder (disk_within {D = P.Disk} {S = S}) (P.known places.old) (P.known places.new) self.now.call.now.folder.now
+            (Answers (state_within P.Disk.state) self.now.call.now question.now (W.contents out.old) (W.contents out.new))
+            (W.contents out.new ≡ W.contents out.old) result }
         ensures quiet { self.now.terminals.err ≡ false → E.contents err.new ≡ E.contents err.old }
     {
-        let lock = self.share(err, why)?;
-        let answered = self.answer(question, out, err, why);
+        let lock = self.share(places, err, why)?;
+        let answered = self.answer_in_folder(places, question, out, err, why);
         drop(lock);
         answered
     }
 
     /// Shares the readers' lock, or that of the folder where there is none for readers.
-    pub(crate) fn share<E: Write>(&self, err: &mut E, why: &mut Option<Reason>) -> R<F::File>
+    pub(crate) fn share<P: Places, E: Write>(
+        &self,
+        places: &mut P,
+        err: &mut E,
+        why: &mut Option<Reason>,
+    ) -> R<P::Held>
+        ensures refused { IfErr result (IsKeptFrom (P.known places.old) self.now.call.now.folder.now) }
+        ensures same { StaysKnown (P.known places.old) (P.known places.new) }
         ensures quiet { self.now.terminals.err ≡ false → E.contents err.new ≡ E.contents err.old }
     {
-        let patience = self.patience();
-        match shared(self.rt, self.alloc, self.call.folder, patience, err, why)? {
+        let (folder, patience) = (self.call.folder, self.patience());
+        match places.share(self.alloc, folder, patience, err, why)? {
             Some(lock) => Ok(lock),
-            None => self.lock(Access::Reads, err, why),
+            None => places.lock(folder, Access::Reads, patience, err, why),
         }
     }
 
-    /// Prints what is asked of the dataset, which is opened to read it.
-    fn answer<W: Write, E: Write>(
+    /// Prints what is asked of the dataset in the folder, which is opened to read it.
+    fn answer_in_folder<P: Places, W: Write, E: Write>(
         &self,
+        places: &mut P,
         question: &Question<'_>,
         out: &mut W,
         err: &mut E,
         why: &mut Option<Reason>,
     ) -> R<()>
+        ensures comes { InFolder (disk_within {D = P.Disk} {S = S}) (P.known places.old) (P.known places.new) self.now.call.now.folder.now
+            (Answers (state_within P.Disk.state) self.now.call.now question.now (W.contents out.old) (W.contents out.new))
+            (W.contents out.new ≡ W.contents out.old) result }
         ensures quiet { self.now.terminals.err ≡ false → E.contents err.new ≡ E.contents err.old }
     {
-        let disk = self.disk(false)?;
-        let mut store = opened(
-            store::open_to_read(self.alloc, disk, self.call.options),
-            why,
-        )?;
-        let (texts, shows) = (self.call.texts, self.terminals.shows_beside_output());
-        ask(
-            self.alloc, &mut store, question, texts, out, err, shows, why,
-        )
+        let disk = self.take(places, false)?;
+        let (disk, answered) = self.answer_on(disk, question, out, err, why);
+        self.give(places, disk);
+        answered
+    }
+
+    /// Prints what is asked of the dataset on a disk, which is opened to read it. The disk is handed back.
+    fn answer_on<D: Disk, W: Write, E: Write>(
+        &self,
+        disk: D,
+        question: &Question<'_>,
+        out: &mut W,
+        err: &mut E,
+        why: &mut Option<Reason>,
+    ) -> (D, R<()>)
+        ensures comes { Answers D.state self.now.call.now question.now (W.contents out.old) (W.contents out.new) disk result.0 result.1 }
+        ensures quiet { self.now.terminals.err ≡ false → E.contents err.new ≡ E.contents err.old }
+    {
+        match store::open_to_read(self.alloc, disk, self.call.options) {
+            Ok(store) => {
+                let mut store = store;
+                let (alloc, texts) = (self.alloc, self.call.texts);
+                let shows = self.terminals.shows_beside_output();
+                let answered = ask(alloc, &mut store, question, texts, out, err, shows, why);
+                (store.into_disk(), answered)
+            }
+            Err((disk, refusal)) => {
+                *why = root_reason(&refusal);
+                (disk, Err(refusal))
+            }
+        }
     }
 
     /// Locks the folder, opens the dataset and changes it.
-    pub(crate) fn change<W: Write, E: Write>(
+    pub(crate) fn change<P: Places, W: Write, E: Write>(
         &self,
+        places: &mut P,
         files: &[Vec<u8>],
         out: &mut W,
         err: &mut E,
         why: &mut Option<Reason>,
     ) -> R<()>
+        ensures comes { InFolder (disk_within {D = P.Disk} {S = S}) (P.known places.old) (P.known places.new) self.now.call.now.folder.now
+            (ChangesDisk P.Disk.state self.now.call.now (files_view files.now) (W.contents out.old) (W.contents out.new))
+            (W.contents out.new ≡ W.contents out.old) result }
         ensures quiet { self.now.terminals.err ≡ false → E.contents err.new ≡ E.contents err.old }
     {
-        let lock = self.lock(Access::Writes, err, why)?;
-        let made = self.change_in_folder(files, out, err, why);
+        let lock = places.lock(self.call.folder, Access::Writes, self.patience(), err, why)?;
+        let made = self.change_in_folder(places, files, out, err, why);
         drop(lock);
         made
     }
 
     /// Opens the dataset, in the locked folder, and changes it.
-    fn change_in_folder<W: Write, E: Write>(
+    fn change_in_folder<P: Places, W: Write, E: Write>(
         &self,
+        places: &mut P,
         files: &[Vec<u8>],
         out: &mut W,
         err: &mut E,
         why: &mut Option<Reason>,
     ) -> R<()>
+        ensures comes { InFolder (disk_within {D = P.Disk} {S = S}) (P.known places.old) (P.known places.new) self.now.call.now.folder.now
+            (ChangesDisk P.Disk.state self.now.call.now (files_view files.now) (W.contents out.old) (W.contents out.new))
+            (W.contents out.new ≡ W.contents out.old) result }
         ensures quiet { self.now.terminals.err ≡ false → E.contents err.new ≡ E.contents err.old }
     {
-        let mut store = self.open(why)?;
-        let made = self.change_store(&mut store, files, out, err, why);
-        self.clean_up(&mut store);
+        let disk = self.take(places, self.shows_disk())?;
+        let (disk, made) = self.change_on(places, disk, files, out, err, why);
+        self.give(places, disk);
         made
     }
 
-    /// Changes the dataset, and prints what came of it.
-    fn change_store<W: Write, E: Write>(
+    /// Opens the dataset on a disk, in the locked folder, and changes it. The disk is handed back.
+    fn change_on<P: Places, D: Explains, W: Write, E: Write>(
         &self,
-        store: &mut Store<Watched<HostDisk<F>, S>>,
+        places: &mut P,
+        disk: Watched<D, S>,
+        files: &[Vec<u8>],
+        out: &mut W,
+        err: &mut E,
+        why: &mut Option<Reason>,
+    ) -> (Watched<D, S>, R<()>)
+        ensures comes { ChangesDisk D.state self.now.call.now (files_view files.now) (W.contents out.old) (W.contents out.new) disk result.0 result.1 }
+        ensures same { StaysKnown (P.known places.old) (P.known places.new) }
+        ensures quiet { self.now.terminals.err ≡ false → E.contents err.new ≡ E.contents err.old }
+    {
+        match self.open(places, disk) {
+            Ok(store) => {
+                let mut store = store;
+                let made = self.change_store(&mut store, files, out, err, why);
+                self.clean_up(places, &mut store);
+                (store.into_disk(), made)
+            }
+            Err((disk, refusal)) => {
+                *why = root_reason(&refusal);
+                (disk, Err(refusal))
+            }
+        }
+    }
+
+    /// Changes the dataset, and prints what came of it.
+    fn change_store<D: Explains, W: Write, E: Write>(
+        &self,
+        store: &mut Store<Watched<D, S>>,
         files: &[Vec<u8>],
         out: &mut W,
         err: &mut E,
         why: &mut Option<Reason>,
     ) -> R<()>
+        ensures comes { ChangesStore D.state self.now.call.now self.now.call.now.task (files_view files.now)
+            (W.contents out.old) (W.contents out.new) store.old store.new result }
         ensures quiet { self.now.terminals.err ≡ false → E.contents err.new ≡ E.contents err.old }
     {
-        let (alloc, texts, shows) = (self.alloc, self.call.texts, self.terminals.err);
         match &self.call.task {
             Task::Create { .. } | Task::Look(_) | Task::Ask(_) => Ok(()),
-            Task::Change(change) => {
-                let mut at = None;
-                let keeps = self.call.keeps_style;
-                let done = change_in_style(
-                    alloc, store, change, keeps, files, texts, err, shows, why, &mut at,
-                );
-                store.vault.disk.clear();
-                if let (Some(place), Err(refusal)) = (at, &done) {
-                    self.name_file(place, refusal, why);
-                }
-                let told = tell_done(done?, out);
-                if told.is_err() {
-                    *why = Some(Reason::Unprinted);
-                }
-                told
-            }
+            Task::Change(change) => self.make_change(store, change, files, out, err, why),
             Task::Run { stops, .. } => {
                 let bytes = bytes_at(files, 0);
-                if *stops {
-                    run_to_refusal(alloc, store, bytes, texts, out, why)
-                } else {
-                    run(alloc, store, bytes, texts, out, why)
-                }
+                run_calls(self.alloc, store, bytes, *stops, self.call.texts, out, why)
             }
         }
     }
 
-    /// Opens the dataset to change it; it keeps what is replaced from then on. It is cleaned where no reader is at work, and
-    /// there is a file for readers to lock then. Where its rows are to be changed, the screen shows what the disk reads and
-    /// writes.
-    fn open(&self, why: &mut Option<Reason>) -> R<Store<Watched<HostDisk<F>, S>>> {
-        let disk = self.disk(self.shows_disk())?;
-        let (alloc, folder, options) = (self.alloc, self.call.folder, self.call.options);
-        let readers = kept_out(self.rt, alloc, folder, 0);
-        let store = match &readers {
-            Readers::MayBe => opened(store::open_to_read(alloc, disk, options), why)?,
-            Readers::NoFile | Readers::Out(_) => opened(store::open(alloc, disk, options), why)?,
-        };
-        if let Readers::NoFile = &readers {
-            make_file(self.rt, alloc, folder);
+    /// Makes a change of the dataset, and prints that it is done.
+    fn make_change<D: Explains, W: Write, E: Write>(
+        &self,
+        store: &mut Store<Watched<D, S>>,
+        change: &Change<'_>,
+        files: &[Vec<u8>],
+        out: &mut W,
+        err: &mut E,
+        why: &mut Option<Reason>,
+    ) -> R<()>
+        ensures comes { Changes D.state self.now.call.now change.now (files_view files.now) (W.contents out.old) (W.contents out.new) store.old store.new result }
+        ensures quiet { self.now.terminals.err ≡ false → E.contents err.new ≡ E.contents err.old }
+    {
+        let (alloc, texts, shows) = (self.alloc, self.call.texts, self.terminals.err);
+        let keeps = self.call.keeps_style;
+        let mut at = None;
+        let done = change_in_style(
+            alloc, store, change, keeps, files, texts, err, shows, why, &mut at,
+        );
+        store.vault.disk.clear();
+        if let (Some(place), Err(refusal)) = (at, &done) {
+            self.name_file(place, refusal, why);
+        }
+        tell_done(done, out, why)
+    }
+
+    /// Opens the dataset on a disk to change it; it keeps what is replaced from then on. It is cleaned where no reader is at work, and
+    /// there is a file for readers to lock then. Refused, the disk is handed back.
+    fn open<P: Places, D: Disk>(&self, places: &mut P, disk: D) -> Result<Store<D>, (D, Refusal)>
+        ensures opens { MatchResult result
+            (λ store. (opened : Store D) × OpensToChange D.state disk self.now.call.now.options (Ok opened) × (store ≡ record opened { keeps = true }))
+            (λ e. OpensToChange D.state disk self.now.call.now.options (Err e)) }
+        ensures same { StaysKnown (P.known places.old) (P.known places.new) }
+    {
+        let (alloc, folder) = (self.alloc, self.call.folder);
+        let readers = places.keep_out(alloc, folder, 0);
+        let opened = open_beside(alloc, disk, self.call.options, &readers);
+        if let (Readers::NoFile, Ok(_)) = (&readers, &opened) {
+            places.make_lock(alloc, folder);
         }
         drop(readers);
-        let mut store = store;
+        let mut store = opened?;
         store.keep_replaced();
         Ok(store)
     }
@@ -181,10 +267,13 @@ where
 
     /// Removes the files that are not needed any more, where no reader is at work; else they stay for the next command that
     /// changes the dataset.
-    fn clean_up(&self, store: &mut Store<Watched<HostDisk<F>, S>>) {
+    fn clean_up<P: Places, D: Disk>(&self, places: &mut P, store: &mut Store<D>)
+        ensures cleans { MayCleanUp D.state store.old store.new }
+        ensures same { StaysKnown (P.known places.old) (P.known places.new) }
+    {
         let seconds = self.call.waits.unwrap_or(CLEANING_SECONDS);
         let seconds = seconds.min(CLEANING_SECONDS);
-        let readers = kept_out(self.rt, self.alloc, self.call.folder, seconds);
+        let readers = places.keep_out(self.alloc, self.call.folder, seconds);
         match &readers {
             Readers::MayBe => {}
             Readers::NoFile | Readers::Out(_) => {
@@ -196,25 +285,56 @@ where
     }
 }
 
-/// The store that was opened. Where it is refused, `why` may get the reason.
-pub(crate) fn opened<F: Files + Clone + Drop, S: Write + Drop>(
-    made: Result<Store<Watched<HostDisk<F>, S>>, (Watched<HostDisk<F>, S>, Refusal)>,
-    why: &mut Option<Reason>,
-) -> R<Store<Watched<HostDisk<F>, S>>> {
-    match made {
-        Ok(store) => Ok(store),
-        Err((disk, refusal)) => {
-            let mut disk = disk;
-            disk.clear();
-            *why = root_reason(&refusal);
-            Err(refusal)
-        }
+/// Opens the dataset on a disk; it is cleaned where no reader may be at work.
+fn open_beside<D: Disk, L: Drop>(
+    alloc: Global,
+    disk: D,
+    options: WriteOptions,
+    readers: &Readers<L>,
+) -> Result<Store<D>, (D, Refusal)>
+    ensures opens { OpensToChange D.state disk options result }
+{
+    match readers {
+        Readers::MayBe => store::open_to_read(alloc, disk, options),
+        Readers::NoFile | Readers::Out(_) => store::open(alloc, disk, options),
     }
 }
 
+/// Makes the calls of a script on a store, all or up to the first that is refused.
+fn run_calls<D: Disk, W: Write>(
+    alloc: Global,
+    store: &mut Store<D>,
+    bytes: &[u8],
+    stops: bool,
+    texts: bool,
+    out: &mut W,
+    why: &mut Option<Reason>,
+) -> R<()>
+    ensures runs { RunsCalls D.state stops texts store.old store.new bytes.now (W.contents out.old) (W.contents out.new) result }
+{
+    if stops {
+        run_to_refusal(alloc, store, bytes, texts, out, why)
+    } else {
+        run(alloc, store, bytes, texts, out, why)
+    }
+}
+
+/// Prints `done N` of a change that is done, and passes all that was printed on. Refused as the change, and Device where that cannot
+/// be done.
+fn tell_done<W: Write>(done: R<u64>, out: &mut W, why: &mut Option<Reason>) -> R<()>
+    ensures told { TellsDone done (W.contents out.old) (W.contents out.new) result }
+{
+    let told = print_rows_done(done?, out);
+    if told.is_err() {
+        *why = Some(Reason::Unprinted);
+    }
+    told
+}
+
 /// Prints `done N`, and passes all that was printed on. Refused Device where that cannot be done.
-fn tell_done<W: Write>(rows: u64, out: &mut W) -> R<()>
+fn print_rows_done<W: Write>(rows: u64, out: &mut W) -> R<()>
     ensures told { OnOk result (Appends (W.contents out.old) (W.contents out.new) (codes "done " ++ decimal rows ++ codes "\n")) }
+    ensures which { RefusedOnly (λ e. e ≡ Refusal.Device) result }
 {
     print_done(rows, out)?;
     out.flush().map_err(refusal_of)

@@ -4,7 +4,8 @@
 //! folder's lock takes this one too while it removes files, and never waits long for it. No lock is changed into another
 //! one, since a change that fails leaves none.
 
-ghost use Rattle.std.specs.Prelude.{◌≡◌, false, OnOk};
+ghost use Rattle.std.specs.Prelude.{◌≡◌, false};
+ghost use Rattle.bits.specs.Refusals.{RefusedOnly, RefusedMemoryOnly};
 
 use crate::folder_lock::is_same;
 use crate::lock::{Access, Lock, Patience, take, try_for};
@@ -38,7 +39,9 @@ enum Found<L: Drop> {
 }
 
 /// The path of the file that readers lock.
-fn lock_path(alloc: Global, folder: &str) -> R<String> {
+fn lock_path(alloc: Global, folder: &str) -> R<String>
+    ensures memory { RefusedMemoryOnly result }
+{
     let path = format!(in alloc; "{folder}/_lock")?;
     Ok(path)
 }
@@ -77,6 +80,7 @@ pub fn shared<F: Files + Clock, E: Write>(
 ) -> R<Option<F::File>>
 where
     F::File: Lock,
+    ensures which { RefusedOnly (λ e. e ≡ Refusal.Device) result }
     ensures quiet { patience.shows ≡ false → E.contents err.new ≡ E.contents err.old }
 {
     let path = lock_path(alloc, folder)?;
@@ -131,6 +135,7 @@ pub fn waited_out<F: Files + Clock, E: Write>(
 ) -> R<Readers<F::File>>
 where
     F::File: Lock,
+    ensures which { RefusedOnly (λ e. e ≡ Refusal.Device) result }
     ensures quiet { patience.shows ≡ false → E.contents err.new ≡ E.contents err.old }
 {
     let path = lock_path(alloc, folder)?;
@@ -156,6 +161,7 @@ fn wait_out<F: Files + Clock, E: Write>(
 ) -> R<Readers<F::File>>
 where
     F::File: Lock,
+    ensures which { RefusedOnly (λ e. e ≡ Refusal.Device) result }
     ensures quiet { patience.shows ≡ false → E.contents err.new ≡ E.contents err.old }
 {
     match take(rt, &opened, folder, Access::Writes, patience, err) {

@@ -1,17 +1,13 @@
 //! Which of several files is refused.
 
-use crate::lock::Lock;
-use crate::making::Making;
+use crate::making::{Making, file_named};
 use crate::reason::{Reason, Told};
 use bits::{R, Refusal};
+use dataset_words::{Change, Task};
 use std::alloc::Global;
-use std::io::{Input, Write};
-use std::rt::{Clock, Files};
+use std::io::Write;
 
-impl<F: Files + Input + Clock + Clone + Drop, S: Write + Clone + Drop> Making<'_, F, S>
-where
-    F::File: Lock,
-{
+impl<S: Write + Clone + Drop> Making<'_, S> {
     /// Puts the name of the file that is refused, which is at this place among those that the call names, before the reason.
     /// Where the refusal is not one of a file, or there is no memory for it, the reason stays as it is.
     pub(crate) fn name_file(&self, place: usize, refusal: &Refusal, why: &mut Option<Reason>) {
@@ -32,8 +28,21 @@ where
     fn file_at(&self, place: usize) -> &str {
         match self.imported_files() {
             Some(files) if place < files.len() => files[place],
-            _ => self.named_file().unwrap_or(""),
+            _ => self.file_of_task().unwrap_or(""),
         }
+    }
+
+    /// The files of an import.
+    fn imported_files(&self) -> Option<&[&str]> {
+        match &self.call.task {
+            Task::Change(Change::Import { files, .. }) => Some(files.as_slice()),
+            _ => None,
+        }
+    }
+
+    /// The file that the task names, or the first of several, if it names one.
+    fn file_of_task(&self) -> Option<&str> {
+        file_named(&self.call.task)
     }
 }
 

@@ -1,5 +1,11 @@
 //! Notes on what is accepted: what other tools may refuse, and what is easily overlooked.
 
+ghost use Rattle.std.specs.Prelude.{◌≡◌, ◌++◌, ℕ, List, codes, OnOk, IfOk, IsUtf8};
+ghost use Rattle.std.specs.Io.KnownBytes.{Appends};
+ghost use Rattle.schema.specs.Shape.{Fields};
+ghost use Rattle.jsonrows.specs.SchemaJson.{IsSchemaText};
+ghost use Rattle.commands.specs.Looking.{MayBeNote};
+
 use crate::explaining::schema_reason;
 use crate::printing::write_text;
 use crate::reason::Reason;
@@ -15,12 +21,16 @@ use std::fmt::Write as _;
 use std::io::Write;
 
 /// A line that is a note, in which control characters are escaped.
-fn note_line(alloc: Global, note: &str) -> R<Vec<u8>> {
-    let mut text = Vec::new(alloc);
-    let mut line = OneLine(&mut text);
-    if write!(line, "note: {note}").is_err() {
+fn note_line(alloc: Global, note: &str) -> R<Vec<u8>>
+    ensures says { IfOk result (λ line. (said : List ℕ) × (line.items ≡ codes "note: " ++ said ++ codes "\n")) }
+{
+    let mut said = Vec::new(alloc);
+    let mut line = OneLine(&mut said);
+    if write!(line, "{note}").is_err() {
         return Err(Refusal::Memory);
     }
+    let mut text = Vec::from_slice(alloc, b"note: ")?;
+    text.extend_from_slice(said.as_slice())?;
     text.push(b'\n')?;
     Ok(text)
 }
@@ -37,7 +47,9 @@ pub fn print_schema_notes<W: Write>(alloc: Global, schema: &Schema, out: &mut W)
 
 /// Prints a line that names the first line of a text of rows in which a member stands twice, if there is one; this is the file.
 /// Refused Device where the output cannot be written.
-pub fn print_doubled_note<W: Write>(alloc: Global, file: &str, text: &str, out: &mut W) -> R<()> {
+pub fn print_doubled_note<W: Write>(alloc: Global, file: &str, text: &str, out: &mut W) -> R<()>
+    ensures noted { OnOk result ((note : List ℕ) × MayBeNote note × Appends (W.contents out.old) (W.contents out.new) note) }
+{
     match doubled_note(alloc, file, text)? {
         Some(note) => {
             let line = note_line(alloc, note.as_str())?;
@@ -55,7 +67,9 @@ pub fn print_schema_fits<W: Write>(
     bytes: &[u8],
     out: &mut W,
     why: &mut Option<Reason>,
-) -> R<()> {
+) -> R<()>
+    ensures fits { OnOk result (IsUtf8 bytes.now × (fs : Fields) × IsSchemaText bytes.now fs) }
+{
     match schema_in(alloc, bytes) {
         Ok(schema) => {
             let count = schema.fields().len();
@@ -71,6 +85,10 @@ pub fn print_schema_fits<W: Write>(
 }
 
 /// The schema that the text of a file is. Refused Script for bytes that are no text, and as `schema_from` refuses it.
-pub fn schema_in(alloc: Global, bytes: &[u8]) -> R<Schema> {
-    schema_from(alloc, text_of(bytes)?)
+pub fn schema_in(alloc: Global, bytes: &[u8]) -> R<Schema>
+    ensures text { OnOk result (IsUtf8 bytes.now) }
+    ensures says { IfOk result (IsSchemaText bytes.now) }
+{
+    let text = text_of(bytes)?;
+    schema_from(alloc, text)
 }

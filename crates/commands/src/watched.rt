@@ -19,7 +19,7 @@ pub struct Watched<D: Explains, S: Write + Drop> {
 }
 
 impl<D: Explains, S: Write + Drop> Watched<D, S> {
-    /// Watches the disk of a folder of the host.
+    /// Watches the disk of a folder.
     pub fn new(disk: D, tally: Tally<S>, notes: Notes, folder: String) -> Watched<D, S>
         ensures disk { result.disk ≡ disk }
         ensures tally { result.tally ≡ tally }
@@ -41,15 +41,21 @@ impl<D: Explains, S: Write + Drop> Watched<D, S> {
                     self.notes.note_failure(self.folder.as_str(), failure);
                 }
             }
-            Fault::Absent => {
-                if let Some(failure) = self.disk.absence()
-                    && let Some(path) = &failure.path
-                {
-                    self.notes.note_absent(path.as_str());
-                }
-            }
+            Fault::Absent => self.note_absent(path),
             Fault::Exists => self.notes.note_in_the_way(path),
             Fault::Memory => {}
+        }
+    }
+
+    /// Notes that nothing is where the disk says, or else at this path.
+    #[cold]
+    fn note_absent(&self, path: &str) {
+        let Some(failure) = self.disk.absence() else {
+            self.notes.note_absent(path);
+            return;
+        };
+        if let Some(path) = &failure.path {
+            self.notes.note_absent(path.as_str());
         }
     }
 
@@ -61,6 +67,15 @@ impl<D: Explains, S: Write + Drop> Watched<D, S> {
             self.note(path, *fault);
         }
         answer
+    }
+
+    /// Gives the disk back, once nothing of it is on the screen.
+    pub fn into_inner(self) -> D
+        ensures { result ≡ self.disk }
+    {
+        let mut watched = self;
+        watched.clear();
+        watched.disk
     }
 
     /// Takes what is shown off the screen.

@@ -1,8 +1,11 @@
 //! `pqds decode` where its output cannot be written.
 
+ghost use Rattle.std.specs.Prelude.{◌≡◌};
+ghost use Rattle.bits.specs.declared.refusal.Refusal.TheVariants.{Device};
+
 use bits::{R, Refusal};
 use dataset_words::{Call, Datasets, FileSink};
-use program::{Terminals, work};
+use program::{HostPaths, Terminals, work};
 use std::alloc::Global;
 use std::fs;
 use std::io::{self, BufWriter, ErrorKind, Write};
@@ -43,15 +46,20 @@ impl Write for Closed {
 }
 
 /// Nobody makes calls on datasets.
+#[derive(Drop)]
 struct NoDatasets;
 
 impl<W: Write, E: Write> Datasets<W, E> for NoDatasets {
-    ghost prints = { λ nobody call old new. Unit {0} };
+    ghost prints = { λ old_self new_self call old new. ⊥ };
 
-    ghost gives = { λ nobody call files. Unit {0} };
+    ghost refuses = { λ old_self new_self call old new e. e ≡ Device };
+
+    ghost gives = { λ old_self new_self call was is. ⊥ };
+
+    ghost withholds = { λ old_self new_self call e. e ≡ Device };
 
     fn make(
-        &self,
+        &mut self,
         _alloc: Global,
         _call: &Call<'_>,
         _out: &mut W,
@@ -62,7 +70,7 @@ impl<W: Write, E: Write> Datasets<W, E> for NoDatasets {
     }
 
     fn file_of(
-        &self,
+        &mut self,
         _alloc: Global,
         _call: &Call<'_>,
         _err: &mut E,
@@ -72,7 +80,7 @@ impl<W: Write, E: Write> Datasets<W, E> for NoDatasets {
     }
 
     fn files_of<S: FileSink>(
-        &self,
+        &mut self,
         _alloc: Global,
         _call: &Call<'_>,
         _sink: &mut S,
@@ -91,7 +99,17 @@ fn decoded<W: Write>(rt: &HostRuntime, out: &mut W, err: &mut Vec<u8>) -> R<u8> 
         words.push(String::from_str(alloc, word)?)?;
     }
     let words = words.as_slice();
-    Ok(work(rt, alloc, words, out, err, NO_TERMINALS, &NoDatasets))
+    let mut paths = HostPaths { rt };
+    let mut nobody = NoDatasets;
+    Ok(work(
+        &mut paths,
+        alloc,
+        words,
+        out,
+        err,
+        NO_TERMINALS,
+        &mut nobody,
+    ))
 }
 
 #[test]

@@ -1,5 +1,6 @@
 -- What the words of a command ask for: each part of a call is what the parser found for the argument that is named here.
-use Rattle.std.specs.Prelude.{◌≡◌, ◌↔◌, ⊤, ℕ, Bool, true, false, IsTrue, List, [], Option, Some, None, codes, map, option_map, unwrap_or, SomeIff, ◌<◌, ◌^◌}
+use Rattle.std.specs.Prelude.{◌≡◌, ◌⊎◌, ◌↔◌, ◌<◌, ◌^◌, ⊤, ℕ, Bool, true, false, IsTrue, List, [], Contains}
+use Rattle.std.specs.Prelude.{Option, Some, None, codes, map, option_map, unwrap_or, SomeIff}
 use Rattle.std.specs.Option.{option_map_or, option_or}
 use Rattle.std.specs.List.{AllZip}
 use Rattle.std.specs.Borrow.{Bor}
@@ -13,7 +14,7 @@ use Rattle.footer.specs.declared.options.WriteOptions.{WriteOptions}
 use Rattle.row_group.specs.declared.options.Style.TheVariants.{Plain}
 use Rattle.dataset_words.specs.Flags.{IsFlag}
 use Rattle.dataset_words.specs.Styles.{style_named}
-use Rattle.dataset_words.specs.Words.{task_word}
+use Rattle.dataset_words.specs.Words.{task_word, is_task_word}
 use Rattle.dataset_words.specs.declared.call.Call.{Call}
 use Rattle.dataset_words.specs.declared.call.Task.{Task}
 use Rattle.dataset_words.specs.declared.call.Task.TheVariants.{Create, Ask, Change as ToChange, Look as LookAt, Run}
@@ -153,6 +154,28 @@ pub record IsLookCall (found : Found) (folder : Bor (List ℕ)) (look : Look) (c
   pub options : IsStandard call.options
   pub keeps_style : call.keeps_style ≡ false
   pub texts : HasFlag found (codes "text") call.texts
+
+-- nothing was found for an argument
+abbrev pub Lacks : Found → List ℕ → Type 0
+Lacks found name = first_value found name ≡ None
+
+-- one of these texts is no number of 64 bits
+abbrev pub HasNoNumber : List (List ℕ) → Type 0
+HasNoNumber texts = (text : List ℕ) × Contains texts text × IsNumber 64 (Some text) None
+
+-- why a command makes no call on a dataset: it is none of those commands, or the folder was not found, or the file that it needs, or what
+-- is to be a group's number is none
+pub data LacksPart (word : List ℕ) (found : Found) : Type 0 where
+  no_command : is_task_word word ≡ false → LacksPart word found
+  no_folder : HasFolder found None → LacksPart word found
+  no_rows : word ≡ codes "append" → Lacks found (codes "ROWS") → LacksPart word found
+  no_schema : (word ≡ codes "create") ⊎ (word ≡ codes "add-column") → Lacks found (codes "SCHEMA") → LacksPart word found
+  no_script : word ≡ codes "run" → Lacks found (codes "SCRIPT") → LacksPart word found
+  no_number : (word ≡ codes "remove") ⊎ (word ≡ codes "rewrite") → HasNoNumber (texts_of found (codes "NUMBER")) → LacksPart word found
+
+-- a word is none of those of some commands, or its command makes no call
+abbrev pub HasNone : Bool → List ℕ → Found → Type 0
+HasNone is_known word found = (is_known ≡ false) ⊎ LacksPart word found
 
 -- the words name this command, and this was found for its arguments
 abbrev pub HasMet : ArgMatches → List ℕ → Found → Type 0

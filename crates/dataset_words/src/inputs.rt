@@ -1,5 +1,8 @@
 //! Calls that read the standard input.
 
+ghost use Rattle.std.specs.Prelude.{IsTrue};
+ghost use Rattle.dataset_words.specs.Inputs.{TaskReadsInputTwice};
+
 use crate::call::{Call, Change, Task};
 
 /// The path that is the standard input.
@@ -9,7 +12,9 @@ const INPUT: &str = "-";
 const FILTER_OF_INPUT: &str = "@-";
 
 /// Whether a call names the standard input for two of the files that it reads.
-pub fn reads_input_twice(call: &Call<'_>) -> bool {
+pub fn reads_input_twice(call: &Call<'_>) -> bool
+    ensures { IsTrue result → TaskReadsInputTwice call.now.task }
+{
     match &call.task {
         Task::Change(Change::Append { rows, unless }) => {
             *rows == INPUT && *unless == Some(FILTER_OF_INPUT)

@@ -1,54 +1,63 @@
 //! What is asked for by the words of the commands on a dataset.
 
-ghost use Rattle.std.specs.Prelude.{◌≡◌, IfSome, IfOk, codes, map, option_map};
+ghost use Rattle.std.specs.Prelude.{◌≡◌, false, IfNone, IfSome, IfOk, codes, map, option_map};
+ghost use Rattle.bits.specs.Refusals.{RefusedMemoryOnly};
 ghost use Rattle.clap.specs.Matches.{found_of};
-ghost use Rattle.dataset_words.specs.Asked.{HasFlag, HasTexts, MayHaveText, MayHaveNumber, HasNumberOr, HasNumbers, AreNumbers};
-ghost use Rattle.dataset_words.specs.Asked.{HasQuestion, HasChange, HasTask, HasFolder, HasWaiting, HasMet, IsCallOf, IsLookCall};
+ghost use Rattle.clap.specs.declared.parser.matches.Found.{Found};
+ghost use Rattle.dataset_words.specs.Asked.{HasFlag, HasTexts, MayHaveText, MayHaveNumber, HasNumberOr, HasNumbers, AreNumbers, HasNoNumber, texts_of};
+ghost use Rattle.dataset_words.specs.Asked.{HasQuestion, HasChange, HasTask, HasFolder, HasWaiting, HasMet, HasNone, LacksPart, IsCallOf, IsLookCall};
 ghost use Rattle.dataset_words.specs.Words.{task_word, question_word, change_word, look_word};
+ghost use Rattle.dataset_words.specs.Words.{is_task_word, is_question_word, is_change_word, is_change_of_file, is_change_of_rows, is_file_word};
 
 use crate::call::{Call, Change, Look, Question, Task};
 use crate::options::{keeps_style_in, options_in};
-use bits::{R, Refusal};
+use bits::R;
 use clap::ArgMatches;
 use footer::WriteOptions;
 use std::alloc::Global;
 
 /// The words that an argument was given.
 pub fn words_in<'a>(alloc: Global, matches: &ArgMatches<'a>, name: &str) -> R<Vec<&'a str>>
-    ensures { IfOk result (λ words. HasTexts (found_of matches.now) name.now words.items) }
+    ensures which { RefusedMemoryOnly result }
+    ensures texts { IfOk result (λ words. HasTexts (found_of matches.now) name.now words.items) }
 {
     let words = matches.get_strs(name).unwrap_or(&[]);
     let words = Vec::from_slice(alloc, words)?;
     Ok(words)
 }
 
-/// The group numbers that were given.
-fn numbers_in(alloc: Global, matches: &ArgMatches<'_>) -> R<Vec<u64>>
-    ensures { IfOk result (λ numbers. HasNumbers (found_of matches.now) 64 (codes "NUMBER") numbers.items) }
+/// The group numbers that were given. None where one is no number. It fails only when out of memory.
+fn numbers_in(alloc: Global, matches: &ArgMatches<'_>) -> R<Option<Vec<u64>>>
+    ensures has { IfOk result (λ known. IfSome known (λ numbers. HasNumbers (found_of matches.now) 64 (codes "NUMBER") numbers.items)) }
+    ensures none { IfOk result (λ known. IfNone known (HasNoNumber (texts_of (found_of matches.now) (codes "NUMBER")))) }
+    ensures which { RefusedMemoryOnly result }
 {
     let words = words_in(alloc, matches, "NUMBER")?;
     numbers_of(alloc, words.as_slice())
 }
 
-/// The numbers that words are.
-fn numbers_of(alloc: Global, words: &[&str]) -> R<Vec<u64>>
-    ensures { IfOk result (λ numbers. AreNumbers 64 (map (λ word. word.now) words.now) numbers.items) }
+/// The numbers that words are. None where one is no number. It fails only when out of memory.
+fn numbers_of(alloc: Global, words: &[&str]) -> R<Option<Vec<u64>>>
+    ensures are { IfOk result (λ known. IfSome known (λ numbers. AreNumbers 64 (map (λ word. word.now) words.now) numbers.items)) }
+    ensures none { IfOk result (λ known. IfNone known (HasNoNumber (map (λ word. word.now) words.now))) }
+    ensures which { RefusedMemoryOnly result }
 {
     let mut numbers = Vec::new(alloc);
     for word in words {
         match word.parse::<u64>() {
             Ok(number) => numbers.push(number)?,
             // Each passed the parser of its argument, so that this does not come.
-            Err(_) => return Err(Refusal::Script),
+            Err(_) => return Ok(None),
         }
     }
-    Ok(numbers)
+    Ok(Some(numbers))
 }
 
 /// The change that a command makes that names a file.
 fn change_of_file<'a>(word: &str, matches: &ArgMatches<'a>) -> Option<Change<'a>>
     ensures word { IfSome result (λ change. change_word change ≡ word.now) }
     ensures asked { IfSome result (HasChange (found_of matches.now)) }
+    ensures none { IfNone result (HasNone (is_change_of_file word.now) word.now (found_of matches.now)) }
 {
     match word {
         "append" => Some(Change::Append {
@@ -66,45 +75,52 @@ fn change_of_file<'a>(word: &str, matches: &ArgMatches<'a>) -> Option<Change<'a>
 fn change_of_rows<'a>(alloc: Global, word: &str, matches: &ArgMatches<'a>) -> R<Option<Change<'a>>>
     ensures word { IfOk result (λ found. IfSome found (λ change. change_word change ≡ word.now)) }
     ensures asked { IfOk result (λ found. IfSome found (HasChange (found_of matches.now))) }
+    ensures none { IfOk result (λ found. IfNone found (HasNone (is_change_of_rows word.now) word.now (found_of matches.now))) }
+    ensures which { RefusedMemoryOnly result }
 {
-    let change = match word {
-        "import" => Change::Import {
+    match word {
+        "import" => Ok(Some(Change::Import {
             files: words_in(alloc, matches, "FILE")?,
             unless: matches.get_str("unless"),
-        },
-        "remove" => removal_in(alloc, matches)?,
-        "rewrite" => rewrite_in(alloc, matches)?,
-        _ => return Ok(None),
-    };
-    Ok(Some(change))
+        })),
+        "remove" => removal_in(alloc, matches),
+        "rewrite" => rewrite_in(alloc, matches),
+        _ => Ok(None),
+    }
 }
 
-/// The rows or the groups that are removed.
-fn removal_in<'a>(alloc: Global, matches: &ArgMatches<'a>) -> R<Change<'a>>
-    ensures word { IfOk result (λ change. change_word change ≡ codes "remove") }
-    ensures asked { IfOk result (HasChange (found_of matches.now)) }
+/// The rows or the groups that are removed. None where what is to be a number is none.
+fn removal_in<'a>(alloc: Global, matches: &ArgMatches<'a>) -> R<Option<Change<'a>>>
+    ensures word { IfOk result (λ found. IfSome found (λ change. change_word change ≡ codes "remove")) }
+    ensures asked { IfOk result (λ found. IfSome found (HasChange (found_of matches.now))) }
+    ensures none { IfOk result (λ found. IfNone found (HasNoNumber (texts_of (found_of matches.now) (codes "NUMBER")))) }
+    ensures which { RefusedMemoryOnly result }
 {
     match matches.get_str("filter") {
-        Some(filter) => Ok(Change::Remove { filter }),
-        None => Ok(Change::RemoveGroups {
-            numbers: numbers_in(alloc, matches)?,
-        }),
+        Some(filter) => Ok(Some(Change::Remove { filter })),
+        None => match numbers_in(alloc, matches)? {
+            Some(numbers) => Ok(Some(Change::RemoveGroups { numbers })),
+            None => Ok(None),
+        },
     }
 }
 
-/// The groups that are written anew.
-fn rewrite_in<'a>(alloc: Global, matches: &ArgMatches<'a>) -> R<Change<'a>>
-    ensures word { IfOk result (λ change. change_word change ≡ codes "rewrite") }
-    ensures asked { IfOk result (HasChange (found_of matches.now)) }
+/// The groups that are written anew. None where what is to be a number is none.
+fn rewrite_in<'a>(alloc: Global, matches: &ArgMatches<'a>) -> R<Option<Change<'a>>>
+    ensures word { IfOk result (λ found. IfSome found (λ change. change_word change ≡ codes "rewrite")) }
+    ensures asked { IfOk result (λ found. IfSome found (HasChange (found_of matches.now))) }
+    ensures none { IfOk result (λ found. IfNone found (HasNoNumber (texts_of (found_of matches.now) (codes "NUMBER")))) }
+    ensures which { RefusedMemoryOnly result }
 {
     if matches.get_flag("all") {
-        return Ok(Change::RewriteAll);
+        return Ok(Some(Change::RewriteAll));
     }
-    match matches.get_one::<u64>("min-rows") {
-        Some(min_rows) => Ok(Change::RewriteSmall { min_rows }),
-        None => Ok(Change::Rewrite {
-            numbers: numbers_in(alloc, matches)?,
-        }),
+    if let Some(min_rows) = matches.get_one::<u64>("min-rows") {
+        return Ok(Some(Change::RewriteSmall { min_rows }));
+    }
+    match numbers_in(alloc, matches)? {
+        Some(numbers) => Ok(Some(Change::Rewrite { numbers })),
+        None => Ok(None),
     }
 }
 
@@ -112,6 +128,8 @@ fn rewrite_in<'a>(alloc: Global, matches: &ArgMatches<'a>) -> R<Change<'a>>
 fn change_of<'a>(alloc: Global, word: &str, matches: &ArgMatches<'a>) -> R<Option<Change<'a>>>
     ensures word { IfOk result (λ found. IfSome found (λ change. change_word change ≡ word.now)) }
     ensures asked { IfOk result (λ found. IfSome found (HasChange (found_of matches.now))) }
+    ensures none { IfOk result (λ found. IfNone found (HasNone (is_change_word word.now) word.now (found_of matches.now))) }
+    ensures which { RefusedMemoryOnly result }
 {
     match change_of_file(word, matches) {
         Some(change) => Ok(Some(change)),
@@ -123,6 +141,8 @@ fn change_of<'a>(alloc: Global, word: &str, matches: &ArgMatches<'a>) -> R<Optio
 fn question_of<'a>(alloc: Global, word: &str, matches: &ArgMatches<'a>) -> R<Option<Question<'a>>>
     ensures word { IfOk result (λ found. IfSome found (λ question. question_word question ≡ word.now)) }
     ensures asked { IfOk result (λ found. IfSome found (HasQuestion (found_of matches.now))) }
+    ensures none { IfOk result (λ found. IfNone found (is_question_word word.now ≡ false)) }
+    ensures which { RefusedMemoryOnly result }
 {
     let filter = matches.get_str("filter");
     let question = match word {
@@ -145,6 +165,8 @@ fn question_of<'a>(alloc: Global, word: &str, matches: &ArgMatches<'a>) -> R<Opt
 fn task_of_file<'a>(alloc: Global, word: &str, matches: &ArgMatches<'a>) -> R<Option<Task<'a>>>
     ensures word { IfOk result (λ found. IfSome found (λ task. task_word task ≡ word.now)) }
     ensures asked { IfOk result (λ found. IfSome found (HasTask (found_of matches.now))) }
+    ensures none { IfOk result (λ found. IfNone found (HasNone (is_file_word word.now) word.now (found_of matches.now))) }
+    ensures which { RefusedMemoryOnly result }
 {
     let task = match word {
         "create" => match matches.get_str("SCHEMA") {
@@ -170,6 +192,8 @@ fn task_of_file<'a>(alloc: Global, word: &str, matches: &ArgMatches<'a>) -> R<Op
 fn task_of<'a>(alloc: Global, word: &str, matches: &ArgMatches<'a>) -> R<Option<Task<'a>>>
     ensures word { IfOk result (λ found. IfSome found (λ task. task_word task ≡ word.now)) }
     ensures asked { IfOk result (λ found. IfSome found (HasTask (found_of matches.now))) }
+    ensures none { IfOk result (λ found. IfNone found (HasNone (is_task_word word.now) word.now (found_of matches.now))) }
+    ensures which { RefusedMemoryOnly result }
 {
     if let Some(question) = question_of(alloc, word, matches)? {
         return Ok(Some(Task::Ask(question)));
@@ -189,7 +213,8 @@ fn folder_in<'a>(matches: &ArgMatches<'a>) -> Option<&'a str>
 
 /// What was found for the arguments of the command of this word; None where the words name another command.
 pub fn found_for<'m, 'a>(matches: &'m ArgMatches<'a>, word: &str) -> Option<&'m ArgMatches<'a>>
-    ensures { IfSome result (λ found. HasMet matches.now word.now (found_of found.now)) }
+    ensures met { IfSome result (λ found. HasMet matches.now word.now (found_of found.now)) }
+    ensures none { IfNone result ((found : Found) → HasMet matches.now word.now found → ⊥) }
 {
     matches.subcommand_matches(word)
 }
@@ -199,6 +224,8 @@ pub fn found_for<'m, 'a>(matches: &'m ArgMatches<'a>, word: &str) -> Option<&'m 
 pub fn call_in<'a>(alloc: Global, word: &str, found: &ArgMatches<'a>) -> R<Option<Call<'a>>>
     ensures word { IfOk result (λ known. IfSome known (λ call. task_word call.task ≡ word.now)) }
     ensures asked { IfOk result (λ known. IfSome known (IsCallOf word.now (found_of found.now))) }
+    ensures lacks { IfOk result (λ known. IfNone known (LacksPart word.now (found_of found.now))) }
+    ensures which { RefusedMemoryOnly result }
 {
     let task = task_of(alloc, word, found)?;
     match (folder_in(found), task) {

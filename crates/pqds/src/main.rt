@@ -2,8 +2,8 @@
 #![tactic(auto)]
 
 use bits::R;
-use commands::{Folders, PART_BYTES};
-use program::{OUTPUT_BUFFER_BYTES, Terminals, refusal_of, refuse, work};
+use commands::{Folders, HostPlaces, PART_BYTES};
+use program::{HostPaths, OUTPUT_BUFFER_BYTES, Terminals, refusal_of, refuse, work};
 use std::env;
 use std::io::{BufWriter, IsTerminal};
 use std::process::ExitCode;
@@ -24,13 +24,22 @@ fn run(rt: &HostRuntime) -> R<u8> {
         err: rt.stderr().is_terminal(),
     };
     let mut err = rt.stderr();
-    let datasets = Folders {
-        files: rt,
+    let mut paths = HostPaths { rt };
+    let mut datasets = Folders {
+        places: HostPlaces { files: rt },
         screen: rt.stderr(),
         part_bytes: PART_BYTES,
     };
     let words = words.as_slice();
-    let status = work(rt, alloc, words, &mut out, &mut err, terminals, &datasets);
+    let status = work(
+        &mut paths,
+        alloc,
+        words,
+        &mut out,
+        &mut err,
+        terminals,
+        &mut datasets,
+    );
     // What could not be written is not tried once more.
     drop(out.into_parts());
     Ok(status)
@@ -39,7 +48,7 @@ fn run(rt: &HostRuntime) -> R<u8> {
 fn main(rt: HostRuntime) -> ExitCode {
     let status = match run(&rt) {
         Ok(status) => status,
-        Err(refusal) => refuse(&mut rt.stderr(), &refusal),
+        Err(refusal) => refuse(rt.alloc(), &mut rt.stderr(), &refusal).status,
     };
     ExitCode::from(status)
 }

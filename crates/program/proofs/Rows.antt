@@ -12,6 +12,7 @@ use Rattle.metadata.specs.Records.{GroupMeta}
 use Rattle.footer.specs.File.{FileMeans, AreGroups}
 use Rattle.footer.specs.Faults.{HasFault}
 use Rattle.program.specs.Program.{MeansUpTo, HasFaultUpTo}
+use Rattle.program.proofs.Endings.{err_weaker}
 
 both_fit : (fs : Fields) (rows others : List ValueTrees) → RowsFit fs rows → RowsFit fs others → RowsFit fs (rows ++ others)
 both_fit fs [] others x y = y
@@ -35,35 +36,31 @@ device_or_memory : (e : Refusal) → HasCause (λ x. x ≡ Device) e → (e ≡ 
 device_or_memory Memory h = inr refl
 device_or_memory e h = inl h
 
-if_err : {X : Type 0} (P Q : Refusal → Type 0) → ((e : Refusal) → P e → Q e) → (r : Result X Refusal) → IfErr r P → IfErr r Q
-if_err P Q f (Ok x) h = h
-if_err P Q f (Err e) h = f e h
-
 has_fault : (bytes : List ℕ) (e : Refusal) → HasCause (λ x. x ≡ Device) e → (e ≡ Device) ⊎ HasFault bytes e
 has_fault bytes e h = elim (device_or_memory e h) [ inl d ↦ inl d | inr m ↦ inr (rw m tt) ]
 
 -- a writer that fails is no fault of a file that was accepted
 pub is_of_device : {X : Type 0} (bytes : List ℕ) (r : Result X Refusal) → RefusedOnly (λ x. x ≡ Device) r → IfErr r (λ e. (e ≡ Device) ⊎ HasFault bytes e)
-is_of_device bytes r h = if_err (HasCause (λ x. x ≡ Device)) (λ e. (e ≡ Device) ⊎ HasFault bytes e) (has_fault bytes) r h
+is_of_device bytes r h = err_weaker (HasCause (λ x. x ≡ Device)) (λ e. (e ≡ Device) ⊎ HasFault bytes e) (has_fault bytes) r h
 
 has_fault_up_to : (limit : Option ℕ) (bytes : List ℕ) (e : Refusal) → HasCause (λ x. x ≡ Device) e → (e ≡ Device) ⊎ HasFaultUpTo limit bytes e
 has_fault_up_to None bytes e h = has_fault bytes e h
 has_fault_up_to (Some limit) bytes e h = elim (device_or_memory e h) [ inl d ↦ inl d | inr m ↦ inr (rw m tt) ]
 
 pub is_of_device_up_to : {X : Type 0} (limit : Option ℕ) (bytes : List ℕ) (r : Result X Refusal) → RefusedOnly (λ x. x ≡ Device) r → IfErr r (λ e. (e ≡ Device) ⊎ HasFaultUpTo limit bytes e)
-is_of_device_up_to limit bytes r h = if_err (HasCause (λ x. x ≡ Device)) (λ e. (e ≡ Device) ⊎ HasFaultUpTo limit bytes e) (has_fault_up_to limit bytes) r h
+is_of_device_up_to limit bytes r h = err_weaker (HasCause (λ x. x ≡ Device)) (λ e. (e ≡ Device) ⊎ HasFaultUpTo limit bytes e) (has_fault_up_to limit bytes) r h
 
 no_other : (P : Type 0) (e : Refusal) → HasCause (λ x. x ≡ Device) e → e ≢ Device → e ≢ Memory → P
 no_other P e h d m = elim (device_or_memory e h) [ inl is ↦ absurd (d is) | inr is ↦ absurd (m is) ]
 
 pub is_no_other : {X : Type 0} (P : Type 0) (r : Result X Refusal) → RefusedOnly (λ x. x ≡ Device) r → IfErr r (λ e. e ≢ Device → e ≢ Memory → P)
-is_no_other P r h = if_err (HasCause (λ x. x ≡ Device)) (λ e. e ≢ Device → e ≢ Memory → P) (no_other P) r h
+is_no_other P r h = err_weaker (HasCause (λ x. x ≡ Device)) (λ e. e ≢ Device → e ≢ Memory → P) (no_other P) r h
 
 no_fault : (P : Type 0) (e : Refusal) → HasCause (λ x. x ≡ Device) e → IsFault e → e ≢ Device → P
 no_fault P e h fault d = elim (device_or_memory e h) [ inl is ↦ absurd (d is) | inr is ↦ absurd (subst IsFault is fault) ]
 
 pub is_no_fault : {X : Type 0} (P : Type 0) (r : Result X Refusal) → RefusedOnly (λ x. x ≡ Device) r → IfErr r (λ e. IsFault e → e ≢ Device → P)
-is_no_fault P r h = if_err (HasCause (λ x. x ≡ Device)) (λ e. IsFault e → e ≢ Device → P) (no_fault P) r h
+is_no_fault P r h = err_weaker (HasCause (λ x. x ≡ Device)) (λ e. IsFault e → e ≢ Device → P) (no_fault P) r h
 
 -- what a reader refuses for is no writer that fails
 pub no_device : (bytes : List ℕ) (e : Refusal) → HasFault bytes e → e ≢ Device

@@ -2,8 +2,10 @@
 use Rattle.std.specs.Prelude.{◌≡◌, ◌∷◌, [], ℕ, List, Some, true, String, string_bytes, codes, map}
 use Rattle.clap.specs.Lexer.{usize_max}
 use Rattle.clap.specs.Walk.{Rule, rows_of}
-use Rattle.clap.specs.Simple.{App, new_app, new_rule, with_rule, subcommand_of}
+use Rattle.clap.specs.Simple.{App, new_app, new_rule, with_rule, subcommand_of, subcommand_rows_of}
+use Rattle.clap.specs.Takes.{takes}
 use Rattle.clap.specs.declared.builder.action.ArgAction.TheVariants.{Set, Append}
+use Rattle.clap.specs.declared.parser.matches.ArgMatches.{ArgMatches}
 use Rattle.clap.specs.declared.parser.matches.Found.{Found}
 use Rattle.dataset_words.specs.CommandLine.{named, flag, option, of_u64, bound, with_rules, waiting, with_progress, with_commands, with_dataset_commands}
 use Rattle.dataset_words.specs.declared.options.Styles.{Styles}
@@ -64,6 +66,19 @@ bare =
 abbrev pub command_line : Styles → App
 command_line styles = with_dataset_commands styles (with_commands bare (decode styles ∷ encode styles ∷ inspect ∷ check ∷ []))
 
+-- with these words for the styles, the program's parser finds in these words this command, and this for its arguments
+abbrev pub FindsBy : {A : Type 0} → Styles → List (String A) → List ℕ → Found → Type 0
+FindsBy styles words command found = subcommand_of (command_line styles) (map string_bytes words) ≡ Some (command, rows_of found)
+
 -- In these words the program's parser finds this command, and this for its arguments. (The words for the styles say which are refused.)
 abbrev pub Finds : {A : Type 0} → List (String A) → List ℕ → Found → Type 0
-Finds words command found = (styles : Styles) × (subcommand_of (command_line styles) (map string_bytes words) ≡ Some (command, rows_of found))
+Finds words command found = (styles : Styles) × FindsBy styles words command found
+
+-- with these words for the styles, the parser's matches are those of these words
+abbrev pub AreMatchesBy : {A : Type 0} → Styles → List (String A) → ArgMatches → Type 0
+AreMatchesBy styles words matches = subcommand_rows_of matches ≡ subcommand_of (command_line styles) (map string_bytes words)
+
+-- The parser does not take these words, by its own definition of when it does. That takes no words of a command of which an argument
+-- excludes or needs another one: of the commands here it can take those of `encode` only.
+abbrev pub AreNotTaken : {A : Type 0} → Styles → List (String A) → Type 0
+AreNotTaken styles words = takes (command_line styles) (map string_bytes words) ≡ true → ⊥

@@ -1,5 +1,6 @@
 pub mod Asked
 pub mod CommandLine
+pub mod Paths
 pub mod Program
 pub mod RefusalLine
 pub mod Words

@@ -6,13 +6,13 @@ use Rattle.std.specs.Str.Lines.{lines}
 use Rattle.serde_json.specs.Data.{Data, Members}
 use Rattle.serde_json.specs.Read.{read}
 use Rattle.bits.specs.declared.refusal.Refusal.{Refusal}
-use Rattle.bits.specs.declared.refusal.Refusal.TheVariants.{Limit, RowShape, Exists, Device, Script, NoColumn}
+use Rattle.bits.specs.declared.refusal.Refusal.TheVariants.{Limit, Memory, RowShape, Device, Script}
 use Rattle.schema.specs.Values.{ValueTrees}
 use Rattle.schema.specs.Shape.{Fields}
 use Rattle.footer.specs.declared.options.WriteOptions.{WriteOptions}
 use Rattle.metadata.specs.Records.{FileMeta}
 use Rattle.footer.specs.File.{IsFile, FileMeans}
-use Rattle.footer.specs.Faults.{HasFault}
+use Rattle.footer.specs.Faults.{HasFault, HasFooterFault}
 use Rattle.footer.specs.FirstRows.{MeansFirstRows}
 use Rattle.footer.specs.FirstRows.{HasFirstFault as HasFaultBefore}
 use Rattle.footer.specs.Own.{IsLaidOut}
@@ -21,6 +21,7 @@ use Rattle.rowtext.specs.Json.{row_text_as}
 use Rattle.columns.specs.Columns.{Columns, wanted_fields, wanted_places, cut, is_field, first_of}
 use Rattle.rowtext.specs.Reading.{row_of_as, line_of, members_read_as}
 use Rattle.jsonrows.specs.SchemaJson.{IsSchemaText, IsRefusedSchema}
+use Rattle.program.specs.Paths.{Place, Places, HasBytes, HasFront, IsLarge, IsNoText, IsFileRefusal, IsPlaceRefusal, MakesFile}
 
 -- the bytes of the greatest file that is read: 2^31 - 1
 abbrev pub greatest_file : ℕ
@@ -94,25 +95,10 @@ pub record IsCopyOf (options : WriteOptions) (columns : Columns) (limit : Option
   pub laid_out : IsLaidOut options (asked_fields columns fs) (first_of limit (asked_rows columns fs rows)) copy
   pub in_range : IsOutOfRange options → ⊥
 
--- a name that is asked for is that of no column of the file
-pub record LacksColumn (columns : Columns) (limit : Option ℕ) (bytes : List ℕ) : Type 0 where
-  pub fs : Fields
-  pub rows : List ValueTrees
-  pub means : MeansUpTo limit bytes fs rows
-  pub lacks : AreColumns columns fs → ⊥
-
--- the rows of a file that are asked for are not copied: the options are out of range, or the rows are too much for a file
-pub record AreNotCopied (options : WriteOptions) (columns : Columns) (limit : Option ℕ) (bytes : List ℕ) : Type 0 where
-  pub fs : Fields
-  pub rows : List ValueTrees
-  pub means : MeansUpTo limit bytes fs rows
-  pub why : IsOutOfRange options ⊎ IsTooMuch (asked_fields columns fs) options (first_of limit (asked_rows columns fs rows))
-
--- why a file is not copied: a name is of no column of it, the rows are not copied, or it has that fault
-abbrev pub IsCopyFault : WriteOptions → Columns → Option ℕ → List ℕ → Refusal → Type 0
-IsCopyFault options columns limit bytes NoColumn = LacksColumn columns limit bytes
-IsCopyFault options columns limit bytes Limit = HasFaultUpTo limit bytes Limit ⊎ AreNotCopied options columns limit bytes
-IsCopyFault options columns limit bytes e = HasFaultUpTo limit bytes e
+-- Why a file is not copied: it has that fault, or it was accepted. (For which columns or rows an accepted file is not copied, this does
+-- not say.)
+abbrev pub IsCopyRefusal : Option ℕ → List ℕ → Refusal → Type 0
+IsCopyRefusal limit bytes e = HasFaultUpTo limit bytes e ⊎ MeansRowsUpTo limit bytes
 
 -- a line is JSON, and this row, with texts of dates, times, timestamps and decimals or without
 abbrev pub IsRowText : Bool → Fields → List ℕ → ValueTrees → Type 0
@@ -155,10 +141,13 @@ pub record IsFileOf (texts : Bool) (options : WriteOptions) (schema_text rows_te
 abbrev pub HaveFileOf : Bool → WriteOptions → List ℕ → List ℕ → ℕ → Type 0
 HaveFileOf texts options schema_text rows_text n = ((bytes : List ℕ) × IsFileOf texts options schema_text rows_text bytes) × (n ≡ length (lines rows_text))
 
--- after what a writer held, where that is known, stands `ok N rows`, where some texts have a file of N rows, and what is noted of them
-pub record WritesCount (texts : Bool) (options : WriteOptions) (old new : Option (List ℕ)) : Type 0 where
+-- after what a writer held, where that is known, stands `ok N rows`, where the texts at two places have a file of N rows, and what is
+-- noted of them
+pub record WritesCount (texts : Bool) (options : WriteOptions) (schema_at rows_at : Place) (old new : Option (List ℕ)) : Type 0 where
   pub schema_text : List ℕ
   pub rows_text : List ℕ
+  pub schema : HasBytes schema_at schema_text
+  pub rows : HasBytes rows_at rows_text
   pub count : ℕ
   pub have : HaveFileOf texts options schema_text rows_text count
   pub note : List ℕ
@@ -172,9 +161,15 @@ pub record WritesReportOf (bytes : List ℕ) (old new : Option (List ℕ)) : Typ
   pub file : IsFile bytes front meta
   pub written : Appends old new text
 
--- some two texts have a file by these options, with texts of dates, times, timestamps and decimals or without
-abbrev pub HaveFile : Bool → WriteOptions → Type 0
-HaveFile texts options = (schema_text rows_text bytes : List ℕ) × IsFileOf texts options schema_text rows_text bytes
+-- a new file is at a path, that of the texts at two other paths by these options
+pub record MakesFileOf (texts : Bool) (options : WriteOptions) (files after : Places) (schema_path rows_path path : List ℕ) : Type 0 where
+  pub schema_text : List ℕ
+  pub rows_text : List ℕ
+  pub bytes : List ℕ
+  pub schema : HasBytes (files schema_path) schema_text
+  pub rows : HasBytes (files rows_path) rows_text
+  pub is : IsFileOf texts options schema_text rows_text bytes
+  pub made : MakesFile files after path bytes
 
 -- in the schema of one text, the first line of the other that is no row is refused so
 abbrev pub HasRefusedLine : Bool → List ℕ → List ℕ → Refusal → Type 0
@@ -195,14 +190,34 @@ AreRefusedTexts texts options schema_text rows_text Script = IsRefusedSchema sch
 AreRefusedTexts texts options schema_text rows_text Limit = IsRefusedSchema schema_text Limit ⊎ AreNotWritten texts options schema_text rows_text
 AreRefusedTexts texts options schema_text rows_text e = IsRefusedSchema schema_text e
 
--- which refusals can come of two files that are read for `encode`: those that some two texts have by these options (which
--- texts the files held, nothing here says), and of the files Device and Script
-abbrev pub AreRefusedSources : Bool → WriteOptions → Refusal → Type 0
-AreRefusedSources texts options Device = Unit {0}
-AreRefusedSources texts options Script = Unit {0}
-AreRefusedSources texts options e = (schema_text : List ℕ) × (rows_text : List ℕ) × AreRefusedTexts texts options schema_text rows_text e
+-- why the texts at two places have no file by these options
+pub record AreRefusedTextsAt (texts : Bool) (options : WriteOptions) (schema_at rows_at : Place) (e : Refusal) : Type 0 where
+  pub schema_text : List ℕ
+  pub rows_text : List ℕ
+  pub schema : HasBytes schema_at schema_text
+  pub rows : HasBytes rows_at rows_text
+  pub why : AreRefusedTexts texts options schema_text rows_text e
 
--- which refusals can come where `encode` makes a new file of two files: also Exists, where its name is taken
-abbrev pub AreRefusedFiles : Bool → WriteOptions → Refusal → Type 0
-AreRefusedFiles texts options Exists = Unit {0}
-AreRefusedFiles texts options e = AreRefusedSources texts options e
+-- why no file can be made of what is at two places: Memory or Device; or Script, where the bytes of one are no text; or their texts have
+-- no file
+abbrev pub AreRefusedSources : Bool → WriteOptions → Place → Place → Refusal → Type 0
+AreRefusedSources texts options schema_at rows_at e =
+    ((e ≡ Memory) ⊎ (e ≡ Device)) ⊎ (((e ≡ Script) × (IsNoText schema_at ⊎ IsNoText rows_at)) ⊎ AreRefusedTextsAt texts options schema_at rows_at e)
+
+-- why no file is made of them at a third: as above, or Exists, where something is there
+abbrev pub AreRefusedFiles : Bool → WriteOptions → Place → Place → Place → Refusal → Type 0
+AreRefusedFiles texts options schema_at rows_at at e = IsPlaceRefusal at e ⊎ AreRefusedSources texts options schema_at rows_at e
+
+-- why nothing is said of a file that is read in parts: Memory or Device, or the footer at its ends has that fault
+abbrev pub IsPartsRefusal : Refusal → Type 0
+IsPartsRefusal e = ((e ≡ Memory) ⊎ (e ≡ Device)) ⊎ ((ends : List ℕ) × HasFooterFault ends e)
+
+-- why nothing is said of the file that is there: Memory or Device, or its footer has that fault; a large one is read in parts
+abbrev pub IsReportRefusal : Place → Refusal → Type 0
+IsReportRefusal place e = IsFileRefusal place HasFooterFault e ⊎ (IsLarge place × IsPartsRefusal e)
+
+-- after what a writer held, where that is known, stands what is said of the file that is there; of a large one, of which not all is
+-- read, that of some file
+abbrev pub WritesReportAt : Place → Option (List ℕ) → Option (List ℕ) → Type 0
+WritesReportAt place old new =
+    ((bytes : List ℕ) × HasFront place bytes × WritesReportOf bytes old new) ⊎ (IsLarge place × ((bytes : List ℕ) × WritesReportOf bytes old new))

@@ -1,10 +1,13 @@
 //! What words ask for.
 
-ghost use Rattle.std.specs.Prelude.{◌≡◌, Some, IfSome, IfOk, codes};
+ghost use Rattle.std.specs.Prelude.{◌≡◌, ◌≢◌, ℕ, List, Some, IfNone, IfSome, IfOk, OnErr, OnOk, codes};
+ghost use Rattle.bits.specs.Refusals.{RefusedMemoryOnly};
+ghost use Rattle.clap.specs.Values.{kind_of};
 ghost use Rattle.clap.specs.Matches.{found_of};
+ghost use Rattle.clap.specs.declared.error.kind.ErrorKind.TheVariants.{OutOfMemory};
 ghost use Rattle.program.specs.Words.{first_word, word_of};
-ghost use Rattle.program.specs.Asked.{AreAsking, AsksFor};
-ghost use Rattle.program.specs.inner.Met.{IsMetRequest};
+ghost use Rattle.program.specs.Asked.{AreAsking, AreNoCall, AsksFor, LacksWord};
+ghost use Rattle.program.specs.inner.Met.{IsMetRequest, IsUnmet};
 ghost use Rattle.dataset_words.specs.Asked.{HasFlag};
 
 use crate::command_line::parsed;
@@ -78,18 +81,22 @@ pub struct Request<'a> {
     pub quiet: bool,
 }
 
-/// What the words ask for, or the text on the program's use, where they ask for nothing that it knows.
+/// What the words ask for, or the text on the program's use, where they ask for nothing that it knows, or for a wrong call. It fails
+/// only when out of memory.
 pub fn request_of<'a>(alloc: Global, words: &'a [String]) -> R<Result<Request<'a>, String>>
     ensures first { IfOk result (λ said. IfOk said (λ request. first_word words.now ≡ Some (word_of request.call))) }
     ensures asking { IfOk result (λ said. IfOk said (AreAsking words.now)) }
+    ensures no_call { IfOk result (λ said. OnErr said (AreNoCall words.now)) }
+    ensures which { RefusedMemoryOnly result }
 {
-    let matches = match parsed(alloc, words) {
+    let matches = match parsed(alloc, words)? {
         Ok(matches) => matches,
         Err(error) => return Ok(Err(error_text(alloc, &error)?)),
     };
-    let Some(request) = known_request(alloc, words, &matches)? else {
+    let request = match known_request(alloc, words, &matches)? {
+        Some(request) => request,
         // The files are required, so that this does not come.
-        return Ok(Err(String::new(alloc)));
+        None => return Ok(Err(String::new(alloc))),
     };
     match fault_of(&request.call) {
         Some(fault) => Ok(Err(String::from_str(alloc, fault)?)),
@@ -97,8 +104,11 @@ pub fn request_of<'a>(alloc: Global, words: &'a [String]) -> R<Result<Request<'a
     }
 }
 
-/// The text of an error of the words, or Memory.
-fn error_text(alloc: Global, error: &Error) -> R<String> {
+/// The text of an error of the words. It fails only when out of memory, also where that is the error.
+fn error_text(alloc: Global, error: &Error) -> R<String>
+    ensures other { OnOk result (kind_of error.now ≢ OutOfMemory) }
+    ensures which { RefusedMemoryOnly result }
+{
     if error.kind() == ErrorKind::OutOfMemory {
         return Err(Refusal::Memory);
     }
@@ -115,6 +125,8 @@ fn known_request<'a>(
 ) -> R<Option<Request<'a>>>
     ensures first { IfOk result (λ known. IfSome known (λ request. first_word words.now ≡ Some (word_of request.call))) }
     ensures asking { IfOk result (λ known. IfSome known (IsMetRequest matches.now)) }
+    ensures none { IfOk result (λ known. IfNone known ((word : List ℕ) → first_word words.now ≡ Some word → IsUnmet matches.now word)) }
+    ensures which { RefusedMemoryOnly result }
 {
     let Some(word) = words.first() else {
         return Ok(None);
@@ -126,6 +138,8 @@ fn known_request<'a>(
 fn met_request<'a>(alloc: Global, word: &str, matches: &ArgMatches<'a>) -> R<Option<Request<'a>>>
     ensures begins { IfOk result (λ known. IfSome known (λ request. word_of request.call ≡ word.now)) }
     ensures asking { IfOk result (λ known. IfSome known (IsMetRequest matches.now)) }
+    ensures none { IfOk result (λ known. IfNone known (IsUnmet matches.now word.now)) }
+    ensures which { RefusedMemoryOnly result }
 {
     let Some(found) = found_for(matches, word) else {
         return Ok(None);
@@ -138,6 +152,8 @@ fn request_in<'a>(alloc: Global, word: &str, found: &ArgMatches<'a>) -> R<Option
     ensures begins { IfOk result (λ known. IfSome known (λ request. word_of request.call ≡ word.now)) }
     ensures asks { IfOk result (λ known. IfSome known (λ request. AsksFor word.now (found_of found.now) request.call)) }
     ensures quiet { IfOk result (λ known. IfSome known (λ request. HasFlag (found_of found.now) (codes "quiet") request.quiet)) }
+    ensures lacks { IfOk result (λ known. IfNone known (LacksWord word.now (found_of found.now))) }
+    ensures which { RefusedMemoryOnly result }
 {
     let Some(call) = call_in(alloc, word, found)? else {
         return Ok(None);
@@ -146,36 +162,28 @@ fn request_in<'a>(alloc: Global, word: &str, found: &ArgMatches<'a>) -> R<Option
     Ok(Some(Request { call, quiet }))
 }
 
-/// The call that a command asks for, by what was found for its arguments: on files, or on a dataset.
+/// The call that a command asks for, by what was found for its arguments: on files, or on a dataset. None for another word, and
+/// where something that is required was not found.
 fn call_in<'a>(alloc: Global, word: &str, found: &ArgMatches<'a>) -> R<Option<Call<'a>>>
     ensures begins { IfOk result (λ known. IfSome known (λ call. word_of call ≡ word.now)) }
     ensures asks { IfOk result (λ known. IfSome known (AsksFor word.now (found_of found.now))) }
-{
-    if word == "decode" {
-        return decode_call(alloc, found);
-    }
-    match call_of_files(word, found) {
-        Some(call) => Ok(Some(call)),
-        None => dataset_call(alloc, word, found),
-    }
-}
-
-/// The call besides `decode` that a command on files asks for.
-fn call_of_files<'a>(word: &str, found: &ArgMatches<'a>) -> Option<Call<'a>>
-    ensures begins { IfSome result (λ call. word_of call ≡ word.now) }
-    ensures asks { IfSome result (AsksFor word.now (found_of found.now)) }
+    ensures lacks { IfOk result (λ known. IfNone known (LacksWord word.now (found_of found.now))) }
+    ensures which { RefusedMemoryOnly result }
 {
     match word {
-        "encode" => encode_call(found),
-        "inspect" => inspect_call(found),
-        "check" => check_call(found),
-        _ => None,
+        "decode" => decode_call(alloc, found),
+        "encode" => Ok(encode_call(found)),
+        "inspect" => Ok(inspect_call(found)),
+        "check" => Ok(check_call(found)),
+        _ => dataset_call(alloc, word, found),
     }
 }
 
 fn decode_call<'a>(alloc: Global, found: &ArgMatches<'a>) -> R<Option<Call<'a>>>
     ensures begins { IfOk result (λ known. IfSome known (λ call. word_of call ≡ codes "decode")) }
     ensures asks { IfOk result (λ known. IfSome known (AsksFor (codes "decode") (found_of found.now))) }
+    ensures lacks { IfOk result (λ known. IfNone known (LacksWord (codes "decode") (found_of found.now))) }
+    ensures which { RefusedMemoryOnly result }
 {
     let Some(file) = found.get_str("FILE") else {
         return Ok(None);
@@ -200,6 +208,7 @@ fn decode_call<'a>(alloc: Global, found: &ArgMatches<'a>) -> R<Option<Call<'a>>>
 fn encode_call<'a>(found: &ArgMatches<'a>) -> Option<Call<'a>>
     ensures begins { IfSome result (λ call. word_of call ≡ codes "encode") }
     ensures asks { IfSome result (AsksFor (codes "encode") (found_of found.now)) }
+    ensures lacks { IfNone result (LacksWord (codes "encode") (found_of found.now)) }
 {
     let schema = found.get_str("SCHEMA")?;
     let rows = found.get_str("ROWS")?;
@@ -218,6 +227,7 @@ fn encode_call<'a>(found: &ArgMatches<'a>) -> Option<Call<'a>>
 fn inspect_call<'a>(found: &ArgMatches<'a>) -> Option<Call<'a>>
     ensures begins { IfSome result (λ call. word_of call ≡ codes "inspect") }
     ensures asks { IfSome result (AsksFor (codes "inspect") (found_of found.now)) }
+    ensures lacks { IfNone result (LacksWord (codes "inspect") (found_of found.now)) }
 {
     let file = found.get_str("FILE")?;
     let as_json = found.get_flag("json");
@@ -233,6 +243,7 @@ fn inspect_call<'a>(found: &ArgMatches<'a>) -> Option<Call<'a>>
 fn check_call<'a>(found: &ArgMatches<'a>) -> Option<Call<'a>>
     ensures begins { IfSome result (λ call. word_of call ≡ codes "check") }
     ensures asks { IfSome result (AsksFor (codes "check") (found_of found.now)) }
+    ensures lacks { IfNone result (LacksWord (codes "check") (found_of found.now)) }
 {
     let schema = found.get_str("SCHEMA")?;
     let Some(rows) = found.get_str("ROWS") else {
@@ -255,6 +266,8 @@ fn check_call<'a>(found: &ArgMatches<'a>) -> Option<Call<'a>>
 fn dataset_call<'a>(alloc: Global, word: &str, found: &ArgMatches<'a>) -> R<Option<Call<'a>>>
     ensures begins { IfOk result (λ known. IfSome known (λ call. word_of call ≡ word.now)) }
     ensures asks { IfOk result (λ known. IfSome known (AsksFor word.now (found_of found.now))) }
+    ensures lacks { IfOk result (λ known. IfNone known (LacksWord word.now (found_of found.now))) }
+    ensures which { RefusedMemoryOnly result }
 {
     let Some(call) = dataset_words::call_in(alloc, word, found)? else {
         return Ok(None);

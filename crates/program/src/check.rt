@@ -1,13 +1,13 @@
 //! Whether two texts have a file, and why not.
 
-ghost use Rattle.std.specs.Prelude.{◌≡◌, ◌≢◌, ◌++◌, length, codes, decimal, string_bytes, IfOk, IfErr, OnOk};
+ghost use Rattle.std.specs.Prelude.{◌≡◌, ◌++◌, length, codes, decimal, string_bytes, IfOk, IfErr, OnOk};
 ghost use Rattle.std.specs.Str.Lines.{lines};
-ghost use Rattle.bits.specs.Refusals.{RefusedOnly};
-ghost use Rattle.bits.specs.declared.refusal.Refusal.TheVariants.{Memory, Device};
+ghost use Rattle.program.specs.Paths.{IsUnwritten};
 ghost use Rattle.program.specs.Program.{HaveFileOf, AreRefusedTexts, AreRefusedSources, WritesCount};
 
 use crate::encode::{Sources, encoded};
-use crate::host::{text_in, whole_of, write_whole};
+use crate::host::{text_in, write_whole};
+use crate::paths::Paths;
 use bits::{R, Refusal};
 use footer::WriteOptions;
 use jsonrows::schema_from;
@@ -18,8 +18,7 @@ use reports::OneLine;
 use schema::Schema;
 use std::alloc::{AllocError, Global};
 use std::fmt::Write as _;
-use std::io::{Input, Write};
-use std::rt::Files;
+use std::io::Write;
 
 /// How many rows the file of two texts has, which `encoded` makes, with texts of dates, times, timestamps and decimals or without,
 /// and which is let go. Refused as `encoded`
@@ -45,21 +44,23 @@ pub fn counted<E: Write>(
 /// N being the number of rows, and behind it a note where a member stands twice in a row, of which the last one counts. Refused
 /// as `encode` refuses them; then `why` says which file and line it is, where in it, and what was expected and found. Nothing is
 /// made. The time and the memory are those of `encode`.
-pub fn check<F: Files + Input, W: Write, E: Write>(
-    rt: &F,
+pub fn check<P: Paths, W: Write, E: Write>(
+    paths: &P,
     alloc: Global,
     sources: &Sources<'_>,
     out: &mut W,
     err: &mut E,
     why: &mut Option<Cause>,
 ) -> R<()>
-    ensures stands { OnOk result (WritesCount sources.now.texts sources.now.options (W.contents out.old) (W.contents out.new)) }
-    ensures which { RefusedOnly (AreRefusedSources sources.now.texts sources.now.options) result }
+    ensures stands { OnOk result (WritesCount sources.now.texts sources.now.options (P.files paths.now sources.now.schema.now)
+        (P.files paths.now sources.now.rows.now) (W.contents out.old) (W.contents out.new)) }
+    ensures which { IfErr result (AreRefusedSources sources.now.texts sources.now.options (P.files paths.now sources.now.schema.now)
+        (P.files paths.now sources.now.rows.now)) }
     ensures quiet { OnOk result (E.contents err.new ≡ E.contents err.old) }
-    ensures unchanged { IfErr result (λ e. e ≢ Device → e ≢ Memory → W.contents out.new ≡ W.contents out.old) }
+    ensures unwritten { IfErr result (IsUnwritten (W.contents out.old) (W.contents out.new)) }
 {
-    let schema_bytes = whole_of(rt, alloc, sources.schema, why)?;
-    let rows_bytes = whole_of(rt, alloc, sources.rows, why)?;
+    let schema_bytes = paths.whole_of(alloc, sources.schema, why)?;
+    let rows_bytes = paths.whole_of(alloc, sources.rows, why)?;
     let schema_text = text_in(alloc, sources.schema, schema_bytes.as_slice(), why)?;
     let rows_text = text_in(alloc, sources.rows, rows_bytes.as_slice(), why)?;
     let (texts, options) = (sources.texts, &sources.options);

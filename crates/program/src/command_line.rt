@@ -1,13 +1,16 @@
 //! The command line, as its parser knows it.
 
-ghost use Rattle.std.specs.Prelude.{ℕ, List, IfOk, codes};
-ghost use Rattle.clap.specs.declared.parser.matches.Found.{Found};
-ghost use Rattle.dataset_words.specs.Asked.{HasMet};
+ghost use Rattle.std.specs.Prelude.{◌≢◌, IfErr, IfOk, codes};
+ghost use Rattle.bits.specs.Refusals.{RefusedMemoryOnly};
+ghost use Rattle.clap.specs.Values.{kind_of};
+ghost use Rattle.clap.specs.declared.error.kind.ErrorKind.TheVariants.{OutOfMemory};
 ghost use Rattle.dataset_words.specs.CommandLine.{IsArg, IsCommand, bound, flag, named};
+ghost use Rattle.dataset_words.specs.declared.options.Styles.{Styles};
 ghost use Rattle.program.specs.CommandLine as spec;
-ghost use Rattle.program.specs.CommandLine.{Finds};
+ghost use Rattle.program.specs.CommandLine.{AreMatchesBy, AreNotTaken};
 
 use crate::help;
+use bits::{R, Refusal};
 use clap::{Arg, ArgAction, ArgMatches, Command, Error};
 use dataset_words::{
     Styles, limit_option, min_rows_option, out_option, quiet_flag, text_flag, with_commands,
@@ -177,10 +180,15 @@ fn program<'a>(alloc: Global, styles: Styles<'a>) -> Result<Command<'a>, Error>
     Ok(program)
 }
 
-/// What the parser finds in the words, or why they are no call of the program.
-pub fn parsed<'a>(alloc: Global, words: &'a [String]) -> Result<ArgMatches<'a>, Error>
-    ensures { IfOk result (λ matches. (command : List ℕ) (found : Found) → HasMet matches command found → Finds words.now command found) }
+/// What the parser finds in the words, or why they are no call of the program. It fails only when out of memory.
+pub fn parsed<'a>(alloc: Global, words: &'a [String]) -> R<Result<ArgMatches<'a>, Error>>
+    ensures finds { IfOk result (λ said. IfOk said (λ matches. (styles : Styles) × AreMatchesBy styles words.now matches)) }
+    ensures refused { IfOk result (λ said. IfErr said (λ error. kind_of error ≢ OutOfMemory → (styles : Styles) × AreNotTaken styles words.now)) }
+    ensures which { RefusedMemoryOnly result }
 {
-    let program = program(alloc, Styles::standard())?;
-    program.try_get_matches_from(words)
+    match program(alloc, Styles::standard()) {
+        Ok(program) => Ok(program.try_get_matches_from(words)),
+        // It is built, unless there is no memory for it.
+        Err(_) => Err(Refusal::Memory),
+    }
 }

@@ -7,7 +7,7 @@ ghost use Rattle.schema.specs.Shape.{Fields};
 ghost use Rattle.schema.specs.Views.{row_view};
 ghost use Rattle.columns.specs.Columns.{names_view};
 ghost use Rattle.footer.specs.Left.{rows_of_file};
-ghost use Rattle.program.specs.Program.{IsCopyOf, MeansUpTo, HasFaultUpTo};
+ghost use Rattle.program.specs.Program.{IsCopyOf, IsCopyRefusal, MeansUpTo, HasFaultUpTo};
 ghost use Rattle.program.specs.inner.Copied.{IsFirstOfRows, IsAskedFile, cut_at};
 
 use bits::{R, Refusal};
@@ -34,6 +34,7 @@ pub fn copy_of<E: Write>(
     shows: bool,
 ) -> R<Vec<u8>>
     ensures stands { IfOk result (λ copy. IsCopyOf options.now (names_view columns.entry) limit bytes.now copy.items) }
+    ensures which { IfErr result (IsCopyRefusal limit bytes.now) }
     ensures quiet { shows ≡ false → E.contents err.new ≡ E.contents err.old }
 {
     let file = accepted(alloc, bytes, limit)?;

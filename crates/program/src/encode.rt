@@ -7,11 +7,12 @@ ghost use Rattle.schema.specs.Values.{ValueTrees};
 ghost use Rattle.assemble.specs.Sinks.{Visits, tokens_each};
 ghost use Rattle.footer.specs.Writer.{has_rows, schema_of, options_of};
 ghost use Rattle.rowtext.specs.Reader.{schema_of as fields_of, IsRowAs};
-ghost use Rattle.program.specs.Program.{IsRefusedLine, AreRowTexts, HasFirstFault, IsFileOf, HaveFile, AreRefusedTexts, AreRefusedFiles};
+ghost use Rattle.program.specs.Program.{IsRefusedLine, AreRowTexts, HasFirstFault, IsFileOf, MakesFileOf, AreRefusedTexts, AreRefusedFiles};
 ghost use Rattle.program.specs.inner.Lines.{IsFileOfLines, IsLinesRefusal, IsLineRefusal, AreTooMuch, HasLine};
 
 use crate::check::cause_of;
-use crate::host::{put_new, text_in, whole_of};
+use crate::host::text_in;
+use crate::paths::Paths;
 use crate::text_lines::split_line;
 use assemble::{Discard, RowSink};
 use bits::{R, Refusal};
@@ -21,8 +22,7 @@ use reasons::Cause;
 use reports::Progress;
 use schema::Schema;
 use std::alloc::Global;
-use std::io::{Input, Write};
-use std::rt::Files;
+use std::io::Write;
 
 /// What a file is made from: the paths of both texts, how it is written, and whether dates, times, timestamps and decimals are
 /// texts.
@@ -81,8 +81,8 @@ pub fn encoded<E: Write>(
 /// the new file is begun when all of its bytes are there. Refused Device where a file cannot be read, Script
 /// where it is not UTF-8, as `encoded` refuses the texts, or as `put_new` refuses the path; then no file is
 /// made. Then `why` gets the reason. Where `shows` says so, `err` shows how many rows were read so far.
-pub fn encode<F: Files + Input, E: Write>(
-    rt: &F,
+pub fn encode<P: Paths, E: Write>(
+    paths: &mut P,
     alloc: Global,
     sources: &Sources<'_>,
     path: &str,
@@ -90,16 +90,18 @@ pub fn encode<F: Files + Input, E: Write>(
     shows: bool,
     why: &mut Option<Cause>,
 ) -> R<()>
-    ensures options { OnOk result (HaveFile sources.now.texts sources.now.options) }
-    ensures which { RefusedOnly (AreRefusedFiles sources.now.texts sources.now.options) result }
+    ensures makes { OnOk result (MakesFileOf sources.now.texts sources.now.options (P.files paths.old) (P.files paths.new)
+        sources.now.schema.now sources.now.rows.now path.now) }
+    ensures which { IfErr result (AreRefusedFiles sources.now.texts sources.now.options
+        (P.files paths.old sources.now.schema.now) (P.files paths.old sources.now.rows.now) (P.files paths.old path.now)) }
     ensures quiet { shows ≡ false → E.contents err.new ≡ E.contents err.old }
 {
-    let schema_bytes = whole_of(rt, alloc, sources.schema, why)?;
-    let rows_bytes = whole_of(rt, alloc, sources.rows, why)?;
+    let schema_bytes = paths.whole_of(alloc, sources.schema, why)?;
+    let rows_bytes = paths.whole_of(alloc, sources.rows, why)?;
     let schema_text = text_in(alloc, sources.schema, schema_bytes.as_slice(), why)?;
     let rows_text = text_in(alloc, sources.rows, rows_bytes.as_slice(), why)?;
     let file = file_of(alloc, sources, schema_text, rows_text, err, shows, why)?;
-    put_new(rt, alloc, path, file.as_slice(), why)
+    paths.put_new(alloc, path, file.as_slice(), why)
 }
 
 /// The bytes of the file of two texts, which are refused as [`encoded`] refuses them; then `why` gets the reason.

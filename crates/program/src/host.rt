@@ -7,7 +7,10 @@ ghost use Rattle.std.specs.Io.KnownBytes.{Appends};
 ghost use Rattle.bits.specs.Refusals.{RefusedOnly, RefusedMemoryOnly};
 ghost use Rattle.bits.specs.declared.refusal.Refusal.TheVariants.{Memory, Exists, Device, Script};
 ghost use Rattle.program.specs.Program.{greatest_file};
+ghost use Rattle.program.specs.Paths.{Unknown};
 
+use crate::parts::check_empty;
+use crate::paths::{Paths, folder_of};
 use bits::{R, Refusal};
 use reasons::{Cause, SystemFault, system_fault, utf8_fault};
 use reports::{ByteSource, part_of};
@@ -37,6 +40,80 @@ pub const OUTPUT_BUFFER_BYTES: usize = 65_536;
 
 /// How many names are tried for a file that is not whole yet.
 const MOST_NAMES: u32 = 1_000;
+
+/// The files of the host.
+#[derive(Drop)]
+pub struct HostPaths<'a, F: Files + Input> {
+    pub rt: &'a F,
+}
+
+// What the host's files hold is not known.
+impl<F: Files + Input> Paths for HostPaths<'_, F> {
+    type Parts = FileParts<F::File>;
+
+    ghost files = { λ host path. Unknown };
+
+    fn bytes_of(&self, alloc: Global, path: &str, why: &mut Option<Cause>) -> R<Vec<u8>> {
+        bytes_of(self.rt, alloc, path, why)
+    }
+
+    fn whole_of(&self, alloc: Global, path: &str, why: &mut Option<Cause>) -> R<Vec<u8>> {
+        whole_of(self.rt, alloc, path, why)
+    }
+
+    fn large_file(
+        &self,
+        alloc: Global,
+        path: &str,
+        why: &mut Option<Cause>,
+    ) -> R<Option<FileParts<F::File>>> {
+        large_file(self.rt, alloc, path, why)
+    }
+
+    fn is_folder(&self, path: &str) -> bool {
+        is_folder(self.rt, path)
+    }
+
+    fn check_free(&self, alloc: Global, path: &str, why: &mut Option<Cause>) -> R<()> {
+        check_free(self.rt, alloc, path, why)
+    }
+
+    fn check_empty(&self, alloc: Global, folder: &str, why: &mut Option<Cause>) -> R<()> {
+        check_empty(self.rt, alloc, folder, why)
+    }
+
+    fn is_within(&self, alloc: Global, inner: &str, outer: &str) -> bool {
+        is_within(self.rt, alloc, inner, outer)
+    }
+
+    fn put_new(
+        &mut self,
+        alloc: Global,
+        path: &str,
+        bytes: &[u8],
+        why: &mut Option<Cause>,
+    ) -> R<()> {
+        put_new(self.rt, alloc, path, bytes, why)
+    }
+
+    fn make_new(
+        &mut self,
+        alloc: Global,
+        path: &str,
+        bytes: &[u8],
+        why: &mut Option<Cause>,
+    ) -> R<()> {
+        make_new(self.rt, alloc, path, bytes, why)
+    }
+
+    fn sync_folder(&self, alloc: Global, path: &str, why: &mut Option<Cause>) -> R<()> {
+        sync_folder(self.rt, alloc, path, why)
+    }
+
+    fn remove(&mut self, path: &str) -> io::Result<()> {
+        fs::remove_file(self.rt, path)
+    }
+}
 
 /// Why a file or a writer could not be used: Memory where a growth was refused, else Device.
 pub fn refusal_of(error: io::Error) -> Refusal
@@ -101,7 +178,7 @@ fn opened<F: Files>(rt: &F, alloc: Global, path: &str, why: &mut Option<Cause>) 
 /// The bytes of a file of the host, but no more than are needed to see that it is too long; `-` is the standard input.
 /// Refused Device where it cannot be read; then `why` gets the path and the system's words. Room for as many bytes as it is
 /// said to have is asked for at once.
-pub fn bytes_of<F: Files + Input>(
+fn bytes_of<F: Files + Input>(
     rt: &F,
     alloc: Global,
     path: &str,
@@ -207,7 +284,7 @@ impl<T: Read + Seek + Drop> ByteSource for FileParts<T> {
 
 /// The file of the host at a path, to be read in parts. None for the standard input, `-`, for a pipe, and for a file that is
 /// small, or too long to be one: they are read whole. Refused as [`bytes_of`].
-pub fn large_file<F: Files>(
+fn large_file<F: Files>(
     rt: &F,
     alloc: Global,
     path: &str,
@@ -240,7 +317,7 @@ fn large_length<F: Files>(rt: &F, path: &str) -> Option<usize> {
 
 /// The bytes of a file of the host, all of them; `-` is the standard input. Refused as [`bytes_of`]. Room for as many
 /// bytes as it is said to have, up to those of the greatest file, is asked for at once.
-pub fn whole_of<F: Files + Input>(
+fn whole_of<F: Files + Input>(
     rt: &F,
     alloc: Global,
     path: &str,
@@ -257,13 +334,35 @@ pub fn whole_of<F: Files + Input>(
 }
 
 /// Whether a folder is there. The standard input, `-`, is none.
-pub fn is_folder<F: Files>(rt: &F, path: &str) -> bool {
+fn is_folder<F: Files>(rt: &F, path: &str) -> bool {
     if path == INPUT {
         return false;
     }
     match fs::metadata(rt, path) {
         Ok(metadata) => metadata.is_dir(),
         Err(_) => false,
+    }
+}
+
+/// Looks whether a new file can get this path. Refused Exists where something is there; then `why` says so.
+fn check_free<F: Files>(rt: &F, alloc: Global, path: &str, why: &mut Option<Cause>) -> R<()>
+    ensures which { IfErr result (λ e. e ≡ Exists) }
+{
+    if fs::symlink_metadata(rt, path).is_err() {
+        return Ok(());
+    }
+    let error = io::Error::from_raw_os_error(FILE_EXISTS);
+    if let Ok(fault) = system_fault(alloc, path, error) {
+        *why = Some(Cause::System(fault));
+    }
+    Err(Refusal::Exists)
+}
+
+/// Whether a folder is another one, or is in it, whatever links lead to both.
+fn is_within<F: Files>(rt: &F, alloc: Global, inner: &str, outer: &str) -> bool {
+    match (rt.canonicalize(alloc, inner), rt.canonicalize(alloc, outer)) {
+        (Ok(inner), Ok(outer)) => inner.starts_with(&outer),
+        _ => false,
     }
 }
 
@@ -302,7 +401,8 @@ pub fn text_in<'b>(
     bytes: &'b [u8],
     why: &mut Option<Cause>,
 ) -> R<&'b str>
-    ensures which { IfErr result (λ e. e ≡ Script) }
+    ensures stands { IfOk result (λ text. text.now ≡ bytes.now) }
+    ensures which { IfErr result (λ e. (e ≡ Script) × (IsUtf8 bytes.now → ⊥)) }
 {
     match text_of(bytes) {
         Ok(text) => Ok(text),
@@ -337,7 +437,7 @@ pub fn put_new<F: Files>(
 }
 
 /// Makes a new file of these bytes as [`put_new`], but its folder is not synced. Refused as there where no file is made.
-pub fn make_new<F: Files>(
+fn make_new<F: Files>(
     rt: &F,
     alloc: Global,
     path: &str,
@@ -439,17 +539,8 @@ fn make<F: Files>(rt: &F, path: &str, bytes: &[u8]) -> io::Result<()> {
     filled
 }
 
-/// The folder of a file.
-fn folder_of(path: &str) -> &str {
-    match path.rsplit_once('/') {
-        Some(("", _)) => "/",
-        Some((folder, _)) => folder,
-        None => ".",
-    }
-}
-
 /// Makes the name of a file durable. Refused Device where its folder cannot be opened or synced; then `why` says what that means.
-pub fn sync_folder<F: Files>(rt: &F, alloc: Global, path: &str, why: &mut Option<Cause>) -> R<()>
+fn sync_folder<F: Files>(rt: &F, alloc: Global, path: &str, why: &mut Option<Cause>) -> R<()>
     ensures which { RefusedOnly (λ e. e ≡ Device) result }
 {
     match synced(rt, folder_of(path)) {

@@ -5,15 +5,15 @@ ghost use Rattle.bits.specs.declared.refusal.Refusal.TheVariants.{Memory, Device
 ghost use Rattle.metadata.specs.Records.{FileMeta};
 ghost use Rattle.footer.specs.File.{IsFile};
 ghost use Rattle.footer.specs.Faults.{HasFooterFault};
-ghost use Rattle.program.specs.Program.{WritesReportOf};
-ghost use Rattle.program.specs.Words.{Inspects};
+ghost use Rattle.program.specs.Paths.{IsUnwritten};
+ghost use Rattle.program.specs.Program.{WritesReportOf, IsPartsRefusal};
 
-use crate::host::{FileParts, refused_in, write_whole};
+use crate::host::{refused_in, write_whole};
 use bits::{R, Refusal};
 use reasons::Cause;
 use reports::{ByteSource, ends_of, footer_problem, report_by_ends, report_text};
 use std::alloc::Global;
-use std::io::{Read, Seek, Write};
+use std::io::{self, Write};
 
 /// Writes what a file is: for a person, or as a line of JSON. Refused as [`report_text`] is, and Device where the output
 /// cannot be written; nothing is written before all of the report is there.
@@ -26,31 +26,34 @@ pub fn inspect<W: Write>(alloc: Global, bytes: &[u8], as_json: bool, out: &mut W
     write_whole(text.as_slice(), out)
 }
 
-/// Writes what a file of the host at a path is, as [`inspect`]; only its ends and the page headers are read. Refused also Device
+/// Writes what the file at a path is, as [`inspect`], from its parts: only its ends and the page headers are read. Refused also Device
 /// where it cannot be read. Then `why` may get the path and the system's words, or what is wrong with its footer.
-pub fn inspect_parts<T: Read + Seek + Drop, W: Write>(
+pub fn inspect_parts<S: ByteSource<Fault = io::Error>, W: Write>(
     alloc: Global,
     path: &str,
-    parts: &mut FileParts<T>,
+    parts: &mut S,
     as_json: bool,
     out: &mut W,
     why: &mut Option<Cause>,
 ) -> R<()>
-    ensures done { OnOk result (Inspects (W.contents out.old) (W.contents out.new)) }
+    ensures stands { OnOk result ((bytes : List ℕ) × WritesReportOf bytes (W.contents out.old) (W.contents out.new)) }
+    ensures which { IfErr result IsPartsRefusal }
+    ensures unwritten { IfErr result (IsUnwritten (W.contents out.old) (W.contents out.new)) }
 {
     let text = text_of_parts(alloc, path, parts, as_json, why)?;
     write_whole(text.as_slice(), out)
 }
 
-/// What a file of the host is, as text. Refused as [`inspect_parts`] but for the output.
-fn text_of_parts<T: Read + Seek + Drop>(
+/// What a file is, from its parts, as text. Refused as [`inspect_parts`] but for the output.
+fn text_of_parts<S: ByteSource<Fault = io::Error>>(
     alloc: Global,
     path: &str,
-    parts: &mut FileParts<T>,
+    parts: &mut S,
     as_json: bool,
     why: &mut Option<Cause>,
 ) -> R<Vec<u8>>
     ensures stands { OnOk result ((bytes : List ℕ) × (front : List ℕ) × (meta : FileMeta) × IsFile bytes front meta) }
+    ensures which { IfErr result IsPartsRefusal }
 {
     let ends = match ends_of(alloc, parts) {
         Ok(ends) => ends,

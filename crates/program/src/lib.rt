@@ -17,13 +17,15 @@ mod help;
 mod host;
 mod inspect;
 mod parts;
+mod paths;
 mod putting;
 mod refusal_line;
 mod text_lines;
 mod wrong;
 
 pub use arguments::{Call, Request, request_of};
-pub use calls::{refuse, work};
+pub use calls::{Ending, ended, refuse, work};
 pub use encode::Sources;
-pub use host::{OUTPUT_BUFFER_BYTES, put_new, refusal_of, text_of};
+pub use host::{HostPaths, OUTPUT_BUFFER_BYTES, put_new, refusal_of, text_of};
+pub use paths::{Paths, folder_of};
 pub use reports::Terminals;

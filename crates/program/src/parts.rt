@@ -1,14 +1,15 @@
 //! The files of an answer in a folder of the host.
 
-ghost use Rattle.std.specs.Prelude.{◌≡◌, None};
+ghost use Rattle.std.specs.Prelude.{◌≡◌, ◌⊎◌, None};
+ghost use Rattle.bits.specs.Refusals.{RefusedOnly};
+ghost use Rattle.bits.specs.declared.refusal.Refusal.TheVariants.{Exists, Device};
 
 use crate::calls::say;
-use crate::host::{make_new, sync_folder};
+use crate::paths::Paths;
 use bits::{R, Refusal};
 use dataset_words::FileSink;
 use reasons::{Cause, system_fault};
 use std::alloc::Global;
-use std::fs;
 use std::io::{self, ErrorKind, Read, Write};
 use std::rt::Files;
 
@@ -23,8 +24,8 @@ const MOST_READS: u32 = 3;
 
 /// New files in a folder: `part.0.parquet`, `part.1.parquet` and so on.
 #[derive(Drop)]
-pub struct PartFolder<'a, F> {
-    rt: &'a F,
+pub struct PartFolder<'a, P: Paths> {
+    paths: &'a mut P,
     alloc: Global,
     folder: &'a str,
     /// The paths of the files that were made.
@@ -33,7 +34,7 @@ pub struct PartFolder<'a, F> {
     why: Option<Cause>,
 }
 
-impl<F: Files> FileSink for PartFolder<'_, F> {
+impl<P: Paths> FileSink for PartFolder<'_, P> {
     // No contract can say what a file of the host holds.
     ghost taken = { λ parts. None };
 
@@ -42,14 +43,9 @@ impl<F: Files> FileSink for PartFolder<'_, F> {
     fn take(&mut self, file: Vec<u8>) -> R<()> {
         let path = self.next_path()?;
         self.made.reserve(1)?;
-        make_new(
-            self.rt,
-            self.alloc,
-            path.as_str(),
-            file.as_slice(),
-            &mut self.why,
-        )?;
-        let synced = sync_folder(self.rt, self.alloc, path.as_str(), &mut self.why);
+        let (at, bytes) = (path.as_str(), file.as_slice());
+        self.paths.make_new(self.alloc, at, bytes, &mut self.why)?;
+        let synced = self.paths.sync_folder(self.alloc, at, &mut self.why);
         self.made.push(path)?;
         synced
     }
@@ -59,11 +55,11 @@ impl<F: Files> FileSink for PartFolder<'_, F> {
     }
 }
 
-impl<'a, F: Files> PartFolder<'a, F> {
+impl<'a, P: Paths> PartFolder<'a, P> {
     /// A folder without files.
-    pub fn new(rt: &'a F, alloc: Global, folder: &'a str) -> PartFolder<'a, F> {
+    pub fn new(paths: &'a mut P, alloc: Global, folder: &'a str) -> PartFolder<'a, P> {
         PartFolder {
-            rt,
+            paths,
             alloc,
             folder,
             made: Vec::new(alloc),
@@ -78,10 +74,11 @@ impl<'a, F: Files> PartFolder<'a, F> {
     }
 
     /// Removes the files that were made; `err` gets a line for each that stays.
-    pub fn remove<E: Write>(&self, err: &mut E) {
+    pub fn remove<E: Write>(&mut self, err: &mut E) {
         for path in &self.made {
-            match fs::remove_file(self.rt, path.as_str()) {
-                Err(error) if error.kind() != ErrorKind::NotFound => self.say_stays(
+            match self.paths.remove(path.as_str()) {
+                Err(error) if error.kind() != ErrorKind::NotFound => say_stays(
+                    self.alloc,
                     path.as_str(),
                     error,
                     err,
@@ -91,29 +88,26 @@ impl<'a, F: Files> PartFolder<'a, F> {
         }
     }
 
-    /// Says that a file stays. Where there is no memory for that nothing is said.
-    fn say_stays<E: Write>(&self, path: &str, error: io::Error, err: &mut E) {
-        if let Ok(fault) = system_fault(self.alloc, path, error) {
-            say(
-                err,
-                &Cause::System(fault.with_advice("it stays there: remove it")),
-            );
-        }
-    }
-
     /// Why a file could not be made, where one could not.
     pub fn why(self) -> Option<Cause> {
         self.why
     }
 }
 
+/// Says that a file stays. Where there is no memory for that nothing is said.
+fn say_stays<E: Write>(alloc: Global, path: &str, error: io::Error, err: &mut E) {
+    if let Ok(fault) = system_fault(alloc, path, error) {
+        say(
+            err,
+            &Cause::System(fault.with_advice("it stays there: remove it")),
+        );
+    }
+}
+
 /// Looks whether a folder is empty. Refused Exists where it is not, and Device where it cannot be read; then `why` says so.
-pub fn check_empty<F: Files>(
-    rt: &F,
-    alloc: Global,
-    folder: &str,
-    why: &mut Option<Cause>,
-) -> R<()> {
+pub fn check_empty<F: Files>(rt: &F, alloc: Global, folder: &str, why: &mut Option<Cause>) -> R<()>
+    ensures which { RefusedOnly (λ e. (e ≡ Exists) ⊎ (e ≡ Device)) result }
+{
     let (error, refusal) = match is_empty(rt, folder) {
         Ok(true) => return Ok(()),
         Ok(false) => (io::Error::from_raw_os_error(NOT_EMPTY), Refusal::Exists),

@@ -1,12 +1,14 @@
 //! The line of a refusal.
 
-ghost use Rattle.std.specs.Prelude.{◌≡◌, OnOk};
+ghost use Rattle.std.specs.Prelude.{◌≡◌, ℕ, List, ◌++◌, OnOk};
+ghost use Rattle.std.specs.Io.KnownBytes.{Appends};
 ghost use Rattle.program.specs.RefusalLine.{WritesRefusal, refusal_line};
 
-use bits::Refusal;
+use bits::{R, Refusal};
 use reports::OneLine;
+use std::alloc::Global;
 use std::fmt::Write as _;
-use std::io::{self, ErrorKind, Write};
+use std::io::{self, Write};
 
 /// The line of a refusal, without the column of one for a column.
 fn line_of(refusal: &Refusal) -> &'static str
@@ -45,22 +47,36 @@ fn line_of(refusal: &Refusal) -> &'static str
     }
 }
 
-/// Writes the line of a refusal for a column: its beginning, and then the column's name, whatever that has in it.
-fn put_column<E: Write>(err: &mut E, begin: &str, path: &str) -> io::Result<()> {
-    let mut line = OneLine(&mut *err);
-    if write!(line, "{begin}{path}").is_err() {
-        return Err(io::Error::from(ErrorKind::Other));
+/// The name of a column after a space, whatever it has in it, and a line feed. It fails only when out of memory.
+fn column_of(alloc: Global, path: &str) -> R<Vec<u8>> {
+    let mut end = Vec::new(alloc);
+    let mut line = OneLine(&mut end);
+    if write!(line, " {path}").is_err() {
+        return Err(Refusal::Memory);
     }
-    err.write_all(b"\n")
+    end.push(b'\n')?;
+    Ok(end)
 }
 
-/// Writes the line of a refusal: `refused`, its number and its name, and the name of the column that it is for, if it is for one.
-pub fn put_refusal<E: Write>(err: &mut E, refusal: &Refusal) -> io::Result<()>
+/// Writes the line of a refusal for a column: its words, and then the column's name, if there is memory to show it.
+fn put_column<E: Write>(alloc: Global, err: &mut E, words: &str, path: &str) -> io::Result<()>
+    ensures { OnOk result ((column : List ℕ) × Appends (E.contents err.old) (E.contents err.new) (words.now ++ column)) }
+{
+    err.write_all(words.as_bytes())?;
+    match column_of(alloc, path) {
+        Ok(end) => err.write_all(end.as_slice()),
+        Err(_) => err.write_all(b"\n"),
+    }
+}
+
+/// Writes the line of a refusal: `refused`, its number and its name, and the name of the column that it is for, if it is for one and
+/// there is memory to show it.
+pub fn put_refusal<E: Write>(alloc: Global, err: &mut E, refusal: &Refusal) -> io::Result<()>
     ensures { OnOk result (WritesRefusal refusal.now (E.contents err.old) (E.contents err.new)) }
 {
     match refusal {
-        Refusal::Float(path) => put_column(err, "refused 6 Float ", path.as_str()),
-        Refusal::Int96(path) => put_column(err, "refused 7 Int96 ", path.as_str()),
+        Refusal::Float(path) => put_column(alloc, err, "refused 6 Float", path.as_str()),
+        Refusal::Int96(path) => put_column(alloc, err, "refused 7 Int96", path.as_str()),
         _ => err.write_all(line_of(refusal).as_bytes()),
     }
 }

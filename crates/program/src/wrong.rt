@@ -1,5 +1,8 @@
 //! Calls that are wrong though each of their words is right.
 
+ghost use Rattle.std.specs.Prelude.{◌⊎◌, IsTrue, IsSome};
+ghost use Rattle.program.specs.Words.{ReadsInputTwice, PrintsTextsAsBytes};
+
 use crate::arguments::Call;
 
 /// The file that is the standard input, or the standard output.
@@ -14,7 +17,9 @@ const TEXT_AND_BYTES: &str =
     "error: --text cannot be used with --out -, which prints the bytes of a file\n";
 
 /// Why a call is wrong; None where it is not.
-pub fn fault_of(call: &Call<'_>) -> Option<&'static str> {
+pub fn fault_of(call: &Call<'_>) -> Option<&'static str>
+    ensures wrong { IsSome result → ReadsInputTwice call.now ⊎ PrintsTextsAsBytes call.now }
+{
     if reads_input_twice(call) {
         Some(INPUT_TWICE)
     } else if prints_texts_as_bytes(call) {
@@ -25,7 +30,9 @@ pub fn fault_of(call: &Call<'_>) -> Option<&'static str> {
 }
 
 /// Whether a call names the standard input for two of its files.
-fn reads_input_twice(call: &Call<'_>) -> bool {
+fn reads_input_twice(call: &Call<'_>) -> bool
+    ensures { IsTrue result → ReadsInputTwice call.now }
+{
     match call {
         Call::Encode { sources, .. } | Call::Check { sources, .. } => {
             sources.schema == STANDARD && sources.rows == STANDARD
@@ -36,7 +43,9 @@ fn reads_input_twice(call: &Call<'_>) -> bool {
 }
 
 /// Whether a call on a dataset asks for texts, and is to print the bytes of a file.
-fn prints_texts_as_bytes(call: &Call<'_>) -> bool {
+fn prints_texts_as_bytes(call: &Call<'_>) -> bool
+    ensures { IsTrue result → PrintsTextsAsBytes call.now }
+{
     match call {
         Call::Save { call, path } => call.texts && *path == STANDARD,
         _ => false,

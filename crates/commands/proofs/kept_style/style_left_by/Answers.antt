@@ -1,6 +1,6 @@
-use Rattle.std.proofs.Common.{◌≡◌, Bool, true, false, List, Some, None, refl, ap, sym, subst, ◌∙◌}
+use Rattle.std.proofs.Common.{◌≡◌, List, Some, None, ap, sym, subst, ◌∙◌}
 use Rattle.std.specs.Prelude.{slice_get}
-use Rattle.schema.specs.Keys.{KeyColumn, key_columns_view}
+use Rattle.schema.specs.Keys.{KeyColumn}
 use Rattle.filter.specs.Test.{tests_in}
 use Rattle.manifest.specs.Groups.{Group, group_view, groups_in}
 use Rattle.commands.specs.Kept.{TellsWhichMayHold}

@@ -1,4 +1,4 @@
-use Rattle.std.proofs.Common.{◌≡◌, ℕ, Option, map, sym, ap, ◌∙◌}
+use Rattle.std.proofs.Common.{ℕ, Option, map, sym, ap, ◌∙◌}
 use Rattle.std.proofs.lemmas.List.{take-map}
 use Rattle.schema.specs.Views.{row_view, rows_view}
 use Rattle.commands.specs.QueryFile.{first_of}

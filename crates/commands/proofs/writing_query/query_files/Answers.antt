@@ -1,4 +1,4 @@
-use Rattle.std.proofs.Common.{◌≡◌, List, Vec, Global, OnOk, option_map, refl, ap, subst, ◌∙◌}
+use Rattle.std.proofs.Common.{◌≡◌, List, Vec, Global, option_map, refl, ap, subst, ◌∙◌}
 use Rattle.vault.proofs.Chained.{refused as passed}
 use Rattle.schema.specs.Shape.{Fields}
 use Rattle.filter.specs.Terms.{terms_view}

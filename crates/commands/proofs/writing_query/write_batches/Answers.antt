@@ -1,8 +1,8 @@
-use Rattle.std.proofs.Common.{◌≡◌, ◌∷◌, [], ◌++◌, ◌∙◌, ℕ, List, Option, Ok, OnOk, length, refl, sym, ap, subst, arith}
+use Rattle.std.proofs.Common.{◌≡◌, ◌∷◌, [], ◌++◌, ◌∙◌, ℕ, List, Ok, OnOk, length, refl, ap, subst, arith}
 use Rattle.std.proofs.lemmas.List.{length-map}
 use Rattle.vault.proofs.Chained.{refused as passed}
 use Rattle.schema.specs.Values.{ValueTrees}
-use Rattle.schema.specs.Views.{row_view, rows_view}
+use Rattle.schema.specs.Views.{row_view}
 use Rattle.table.specs.Cursors.{Batch}
 use Rattle.table.specs.Calls.{Answer, fetch, ended, batch, refused}
 use Rattle.table.specs.Views.{fetched_view, batch_view}

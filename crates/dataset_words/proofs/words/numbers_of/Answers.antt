@@ -12,5 +12,5 @@ all_numbers words i numbers le so_far =
     let none : AreNumbers 64 (map (λ (w : Bor (List ℕ)). w.now) (drop i words)) [] = subst (λ (ws : List (Bor (List ℕ))). AreNumbers 64 (map (λ (w : Bor (List ℕ)). w.now) ws) []) (sym (drop_all i words le)) tt in
     subst (λ (ns : List ℕ). AreNumbers 64 (map (λ (w : Bor (List ℕ)). w.now) words) ns) (append-nil numbers) (so_far [] none)
 
-pub returns : goal.returns
-returns c = all_numbers c.args.words.now c.loop-word.word-index c.loop-word.numbers.items (omega (arith, c.loop-word-test.false)) c.loop-word.invariant
+pub returns-clause-are : goal.returns-clause-are
+returns-clause-are c = all_numbers c.args.words.now c.loop-word.word-index c.loop-word.numbers.items (omega (arith, c.loop-word-test.false)) c.loop-word.invariant

@@ -1,0 +1,158 @@
+-- What is known of places, over several steps.
+use Rattle.std.proofs.Common.{◌≡◌, ◌↔◌, ℕ, Bool, false, List, [], ◌∷◌, Option, Result, Ok, Err, IsErrAnd, ap}
+use Rattle.std.specs.Prelude.{⊤, Contains}
+use Rattle.std.proofs.lemmas.Result.{on_ok_weaker}
+use Rattle.bits.specs.declared.refusal.Refusal.{Refusal}
+use Rattle.bits.specs.declared.refusal.Refusal.TheVariants.{Device, Memory}
+use Rattle.bits.specs.Refusals.{HasCause}
+use Rattle.disk.specs.State.{State as DiskState}
+use Rattle.footer.specs.declared.options.WriteOptions.{WriteOptions}
+use Rattle.dataset_words.specs.declared.call.Call.{Call}
+use Rattle.dataset_words.specs.declared.call.Task.{Task}
+use Rattle.dataset_words.specs.declared.call.Task.TheVariants.{Create, Ask, Change as ToChange, Look as LookAt, Run}
+use Rattle.dataset_words.specs.declared.call.Question.TheVariants.{Query, Count, Groups, Schema}
+use Rattle.dataset_words.specs.declared.call.Look.{Look}
+use Rattle.dataset_words.specs.declared.call.Look.TheVariants.{Survey, Files, Rows}
+use Rattle.commands.specs.Places.{Known, StaysKnown, StaysBut, IsKeptFrom, AreKeptAmong, AreFilesAt, HasEnds, InFolder, given_back, not_had}
+use Rattle.commands.specs.Tasks.{first_file}
+use Rattle.commands.specs.Creating.{InNewFolder, handed_back, not_made, not_taken, taken_away, MakesTable, Creates, of_schema, not_begun}
+use Rattle.commands.specs.Looking.{LooksInFolder, looked, no_folder}
+use Rattle.commands.specs.Calls.{OnFolder, OnFiles, read, unread, PrintsOfFile, ComesUnfiltered, on_folder, on_file, named_paths}
+use Rattle.commands.specs.Calls.{GivesAsked, of_question, not_asked}
+
+-- what holds both ways, twice over
+both : {A B C : Type 0} → A ↔ B → B ↔ C → A ↔ C
+both f g = (λ a. g.0 (f.0 a), λ c. f.1 (g.1 c))
+
+same : {A : Type 0} → A ↔ A
+same = (λ a. a, λ a. a)
+
+-- a cause that leads to another one
+pub by_cause : (P Q : Refusal → Type 0) → ((f : Refusal) → P f → Q f) → (e : Refusal) → HasCause P e → HasCause Q e
+by_cause P Q so Memory has = tt
+by_cause P Q so e has = so e has
+
+pub stays_so : {D : Type 0} (known : Known D) → StaysKnown known known
+stays_so known = record { files = λ path bytes. same; folders = λ path disk. same; made = λ path disk. same; is_folder = λ path is. same; is_shut = λ path. same }
+
+module _ {D : Type 0} {old mid : Known D} (stays : StaysKnown old mid) where
+  pub stays_then : {new : Known D} → StaysKnown mid new → StaysKnown old new
+  stays_then more = record {
+    files = λ path bytes. both (stays.files path bytes) (more.files path bytes);
+    folders = λ path disk. both (stays.folders path disk) (more.folders path disk);
+    made = λ path disk. both (stays.made path disk) (more.made path disk);
+    is_folder = λ path is. both (stays.is_folder path is) (more.is_folder path is);
+    is_shut = λ path. both (stays.is_shut path) (more.is_shut path);
+  }
+
+  -- then it stays but for any folder
+  pub stays_but : (at : List ℕ) → StaysBut at old mid
+  stays_but at = record {
+    files = stays.files;
+    folders = λ path disk other. stays.folders path disk;
+    made = λ path disk other. stays.made path disk;
+    is_folder = λ path is other. stays.is_folder path is;
+    is_shut = λ path other. stays.is_shut path;
+  }
+
+  -- what was not had after it was not had before it
+  pub kept_before : (path : List ℕ) (e : Refusal) → IsKeptFrom mid path e → IsKeptFrom old path e
+  kept_before path e = by_cause (λ f. (f ≡ Device) × mid.is_shut path) (λ f. (f ≡ Device) × old.is_shut path) (λ f h. (h.0, (stays.is_shut path).1 h.1)) e
+
+  pub among_before : (paths : List (List ℕ)) (e : Refusal) → AreKeptAmong mid paths e → AreKeptAmong old paths e
+  among_before paths e =
+      by_cause (λ f. (f ≡ Device) × (path : List ℕ) × Contains paths path × mid.is_shut path) (λ f. (f ≡ Device) × (path : List ℕ) × Contains paths path × old.is_shut path)
+      (λ f h. (h.0, h.1, h.2, (stays.is_shut h.1).1 h.3)) e
+
+  pub files_before : (paths files : List (List ℕ)) → AreFilesAt mid paths files → AreFilesAt old paths files
+  files_before [] [] are = are
+  files_before (path ∷ paths) (file ∷ files) are = ((stays.files path file).1 are.0, files_before paths files are.1)
+  files_before [] (file ∷ files) are = are
+  files_before (path ∷ paths) [] are = are
+
+  pub ends_before : (path bytes : List ℕ) → HasEnds mid path bytes → HasEnds old path bytes
+  ends_before path bytes has = (has.0, (stays.files path has.0).1 has.1, has.2)
+
+pub but_then : {D : Type 0} {old mid new : Known D} (at : List ℕ) → StaysBut at old mid → StaysBut at mid new → StaysBut at old new
+but_then at stays more = record {
+  files = λ path bytes. both (stays.files path bytes) (more.files path bytes);
+  folders = λ path disk other. both (stays.folders path disk other) (more.folders path disk other);
+  made = λ path disk other. both (stays.made path disk other) (more.made path disk other);
+  is_folder = λ path is other. both (stays.is_folder path is other) (more.is_folder path is other);
+  is_shut = λ path other. both (stays.is_shut path other) (more.is_shut path other);
+}
+
+module _ {D : Type 0} {old mid new : Known D} (stays : StaysKnown old mid) where
+  -- what comes of a folder after it comes of the folder before it
+  pub carried : {W T : Type 0} (disk_in : W → D) (path : List ℕ) (Comes : W → W → Result T Refusal → Type 0) (Unchanged : Type 0) (result : Result T Refusal)
+      → InFolder disk_in mid new path Comes Unchanged result → InFolder disk_in old new path Comes Unchanged result
+  carried disk_in path Comes Unchanged result (given_back begun ended was is others comes) =
+      given_back begun ended ((stays.folders path (disk_in begun)).1 was) is (but_then path (stays_but stays path) others) comes
+  carried disk_in path Comes Unchanged result (not_had e kept still unchanged is) = not_had e (kept_before stays path e kept) (stays_then stays still) unchanged is
+
+  -- and of one that is made
+  pub made_before : {W T : Type 0} (disk_in : W → D) (path : List ℕ) (Comes : W → W → Result T Refusal → Type 0) (result : Result T Refusal)
+      → InNewFolder disk_in mid new path Comes result → InNewFolder disk_in old new path Comes result
+  made_before disk_in path Comes result (handed_back begun ended was is others comes) =
+      handed_back begun ended ((stays.made path (disk_in begun)).1 was) is (but_then path (stays_but stays path) others) comes
+  made_before disk_in path Comes result (not_made e kept still is) = not_made e (kept_before stays path e kept) (stays_then stays still) is
+  made_before disk_in path Comes result (not_taken e has others is) =
+      not_taken e (λ disk there. (stays.made path disk).1 (has disk there)) (but_then path (stays_but stays path) others) is
+  made_before disk_in path Comes result (taken_away e none others is) = taken_away e ((stays.is_folder path false).1 none) (but_then path (stays_but stays path) others) is
+
+  created_before : {W : Type 0} (state : W → DiskState) (disk_in : W → D) (path : List ℕ) (o : WriteOptions) (bytes : List ℕ) (names : List (List ℕ))
+      (result : Result ⊤ Refusal) → Creates state disk_in mid new path o bytes names result → Creates state disk_in old new path o bytes names result
+  created_before state disk_in path o bytes names result (of_schema schema is_text says can comes) =
+      of_schema schema is_text says can (made_before disk_in path (MakesTable state o schema names) result comes)
+  created_before state disk_in path o bytes names result (not_begun e still is) = not_begun e (stays_then stays still) is
+
+  looked_before : {W : Type 0} (state : W → DiskState) (disk_in : W → D) (path : List ℕ) (texts : Bool) (look : Look) (file : List ℕ) (before after : Option (List ℕ))
+      (result : Result ⊤ Refusal)
+      → LooksInFolder state disk_in mid new path texts look file before after result → LooksInFolder state disk_in old new path texts look file before after result
+  looked_before state disk_in path texts look file before after result (looked in_folder) = looked (carried disk_in path _ _ result in_folder)
+  looked_before state disk_in path texts look file before after result (no_folder none still unprinted is) =
+      no_folder ((stays.is_folder path false).1 none) (stays_then stays still) unprinted is
+
+module _ {D : Type 0} {old mid : Known D} (stays : StaysKnown old mid) (before after : Option (List ℕ)) (result : Result ⊤ Refusal) where
+  -- so does what is printed of a file
+  pub of_file_before : (path : List ℕ) (task : Task) → PrintsOfFile mid path task before after result → PrintsOfFile old path task before after result
+  of_file_before path (Ask Schema) prints = on_ok_weaker result (λ h. (h.0, ends_before stays path h.0 h.1, h.2)) prints
+  of_file_before path (LookAt Files) prints = on_ok_weaker result (λ h. (h.0, (stays.files path h.0).1 h.1, h.2, h.3, h.4)) prints
+  of_file_before path (Ask (Query filter columns limit)) prints = prints
+  of_file_before path (Ask (Count filter)) prints = prints
+  of_file_before path (Ask (Groups stats)) prints = prints
+  of_file_before path (LookAt (Survey min_rows as_json)) prints = prints
+  of_file_before path (LookAt (Rows rows)) prints = prints
+  of_file_before path (ToChange change) prints = prints
+  of_file_before path (Run script stops) prints = prints
+  of_file_before path (Create schema keys) prints = prints
+
+module _ {D : Type 0} {old mid : Known D} (stays : StaysKnown old mid) (S : Type 0) (state : D → DiskState) (call : Call) (before after : Option (List ℕ)) (result : Result ⊤ Refusal) (new : Known D) where
+  -- so does what comes of a task
+  pub on_folder_before : (task : Task) (files : List (List ℕ)) → OnFolder S state mid new call task files before after result → OnFolder S state old new call task files before after result
+  on_folder_before (Ask question) files comes = carried stays _ call.folder.now _ _ result comes
+  on_folder_before (ToChange change) files comes = carried stays _ call.folder.now _ _ result comes
+  on_folder_before (Run script stops) files comes = carried stays _ call.folder.now _ _ result comes
+  on_folder_before (LookAt look) files comes = looked_before stays _ _ call.folder.now call.texts look (first_file files) before after result comes
+  on_folder_before (Create schema keys) files comes = (created_before stays _ _ call.folder.now call.options _ _ result comes.0, comes.1)
+
+  on_files_before : OnFiles S state mid new call before after result → OnFiles S state old new call before after result
+  on_files_before (read files are comes) = read files (files_before stays (named_paths call.task) files are) (on_folder_before call.task files comes)
+  on_files_before (unread e kept still unprinted is) = unread e (among_before stays (named_paths call.task) e kept) (stays_then stays still) unprinted is
+
+  pub comes_before : ComesUnfiltered S state mid new call before after result → ComesUnfiltered S state old new call before after result
+  comes_before (on_folder comes) = on_folder (on_files_before comes)
+  comes_before (on_file none still prints) = on_file ((stays.is_folder call.folder.now false).1 none) (stays_then stays still) (of_file_before stays before after result call.folder.now call.task prints)
+
+-- so does what a sink gets
+pub gives_before : {D : Type 0} {old mid new : Known D} (stays : StaysKnown old mid) (S : Type 0) (state : D → DiskState) (call : Call) (most : Option ℕ) (was is : Option (List (List ℕ))) (result : Result ⊤ Refusal)
+    → GivesAsked S state mid new call most was is result → GivesAsked S state old new call most was is result
+gives_before stays S state call most was is result (of_question question asked gives) = of_question question asked (carried stays _ call.folder.now _ _ result gives)
+gives_before stays S state call most was is result (not_asked still none refused) = not_asked (stays_then stays still) none refused
+
+-- what is not had, by what a refusal is passed on as
+pub not_had_of : {D W T : Type 0} {disk_in : W → D} {old new : Known D} {path : List ℕ} {Comes : W → W → Result T Refusal → Type 0} {Unchanged : Type 0}
+    (result : Result T Refusal) (e : Refusal) → IsErrAnd result (λ f. f ≡ e) → IsKeptFrom old path e → StaysKnown old new → Unchanged
+    → InFolder disk_in old new path Comes Unchanged result
+not_had_of (Ok x) e is kept stays unchanged = absurd is
+not_had_of (Err f) e is kept stays unchanged = not_had e kept stays unchanged (ap Err is)

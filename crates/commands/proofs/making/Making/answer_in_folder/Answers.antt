@@ -1,0 +1,14 @@
+use Rattle.std.proofs.Common.{refl}
+use Rattle.commands.specs.Places.{given_back}
+use Rattle.commands.proofs.PlacesKept.{but_then, not_had_of}
+use Rattle.commands.proofs.making.Making.answer_in_folder.Goals as goal
+
+pub returns-in_err-disk-clause-comes : goal.returns-in_err-disk-clause-comes
+returns-in_err-disk-clause-comes g c =
+    let kept = c.in_err-disk.ensures.refused in
+    not_had_of c.from_residual.result c.in_err-disk.field-0.0 c.from_residual.ensures.1 kept.0 kept.1 refl
+
+pub returns-clause-comes : goal.returns-clause-comes
+returns-clause-comes g c =
+    given_back c.in_ok-disk.disk c.answer_on-disk.result.0 c.in_ok-disk.ensures.taken c.give.ensures.given
+    (but_then c.args.self.now.call.now.folder.now c.take.ensures.others c.give.ensures.others) c.answer_on-disk.ensures.comes
