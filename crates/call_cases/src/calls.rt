@@ -1,22 +1,17 @@
 //! Calls of the program.
 
-use crate::refusals::refusal_of;
+use crate::places::FilePlace;
 use crate::screen::Screen;
 use bits::{R, Refusal};
-use commands::Folders;
-use program::{Terminals, work};
+use program::Terminals;
 use std::alloc::Global;
 use std::cell::RefCell;
-use std::fs;
 
 /// The file that has what the last call wrote to standard output.
 const LAST_OUT: &str = "last.out";
 
 /// The file that has what the last call wrote to standard error.
 const LAST_ERR: &str = "last.err";
-
-/// How many bytes the groups of one of several files take at most: so few that such a file has few groups.
-const PART_BYTES: usize = 110;
 
 /// The words of a line after its first, parted by single spaces.
 fn words_of(alloc: Global, line: &str) -> R<Vec<String>> {
@@ -44,40 +39,23 @@ fn push_shown(alloc: Global, bytes: &[u8], text: &mut String) -> R<()> {
     Ok(())
 }
 
-/// Makes a file of these bytes.
-fn keep(rt: &HostRuntime, path: &str, bytes: &[u8]) -> R<()> {
-    fs::write(rt, path, bytes).map_err(refusal_of)
-}
-
-/// The status of a call, which prints to a writer, and to a screen as standard error.
-fn status_of(
-    rt: &HostRuntime,
-    words: &[String],
-    out: &mut Vec<u8>,
-    screen: Screen<'_>,
-    terminals: Terminals,
-) -> u8 {
-    let datasets = Folders {
-        files: rt,
-        screen,
-        part_bytes: PART_BYTES,
-    };
-    let mut err = screen;
-    work(rt, rt.alloc(), words, out, &mut err, terminals, &datasets)
-}
-
 /// A call, and what it says: what it prints, where that is asked for, then its lines on standard error, after `! `, then its
 /// status unless it is 0. Both outputs are kept in files.
-pub fn told(rt: &HostRuntime, terminals: Terminals, line: &str, prints: bool) -> R<String> {
-    let alloc = rt.alloc();
+pub fn told<P: FilePlace>(
+    place: &mut P,
+    alloc: Global,
+    terminals: Terminals,
+    line: &str,
+    prints: bool,
+) -> R<String> {
     let words = words_of(alloc, line)?;
     let written = RefCell::new(Vec::new(alloc));
     let mut out = Vec::new(alloc);
     let screen = Screen { written: &written };
-    let status = status_of(rt, words.as_slice(), &mut out, screen, terminals);
+    let status = place.status(words.as_slice(), &mut out, screen, terminals)?;
     let err = written.into_inner();
-    keep(rt, LAST_OUT, out.as_slice())?;
-    keep(rt, LAST_ERR, err.as_slice())?;
+    place.write(LAST_OUT, out.as_slice())?;
+    place.write(LAST_ERR, err.as_slice())?;
     let mut text = format!(in alloc; "$ {line}\n")?;
     if prints {
         push_shown(alloc, out.as_slice(), &mut text)?;

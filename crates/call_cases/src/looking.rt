@@ -1,12 +1,11 @@
 //! What is in files and folders.
 
 use crate::changing::after;
-use crate::refusals::refusal_of;
+use crate::places::FilePlace;
 use bits::{R, Refusal};
 use case_words::{word, yes_or_no};
 use program::text_of;
 use std::alloc::Global;
-use std::fs;
 
 /// The last line of a text.
 fn last_line(text: &str) -> &str {
@@ -14,14 +13,8 @@ fn last_line(text: &str) -> &str {
 }
 
 /// The names in a folder, in byte order.
-fn names_in(rt: &HostRuntime, folder: &str) -> R<String> {
-    let alloc = rt.alloc();
-    let files = rt.clone()?;
-    let mut names = Vec::new(alloc);
-    for entry in fs::read_dir(&(files, alloc), folder).map_err(refusal_of)? {
-        let entry = entry.map_err(refusal_of)?;
-        names.push(String::from_str(alloc, entry.file_name())?)?;
-    }
+fn names_in<P: FilePlace>(place: &mut P, alloc: Global, folder: &str) -> R<String> {
+    let mut names = place.names(folder)?;
     names.sort()?;
     joined(alloc, names.as_slice())
 }
@@ -42,13 +35,12 @@ fn joined(alloc: Global, texts: &[String]) -> R<String> {
 }
 
 /// What is seen of a file.
-fn seen_of(rt: &HostRuntime, words: &[&str], line: &str) -> R<String> {
-    let alloc = rt.alloc();
-    let there = fs::read(rt, word(words, 1)?).map_err(refusal_of)?;
+fn seen_of<P: FilePlace>(place: &P, alloc: Global, words: &[&str], line: &str) -> R<String> {
+    let there = place.read(word(words, 1)?)?;
     let there = there.as_slice();
     match word(words, 0)? {
         "same" => {
-            let other = fs::read(rt, word(words, 2)?).map_err(refusal_of)?;
+            let other = place.read(word(words, 2)?)?;
             yes_or_no(alloc, there == other.as_slice())
         }
         "has" => yes_or_no(alloc, text_of(there)?.contains(after(line, 2))),
@@ -62,9 +54,9 @@ fn seen_of(rt: &HostRuntime, words: &[&str], line: &str) -> R<String> {
 }
 
 /// A line that looks at files, and what it sees.
-pub fn seen(rt: &HostRuntime, words: &[&str], line: &str) -> R<String> {
+pub fn seen<P: FilePlace>(place: &mut P, alloc: Global, words: &[&str], line: &str) -> R<String> {
     match word(words, 0)? {
-        "list" => names_in(rt, word(words, 1)?),
-        _ => seen_of(rt, words, line),
+        "list" => names_in(place, alloc, word(words, 1)?),
+        _ => seen_of(place, alloc, words, line),
     }
 }

@@ -1,0 +1,3 @@
+mod Made
+mod Known
+mod Called
