@@ -24,3 +24,15 @@ pub mod RowCells
 pub mod StoredPlaces
 pub mod ChunkPassages
 pub mod KeyValues
+pub mod Segments
+pub mod Pieces
+pub mod Taken
+pub mod PartsMade
+pub mod RowsMade
+pub mod WholeSchema
+pub mod Chosen
+pub mod RunTaken
+pub mod HeldBack
+pub mod SideBySide
+pub mod HeldOnce
+pub mod FlatRuns

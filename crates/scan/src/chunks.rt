@@ -1,10 +1,13 @@
 //! The bytes of chunks, off a part file.
 
-ghost use Rattle.std.specs.Prelude.{◌≡◌, ℕ, pos, true, List, Some, length, map, IfOk, IfErr, MatchOption, if◌then◌else◌};
-ghost use Rattle.bits.specs.Refusals.{RefusedOnly};
+ghost use Rattle.std.specs.Prelude.{◌≡◌, ℕ, pos, true, List, Some, length, map, IfOk, IfErr, MatchOption, if◌then◌else◌, string_bytes};
+ghost use Rattle.bits.specs.Refusals.{RefusedOnly, RefusedMemoryOnly};
+ghost use Rattle.schema.specs.Keys.{key_columns_view};
 ghost use Rattle.metadata.specs.Views.{column_meta_view, chunk_meta_view};
 ghost use Rattle.row_group.specs.Chunks.{StartsAt};
 ghost use Rattle.vault.specs.Views.{IsKept};
+ghost use Rattle.partition.specs.Folders.{part_path_of, CanPartition};
+ghost use Rattle.manifest.specs.Groups.{group_view};
 ghost use Rattle.scan.specs.Faults.{IsOfParts, IsDevice};
 ghost use Rattle.scan.specs.inner.Passages.{ReadsPart};
 ghost use Rattle.scan.specs.inner.Uses.{is_due, count_due};
@@ -13,7 +16,10 @@ ghost use Rattle.scan.specs.inner.Texts.{IsRange, IsText, AreTexts, HasRange, Ha
 use crate::leaf_uses::LeafUse;
 use bits::{R, Refusal};
 use disk::Disk;
+use manifest::Group;
 use metadata::{ChunkMeta, ColumnMeta};
+use partition::part_path;
+use schema::KeyColumn;
 use std::alloc::Global;
 use vault::Vault;
 
@@ -130,4 +136,18 @@ fn start_of(meta: &ColumnMeta) -> Option<usize>
         return Some(dictionary);
     }
     Some(page)
+}
+
+/// The path of the group's part file. A key that cannot partition has none: refused Truncated.
+pub(crate) fn path_of(alloc: Global, keys: &[KeyColumn], group: &Group) -> R<String>
+    ensures stands { IfOk result (λ path. string_bytes path
+        ≡ part_path_of (key_columns_view keys.now) (group_view group.now).key (group_view group.now).number) }
+    ensures only { CanPartition (key_columns_view keys.now) (group_view group.now).key → RefusedMemoryOnly result }
+    ensures which { RefusedOnly IsOfParts result }
+{
+    match part_path(alloc, keys, &group.key, group.number) {
+        Ok(path) => Ok(path),
+        Err(Refusal::Memory) => Err(Refusal::Memory),
+        Err(_) => Err(Refusal::Truncated),
+    }
 }

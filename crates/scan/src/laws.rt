@@ -1,7 +1,11 @@
-//! What holds of groups that are ruled out.
+//! What holds of groups that are ruled out, and of the rows that were read.
 
+ghost use Rattle.scan.specs.Left.{HeldRowsAreOne};
 ghost use Rattle.scan.specs.Selected.{RuledOutGroupsHoldNone};
 ghost use Rattle.scan.specs.inner.Held.{ChunksHoldColumns};
+
+use row_group::one_meaning;
+use schema::columns_determine_rows;
 
 /// A group that a filter rules out, by its key and the statistics that the root has of it, holds no row that satisfies.
 pub fn ruled_out_groups_hold_none()
@@ -16,3 +20,11 @@ pub fn ruled_out_groups_hold_none()
 pub fn chunks_hold_columns()
     ensures { ChunksHoldColumns }
 {}
+
+/// What was read and accepted of a group is one list of rows.
+pub fn held_rows_are_one()
+    ensures { HeldRowsAreOne }
+{
+    one_meaning();
+    columns_determine_rows();
+}

@@ -1,13 +1,12 @@
 //! Readers over the bytes of chunks.
 
-ghost use Rattle.std.specs.Prelude.{◌≡◌, ◌<◌, ◌⊎◌, List, [], ◌∷◌, length, map, IfOk, OnOk, IfErr};
+ghost use Rattle.std.specs.Prelude.{◌≡◌, ◌⊎◌, List, [], ◌∷◌, length, map, IfOk, OnOk, IfErr};
 ghost use Rattle.bits.specs.Refusals.{RefusedOnly, RefusedMemoryOnly};
 ghost use Rattle.schema.specs.Stripe.{Entry, leaves_of};
 ghost use Rattle.schema.specs.Values.{ValueTrees};
-ghost use Rattle.schema.specs.Views.{leaf_view, row_view};
+ghost use Rattle.schema.specs.Views.{leaf_view};
 ghost use Rattle.metadata.specs.Views.{chunk_meta_view};
 ghost use Rattle.assemble.specs.Columns.{Columns};
-ghost use Rattle.assemble.specs.RowsOf.{StandForRows, IsNextRow};
 ghost use Rattle.assemble.specs.Sources.{Precede};
 ghost use Rattle.assemble.specs.Standing.{AllStand};
 ghost use Rattle.filter.specs.Test.{tests_in};
@@ -15,16 +14,16 @@ ghost use Rattle.filter.specs.Verdicts.{verdicts_in, verdicts_of, IsPutAt};
 ghost use Rattle.row_group.specs.Left.{chunk_stands};
 ghost use Rattle.scan.specs.Faults.{IsOfParts};
 ghost use Rattle.scan.specs.inner.Cells.{value_in};
-ghost use Rattle.scan.specs.inner.Texts.{IsHeld, AreHeld, texts_view};
+ghost use Rattle.scan.specs.inner.Texts.{IsHeld, AreHeld, HoldPicked, texts_view};
 ghost use Rattle.scan.specs.inner.Uses.{numbers_of, picked};
 
 use crate::leaf_uses::LeafUse;
-use assemble::{Discard, EntrySource, RowBuilder, next_known_row_to};
+use assemble::EntrySource;
 use bits::{R, Refusal};
 use filter::{Filter, Verdicts};
 use metadata::ChunkMeta;
 use row_group::ChunkReader;
-use schema::{Leaf, Row, Schema, ValueRef};
+use schema::{Leaf, Schema, ValueRef};
 use std::alloc::Global;
 
 /// A reader for each leaf that is picked, in the order of the leaves. A chunk that was read for the filter lies in
@@ -44,6 +43,8 @@ pub fn sources_of<'a>(
     ensures stands { IfOk result (λ rs. (cols : Columns)
         → AreHeld for_filter (map chunk_meta_view chunks.now) (leaves_of schema.now) uses.now (texts_view first.now) (texts_view later.now) cols
         → AllStand chunk_stands rs.items (picked for_filter uses.now cols)) }
+    ensures holds { IfOk result (λ rs. (own : Columns) → AllStand chunk_stands rs.items own
+        → HoldPicked for_filter (map chunk_meta_view chunks.now) (leaves_of schema.now) uses.now (texts_view first.now) (texts_view later.now) own) }
     ensures only { (cols : Columns)
         → AreHeld for_filter (map chunk_meta_view chunks.now) (leaves_of schema.now) uses.now (texts_view first.now) (texts_view later.now) cols
         → RefusedMemoryOnly result }
@@ -77,6 +78,8 @@ fn source_of<'a>(
 ) -> R<ChunkReader<'a>>
     ensures stands { IfOk result (λ r. (es : List Entry)
         → IsHeld (map chunk_meta_view chunks.now) number (leaf_view leaf.now) text.now es → chunk_stands r es) }
+    ensures holds { IfOk result (λ r. (es : List Entry)
+        → chunk_stands r es → IsHeld (map chunk_meta_view chunks.now) number (leaf_view leaf.now) text.now es) }
     ensures only { (es : List Entry) → IsHeld (map chunk_meta_view chunks.now) number (leaf_view leaf.now) text.now es → RefusedMemoryOnly result }
     ensures which { RefusedOnly IsOfParts result }
 {
@@ -112,31 +115,6 @@ pub fn show_value<S: EntrySource>(
             }
         },
         Ok(None) => Err(Refusal::Levels),
-        Err(fault) => Err(Refusal::from(fault)),
-    }
-}
-
-/// The next row. Where the readers do not stand for one, it is refused for a fault.
-pub fn take_row(alloc: Global, cut: &Schema, sources: &mut [ChunkReader<'_>]) -> R<Row>
-    ensures takes { IfOk result (λ row. IsNextRow chunk_stands cut.now sources.old sources.new (row_view row)) }
-    ensures only { IfErr result (λ r. (rows : List ValueTrees) → StandForRows chunk_stands sources.old cut.now rows → 0 < length rows → r ≡ Refusal.Memory) }
-    ensures which { RefusedOnly IsOfParts result }
-{
-    let mut builder = RowBuilder::new(alloc, cut.fields().len())?;
-    match next_known_row_to(cut, sources, &mut builder) {
-        Ok(()) => Ok(builder.into_row()),
-        Err(fault) => Err(Refusal::from(fault)),
-    }
-}
-
-/// Passes the next row over: nothing of it is kept. Where the readers do not stand for one, it is refused for a fault.
-pub fn skip_row(cut: &Schema, sources: &mut [ChunkReader<'_>]) -> R<()>
-    ensures takes { OnOk result ((row : ValueTrees) × IsNextRow chunk_stands cut.now sources.old sources.new row) }
-    ensures only { IfErr result (λ r. (rows : List ValueTrees) → StandForRows chunk_stands sources.old cut.now rows → 0 < length rows → r ≡ Refusal.Memory) }
-    ensures which { RefusedOnly IsOfParts result }
-{
-    match next_known_row_to(cut, sources, &mut Discard) {
-        Ok(()) => Ok(()),
         Err(fault) => Err(Refusal::from(fault)),
     }
 }

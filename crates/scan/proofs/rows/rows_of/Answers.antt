@@ -1,14 +1,46 @@
-use Rattle.std.proofs.Common.{ap, ◌∙◌}
-use Rattle.schema.specs.Keys.{key_columns_view}
+use Rattle.std.proofs.Common.{◌∙◌, ap, sym, subst}
+use Rattle.std.specs.Prelude.{Option}
 use Rattle.schema.specs.Views.{rows_view}
+use Rattle.scan.specs.declared.group_rows.GroupRows.{GroupRows}
 use Rattle.filter.specs.Test.{tests_in}
-use Rattle.manifest.specs.Groups.{group_view}
-use Rattle.scan.proofs.Reading.{ruled_out}
+use Rattle.scan.specs.Left.{AreReadFor, AreAccepted}
+use Rattle.scan.specs.Faults.{IsPartRefusal, IsDevice}
+use Rattle.scan.proofs.Passages.{only_on, ok_weaker, which_map, counts_passed, counts_then}
+use Rattle.scan.proofs.Reading.{memory_only}
 use Rattle.scan.proofs.rows.rows_of.Goals as goal
 
-pub returns-then-ruled_out-clause-stands : goal.returns-then-ruled_out-clause-stands
-returns-then-ruled_out-clause-stands g c honest over are rows h p decides =
-    let tests = tests_in c.args.filter.now in
-    let out = c.ruled_out.ensures.0 c.if-ruled_out.true in
-    ap rows_view c.new.ensures.items
-    ∙ ruled_out tests c.args.places.now rows (c.ruled_out_groups_hold_none.ensures (key_columns_view c.args.keys.now) c.args.schema.now (group_view c.args.group.now) h.bytes rows tests are over h.is h.means out) p decides
+pub returns-in_err-read-clause-only : goal.returns-in_err-read-clause-only
+returns-in_err-read-clause-only g c honest are rows h = only_on IsDevice c.from_residual.result c.in_err-read.field-0.0 c.from_residual.ensures.1 (c.in_err-read.ensures.only honest are rows h)
+
+pub returns-in_err-read-clause-which : goal.returns-in_err-read-clause-which
+returns-in_err-read-clause-which g c =
+    only_on (IsPartRefusal (g.D.Disk.state c.args.vault.now.disk) (g.D.Disk.state c.read.new.vault.disk)) c.from_residual.result c.in_err-read.field-0.0 c.from_residual.ensures.1 c.in_err-read.ensures.which
+
+pub returns-in_err-read-clause-counts : goal.returns-in_err-read-clause-counts
+returns-in_err-read-clause-counts g c =
+    counts_passed {S = Option GroupRows} c.from_residual.result c.in_err-read.field-0.0 (g.D.Disk.state c.args.vault.now.disk) (g.D.Disk.state c.read.new.vault.disk) c.from_residual.ensures.1 c.in_err-read.ensures.counts
+
+pub returns-in-None-clause-stands : goal.returns-in-None-clause-stands
+returns-in-None-clause-stands g c honest over are rows h p decides =
+    ap rows_view c.new.ensures.items ∙ subst (AreReadFor (tests_in c.args.filter.now) c.args.places.now rows) c.in-None.is (c.in_ok-read.ensures.stands honest over are rows h) p decides
+
+pub returns-in-None-clause-counts : goal.returns-in-None-clause-counts
+returns-in-None-clause-counts g c = counts_then c.in_ok-read.field-0 _ (g.D.Disk.state c.args.vault.now.disk) (g.D.Disk.state c.read.new.vault.disk) c.in_ok-read.ensures.counts
+
+pub returns-in-Some-clause-stands : goal.returns-in-Some-clause-stands
+returns-in-Some-clause-stands g c honest over are rows h =
+    let read = subst (AreReadFor (tests_in c.args.filter.now) c.args.places.now rows) c.in-Some.is (c.in_ok-read.ensures.stands honest over are rows h) in
+    ok_weaker c.collected.result (λ out is p decides. sym (is read.0 read.2) ∙ read.1 p decides) c.collected.ensures.rows_are
+
+pub returns-in-Some-clause-only : goal.returns-in-Some-clause-only
+returns-in-Some-clause-only g c honest are rows h =
+    let held = subst AreAccepted c.in-Some.is c.in_ok-read.ensures.accepted in
+    memory_only c.collected.result (c.collected.ensures.only held.0 held.1)
+
+pub returns-in-Some-clause-which : goal.returns-in-Some-clause-which
+returns-in-Some-clause-which g c =
+    let held = subst AreAccepted c.in-Some.is c.in_ok-read.ensures.accepted in
+    which_map (λ _. ⊥) (IsPartRefusal (g.D.Disk.state c.args.vault.now.disk) (g.D.Disk.state c.read.new.vault.disk)) (λ e none. absurd none) c.collected.result (c.collected.ensures.only held.0 held.1)
+
+pub returns-in-Some-clause-counts : goal.returns-in-Some-clause-counts
+returns-in-Some-clause-counts g c = counts_then c.in_ok-read.field-0 c.collected.result (g.D.Disk.state c.args.vault.now.disk) (g.D.Disk.state c.read.new.vault.disk) c.in_ok-read.ensures.counts

@@ -1,0 +1,64 @@
+-- The rows that marks select.
+use Rattle.std.proofs.Common.{ℕ, ◌≡◌, ◌≢◌, ◌+◌, Bool, true, false, List, [], ◌∷◌, length, map, refl, ap, sym, ◌∙◌, arith}
+use Rattle.std.specs.Prelude.{filter, cond, nat_lt}
+use Rattle.std.specs.List.{list_any}
+use Rattle.std.proofs.lemmas.Bool.{false≢true}
+use Rattle.std.proofs.lemmas.Bool.Decides.{nat_tests}
+use Rattle.std.proofs.lemmas.List.Recursion.{is_count_by}
+use Rattle.scan.specs.Left.{selected_by}
+use Rattle.scan.specs.inner.Marked.{has_selected, count_selected, HaveSelected}
+
+pub selected_filter : {A : Type 0} (p : A → Bool) (xs : List A) → selected_by (map p xs) xs ≡ filter p xs
+selected_filter p [] = refl
+selected_filter {A} p (x ∷ xs) = by (p x) (selected_filter p xs)
+  where
+    by : (b : Bool) → selected_by (map p xs) xs ≡ filter p xs → selected_by (b ∷ map p xs) (x ∷ xs) ≡ cond b (x ∷ filter p xs) (filter p xs)
+    by true rest = ap (λ (t : List A). x ∷ t) rest
+    by false rest = rest
+
+pub all_pass : {A : Type 0} (p : A → Bool) → ((x : A) → p x ≡ true) → (xs : List A) → xs ≡ filter p xs
+all_pass p pass [] = refl
+all_pass {A} p pass (x ∷ xs) = ap (λ (t : List A). x ∷ t) (all_pass p pass xs) ∙ ap (λ (b : Bool). cond b (x ∷ filter p xs) (filter p xs)) (sym (pass x))
+
+none_marked : {A : Type 0} (marks : List Bool) (xs : List A) → length xs ≡ length marks → list_any (λ b. b) marks ≡ false → selected_by marks xs ≡ []
+none_marked [] [] size h = refl
+none_marked [] (x ∷ xs) size h = absurd (omega (arith, size))
+none_marked (m ∷ marks) [] size h = refl
+none_marked (true ∷ marks) (x ∷ xs) size h = absurd (false≢true (sym h))
+none_marked (false ∷ marks) (x ∷ xs) size h = none_marked marks xs (omega (arith, size)) h
+
+one_marked : {A : Type 0} (marks : List Bool) (xs : List A) → length xs ≡ length marks → list_any (λ b. b) marks ≡ true → selected_by marks xs ≡ [] → ⊥
+one_marked [] xs size h none = false≢true h
+one_marked (m ∷ marks) [] size h none = absurd (omega (arith, size))
+one_marked (true ∷ marks) (x ∷ xs) size h none = absurd (cc)
+one_marked (false ∷ marks) (x ∷ xs) size h none = one_marked marks xs (omega (arith, size)) h none
+
+-- where none is selected
+pub none_chosen : {A : Type 0} (marks : List Bool) (count : ℕ) → ((marks ≡ [] → ⊥) → length marks ≡ count) → has_selected marks count ≡ false → (xs : List A) → length xs ≡ count → selected_by marks xs ≡ []
+none_chosen [] count many h [] size = refl
+none_chosen [] count many h (x ∷ xs) size = let some : nat_lt 0 count ≡ true = grind (arith, nat_tests) in absurd (false≢true (sym h ∙ some))
+none_chosen (m ∷ marks) count many h xs size = none_marked (m ∷ marks) xs (let n = many (λ e. cc) in omega (arith, n, size)) h
+
+-- where some is
+pub some_chosen : {A : Type 0} (marks : List Bool) (count : ℕ) → HaveSelected marks count → (xs : List A) → length xs ≡ count → selected_by marks xs ≡ [] → ⊥
+some_chosen [] count have [] size none = let away : nat_lt 0 count ≡ false = grind (arith, nat_tests) in false≢true (sym away ∙ have.some)
+some_chosen [] count have (x ∷ xs) size none = absurd (cc)
+some_chosen (m ∷ marks) count have xs size none = one_marked (m ∷ marks) xs (let n = have.many (λ e. cc) in omega (arith, n, size)) have.some none
+
+-- ---- how many are selected
+
+-- how many of the marks are set
+abbrev set_in : List Bool → ℕ
+set_in [] = 0
+set_in (m ∷ marks) = cond m (1 + set_in marks) (set_in marks)
+
+set_many : {A : Type 0} (marks : List Bool) (xs : List A) → length xs ≡ length marks → length (selected_by marks xs) ≡ set_in marks
+set_many [] [] size = refl
+set_many [] (x ∷ xs) size = absurd (omega (arith, size))
+set_many (m ∷ marks) [] size = absurd (omega (arith, size))
+set_many (true ∷ marks) (x ∷ xs) size = let rest = set_many marks xs (omega (arith, size)) in omega (arith, rest)
+set_many (false ∷ marks) (x ∷ xs) size = set_many marks xs (omega (arith, size))
+
+pub chosen_many : {A : Type 0} (marks : List Bool) (count : ℕ) → (marks ≢ [] → length marks ≡ count) → (xs : List A) → length xs ≡ count → length (selected_by marks xs) ≡ count_selected marks count
+chosen_many [] count many xs size = size
+chosen_many (m ∷ marks) count many xs size = set_many (m ∷ marks) xs (let n = many (λ e. cc) in omega (arith, n, size)) ∙ is_count_by set_in (λ b. b) refl (λ x rest. refl) (m ∷ marks)

@@ -1,0 +1,45 @@
+//! What was read of a group.
+
+ghost use Rattle.std.specs.Prelude.{◌≡◌, map, IfOk};
+ghost use Rattle.bits.specs.Refusals.{RefusedMemoryOnly};
+ghost use Rattle.metadata.specs.Views.{chunk_meta_view};
+
+use bits::R;
+use metadata::ChunkMeta;
+use schema::Schema;
+use std::alloc::Global;
+
+/// The schema of a table, the records of the chunks of one of its groups, and the bytes of those that were read, for
+/// each leaf: for the filter, or after that.
+#[derive(Drop)]
+pub(crate) struct Held {
+    pub schema: Schema,
+    pub chunks: Vec<ChunkMeta>,
+    pub first: Vec<Vec<u8>>,
+    pub later: Vec<Vec<u8>>,
+}
+
+/// A copy of a schema.
+pub(crate) fn copied_schema(alloc: Global, schema: &Schema) -> R<Schema>
+    ensures same { IfOk result (λ copy. copy ≡ schema.now) }
+    ensures which { RefusedMemoryOnly result }
+{
+    let count = schema.leaves().len();
+    let mut numbers = Vec::with_capacity(alloc, count)?;
+    for number in 0..count {
+        numbers.push(number)?;
+    }
+    schema.cut(alloc, numbers.as_slice())
+}
+
+/// Copies of the records of chunks.
+pub(crate) fn copied_chunks(alloc: Global, chunks: &[ChunkMeta]) -> R<Vec<ChunkMeta>>
+    ensures same { IfOk result (λ copies. map chunk_meta_view copies.items ≡ map chunk_meta_view chunks.now) }
+    ensures which { RefusedMemoryOnly result }
+{
+    let mut copies = Vec::with_capacity(alloc, chunks.len())?;
+    for chunk in chunks {
+        copies.push(chunk.copied(alloc)?)?;
+    }
+    Ok(copies)
+}
