@@ -8,9 +8,7 @@ use Rattle.bits.specs.declared.refusal.Refusal.TheVariants.{Memory, Device}
 use Rattle.bits.specs.Refusals.{HasCause}
 use Rattle.schema.specs.Cutting.{is_among}
 use Rattle.schema.specs.Keys.{KeyColumn, AreKeys, AreDistinct}
-use Rattle.schema.specs.Views.{rows_view}
 use Rattle.schema.specs.Shape.{Fields}
-use Rattle.schema.specs.declared.row.Row.{Row as CodeRow}
 use Rattle.partition.specs.Folders.{part_path_of}
 use Rattle.disk.specs.State.{State as DiskState}
 use Rattle.vault.specs.declared.vault.Vault.{Vault}
@@ -20,20 +18,16 @@ use Rattle.vault.proofs.Moments.{widens, kept_on}
 use Rattle.manifest.specs.Groups.{Group as FileGroup, root_of}
 use Rattle.scan.specs.Faults.{IsDevice}
 use Rattle.snapshots.specs.Views.{state_of}
-use Rattle.table.specs.Table.{Group}
+use Rattle.table.specs.Table.{Row, Group}
 use Rattle.table.specs.Cursors.{Batch, Cursor}
 use Rattle.table.specs.State.{State, open_at, changed_at}
 use Rattle.table.specs.Calls.{Call, Answer, fetch, refused}
 use Rattle.table.specs.History.{next_answer, after_fetch, Fetches}
 use Rattle.table.specs.Checks.{fault}
-use Rattle.table.specs.Views.{fetched_view}
-use Rattle.table.specs.declared.answer.Fetched.{Fetched}
-use Rattle.table.specs.declared.answer.Fetched.TheVariants as fetched
 use Rattle.table.specs.Refusing.{Happens, no_memory, failed, is_over}
 use Rattle.table.proofs.Steady.{stays}
 use Rattle.store.specs.declared.store.Store.{Store}
 use Rattle.store.specs.declared.jobs.OpenCursor.{OpenCursor}
-use Rattle.store.specs.declared.passing.Reached.{Reached}
 use Rattle.store.specs.Lookups.{cursor_at}
 use Rattle.store.specs.Spares.{Spares, Agrees}
 use Rattle.store.specs.Stands.{AreStored, AreNumbered, ShowsCursor, ShowsOpen, Stands, numbers_at, cursor_numbers}
@@ -77,12 +71,12 @@ none_of x xs = by (length (x ∷ xs) == 0) refl
     by true e = let z = eqb-true (length (x ∷ xs)) 0 e in absurd (omega (arith, z))
     by false e = e
 
-after_is : (places : List ℕ) (rows : List CodeRow) (rest : List Batch) (over : Bool) → over ≡ (length rows == 0) → (rows ≡ [] → rest ≡ []) → after_fetch (batches_with places (rows_view rows) ++ rest) ≡ record { batches = rest; ended = over }
+after_is : (places : List ℕ) (rows : List Row) (rest : List Batch) (over : Bool) → over ≡ (length rows == 0) → (rows ≡ [] → rest ≡ []) → after_fetch (batches_with places rows ++ rest) ≡ record { batches = rest; ended = over }
 after_is places [] rest over e none =
     let gone = none refl in ap after_fetch gone ∙ ap (λ (bs : List Batch). record { batches = bs; ended = true }) (sym gone) ∙ ap (λ (b : Bool). record { batches = rest; ended = b }) (sym e)
 after_is places (x ∷ xs) rest over e none = ap (λ (b : Bool). record { batches = rest; ended = b }) (sym (e ∙ none_of x xs))
 
-answer_is : (places : List ℕ) (rows : List CodeRow) (rest : List Batch) → (rows ≡ [] → rest ≡ []) → next_answer (batches_with places (rows_view rows)) ≡ next_answer (batches_with places (rows_view rows) ++ rest)
+answer_is : (places : List ℕ) (rows : List Row) (rest : List Batch) → (rows ≡ [] → rest ≡ []) → next_answer (batches_with places rows) ≡ next_answer (batches_with places rows ++ rest)
 answer_is places [] rest none = ap next_answer (sym (none refl))
 answer_is places (x ∷ xs) rest none = refl
 
@@ -168,11 +162,11 @@ module _ (old new : DiskState) (leaves : LeavesAll old new) (held : List (ℕ ×
   shown_left x d z = record { number = z.number; pinned = z.pinned; keyed = z.keyed; made = z.made; groups = z.groups; stored = stored_left (root_of x.table).schema (root_of x.table).groups z.groups z.stored; batches = z.batches; ended = z.ended; over = z.over }
 
   -- the cursor that went on
-  shown_moved : (x : OpenCursor) (d : ℕ × Cursor) (z : ShowsCursor old held keys count x d) (n : ℕ) → x.number ≡ n → (r : Reached) → Comes x z.groups r → (over : Bool) → over ≡ (length r.rows.items == 0) → (after : Cursor) → after ≡ after_fetch d.1.batches
-      → ShowsCursor new held keys count (moved r.passed over x) (n, after)
-  shown_moved x d z n is r comes over e after h =
-      let rest : List Batch = batches_from x z.groups r.passed in
-      let then_is : after ≡ record { batches = rest; ended = over } = h ∙ ap after_fetch (z.batches ∙ comes.batches) ∙ after_is x.places.items r.rows.items rest over e comes.none in
+  shown_moved : (x : OpenCursor) (d : ℕ × Cursor) (z : ShowsCursor old held keys count x d) (n : ℕ) → x.number ≡ n → (passed : ℕ) (rows : List Row) → Comes x z.groups passed rows → (over : Bool) → over ≡ (length rows == 0) → (after : Cursor) → after ≡ after_fetch d.1.batches
+      → ShowsCursor new held keys count (moved passed over x) (n, after)
+  shown_moved x d z n is passed rows comes over e after h =
+      let rest : List Batch = batches_from x z.groups passed in
+      let then_is : after ≡ record { batches = rest; ended = over } = h ∙ ap after_fetch (z.batches ∙ comes.batches) ∙ after_is x.places.items rows rest over e comes.none in
       record {
         number = is;
         pinned = z.pinned;
@@ -182,11 +176,8 @@ module _ (old new : DiskState) (leaves : LeavesAll old new) (held : List (ℕ ×
         stored = stored_left (root_of x.table).schema (root_of x.table).groups z.groups z.stored;
         batches = ap (λ (c : Cursor). c.batches) then_is;
         ended = ap (λ (c : Cursor). c.ended) then_is;
-        over = λ o. ap (λ (c : Cursor). c.batches) then_is ∙ comes.none (empty_so r.rows.items (sym e ∙ o));
+        over = λ o. ap (λ (c : Cursor). c.batches) then_is ∙ comes.none (no_rows rows (sym e ∙ o));
       }
-    where
-      empty_so : (rows : List CodeRow) → (length rows == 0) ≡ true → rows ≡ []
-      empty_so rows f = no_rows rows f
 
 -- ---- the ends of a fetch
 
@@ -210,8 +201,8 @@ module _ {D : Type 0} (state : D → DiskState) (store : Store D) (n : ℕ) (is_
   refused_so e h = subst (λ (x : Refusal). ActsFrom state store (record store { vault = vault }) (fetch n) (refused x) s) (sym h)
       (stays_put state store s stands open_here_so vault leaves (fetch n) (refused Device) (failed refl (ap not open_here_so) needs (stays s (fetch n) refl)))
 
-  module _ (r : Reached) (comes : (d : ℕ × Cursor) (z : ShowsCursor (state store.vault.disk) (state_of store.snapshots).cursors s.table.keys s.next_group c d) → Comes c z.groups r) (over : Bool) (over_is : over ≡ (length r.rows.items == 0))
-      (cursors : Vec OpenCursor Global) (items_are : cursors.items ≡ moved_at n r.passed over store.cursors.items) (f : Fetched) (made : fetched_view f ≡ next_answer (batches_with c.places.items (rows_view r.rows.items))) where
+  module _ (passed : ℕ) (rows : List Row) (comes : (d : ℕ × Cursor) (z : ShowsCursor (state store.vault.disk) (state_of store.snapshots).cursors s.table.keys s.next_group c d) → Comes c z.groups passed rows) (over : Bool) (over_is : over ≡ (length rows == 0))
+      (cursors : Vec OpenCursor Global) (items_are : cursors.items ≡ moved_at n passed over store.cursors.items) (answer : Answer) (made : answer ≡ next_answer (batches_with c.places.items rows)) where
     abbrev next : Cursor
     next = after_fetch seen.0.batches
 
@@ -230,14 +221,14 @@ module _ {D : Type 0} (state : D → DiskState) (store : Store D) (n : ℕ) (is_
     one_open : (a : Option Cursor) (x y : Cursor) → a ≡ Some x → a ≡ Some y → x ≡ y
     one_open a x y e g = let both : Some x ≡ Some y = sym e ∙ g in cc
 
-    turn : (x : OpenCursor) (d : ℕ × Cursor) → open_at n s.cursors ≡ Some d.1 → x.number ≡ n → cursor_at n store.cursors.items ≡ Some x → Before x d → Later (moved r.passed over x) (n, next)
+    turn : (x : OpenCursor) (d : ℕ × Cursor) → open_at n s.cursors ≡ Some d.1 → x.number ≡ n → cursor_at n store.cursors.items ≡ Some x → Before x d → Later (moved passed over x) (n, next)
     turn x d o is there z =
-        let comes_so : (e : ℕ × Cursor) (y : Before x e) → Comes x y.groups r = subst (λ (w : OpenCursor). (e : ℕ × Cursor) (y : Before w e) → Comes w y.groups r) (one_cursor (cursor_at n store.cursors.items) c x at there) comes in
-        shown_moved (state store.vault.disk) (state vault.disk) leaves (state_of store.snapshots).cursors s.table.keys s.next_group x d z n is r (comes_so d z) over over_is next
+        let comes_so : (e : ℕ × Cursor) (y : Before x e) → Comes x y.groups passed rows = subst (λ (w : OpenCursor). (e : ℕ × Cursor) (y : Before w e) → Comes w y.groups passed rows) (one_cursor (cursor_at n store.cursors.items) c x at there) comes in
+        shown_moved (state store.vault.disk) (state vault.disk) leaves (state_of store.snapshots).cursors s.table.keys s.next_group x d z n is passed rows (comes_so d z) over over_is next
         (ap (λ (e : Cursor). after_fetch e.batches) (one_open (open_at n s.cursors) seen.0 d.1 seen.1 o))
 
-    zipped : AllZip Later (moved_at n r.passed over store.cursors.items) (changed_at n next s.cursors)
-    zipped = zip_moved n r.passed over Before Later (λ x d z. z.number) (shown_left (state store.vault.disk) (state vault.disk) leaves (state_of store.snapshots).cursors s.table.keys s.next_group) next store.cursors.items s.cursors
+    zipped : AllZip Later (moved_at n passed over store.cursors.items) (changed_at n next s.cursors)
+    zipped = zip_moved n passed over Before Later (λ x d z. z.number) (shown_left (state store.vault.disk) (state vault.disk) leaves (state_of store.snapshots).cursors s.table.keys s.next_group) next store.cursors.items s.cursors
         (fetching_here state store n is_open s stands).cursors (fetching_here state store n is_open s stands).numbered_cursors.distinct turn
 
     still_here : Clears state store (record store { vault = vault }) s
@@ -248,36 +239,41 @@ module _ {D : Type 0} (state : D → DiskState) (store : Store D) (n : ℕ) (is_
       jobs = h.jobs;
       cursors = subst (λ (xs : List OpenCursor). AllZip Later xs (changed_at n next s.cursors)) (sym items_are) zipped;
       tracks_jobs = h.tracks_jobs;
-      tracks_cursors = h.tracks_cursors ∙ ap (λ (ns : List ℕ). reverse ns) (sym (ap (λ (xs : List OpenCursor). cursor_numbers xs) items_are ∙ numbers_moved n r.passed over store.cursors.items));
+      tracks_cursors = h.tracks_cursors ∙ ap (λ (ns : List ℕ). reverse ns) (sym (ap (λ (xs : List OpenCursor). cursor_numbers xs) items_are ∙ numbers_moved n passed over store.cursors.items));
       numbered_jobs = h.numbered_jobs;
       numbered_cursors = subst (λ (ns : List ℕ). AreNumbered s.next_cursor ns) (sym (numbers_changed n next s.cursors)) h.numbered_cursors;
       parted = h.parted;
       files = h.files;
     }
 
-    batches_are : seen.0.batches ≡ batches_with c.places.items (rows_view r.rows.items) ++ batches_from c seen.2.groups r.passed
+    batches_are : seen.0.batches ≡ batches_with c.places.items rows ++ batches_from c seen.2.groups passed
     batches_are = seen.2.batches ∙ (comes (n, seen.0) seen.2).batches
 
-    answer_so : fetched_view f ≡ next_answer seen.0.batches
-    answer_so = made ∙ answer_is c.places.items r.rows.items (batches_from c seen.2.groups r.passed) (comes (n, seen.0) seen.2).none ∙ ap next_answer (sym batches_are)
+    answer_so : answer ≡ next_answer seen.0.batches
+    answer_so = made ∙ answer_is c.places.items rows (batches_from c seen.2.groups passed) (comes (n, seen.0) seen.2).none ∙ ap next_answer (sym batches_are)
 
-    fetches : Fetches s n (fetched_view f) after
+    fetches : Fetches s n answer after
     fetches = record { cursor = seen.0; is_open = seen.1; gives = answer_so; becomes = refl }
 
     unrefused : fault s (fetch n) ≡ None
     unrefused = fault_is state store n is_open s stands (Some seen.0) seen.1
 
-    happens_so : (x : Fetched) → Fetches s n (fetched_view x) after → Happens s (fetch n) (fetched_view x) after
-    happens_so (fetched.Batch b) h = (unrefused, h)
-    happens_so fetched.End h = (unrefused, h)
+    next_happens : (places : List ℕ) (given : List Row) → Fetches s n (next_answer (batches_with places given)) after → Happens s (fetch n) (next_answer (batches_with places given)) after
+    next_happens places [] h = (unrefused, h)
+    next_happens places (row ∷ given) h = (unrefused, h)
 
-    pub went : ActsFrom state store (record store { vault = vault; cursors = cursors }) (fetch n) (fetched_view f) s
+    happens_so : Happens s (fetch n) answer after
+    happens_so =
+        subst (λ (a : Answer). Happens s (fetch n) a after) (sym made)
+        (next_happens c.places.items rows (subst (λ (a : Answer). Fetches s n a after) made fetches))
+
+    pub went : ActsFrom state store (record store { vault = vault; cursors = cursors }) (fetch n) answer s
     went = record {
       after = after;
-      happens = happens_so f fetches;
+      happens = happens_so;
       survives = record { later = still_here.survives.later; each = still_here.survives.each; ended = still_here.survives.ended };
       stands = record {
-        reached = reached_on s stands.reached (fetch n) (fetched_view f) after (happens_so f fetches);
+        reached = reached_on s stands.reached (fetch n) answer after happens_so;
         shows = shows_open state (record store { vault = vault }) s still_here.shows open_here_so store.snapshots store.jobs cursors store.next_job store.next_cursor s.next_job s.next_cursor s.jobs (changed_at n next s.cursors) refl
             stands.shows.next_job stands.shows.next_cursor open_then;
       };
@@ -299,24 +295,24 @@ module _ {D : Type 0} (state : D → DiskState) (store : Store D) (n : ℕ) (c :
   not_none : cursor_at n store.cursors.items ≡ None → ⊥
   not_none e = let both : None ≡ Some c = sym e ∙ at in cc
 
-  pub reads_over : FetchReads {T = Fetched} state store store n (Ok fetched.End)
-  reads_over = record { same = refl; goes = λ d version o e sees. (d, e, refl, goes_nowhere d version (state store.vault.disk)); none = λ e. refl }
+  pub reads_over : {T : Type 0} (answer : T) → FetchReads state store store n (Ok answer)
+  reads_over answer = record { same = refl; goes = λ d version o e sees. (d, e, refl, goes_nowhere d version (state store.vault.disk)); none = λ e. refl }
 
-  pub reads_went : (vault : Vault D) (cursors : Vec OpenCursor Global) (r : Reached) (over : Bool) (f : Fetched) → cursors.items ≡ moved_at n r.passed over store.cursors.items
-      → ((version : List FileGroup) → AreKeys (root_of c.table).keys (root_of c.table).schema → versions_at c.number (state_of store.snapshots).cursors ≡ Some version → GoesTo c version r.passed (state store.vault.disk) (state vault.disk))
-      → FetchReads {T = Fetched} state store (record store { vault = vault; cursors = cursors }) n (Ok f)
-  reads_went vault cursors r over f items goes = record {
+  pub reads_went : {T : Type 0} (vault : Vault D) (cursors : Vec OpenCursor Global) (passed : ℕ) (over : Bool) (answer : T) → cursors.items ≡ moved_at n passed over store.cursors.items
+      → ((version : List FileGroup) → AreKeys (root_of c.table).keys (root_of c.table).schema → versions_at c.number (state_of store.snapshots).cursors ≡ Some version → GoesTo c version passed (state store.vault.disk) (state vault.disk))
+      → FetchReads state store (record store { vault = vault; cursors = cursors }) n (Ok answer)
+  reads_went {T} vault cursors passed over answer items goes = record {
     same = refl;
-    goes = λ d version o e sees. subst (λ (x : OpenCursor). Sees store x version → Went {T = Fetched} state store (record store { vault = vault; cursors = cursors }) n x version (Ok f)) (found_one d e)
-        (λ see. (moved r.passed over c, ap (cursor_at n) items ∙ moved_found n r.passed over store.cursors.items c at, refl, goes version see.keys see.held)) sees;
+    goes = λ d version o e sees. subst (λ (x : OpenCursor). Sees store x version → Went {T = T} state store (record store { vault = vault; cursors = cursors }) n x version (Ok answer)) (found_one d e)
+        (λ see. (moved passed over c, ap (cursor_at n) items ∙ moved_found n passed over store.cursors.items c at, refl, goes version see.keys see.held)) sees;
     none = λ e. absurd (not_none e);
   }
 
-  pub reads_stopped : (vault : Vault D) (e : Refusal) → ((version : List FileGroup) → AreKeys (root_of c.table).keys (root_of c.table).schema → versions_at c.number (state_of store.snapshots).cursors ≡ Some version → (to : ℕ) × GoesTo c version to (state store.vault.disk) (state vault.disk))
-      → FetchReads {T = Fetched} state store (record store { vault = vault }) n (Err e)
-  reads_stopped vault e goes = record {
+  pub reads_stopped : {T : Type 0} (vault : Vault D) (e : Refusal) → ((version : List FileGroup) → AreKeys (root_of c.table).keys (root_of c.table).schema → versions_at c.number (state_of store.snapshots).cursors ≡ Some version → (to : ℕ) × GoesTo c version to (state store.vault.disk) (state vault.disk))
+      → FetchReads {T = T} state store (record store { vault = vault }) n (Err e)
+  reads_stopped {T} vault e goes = record {
     same = refl;
-    goes = λ d version o g sees. subst (λ (x : OpenCursor). Sees store x version → Went {T = Fetched} state store (record store { vault = vault }) n x version (Err e)) (found_one d g) (λ see. (at, goes version see.keys see.held)) sees;
+    goes = λ d version o g sees. subst (λ (x : OpenCursor). Sees store x version → Went {T = T} state store (record store { vault = vault }) n x version (Err e)) (found_one d g) (λ see. (at, goes version see.keys see.held)) sees;
     none = λ g. absurd (not_none g);
   }
 

@@ -1,14 +1,11 @@
 -- A cursor that goes from group to group.
 use Rattle.std.proofs.Common.{◌≡◌, ◌≤◌, ◌<◌, ◌+◌, ◌-◌, ℕ, zero, suc, Bool, true, false, nat_lt, ◌==◌, List, [], ◌∷◌, ◌++◌, map, filter, drop, length, Option, Some, None, Ok, refl, sym, ◌∙◌, ap, subst, arith}
-use Rattle.std.specs.Prelude.{if◌then◌else◌, slice_get, Vec}
-use Rattle.std.specs.declared.alloc.Global.{Global}
+use Rattle.std.specs.Prelude.{if◌then◌else◌, slice_get, is_some}
 use Rattle.std.specs.List.{AllByRecursion}
-use Rattle.std.proofs.lemmas.Bool.{eqb-true, lt-ltb}
-use Rattle.schema.specs.declared.row.Row.{Row as CodeRow}
+use Rattle.std.proofs.lemmas.Bool.{eqb-true, lt-ltb, false≢true}
 use Rattle.schema.specs.Values.{ValueTrees}
 use Rattle.schema.specs.Shape.{Fields, count as count_fields}
 use Rattle.schema.specs.Keys.{KeyColumn, AreKeys, without_keys, width}
-use Rattle.schema.specs.Views.{rows_view}
 use Rattle.disk.specs.State.{State as DiskState}
 use Rattle.vault.specs.Views.{Same}
 use Rattle.vault.proofs.Moments.{kept_on}
@@ -17,16 +14,16 @@ use Rattle.filter.specs.Test.{Test, tests_in}
 use Rattle.filter.specs.Deciding.{satisfies as all_satisfied}
 use Rattle.manifest.specs.Groups.{Group as FileGroup, Root, root_of}
 use Rattle.manifest.specs.Records.{IsGroup}
+use Rattle.scan.specs.declared.group_rows.GroupRows.{GroupRows}
 use Rattle.scan.specs.Selected.{IsOver, Holds, AreSelected, cut_to}
 use Rattle.snapshots.specs.State.{State as Versions, open_at, group_in, version_at}
 use Rattle.table.specs.Table.{Row, Group}
 use Rattle.table.specs.Cursors.{Cursor, cut, batches_of}
 use Rattle.table.proofs.Deciding.{tests_decide}
 use Rattle.store.specs.declared.jobs.OpenCursor.{OpenCursor}
-use Rattle.store.specs.declared.passing.Reached.{Reached}
 use Rattle.store.specs.Stands.{IsStored, AreStored, ShowsCursor}
 use Rattle.store.specs.Reading.{OnlyReads, ReadsFor, IsReading}
-use Rattle.store.specs.Passing.{GoesTo, Comes, batches_with, batches_from}
+use Rattle.store.specs.Passing.{AreReached, GoesTo, Comes, batches_with, batches_from}
 use Rattle.store.proofs.CutRows.{cut_each, all_wide}
 use Rattle.store.proofs.Passed.{reading_here, reading_on, from_then, one_from, goes_nowhere}
 use Rattle.store.proofs.Buffered.{drop_all}
@@ -44,8 +41,14 @@ pub no_rows : {A : Type 0} (xs : List A) → (length xs == 0) ≡ true → xs �
 no_rows [] e = refl
 no_rows (x ∷ xs) e = let z = eqb-true (length (x ∷ xs)) 0 e in absurd (omega (arith, z))
 
-pub some_rows : {A : Type 0} (xs : List A) → (length xs == 0) ≡ false → xs ≡ [] → ⊥
-some_rows xs e f = let c : true ≡ false = sym (ap (λ (ys : List _). length ys == 0) f) ∙ e in cc
+-- rows are reached where something was read
+pub some_reached : (read : Option GroupRows) (rows : List Row) → is_some read ≡ true → AreReached read rows → rows ≡ [] → ⊥
+some_reached None rows e are none = false≢true e
+some_reached (Some g) rows e are none = are.1 none
+
+pub none_reached : (read : Option GroupRows) (rows : List Row) → is_some read ≡ false → AreReached read rows → rows ≡ []
+none_reached None rows e are = are
+none_reached (Some g) rows e are = absurd (false≢true (sym e))
 
 -- ---- the group at a place
 
@@ -173,36 +176,36 @@ module _ (old : DiskState) (versions : Versions) (c : OpenCursor) where
 
     -- ---- the loop's exits
 
-    module _ (q : ℕ) (q_is : q ≡ suc p) (out : Vec CodeRow Global) (reads : (g : FileGroup) → AreKeys root.keys root.schema → there_at p ≡ Some g → ReadsFor tests root.keys root.schema places g mid new) (there : there_at p ≡ None → ⊥)
-        (effect : OnlyReads {T = Vec CodeRow Global} mid new (Ok out))
-        (stands : mid.honest → IsOver tests root.schema → AreKeys root.keys root.schema → (g : FileGroup) (rows : List ValueTrees) → there_at p ≡ Some g → Holds mid root.keys root.schema g rows → AreSelected tests places rows (rows_view out.items))
+    module _ (q : ℕ) (q_is : q ≡ suc p) (read : Option GroupRows) (out : List Row) (reads : (g : FileGroup) → AreKeys root.keys root.schema → there_at p ≡ Some g → ReadsFor tests root.keys root.schema places g mid new) (there : there_at p ≡ None → ⊥)
+        (effect : OnlyReads {T = Option GroupRows} mid new (Ok read))
+        (stands : mid.honest → IsOver tests root.schema → AreKeys root.keys root.schema → (g : FileGroup) (rows : List ValueTrees) → there_at p ≡ Some g → Holds mid root.keys root.schema g rows → AreSelected tests places rows out)
         (low : p < length root.groups) where
       pub goes_past : (version : List FileGroup) → AreKeys root.keys root.schema → open_at c.number versions.cursors ≡ Some version → GoesTo c version q old new
       goes_past version k e = subst (λ (n : ℕ). GoesTo c version n old new) (sym q_is) (went_on reads there version k e)
 
       pub read_on : IsReading old new
-      read_on = reading_on old mid new out so_far.read effect
+      read_on = reading_on old mid new read so_far.read effect
 
-      gives : (honest : old.honest) (keys : List KeyColumn) (count : ℕ) (d : ℕ × Cursor) (z : ShowsCursor old versions.cursors keys count c d) → batches_from c z.groups c.passed ≡ batches_with places (rows_view out.items) ++ batches_from c z.groups q
-      gives honest keys count d z = subst (λ (n : ℕ). batches_from c z.groups c.passed ≡ batches_with places (rows_view out.items) ++ batches_from c z.groups n) (sym q_is)
-          (passes_one honest keys count d z low (rows_view out.items)
+      gives : (honest : old.honest) (keys : List KeyColumn) (count : ℕ) (d : ℕ × Cursor) (z : ShowsCursor old versions.cursors keys count c d) → batches_from c z.groups c.passed ≡ batches_with places out ++ batches_from c z.groups q
+      gives honest keys count d z = subst (λ (n : ℕ). batches_from c z.groups c.passed ≡ batches_with places out ++ batches_from c z.groups n) (sym q_is)
+          (passes_one honest keys count d z low out
           (stands (so_far.read.honest.0 honest) (over honest keys count d z low) (can honest keys count d z low) (file honest keys count d z low) (group honest keys count d z low).rows (is_there honest keys count d z low) (held honest keys count d z low)))
 
-      pub passes_over : out.items ≡ [] → Going q new
+      pub passes_over : out ≡ [] → Going q new
       passes_over none = record {
         read = read_on;
         goes = goes_past;
-        none = λ honest keys count d z. gives honest keys count d z ∙ ap (λ (rs : List CodeRow). batches_with places (rows_view rs) ++ batches_from c z.groups q) none;
+        none = λ honest keys count d z. gives honest keys count d z ∙ ap (λ (rs : List Row). batches_with places rs ++ batches_from c z.groups q) none;
       }
 
-      pub comes_to : (out.items ≡ [] → ⊥) → (honest : old.honest) (keys : List KeyColumn) (count : ℕ) (d : ℕ × Cursor) (z : ShowsCursor old versions.cursors keys count c d) → Comes c z.groups (record { passed = q; rows = out })
+      pub comes_to : (out ≡ [] → ⊥) → (honest : old.honest) (keys : List KeyColumn) (count : ℕ) (d : ℕ × Cursor) (z : ShowsCursor old versions.cursors keys count c d) → Comes c z.groups q out
       comes_to some honest keys count d z = record { batches = gives honest keys count d z; none = λ e. absurd (some e) }
 
   -- ---- the end
 
   pub none_left : (p : ℕ) (now : DiskState) → Going p now → old.honest → (keys : List KeyColumn) (count : ℕ) (d : ℕ × Cursor) (z : ShowsCursor old versions.cursors keys count c d) → length root.groups ≤ p
-      → (r : Reached) → r.rows.items ≡ [] → r.passed ≡ p → Comes c z.groups r
-  none_left p now so_far honest keys count d z le r none same = record {
-    batches = so_far.none honest keys count d z ∙ ap (batches_from c z.groups) (sym same) ∙ sym (ap (λ (rs : List CodeRow). batches_with places (rows_view rs) ++ batches_from c z.groups r.passed) none);
+      → (passed : ℕ) (rows : List Row) → rows ≡ [] → passed ≡ p → Comes c z.groups passed rows
+  none_left p now so_far honest keys count d z le passed rows none same = record {
+    batches = so_far.none honest keys count d z ∙ ap (batches_from c z.groups) (sym same) ∙ sym (ap (λ (rs : List Row). batches_with places rs ++ batches_from c z.groups passed) none);
     none = λ e. ap (batches_from c z.groups) same ∙ ap (λ (gs : List Group). batches_of (all_satisfied tests) places gs) (drop_all z.groups p (let m = as_many old keys root.schema count root.groups z.groups z.stored in omega (arith, le, m)));
   }

@@ -1,6 +1,8 @@
 pub mod Spared
 pub mod InUse
 pub mod Stored
+pub mod Gathering
+mod Gathered
 pub mod LeftJobs
 pub mod Sound
 pub mod Carried
@@ -61,6 +63,8 @@ pub mod Loading
 pub mod Filled
 pub mod Rests
 pub mod Taken
+pub mod Following
+pub mod Advancing
 pub mod Appended
 pub mod Imported
 pub mod Widened
@@ -106,3 +110,4 @@ pub mod RewriteDone
 pub mod RunByRun
 pub mod Idle
 pub mod FreePaths
+pub mod Shown

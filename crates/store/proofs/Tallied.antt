@@ -10,11 +10,9 @@ use Rattle.manifest.specs.declared.block.Block.{Block}
 use Rattle.bits.specs.declared.refusal.Refusal.{Refusal}
 use Rattle.bits.specs.declared.refusal.Refusal.TheVariants.{Memory, Device}
 use Rattle.bits.specs.Refusals.{HasCause}
-use Rattle.schema.specs.declared.row.Row.{Row as CodeRow}
 use Rattle.schema.specs.Shape.{Fields}
 use Rattle.schema.specs.Stripe.{leaves_of}
 use Rattle.schema.specs.Keys.{KeyColumn, AreKeys, without_keys}
-use Rattle.schema.specs.Views.{row_view, rows_view}
 use Rattle.disk.specs.State.{State as DiskState}
 use Rattle.vault.specs.declared.vault.Vault.{Vault}
 use Rattle.vault.specs.Calls.{LeavesAll}
@@ -49,10 +47,10 @@ use Rattle.store.proofs.Counted.{fault_is}
 pub held_there : (disk : DiskState) (tests : List (List Test)) (root : Root) (f : FileGroup) (g : Group) → IsHeld disk tests root f g → Holds disk root.keys root.schema f g.rows
 held_there disk tests root f g h = record { bytes = h.stored.0.bytes; is = h.described.0; kept = h.stored.0.kept; means = h.stored.0.means }
 
-pub selected_count : (tests : List (List Test)) (places : List ℕ) (g : Group) (items : List CodeRow) → AreSelected tests places g.rows (rows_view items) → length items ≡ matching tests (g ∷ [])
-selected_count tests places g items are =
-    let selected = are (all_satisfied tests) (tests_decide tests) in
-    sym (length-map items row_view) ∙ ap (λ (rs : List Row). length rs) selected ∙ length-map (filter (all_satisfied tests) g.rows) (cut_to places)
+-- how many rows were selected
+pub selected_count : (tests : List (List Test)) (places : List ℕ) (g : Group) (out : List Row) → AreSelected tests places g.rows out → length out ≡ matching tests (g ∷ [])
+selected_count tests places g out are =
+    ap (λ (rs : List Row). length rs) (are (all_satisfied tests) (tests_decide tests)) ∙ length-map (filter (all_satisfied tests) g.rows) (cut_to places)
     ∙ ap (λ (rs : List Row). length (filter (all_satisfied tests) rs)) (sym (append-nil g.rows))
 
 -- ---- side by side

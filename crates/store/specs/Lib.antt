@@ -24,6 +24,7 @@ pub mod Restarting
 pub mod Prefixes
 pub mod Buffers
 pub mod Filling
+pub mod Gathering
 pub mod Widening
 pub mod Staging
 pub mod Reading
@@ -33,3 +34,4 @@ pub mod Completing
 pub mod Stepping
 pub mod Removing
 pub mod Rewritten
+pub mod Shown

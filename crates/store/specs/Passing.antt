@@ -1,14 +1,15 @@
 -- Which groups a cursor passes, what it comes to, and how often it reads for them.
-use Rattle.std.specs.Prelude.{◌≡◌, ◌≤◌, ◌+◌, ◌-◌, ℕ, Bool, if◌then◌else◌, ◌==◌, List, [], ◌∷◌, ◌++◌, drop, length, Some, None, false, Result, Ok, Err}
+use Rattle.std.specs.Prelude.{◌≡◌, ◌≢◌, ◌≤◌, ◌+◌, ◌-◌, ℕ, Bool, if◌then◌else◌, ◌==◌, List, [], ◌∷◌, ◌++◌, drop, length, Option, Some, None, false, Result, Ok, Err}
 use Rattle.bits.specs.declared.refusal.Refusal.{Refusal}
 use Rattle.schema.specs.Shape.{Fields}
 use Rattle.schema.specs.Keys.{KeyColumn, AreKeys}
-use Rattle.schema.specs.Views.{rows_view}
 use Rattle.disk.specs.State.{State as DiskState}
 use Rattle.filter.specs.Test.{Test, tests_in}
 use Rattle.filter.specs.Deciding.{satisfies as all_satisfied}
 use Rattle.manifest.specs.Groups.{Group as FileGroup, root_of}
+use Rattle.scan.specs.declared.group_rows.GroupRows.{GroupRows}
 use Rattle.scan.specs.Cost.{chunks_read}
+use Rattle.scan.specs.Left.{rows_held}
 use Rattle.scan.specs.Selected.{IsRuledOut}
 use Rattle.snapshots.specs.State.{open_at}
 use Rattle.snapshots.specs.Views.{state_of}
@@ -31,11 +32,16 @@ batches_with places (row ∷ rows) = record { places = places; rows = row ∷ ro
 abbrev pub batches_from : OpenCursor → List Group → ℕ → List Batch
 batches_from c groups from = batches_of (all_satisfied (tests_in c.filter)) c.places.items (drop from groups)
 
--- These rows are the next batch, and the others are those of the groups that are not passed then; where there are no rows,
--- none is left.
-pub record Comes (c : OpenCursor) (groups : List Group) (r : Reached) : Type 0 where
-  pub batches : batches_from c groups c.passed ≡ batches_with c.places.items (rows_view r.rows.items) ++ batches_from c groups r.passed
-  pub none : r.rows.items ≡ [] → batches_from c groups r.passed ≡ []
+-- the rows that a cursor comes to: those that were read and accepted, of which there is one, or none
+abbrev pub AreReached : Option GroupRows → List Row → Type 0
+AreReached None rows = rows ≡ []
+AreReached (Some g) rows = rows_held g rows × (rows ≢ [])
+
+-- A cursor has passed so many groups. These rows are the next batch, and the others are those of the groups that are not passed
+-- then; where there are no rows, none is left.
+pub record Comes (c : OpenCursor) (groups : List Group) (passed : ℕ) (rows : List Row) : Type 0 where
+  pub batches : batches_from c groups c.passed ≡ batches_with c.places.items rows ++ batches_from c groups passed
+  pub none : rows ≡ [] → batches_from c groups passed ≡ []
 
 -- a cursor that passed so many groups, and has answered its end or not
 abbrev pub moved : ℕ → Bool → OpenCursor → OpenCursor

@@ -28,7 +28,7 @@ pub(crate) fn can_open(count: usize, most: usize, next: u64) -> bool
 
 impl<D: Disk> Store<D> {
     /// The table's description, shared.
-    pub(crate) fn description(&self) -> R<Manifest>
+    pub fn description(&self) -> R<Manifest>
         ensures same { IfOk result (λ m. root_of m ≡ root_of self.now.manifest) }
         ensures which { RefusedMemoryOnly result }
     {

@@ -15,6 +15,7 @@ use bits::{R, Refusal};
 use disk::Disk;
 use filter::{Filter, Term};
 use manifest::{Group, Manifest};
+use scan::GroupRows;
 use std::alloc::Global;
 use std::rc::Rc;
 use vault::Vault;
@@ -96,7 +97,7 @@ fn count_in<D: Disk>(
     Ok(found)
 }
 
-/// How many rows of this group satisfy.
+/// How many rows of this group satisfy. None of them is made.
 fn count_at<D: Disk>(
     alloc: Global,
     vault: &mut Vault<D>,
@@ -110,7 +111,7 @@ fn count_at<D: Disk>(
         → RefusedOnly IsDevice result }
     ensures effect { OnlyReads (D.state vault.old.disk) (D.state vault.new.disk) result }
 {
-    let rows = scan::rows_of(
+    let found = GroupRows::read(
         alloc,
         vault,
         table.schema(),
@@ -119,7 +120,10 @@ fn count_at<D: Disk>(
         filter,
         &[],
     )?;
-    Ok(rows.as_slice().len() as u64)
+    match found {
+        None => Ok(0),
+        Some(rows) => Ok(rows.selected_count()),
+    }
 }
 
 /// The sum of two counts. Refused where a u64 does not count it.

@@ -28,31 +28,7 @@ impl<D: Disk> Store<D> {
     ghost use Rattle.store.specs.Promises.{IsSure};
     ghost use Rattle.store.specs.Stands.{Shows};
     ghost use Rattle.store.specs.Writing.{IsPartRefusal};
-    ghost use Rattle.store.specs.Filling.{HasWritten, Adds, Filled, Takes, Ends, AreFine, written_group, EndsWith, Goes};
-
-    /// Writes rows as groups, for a job or for none: each key's rows in order, a full group as soon as its last row comes,
-    /// and at the end the rest of each key, keys ascending. Gives the groups in the order of their numbers.
-    ///
-    /// Time is linear in the rows, but for finding each row's key.
-    pub(crate) fn write_rows(
-        &mut self,
-        alloc: Global,
-        job: Option<JobId>,
-        rows: &[Row],
-    ) -> R<Vec<Rc<Group>>>
-        ensures writes { (D.state self.old.vault.disk).honest → (start : Store D) (s : State) → s.closed ≡ false → AreFine s (rows_view rows.now) → HasWritten D.state start self.old s job [] [] → self.old.next_group ≡ s.next_group
-            → EndsWith D.state start self.new s job (rows_view rows.now) result }
-        ensures same { self.new ≡ record self.old { vault = self.new.vault; snapshots = self.new.snapshots; next_group = self.new.next_group } }
-        ensures sure { IsSure result }
-        ensures counts { (D.state self.old.vault.disk).failures ≤ (D.state self.new.vault.disk).failures }
-        ensures honest { (D.state self.old.vault.disk).honest ↔ (D.state self.new.vault.disk).honest }
-    {
-        let mut written = Vec::new(alloc);
-        let mut waiting = Vec::new(alloc);
-        self.take_rows(alloc, job, &mut written, &mut waiting, rows)?;
-        self.write_rest(alloc, job, &mut written, waiting.as_slice())?;
-        Ok(written)
-    }
+    ghost use Rattle.store.specs.Filling.{HasWritten, Adds, Filled, Takes, Ends, AreFine, written_group, Goes};
 
     /// Takes rows, one by one: copies of them wait under their keys, till they fill a group.
     pub(crate) fn take_rows(

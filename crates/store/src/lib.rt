@@ -7,8 +7,10 @@
 
 mod append_work;
 mod appending;
+mod appending_gathered;
 mod beginning;
 mod bringing;
+mod buffered_part;
 mod buffers;
 mod checks;
 mod cleaning;
@@ -23,6 +25,7 @@ mod cutting;
 mod dropping;
 mod ending;
 mod filling;
+mod gathered_rows;
 mod importing;
 mod jobs;
 mod keeping;
@@ -53,9 +56,11 @@ mod turn;
 mod wanted;
 mod widening;
 
+pub use gathered_rows::begin_gathering;
 pub use jobs::{Appending, OpenCursor, OpenJob, Rewriting, Work};
 pub use laws::{heavy_roots_are_too_much, new_files_are_free, paths_are_apart};
 pub use opening::{create, open, open_to_read};
+pub use passing::FetchedRows;
 pub use reading_once::{fetches_follow, queries_read_once};
 pub use restart::{a_crash_leaves_a_prefix_of_the_commits, a_table_can_be_opened_again};
 pub use store::Store;
