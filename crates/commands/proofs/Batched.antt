@@ -1,39 +1,39 @@
--- What is printed of the batches that a cursor gives, one after another.
-use Rattle.std.proofs.Common.{◌≡◌, ℕ, ◌+◌, Bool, true, ◌==◌, List, [], ◌∷◌, ◌++◌, flat_map, length, Option, Result, OnOk, if◌then◌else◌, refl, sym, ◌∙◌, ap, subst, append_assoc, arith}
+-- What is done with the batches that a cursor gives, one after another.
+use Rattle.std.proofs.Common.{◌≡◌, ◌⊎◌, ℕ, ◌+◌, Bool, true, ◌==◌, List, [], ◌∷◌, ◌++◌, length, Option, Some, None, Result, Ok, OnOk, if◌then◌else◌, refl, sym, ◌∙◌, ap, subst, append_assoc, arith, inl, inr}
 use Rattle.std.specs.List.{list_all}
-use Rattle.std.specs.Io.KnownBytes.{Appends}
-use Rattle.std.proofs.KnownBytes.{Appends-trans, Appends-nil}
 use Rattle.std.proofs.lemmas.Bool.{eq-eqb}
 use Rattle.std.proofs.lemmas.List.{append-nil, length-append}
 use Rattle.std.proofs.lemmas.Grind.{flat_map-append}
 use Rattle.bits.specs.declared.refusal.Refusal.{Refusal}
 use Rattle.schema.specs.Shape.{Fields}
+use Rattle.schema.specs.Values.{ValueTrees}
 use Rattle.schema.specs.Fits.{RowsFit}
 use Rattle.disk.specs.State.{State as DiskState}
-use Rattle.table.specs.Table.{Table}
 use Rattle.table.specs.Deciding.{Filter}
 use Rattle.table.specs.Cursors.{Batch, Columns, batches}
 use Rattle.table.specs.State.{State}
 use Rattle.table.specs.Calls.{Call, query, fetch, close, Answer, cursor, batch, ended}
-use Rattle.table.specs.Refusing.{Happens, Run}
-use Rattle.table.specs.Queries.{given, given_by, leaves_open, FinishedQueriesGiveAll}
+use Rattle.table.specs.Refusing.{Run}
+use Rattle.table.specs.Queries.{given, given_by, leaves_open, QueriesGiveABeginning, FinishedQueriesGiveAll}
 use Rattle.store.specs.declared.store.Store.{Store}
 use Rattle.store.specs.Stands.{Stands}
 use Rattle.store.specs.Promises.{ActsFrom}
-use Rattle.commands.specs.Querying.{fields_at, batch_lines, query_lines, only_reads, ActsOn, OnlyReads}
-use Rattle.commands.specs.inner.Batches.{AreFetches, AreFitting, PrintsBatches, HasPrinted, PrintsAll, PrintsLeft}
+use Rattle.store.specs.Shown.{IsShownAs}
+use Rattle.store.specs.declared.passing.FetchedRows.{FetchedRows}
+use Rattle.scan.specs.Left.{rows_held}
+use Rattle.commands.specs.Querying.{only_reads, ActsOn, OnlyReads}
+use Rattle.commands.specs.QueryFile.{query_rows, first_of}
+use Rattle.commands.specs.inner.Batches.{AreFetches}
+use Rattle.commands.specs.inner.Fetched.{HasFetched, FetchesUpTo, FetchesFirst, rows_of_each, WhereFitting, AreEnough}
 use Rattle.commands.proofs.OneByOne.{one_made, one_before, one_behind, history}
-use Rattle.commands.proofs.Selected.{lines_of_query, batches_fit}
+use Rattle.commands.proofs.Selected.{rows_of_query, front_fits}
+use Rattle.commands.proofs.FirstOf.{first_enough}
 
 -- ---- fetches
 
 pub fetches_more : (n : ℕ) (calls : List Call) → AreFetches n calls → AreFetches n (calls ++ fetch n ∷ [])
 fetches_more n [] all = (refl, tt)
 fetches_more n (c ∷ calls) all = (all.0, fetches_more n calls all.1)
-
-pub fetches_front : (n : ℕ) (calls : List Call) → AreFetches n (calls ++ fetch n ∷ []) → AreFetches n calls
-fetches_front n [] all = tt
-fetches_front n (c ∷ calls) all = (all.0, fetches_front n calls all.1)
 
 pub leave_open : (n : ℕ) (calls : List Call) → AreFetches n calls → list_all (leaves_open n) calls ≡ true
 leave_open n [] all = refl
@@ -60,54 +60,52 @@ same_number n = eq-eqb n n refl
 pub one_given : (n : ℕ) (calls : List Call) (answers : List Answer) (b : Batch) → length calls ≡ length answers → given n (calls ++ fetch n ∷ []) (answers ++ batch b ∷ []) ≡ given n calls answers ++ b ∷ []
 one_given n calls answers b e = given_more n calls answers (fetch n) (batch b) e ∙ ap (λ (own : Bool). given n calls answers ++ (if own then b ∷ [] else [])) (same_number n)
 
--- ---- lines
+-- ---- rows that were fetched and not made
 
-pub front_fits : (schema : Fields) (bs : List Batch) (b : Batch) → AreFitting schema (bs ++ b ∷ []) → AreFitting schema bs
-front_fits schema [] b all = tt
-front_fits schema (c ∷ bs) b all = (all.0, front_fits schema bs b all.1)
+-- they are the rows of the batch that is answered
+pub rows_fetched : (fetched : Option FetchedRows) (f : FetchedRows) → fetched ≡ Some f → (answer : Answer) × IsShownAs (Ok fetched) answer
+    → (rows : List ValueTrees) × rows_held f.rows rows × IsShownAs (Ok fetched) (batch (record { places = f.places.items; rows = rows }))
+rows_fetched fetched f is shown =
+    let h = subst (λ (o : Option FetchedRows). IsShownAs (Ok o) shown.0) is shown.1 in
+    (h.0, h.1.0, subst (λ (a : Answer). IsShownAs (Ok fetched) a) h.2 shown.1)
 
-pub last_fits : (schema : Fields) (bs : List Batch) (b : Batch) → AreFitting schema (bs ++ b ∷ []) → RowsFit (fields_at b.places 0 schema) b.rows
-last_fits schema [] b all = all.0
-last_fits schema (c ∷ bs) b all = last_fits schema bs b all.1
-
-printed_more : (texts : Bool) (schema : Fields) (bs : List Batch) (b : Batch) (before mid after : Option (List ℕ)) → PrintsBatches texts schema bs before mid → (RowsFit (fields_at b.places 0 schema) b.rows → Appends mid after (batch_lines texts schema b))
-    → PrintsBatches texts schema (bs ++ b ∷ []) before after
-printed_more texts schema bs b before mid after so_far one fit =
-    subst (λ (text : List ℕ). Appends before after text) (sym (flat_map-append (batch_lines texts schema) bs (b ∷ []) ∙ ap (λ text. flat_map (batch_lines texts schema) bs ++ text) (append-nil (batch_lines texts schema b))))
-    (Appends-trans before mid after (flat_map (batch_lines texts schema) bs) (batch_lines texts schema b) (so_far (front_fits schema bs b fit)) (one (last_fits schema bs b fit)))
+-- there are none
+pub none_fetched_as : (fetched : Option FetchedRows) → fetched ≡ None → IsShownAs (Ok fetched) ended
+none_fetched_as fetched is = subst (λ (o : Option FetchedRows). IsShownAs (Ok o) ended) (sym is) refl
 
 -- ---- of a store
 
-pub same_table : (n : ℕ) (b : Batch) (s t : State) → Happens s (fetch n) (batch b) t → t.table ≡ s.table
-same_table n b s t happens = ap (λ (u : State). u.table) happens.1.becomes
-
 module _ {D : Type 0} (state : D → DiskState) where
-  pub begins : (texts : Bool) (store : Store D) (n : ℕ) (before : Option (List ℕ)) (s : State) → Stands state store s → HasPrinted state texts store store n before before s
-  begins texts store n before s stands = record { calls = []; answers = []; last = s; acts = (refl, refl); as_many = refl; fetches = tt; stands = stands; schema = refl; printed = λ fit. Appends-nil before }
+  -- no call was made
+  pub nothing_read : (store : Store D) (s : State) → OnlyReads state store store s
+  nothing_read store s = record { calls = []; answers = []; last = s; acts = (refl, refl); read = refl }
 
-  -- a batch more is printed
-  pub goes_on : (texts : Bool) (old mid new : Store D) (n : ℕ) (before so_far after : Option (List ℕ)) (s : State) (has : HasPrinted state texts old mid n before so_far s) (b : Batch) (acts : ActsFrom state mid new (fetch n) (batch b) has.last)
-      → (RowsFit (fields_at b.places 0 acts.after.table.schema) b.rows → Appends so_far after (batch_lines texts acts.after.table.schema b)) → HasPrinted state texts old new n before after s
-  goes_on texts old mid new n before so_far after s has b acts one =
-      let kept : acts.after.table.schema ≡ s.table.schema = ap (λ (t : Table). t.schema) (same_table n b has.last acts.after acts.happens) ∙ has.schema in
-      let here = subst (λ (fs : Fields). RowsFit (fields_at b.places 0 fs) b.rows → Appends so_far after (batch_lines texts fs b)) kept one in
-      record {
-        calls = has.calls ++ fetch n ∷ [];
-        answers = has.answers ++ batch b ∷ [];
-        last = acts.after;
-        acts = one_behind state old mid new has.calls has.answers (fetch n) (batch b) s has.last has.acts acts;
-        as_many = many_more has.calls has.answers (fetch n) (batch b) has.as_many;
-        fetches = fetches_more n has.calls has.fetches;
-        stands = acts.stands;
-        schema = kept;
-        printed = subst (λ (bs : List Batch). PrintsBatches texts s.table.schema bs before after) (sym (one_given n has.calls has.answers b has.as_many))
-            (printed_more texts s.table.schema (given n has.calls has.answers) b before so_far after has.printed here);
-      }
+  pub begins : (store : Store D) (n : ℕ) (Done : List Batch → Type 0) (s : State) → Stands state store s → Done [] → HasFetched state store store n Done s
+  begins store n Done s stands done = record { calls = []; answers = []; last = s; acts = (refl, refl); as_many = refl; fetches = tt; stands = stands; done = done }
+
+  -- no fetch was made
+  pub none_fetched : {T : Type 0} (store : Store D) (n : ℕ) (Done Enough : List Batch → Type 0) (result : Result T Refusal) (s : State) → Stands state store s → OnOk result (FetchesUpTo n Done Enough [] [])
+      → FetchesFirst state store store n Done Enough result s
+  none_fetched store n Done Enough result s stands all = record { calls = []; answers = []; last = s; acts = (refl, refl); fetches = tt; stands = stands; all = all }
+
+  -- a batch more is there
+  pub goes_on : (old mid new : Store D) (n : ℕ) (Done Again : List Batch → Type 0) (s : State) (has : HasFetched state old mid n Done s) (b : Batch) → ActsFrom state mid new (fetch n) (batch b) has.last
+      → ((bs : List Batch) → Done bs → Again (bs ++ b ∷ [])) → HasFetched state old new n Again s
+  goes_on old mid new n Done Again s has b acts one = record {
+    calls = has.calls ++ fetch n ∷ [];
+    answers = has.answers ++ batch b ∷ [];
+    last = acts.after;
+    acts = one_behind state old mid new has.calls has.answers (fetch n) (batch b) s has.last has.acts acts;
+    as_many = many_more has.calls has.answers (fetch n) (batch b) has.as_many;
+    fetches = fetches_more n has.calls has.fetches;
+    stands = acts.stands;
+    done = subst (λ (bs : List Batch). Again bs) (sym (one_given n has.calls has.answers b has.as_many)) (one (given n has.calls has.answers) has.done);
+  }
 
   -- the last fetch
-  pub ends : {T : Type 0} (texts : Bool) (old mid new : Store D) (n : ℕ) (before so_far after : Option (List ℕ)) (result : Result T Refusal) (s : State) (has : HasPrinted state texts old mid n before so_far s) (answer : Answer)
-      (acts : ActsFrom state mid new (fetch n) answer has.last) → OnOk result (PrintsAll texts s.table.schema n (has.calls ++ fetch n ∷ []) (has.answers ++ answer ∷ []) before after) → PrintsLeft state texts old new n before after result s
-  ends texts old mid new n before so_far after result s has answer acts all = record {
+  pub ends : {T : Type 0} (old mid new : Store D) (n : ℕ) (Done Again Enough : List Batch → Type 0) (result : Result T Refusal) (s : State) (has : HasFetched state old mid n Done s) (answer : Answer)
+      (acts : ActsFrom state mid new (fetch n) answer has.last) → OnOk result (FetchesUpTo n Again Enough (has.calls ++ fetch n ∷ []) (has.answers ++ answer ∷ [])) → FetchesFirst state old new n Again Enough result s
+  ends old mid new n Done Again Enough result s has answer acts all = record {
     calls = has.calls ++ fetch n ∷ [];
     answers = has.answers ++ answer ∷ [];
     last = acts.after;
@@ -117,9 +115,42 @@ module _ {D : Type 0} (state : D → DiskState) where
     all = all;
   }
 
+  -- no fetch more is made
+  pub stops : {T : Type 0} (old new : Store D) (n : ℕ) (Done Again Enough : List Batch → Type 0) (result : Result T Refusal) (s : State) (has : HasFetched state old new n Done s) → OnOk result (FetchesUpTo n Again Enough has.calls has.answers)
+      → FetchesFirst state old new n Again Enough result s
+  stops old new n Done Again Enough result s has all = record { calls = has.calls; answers = has.answers; last = has.last; acts = has.acts; fetches = has.fetches; stands = has.stands; all = all }
+
   -- it gave the end
-  pub all_printed : (texts : Bool) (old mid : Store D) (n : ℕ) (before after : Option (List ℕ)) (s : State) (has : HasPrinted state texts old mid n before after s) → PrintsAll texts s.table.schema n (has.calls ++ fetch n ∷ []) (has.answers ++ ended ∷ []) before after
-  all_printed texts old mid n before after s has = record { front = has.calls; told = has.answers; calls_are = refl; answers_are = refl; as_many = has.as_many; printed = has.printed }
+  pub all_fetched : (old mid : Store D) (n : ℕ) (Done Again Enough : List Batch → Type 0) (s : State) (has : HasFetched state old mid n Done s) → ((bs : List Batch) → Done bs → Again bs)
+      → FetchesUpTo n Again Enough (has.calls ++ fetch n ∷ []) (has.answers ++ ended ∷ [])
+  all_fetched old mid n Done Again Enough s has so = record {
+    front = has.calls;
+    told = has.answers;
+    as_many = has.as_many;
+    fetches = has.fetches;
+    over = inl (refl, refl);
+    done = so (given n has.calls has.answers) has.done;
+  }
+
+  -- what it gave is enough
+  pub enough : (old new : Store D) (n : ℕ) (Done Again Enough : List Batch → Type 0) (s : State) (has : HasFetched state old new n Done s) → ((bs : List Batch) → Done bs → Again bs) → ((bs : List Batch) → Done bs → Enough bs)
+      → FetchesFirst {T = Unit {0}} state old new n Again Enough (Ok tt) s
+  enough old new n Done Again Enough s has so is_enough_so = record {
+    calls = has.calls;
+    answers = has.answers;
+    last = has.last;
+    acts = has.acts;
+    fetches = has.fetches;
+    stands = has.stands;
+    all = record {
+      front = has.calls;
+      told = has.answers;
+      as_many = has.as_many;
+      fetches = has.fetches;
+      over = inr (refl, refl, is_enough_so (given n has.calls has.answers) has.done);
+      done = so (given n has.calls has.answers) has.done;
+    };
+  }
 
   -- ---- a query, its fetches, and the end of its cursor
 
@@ -128,9 +159,9 @@ module _ {D : Type 0} (state : D → DiskState) where
     asked answer acts = record { calls = query terms columns ∷ []; answers = answer ∷ []; last = acts.after; acts = one_made state old mid (query terms columns) answer s acts; read = refl }
 
     module _ (n : ℕ) (acts : ActsFrom state old mid (query terms columns) (cursor n) s) where
-      pub closed : {T : Type 0} (texts : Bool) (end new : Store D) (before after : Option (List ℕ)) (result : Result T Refusal) (left : PrintsLeft state texts mid end n before after result acts.after) (answer : Answer)
+      pub closed : {T : Type 0} (end new : Store D) (Done Enough : List Batch → Type 0) (result : Result T Refusal) (left : FetchesFirst state mid end n Done Enough result acts.after) (answer : Answer)
           → ActsFrom state end new (close n) answer left.last → OnlyReads state old new s
-      closed texts end new before after result left answer closing = record {
+      closed end new Done Enough result left answer closing = record {
         calls = query terms columns ∷ left.calls ++ close n ∷ [];
         answers = cursor n ∷ left.answers ++ answer ∷ [];
         last = closing.after;
@@ -139,15 +170,36 @@ module _ {D : Type 0} (state : D → DiskState) where
         read = closed_read n left.calls left.fetches;
       }
 
-      pub rows_printed : (texts : Bool) → FinishedQueriesGiveAll → Stands state old s → (end : Store D) (calls : List Call) (answers : List Answer) (last : State) (before after : Option (List ℕ)) → ActsOn state mid calls answers end acts.after last
-          → AreFetches n calls → PrintsAll texts acts.after.table.schema n calls answers before after → Appends before after (query_lines texts terms columns s.table)
-      rows_printed texts law stands end calls answers last before after made fetches all =
-          let same : acts.after.table ≡ s.table = ap (λ (u : State). u.table) acts.happens.1.1 in
-          let later : Run acts.after (all.front ++ fetch n ∷ []) (all.told ++ ended ∷ []) last =
-          subst (λ (cs : List Call). Run acts.after cs (all.told ++ ended ∷ []) last) all.calls_are
-          (subst (λ (xs : List Answer). Run acts.after calls xs last) all.answers_are (history state mid end calls answers acts.after last made)) in
-          let opened : list_all (leaves_open n) all.front ≡ true = leave_open n all.front (fetches_front n all.front (subst (λ (cs : List Call). AreFetches n cs) all.calls_are fetches)) in
-          let are : given n all.front all.told ≡ batches terms columns s.table = law s terms columns n all.front all.told last stands.reached all.as_many (acts.after, acts.happens, later) opened in
-          let of_table = subst (λ (t : Table). PrintsBatches texts t.schema (given n all.front all.told) before after) same all.printed in
-          let printed = subst (λ (bs : List Batch). PrintsBatches texts s.table.schema bs before after) are of_table in
-          subst (λ (text : List ℕ). Appends before after text) (lines_of_query texts terms columns s.table) (printed (batches_fit terms columns s.table stands.shows.valid))
+      -- What is so of the first rows of the batches, where they are rows of the wanted columns, is so of the first of the rows that satisfy.
+      pub of_rows : QueriesGiveABeginning → FinishedQueriesGiveAll → Stands state old s → (fs : Fields) (limit : Option ℕ) (Has : List ValueTrees → Type 0) (end : Store D) (calls : List Call) (answers : List Answer) (last : State)
+          → ActsOn state mid calls answers end acts.after last → FetchesUpTo n (WhereFitting fs (λ (rows : List ValueTrees). Has (first_of limit rows))) (WhereFitting fs (AreEnough limit)) calls answers → RowsFit fs (query_rows terms columns s.table)
+          → Has (first_of limit (query_rows terms columns s.table))
+      of_rows beginning finished stands fs limit Has end calls answers last made all fit = subst (λ (rs : List ValueTrees). Has (first_of limit rs)) (rows_of_query terms columns s.table) (by all.over)
+        where
+          bs : List Batch
+          bs = given n all.front all.told
+
+          whole : List Batch
+          whole = batches terms columns s.table
+
+          fits : RowsFit fs (rows_of_each whole)
+          fits = subst (RowsFit fs) (sym (rows_of_query terms columns s.table)) fit
+
+          opened : list_all (leaves_open n) all.front ≡ true
+          opened = leave_open n all.front all.fetches
+
+          later : Run acts.after calls answers last
+          later = history state mid end calls answers acts.after last made
+
+          by : ((calls ≡ all.front ++ fetch n ∷ []) × (answers ≡ all.told ++ ended ∷ [])) ⊎ ((calls ≡ all.front) × (answers ≡ all.told) × WhereFitting fs (AreEnough limit) bs) → Has (first_of limit (rows_of_each whole))
+          by (inl over) =
+              let run = subst (λ (cs : List Call). Run acts.after cs (all.told ++ ended ∷ []) last) over.0 (subst (λ (xs : List Answer). Run acts.after calls xs last) over.1 later) in
+              let are : bs ≡ whole = finished s terms columns n all.front all.told last stands.reached all.as_many (acts.after, acts.happens, run) opened in
+              subst (λ (xs : List Batch). WhereFitting fs (λ (rows : List ValueTrees). Has (first_of limit rows)) xs) are all.done fits
+          by (inr over) =
+              let run = subst (λ (cs : List Call). Run acts.after cs all.told last) over.0 (subst (λ (xs : List Answer). Run acts.after calls xs last) over.1 later) in
+              let told = beginning s terms columns n all.front all.told last stands.reached (acts.after, acts.happens, run) opened in
+              let split : rows_of_each whole ≡ rows_of_each bs ++ rows_of_each told.0 = ap rows_of_each told.1 ∙ flat_map-append (λ (b : Batch). b.rows) bs told.0 in
+              let front = front_fits fs (rows_of_each bs) (rows_of_each told.0) (subst (RowsFit fs) split fits) in
+              let same : first_of limit (rows_of_each whole) ≡ first_of limit (rows_of_each bs) = ap (first_of limit) split ∙ first_enough limit (rows_of_each bs) (rows_of_each told.0) (over.2 front) in
+              subst Has (sym same) (all.done front)

@@ -4,14 +4,15 @@ mod Answered
 mod OneByOne
 mod Wanted
 mod Selected
+mod FirstOf
 mod Batched
 mod OkThen
 mod GatheredLines
+mod RowsGathered
 mod Counted
 mod Stopped
 mod UnlessThere
 mod Renewed
-mod FirstBatched
 mod PartsGiven
 mod FilesGiven
 mod FilesOfQuery

@@ -18,10 +18,15 @@ one_more texts fs (t ∷ lines) [] text row so_far last = absurd so_far
 one_more texts fs (t ∷ lines) (r ∷ rows) text row so_far last = (so_far.0, one_more texts fs lines rows text row so_far.1 last)
 
 -- the rows so far, and that of one more line
+pub told_line : (texts : Bool) (fs : Fields) (lines : List (Bor (List ℕ))) (rows : List ValueTrees) (text : Bor (List ℕ)) (row : ValueTrees) → IsRowText texts fs text.now row
+    → AreRowTexts texts fs (map (λ t. t.now) lines) rows → AreRowTexts texts fs (map (λ t. t.now) (lines ++ text ∷ [])) (rows ++ row ∷ [])
+told_line texts fs lines rows text row is so_far =
+    rw (map_push (λ (t : Bor (List ℕ)). t.now) lines text) (one_more texts fs (map (λ t. t.now) lines) rows text.now row so_far is)
+
+-- the same of rows that were made
 pub told_one_more : (texts : Bool) (fs : Fields) (lines : List (Bor (List ℕ))) (rows : List Row) (text : Bor (List ℕ)) (row : Row) → IsRowText texts fs text.now (row_view row)
     → AreRowTexts texts fs (map (λ t. t.now) lines) (rows_view rows) → AreRowTexts texts fs (map (λ t. t.now) (lines ++ text ∷ [])) (rows_view (rows ++ row ∷ []))
-told_one_more texts fs lines rows text row is so_far =
-    rw (map_push (λ (t : Bor (List ℕ)). t.now) lines text, map_push row_view rows row) (one_more texts fs (map (λ t. t.now) lines) (rows_view rows) text.now (row_view row) so_far is)
+told_one_more texts fs lines rows text row is so_far = rw (map_push row_view rows row) (told_line texts fs lines (rows_view rows) text (row_view row) is so_far)
 
 -- where no line is left
 pub told_all : (texts : Bool) (fs : Fields) (lines : List (Bor (List ℕ))) (all : List (List ℕ)) (rows : List ValueTrees) → map (λ t. t.now) lines ≡ all → AreRowTexts texts fs (map (λ t. t.now) lines) rows → AreRowTexts texts fs all rows

@@ -14,7 +14,7 @@ pub use Rattle.columns.specs.Columns.{fields_at}
 use Rattle.disk.specs.State.{State as DiskState}
 use Rattle.table.specs.Table.{Table, rows}
 use Rattle.table.specs.Deciding.{Filter, satisfies}
-use Rattle.table.specs.Cursors.{Batch, Columns, wanted_places, cut}
+use Rattle.table.specs.Cursors.{Columns, wanted_places, cut}
 use Rattle.table.specs.Plans.{summary}
 use Rattle.table.specs.State.{State}
 use Rattle.table.specs.Views.{info_view}
@@ -35,10 +35,6 @@ row_line texts fs row = row_text_as texts fs row ++ 10 ∷ []
 -- the lines of rows
 abbrev pub row_lines : Bool → Fields → List ValueTrees → List ℕ
 row_lines texts fs rows = flat_map (row_line texts fs) rows
-
--- the lines of the rows of a batch: objects of the columns at its places
-abbrev pub batch_lines : Bool → Fields → Batch → List ℕ
-batch_lines texts schema b = row_lines texts (fields_at b.places 0 schema) b.rows
 
 -- the lines of the rows of a table that satisfy, in table order: objects of the wanted columns
 abbrev pub query_lines : Bool → Filter → Columns → Table → List ℕ

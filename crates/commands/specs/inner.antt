@@ -1,6 +1,6 @@
 pub mod Batches
 pub mod Fetched
-pub mod FirstBatches
+pub mod GatheredRows
 pub mod Gathering
 pub mod Parts
 pub mod Staged

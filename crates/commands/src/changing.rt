@@ -10,7 +10,7 @@ ghost use Rattle.jsonrows.specs.SchemaJson.{IsRefusedSchema};
 ghost use Rattle.commands.specs.Lines.{AreRefusedRows};
 ghost use Rattle.commands.specs.Making.{Makes, AsksAppend, AsksRemove, AsksColumn, Rewrites, RewritesPlanned};
 
-use crate::row_lines::rows_of;
+use crate::gathering::gathered_rows;
 use bits::R;
 use disk::Disk;
 use jsonrows::{filter_from_as, schema_from};
@@ -20,8 +20,8 @@ use std::io::Write;
 use store::Store;
 
 /// Appends the rows of a text, one of each line. With `texts`, dates, times, timestamps and decimals are also read from their
-/// texts. Refused as `row_from_as` refuses the first line that is no row, and then as `Store::append`. Where `shows` says so,
-/// `err` shows how many rows were read so far.
+/// texts. Refused as `row_from_as` refuses the first line that is no row, and then as `Store::append_gathered`. Where `shows`
+/// says so, `err` shows how many rows were read so far.
 pub fn append<D: Disk, E: Write>(
     alloc: Global,
     store: &mut Store<D>,
@@ -33,8 +33,9 @@ pub fn append<D: Disk, E: Write>(
     ensures makes { Makes D.state store.old store.new (AsksAppend texts text.now) (λ fs. AreRefusedRows texts fs (lines text.now)) result }
     ensures quiet { shows ≡ false → E.contents err.new ≡ E.contents err.old }
 {
-    let rows = rows_of(alloc, store.schema(), text, texts, err, shows)?;
-    store.append(alloc, rows.as_slice())
+    let table = store.description()?;
+    let gathered = gathered_rows(alloc, &table, &store.options, text, texts, err, shows)?;
+    store.append_gathered(alloc, gathered)
 }
 
 /// Puts the one field of a text at the end of the schema. Refused as `schema_from` refuses the text, and then as

@@ -1,15 +1,16 @@
 //! Rows as files, one after another.
 
-ghost use Rattle.std.specs.Prelude.{◌≡◌, ◌∷◌, [], ◌++◌, ℕ, List, Option, None, false, IfOk, OnOk};
+ghost use Rattle.std.specs.Prelude.{◌≡◌, [], ℕ, List, Option, None, false, IfOk, OnOk};
 ghost use Rattle.schema.specs.Values.{ValueTrees};
-ghost use Rattle.schema.specs.Views.{row_view};
+ghost use Rattle.scan.specs.Left.{rows_stand};
 ghost use Rattle.dataset_words.specs.Files.{TakesFiles};
 ghost use Rattle.commands.specs.QueryFile.{AreFilesOfRows};
 
 use bits::R;
 use dataset_words::FileSink;
 use footer::{FileWriter, MAGIC, WriteOptions};
-use schema::{Row, Schema};
+use scan::Rows;
+use schema::Schema;
 use std::alloc::Global;
 use std::mem;
 
@@ -30,7 +31,7 @@ pub struct PartWriter<'a> {
 }
 
 impl<'a> PartWriter<'a> {
-    ghost use Rattle.commands.specs.inner.Parts.{HasGiven, EndsFiles, WritesAlike};
+    ghost use Rattle.commands.specs.inner.Parts.{HasGiven, EndsFiles, TakesNext, WritesAlike};
 
     /// A writer without rows. Refused as `FileWriter::new`.
     pub fn new(
@@ -55,15 +56,19 @@ impl<'a> PartWriter<'a> {
         })
     }
 
-    /// Gives the writer one more row. Where a file ends before it, the sink gets that file. Refused as `FileWriter::push` and
-    /// `FileWriter::finish`, and as the sink refuses a file.
-    pub fn push<S: FileSink>(&mut self, row: Row, sink: &mut S) -> R<()>
-        ensures takes { OnOk result ((from : Option (List (List ℕ))) (rows : List ValueTrees) → HasGiven from (S.taken sink.old) self.old rows
-            → HasGiven from (S.taken sink.new) self.new (rows ++ row_view row ∷ [])) }
+    /// Gives the writer the next row of a reader; false after the last row. Where a file ends before the next row, whether there is
+    /// one or not, the sink gets that file. Refused as `FileWriter::push` and `FileWriter::finish`, and as the sink refuses a file.
+    pub fn push_next<S: FileSink>(&mut self, rows: &mut Rows<'_>, sink: &mut S) -> R<bool>
+        ensures takes { IfOk result (TakesNext (rows_stand rows.old) (rows_stand rows.new) self.old self.new (S.taken sink.old) (S.taken sink.new)) }
         ensures same { WritesAlike self.old self.new }
     {
         self.make_room(sink)?;
-        self.writer.push(row)
+        self.writer.begin_row()?;
+        if !rows.show_next(&mut self.writer)? {
+            return Ok(false);
+        }
+        self.writer.end_row()?;
+        Ok(true)
     }
 
     /// The bytes of the last file. Refused as `FileWriter::finish`.

@@ -1,6 +1,6 @@
 //! What the commands print.
 
-ghost use Rattle.std.specs.Prelude.{◌≡◌, ◌∷◌, [], ◌++◌, ℕ, Bool, List, Option, Ok, codes, decimal, OnOk};
+ghost use Rattle.std.specs.Prelude.{◌≡◌, ◌∷◌, [], ◌++◌, ℕ, Bool, List, Option, None, Some, Ok, codes, decimal, length, IfOk, OnOk};
 ghost use Rattle.std.specs.Io.KnownBytes.{Appends};
 ghost use Rattle.serde_json.specs.Data.{Data, Items, array};
 ghost use Rattle.serde_json.specs.Written.{compact_text};
@@ -9,22 +9,25 @@ ghost use Rattle.bits.specs.declared.refusal.Refusal.TheVariants.{Device};
 ghost use Rattle.schema.specs.Values.{ValueTrees};
 ghost use Rattle.schema.specs.Shape.{Fields, no_fields};
 ghost use Rattle.schema.specs.Fits.{RowsFit};
-ghost use Rattle.schema.specs.Views.{rows_view};
-ghost use Rattle.table.specs.Views.{batch_view};
+ghost use Rattle.rowtext.specs.Rows.{BeginsLineAs};
+ghost use Rattle.row_group.specs.Left.{with_refusal};
+ghost use Rattle.scan.specs.Left.{rows_stand};
 ghost use Rattle.jsonrows.specs.Answers.{answer_json_as, group_json};
 ghost use Rattle.jsonrows.specs.SchemaPrinted.{PrintsFields};
-ghost use Rattle.commands.specs.Querying.{fields_at, row_lines, batch_lines};
-ghost use Rattle.commands.specs.inner.Gathering.{AreGathered};
+ghost use Rattle.commands.specs.QueryFile.{first_of};
+ghost use Rattle.commands.specs.inner.Gathering.{AreGathered, HasWrittenLines, BeginsLines, AddsNextLine};
 
 use crate::folder::refusal_of;
-use bits::R;
-use columns::columns_at;
+use crate::row_limit::most_of;
+use assemble::Discard;
+use bits::{Fault, R, Refusal};
 use itoa::Buffer;
-use jsonrows::{RowPlan, RowText, answer_to_as, group_to, schema_to};
-use schema::{Row, Schema};
+use jsonrows::{RowText, answer_to_as, group_to, schema_to};
+use scan::Rows;
+use schema::Schema;
 use std::alloc::Global;
 use std::io::Write;
-use table::{Answer, Batch, GroupInfo};
+use table::{Answer, GroupInfo};
 
 /// How many bytes of lines are gathered before they are written.
 const GATHERED_BYTES: usize = 65_536;
@@ -83,67 +86,86 @@ pub fn print_columns<W: Write>(alloc: Global, schema: &Schema, out: &mut W) -> R
     write_text(text.as_bytes(), out)
 }
 
-/// Prints the rows of a batch, a line each, as objects of the columns at its places. With `texts`, dates, times, timestamps and
-/// decimals are texts. Refused Device where they cannot be written.
-pub fn print_batch<W: Write>(
-    alloc: Global,
-    schema: &Schema,
-    batch: &Batch,
-    texts: bool,
+/// Prints the rows that a reader still gives, or the first `limit` of them, a line each, and returns how many. `text` makes
+/// their lines, and has gathered none; without it each row is `{}`. Refused Device where they cannot be written.
+pub fn print_shown<W: Write>(
+    rows: &mut Rows<'_>,
+    limit: Option<u64>,
+    text: &mut Option<RowText<'_>>,
     out: &mut W,
-) -> R<()>
-    ensures printed { RowsFit (fields_at batch.now.places.items 0 schema.now) (rows_view batch.now.rows.items)
-        → OnOk result (Appends (W.contents out.old) (W.contents out.new) (batch_lines texts schema.now (batch_view batch.now))) }
-    ensures which { RefusedOnly (λ e. e ≡ Device) result }
+) -> R<u64>
+    ensures printed { (texts : Bool) (fs : Fields) (all : List ValueTrees) → BeginsLines texts fs text.old → rows_stand rows.old all → RowsFit fs all
+        → IfOk result (HasWrittenLines texts fs (first_of limit all) text.new (W.contents out.old) (W.contents out.new)) }
+    ensures which { (texts : Bool) (fs : Fields) (all : List ValueTrees) → BeginsLines texts fs text.old → rows_stand rows.old all → RowsFit fs all
+        → RefusedOnly (λ e. e ≡ Device) result }
 {
-    print_rows_at(
-        alloc,
-        schema,
-        batch.places.as_slice(),
-        batch.rows.as_slice(),
-        texts,
-        out,
-    )
-}
-
-/// Prints rows of the columns at these places of a schema, a line each, as objects of these columns, with `texts` as
-/// [`print_batch`] does. Refused Device where they cannot be written.
-pub fn print_rows_at<W: Write>(
-    alloc: Global,
-    schema: &Schema,
-    places: &[usize],
-    rows: &[Row],
-    texts: bool,
-    out: &mut W,
-) -> R<()>
-    ensures printed { RowsFit (fields_at places.now 0 schema.now) (rows_view rows.now)
-        → OnOk result (Appends (W.contents out.old) (W.contents out.new) (row_lines texts (fields_at places.now 0 schema.now) (rows_view rows.now))) }
-    ensures which { RefusedOnly (λ e. e ≡ Device) result }
-{
-    match columns_at(alloc, schema, places)? {
-        Some(columns) => print_lines(alloc, &columns, rows, texts, out),
-        None => print_empty_rows(rows, out),
+    match text {
+        Some(text) => print_lines(rows, limit, text, out),
+        None => print_empty_rows(rows, limit, out),
     }
 }
 
-/// Prints rows of a schema, a line each, with texts or without. Refused Device where they cannot be written.
+/// Takes the next row, and gathers its line; false after the last row. It fails only when out of memory.
+// Each row comes through here: what is returned fits a register.
+#[inline(always)]
+fn put_line(rows: &mut Rows<'_>, text: &mut RowText<'_>) -> Result<bool, Fault>
+    ensures puts { (texts : Bool) (fs : Fields) (lines : List ℕ) → BeginsLineAs texts text.old fs lines
+        → AddsNextLine texts fs (rows_stand rows.old) (rows_stand rows.new) (BeginsLineAs texts text.new fs) lines (with_refusal result) }
+{
+    if !rows.show_next(text)? {
+        return Ok(false);
+    }
+    match text.end_row() {
+        Ok(()) => Ok(true),
+        Err(_) => Err(Fault::Memory),
+    }
+}
+
+/// Takes rows, at most so many where there is a limit, and gathers their lines, which are written where they are many.
+/// Returns how many rows.
+fn gather_lines<W: Write>(
+    rows: &mut Rows<'_>,
+    limit: Option<u64>,
+    text: &mut RowText<'_>,
+    out: &mut W,
+) -> R<u64>
+    ensures gathers { (texts : Bool) (fs : Fields) (all : List ValueTrees) → BeginsLineAs texts text.old fs [] → rows_stand rows.old all → RowsFit fs all
+        → IfOk result (λ count. (count ≡ length (first_of limit all))
+        × AreGathered texts fs (first_of limit all) text.new (W.contents out.old) (W.contents out.new)) }
+    ensures which { (texts : Bool) (fs : Fields) (all : List ValueTrees) → BeginsLineAs texts text.old fs [] → rows_stand rows.old all → RowsFit fs all
+        → RefusedOnly (λ e. e ≡ Device) result }
+{
+    for count in 0..most_of(limit) {
+        // For the proof: how many were taken has a name.
+        let _ = count;
+        if !put_line(rows, text)? {
+            return Ok(count);
+        }
+        write_full(text, out)?;
+    }
+    match limit {
+        Some(limit) => Ok(limit),
+        // Never reached: no group has as many rows.
+        None => Err(Refusal::Memory),
+    }
+}
+
+/// Prints rows with columns, at most so many where there is a limit, and returns how many.
 fn print_lines<W: Write>(
-    alloc: Global,
-    schema: &Schema,
-    rows: &[Row],
-    texts: bool,
+    rows: &mut Rows<'_>,
+    limit: Option<u64>,
+    text: &mut RowText<'_>,
     out: &mut W,
-) -> R<()>
-    ensures printed { RowsFit schema.now (rows_view rows.now) → OnOk result (Appends (W.contents out.old) (W.contents out.new) (row_lines texts schema.now (rows_view rows.now))) }
-    ensures which { RefusedOnly (λ e. e ≡ Device) result }
+) -> R<u64>
+    ensures printed { (texts : Bool) (fs : Fields) (all : List ValueTrees) → BeginsLineAs texts text.old fs [] → rows_stand rows.old all → RowsFit fs all
+        → IfOk result (HasWrittenLines texts fs (first_of limit all) (Some text.new) (W.contents out.old) (W.contents out.new)) }
+    ensures which { (texts : Bool) (fs : Fields) (all : List ValueTrees) → BeginsLineAs texts text.old fs [] → rows_stand rows.old all → RowsFit fs all
+        → RefusedOnly (λ e. e ≡ Device) result }
 {
-    let plan = RowPlan::with_texts(alloc, schema, texts)?;
-    let mut text = RowText::new(alloc, &plan);
-    for row in rows {
-        text.put_line(row)?;
-        write_full(&mut text, out)?;
-    }
-    write_text(text.lines(), out)
+    let count = gather_lines(rows, limit, text, out)?;
+    write_text(text.lines(), out)?;
+    text.clear_lines();
+    Ok(count)
 }
 
 /// Writes the lines that were gathered once they are many, and forgets them. Refused Device where they cannot be written.
@@ -160,15 +182,25 @@ fn write_full<W: Write>(text: &mut RowText<'_>, out: &mut W) -> R<()>
     Ok(())
 }
 
-/// Prints rows without columns, a line each. Refused Device where they cannot be written.
-fn print_empty_rows<W: Write>(rows: &[Row], out: &mut W) -> R<()>
-    ensures printed { (texts : Bool) → OnOk result (Appends (W.contents out.old) (W.contents out.new) (row_lines texts no_fields (rows_view rows.now))) }
-    ensures which { RefusedOnly (λ e. e ≡ Device) result }
+/// Prints rows without columns, at most so many where there is a limit, and returns how many.
+fn print_empty_rows<W: Write>(rows: &mut Rows<'_>, limit: Option<u64>, out: &mut W) -> R<u64>
+    ensures printed { (texts : Bool) (all : List ValueTrees) → rows_stand rows.old all
+        → IfOk result (HasWrittenLines texts no_fields (first_of limit all) None (W.contents out.old) (W.contents out.new)) }
+    ensures which { (all : List ValueTrees) → rows_stand rows.old all → RefusedOnly (λ e. e ≡ Device) result }
 {
-    for _ in rows {
+    for count in 0..most_of(limit) {
+        // For the proof: how many were taken has a name.
+        let _ = count;
+        if !rows.show_next(&mut Discard)? {
+            return Ok(count);
+        }
         write_text(b"{}\n", out)?;
     }
-    Ok(())
+    match limit {
+        Some(limit) => Ok(limit),
+        // Never reached: no group has as many rows.
+        None => Err(Refusal::Memory),
+    }
 }
 
 /// Prints what a group is, a line of JSON: its bytes, its key, its number, its rows.

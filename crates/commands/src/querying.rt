@@ -1,6 +1,6 @@
 //! Commands that read a dataset.
 
-ghost use Rattle.std.specs.Prelude.{◌≡◌, ◌∷◌, [], ◌++◌, ℕ, List, false, codes, decimal, IfOk, IfErr, OnOk, option_map};
+ghost use Rattle.std.specs.Prelude.{◌≡◌, ◌∷◌, [], ◌++◌, ℕ, Bool, List, false, codes, decimal, IfOk, IfErr, OnOk, option_map};
 ghost use Rattle.std.specs.Io.KnownBytes.{Appends};
 ghost use Rattle.serde_json.specs.Data.{Items, array};
 ghost use Rattle.serde_json.specs.Written.{compact_text};
@@ -15,20 +15,25 @@ ghost use Rattle.store.specs.Stands.{Stands};
 ghost use Rattle.commands.specs.Lines.{AreGroupLines};
 ghost use Rattle.commands.specs.Making.{IsAskedFilter, IsRefusedFilterOf};
 ghost use Rattle.commands.specs.Querying.{Reads, query_lines, ListsGroups, IsSchemaOfFile};
-ghost use Rattle.commands.specs.inner.Batches.{PrintsSelected, PrintsLeft};
+ghost use Rattle.commands.specs.QueryFile.{wanted_fields};
+ghost use Rattle.commands.specs.inner.Batches.{PrintsSelected};
+ghost use Rattle.commands.specs.inner.Fetched.{PrintsLeft};
+ghost use Rattle.commands.specs.inner.Gathering.{BeginsLines};
 
-use crate::printing::{print_batch, print_columns, print_group, print_number};
+use crate::printing::{print_columns, print_group, print_number, print_shown};
+use crate::row_limit::{fewer, is_used_up};
 use bits::{R, Refusal};
+use columns::{columns_at, wanted_places};
 use disk::Disk;
 use filter::Term;
 use footer::read_footer;
-use jsonrows::filter_from_as;
+use jsonrows::{RowPlan, RowText, filter_from_as};
 use reports::Progress;
 use schema::Schema;
 use std::alloc::Global;
 use std::io::Write;
 use store::Store;
-use table::{CursorId, Fetched, GroupInfo, queries_give_all};
+use table::{CursorId, GroupInfo, queries_give_all};
 
 /// The filter of a text; without one the filter that every row satisfies. With `texts`, dates, times, timestamps and decimals are
 /// also read from their texts. Refused as `filter_from_as` refuses the text.
@@ -74,6 +79,7 @@ pub fn print_rows<D: Disk, W: Write, E: Write>(
         store,
         terms.as_slice(),
         columns,
+        None,
         texts,
         out,
         err,
@@ -116,53 +122,96 @@ fn rows_in<D: Disk>(alloc: Global, store: &mut Store<D>) -> Option<u64>
     Some(rows)
 }
 
-/// Prints the rows that satisfy terms, as a cursor gives them, which is closed then.
-fn print_selected<D: Disk, W: Write, E: Write>(
+/// Prints the rows that satisfy terms, or the first `limit` of them, as a cursor gives them, which is closed then.
+pub fn print_selected<D: Disk, W: Write, E: Write>(
     alloc: Global,
     store: &mut Store<D>,
     terms: &[Vec<Term>],
     columns: Option<&[String]>,
+    limit: Option<u64>,
     texts: bool,
     out: &mut W,
     err: &mut E,
     progress: &mut Progress,
 ) -> R<()>
     ensures prints { (D.state store.old.vault.disk).honest → (s : State) → Stands D.state store.old s
-        → PrintsSelected D.state texts store.old store.new (terms_view terms.now) (names_view columns.entry) (W.contents out.old) (W.contents out.new) result s }
+        → PrintsSelected D.state texts store.old store.new (terms_view terms.now) (names_view columns.entry) limit
+        (W.contents out.old) (W.contents out.new) result s }
     ensures quiet { progress.old.is_shown ≡ false → E.contents err.new ≡ E.contents err.old }
     ensures same { progress.new.is_shown ≡ progress.old.is_shown }
 {
     queries_give_all();
     let cursor = store.query(alloc, terms, columns)?;
-    let printed = print_batches(alloc, store, cursor, texts, out, err, progress);
+    let printed = print_columns_of(
+        alloc, store, cursor, columns, limit, texts, out, err, progress,
+    );
     let closed = store.close(alloc, cursor);
     printed?;
     closed
 }
 
-/// Prints the rows that a cursor still gives, and counts them.
-fn print_batches<D: Disk, W: Write, E: Write>(
+/// Prints the rows that a cursor still gives, or the first `limit` of them, in the columns of these names, or in all. How their
+/// lines are made is planned once.
+fn print_columns_of<D: Disk, W: Write, E: Write>(
     alloc: Global,
     store: &mut Store<D>,
     cursor: CursorId,
+    columns: Option<&[String]>,
+    limit: Option<u64>,
     texts: bool,
     out: &mut W,
     err: &mut E,
     progress: &mut Progress,
 ) -> R<()>
     ensures prints { (D.state store.old.vault.disk).honest → (s : State) → Stands D.state store.old s
-        → PrintsLeft D.state texts store.old store.new cursor (W.contents out.old) (W.contents out.new) result s }
+        → PrintsLeft D.state texts (wanted_fields (names_view columns.entry) s.table.schema) store.old store.new cursor limit
+        (W.contents out.old) (W.contents out.new) result s }
     ensures honest { (D.state store.old.vault.disk).honest → (D.state store.new.vault.disk).honest }
     ensures quiet { progress.old.is_shown ≡ false → E.contents err.new ≡ E.contents err.old }
     ensures same { progress.new.is_shown ≡ progress.old.is_shown }
 {
+    let places = wanted_places(alloc, store.schema(), columns)?;
+    match columns_at(alloc, store.schema(), places.as_slice())? {
+        Some(schema) => {
+            let plan = RowPlan::with_texts(alloc, &schema, texts)?;
+            let mut text = Some(RowText::new(alloc, &plan));
+            print_batches(alloc, store, cursor, limit, &mut text, out, err, progress)
+        }
+        None => print_batches(alloc, store, cursor, limit, &mut None, out, err, progress),
+    }
+}
+
+/// Prints the rows that a cursor still gives, or the first `limit` of them, and counts them. `text` makes their lines, and has
+/// gathered none.
+fn print_batches<D: Disk, W: Write, E: Write>(
+    alloc: Global,
+    store: &mut Store<D>,
+    cursor: CursorId,
+    limit: Option<u64>,
+    text: &mut Option<RowText<'_>>,
+    out: &mut W,
+    err: &mut E,
+    progress: &mut Progress,
+) -> R<()>
+    ensures prints { (texts : Bool) (fs : Fields) → BeginsLines texts fs text.old → (D.state store.old.vault.disk).honest → (s : State) → Stands D.state store.old s
+        → PrintsLeft D.state texts fs store.old store.new cursor limit (W.contents out.old) (W.contents out.new) result s }
+    ensures honest { (D.state store.old.vault.disk).honest → (D.state store.new.vault.disk).honest }
+    ensures quiet { progress.old.is_shown ≡ false → E.contents err.new ≡ E.contents err.old }
+    ensures same { progress.new.is_shown ≡ progress.old.is_shown }
+{
+    let mut left = limit;
     'batches: for _ in 0..u64::MAX {
-        match store.fetch(alloc, cursor)? {
-            Fetched::Batch(batch) => {
-                print_batch(alloc, store.schema(), &batch, texts, out)?;
-                progress.count_rows(batch.rows.len() as u64, err);
+        if is_used_up(left) {
+            return Ok(());
+        }
+        match store.fetch_rows(alloc, cursor)? {
+            Some(batch) => {
+                let mut rows = batch.rows.rows(alloc)?;
+                let count = print_shown(&mut rows, left, text, out)?;
+                left = fewer(left, count);
+                progress.count_rows(count, err);
             }
-            Fetched::End => return Ok(()),
+            None => return Ok(()),
         }
     }
     Err(Refusal::Limit)

@@ -1,18 +1,21 @@
 //! The rows of a query as Parquet files.
 
-ghost use Rattle.std.specs.Prelude.{◌≡◌, Some, true, false, OnOk, option_map};
-ghost use Rattle.schema.specs.Views.{rows_view};
+ghost use Rattle.std.specs.Prelude.{◌≡◌, List, take, false, OnOk, option_map};
+ghost use Rattle.schema.specs.Fits.{RowsFit};
+ghost use Rattle.schema.specs.Values.{ValueTrees};
+ghost use Rattle.scan.specs.Left.{rows_stand};
 ghost use Rattle.filter.specs.Terms.{terms_view};
 ghost use Rattle.table.specs.State.{State};
 ghost use Rattle.table.specs.Views.{names_view};
 ghost use Rattle.store.specs.Stands.{Stands};
 ghost use Rattle.commands.specs.Querying.{Reads};
-ghost use Rattle.commands.specs.QueryFile.{first_of, GotQueryFiles};
-ghost use Rattle.commands.specs.inner.Parts.{WritesAlike};
-ghost use Rattle.commands.specs.inner.Fetched.{FetchesFirst, TakesRows, TakesFirst, WritesSelected, GivesFiles, fewer, IsEnough};
+ghost use Rattle.commands.specs.QueryFile.{GotQueryFiles};
+ghost use Rattle.commands.specs.inner.Parts.{TakesRows, WritesAlike};
+ghost use Rattle.commands.specs.inner.Fetched.{TakesLeft, WritesSelected, GivesFiles};
 
 use crate::part_writer::PartWriter;
 use crate::querying::filter_of;
+use crate::row_limit::{fewer, is_used_up, taken_of};
 use bits::{R, Refusal};
 use columns::wanted_schema;
 use dataset_words::FileSink;
@@ -20,11 +23,12 @@ use disk::Disk;
 use filter::Term;
 use footer::{MOST_BYTES_OF_FOOTER, WriteOptions};
 use reports::Progress;
-use schema::{Row, Schema};
+use scan::Rows;
+use schema::Schema;
 use std::alloc::Global;
 use std::io::Write;
 use store::Store;
-use table::{CursorId, Fetched, queries_give_all};
+use table::{CursorId, queries_give_all};
 
 /// How many bytes the groups of one of several files take at most: with the footer the file has no more than 1 GiB. A file has
 /// more only where a group is greater than each before it.
@@ -36,7 +40,7 @@ pub const PART_BYTES: usize = 1_073_741_824 - MOST_BYTES_OF_FOOTER;
 /// bytes. No group after the first `limit` rows is read. With `texts`, dates, times, timestamps and decimals are also read from
 /// their texts in the filter.
 ///
-/// Refused as `filter_from_as` refuses the text; as `Store::query` and `Store::fetch`; as the sink refuses a file; Limit for
+/// Refused as `filter_from_as` refuses the text; as `Store::query` and `Store::fetch_rows`; as the sink refuses a file; Limit for
 /// options out of range, and for rows that are too much for a file. Then the sink may have got the files before. Room is that of
 /// one file and of two groups of rows, one that is read and one that is written. Where `shows` says so, `err` shows how many
 /// rows were read so far.
@@ -151,7 +155,7 @@ fn write_batches<D: Disk, S: FileSink, E: Write>(
     progress: &mut Progress,
 ) -> R<()>
     ensures writes { (D.state store.old.vault.disk).honest → (s : State) → Stands D.state store.old s
-        → FetchesFirst D.state store.old store.new cursor (TakesFirst limit writer.old writer.new (S.taken sink.old) (S.taken sink.new)) (IsEnough limit) result s }
+        → TakesLeft D.state store.old store.new cursor limit writer.old writer.new (S.taken sink.old) (S.taken sink.new) result s }
     ensures honest { (D.state store.old.vault.disk).honest → (D.state store.new.vault.disk).honest }
     ensures alike { WritesAlike writer.old writer.new }
     ensures quiet { progress.old.is_shown ≡ false → E.contents err.new ≡ E.contents err.old }
@@ -162,58 +166,39 @@ fn write_batches<D: Disk, S: FileSink, E: Write>(
         if is_used_up(left) {
             return Ok(());
         }
-        match store.fetch(alloc, cursor)? {
-            Fetched::Batch(batch) => {
-                let count = batch.rows.len() as u64;
-                write_rows(first_rows(batch.rows, left), writer, sink)?;
+        match store.fetch_rows(alloc, cursor)? {
+            Some(batch) => {
+                let count = taken_of(left, batch.rows.selected_count());
+                let mut rows = batch.rows.rows(alloc)?;
+                write_rows(&mut rows, count, writer, sink)?;
                 left = fewer(left, count);
                 progress.count_rows(count, err);
             }
-            Fetched::End => return Ok(()),
+            None => return Ok(()),
         }
     }
     Err(Refusal::Limit)
 }
 
-/// The first of some rows, where there is a limit, or all of them.
-fn first_rows(mut rows: Vec<Row>, limit: Option<u64>) -> Vec<Row>
-    ensures { rows_view result.items ≡ first_of limit (rows_view rows.items) }
-{
-    if let Some(limit) = limit
-        && limit < rows.len() as u64
-    {
-        rows.truncate(limit as usize);
-    }
-    rows
-}
-
-/// Whether no more rows may come.
-fn is_used_up(left: Option<u64>) -> bool
-    ensures { result ≡ true → left ≡ Some 0 }
-{
-    match left {
-        Some(rows) => rows == 0,
-        None => false,
-    }
-}
-
-/// How many more rows there may be after so many, where there is a limit.
-fn fewer(limit: Option<u64>, count: u64) -> Option<u64>
-    ensures { result ≡ fewer limit count }
-{
-    match limit {
-        Some(limit) => Some(limit.saturating_sub(count)),
-        None => None,
-    }
-}
-
-/// Gives a writer rows, one after another. Refused as `PartWriter::push`.
-fn write_rows<S: FileSink>(rows: Vec<Row>, writer: &mut PartWriter<'_>, sink: &mut S) -> R<()>
-    ensures takes { OnOk result (TakesRows writer.old writer.new (S.taken sink.old) (S.taken sink.new) (rows_view rows.items)) }
+/// Gives a writer this many rows of a reader, which has as many. Refused as `PartWriter::push_next`.
+// How many there are is known before a row is asked for: asked for one more, the writer could end a file that no row comes after.
+fn write_rows<S: FileSink>(
+    rows: &mut Rows<'_>,
+    most: u64,
+    writer: &mut PartWriter<'_>,
+    sink: &mut S,
+) -> R<()>
+    ensures takes { (all : List ValueTrees) → rows_stand rows.old all → RowsFit writer.old.schema.now all
+        → OnOk result (TakesRows writer.old writer.new (S.taken sink.old) (S.taken sink.new) (take most all)) }
     ensures alike { WritesAlike writer.old writer.new }
 {
-    for row in rows {
-        writer.push(row, sink)?;
+    for count in 0..most {
+        // For the proof: how many were taken has a name.
+        let _ = count;
+        if !writer.push_next(rows, sink)? {
+            // Never reached: as many rows are there.
+            return Err(Refusal::Memory);
+        }
     }
     Ok(())
 }

@@ -1,8 +1,11 @@
 -- What is done with the batches that a cursor gives, one after another.
-use Rattle.std.specs.Prelude.{◌≡◌, ◌≤◌, ◌⊎◌, ◌-◌, ℕ, List, [], ◌∷◌, ◌++◌, flat_map, length, Option, Some, None, Result, OnOk}
+use Rattle.std.specs.Prelude.{◌≡◌, ◌≤◌, ◌⊎◌, ◌-◌, ℕ, Bool, List, [], ◌∷◌, ◌++◌, flat_map, length, Option, Some, None, Result, OnOk}
+use Rattle.std.specs.Io.KnownBytes.{Appends}
 use Rattle.bits.specs.declared.refusal.Refusal.{Refusal}
 use Rattle.schema.specs.Shape.{Fields}
+use Rattle.schema.specs.Fits.{RowsFit}
 use Rattle.schema.specs.Values.{ValueTrees}
+use Rattle.rowtext.specs.declared.row_text.RowText.{RowText}
 use Rattle.footer.specs.declared.options.WriteOptions.{WriteOptions}
 use Rattle.disk.specs.State.{State as DiskState}
 use Rattle.table.specs.Deciding.{Filter}
@@ -13,10 +16,11 @@ use Rattle.table.specs.Queries.{given}
 use Rattle.store.specs.declared.store.Store.{Store}
 use Rattle.store.specs.Stands.{Stands}
 use Rattle.commands.specs.declared.part_writer.PartWriter.{PartWriter}
-use Rattle.commands.specs.Querying.{ActsOn, OnlyReads}
+use Rattle.commands.specs.Querying.{row_lines, ActsOn, OnlyReads}
 use Rattle.commands.specs.QueryFile.{query_rows, first_of, GotFiles}
 use Rattle.commands.specs.inner.Batches.{AreFetches}
-use Rattle.commands.specs.inner.Parts.{HasGiven}
+use Rattle.commands.specs.inner.Gathering.{BeginsLines}
+use Rattle.commands.specs.inner.Parts.{TakesRows}
 
 -- From the one state the store makes fetches of a cursor, each of which gives a batch, and something is done with these.
 pub record HasFetched {D : Type 0} (state : D → DiskState) (old new : Store D) (n : ℕ) (Done : List Batch → Type 0) (s : State) : Type 0 where
@@ -56,40 +60,58 @@ pub record FetchesFirst {D T : Type 0} (state : D → DiskState) (old new : Stor
 abbrev pub rows_of_each : List Batch → List ValueTrees
 rows_of_each bs = flat_map (λ (b : Batch). b.rows) bs
 
+-- where the rows of batches are rows of these columns, this holds of them
+abbrev pub WhereFitting : Fields → (List ValueTrees → Type 0) → List Batch → Type 0
+WhereFitting fs Holds bs = RowsFit fs (rows_of_each bs) → Holds (rows_of_each bs)
+
 -- how many more there may be after so many, where there is a limit
 abbrev pub fewer : Option ℕ → ℕ → Option ℕ
 fewer None n = None
 fewer (Some limit) n = Some (limit - n)
 
--- batches have as many rows as the limit says, or more
-abbrev pub IsEnough : Option ℕ → List Batch → Type 0
-IsEnough None bs = ⊥
-IsEnough (Some limit) bs = limit ≤ length (rows_of_each bs)
+-- rows are as many as the limit says, or more
+abbrev pub AreEnough : Option ℕ → List ValueTrees → Type 0
+AreEnough None rows = ⊥
+AreEnough (Some limit) rows = limit ≤ length rows
+
+-- something is so of the first of these rows, and there may be so many more
+abbrev pub HoldsOfFirst : Option ℕ → Option ℕ → (List ValueTrees → Type 0) → List ValueTrees → Type 0
+HoldsOfFirst limit left Has rows = Has (first_of limit rows) × (left ≡ fewer limit (length rows))
+
+-- ---- lines
+
+-- the lines of rows are written, and none is gathered
+abbrev pub HasPrinted : Bool → Fields → Option RowText → Option (List ℕ) → Option (List ℕ) → List ValueTrees → Type 0
+HasPrinted texts fs text before after rows = Appends before after (row_lines texts fs rows) × BeginsLines texts fs text
+
+-- From the one state the store makes fetches of a cursor, and where the result is Ok the lines of the first rows of what it still gives
+-- are printed.
+abbrev pub PrintsLeft : {D T : Type 0} → (D → DiskState) → Bool → Fields → Store D → Store D → ℕ → Option ℕ → Option (List ℕ) → Option (List ℕ)
+    → Result T Refusal → State → Type 0
+PrintsLeft state texts fs old new n limit before after result s =
+    FetchesFirst state old new n (WhereFitting fs (λ rows. Appends before after (row_lines texts fs (first_of limit rows))))
+    (WhereFitting fs (AreEnough limit)) result s
 
 -- ---- a writer of files
 
--- a writer is given these rows, after those that it was given
-abbrev pub TakesRows : PartWriter → PartWriter → Option (List (List ℕ)) → Option (List (List ℕ)) → List ValueTrees → Type 0
-TakesRows old new was is rs = (from : Option (List (List ℕ))) (had : List ValueTrees) → HasGiven from was old had → HasGiven from is new (had ++ rs)
-
--- a writer is given the first rows of these batches
-abbrev pub TakesFirst : Option ℕ → PartWriter → PartWriter → Option (List (List ℕ)) → Option (List (List ℕ)) → List Batch → Type 0
-TakesFirst limit old new was is bs = TakesRows old new was is (first_of limit (rows_of_each bs))
-
--- a writer is given the first rows of these batches, and there may be so many more
-abbrev pub TakesSome : Option ℕ → Option ℕ → PartWriter → PartWriter → Option (List (List ℕ)) → Option (List (List ℕ)) → List Batch → Type 0
-TakesSome limit left old new was is bs = TakesFirst limit old new was is bs × (left ≡ fewer limit (length (rows_of_each bs)))
+-- From the one state the store makes fetches of a cursor, and where the result is Ok a writer is given the first rows of what it still
+-- gives.
+abbrev pub TakesLeft : {D T : Type 0} → (D → DiskState) → Store D → Store D → ℕ → Option ℕ → PartWriter → PartWriter → Option (List (List ℕ))
+    → Option (List (List ℕ)) → Result T Refusal → State → Type 0
+TakesLeft state old new n limit from to was is result s =
+    FetchesFirst state old new n (WhereFitting from.schema.now (λ rows. TakesRows from to was is (first_of limit rows)))
+    (WhereFitting from.schema.now (AreEnough limit)) result s
 
 -- From the one state the store makes calls that only read, and where the result is Ok a writer is given the rows that satisfy, or the
--- first of them.
+-- first of them, where these are rows of its columns.
 pub record WritesSelected {D T : Type 0} (state : D → DiskState) (old new : Store D) (terms : Filter) (columns : Columns) (limit : Option ℕ) (before after : PartWriter)
     (was is : Option (List (List ℕ))) (result : Result T Refusal) (s : State) : Type 0 where
   pub reads : OnlyReads state old new s
-  pub written : OnOk result (TakesRows before after was is (first_of limit (query_rows terms columns s.table)))
+  pub written : OnOk result (RowsFit before.schema.now (query_rows terms columns s.table) → TakesRows before after was is (first_of limit (query_rows terms columns s.table)))
 
 -- From the one state the store makes calls that only read, and where the result is Ok a sink got files of the rows that satisfy, or of
--- the first of them.
+-- the first of them, where these are rows of these columns.
 pub record GivesFiles {D T : Type 0} (state : D → DiskState) (old new : Store D) (options : WriteOptions) (fs : Fields) (terms : Filter) (columns : Columns) (limit most : Option ℕ)
     (was is : Option (List (List ℕ))) (result : Result T Refusal) (s : State) : Type 0 where
   pub reads : OnlyReads state old new s
-  pub got : OnOk result (GotFiles options fs (first_of limit (query_rows terms columns s.table)) most was is)
+  pub got : OnOk result (RowsFit fs (query_rows terms columns s.table) → GotFiles options fs (first_of limit (query_rows terms columns s.table)) most was is)

@@ -1,11 +1,42 @@
--- Lines that are gathered before they are written.
-use Rattle.std.specs.Prelude.{◌≡◌, ℕ, Bool, List, ◌++◌, Option}
+-- Rows that are taken from a reader one by one, and lines that are gathered before they are written.
+use Rattle.std.specs.Prelude.{◌≡◌, ℕ, Bool, true, false, List, [], ◌∷◌, ◌++◌, length, Option, Some, None, Result, Ok, Err}
 use Rattle.std.specs.Io.KnownBytes.{Appends}
+use Rattle.bits.specs.declared.refusal.Refusal.{Refusal}
+use Rattle.bits.specs.declared.refusal.Refusal.TheVariants.{Memory}
 use Rattle.schema.specs.Values.{ValueTrees}
-use Rattle.schema.specs.Shape.{Fields}
+use Rattle.schema.specs.Shape.{Fields, no_fields}
+use Rattle.schema.specs.Fits.{RowsFit}
 use Rattle.rowtext.specs.declared.row_text.RowText.{RowText}
 use Rattle.rowtext.specs.Rows.{BeginsLineAs}
-use Rattle.commands.specs.Querying.{row_lines}
+use Rattle.commands.specs.Querying.{row_line, row_lines}
+
+-- ---- rows
+
+-- something is so of the first so many of some rows, and a reader would still give the others
+pub record HavePassed (Has Stand : List ValueTrees → Type 0) (n : ℕ) (all : List ValueTrees) : Type 0 where
+  pub given : List ValueTrees
+  pub left : List ValueTrees
+  pub has : Has given
+  pub stands : Stand left
+  pub joined : all ≡ given ++ left
+  pub many : length given ≡ n
+
+-- ---- lines
+
+-- the first of these rows is taken, and its line gathered after these lines; the others stand
+pub record AddsFirstLine (texts : Bool) (fs : Fields) (T : List ValueTrees → Type 0) (Gathers : List ℕ → Type 0) (lines : List ℕ)
+    (rows : List ValueTrees) : Type 0 where
+  pub first : ValueTrees
+  pub rest : List ValueTrees
+  pub split : rows ≡ first ∷ rest
+  pub stands : T rest
+  pub gathers : Gathers (lines ++ row_line texts fs first)
+
+-- the line of the first of the rows that stood, or none; out of memory aside, nothing is refused where rows stood
+abbrev pub AddsNextLine : Bool → Fields → (List ValueTrees → Type 0) → (List ValueTrees → Type 0) → (List ℕ → Type 0) → List ℕ → Result Bool Refusal → Type 0
+AddsNextLine texts fs S T Gathers lines (Ok true) = (rows : List ValueTrees) → S rows → RowsFit fs rows → AddsFirstLine texts fs T Gathers lines rows
+AddsNextLine texts fs S T Gathers lines (Ok false) = (rows : List ValueTrees) → S rows → (rows ≡ []) × (T [] × Gathers lines)
+AddsNextLine texts fs S T Gathers lines (Err e) = (rows : List ValueTrees) → S rows → e ≡ Memory
 
 -- the lines of these rows were written or are gathered
 pub record AreGathered (texts : Bool) (fs : Fields) (rows : List ValueTrees) (text : RowText) (old new : Option (List ℕ)) : Type 0 where
@@ -14,3 +45,14 @@ pub record AreGathered (texts : Bool) (fs : Fields) (rows : List ValueTrees) (te
   pub gathered : List ℕ
   pub gathers : BeginsLineAs texts text fs gathered
   pub joined : row_lines texts fs rows ≡ printed ++ gathered
+
+-- what makes the lines of rows of these columns has gathered none; without columns nothing is needed to make them
+abbrev pub BeginsLines : Bool → Fields → Option RowText → Type 0
+BeginsLines texts fs None = fs ≡ no_fields
+BeginsLines texts fs (Some text) = BeginsLineAs texts text fs []
+
+-- the lines of these rows, so many, are written, and none is gathered
+pub record HasWrittenLines (texts : Bool) (fs : Fields) (rows : List ValueTrees) (text : Option RowText) (old new : Option (List ℕ)) (count : ℕ) : Type 0 where
+  pub many : count ≡ length rows
+  pub written : Appends old new (row_lines texts fs rows)
+  pub again : BeginsLines texts fs text

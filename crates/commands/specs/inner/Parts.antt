@@ -1,6 +1,7 @@
 -- Rows that a writer has given away as files, and those that it still has.
-use Rattle.std.specs.Prelude.{◌≡◌, ℕ, List, [], ◌∷◌, ◌++◌, Option, None}
+use Rattle.std.specs.Prelude.{◌≡◌, ℕ, Bool, true, false, List, [], ◌∷◌, ◌++◌, Option, None}
 use Rattle.schema.specs.Values.{ValueTrees}
+use Rattle.schema.specs.Fits.{RowsFit}
 use Rattle.footer.specs.Writer.{has_rows, schema_of, options_of}
 use Rattle.dataset_words.specs.Files.{TakesFiles}
 use Rattle.commands.specs.declared.part_writer.PartWriter.{PartWriter}
@@ -31,3 +32,21 @@ pub record EndsFiles (from to : Option (List (List ℕ))) (writer : PartWriter) 
 -- a writer has the schema and the options of another one, and makes one file where that does
 abbrev pub WritesAlike : PartWriter → PartWriter → Type 0
 WritesAlike old new = (new.schema.now ≡ old.schema.now) × (new.options ≡ old.options) × (new.most ≡ old.most)
+
+-- a writer is given these rows, after those that it was given
+abbrev pub TakesRows : PartWriter → PartWriter → Option (List (List ℕ)) → Option (List (List ℕ)) → List ValueTrees → Type 0
+TakesRows old new was is rs = (from : Option (List (List ℕ))) (had : List ValueTrees) → HasGiven from was old had → HasGiven from is new (had ++ rs)
+
+-- the first of these rows is given to a writer; the others stand
+pub record TakesFirst (T : List ValueTrees → Type 0) (old new : PartWriter) (was is : Option (List (List ℕ))) (rows : List ValueTrees) : Type 0 where
+  pub first : ValueTrees
+  pub rest : List ValueTrees
+  pub split : rows ≡ first ∷ rest
+  pub stands : T rest
+  pub takes : TakesRows old new was is (first ∷ [])
+
+-- a writer is given the first of the rows that stood, where they are rows of its columns, or there is none
+abbrev pub TakesNext : (List ValueTrees → Type 0) → (List ValueTrees → Type 0) → PartWriter → PartWriter → Option (List (List ℕ))
+    → Option (List (List ℕ)) → Bool → Type 0
+TakesNext S T old new was is true = (rows : List ValueTrees) → S rows → RowsFit old.schema.now rows → TakesFirst T old new was is rows
+TakesNext S T old new was is false = (rows : List ValueTrees) → S rows → rows ≡ []

@@ -1,4 +1,4 @@
-use Rattle.std.proofs.Common.{◌≡◌, List, Vec, Global, option_map, refl, subst}
+use Rattle.std.proofs.Common.{◌≡◌, List, Vec, Global, Some, option_map, refl, subst}
 use Rattle.std.specs.Io.KnownBytes.{Appends}
 use Rattle.vault.proofs.Chained.{refused as passed}
 use Rattle.filter.specs.Terms.{terms_view}
@@ -6,7 +6,7 @@ use Rattle.filter.specs.declared.term.Term.{Term}
 use Rattle.table.specs.Views.{names_view}
 use Rattle.commands.specs.First.{first_lines}
 use Rattle.commands.specs.Querying.{ReadsFrom, read, not_read}
-use Rattle.commands.specs.inner.FirstBatches.{PrintsSelectedFirst}
+use Rattle.commands.specs.inner.Batches.{PrintsSelected}
 use Rattle.commands.proofs.first_rows.print_first_rows.Goals as goal
 
 pub returns-in_err-terms : goal.returns-in_err-terms
@@ -25,8 +25,8 @@ returns g c = record {
       let state = g.D.Disk.state in
       let contents = g.W.Write.contents in
       let terms = terms_view c.in_ok-terms.terms.items in
-      let selected = c.print_first_selected.ensures.prints honest s stands in
-      let told = subst (λ (ts : List (Vec Term Global)). PrintsSelectedFirst state c.args.texts c.args.store.now c.print_first_selected.new.store c.args.limit (terms_view ts) (names_view c.args.columns) (contents c.args.out.now)
-      (contents c.print_first_selected.new.out) c.print_first_selected.result s) c.as_slice.ensures.value selected in
+      let selected = c.print_selected.ensures.prints honest s stands in
+      let told = subst (λ (ts : List (Vec Term Global)). PrintsSelected state c.args.texts c.args.store.now c.print_selected.new.store (terms_view ts) (names_view c.args.columns) (Some c.args.limit) (contents c.args.out.now)
+      (contents c.print_selected.new.out) c.print_selected.result s) c.as_slice.ensures.value selected in
       read terms (c.in_ok-terms.ensures.stands s stands) told.reads told.printed;
 }

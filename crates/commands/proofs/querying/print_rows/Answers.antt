@@ -1,4 +1,4 @@
-use Rattle.std.proofs.Common.{◌≡◌, List, Vec, Global, option_map, refl, subst}
+use Rattle.std.proofs.Common.{◌≡◌, List, None, Vec, Global, option_map, refl, subst}
 use Rattle.std.specs.Io.KnownBytes.{Appends}
 use Rattle.vault.proofs.Chained.{refused as passed}
 use Rattle.filter.specs.Terms.{terms_view}
@@ -25,6 +25,6 @@ returns-clause-prints g c = λ honest s stands.
     let columns = names_view c.args.columns in
     let same = c.printing_of-progress.ensures.same in
     let selected = c.print_selected-printed.ensures.prints (rw same honest) s (rw same stands) in
-    let of_old = subst (λ (x : Store g.row.D.Denot). PrintsSelected state c.args.texts x c.print_selected-printed.new.store (terms_view c.as_slice-2.result.now) columns (contents c.args.out.now) (contents c.print_selected-printed.new.out) c.print_selected-printed.result s) same selected in
-    let told = subst (λ (ts : List (Vec Term Global)). PrintsSelected state c.args.texts c.args.store.now c.print_selected-printed.new.store (terms_view ts) columns (contents c.args.out.now) (contents c.print_selected-printed.new.out) c.print_selected-printed.result s) c.as_slice-2.ensures.value of_old in
+    let of_old = subst (λ (x : Store g.row.D.Denot). PrintsSelected state c.args.texts x c.print_selected-printed.new.store (terms_view c.as_slice-2.result.now) columns None (contents c.args.out.now) (contents c.print_selected-printed.new.out) c.print_selected-printed.result s) same selected in
+    let told = subst (λ (ts : List (Vec Term Global)). PrintsSelected state c.args.texts c.args.store.now c.print_selected-printed.new.store (terms_view ts) columns None (contents c.args.out.now) (contents c.print_selected-printed.new.out) c.print_selected-printed.result s) c.as_slice-2.ensures.value of_old in
     read terms (c.in_ok-terms.ensures.stands s stands) told.reads told.printed

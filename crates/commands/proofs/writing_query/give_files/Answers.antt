@@ -1,59 +1,45 @@
-use Rattle.std.proofs.Common.{[], ◌∙◌, OnOk}
-use Rattle.vault.proofs.Chained.{refused as passed}
+use Rattle.std.proofs.Common.{[], ◌∙◌, sym, subst}
+use Rattle.schema.specs.Shape.{Fields}
+use Rattle.schema.specs.Fits.{RowsFit}
 use Rattle.filter.specs.Terms.{terms_view}
 use Rattle.table.specs.Views.{names_view}
-use Rattle.commands.specs.QueryFile.{query_rows, first_of, GotFiles}
-use Rattle.commands.proofs.FilesOfQuery.{nothing_read, got}
-use Rattle.commands.proofs.OkThen.{ok_of}
+use Rattle.commands.specs.QueryFile.{query_rows, first_of}
+use Rattle.commands.proofs.Batched.{nothing_read}
+use Rattle.commands.proofs.FilesOfQuery.{got}
+use Rattle.commands.proofs.OkThen.{ok_of, err_then}
 use Rattle.commands.proofs.writing_query.give_files.Goals as goal
 
 pub returns-in_err-writer-clause-gives : goal.returns-in_err-writer-clause-gives
-returns-in_err-writer-clause-gives g c = λ honest s stands.
-    let was = g.S.FileSink.taken c.args.sink.now in
-    let e = c.in_err-writer.field-0.0 in
-    record {
-      reads = nothing_read g.D.Disk.state c.args.store.now s;
-      got = passed (λ r. OnOk r (GotFiles c.args.options.now c.args.schema.now (first_of c.args.limit (query_rows (terms_view c.args.terms.now) (names_view c.args.columns) s.table)) c.args.most was was)) c.from_residual.result e c.from_residual.ensures.1 tt;
-    }
+returns-in_err-writer-clause-gives g c = λ honest s stands. record {
+  reads = nothing_read g.D.Disk.state c.args.store.now s;
+  got = err_then _ c.from_residual.result c.in_err-writer.field-0.0 c.from_residual.ensures.1;
+}
 
 pub returns-in_err-write_selected-clause-gives : goal.returns-in_err-write_selected-clause-gives
 returns-in_err-write_selected-clause-gives g c = λ honest s stands.
     let wrote = c.write_selected.ensures.writes honest s stands in
-    let was = g.S.FileSink.taken c.args.sink.now in
-    let is = g.S.FileSink.taken c.write_selected.new.sink in
-    let e = c.in_err-write_selected.field-0.0 in
-    record {
-      reads = wrote.reads;
-      got = passed (λ r. OnOk r (GotFiles c.args.options.now c.args.schema.now (first_of c.args.limit (query_rows (terms_view c.args.terms.now) (names_view c.args.columns) s.table)) c.args.most was is)) c.from_residual-in_err-write_selected.result e
-          c.from_residual-in_err-write_selected.ensures.1 tt;
-    }
+    record { reads = wrote.reads; got = err_then _ c.from_residual-in_err-write_selected.result c.in_err-write_selected.field-0.0 c.from_residual-in_err-write_selected.ensures.1 }
 
 pub returns-in_err-last-clause-gives : goal.returns-in_err-last-clause-gives
 returns-in_err-last-clause-gives g c = λ honest s stands.
     let wrote = c.in_ok-write_selected.ensures.writes honest s stands in
-    let was = g.S.FileSink.taken c.args.sink.now in
-    let is = g.S.FileSink.taken c.write_selected.new.sink in
-    let e = c.in_err-last.field-0.0 in
-    record {
-      reads = wrote.reads;
-      got = passed (λ r. OnOk r (GotFiles c.args.options.now c.args.schema.now (first_of c.args.limit (query_rows (terms_view c.args.terms.now) (names_view c.args.columns) s.table)) c.args.most was is)) c.from_residual-in_err-last.result e
-          c.from_residual-in_err-last.ensures.1 tt;
-    }
+    record { reads = wrote.reads; got = err_then _ c.from_residual-in_err-last.result c.in_err-last.field-0.0 c.from_residual-in_err-last.ensures.1 }
 
 pub returns-clause-gives : goal.returns-clause-gives
 returns-clause-gives g c = λ honest s stands.
     let taken_of = g.S.FileSink.taken in
     let wrote = c.in_ok-write_selected.ensures.writes honest s stands in
-    let rs = first_of c.args.limit (query_rows (terms_view c.args.terms.now) (names_view c.args.columns) s.table) in
+    let all = query_rows (terms_view c.args.terms.now) (names_view c.args.columns) s.table in
+    let rs = first_of c.args.limit all in
     let was = taken_of c.args.sink.now in
     let to = taken_of c.write_selected.new.sink in
     let is = taken_of c.take.new.self in
     let writer = c.write_selected.new.writer in
-    let has = wrote.written was [] (c.in_ok-writer.ensures.begins was) in
     let alike = c.write_selected.ensures.alike in
     let of = c.in_ok-writer.ensures.of in
-    let over = c.in_ok-last.ensures.ends was to rs has in
     record {
       reads = wrote.reads;
-      got = ok_of c.take.result c.take.ensures.takes (got writer c.args.options.now c.args.schema.now rs c.args.most was to is c.in_ok-last.last.items (alike.0 ∙ of.0) (alike.1 ∙ of.1) (alike.2 ∙ of.2) over);
+      got = ok_of c.take.result c.take.ensures.takes (λ taken fit.
+          let has = wrote.written (subst (λ (f : Fields). RowsFit f all) (sym of.0) fit) was [] (c.in_ok-writer.ensures.begins was) in
+          got writer c.args.options.now c.args.schema.now rs c.args.most was to is c.in_ok-last.last.items (alike.0 ∙ of.0) (alike.1 ∙ of.1) (alike.2 ∙ of.2) (c.in_ok-last.ensures.ends was to rs has) taken);
     }

@@ -7,7 +7,9 @@ use Rattle.table.specs.Views.{names_view}
 use Rattle.commands.specs.Querying.{ReadsFrom, read, not_read}
 use Rattle.commands.specs.QueryFile.{GotQueryFiles, wanted_fields}
 use Rattle.commands.specs.inner.Fetched.{GivesFiles}
-use Rattle.commands.proofs.FilesOfQuery.{nothing_read}
+use Rattle.commands.proofs.Batched.{nothing_read}
+use Rattle.commands.proofs.OkThen.{ok_of}
+use Rattle.commands.proofs.Selected.{query_fits}
 use Rattle.commands.proofs.writing_query.query_files.Goals as goal
 
 pub returns-in_err-terms-clause-gives : goal.returns-in_err-terms-clause-gives
@@ -43,4 +45,4 @@ returns-clause-gives g c = λ honest s stands.
     let gives = c.give_files-given.ensures.gives honest s stands in
     let told = subst (λ (ts : List (Vec Term Global)). GivesFiles state c.args.store.now new options c.in_ok-schema.schema (terms_view ts) columns limit most was is c.give_files-given.result s) c.as_slice.ensures.value gives in
     let wanted = subst (λ (f : Fields). GivesFiles state c.args.store.now new options f terms columns limit most was is c.give_files-given.result s) fs told in
-    read terms (c.in_ok-terms.ensures.stands s stands) wanted.reads wanted.got
+    read terms (c.in_ok-terms.ensures.stands s stands) wanted.reads (ok_of c.give_files-given.result wanted.got (λ so. so (query_fits terms columns s.table stands.shows.valid)))

@@ -1,15 +1,16 @@
-use Rattle.std.proofs.Common.{◌≡◌, ◌++◌, length}
-use Rattle.std.specs.Vec.Iter.{into_iter_items, into_iter_len}
-use Rattle.schema.specs.Views.{rows_view}
-use Rattle.commands.specs.inner.Fetched.{TakesRows}
-use Rattle.commands.specs.inner.Parts.{WritesAlike}
+use Rattle.std.proofs.Common.{◌≤◌, List}
+use Rattle.schema.specs.Values.{ValueTrees}
+use Rattle.schema.specs.Fits.{RowsFit}
+use Rattle.scan.specs.Left.{rows_stand}
+use Rattle.commands.specs.inner.Gathering.{HavePassed}
+use Rattle.commands.specs.inner.Parts.{TakesRows, WritesAlike}
 use Rattle.commands.proofs.writing_query.write_rows.Given as goal
 
--- the writer has the rows so far, and the others are left
-abbrev pub invariant-loop-row : goal.invariant-loop-row
-invariant-loop-row g l = record {
-  joined : l.fn.rows.items ≡ l.yielded ++ into_iter_items l.row-iterator;
-  many : into_iter_len l.row-iterator ≡ length (into_iter_items l.row-iterator);
-  taken : TakesRows l.fn.writer l.writer (g.S.FileSink.taken l.fn.sink) (g.S.FileSink.taken l.sink) (rows_view l.yielded);
+-- the writer has the rows so far, which are rows of its columns
+abbrev pub invariant-loop-count : goal.invariant-loop-count
+invariant-loop-count g l = record {
+  passed : (all : List ValueTrees) → rows_stand l.fn.rows all → RowsFit l.fn.writer.schema.now all
+      → HavePassed (TakesRows l.fn.writer l.writer (g.S.FileSink.taken l.fn.sink) (g.S.FileSink.taken l.sink)) (rows_stand l.rows) l.count all;
+  within : l.count ≤ l.most;
   alike : WritesAlike l.fn.writer l.writer;
 }
