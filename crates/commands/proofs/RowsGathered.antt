@@ -11,7 +11,6 @@ use Rattle.footer.specs.declared.options.WriteOptions.{WriteOptions}
 use Rattle.manifest.specs.Groups.{Root}
 use Rattle.gather.specs.declared.gathered.Gathered.{Gathered}
 use Rattle.gather.specs.GatheredRows.{holds, gathered_shows, schema_of, BeginsRow, ShowsRow}
-use Rattle.commands.specs.Lines.{IsRowText}
 use Rattle.store.specs.Gathering.{KeepsTable}
 use Rattle.commands.specs.inner.GatheredRows.{HoldsLines, AddsLine}
 use Rattle.commands.proofs.Told.{told_line}

@@ -1,10 +1,9 @@
-use Rattle.std.proofs.Common.{◌≡◌, ◌∙◌, ℕ, List, refl, ap, subst}
+use Rattle.std.proofs.Common.{◌≡◌, ◌∙◌, refl, ap, subst}
 use Rattle.std.specs.Str.Lines.{lines}
-use Rattle.bits.specs.Refusals.{HasCause}
 use Rattle.vault.proofs.Chained.{refused}
 use Rattle.schema.specs.Shape.{Fields}
 use Rattle.manifest.specs.Groups.{Root, root_of}
-use Rattle.table.specs.Calls.{append, done}
+use Rattle.table.specs.Calls.{append}
 use Rattle.commands.specs.Lines.{AreRowTexts, AreRefusedRows, HasFirstFault}
 use Rattle.commands.specs.Making.{MakesFrom, made, not_made, AsksAppend}
 use Rattle.commands.specs.inner.GatheredRows.{HoldsLines}

@@ -1,4 +1,3 @@
-use Rattle.std.proofs.Common.{◌∙◌}
 use Rattle.std.proofs.lemmas.Result.{on_ok_weaker}
 use Rattle.rowtext.specs.Reader.{schema_of}
 use Rattle.commands.proofs.RowsGathered.{line_gathered}

@@ -1,5 +1,4 @@
 use Rattle.std.proofs.Common.{◌≡◌, false, map}
-use Rattle.schema.specs.Shape.{Fields}
 use Rattle.manifest.specs.Groups.{root_of}
 use Rattle.rowtext.specs.Reader.{schema_of}
 use Rattle.commands.specs.inner.GatheredRows.{HoldsLines}

@@ -1,4 +1,4 @@
-use Rattle.std.proofs.Common.{◌≡◌, ◌∷◌, [], ◌∙◌, Bool, true, Ok, List, refl, sym, subst}
+use Rattle.std.proofs.Common.{◌≡◌, ◌∷◌, [], ◌∙◌, Bool, Ok, List, refl, sym, subst}
 use Rattle.schema.specs.Shape.{Fields}
 use Rattle.schema.specs.Fits.{RowsFit}
 use Rattle.row_group.specs.Left.{TakesRowTo}
