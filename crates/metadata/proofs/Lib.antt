@@ -12,4 +12,3 @@ pub mod Places
 pub mod Rows
 pub mod Readings
 pub mod OwnHeader
-pub mod Numbers

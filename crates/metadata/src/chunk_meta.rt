@@ -83,7 +83,7 @@ fn chunk_meta_of(alloc: Global, fields: &[Field]) -> R<ChunkMeta>
 type Places = Known<Vec<u8>, Known<i64, Needed<ColumnMeta, Others>>>;
 
 fn places() -> Places
-    ensures { ⟦<Places as Slots>⟧.held result ≡ chunk_meta_start }
+    ensures { chunk_meta_start ≡ ⟦<Places as Slots>⟧.held result }
 {
     optional(
         ids::FILE_PATH,

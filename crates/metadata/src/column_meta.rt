@@ -140,7 +140,7 @@ type Places = Needed<
 >;
 
 fn places() -> Places
-    ensures { ⟦<Places as Slots>⟧.held result ≡ column_meta_start }
+    ensures { column_meta_start ≡ ⟦<Places as Slots>⟧.held result }
 {
     required(
         ids::KIND,

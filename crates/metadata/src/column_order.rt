@@ -64,7 +64,7 @@ fn column_order_of(alloc: Global, fields: &[Field]) -> R<ColumnOrder>
 type Places = Known<AnyStruct, Others>;
 
 fn places() -> Places
-    ensures { ⟦<Places as Slots>⟧.held result ≡ column_order_start }
+    ensures { column_order_start ≡ ⟦<Places as Slots>⟧.held result }
 {
     optional(ids::TYPE_ORDER, Others)
 }

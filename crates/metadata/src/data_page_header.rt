@@ -73,7 +73,7 @@ fn data_page_header_of(alloc: Global, fields: &[Field]) -> R<DataPageHeader>
 type Places = Needed<i32, Needed<i32, Known<i32, Known<i32, Known<Statistics, Others>>>>>;
 
 fn places() -> Places
-    ensures { ⟦<Places as Slots>⟧.held result ≡ data_page_header_start }
+    ensures { data_page_header_start ≡ ⟦<Places as Slots>⟧.held result }
 {
     required(
         ids::NUM_VALUES,

@@ -96,7 +96,7 @@ type Places = Needed<
 >;
 
 fn places() -> Places
-    ensures { ⟦<Places as Slots>⟧.held result ≡ data_page_header_v2_start }
+    ensures { data_page_header_v2_start ≡ ⟦<Places as Slots>⟧.held result }
 {
     required(
         ids::NUM_VALUES,

@@ -66,7 +66,7 @@ fn dictionary_page_header_of(alloc: Global, fields: &[Field]) -> R<DictionaryPag
 type Places = Needed<i32, Needed<i32, Known<bool, Others>>>;
 
 fn places() -> Places
-    ensures { ⟦<Places as Slots>⟧.held result ≡ dictionary_page_header_start }
+    ensures { dictionary_page_header_start ≡ ⟦<Places as Slots>⟧.held result }
 {
     required(
         ids::NUM_VALUES,

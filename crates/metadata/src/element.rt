@@ -82,7 +82,7 @@ type Places = Known<
 >;
 
 fn places() -> Places
-    ensures { ⟦<Places as Slots>⟧.held result ≡ element_start }
+    ensures { element_start ≡ ⟦<Places as Slots>⟧.held result }
 {
     optional(
         ids::KIND,

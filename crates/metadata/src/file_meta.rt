@@ -137,7 +137,7 @@ type Places = Known<
 >;
 
 fn places() -> Places
-    ensures { ⟦<Places as Slots>⟧.held result ≡ file_meta_start }
+    ensures { file_meta_start ≡ ⟦<Places as Slots>⟧.held result }
 {
     optional(
         ids::VERSION,

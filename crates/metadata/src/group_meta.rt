@@ -67,7 +67,7 @@ fn group_meta_of(alloc: Global, fields: &[Field]) -> R<GroupMeta>
 type Places = Needed<Vec<ChunkMeta>, Known<i64, Needed<i64, Others>>>;
 
 fn places() -> Places
-    ensures { ⟦<Places as Slots>⟧.held result ≡ group_meta_start }
+    ensures { group_meta_start ≡ ⟦<Places as Slots>⟧.held result }
 {
     required(
         ids::COLUMNS,

@@ -60,7 +60,7 @@ fn key_value_of(alloc: Global, fields: &[Field]) -> R<KeyValue>
 type Places = Needed<Vec<u8>, Known<Vec<u8>, Others>>;
 
 fn places() -> Places
-    ensures { ⟦<Places as Slots>⟧.held result ≡ key_value_start }
+    ensures { key_value_start ≡ ⟦<Places as Slots>⟧.held result }
 {
     required(ids::KEY, optional(ids::VALUE, Others))
 }

@@ -177,7 +177,7 @@ type Places = Needed<
 >;
 
 fn places() -> Places
-    ensures { ⟦<Places as Slots>⟧.held result ≡ page_header_start }
+    ensures { page_header_start ≡ ⟦<Places as Slots>⟧.held result }
 {
     required(
         ids::KIND,

@@ -177,8 +177,8 @@ impl Slots for Others {
 
     ghost contents = { other_row };
 
-    fn keep(&mut self, alloc: Global, _id: i16, value: Unread<'_>) -> R<usize> {
-        value.pass(alloc)
+    fn keep(&mut self, _alloc: Global, _id: i16, value: Unread<'_>) -> R<usize> {
+        value.pass()
     }
 
     fn contents(self) -> R<()> {

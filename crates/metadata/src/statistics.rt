@@ -109,7 +109,7 @@ type Places = Known<
 >;
 
 fn places() -> Places
-    ensures { ⟦<Places as Slots>⟧.held result ≡ statistics_start }
+    ensures { statistics_start ≡ ⟦<Places as Slots>⟧.held result }
 {
     optional(
         ids::MAX,

@@ -8,6 +8,10 @@ use Rattle.thrift_compact.specs.Tree.{Node, Nodes, list, Pairs, Fields, nest, no
 use Rattle.thrift_compact.specs.Values.{folded, folded_each}
 use Rattle.thrift_compact.specs.Compact.{IsSigned, kind, IsElement, IsValue, AreElements, ArePairs, AreFields}
 
+-- something stands in the first `used` bytes
+abbrev pub SomethingStands : {Y : Type 0} → (List ℕ → Y → ℕ → Type 0) → List ℕ → ℕ → Type 0
+SomethingStands {Y} Stands bytes used = (y : Y) × Stands bytes y used
+
 -- an i16 at the start of the bytes
 abbrev pub IsShortNumber : List ℕ → ℤ → ℕ → Type 0
 IsShortNumber bytes z used = IsSigned bytes z used × FitsSigned w16 z
