@@ -23,7 +23,7 @@ use Rattle.store.specs.declared.passing.FetchedRows.{FetchedRows}
 use Rattle.scan.specs.Left.{rows_held}
 use Rattle.commands.specs.Querying.{only_reads, ActsOn, OnlyReads}
 use Rattle.commands.specs.QueryFile.{query_rows, first_of}
-use Rattle.commands.specs.inner.Batches.{AreFetches}
+use Rattle.commands.specs.inner.Batches.{AreAllFetches}
 use Rattle.commands.specs.inner.Fetched.{HasFetched, FetchesUpTo, FetchesFirst, rows_of_each, WhereFitting, AreEnough}
 use Rattle.commands.proofs.OneByOne.{one_made, one_before, one_behind, history}
 use Rattle.commands.proofs.Selected.{rows_of_query, front_fits}
@@ -31,16 +31,16 @@ use Rattle.commands.proofs.FirstOf.{first_enough}
 
 -- ---- fetches
 
-pub fetches_more : (n : ℕ) (calls : List Call) → AreFetches n calls → AreFetches n (calls ++ fetch n ∷ [])
+pub fetches_more : (n : ℕ) (calls : List Call) → AreAllFetches n calls → AreAllFetches n (calls ++ fetch n ∷ [])
 fetches_more n [] all = (refl, tt)
 fetches_more n (c ∷ calls) all = (all.0, fetches_more n calls all.1)
 
-pub leave_open : (n : ℕ) (calls : List Call) → AreFetches n calls → list_all (leaves_open n) calls ≡ true
+pub leave_open : (n : ℕ) (calls : List Call) → AreAllFetches n calls → list_all (leaves_open n) calls ≡ true
 leave_open n [] all = refl
 leave_open n (c ∷ calls) all = rw (all.0, leave_open n calls all.1) refl
 
 -- then the cursor is closed
-pub closed_read : (n : ℕ) (calls : List Call) → AreFetches n calls → list_all only_reads (calls ++ close n ∷ []) ≡ true
+pub closed_read : (n : ℕ) (calls : List Call) → AreAllFetches n calls → list_all only_reads (calls ++ close n ∷ []) ≡ true
 closed_read n [] all = refl
 closed_read n (c ∷ calls) all = rw (all.0, closed_read n calls all.1) refl
 

@@ -12,7 +12,7 @@ use Rattle.footer.specs.Writing.{IsOutOfRange}
 use Rattle.footer.specs.Writer.{has_rows, schema_of, options_of}
 use Rattle.dataset_words.specs.Files.{TakesFiles}
 use Rattle.commands.specs.declared.part_writer.PartWriter.{PartWriter}
-use Rattle.commands.specs.QueryFile.{IsFileOfRows, AreFilesOfRows}
+use Rattle.commands.specs.QueryFile.{IsFileOfQuery, AreFilesOfRows}
 use Rattle.commands.specs.inner.Parts.{HasGiven, EndsFiles, WritesAlike}
 
 -- ---- files that are taken
@@ -30,7 +30,7 @@ takes_more (Some a) (Some b) (Some c) xs ys first second = second ∙ (ap (λ (f
 -- ---- what files mean
 
 -- a file before others
-pub one_before : (o : WriteOptions) (fs : Fields) (first rest : List ValueTrees) (file : List ℕ) (files : List (List ℕ)) → IsFileOfRows o fs first file → AreFilesOfRows o fs rest files → AreFilesOfRows o fs (first ++ rest) (file ∷ files)
+pub one_before : (o : WriteOptions) (fs : Fields) (first rest : List ValueTrees) (file : List ℕ) (files : List (List ℕ)) → IsFileOfQuery o fs first file → AreFilesOfRows o fs rest files → AreFilesOfRows o fs (first ++ rest) (file ∷ files)
 one_before o fs first rest file [] one others = absurd others
 one_before o fs first rest file (other ∷ files) one others = (first, rest, refl, one, others)
 
@@ -39,7 +39,7 @@ pub file_is : (writer : FileWriter) (options : WriteOptions) (fs : Fields) (rs :
     → IfOk result (λ (file : Vec ℕ Global). (all : List ValueTrees) → has_rows writer all → FileMeans file.items (schema_of writer) all)
     → IfOk result (λ (file : Vec ℕ Global). (all : List ValueTrees) → has_rows writer all → IsLaidOut (options_of writer) (schema_of writer) all file.items)
     → OnOk result ((all : List ValueTrees) → has_rows writer all → IsOutOfRange (options_of writer) → ⊥)
-    → IfOk result (λ (file : Vec ℕ Global). IsFileOfRows options fs rs file.items)
+    → IfOk result (λ (file : Vec ℕ Global). IsFileOfQuery options fs rs file.items)
 file_is writer options fs rs (Err e) has is_fs is_options means laid_out in_range = tt
 file_is writer options fs rs (Ok file) has is_fs is_options means laid_out in_range = record {
   means = subst (λ (f : Fields). FileMeans file.items f rs) is_fs (means rs has);
@@ -98,7 +98,7 @@ module _ (old new : PartWriter) (alike : WritesAlike old new) where
       waits from to rows (rows ++ row ∷ []) (has.waiting ++ row ∷ []) has (ap (λ (rs : List ValueTrees). rs ++ row ∷ []) has.joined ∙ append_assoc has.full has.waiting (row ∷ [])) (push has.waiting has.has) schema options
 
   -- those that waited are a file, which a sink took, and the writer is a new one
-  pub ended : (from was is : Option (List (List ℕ))) (rows : List ValueTrees) (has : HasGiven from was old rows) (file : List ℕ) → IsFileOfRows old.options old.schema.now has.waiting file → TakesFiles was is (file ∷ [])
+  pub ended : (from was is : Option (List (List ℕ))) (rows : List ValueTrees) (has : HasGiven from was old rows) (file : List ℕ) → IsFileOfQuery old.options old.schema.now has.waiting file → TakesFiles was is (file ∷ [])
       → has_rows new.writer [] → schema_of new.writer ≡ old.schema.now → options_of new.writer ≡ old.options → (old.most ≡ None → ⊥) → HasGiven from is new rows
   ended from was is rows has file one taken held schema options several = record {
     files = has.files ++ file ∷ [];
@@ -118,7 +118,7 @@ module _ (old new : PartWriter) (alike : WritesAlike old new) where
   }
 
 -- the rows that wait are the last file
-last : (writer : PartWriter) (from to : Option (List (List ℕ))) (rows : List ValueTrees) (has : HasGiven from to writer rows) (file : List ℕ) → IsFileOfRows writer.options writer.schema.now has.waiting file → EndsFiles from to writer rows file
+last : (writer : PartWriter) (from to : Option (List (List ℕ))) (rows : List ValueTrees) (has : HasGiven from to writer rows) (file : List ℕ) → IsFileOfQuery writer.options writer.schema.now has.waiting file → EndsFiles from to writer rows file
 last writer from to rows has file one = record {
   files = has.files;
   taken = has.taken;

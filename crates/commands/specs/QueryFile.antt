@@ -17,7 +17,7 @@ abbrev pub query_rows : Filter → Columns → Table → List ValueTrees
 query_rows terms columns t = map (cut (wanted_places columns 0 t.schema)) (filter (satisfies t.schema terms) (rows t.groups))
 
 -- the bytes of a file mean exactly these rows of this schema, laid out as these options say, which are in range
-pub record IsFileOfRows (options : WriteOptions) (fs : Fields) (rs : List ValueTrees) (bytes : List ℕ) : Type 0 where
+pub record IsFileOfQuery (options : WriteOptions) (fs : Fields) (rs : List ValueTrees) (bytes : List ℕ) : Type 0 where
   pub means : FileMeans bytes fs rs
   pub laid_out : IsLaidOut options fs rs bytes
   pub in_range : IsOutOfRange options → ⊥
@@ -26,9 +26,9 @@ pub record IsFileOfRows (options : WriteOptions) (fs : Fields) (rs : List ValueT
 -- one file at least.
 abbrev pub AreFilesOfRows : WriteOptions → Fields → List ValueTrees → List (List ℕ) → Type 0
 AreFilesOfRows options fs rs [] = ⊥
-AreFilesOfRows options fs rs (file ∷ []) = IsFileOfRows options fs rs file
+AreFilesOfRows options fs rs (file ∷ []) = IsFileOfQuery options fs rs file
 AreFilesOfRows options fs rs (file ∷ other ∷ files) =
-    (first rest : List ValueTrees) × (rs ≡ first ++ rest) × IsFileOfRows options fs first file × AreFilesOfRows options fs rest (other ∷ files)
+    (first rest : List ValueTrees) × (rs ≡ first ++ rest) × IsFileOfQuery options fs first file × AreFilesOfRows options fs rest (other ∷ files)
 
 -- a sink got, after the files that it had, files of these rows, one after another: a single one where there is to be one
 pub record GotFiles (options : WriteOptions) (fs : Fields) (rs : List ValueTrees) (most : Option ℕ) (was is : Option (List (List ℕ))) : Type 0 where

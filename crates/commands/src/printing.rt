@@ -68,7 +68,8 @@ pub fn print_answer<W: Write>(
     texts: bool,
     out: &mut W,
 ) -> R<()>
-    ensures written { OnOk result ((d : Data) × (answer_json_as texts schema.now answer.now ≡ Ok d) × Appends (W.contents out.old) (W.contents out.new) (compact_text d ++ 10 ∷ [])) }
+    ensures written { OnOk result ((d : Data) × (answer_json_as texts schema.now answer.now ≡ Ok d)
+        × Appends (W.contents out.old) (W.contents out.new) (compact_text d ++ 10 ∷ [])) }
 {
     let mut text = answer_to_as(alloc, schema, answer, texts)?;
     text.push('\n')?;
@@ -78,7 +79,8 @@ pub fn print_answer<W: Write>(
 /// Prints a schema, a line of JSON that [`schema_from`](jsonrows::schema_from) reads as it. Refused Device where it cannot be
 /// written.
 pub fn print_columns<W: Write>(alloc: Global, schema: &Schema, out: &mut W) -> R<()>
-    ensures written { OnOk result ((ds : Items) × PrintsFields schema.now ds × Appends (W.contents out.old) (W.contents out.new) (compact_text (array ds) ++ 10 ∷ [])) }
+    ensures written { OnOk result ((ds : Items) × PrintsFields schema.now ds
+        × Appends (W.contents out.old) (W.contents out.new) (compact_text (array ds) ++ 10 ∷ [])) }
 {
     let mut text = schema_to(alloc, schema)?;
     text.push('\n')?;

@@ -43,8 +43,10 @@ pub fn filter_of<D: Disk>(
     text: Option<&str>,
     texts: bool,
 ) -> R<Vec<Vec<Term>>>
-    ensures stands { (s : State) → Stands D.state store.now s → IfOk result (λ terms. IsAskedFilter texts (leaves_of s.table.schema) (option_map (λ t. t.now) text.entry) (terms_view terms.items)) }
-    ensures which { (s : State) → Stands D.state store.now s → IfErr result (IsRefusedFilterOf texts (leaves_of s.table.schema) (option_map (λ t. t.now) text.entry)) }
+    ensures stands { (s : State) → Stands D.state store.now s
+        → IfOk result (λ terms. IsAskedFilter texts (leaves_of s.table.schema) (option_map (λ t. t.now) text.entry) (terms_view terms.items)) }
+    ensures which { (s : State) → Stands D.state store.now s
+        → IfErr result (IsRefusedFilterOf texts (leaves_of s.table.schema) (option_map (λ t. t.now) text.entry)) }
 {
     match text {
         Some(text) => filter_from_as(alloc, store.schema(), text, texts),
@@ -69,7 +71,8 @@ pub fn print_rows<D: Disk, W: Write, E: Write>(
     shows: bool,
 ) -> R<()>
     ensures prints { Reads D.state texts store.old store.new (option_map (λ t. t.now) filter.entry)
-        (λ terms table. Appends (W.contents out.old) (W.contents out.new) (query_lines texts terms (names_view columns.entry) table)) (W.contents out.new ≡ W.contents out.old) result }
+        (λ terms table. Appends (W.contents out.old) (W.contents out.new) (query_lines texts terms (names_view columns.entry) table))
+        (W.contents out.new ≡ W.contents out.old) result }
     ensures quiet { shows ≡ false → E.contents err.new ≡ E.contents err.old }
 {
     let terms = filter_of(alloc, store, filter, texts)?;
@@ -229,7 +232,8 @@ pub fn print_count<D: Disk, W: Write>(
     out: &mut W,
 ) -> R<()>
     ensures prints { Reads D.state texts store.old store.new (option_map (λ t. t.now) filter.entry)
-        (λ terms table. Appends (W.contents out.old) (W.contents out.new) (decimal (row_count terms table) ++ codes "\n")) (W.contents out.new ≡ W.contents out.old) result }
+        (λ terms table. Appends (W.contents out.old) (W.contents out.new) (decimal (row_count terms table) ++ codes "\n"))
+        (W.contents out.new ≡ W.contents out.old) result }
 {
     let terms = filter_of(alloc, store, filter, texts)?;
     let count = store.count(alloc, terms.as_slice())?;

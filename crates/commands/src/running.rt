@@ -51,7 +51,8 @@ pub fn print_answers<W: Write>(
     texts: bool,
     out: &mut W,
 ) -> R<()>
-    ensures printed { OnOk result ((printed : List ℕ) × AreAnswerLines texts schema.now answers.now printed × Appends (W.contents out.old) (W.contents out.new) printed) }
+    ensures printed { OnOk result ((printed : List ℕ) × AreAnswerLines texts schema.now answers.now printed
+        × Appends (W.contents out.old) (W.contents out.new) printed) }
 {
     for answer in answers {
         print_answer(alloc, schema, answer, texts, out)?;

@@ -97,7 +97,8 @@ fn give_files<D: Disk, S: FileSink, E: Write>(
     progress: &mut Progress,
 ) -> R<()>
     ensures gives { (D.state store.old.vault.disk).honest → (s : State) → Stands D.state store.old s
-        → GivesFiles D.state store.old store.new options.now schema.now (terms_view terms.now) (names_view columns.entry) limit most (S.taken sink.old) (S.taken sink.new) result s }
+        → GivesFiles D.state store.old store.new options.now schema.now (terms_view terms.now) (names_view columns.entry) limit most
+        (S.taken sink.old) (S.taken sink.new) result s }
     ensures quiet { progress.old.is_shown ≡ false → E.contents err.new ≡ E.contents err.old }
     ensures same { progress.new.is_shown ≡ progress.old.is_shown }
 {
@@ -130,7 +131,8 @@ fn write_selected<D: Disk, S: FileSink, E: Write>(
     progress: &mut Progress,
 ) -> R<()>
     ensures writes { (D.state store.old.vault.disk).honest → (s : State) → Stands D.state store.old s
-        → WritesSelected D.state store.old store.new (terms_view terms.now) (names_view columns.entry) limit writer.old writer.new (S.taken sink.old) (S.taken sink.new) result s }
+        → WritesSelected D.state store.old store.new (terms_view terms.now) (names_view columns.entry) limit writer.old writer.new
+        (S.taken sink.old) (S.taken sink.new) result s }
     ensures alike { WritesAlike writer.old writer.new }
     ensures quiet { progress.old.is_shown ≡ false → E.contents err.new ≡ E.contents err.old }
     ensures same { progress.new.is_shown ≡ progress.old.is_shown }

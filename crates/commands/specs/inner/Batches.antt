@@ -13,8 +13,8 @@ use Rattle.commands.specs.Querying.{row_lines, OnlyReads}
 use Rattle.commands.specs.QueryFile.{wanted_fields, query_rows, first_of}
 
 -- all calls are fetches of the cursor of this number
-abbrev pub AreFetches : ℕ → List Call → Type 0
-AreFetches n calls = AllByRecursion (λ call. call ≡ fetch n) calls
+abbrev pub AreAllFetches : ℕ → List Call → Type 0
+AreAllFetches n calls = AllByRecursion (λ call. call ≡ fetch n) calls
 
 -- From the one state the store makes calls that only read, and where the result is Ok the lines of the rows that satisfy are printed, or
 -- of the first of them.

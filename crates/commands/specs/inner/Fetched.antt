@@ -18,7 +18,7 @@ use Rattle.store.specs.Stands.{Stands}
 use Rattle.commands.specs.declared.part_writer.PartWriter.{PartWriter}
 use Rattle.commands.specs.Querying.{row_lines, ActsOn, OnlyReads}
 use Rattle.commands.specs.QueryFile.{query_rows, first_of, GotFiles}
-use Rattle.commands.specs.inner.Batches.{AreFetches}
+use Rattle.commands.specs.inner.Batches.{AreAllFetches}
 use Rattle.commands.specs.inner.Gathering.{BeginsLines}
 use Rattle.commands.specs.inner.Parts.{TakesRows}
 
@@ -29,7 +29,7 @@ pub record HasFetched {D : Type 0} (state : D → DiskState) (old new : Store D)
   pub last : State
   pub acts : ActsOn state old calls answers new s last
   pub as_many : length calls ≡ length answers
-  pub fetches : AreFetches n calls
+  pub fetches : AreAllFetches n calls
   pub stands : Stands state new last
   pub done : Done (given n calls answers)
 
@@ -39,7 +39,7 @@ pub record FetchesUpTo (n : ℕ) (Done Enough : List Batch → Type 0) (calls : 
   pub front : List Call
   pub told : List Answer
   pub as_many : length front ≡ length told
-  pub fetches : AreFetches n front
+  pub fetches : AreAllFetches n front
   pub over : ((calls ≡ front ++ fetch n ∷ []) × (answers ≡ told ++ ended ∷ [])) ⊎ ((calls ≡ front) × (answers ≡ told) × Enough (given n front told))
   pub done : Done (given n front told)
 
@@ -50,7 +50,7 @@ pub record FetchesFirst {D T : Type 0} (state : D → DiskState) (old new : Stor
   pub answers : List Answer
   pub last : State
   pub acts : ActsOn state old calls answers new s last
-  pub fetches : AreFetches n calls
+  pub fetches : AreAllFetches n calls
   pub stands : Stands state new last
   pub all : OnOk result (FetchesUpTo n Done Enough calls answers)
 
