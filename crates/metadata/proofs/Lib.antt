@@ -8,3 +8,8 @@ pub mod Texts
 pub mod Carried
 pub mod Own
 pub mod Shaped
+pub mod Places
+pub mod Rows
+pub mod Readings
+pub mod OwnHeader
+pub mod Numbers

@@ -7,3 +7,4 @@ pub mod Views
 pub mod Answers
 pub mod Weight
 pub mod Kept
+pub mod inner

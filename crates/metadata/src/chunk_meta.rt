@@ -1,6 +1,6 @@
 //! ChunkMeta: the struct, how it is read and how it is written.
 
-ghost use Rattle.std.specs.Prelude.{◌≡◌, IfOk};
+ghost use Rattle.std.specs.Prelude.{◌≡◌, IfOk, refl};
 ghost use Rattle.bits.specs.Refusals.{RefusedMemoryOnly};
 ghost use Rattle.thrift_compact.specs.View.{field_views, tree_view};
 ghost use Rattle.metadata.specs.FieldValues.{record_by};
@@ -8,6 +8,7 @@ ghost use Rattle.metadata.specs.ToTree.{chunk_meta_fields, record_as, STRUCT};
 ghost use Rattle.metadata.specs.FromTree.{chunk_meta};
 ghost use Rattle.metadata.specs.Records.{ChunkMeta as ChunkMetaShown};
 ghost use Rattle.metadata.specs.Views.{chunk_meta_view};
+ghost use Rattle.metadata.specs.inner.Starts.{chunk_meta_start};
 ghost use Rattle.metadata.specs.Answers.{IsRecordOf};
 
 use crate::column_meta::ColumnMeta;
@@ -15,9 +16,10 @@ use crate::copies::copied_text;
 use crate::ids::chunk as ids;
 use crate::known::{FromNode, known_as, needed_as};
 use crate::put::{ToElement, ToNode, put, put_given};
+use crate::slots::{Known, Needed, Others, Slots, optional, read_row, required};
 use bits::{R, Refusal};
 use std::alloc::Global;
-use thrift_compact::{ElementType, Field, Node, Tree};
+use thrift_compact::{ElementType, Field, Node, Tree, Unread};
 
 /// A ColumnChunk (`parquet.thrift`): where a column of a group stands.
 #[derive(Debug, Drop)]
@@ -77,6 +79,18 @@ fn chunk_meta_of(alloc: Global, fields: &[Field]) -> R<ChunkMeta>
     })
 }
 
+/// The places of the record's fields.
+type Places = Known<Vec<u8>, Known<i64, Needed<ColumnMeta, Others>>>;
+
+fn places() -> Places
+    ensures { ⟦<Places as Slots>⟧.held result ≡ chunk_meta_start }
+{
+    optional(
+        ids::FILE_PATH,
+        optional(ids::FILE_OFFSET, required(ids::META_DATA, Others)),
+    )
+}
+
 impl FromNode for ChunkMeta {
     ghost Shown = { ChunkMetaShown };
 
@@ -90,6 +104,18 @@ impl FromNode for ChunkMeta {
             _ => Err(Refusal::Thrift),
         }
     }
+
+    fn from_unread(alloc: Global, value: Unread<'_>) -> R<(ChunkMeta, usize)> {
+        let ((file_path, (file_offset, (meta_data, ()))), used) = read_row(alloc, value, places())?;
+        let record = ChunkMeta {
+            file_path,
+            file_offset,
+            meta_data,
+        };
+        Ok((record, used))
+    }
+
+    ghost no_flags = { λ _. refl };
 }
 
 /// The fields of the record.

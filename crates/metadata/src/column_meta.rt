@@ -1,6 +1,6 @@
 //! ColumnMeta: the struct, how it is read and how it is written.
 
-ghost use Rattle.std.specs.Prelude.{◌≡◌, option_map, IfOk};
+ghost use Rattle.std.specs.Prelude.{◌≡◌, option_map, IfOk, refl};
 ghost use Rattle.bits.specs.Refusals.{RefusedMemoryOnly};
 ghost use Rattle.thrift_compact.specs.View.{field_views, tree_view};
 ghost use Rattle.metadata.specs.FieldValues.{record_by};
@@ -8,16 +8,18 @@ ghost use Rattle.metadata.specs.ToTree.{column_meta_fields, record_as};
 ghost use Rattle.metadata.specs.FromTree.{column_meta};
 ghost use Rattle.metadata.specs.Records.{ColumnMeta as ColumnMetaShown};
 ghost use Rattle.metadata.specs.Views.{statistics_view, column_meta_view};
+ghost use Rattle.metadata.specs.inner.Starts.{column_meta_start};
 ghost use Rattle.metadata.specs.Answers.{IsRecordOf};
 
 use crate::copies::{copied_numbers, copied_texts};
 use crate::ids::column as ids;
 use crate::known::{FromNode, known_as, needed_as};
 use crate::put::{ToNode, put, put_given};
+use crate::slots::{Known, Needed, Others, Slots, optional, read_row, required};
 use crate::statistics::Statistics;
 use bits::{R, Refusal};
 use std::alloc::Global;
-use thrift_compact::{Field, Node, Tree};
+use thrift_compact::{Field, Node, Tree, Unread};
 
 /// A ColumnMetaData (`parquet.thrift`); `kind` is its `type`. `num_values` counts entries, nulls among
 /// them; the sizes are of bytes, page headers among them; the offsets are positions in the file.
@@ -119,6 +121,57 @@ fn column_meta_of(alloc: Global, fields: &[Field]) -> R<ColumnMeta>
     })
 }
 
+/// The places of the record's fields.
+type Places = Needed<
+    i32,
+    Known<
+        Vec<i32>,
+        Needed<
+            Vec<Vec<u8>>,
+            Needed<
+                i32,
+                Needed<
+                    i64,
+                    Known<i64, Known<i64, Needed<i64, Known<i64, Known<Statistics, Others>>>>>,
+                >,
+            >,
+        >,
+    >,
+>;
+
+fn places() -> Places
+    ensures { ⟦<Places as Slots>⟧.held result ≡ column_meta_start }
+{
+    required(
+        ids::KIND,
+        optional(
+            ids::ENCODINGS,
+            required(
+                ids::PATH_IN_SCHEMA,
+                required(
+                    ids::CODEC,
+                    required(
+                        ids::NUM_VALUES,
+                        optional(
+                            ids::TOTAL_UNCOMPRESSED_SIZE,
+                            optional(
+                                ids::TOTAL_COMPRESSED_SIZE,
+                                required(
+                                    ids::DATA_PAGE_OFFSET,
+                                    optional(
+                                        ids::DICTIONARY_PAGE_OFFSET,
+                                        optional(ids::STATISTICS, Others),
+                                    ),
+                                ),
+                            ),
+                        ),
+                    ),
+                ),
+            ),
+        ),
+    )
+}
+
 impl FromNode for ColumnMeta {
     ghost Shown = { ColumnMetaShown };
 
@@ -132,6 +185,52 @@ impl FromNode for ColumnMeta {
             _ => Err(Refusal::Thrift),
         }
     }
+
+    fn from_unread(alloc: Global, value: Unread<'_>) -> R<(ColumnMeta, usize)> {
+        let (
+            (
+                kind,
+                (
+                    encodings,
+                    (
+                        path_in_schema,
+                        (
+                            codec,
+                            (
+                                num_values,
+                                (
+                                    total_uncompressed_size,
+                                    (
+                                        total_compressed_size,
+                                        (
+                                            data_page_offset,
+                                            (dictionary_page_offset, (statistics, ())),
+                                        ),
+                                    ),
+                                ),
+                            ),
+                        ),
+                    ),
+                ),
+            ),
+            used,
+        ) = read_row(alloc, value, places())?;
+        let record = ColumnMeta {
+            kind,
+            encodings,
+            path_in_schema,
+            codec,
+            num_values,
+            total_uncompressed_size,
+            total_compressed_size,
+            data_page_offset,
+            dictionary_page_offset,
+            statistics,
+        };
+        Ok((record, used))
+    }
+
+    ghost no_flags = { λ _. refl };
 }
 
 /// The fields of the record.

@@ -1,6 +1,6 @@
 //! ColumnOrder: the union, how it is read and how it is written.
 
-ghost use Rattle.std.specs.Prelude.{◌≡◌, map, replicate, IfOk};
+ghost use Rattle.std.specs.Prelude.{◌≡◌, map, replicate, IfOk, refl};
 ghost use Rattle.bits.specs.Refusals.{RefusedMemoryOnly};
 ghost use Rattle.thrift_compact.specs.View.{field_views, tree_view};
 ghost use Rattle.metadata.specs.FieldValues.{record_by};
@@ -8,14 +8,16 @@ ghost use Rattle.metadata.specs.ToTree.{column_order_fields, record_as, STRUCT};
 ghost use Rattle.metadata.specs.FromTree.{column_order};
 ghost use Rattle.metadata.specs.Records.{ColumnOrder as ColumnOrderShown, type_order};
 ghost use Rattle.metadata.specs.Views.{column_order_view};
+ghost use Rattle.metadata.specs.inner.Starts.{column_order_start};
 ghost use Rattle.metadata.specs.Answers.{IsRecordOf};
 
 use crate::ids::order as ids;
 use crate::known::{AnyStruct, FromNode, known_as};
 use crate::put::{ToElement, ToNode};
+use crate::slots::{Known, Others, Slots, optional, read_row};
 use bits::{R, Refusal};
 use std::alloc::Global;
-use thrift_compact::{ElementType, Field, Node, Tree};
+use thrift_compact::{ElementType, Field, Node, Tree, Unread};
 
 /// A ColumnOrder (`parquet.thrift`), a union: how the bounds of a column's statistics are ordered.
 #[derive(Debug, Clone, Copy, PartialEq, Eq)]
@@ -58,6 +60,15 @@ fn column_order_of(alloc: Global, fields: &[Field]) -> R<ColumnOrder>
     }
 }
 
+/// The places of the record's fields.
+type Places = Known<AnyStruct, Others>;
+
+fn places() -> Places
+    ensures { ⟦<Places as Slots>⟧.held result ≡ column_order_start }
+{
+    optional(ids::TYPE_ORDER, Others)
+}
+
 impl FromNode for ColumnOrder {
     ghost Shown = { ColumnOrderShown };
 
@@ -71,6 +82,17 @@ impl FromNode for ColumnOrder {
             _ => Err(Refusal::Thrift),
         }
     }
+
+    fn from_unread(alloc: Global, value: Unread<'_>) -> R<(ColumnOrder, usize)> {
+        let ((found, ()), used) = read_row(alloc, value, places())?;
+        if found.is_some() {
+            Ok((ColumnOrder::TypeOrder, used))
+        } else {
+            Ok((ColumnOrder::Other, used))
+        }
+    }
+
+    ghost no_flags = { λ _. refl };
 }
 
 /// The fields of the order.

@@ -1,6 +1,6 @@
 //! DataPageHeader: the struct, how it is read and how it is written.
 
-ghost use Rattle.std.specs.Prelude.{◌≡◌, IfOk};
+ghost use Rattle.std.specs.Prelude.{◌≡◌, IfOk, refl};
 ghost use Rattle.bits.specs.Refusals.{RefusedMemoryOnly};
 ghost use Rattle.thrift_compact.specs.View.{field_views, tree_view};
 ghost use Rattle.metadata.specs.FieldValues.{record_by};
@@ -8,15 +8,17 @@ ghost use Rattle.metadata.specs.ToTree.{data_page_header_fields, record_as};
 ghost use Rattle.metadata.specs.FromTree.{data_page_header};
 ghost use Rattle.metadata.specs.Records.{DataPageHeader as DataPageHeaderShown};
 ghost use Rattle.metadata.specs.Views.{data_page_header_view};
+ghost use Rattle.metadata.specs.inner.Starts.{data_page_header_start};
 ghost use Rattle.metadata.specs.Answers.{IsRecordOf};
 
 use crate::ids::data as ids;
 use crate::known::{FromNode, known_as, needed_as};
 use crate::put::{ToNode, put, put_given};
+use crate::slots::{Known, Needed, Others, Slots, optional, read_row, required};
 use crate::statistics::Statistics;
 use bits::{R, Refusal};
 use std::alloc::Global;
-use thrift_compact::{Field, Node, Tree};
+use thrift_compact::{Field, Node, Tree, Unread};
 
 /// A DataPageHeader (`parquet.thrift`): of a page of version 1.
 #[derive(Debug, Drop)]
@@ -67,6 +69,27 @@ fn data_page_header_of(alloc: Global, fields: &[Field]) -> R<DataPageHeader>
     })
 }
 
+/// The places of the record's fields.
+type Places = Needed<i32, Needed<i32, Known<i32, Known<i32, Known<Statistics, Others>>>>>;
+
+fn places() -> Places
+    ensures { ⟦<Places as Slots>⟧.held result ≡ data_page_header_start }
+{
+    required(
+        ids::NUM_VALUES,
+        required(
+            ids::ENCODING,
+            optional(
+                ids::DEFINITION_LEVEL_ENCODING,
+                optional(
+                    ids::REPETITION_LEVEL_ENCODING,
+                    optional(ids::STATISTICS, Others),
+                ),
+            ),
+        ),
+    )
+}
+
 impl FromNode for DataPageHeader {
     ghost Shown = { DataPageHeaderShown };
 
@@ -80,6 +103,29 @@ impl FromNode for DataPageHeader {
             _ => Err(Refusal::Thrift),
         }
     }
+
+    fn from_unread(alloc: Global, value: Unread<'_>) -> R<(DataPageHeader, usize)> {
+        let (
+            (
+                num_values,
+                (
+                    encoding,
+                    (definition_level_encoding, (repetition_level_encoding, (statistics, ()))),
+                ),
+            ),
+            used,
+        ) = read_row(alloc, value, places())?;
+        let record = DataPageHeader {
+            num_values,
+            encoding,
+            definition_level_encoding,
+            repetition_level_encoding,
+            statistics,
+        };
+        Ok((record, used))
+    }
+
+    ghost no_flags = { λ _. refl };
 }
 
 /// The fields of the record.

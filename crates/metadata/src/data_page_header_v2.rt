@@ -1,6 +1,6 @@
 //! DataPageHeaderV2: the struct, how it is read and how it is written.
 
-ghost use Rattle.std.specs.Prelude.{◌≡◌, IfOk};
+ghost use Rattle.std.specs.Prelude.{◌≡◌, IfOk, refl};
 ghost use Rattle.bits.specs.Refusals.{RefusedMemoryOnly};
 ghost use Rattle.thrift_compact.specs.View.{field_views, tree_view};
 ghost use Rattle.metadata.specs.FieldValues.{record_by};
@@ -8,15 +8,17 @@ ghost use Rattle.metadata.specs.ToTree.{data_page_header_v2_fields, record_as};
 ghost use Rattle.metadata.specs.FromTree.{data_page_header_v2};
 ghost use Rattle.metadata.specs.Records.{DataPageHeaderV2 as DataPageHeaderV2Shown};
 ghost use Rattle.metadata.specs.Views.{data_page_header_v2_view};
+ghost use Rattle.metadata.specs.inner.Starts.{data_page_header_v2_start};
 ghost use Rattle.metadata.specs.Answers.{IsRecordOf};
 
 use crate::ids::data_v2 as ids;
 use crate::known::{FromNode, known_as, needed_as};
 use crate::put::{ToNode, put, put_given};
+use crate::slots::{Known, Needed, Others, Slots, optional, read_row, required};
 use crate::statistics::Statistics;
 use bits::{R, Refusal};
 use std::alloc::Global;
-use thrift_compact::{Field, Node, Tree};
+use thrift_compact::{Field, Node, Tree, Unread};
 
 /// A DataPageHeaderV2 (`parquet.thrift`): of a page of version 2, its lengths in bytes.
 #[derive(Debug, Drop)]
@@ -84,6 +86,39 @@ fn data_page_header_v2_of(alloc: Global, fields: &[Field]) -> R<DataPageHeaderV2
     })
 }
 
+/// The places of the record's fields.
+type Places = Needed<
+    i32,
+    Known<
+        i32,
+        Known<i32, Needed<i32, Needed<i32, Needed<i32, Known<bool, Known<Statistics, Others>>>>>>,
+    >,
+>;
+
+fn places() -> Places
+    ensures { ⟦<Places as Slots>⟧.held result ≡ data_page_header_v2_start }
+{
+    required(
+        ids::NUM_VALUES,
+        optional(
+            ids::NUM_NULLS,
+            optional(
+                ids::NUM_ROWS,
+                required(
+                    ids::ENCODING,
+                    required(
+                        ids::DEFINITION_LEVELS_BYTE_LENGTH,
+                        required(
+                            ids::REPETITION_LEVELS_BYTE_LENGTH,
+                            optional(ids::IS_COMPRESSED, optional(ids::STATISTICS, Others)),
+                        ),
+                    ),
+                ),
+            ),
+        ),
+    )
+}
+
 impl FromNode for DataPageHeaderV2 {
     ghost Shown = { DataPageHeaderV2Shown };
 
@@ -97,6 +132,41 @@ impl FromNode for DataPageHeaderV2 {
             _ => Err(Refusal::Thrift),
         }
     }
+
+    fn from_unread(alloc: Global, value: Unread<'_>) -> R<(DataPageHeaderV2, usize)> {
+        let (
+            (
+                num_values,
+                (
+                    num_nulls,
+                    (
+                        num_rows,
+                        (
+                            encoding,
+                            (
+                                definition_levels_byte_length,
+                                (repetition_levels_byte_length, (is_compressed, (statistics, ()))),
+                            ),
+                        ),
+                    ),
+                ),
+            ),
+            used,
+        ) = read_row(alloc, value, places())?;
+        let record = DataPageHeaderV2 {
+            num_values,
+            num_nulls,
+            num_rows,
+            encoding,
+            definition_levels_byte_length,
+            repetition_levels_byte_length,
+            is_compressed,
+            statistics,
+        };
+        Ok((record, used))
+    }
+
+    ghost no_flags = { λ _. refl };
 }
 
 /// The fields of the record.

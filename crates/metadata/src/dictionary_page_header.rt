@@ -1,6 +1,6 @@
 //! DictionaryPageHeader: the struct, how it is read and how it is written.
 
-ghost use Rattle.std.specs.Prelude.{◌≡◌, IfOk};
+ghost use Rattle.std.specs.Prelude.{◌≡◌, IfOk, refl};
 ghost use Rattle.bits.specs.Refusals.{RefusedMemoryOnly};
 ghost use Rattle.thrift_compact.specs.View.{field_views, tree_view};
 ghost use Rattle.metadata.specs.FieldValues.{record_by};
@@ -8,14 +8,16 @@ ghost use Rattle.metadata.specs.ToTree.{dictionary_page_header_fields, record_as
 ghost use Rattle.metadata.specs.FromTree.{dictionary_page_header};
 ghost use Rattle.metadata.specs.Records.{DictionaryPageHeader as DictionaryPageHeaderShown};
 ghost use Rattle.metadata.specs.Views.{dictionary_page_header_view};
+ghost use Rattle.metadata.specs.inner.Starts.{dictionary_page_header_start};
 ghost use Rattle.metadata.specs.Answers.{IsRecordOf};
 
 use crate::ids::dictionary as ids;
 use crate::known::{FromNode, known_as, needed_as};
 use crate::put::{ToNode, put, put_given};
+use crate::slots::{Known, Needed, Others, Slots, optional, read_row, required};
 use bits::{R, Refusal};
 use std::alloc::Global;
-use thrift_compact::{Field, Node, Tree};
+use thrift_compact::{Field, Node, Tree, Unread};
 
 /// A DictionaryPageHeader (`parquet.thrift`).
 #[derive(Debug, Drop)]
@@ -60,6 +62,18 @@ fn dictionary_page_header_of(alloc: Global, fields: &[Field]) -> R<DictionaryPag
     })
 }
 
+/// The places of the record's fields.
+type Places = Needed<i32, Needed<i32, Known<bool, Others>>>;
+
+fn places() -> Places
+    ensures { ⟦<Places as Slots>⟧.held result ≡ dictionary_page_header_start }
+{
+    required(
+        ids::NUM_VALUES,
+        required(ids::ENCODING, optional(ids::IS_SORTED, Others)),
+    )
+}
+
 impl FromNode for DictionaryPageHeader {
     ghost Shown = { DictionaryPageHeaderShown };
 
@@ -73,6 +87,18 @@ impl FromNode for DictionaryPageHeader {
             _ => Err(Refusal::Thrift),
         }
     }
+
+    fn from_unread(alloc: Global, value: Unread<'_>) -> R<(DictionaryPageHeader, usize)> {
+        let ((num_values, (encoding, (is_sorted, ()))), used) = read_row(alloc, value, places())?;
+        let record = DictionaryPageHeader {
+            num_values,
+            encoding,
+            is_sorted,
+        };
+        Ok((record, used))
+    }
+
+    ghost no_flags = { λ _. refl };
 }
 
 /// The fields of the record.

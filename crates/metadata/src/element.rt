@@ -1,21 +1,23 @@
 //! SchemaElement: how the elements of a schema are read and written.
 
-ghost use Rattle.std.specs.Prelude.{◌≡◌, IfOk};
+ghost use Rattle.std.specs.Prelude.{◌≡◌, IfOk, refl};
 ghost use Rattle.bits.specs.Refusals.{RefusedMemoryOnly};
 ghost use Rattle.thrift_compact.specs.View.{field_views, tree_view};
 ghost use Rattle.schema.specs.Elements.{Element as ElementShown, element_view};
 ghost use Rattle.metadata.specs.FieldValues.{record_by};
 ghost use Rattle.metadata.specs.ToTree.{element_fields, record_as, STRUCT};
 ghost use Rattle.metadata.specs.FromTree.{element};
+ghost use Rattle.metadata.specs.inner.Starts.{element_start};
 ghost use Rattle.metadata.specs.Answers.{IsRecordOf};
 
 use crate::ids::element as ids;
 use crate::known::{FromNode, known_as, needed_as};
 use crate::put::{ToElement, ToNode, put, put_given};
+use crate::slots::{Known, Needed, Others, Slots, optional, read_row, required};
 use bits::{R, Refusal};
 use schema::Element;
 use std::alloc::Global;
-use thrift_compact::{ElementType, Field, Node, Tree};
+use thrift_compact::{ElementType, Field, Node, Tree, Unread};
 
 /// The element that a struct is; its logicalType is kept as the tree that it is. Refused Thrift exactly
 /// when it is none: a known field is of another type, also where a later one of its id is not, or
@@ -64,6 +66,51 @@ fn element_of(alloc: Global, fields: &[Field]) -> R<Element>
     })
 }
 
+/// The places of the record's fields.
+type Places = Known<
+    i32,
+    Known<
+        i32,
+        Known<
+            i32,
+            Needed<
+                Vec<u8>,
+                Known<i32, Known<i32, Known<i32, Known<i32, Known<i32, Known<Tree, Others>>>>>>,
+            >,
+        >,
+    >,
+>;
+
+fn places() -> Places
+    ensures { ⟦<Places as Slots>⟧.held result ≡ element_start }
+{
+    optional(
+        ids::KIND,
+        optional(
+            ids::TYPE_LENGTH,
+            optional(
+                ids::REPETITION_TYPE,
+                required(
+                    ids::NAME,
+                    optional(
+                        ids::NUM_CHILDREN,
+                        optional(
+                            ids::CONVERTED_TYPE,
+                            optional(
+                                ids::SCALE,
+                                optional(
+                                    ids::PRECISION,
+                                    optional(ids::FIELD_ID, optional(ids::LOGICAL_TYPE, Others)),
+                                ),
+                            ),
+                        ),
+                    ),
+                ),
+            ),
+        ),
+    )
+}
+
 impl FromNode for Element {
     ghost Shown = { ElementShown };
 
@@ -77,6 +124,46 @@ impl FromNode for Element {
             _ => Err(Refusal::Thrift),
         }
     }
+
+    fn from_unread(alloc: Global, value: Unread<'_>) -> R<(Element, usize)> {
+        let (
+            (
+                kind,
+                (
+                    type_length,
+                    (
+                        repetition_type,
+                        (
+                            name,
+                            (
+                                num_children,
+                                (
+                                    converted_type,
+                                    (scale, (precision, (field_id, (logical_type, ())))),
+                                ),
+                            ),
+                        ),
+                    ),
+                ),
+            ),
+            used,
+        ) = read_row(alloc, value, places())?;
+        let record = Element {
+            kind,
+            type_length,
+            repetition_type,
+            name,
+            num_children,
+            converted_type,
+            scale,
+            precision,
+            field_id,
+            logical_type,
+        };
+        Ok((record, used))
+    }
+
+    ghost no_flags = { λ _. refl };
 }
 
 /// The fields of the record.

@@ -4,10 +4,14 @@ ghost use Rattle.std.specs.Prelude.{◌≡◌, ◌+◌, ◌≤◌, ◌⊎◌, �
 ghost use Rattle.bits.specs.Refusals.{OnFault, RefusedOnly, RefusedMemoryOnly};
 ghost use Rattle.bits.specs.Codec.{NothingStands, NothingStandsEver};
 ghost use Rattle.thrift_compact.specs.Length.{size_struct, AppendsStruct};
-ghost use Rattle.thrift_compact.specs.View.{field_views, tree_view};
+ghost use Rattle.thrift_compact.specs.View.{code_of, field_views, tree_view};
+ghost use Rattle.thrift_compact.specs.Reading.{IsNamed};
+ghost use Rattle.thrift_compact.specs.Values.{IsRefusedFor, ReadAs};
+ghost use Rattle.metadata.specs.FieldValues.{record_by};
 ghost use Rattle.metadata.specs.ToTree.{file_meta_fields};
 ghost use Rattle.metadata.specs.FromTree.{file_meta};
 ghost use Rattle.metadata.specs.Views.{file_meta_view};
+ghost use Rattle.metadata.specs.inner.Starts.{file_meta_start};
 ghost use Rattle.metadata.specs.Answers.{IsRecordOf, StandsFor, AppendsRecord};
 ghost use Rattle.metadata.specs.Kept.{EachKeepsWritten};
 ghost use Rattle.metadata.specs.Weight.{IsOfTheWriter, footer_weight};
@@ -18,13 +22,11 @@ use crate::ids::file as ids;
 use crate::key_value::KeyValue;
 use crate::known::{known_as, needed_as};
 use crate::put::{put, put_given};
+use crate::slots::{Known, Needed, Others, Slots, optional, read_row, required};
 use bits::{R, Refusal};
 use schema::Element;
 use std::alloc::Global;
-use thrift_compact::{
-    Field, Tree, one_struct, read_struct, structs_with_bytes_have_the_shape,
-    what_follows_changes_nothing, write_struct,
-};
+use thrift_compact::{Field, Tree, Unread, structs_with_bytes_have_the_shape, write_struct};
 
 /// A FileMetaData (`parquet.thrift`): the footer of a file.
 #[derive(Debug, Drop)]
@@ -49,8 +51,7 @@ impl FileMeta {
     }
 
     /// The record of the struct at the start of the bytes, and how many bytes that struct takes;
-    /// what follows is not looked at. By one pass over the struct's bytes, and one over its fields
-    /// for each id.
+    /// what follows is not looked at. By one pass over the struct's bytes.
     ///
     /// Refused Truncated or Thrift only where no prefix of the bytes is such a record, and Thrift only
     /// where none is whatever follows the bytes: a record that is cut is refused Truncated.
@@ -61,10 +62,7 @@ impl FileMeta {
         ensures which { RefusedOnly (λ e. (e ≡ Refusal.Truncated) ⊎ (e ≡ Refusal.Thrift)) result }
         ensures whatever_follows { (result ≡ Err Refusal.Thrift) → NothingStandsEver (StandsFor file_meta) bytes.now }
     {
-        one_struct();
-        what_follows_changes_nothing();
-        let (tree, used) = read_struct(alloc, bytes)?;
-        let record = FileMeta::from_tree(alloc, &tree)?;
+        let (record, used) = file_meta_from(alloc, Unread::of_struct(bytes))?;
         Ok((record, used))
     }
 
@@ -121,6 +119,71 @@ fn file_meta_of(alloc: Global, fields: &[Field]) -> R<FileMeta>
         created_by,
         column_orders,
     })
+}
+
+/// The places of the record's fields.
+type Places = Known<
+    i32,
+    Needed<
+        Vec<Element>,
+        Known<
+            i64,
+            Needed<
+                Vec<GroupMeta>,
+                Known<Vec<KeyValue>, Known<Vec<u8>, Known<Vec<ColumnOrder>, Others>>>,
+            >,
+        >,
+    >,
+>;
+
+fn places() -> Places
+    ensures { ⟦<Places as Slots>⟧.held result ≡ file_meta_start }
+{
+    optional(
+        ids::VERSION,
+        required(
+            ids::SCHEMA,
+            optional(
+                ids::NUM_ROWS,
+                required(
+                    ids::ROW_GROUPS,
+                    optional(
+                        ids::KEY_VALUE_METADATA,
+                        optional(ids::CREATED_BY, optional(ids::COLUMN_ORDERS, Others)),
+                    ),
+                ),
+            ),
+        ),
+    )
+}
+
+/// The record of the struct that stands there, and how many bytes it takes.
+fn file_meta_from(alloc: Global, value: Unread<'_>) -> R<(FileMeta, usize)>
+    requires named { IsNamed value.kind }
+    ensures stands { IfOk result (λ x. ReadAs (record_by file_meta) (code_of value.entry.kind) value.entry.left value.entry.bytes.now (file_meta_view x.0) x.1) }
+    ensures within { IfOk result (λ x. x.1 ≤ length value.entry.bytes.now) }
+    ensures which { RefusedOnly (IsRefusedFor (ReadAs (record_by file_meta) (code_of value.entry.kind) value.entry.left) value.entry.bytes.now) result }
+{
+    let (
+        (
+            version,
+            (
+                schema,
+                (num_rows, (row_groups, (key_value_metadata, (created_by, (column_orders, ()))))),
+            ),
+        ),
+        used,
+    ) = read_row(alloc, value, places())?;
+    let record = FileMeta {
+        version,
+        schema,
+        num_rows,
+        row_groups,
+        key_value_metadata,
+        created_by,
+        column_orders,
+    };
+    Ok((record, used))
 }
 
 /// The fields of the record.

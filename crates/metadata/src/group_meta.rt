@@ -1,6 +1,6 @@
 //! GroupMeta: the struct, how it is read and how it is written.
 
-ghost use Rattle.std.specs.Prelude.{◌≡◌, IfOk};
+ghost use Rattle.std.specs.Prelude.{◌≡◌, IfOk, refl};
 ghost use Rattle.bits.specs.Refusals.{RefusedMemoryOnly};
 ghost use Rattle.thrift_compact.specs.View.{field_views, tree_view};
 ghost use Rattle.metadata.specs.FieldValues.{record_by};
@@ -8,15 +8,17 @@ ghost use Rattle.metadata.specs.ToTree.{group_meta_fields, record_as, STRUCT};
 ghost use Rattle.metadata.specs.FromTree.{group_meta};
 ghost use Rattle.metadata.specs.Records.{GroupMeta as GroupMetaShown};
 ghost use Rattle.metadata.specs.Views.{group_meta_view};
+ghost use Rattle.metadata.specs.inner.Starts.{group_meta_start};
 ghost use Rattle.metadata.specs.Answers.{IsRecordOf};
 
 use crate::chunk_meta::ChunkMeta;
 use crate::ids::group as ids;
 use crate::known::{FromNode, known_as, needed_as};
 use crate::put::{ToElement, ToNode, put, put_given};
+use crate::slots::{Known, Needed, Others, Slots, optional, read_row, required};
 use bits::{R, Refusal};
 use std::alloc::Global;
-use thrift_compact::{ElementType, Field, Node, Tree};
+use thrift_compact::{ElementType, Field, Node, Tree, Unread};
 
 /// A RowGroup (`parquet.thrift`).
 #[derive(Debug, Drop)]
@@ -61,6 +63,18 @@ fn group_meta_of(alloc: Global, fields: &[Field]) -> R<GroupMeta>
     })
 }
 
+/// The places of the record's fields.
+type Places = Needed<Vec<ChunkMeta>, Known<i64, Needed<i64, Others>>>;
+
+fn places() -> Places
+    ensures { ⟦<Places as Slots>⟧.held result ≡ group_meta_start }
+{
+    required(
+        ids::COLUMNS,
+        optional(ids::TOTAL_BYTE_SIZE, required(ids::NUM_ROWS, Others)),
+    )
+}
+
 impl FromNode for GroupMeta {
     ghost Shown = { GroupMetaShown };
 
@@ -74,6 +88,22 @@ impl FromNode for GroupMeta {
             _ => Err(Refusal::Thrift),
         }
     }
+
+    fn from_unread(alloc: Global, value: Unread<'_>) -> R<(GroupMeta, usize)> {
+        let ((columns, (total_byte_size, (num_rows, ()))), used) = read_row(
+            alloc,
+            value,
+            places(),
+        )?;
+        let record = GroupMeta {
+            columns,
+            total_byte_size,
+            num_rows,
+        };
+        Ok((record, used))
+    }
+
+    ghost no_flags = { λ _. refl };
 }
 
 /// The fields of the record.

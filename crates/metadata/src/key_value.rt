@@ -1,6 +1,6 @@
 //! KeyValue: the struct, how it is read and how it is written.
 
-ghost use Rattle.std.specs.Prelude.{◌≡◌, IfOk};
+ghost use Rattle.std.specs.Prelude.{◌≡◌, IfOk, refl};
 ghost use Rattle.bits.specs.Refusals.{RefusedMemoryOnly};
 ghost use Rattle.thrift_compact.specs.View.{field_views, tree_view};
 ghost use Rattle.metadata.specs.FieldValues.{record_by};
@@ -8,14 +8,16 @@ ghost use Rattle.metadata.specs.ToTree.{key_value_fields, record_as, STRUCT};
 ghost use Rattle.metadata.specs.FromTree.{key_value};
 ghost use Rattle.metadata.specs.Records.{KeyValue as KeyValueShown};
 ghost use Rattle.metadata.specs.Views.{key_value_view};
+ghost use Rattle.metadata.specs.inner.Starts.{key_value_start};
 ghost use Rattle.metadata.specs.Answers.{IsRecordOf};
 
 use crate::ids::pair as ids;
 use crate::known::{FromNode, known_as, needed_as};
 use crate::put::{ToElement, ToNode, put, put_given};
+use crate::slots::{Known, Needed, Others, Slots, optional, read_row, required};
 use bits::{R, Refusal};
 use std::alloc::Global;
-use thrift_compact::{ElementType, Field, Node, Tree};
+use thrift_compact::{ElementType, Field, Node, Tree, Unread};
 
 /// A KeyValue (`parquet.thrift`): something that a program keeps with the file.
 #[derive(Debug, Drop)]
@@ -54,6 +56,15 @@ fn key_value_of(alloc: Global, fields: &[Field]) -> R<KeyValue>
     Ok(KeyValue { key, value })
 }
 
+/// The places of the record's fields.
+type Places = Needed<Vec<u8>, Known<Vec<u8>, Others>>;
+
+fn places() -> Places
+    ensures { ⟦<Places as Slots>⟧.held result ≡ key_value_start }
+{
+    required(ids::KEY, optional(ids::VALUE, Others))
+}
+
 impl FromNode for KeyValue {
     ghost Shown = { KeyValueShown };
 
@@ -67,6 +78,14 @@ impl FromNode for KeyValue {
             _ => Err(Refusal::Thrift),
         }
     }
+
+    fn from_unread(alloc: Global, value: Unread<'_>) -> R<(KeyValue, usize)> {
+        let ((key, (text, ())), used) = read_row(alloc, value, places())?;
+        let record = KeyValue { key, value: text };
+        Ok((record, used))
+    }
+
+    ghost no_flags = { λ _. refl };
 }
 
 /// The fields of the record.

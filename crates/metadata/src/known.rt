@@ -1,14 +1,18 @@
 //! What the fields of a struct give to a record, for every type of field at once.
 
-ghost use Rattle.std.specs.Prelude.{ℕ, ℤ, Bool, List, Option, map, option_map};
-ghost use Rattle.thrift_compact.specs.Tree.{Node, Fields};
-ghost use Rattle.thrift_compact.specs.View.{view, views, field_views, tree_view};
+ghost use Rattle.std.specs.Prelude.{◌≡◌, ◌≤◌, ℕ, ℤ, Bool, List, Option, None, map, option_map, length, refl, IfOk};
+ghost use Rattle.bits.specs.Refusals.{RefusedOnly};
+ghost use Rattle.thrift_compact.specs.Tree.{Node, flag, Fields};
+ghost use Rattle.thrift_compact.specs.View.{code_of, view, views, field_views, tree_view};
+ghost use Rattle.thrift_compact.specs.Reading.{IsNamed};
+ghost use Rattle.thrift_compact.specs.Values.{IsRefusedFor, ReadAs};
 ghost use Rattle.metadata.specs.FieldValues.{known, needed, int32, int64, boolean, text, tree, any_struct, each_of, list_by};
 ghost use Rattle.metadata.specs.Answers.{IsRecordOf};
 
+use crate::slots::{pass_struct, read_items};
 use bits::{R, Refusal};
 use std::alloc::Global;
-use thrift_compact::{Field, Node as Value, Tree, copied_fields};
+use thrift_compact::{Field, Node as Value, Tree, Unread, copied_fields};
 
 /// A type that a value of the compact protocol may be read as.
 pub trait FromNode: Drop {
@@ -22,6 +26,17 @@ pub trait FromNode: Drop {
 
     fn from_node(alloc: Global, value: &Value) -> R<Self>
         ensures stands { IsRecordOf shown (read (view value.now)) result };
+
+    /// What the value stands for, and how many bytes it takes. Refused Truncated or Thrift only where no
+    /// such value stands there, and Thrift only where none does whatever follows.
+    fn from_unread(alloc: Global, value: Unread<'_>) -> R<(Self, usize)>
+        requires named { IsNamed value.kind }
+        ensures stands { IfOk result (λ x. ReadAs read (code_of value.entry.kind) value.entry.left value.entry.bytes.now (shown x.0) x.1) }
+        ensures within { IfOk result (λ x. x.1 ≤ length value.entry.bytes.now) }
+        ensures which { RefusedOnly (IsRefusedFor (ReadAs read (code_of value.entry.kind) value.entry.left) value.entry.bytes.now) result };
+
+    /// No boolean of a list is such a value.
+    ghost no_flags: { (b : ℕ) → read (flag b) ≡ None };
 }
 
 impl FromNode for i32 {
@@ -37,6 +52,12 @@ impl FromNode for i32 {
             _ => Err(Refusal::Thrift),
         }
     }
+
+    fn from_unread(_alloc: Global, value: Unread<'_>) -> R<(i32, usize)> {
+        value.read_i32()
+    }
+
+    ghost no_flags = { λ _. refl };
 }
 
 impl FromNode for i64 {
@@ -52,6 +73,12 @@ impl FromNode for i64 {
             _ => Err(Refusal::Thrift),
         }
     }
+
+    fn from_unread(_alloc: Global, value: Unread<'_>) -> R<(i64, usize)> {
+        value.read_i64()
+    }
+
+    ghost no_flags = { λ _. refl };
 }
 
 impl FromNode for bool {
@@ -67,6 +94,13 @@ impl FromNode for bool {
             _ => Err(Refusal::Thrift),
         }
     }
+
+    fn from_unread(_alloc: Global, value: Unread<'_>) -> R<(bool, usize)> {
+        let (found, used) = value.read_bool()?;
+        Ok((found, used))
+    }
+
+    ghost no_flags = { λ _. refl };
 }
 
 impl FromNode for Vec<u8> {
@@ -85,6 +119,13 @@ impl FromNode for Vec<u8> {
             _ => Err(Refusal::Thrift),
         }
     }
+
+    fn from_unread(alloc: Global, value: Unread<'_>) -> R<(Vec<u8>, usize)> {
+        let (found, used) = value.read_binary(alloc)?;
+        Ok((found, used))
+    }
+
+    ghost no_flags = { λ _. refl };
 }
 
 /// A struct is kept as the tree that it is.
@@ -104,6 +145,13 @@ impl FromNode for Tree {
             _ => Err(Refusal::Thrift),
         }
     }
+
+    fn from_unread(alloc: Global, value: Unread<'_>) -> R<(Tree, usize)> {
+        let (found, used) = value.read_tree(alloc)?;
+        Ok((found, used))
+    }
+
+    ghost no_flags = { λ _. refl };
 }
 
 /// A struct whose fields are not looked at.
@@ -123,6 +171,13 @@ impl FromNode for AnyStruct {
             _ => Err(Refusal::Thrift),
         }
     }
+
+    fn from_unread(alloc: Global, value: Unread<'_>) -> R<(AnyStruct, usize)> {
+        let used = pass_struct(alloc, value)?;
+        Ok((AnyStruct, used))
+    }
+
+    ghost no_flags = { λ _. refl };
 }
 
 /// The value of the last field with this id; None if there is no such field. Refused Thrift if one of them is of
@@ -153,6 +208,12 @@ impl<T: FromNode> FromNode for Vec<T> {
             _ => Err(Refusal::Thrift),
         }
     }
+
+    fn from_unread(alloc: Global, value: Unread<'_>) -> R<(Vec<T>, usize)> {
+        read_items(alloc, value)
+    }
+
+    ghost no_flags = { λ _. refl };
 }
 
 /// The value of the last field with this id. Refused Thrift if there is no such field, or one of them is of another

@@ -5,8 +5,9 @@
 //! `specs/Records.antt` has the records apart from where they lie in memory, and `specs/Views.antt`
 //! sees those of the program as these.
 //!
-//! `specs/ToTree.antt` says which struct is written for a record. Reading goes over the fields of a
-//! struct once for each id of its table, and copies the texts and structs that are kept.
+//! `specs/ToTree.antt` says which struct is written for a record. A record is read in one pass over its
+//! bytes: `src/slots.rt` has a place for each id of its table, which keeps the last value of that id.
+//! Reading from a tree goes over its fields once for each id.
 //! `specs/Weight.antt` says what a footer weighs, which bounds the length of one that the store
 //! writes.
 //!
@@ -30,6 +31,7 @@ mod known;
 mod laws;
 mod page_header;
 mod put;
+mod slots;
 mod statistics;
 
 pub use chunk_meta::ChunkMeta;

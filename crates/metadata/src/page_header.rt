@@ -5,10 +5,14 @@ ghost use Rattle.bits.specs.Refusals.{OnFault, RefusedOnly, RefusedMemoryOnly};
 ghost use Rattle.bits.specs.Codec.{NothingStands, NothingStandsEver};
 ghost use Rattle.thrift_compact.specs.Tree.{Fields};
 ghost use Rattle.thrift_compact.specs.Length.{size_struct, AppendsStruct};
-ghost use Rattle.thrift_compact.specs.View.{field_views, tree_view};
+ghost use Rattle.thrift_compact.specs.View.{code_of, field_views, tree_view};
+ghost use Rattle.thrift_compact.specs.Reading.{IsNamed};
+ghost use Rattle.thrift_compact.specs.Values.{IsRefusedFor, ReadAs};
+ghost use Rattle.metadata.specs.FieldValues.{record_by};
 ghost use Rattle.metadata.specs.ToTree.{page_header_fields};
 ghost use Rattle.metadata.specs.FromTree.{page_header, any_page_header, has_own_header};
 ghost use Rattle.metadata.specs.Views.{page_header_view};
+ghost use Rattle.metadata.specs.inner.Starts.{page_header_start};
 ghost use Rattle.metadata.specs.Answers.{IsRecordOf, StandsFor, AppendsRecord};
 
 use crate::data_page_header::DataPageHeader;
@@ -17,11 +21,10 @@ use crate::dictionary_page_header::DictionaryPageHeader;
 use crate::ids::page as ids;
 use crate::known::{known_as, needed_as};
 use crate::put::{put, put_given};
+use crate::slots::{Known, Needed, Others, Slots, optional, read_row, required};
 use bits::{R, Refusal};
 use std::alloc::Global;
-use thrift_compact::{
-    Field, Tree, one_struct, read_struct, what_follows_changes_nothing, write_struct,
-};
+use thrift_compact::{Field, Tree, Unread, one_value, write_struct};
 
 /// The `kind` of a page of version 1.
 pub const DATA_PAGE: i32 = 0;
@@ -56,8 +59,7 @@ impl PageHeader {
     }
 
     /// The record of the struct at the start of the bytes, and how many bytes that struct takes;
-    /// what follows is not looked at. By one pass over the struct's bytes, and one over its fields
-    /// for each id.
+    /// what follows is not looked at. By one pass over the struct's bytes.
     ///
     /// Refused Truncated or Thrift only where no prefix of the bytes is such a record, and Thrift only
     /// where none is whatever follows the bytes: a record that is cut is refused Truncated.
@@ -68,11 +70,14 @@ impl PageHeader {
         ensures which { RefusedOnly (λ e. (e ≡ Refusal.Truncated) ⊎ (e ≡ Refusal.Thrift)) result }
         ensures whatever_follows { (result ≡ Err Refusal.Thrift) → NothingStandsEver (StandsFor page_header) bytes.now }
     {
-        one_struct();
-        what_follows_changes_nothing();
-        let (tree, used) = read_struct(alloc, bytes)?;
-        let record = PageHeader::from_tree(alloc, &tree)?;
-        Ok((record, used))
+        one_value();
+        let value = Unread::of_struct(bytes);
+        let (record, used) = any_page_header_from(alloc, value)?;
+        if record.has_own_header() {
+            Ok((record, used))
+        } else {
+            Err(Refusal::Thrift)
+        }
     }
 
     /// The struct of the record, in the order of the ids; what is absent is left out.
@@ -154,6 +159,77 @@ fn any_page_header_of(alloc: Global, fields: &[Field]) -> R<PageHeader>
         dictionary_page_header,
         data_page_header_v2,
     })
+}
+
+/// The places of the record's fields.
+type Places = Needed<
+    i32,
+    Known<
+        i32,
+        Needed<
+            i32,
+            Known<
+                i32,
+                Known<DataPageHeader, Known<DictionaryPageHeader, Known<DataPageHeaderV2, Others>>>,
+            >,
+        >,
+    >,
+>;
+
+fn places() -> Places
+    ensures { ⟦<Places as Slots>⟧.held result ≡ page_header_start }
+{
+    required(
+        ids::KIND,
+        optional(
+            ids::UNCOMPRESSED_PAGE_SIZE,
+            required(
+                ids::COMPRESSED_PAGE_SIZE,
+                optional(
+                    ids::CRC,
+                    optional(
+                        ids::DATA_PAGE_HEADER,
+                        optional(
+                            ids::DICTIONARY_PAGE_HEADER,
+                            optional(ids::DATA_PAGE_HEADER_V2, Others),
+                        ),
+                    ),
+                ),
+            ),
+        ),
+    )
+}
+
+/// The record of the struct that stands there, whether or not the header that its type names is there, and how many bytes it takes.
+fn any_page_header_from(alloc: Global, value: Unread<'_>) -> R<(PageHeader, usize)>
+    requires named { IsNamed value.kind }
+    ensures stands { IfOk result (λ x. ReadAs (record_by any_page_header) (code_of value.entry.kind) value.entry.left value.entry.bytes.now (page_header_view x.0) x.1) }
+    ensures within { IfOk result (λ x. x.1 ≤ length value.entry.bytes.now) }
+    ensures which { RefusedOnly (IsRefusedFor (ReadAs (record_by any_page_header) (code_of value.entry.kind) value.entry.left) value.entry.bytes.now) result }
+{
+    let (
+        (
+            kind,
+            (
+                uncompressed_page_size,
+                (
+                    compressed_page_size,
+                    (crc, (data_page_header, (dictionary_page_header, (data_page_header_v2, ())))),
+                ),
+            ),
+        ),
+        used,
+    ) = read_row(alloc, value, places())?;
+    let record = PageHeader {
+        kind,
+        uncompressed_page_size,
+        compressed_page_size,
+        crc,
+        data_page_header,
+        dictionary_page_header,
+        data_page_header_v2,
+    };
+    Ok((record, used))
 }
 
 /// The fields of the record.

@@ -1,6 +1,6 @@
 //! Statistics: the struct, how it is read and how it is written.
 
-ghost use Rattle.std.specs.Prelude.{◌≡◌, IfOk};
+ghost use Rattle.std.specs.Prelude.{◌≡◌, IfOk, refl};
 ghost use Rattle.bits.specs.Refusals.{RefusedMemoryOnly};
 ghost use Rattle.thrift_compact.specs.View.{field_views, tree_view};
 ghost use Rattle.metadata.specs.FieldValues.{record_by};
@@ -8,15 +8,17 @@ ghost use Rattle.metadata.specs.ToTree.{statistics_fields, record_as};
 ghost use Rattle.metadata.specs.FromTree.{statistics};
 ghost use Rattle.metadata.specs.Records.{Statistics as StatisticsShown};
 ghost use Rattle.metadata.specs.Views.{statistics_view};
+ghost use Rattle.metadata.specs.inner.Starts.{statistics_start};
 ghost use Rattle.metadata.specs.Answers.{IsRecordOf};
 
 use crate::copies::copied_text;
 use crate::ids::statistics as ids;
 use crate::known::{FromNode, known_as};
 use crate::put::{ToNode, put_given};
+use crate::slots::{Known, Others, Slots, optional, read_row};
 use bits::{R, Refusal};
 use std::alloc::Global;
-use thrift_compact::{Field, Node, Tree};
+use thrift_compact::{Field, Node, Tree, Unread};
 
 /// The Statistics of a column chunk or a page (`parquet.thrift`). `max` and `min` are deprecated.
 #[derive(Debug, Drop)]
@@ -97,6 +99,42 @@ fn statistics_of(alloc: Global, fields: &[Field]) -> R<Statistics>
     })
 }
 
+/// The places of the record's fields.
+type Places = Known<
+    Vec<u8>,
+    Known<
+        Vec<u8>,
+        Known<i64, Known<i64, Known<Vec<u8>, Known<Vec<u8>, Known<bool, Known<bool, Others>>>>>>,
+    >,
+>;
+
+fn places() -> Places
+    ensures { ⟦<Places as Slots>⟧.held result ≡ statistics_start }
+{
+    optional(
+        ids::MAX,
+        optional(
+            ids::MIN,
+            optional(
+                ids::NULL_COUNT,
+                optional(
+                    ids::DISTINCT_COUNT,
+                    optional(
+                        ids::MAX_VALUE,
+                        optional(
+                            ids::MIN_VALUE,
+                            optional(
+                                ids::IS_MAX_VALUE_EXACT,
+                                optional(ids::IS_MIN_VALUE_EXACT, Others),
+                            ),
+                        ),
+                    ),
+                ),
+            ),
+        ),
+    )
+}
+
 impl FromNode for Statistics {
     ghost Shown = { StatisticsShown };
 
@@ -110,6 +148,41 @@ impl FromNode for Statistics {
             _ => Err(Refusal::Thrift),
         }
     }
+
+    fn from_unread(alloc: Global, value: Unread<'_>) -> R<(Statistics, usize)> {
+        let (
+            (
+                max,
+                (
+                    min,
+                    (
+                        null_count,
+                        (
+                            distinct_count,
+                            (
+                                max_value,
+                                (min_value, (is_max_value_exact, (is_min_value_exact, ()))),
+                            ),
+                        ),
+                    ),
+                ),
+            ),
+            used,
+        ) = read_row(alloc, value, places())?;
+        let record = Statistics {
+            max,
+            min,
+            null_count,
+            distinct_count,
+            max_value,
+            min_value,
+            is_max_value_exact,
+            is_min_value_exact,
+        };
+        Ok((record, used))
+    }
+
+    ghost no_flags = { λ _. refl };
 }
 
 /// The fields of the record.

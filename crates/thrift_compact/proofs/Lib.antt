@@ -4,6 +4,9 @@ pub mod One
 pub mod Elements
 pub mod PairsRead
 pub mod FieldsRead
+pub mod FieldsTaken
+pub mod ElementsTaken
+pub mod TakenParts
 pub mod Refused
 pub mod Within
 pub mod Stays

@@ -5,6 +5,7 @@ use Rattle.bits.specs.Codec.{IsFunctional}
 use Rattle.bits.proofs.Facts.{one_uleb}
 use Rattle.thrift_compact.specs.Tree.{Node, yes, no, flag, i8, i16, i32, i64, double, binary, list, set, empty_map, map, struct, Nodes, no_nodes, node, Pairs, no_pairs, pair, Fields, no_fields, field, count, count_pairs}
 use Rattle.thrift_compact.specs.Compact.{IsValue, AreElements, ArePairs, AreFields, IsThrift, kind}
+use Rattle.thrift_compact.specs.Values.{ValueOf}
 use Rattle.thrift_compact.proofs.NodeTypes.{is_yes, is_no, is_flag, is_i8, is_i16, is_i32, is_i64, is_double, is_binary, is_list, is_set, is_map, is_struct, alike}
 use Rattle.thrift_compact.proofs.Parts.{one_byte, one_signed_byte, one_double, one_signed, one_binary, one_list_head, one_map_head, one_field_head, not_end}
 
@@ -132,3 +133,7 @@ mutual
 pub one_thrift : IsFunctional IsThrift
 unfolding Same
 one_thrift bytes fs gs u v p q = one_fields fs gs (pos 0) bytes u v p.spelled q.spelled
+
+pub one_of_type : (code left : ℕ) → IsFunctional (ValueOf code left)
+unfolding Same
+one_of_type code left bytes x y u v p q = one_value x y bytes u v (p.0 ∙ sym q.0) p.2 q.2

@@ -7,6 +7,7 @@ use Rattle.bits.specs.Varint.{IsUleb, zigzag_of}
 use Rattle.bits.proofs.Facts.{uleb_stays}
 use Rattle.thrift_compact.specs.Tree.{Node, yes, no, flag, i8, i16, i32, i64, double, binary, list, set, empty_map, map, struct, Nodes, no_nodes, node, Pairs, no_pairs, pair, Fields, no_fields, field, count, count_pairs}
 use Rattle.thrift_compact.specs.Compact.{IsByte, IsDouble, IsBinary, IsSigned, IsShort, IsLong, IsFieldHead, IsLongList, IsListHead, IsMapHead, IsValue, AreElements, ArePairs, AreFields, IsThrift, kind}
+use Rattle.thrift_compact.specs.Values.{ValueOf}
 use Rattle.thrift_compact.proofs.Parts.{one_signed, list_head_within, field_head_within}
 use Rattle.thrift_compact.proofs.Within.{value_within, fields_within}
 use Rattle.thrift_compact.proofs.One.{one_thrift}
@@ -142,6 +143,10 @@ value_later x at bytes more u le p = dropped (λ b. IsValue x b u) at bytes more
 
 pub field_head_later : (previous : ℤ) (at : ℕ) (bytes more : List ℕ) (id : ℤ) (k u : ℕ) → at ≤ length bytes → IsFieldHead previous (drop at bytes) id k u → IsFieldHead previous (drop at (bytes ++ more)) id k u
 field_head_later previous at bytes more id k u le p = dropped (λ b. IsFieldHead previous b id k u) at bytes more le (field_head_stays previous (drop at bytes) more id k u p)
+
+-- a value of a type
+pub of_type_stays : (code left : ℕ) (bytes more : List ℕ) (x : Node) (used : ℕ) → ValueOf code left bytes x used → ValueOf code left (bytes ++ more) x used
+of_type_stays code left bytes more x used p = (p.0, p.1, value_stays x bytes more used p.2)
 
 -- a struct
 pub thrift_stays : (bytes more : List ℕ) (fields : Fields) (used : ℕ) → IsThrift bytes fields used → IsThrift (bytes ++ more) fields used

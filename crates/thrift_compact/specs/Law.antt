@@ -1,12 +1,17 @@
 -- What holds of structs and of their bytes: Thrift's compact protocol, "Struct Encoding".
 use Rattle.std.specs.Prelude.{◌≡◌, ℕ, ◌<◌, List, ◌++◌, length, drop}
 use Rattle.bits.specs.Codec.{NothingStands, Appends}
-use Rattle.thrift_compact.specs.Tree.{Fields}
+use Rattle.thrift_compact.specs.Tree.{Node, Fields}
 use Rattle.thrift_compact.specs.Compact.{IsThrift}
+use Rattle.thrift_compact.specs.Values.{ValueOf}
 
 -- a struct at the start of the bytes stands there whatever follows them
 abbrev pub StructsStay : Type 0
 StructsStay = (bytes more : List ℕ) (fields : Fields) (used : ℕ) → IsThrift bytes fields used → IsThrift (bytes ++ more) fields used
+
+-- a value of a type at the start of the bytes stands there whatever follows it
+abbrev pub ValuesStay : Type 0
+ValuesStay = (code left : ℕ) (bytes more : List ℕ) (x : Node) (used : ℕ) → ValueOf code left bytes x used → ValueOf code left (bytes ++ more) x used
 
 -- where the bytes of a struct are cut, no struct stands
 abbrev pub CutStructsDoNotStand : Type 0

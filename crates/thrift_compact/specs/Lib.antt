@@ -2,6 +2,7 @@ pub mod Tree
 pub mod View
 pub mod Compact
 pub mod Reading
+pub mod Values
 pub mod Length
 pub mod Writable
 pub mod Shapes

@@ -1,14 +1,22 @@
 //! What holds of the definitions.
 
+ghost use Rattle.std.specs.Prelude.{ℕ};
 ghost use Rattle.bits.specs.Codec.{IsFunctional};
 ghost use Rattle.thrift_compact.specs.Compact.{IsThrift};
-ghost use Rattle.thrift_compact.specs.Law.{StructsStay, CutStructsDoNotStand, WrittenStructsStand, WrittenStructsAreNoOthers};
+ghost use Rattle.thrift_compact.specs.Law.{StructsStay, ValuesStay, CutStructsDoNotStand, WrittenStructsStand, WrittenStructsAreNoOthers};
 ghost use Rattle.thrift_compact.specs.Length.{NoSpellingIsShorter};
 ghost use Rattle.thrift_compact.specs.Shapes.{StructsWithBytesHaveTheShape};
+ghost use Rattle.thrift_compact.specs.Values.{ValueOf};
 
 /// A prefix of the bytes stands for at most one struct.
 pub fn one_struct()
     ensures { IsFunctional IsThrift }
+{}
+
+/// A prefix of the bytes stands for at most one value of a type, and that is there whatever follows.
+pub fn one_value()
+    ensures one { (code left : ℕ) → IsFunctional (ValueOf code left) }
+    ensures stays { ValuesStay }
 {}
 
 /// A struct at the start of the bytes is there whatever follows them. So where one is cut, none is

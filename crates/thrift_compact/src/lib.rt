@@ -10,16 +10,20 @@ mod laws;
 mod numbers;
 mod reading;
 mod sameness;
+mod taking;
 mod tree;
+mod unread;
 mod writable;
 mod writing;
 
 pub use copying::copied_fields;
 pub use laws::{
-    no_spelling_is_shorter, one_struct, structs_with_bytes_have_the_shape,
+    no_spelling_is_shorter, one_struct, one_value, structs_with_bytes_have_the_shape,
     what_follows_changes_nothing, what_is_written_is_read_again,
 };
 pub use reading::read_struct;
+pub use taking::{TakesElements, TakesFields};
 pub use tree::{ElementType, Field, Node, Tree};
+pub use unread::Unread;
 pub use writable::has_bytes;
 pub use writing::write_struct;

@@ -37,7 +37,7 @@ pub fn read_struct(alloc: Global, bytes: &[u8]) -> R<(Tree, usize)>
 
 /// Fields up to the byte that ends them.
 #[cycle(read)]
-fn fields_at(alloc: Global, left: u32, bytes: &[u8]) -> R<(Vec<Field>, usize)>
+pub(crate) fn fields_at(alloc: Global, left: u32, bytes: &[u8]) -> R<(Vec<Field>, usize)>
     ensures stands { IfOk result (λ x. FieldsOf left bytes.now (field_views x.0.items) x.1) }
     ensures within { IfOk result (λ x. x.1 ≤ length bytes.now) }
     ensures which { RefusedOnly (IsRefusedFor (FieldsOf left) bytes.now) result }
@@ -62,7 +62,12 @@ fn fields_at(alloc: Global, left: u32, bytes: &[u8]) -> R<(Vec<Field>, usize)>
 
 /// A value of this type, in which `left` more levels may nest.
 #[cycle(read)]
-fn value_at(alloc: Global, kind: ElementType, left: u32, bytes: &[u8]) -> R<(Node, usize)>
+pub(crate) fn value_at(
+    alloc: Global,
+    kind: ElementType,
+    left: u32,
+    bytes: &[u8],
+) -> R<(Node, usize)>
     requires { IsNamed kind }
     ensures stands { IfOk result (λ x. ValueOf (code_of kind) left bytes.now (view x.0) x.1) }
     ensures within { IfOk result (λ x. x.1 ≤ length bytes.now) }

@@ -1,19 +1,12 @@
 -- What each reader reads, in at most `left` more levels.
-use Rattle.std.specs.Prelude.{◌≡◌, ℕ, ◌≤◌, ℤ, pos, List, FitsSigned}
+use Rattle.std.specs.Prelude.{◌≡◌, ℕ, ◌≤◌, ℤ, pos, List, Option, Some, FitsSigned}
 use Rattle.std.specs.Int.{w16, w32}
-use Rattle.bits.specs.declared.refusal.Refusal.{Refusal}
-use Rattle.bits.specs.declared.refusal.Refusal.TheVariants.{Truncated, Thrift}
-use Rattle.bits.specs.Codec.{NothingStands, NothingStandsEver}
 use Rattle.thrift_compact.specs.declared.tree.ElementType.{ElementType}
 use Rattle.thrift_compact.specs.declared.tree.ElementType.TheVariants.{List as ListType, Set, Map, Struct}
+pub use Rattle.thrift_compact.specs.Values.{IsRefusedFor, ValueOf}
 use Rattle.thrift_compact.specs.Tree.{Node, Nodes, list, Pairs, Fields, nest, nodes_nest, pairs_nest, fields_nest, count, count_pairs}
+use Rattle.thrift_compact.specs.Values.{folded, folded_each}
 use Rattle.thrift_compact.specs.Compact.{IsSigned, kind, IsElement, IsValue, AreElements, ArePairs, AreFields}
-
--- a refusal for the bytes: Truncated where nothing stands there, Thrift where nothing does whatever follows
-abbrev pub IsRefusedFor : {Y : Type 0} → (List ℕ → Y → ℕ → Type 0) → List ℕ → Refusal → Type 0
-IsRefusedFor Stands bytes Truncated = NothingStands (Stands bytes)
-IsRefusedFor Stands bytes Thrift = NothingStandsEver Stands bytes
-IsRefusedFor Stands bytes _ = ⊥
 
 -- an i16 at the start of the bytes
 abbrev pub IsShortNumber : List ℕ → ℤ → ℕ → Type 0
@@ -30,10 +23,6 @@ IsNesting Set = Unit {0}
 IsNesting Map = Unit {0}
 IsNesting Struct = Unit {0}
 IsNesting _ = ⊥
-
--- a value of the type of this code at the start of the bytes, in which lists, sets, maps and structs nest at most `left` levels
-abbrev pub ValueOf : ℕ → ℕ → List ℕ → Node → ℕ → Type 0
-ValueOf code left bytes x used = (kind x ≡ code) × (nest x ≤ left) × IsValue x bytes used
 
 -- an element of the type of this code at the start of the bytes, in which lists, sets, maps and structs nest at most `left` levels
 abbrev pub ElementOf : ℕ → ℕ → List ℕ → Node → ℕ → Type 0
@@ -54,3 +43,19 @@ PairsOf key value left size bytes ps used = (count_pairs ps ≡ size) × (pairs_
 -- the fields of a struct at the start of the bytes, up to the byte that ends them, with values nested at most `left` levels
 abbrev pub FieldsOf : ℕ → List ℕ → Fields → ℕ → Type 0
 FieldsOf left bytes fs used = (fields_nest fs ≤ left) × AreFields fs (pos 0) bytes used
+
+-- the fields of a struct at the start of the bytes, with values nested at most `left` levels, each of them taken from what `start` holds on: what is held at their end
+abbrev pub FieldsTaken : {S : Type 0} → (S → ℤ → Node → Option S) → S → ℕ → List ℕ → S → ℕ → Type 0
+FieldsTaken step start left bytes held used = (fs : Fields) × FieldsOf left bytes fs used × (folded step start fs ≡ Some held)
+
+-- an element of the type of this code at the start of the bytes, nested at most `left` levels, which `read` reads as y
+abbrev pub ElementRead : {Y : Type 0} → (Node → Option Y) → ℕ → ℕ → List ℕ → Y → ℕ → Type 0
+ElementRead read code left bytes y used = (x : Node) × ElementOf code left bytes x used × (read x ≡ Some y)
+
+-- `size` elements of the type of this code at the start of the bytes, each nested at most `left` levels and taken from what `start` holds on: what is held at their end
+abbrev pub ElementsTaken : {S : Type 0} → (S → Node → Option S) → S → ℕ → ℕ → ℕ → List ℕ → S → ℕ → Type 0
+ElementsTaken step start code left size bytes held used = (xs : Nodes) × ElementsOf code left size bytes xs used × (folded_each step start xs ≡ Some held)
+
+-- a list at the start of the bytes, its elements nested at most `left` levels and taken from what `start` holds on: what is held at their end
+abbrev pub ListTaken : {S : Type 0} → (S → Node → Option S) → S → ℕ → List ℕ → S → ℕ → Type 0
+ListTaken step start left bytes held used = (l : ℕ × Nodes) × ListOf left bytes l used × (folded_each step start l.1 ≡ Some held)

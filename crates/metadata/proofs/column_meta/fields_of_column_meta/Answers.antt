@@ -1,18 +1,12 @@
-use Rattle.std.proofs.Common.{◌≡◌, ◌++◌, ℤ, List, Option, ap, map, option_map, refl, subst, Some, None, Vec}
-use Rattle.std.specs.declared.alloc.Global.{Global}
+use Rattle.std.proofs.Common.{◌≡◌, ◌++◌, ℤ, List, Option, ap, map, option_map, subst}
 use Rattle.std.proofs.lemmas.Iterator.Adapters.{option_map_id}
-use Rattle.std.proofs.lemmas.List.{map-id}
 use Rattle.thrift_compact.specs.Tree.{i32}
 use Rattle.thrift_compact.specs.View.{field_view, fields_of}
 use Rattle.metadata.specs.Ids.{column_encodings}
 use Rattle.metadata.specs.ToTree.{present, many, INT32}
+use Rattle.metadata.proofs.Numbers.{numbers_shown}
 use Rattle.metadata.proofs.Written.{put_by_ten}
 use Rattle.metadata.proofs.column_meta.fields_of_column_meta.Goals as goal
-
--- a list of numbers shows as these numbers
-numbers_shown : (o : Option (Vec ℤ Global)) → option_map (λ (v : Vec ℤ Global). map (λ (z : ℤ). z) v.items) o ≡ option_map (λ (v : Vec ℤ Global). v.items) o
-numbers_shown None = refl
-numbers_shown (Some v) = ap Some (map-id v.items)
 
 -- what was put, one behind the other
 pub returns-clause-stands : goal.returns-clause-stands

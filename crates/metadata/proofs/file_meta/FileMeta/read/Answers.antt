@@ -1,13 +1,42 @@
-use Rattle.thrift_compact.specs.View.{tree_view}
+use Rattle.std.proofs.Common.{◌≡◌, ◌⊎◌, ap, subst}
+use Rattle.bits.specs.declared.refusal.Refusal.TheVariants.{Truncated, Thrift}
+use Rattle.bits.specs.Refusals.{IsFault, HasCause}
+use Rattle.bits.specs.Codec.{NothingStands, NothingStandsEver}
+use Rattle.bits.proofs.Passing.{passes}
+use Rattle.thrift_compact.specs.View.{code_of}
+use Rattle.thrift_compact.specs.Values.{ReadAs}
+use Rattle.metadata.specs.FieldValues.{record_by}
 use Rattle.metadata.specs.FromTree.{file_meta}
 use Rattle.metadata.specs.Views.{file_meta_view}
-use Rattle.metadata.proofs.Reading.{no_record, none_of}
+use Rattle.metadata.specs.Answers.{StandsFor}
+use Rattle.metadata.proofs.Readings.{stands_for, only_for, which_for, ever_for, same_refusal}
 use Rattle.metadata.proofs.file_meta.FileMeta.read.Goals as goal
+
+pub returns-clause-stands : goal.returns-clause-stands
+returns-clause-stands c =
+    let v = c.of_struct.result in
+    let m = file_meta_view c.in_ok-record.record in
+    let used = c.in_ok-record.used in
+    subst (λ b. StandsFor file_meta b m used) c.of_struct.ensures.bytes (stands_for file_meta (code_of v.kind) v.left v.bytes.now m used c.of_struct.ensures.left c.in_ok-record.ensures.stands)
+
+pub returns-in_err-record-clause-only : goal.returns-in_err-record-clause-only
+returns-in_err-record-clause-only c =
+    let v = c.of_struct.result in
+    let e = c.in_err-record.field-0.0 in
+    let none = only_for file_meta (code_of v.kind) v.left v.bytes.now e (ap code_of c.of_struct.ensures.kind) c.of_struct.ensures.left c.in_err-record.ensures.which in
+    let here = subst (λ b. IsFault e → NothingStands (StandsFor file_meta b)) c.of_struct.ensures.bytes none in
+    passes (λ f. IsFault f → NothingStands (StandsFor file_meta c.args.bytes.now)) c.from_residual.result e c.from_residual.ensures.1 here
+
+pub returns-in_err-record-clause-which : goal.returns-in_err-record-clause-which
+returns-in_err-record-clause-which c =
+    let v = c.of_struct.result in
+    let e = c.in_err-record.field-0.0 in
+    passes (HasCause (λ f. (f ≡ Truncated) ⊎ (f ≡ Thrift))) c.from_residual.result e c.from_residual.ensures.1 (which_for (ReadAs (record_by file_meta) (code_of v.kind) v.left) v.bytes.now e c.in_err-record.ensures.which)
 
 pub returns-in_err-record-clause-whatever_follows : goal.returns-in_err-record-clause-whatever_follows
 returns-in_err-record-clause-whatever_follows c thrift =
-    let bytes = c.args.bytes.now in
-    let fields = tree_view c.in_ok-tree.tree in
-    let used = c.in_ok-tree.used in
-    let none = none_of file_meta_view (file_meta fields) c.from_residual-in_err-record.result c.in_err-record.field-0.0 c.from_residual-in_err-record.ensures.1 thrift c.in_err-record.ensures.stands in
-    no_record file_meta bytes fields used c.one_struct.ensures (λ more. c.what_follows_changes_nothing.ensures.stays bytes more fields used c.in_ok-tree.ensures.stands) none
+    let v = c.of_struct.result in
+    let e = c.in_err-record.field-0.0 in
+    let none = ever_for file_meta (code_of v.kind) v.left v.bytes.now e (ap code_of c.of_struct.ensures.kind) c.of_struct.ensures.left c.in_err-record.ensures.which (same_refusal c.from_residual.result e c.from_residual.ensures.1 thrift) in
+    let here = subst (λ b. NothingStandsEver (StandsFor file_meta) b) c.of_struct.ensures.bytes none in
+    here

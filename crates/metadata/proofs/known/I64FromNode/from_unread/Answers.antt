@@ -1,0 +1,16 @@
+use Rattle.std.proofs.Common.{refl}
+use Rattle.thrift_compact.specs.Tree.{i64}
+use Rattle.thrift_compact.specs.View.{code_of}
+use Rattle.metadata.specs.FieldValues.{int64}
+use Rattle.metadata.proofs.Readings.{form_returned, form_refusal, int64_is}
+use Rattle.metadata.proofs.known.I64FromNode.from_unread.Goals as goal
+
+pub returns-clause-stands : goal.returns-clause-stands
+returns-clause-stands c =
+    let v = c.args.value in
+    form_returned int64 i64 (code_of v.kind) v.left v.bytes.now c.read_i64.result (λ z. refl) c.read_i64.ensures.stands
+
+pub returns-clause-which : goal.returns-clause-which
+returns-clause-which c =
+    let v = c.args.value in
+    form_refusal int64 i64 (code_of v.kind) v.left v.bytes.now c.read_i64.result int64_is c.read_i64.ensures.which

@@ -1,0 +1,20 @@
+use Rattle.std.proofs.Common.{rules, FitsSigned}
+use Rattle.std.specs.Int.{w32}
+use Rattle.std.proofs.lemmas.Int.{to_z-of_z}
+use Rattle.std.proofs.lemmas.Iterator.Adapters.{option_map_id}
+use Rattle.metadata.specs.FromTree.{any_page_header}
+use Rattle.metadata.proofs.Rows.{page_header_made, page_header_same}
+use Rattle.metadata.proofs.Readings.{refused, made_read, made_refused}
+use Rattle.metadata.proofs.page_header.any_page_header_from.Goals as goal
+
+-- a number shows as itself
+pub returns-clause-stands : goal.returns-clause-stands
+returns-clause-stands c =
+    let fits : FitsSigned w32 c.in_ok-kind.kind = search rules in
+    let fits1 : FitsSigned w32 c.in_ok-kind.compressed_page_size = search rules in
+    simp to_z-of_z (simp option_map_id at (made_read _ any_page_header page_header_made _ _ _ _ _ (page_header_same _ c.places.ensures) c.in_ok-kind.ensures.stands))
+
+pub returns-in_err-kind-clause-which : goal.returns-in_err-kind-clause-which
+returns-in_err-kind-clause-which c =
+    refused _ _ c.args.value.bytes.now c.from_residual.result c.in_err-kind.field-0.0 c.from_residual.ensures.1 c.in_err-kind.ensures.which
+    (made_refused _ any_page_header page_header_made _ _ (page_header_same _ c.places.ensures))

@@ -1,0 +1,3 @@
+-- Definitions for private functions only.
+pub mod Slots
+pub mod Starts
