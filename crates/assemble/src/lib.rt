@@ -20,7 +20,7 @@ mod source;
 pub use cursor::Cursor;
 pub use flat::{flat_columns_have_rows, is_flat, next_flat_row_to};
 pub use row_builder::RowBuilder;
-pub use row_showing::show_row;
+pub use row_showing::{show_repeated_row, show_row};
 pub use row_source::RowSource;
 pub use rows::{assemble, assemble_from, count_rows, next_known_row_to, next_row, next_row_to};
 pub use sink::{Discard, RowSink};

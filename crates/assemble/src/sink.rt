@@ -43,6 +43,16 @@ pub trait RowSink {
         ensures shown { OnOk result (Adds (shows self.old) (shows self.new) (single (value_ref_view value.entry) ∷ [])) }
         ensures base_stays { base self.new ≡ base self.old };
 
+    /// Is shown a null or a value of a leaf that may come again in the rows after this one, as by `value`. A sink may keep
+    /// what it makes of it.
+    #[inline(always)]
+    fn repeated(&mut self, value: ValueRef<'_>) -> Result<(), AllocError>
+        ensures shown { OnOk result (Adds (shows self.old) (shows self.new) (single (value_ref_view value.entry) ∷ [])) }
+        ensures base_stays { base self.new ≡ base self.old }
+    {
+        self.value(value)
+    }
+
     /// Is shown a number, as by `value`.
     #[inline(always)]
     fn int(&mut self, number: i64) -> Result<(), AllocError>
