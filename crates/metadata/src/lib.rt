@@ -24,6 +24,7 @@ mod data_page_header_v2;
 mod dictionary_page_header;
 mod element;
 mod file_meta;
+mod footer_pieces;
 mod group_meta;
 mod ids;
 mod key_value;
