@@ -13,6 +13,7 @@ ghost use Rattle.rowtext.specs.inner.Slots.{leaf_slot, order_view};
 ghost use Rattle.rowtext.specs.inner.Levels.{top_of, state_of, begun, next_slot, left, closed, level_at, entered, seen, held, from_of, braced_at, sorted, kept_starts};
 
 use crate::kept_rows::put_object;
+use crate::kept_texts::KeptTexts;
 use crate::leaf_text::put_single;
 use crate::level::{
     Leaf, Level, Outer, leaf_of, order_in, short_leaf_at, short_leaf_in, slot_at, slot_in,
@@ -27,7 +28,8 @@ use std::alloc::{AllocError, Global};
 /// Prints the rows that it is shown. The bytes of each value are copied into one buffer, which is kept from row
 /// to row; where the fields of an object do not stand in the order of their names, its members are copied once
 /// more when it ends. Rows that are ended by [`end_row`](RowText::end_row) stay in the buffer as lines, until
-/// [`clear_lines`](RowText::clear_lines) is called.
+/// [`clear_lines`](RowText::clear_lines) is called. Of the values that may come again, as `repeated` shows them, the last one of each
+/// field is kept with its text, which is then copied.
 #[derive(Drop)]
 pub struct RowText<'a> {
     plan: &'a RowPlan<'a>,
@@ -43,6 +45,8 @@ pub struct RowText<'a> {
     outer: Vec<Outer<'a>>,
     /// Room for the members of an object in another order.
     spare: Line,
+    /// The texts of values that may come again.
+    repeated: KeptTexts,
 }
 
 /// Room for a short name, and for a number or a short string in quotes.
@@ -63,6 +67,7 @@ impl<'a> RowText<'a> {
             shown: 0,
             outer: Vec::new(alloc),
             spare: Line::new(alloc),
+            repeated: KeptTexts::new(alloc),
         }
     }
 
@@ -213,6 +218,17 @@ impl<'a> RowText<'a> {
     {
         let slot = self.begin_value()?;
         put_single(slot, value, &mut self.text)
+    }
+
+    /// Shows a number or bytes that may come again, as `show` does: the text is made once, and copied where the same value
+    /// comes again.
+    #[inline(never)]
+    pub(crate) fn show_repeated(&mut self, value: ValueRef<'_>) -> Result<(), AllocError>
+        ensures shown { OnOk result (Adds (text_shows self.old) (text_shows self.new) (single (value_ref_view value.entry) ∷ [])) }
+    {
+        let index = self.shown;
+        let slot = self.begin_value()?;
+        self.repeated.put_single(index, slot, value, &mut self.text)
     }
 
     /// Goes into a level of which no value was shown yet.
