@@ -8,7 +8,7 @@ ghost use Rattle.schema.specs.Values.{ValueTrees};
 ghost use Rattle.schema.specs.Views.{row_view};
 ghost use Rattle.assemble.specs.Sinks.{Adds, single};
 ghost use Rattle.rowtext.specs.Json.{row_text, row_text_as};
-ghost use Rattle.rowtext.specs.Rows.{plan_schema, IsReady, IsReadyAs, text_shows, BeginsRow, BeginsRowAs, ShowsRow, ShowsRowAs, BeginsLine, BeginsLineAs, ShowsLine, ShowsLineAs};
+ghost use Rattle.rowtext.specs.Rows.{plan_schema, IsReady, IsReadyAs, text_shows, BeginsRow, BeginsRowAs, ShowsRow, ShowsRowAs, BeginsLine, BeginsLineAs, ShowsLine, ShowsLineAs, AddsNextLine};
 ghost use Rattle.rowtext.specs.inner.Slots.{leaf_slot, order_view};
 ghost use Rattle.rowtext.specs.inner.Levels.{top_of, state_of, begun, next_slot, left, closed, level_at, entered, seen, held, from_of, braced_at, sorted, kept_starts};
 
@@ -22,6 +22,8 @@ use crate::line::Line;
 use crate::object_text::{put_braces, put_line_end, rest, sort};
 use crate::row_plan::{RowPlan, Slot};
 use crate::scalars::NUMBER_ROOM;
+use assemble::RowSource;
+use bits::R;
 use schema::{Row, ValueRef};
 use std::alloc::{AllocError, Global};
 
@@ -352,6 +354,22 @@ impl<'a> RowText<'a> {
         self.here = RowText::top(self.plan, self.text.len());
         self.shown = 0;
         Ok(())
+    }
+
+    /// Takes the next row of a source, and prints it and a line feed after the lines of the rows before it, as when its values
+    /// are shown and the row is ended. Returns false after the last row, and then prints nothing. The rows must fit the schema,
+    /// and none may have begun. Where the source has rows left, it fails only when out of memory; all rows that it holds are then
+    /// lost, and the caller makes a new `RowText`.
+    #[inline(always)]
+    pub fn put_next<S: RowSource>(&mut self, rows: &mut S) -> R<bool>
+        ensures puts { (texts : Bool) (fs : Fields) (lines : List ℕ) → BeginsLineAs texts self.old fs lines
+            → AddsNextLine texts fs (S.stands rows.old) (S.stands rows.new) (BeginsLineAs texts self.new fs) lines result }
+    {
+        if !rows.next_to(self)? {
+            return Ok(false);
+        }
+        self.end_row()?;
+        Ok(true)
     }
 
     /// Prints a row that is kept, and a line feed, after the lines of the rows before it, as when its values are shown
