@@ -2,7 +2,6 @@
 use Rattle.std.proofs.Common.{◌≡◌, ℕ, ◌+◌, ◌<◌, ◌≤◌, List, [], ◌∷◌, ◌++◌, length, get_or, set, take, drop, map, sym, ap, ◌∙◌, arith}
 use Rattle.std.proofs.lemmas.List.{drop_more, drop-set-lt, take_all, take_more, take_more_set}
 use Rattle.metadata.specs.declared.chunk_meta.ChunkMeta.{ChunkMeta as CodeChunkMeta}
-use Rattle.metadata.specs.Records.{ChunkMeta}
 use Rattle.metadata.specs.Views.{chunk_meta_view}
 use Rattle.manifest.specs.inner.Reading.{unplaced}
 use Rattle.manifest.proofs.GroupChunks.{map_push}
