@@ -1,8 +1,8 @@
 -- The rows that marks select.
-use Rattle.std.proofs.Common.{ℕ, ◌≡◌, ◌≢◌, ◌+◌, Bool, true, false, not, List, [], ◌∷◌, length, map, refl, ap, sym, ◌∙◌, arith}
+use Rattle.std.proofs.Common.{ℕ, ◌≡◌, ◌≢◌, ◌+◌, Bool, true, false, not, nat_eq, List, [], ◌∷◌, length, map, refl, ap, sym, ◌∙◌, arith}
 use Rattle.std.specs.Prelude.{filter, cond, nat_lt, replicate}
 use Rattle.std.specs.List.{list_any}
-use Rattle.std.proofs.lemmas.Bool.{false≢true}
+use Rattle.std.proofs.lemmas.Bool.{false≢true, eqb-true}
 use Rattle.std.proofs.lemmas.Bool.Decides.{nat_tests}
 use Rattle.std.proofs.lemmas.List.{length-map, length-replicate}
 use Rattle.std.proofs.lemmas.List.Recursion.{is_count_by}
@@ -90,6 +90,11 @@ pub turned_many : (count : ℕ) (marks : List Bool) → (marks ≢ [] → length
 turned_many count [] many = length-replicate count false
 turned_many count (m ∷ marks) many = length-map (m ∷ marks) not ∙ many (λ e. cc)
 
-pub turned_some : (count : ℕ) (marks : List Bool) → (marks ≡ [] → ⊥) → turned count marks ≡ map not marks
-turned_some count [] some = absurd (some refl)
-turned_some count (m ∷ marks) some = refl
+-- where there are no marks, none of the others is marked; else each mark is turned round
+pub turned_none : (count : ℕ) (marks : List Bool) → nat_eq (length marks) 0 ≡ true → replicate count false ≡ turned count marks
+turned_none count [] e = refl
+turned_none count (m ∷ marks) e = absurd (let none : length (m ∷ marks) ≡ 0 = eqb-true (length (m ∷ marks)) 0 e in omega (arith, none))
+
+pub turned_each : (count : ℕ) (marks : List Bool) → nat_eq (length marks) 0 ≡ false → map not marks ≡ turned count marks
+turned_each count [] e = absurd (false≢true (sym e))
+turned_each count (m ∷ marks) e = refl

@@ -113,3 +113,4 @@ pub mod FreePaths
 pub mod Shown
 pub mod StoredColumns
 pub mod BufferRows
+pub mod PlacesMade

@@ -115,8 +115,9 @@ fn has_few_entries(alloc: Global, rows: &RowBuffer<'_>) -> R<bool>
     ensures few { IfOk result (λ few. few ≡ true → (held : List TableRow) → holds rows.now held → HasFewEntries (schema_of rows.now) held) }
     ensures which { RefusedMemoryOnly result }
 {
+    let leaves = rows.schema().leaves().len();
     let mut entries = Vec::new(alloc);
-    for leaf in 0..rows.schema().leaves().len() {
+    for leaf in 0..leaves {
         rows.entries(leaf, &mut entries)?;
         if entries.len() > MOST_ENTRIES_OF_CHUNK as usize {
             return Ok(false);
