@@ -1,4 +1,4 @@
-use Rattle.std.proofs.Common.{◌≡◌, ◌∙◌, ℕ, Bool, List, map, length, refl, ap, sym}
+use Rattle.std.proofs.Common.{◌∙◌, Bool, List, map, length, refl, ap, sym}
 use Rattle.scan.specs.Left.{joined, selected_by, turned}
 use Rattle.scan.proofs.Chosen.{turned_many}
 use Rattle.scan.proofs.group_rows.GroupRows.others.Goals as goal
