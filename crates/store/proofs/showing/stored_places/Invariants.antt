@@ -7,4 +7,4 @@ use Rattle.store.proofs.showing.stored_places.Given as goal
 -- the places so far, and those that are left
 abbrev pub invariant-loop-place : goal.invariant-loop-place
 invariant-loop-place l =
-    l.places.items ++ places_besides (places_of (key_columns_view l.keys)) l.place-counter (field_views (drop l.place-counter l.fields)) ≡ places_besides (places_of (key_columns_view l.keys)) 0 (field_views l.fields)
+    l.places.items ++ places_besides (places_of (key_columns_view l.keys)) l.place (field_views (drop l.place l.fields)) ≡ places_besides (places_of (key_columns_view l.keys)) 0 (field_views l.fields)

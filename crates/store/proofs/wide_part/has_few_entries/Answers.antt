@@ -35,9 +35,9 @@ pub returns-clause-few : goal.returns-clause-few
 returns-clause-few c = λ few held h.
     let fs = schema_of c.args.rows.now in
     let cols = columns fs held in
-    let leaves = c.leaves.result.now in
+    let leaves = c.leaves-leaves.result.now in
     let all : length leaves ≡ length (leaves_of fs)
-    = sym (length-map leaves leaf_view) ∙ ap length (c.leaves.ensures.leaves_are ∙ ap leaves_of c.schema.ensures) in
+    = sym (length-map leaves leaf_view) ∙ ap length (c.leaves-leaves.ensures.leaves_are ∙ ap leaves_of c.schema.ensures) in
     let many : length cols ≡ length (leaves_of fs) = length-map (leaves_of fs) (λ (l : Leaf). column held l.steps) in
     let past : length cols ≤ c.loop-leaf.leaf = omega (arith, all, many) in
     c.loop-leaf.invariant held h (subst AreFew (sym (drop_all cols c.loop-leaf.leaf past)) tt)
