@@ -1,4 +1,4 @@
-use Rattle.std.proofs.Common.{◌≡◌, Bool, Ok, sym, ◌∙◌, ap, subst, refl}
+use Rattle.std.proofs.Common.{◌≡◌, ◌++◌, Bool, Ok, sym, ◌∙◌, ap, subst, refl}
 use Rattle.bits.specs.declared.refusal.Refusal.TheVariants.{Memory}
 use Rattle.bits.specs.Refusals.{HasCause}
 use Rattle.bits.proofs.Passing.{passes}
@@ -37,7 +37,11 @@ returns-then-not-branch-clause-shown c = λ rows held has fit held_now.
     let T = rows_stand c.show_next.new.rows in
     let next = subst (λ (b : Bool). AddsNext S T c.rows.buffer c.show_next.new.buffer (Ok b)) c.if-not-branch.true c.in_ok-show_next.ensures.adds in
     let are = c.rows.invariant.held rows held has fit held_now in
-    subst (λ (b : RowBuffer). holds b _) (sym (c.in_ok-show_next.ensures.same (ap Ok c.if-not-branch.true))) (all_added S c.rows.buffer held rows are (next are.left are.stands))
+    subst (λ (b : RowBuffer). holds b (held ++ rows)) (sym (c.in_ok-show_next.ensures.same (ap Ok c.if-not-branch.true))) (all_added S c.rows.buffer held rows are (next are.left are.stands))
+
+pub returns-in_err-rows-clause-only : goal.returns-in_err-rows-clause-only
+returns-in_err-rows-clause-only c = λ rows has.
+    passes (HasCause (λ _. ⊥)) c.from_residual.result c.in_err-rows.field-0.0 c.from_residual.ensures.1 (c.in_err-rows.ensures.only rows has)
 
 pub returns-in_err-show_next-clause-only : goal.returns-in_err-show_next-clause-only
 returns-in_err-show_next-clause-only c = λ rows has.
