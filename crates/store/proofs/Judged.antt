@@ -23,6 +23,7 @@ use Rattle.table.specs.Table.{Row, Group}
 use Rattle.table.proofs.Deciding.{tests_decide}
 use Rattle.store.specs.declared.remaining.Remains.{Remains}
 use Rattle.store.specs.Counting.{IsHeld}
+use Rattle.store.specs.Promises.{IsSure}
 use Rattle.store.specs.Reading.{OnlyReads, IsReading}
 use Rattle.store.specs.Removing.{AreRemains, not_those}
 use Rattle.store.specs.Showing.{places_besides}
@@ -101,3 +102,8 @@ pub device_too : (T : Type 0) (result : Result T Refusal) → RefusedMemoryOnly 
 device_too T (Ok x) m = tt
 device_too T (Err Memory) m = tt
 device_too T (Err e) m = absurd m
+
+pub sure_so : (T : Type 0) (result : Result T Refusal) → RefusedMemoryOnly result → IsSure result
+sure_so T (Ok x) m is = cc
+sure_so T (Err Memory) m is = cc
+sure_so T (Err e) m is = absurd m

@@ -14,7 +14,7 @@ use Rattle.store.specs.Reading.{OnlyReads}
 use Rattle.store.specs.Showing.{places_besides}
 use Rattle.store.proofs.Dropped.{memory_only}
 use Rattle.store.proofs.Passed.{reading_here, reading_of, reading_ends, reading_poor}
-use Rattle.store.proofs.Judged.{none_selected, none_ends, some_ends, over_lent, keyed_lent, holds_lent, reads_so, device_too}
+use Rattle.store.proofs.Judged.{none_selected, none_ends, some_ends, over_lent, keyed_lent, holds_lent, reads_so, device_too, sure_so}
 use Rattle.store.proofs.remaining.remains_of.Goals as goal
 
 pub returns-in_err-places-clause-only : goal.returns-in_err-places-clause-only
@@ -73,8 +73,8 @@ returns-in-None-clause-effect g c =
     let effect : OnlyReads {T = Option GroupRows} old new (Ok c.in_ok-read.field-0) = record { which = tt; unchanged = done.unchanged; counts = done.counts; honest = done.honest } in
     reads_so Remains old new (reading_of old new c.in_ok-read.field-0 effect) c.all_remain.result c.all_remain.ensures.which
 
-pub returns-in-Some-clause-stands : goal.returns-in-Some-clause-stands
-returns-in-Some-clause-stands g c honest held h =
+pub returns-clause-stands : goal.returns-clause-stands
+returns-clause-stands g c honest held h =
     let disk = g.D.Disk.state c.args.vault.now.disk in
     let tests = tests_in c.args.filter.now in
     let root = root_of c.args.table.now in
@@ -92,13 +92,18 @@ returns-in-Some-clause-stands g c honest held h =
     let made = c.others_remain.ensures in
     some_ends tests root f held disk h places c.in-Some.rows all read others c.others_remain.result made.number made.key made.gone made.rest
 
-pub returns-in-Some-clause-only : goal.returns-in-Some-clause-only
-returns-in-Some-clause-only g c honest held h =
+pub returns-clause-only : goal.returns-clause-only
+returns-clause-only g c honest held h =
     let accepted = subst AreAccepted c.in-Some.is c.in_ok-read.ensures.accepted in
     device_too Remains c.others_remain.result (c.others_remain.ensures.only accepted.0 accepted.1)
 
-pub returns-in-Some-clause-effect : goal.returns-in-Some-clause-effect
-returns-in-Some-clause-effect g c =
+pub returns-clause-sure : goal.returns-clause-sure
+returns-clause-sure g c =
+    let accepted = subst AreAccepted c.in-Some.is c.in_ok-read.ensures.accepted in
+    sure_so Remains c.others_remain.result (c.others_remain.ensures.only accepted.0 accepted.1)
+
+pub returns-clause-effect : goal.returns-clause-effect
+returns-clause-effect g c =
     let old = g.D.Disk.state c.args.vault.now.disk in
     let new = g.D.Disk.state c.read.new.vault.disk in
     let done = c.in_ok-read.ensures in
