@@ -34,16 +34,16 @@ returns-then-self-ge-LAST_NUMBER-clause-writes g c honest s stored held shows is
     let old = c.args.self.now in
     nothing_written g.D.Disk.state old s None (key_view c.args.rest.key) held shows is_open old.snapshots refl Memory (λ is. cc)
 
-pub returns-then-rows-le-self-clause-writes : goal.returns-then-rows-le-self-clause-writes
-returns-then-rows-le-self-clause-writes g c honest s stored held shows is_open holds are =
+pub returns-then-rows-self-clause-writes : goal.returns-then-rows-self-clause-writes
+returns-then-rows-self-clause-writes g c honest s stored held shows is_open holds are =
     let many = c.len-rows.ensures.counted stored holds.held in
-    let part = holds_part c.args.self.now c.args.rest stored c.len-rows.result holds many (omega (arith, c.if-rows-eq0.false)) c.if-rows-le-self.true in
+    let part = holds_part c.args.self.now c.args.rest stored c.len-rows.result holds many (omega (arith, c.if-rows-eq0.false)) c.if-rows-self.true in
     c.write_buffered.ensures.writes honest s stored held shows is_open refl part are
 
-pub returns-then-rows-le-self-clause-which : goal.returns-then-rows-le-self-clause-which
-returns-then-rows-le-self-clause-which g c stored holds =
+pub returns-then-rows-self-clause-which : goal.returns-then-rows-self-clause-which
+returns-then-rows-self-clause-which g c stored holds =
     let many = c.len-rows.ensures.counted stored holds.held in
-    c.write_buffered.ensures.which stored (holds_part c.args.self.now c.args.rest stored c.len-rows.result holds many (omega (arith, c.if-rows-eq0.false)) c.if-rows-le-self.true)
+    c.write_buffered.ensures.which stored (holds_part c.args.self.now c.args.rest stored c.len-rows.result holds many (omega (arith, c.if-rows-eq0.false)) c.if-rows-self.true)
 
 pub returns-in_err-part-clause-which : goal.returns-in_err-part-clause-which
 returns-in_err-part-clause-which g c stored holds =
