@@ -11,9 +11,9 @@ use Rattle.store.specs.Writing.{counted}
 use Rattle.store.proofs.Replacing.{put_nothing, put_refused, put_poor, put_one}
 use Rattle.store.proofs.store.Store.put_remains.Goals as goal
 
-pub returns-then-rest-eq0-clause-puts : goal.returns-then-rest-eq0-clause-puts
-returns-then-rest-eq0-clause-puts g c honest start s files groups stored held is_open has holds b =
-    let none = sym (c.len.ensures.counted stored holds.held) ∙ c.if-rest-eq0.true in
+pub returns-then-len-eq0-clause-puts : goal.returns-then-len-eq0-clause-puts
+returns-then-len-eq0-clause-puts g c honest start s files groups stored held is_open has holds b =
+    let none = sym (c.len.ensures.counted stored holds.held) ∙ c.if-len-eq0.true in
     put_nothing g.D.Disk.state start c.args.self.now s is_open files groups has c.args.remains stored held b c.args.removed.now c.add_change.new.removed none (handles_view c.new.result.items) (ap handles_view c.new.ensures.items)
     c.add_change.result (c.add_change.ensures.changed, c.add_change.ensures.counted, c.add_change.ensures.which)
 
@@ -47,5 +47,5 @@ returns-clause-puts g c honest start s files groups stored held is_open has hold
     let many = c.len.ensures.counted stored holds.held in
     let come = ap handles_view c.in_ok-push.ensures.items ∙ ap (λ (hs : List (Rc CodeGroup Global)). handles_view (hs ++ done.group ∷ [])) c.new-come.ensures.items in
     put_one g.D.Disk.state start old s is_open files groups has c.args.remains stored held b before c.add_change-2.new.removed new done.ensures.counts (ap (λ (x : Store g.row.D.Denot). x.jobs) done.ensures.same) done.group
-    (done.ensures.writes honest (counted s old.next_group) stored held has.wrote.shows is_open holds b.are) (omega (arith, many, c.if-rest-eq0.false)) (handles_view c.push.new.self.items) come
+    (done.ensures.writes honest (counted s old.next_group) stored held has.wrote.shows is_open holds b.are) (omega (arith, many, c.if-len-eq0.false)) (handles_view c.push.new.self.items) come
     c.add_change-2.result (c.add_change-2.ensures.changed, c.add_change-2.ensures.counted, c.add_change-2.ensures.which)

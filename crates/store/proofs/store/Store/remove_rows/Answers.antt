@@ -1,6 +1,7 @@
-use Rattle.std.proofs.Common.{◌≡◌, ◌≤◌, ◌<◌, ◌⊎◌, ℕ, true, List, Err, ap, sym, ◌∙◌, subst}
+use Rattle.std.proofs.Common.{◌≡◌, ◌≤◌, ◌<◌, ◌⊎◌, ℕ, true, List, Err, inl, inr, ap, sym, ◌∙◌, subst}
 use Rattle.std.specs.List.{AllByRecursion}
 use Rattle.bits.specs.declared.refusal.Refusal.{Refusal}
+use Rattle.bits.specs.declared.refusal.Refusal.TheVariants.{Device, InDoubt, Memory}
 use Rattle.vault.specs.Calls.{HasFailed}
 use Rattle.vault.proofs.Chained.{refused}
 use Rattle.filter.specs.Test.{tests_in}
@@ -19,6 +20,10 @@ use Rattle.store.proofs.Removals.{out_of_memory}
 use Rattle.store.proofs.Removed.{begins, halted_by, replaced_by, halted, halted_cause, poor_after, nothing_removed, planned, too_heavy, done_so, refused_so}
 use Rattle.store.proofs.store.Store.remove_rows.Goals as goal
 
+not_memory : (e : Refusal) → (e ≡ Device) ⊎ (e ≡ InDoubt) → e ≡ Memory → ⊥
+not_memory e (inl is) memory = cc
+not_memory e (inr is) memory = cc
+
 pub returns-in_err-table-clause-acts : goal.returns-in_err-table-clause-acts
 returns-in_err-table-clause-acts g c honest s terms stands is_open fine made =
     refused (λ r. ActsFrom g.D.Disk.state c.args.self.now c.args.self.now (remove terms) (answered {T = ℕ} (λ x. done x) r) s) c.from_residual.result _ c.from_residual.ensures.1
@@ -28,7 +33,7 @@ returns-in_err-table-clause-acts g c honest s terms stands is_open fine made =
 pub returns-in_err-table-clause-cause : goal.returns-in_err-table-clause-cause
 returns-in_err-table-clause-cause g c honest s terms stands is_open fine made =
     refused (λ r. is_failure (answered {T = ℕ} (λ x. done x) r) ≡ true → HasFailed (g.D.Disk.state c.args.self.now.vault.disk) (g.D.Disk.state c.args.self.now.vault.disk)) c.from_residual.result _ c.from_residual.ensures.1
-    (λ h. absurd (let f = failure_of c.in_err-table.field-0.0 h in let m = memory_only c.in_err-table.field-0.0 c.in_err-table.ensures.which in cc))
+    (λ h. absurd (not_memory c.in_err-table.field-0.0 (failure_of c.in_err-table.field-0.0 h) (memory_only c.in_err-table.field-0.0 c.in_err-table.ensures.which)))
 
 pub returns-in_err-removed-clause-acts : goal.returns-in_err-removed-clause-acts
 returns-in_err-removed-clause-acts g c honest s terms stands is_open fine made =
