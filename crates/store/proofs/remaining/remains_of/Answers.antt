@@ -3,6 +3,7 @@ use Rattle.bits.specs.declared.refusal.Refusal.{Refusal}
 use Rattle.bits.specs.Refusals.{RefusedOnly, HasCause}
 use Rattle.schema.specs.Keys.{KeyColumn, key_columns_view, places_of}
 use Rattle.schema.specs.Shape.{Fields}
+use Rattle.schema.specs.Views.{field_views}
 use Rattle.vault.proofs.Chained.{refused}
 use Rattle.filter.specs.Test.{tests_in}
 use Rattle.manifest.specs.Groups.{group_view, root_of}
@@ -87,7 +88,7 @@ returns-clause-stands g c honest held h =
     let holds = holds_lent disk tests root f held h keys fs c.keys-2.ensures.are c.schema-2.ensures in
     let read = subst (AreReadFor tests places held.rows) c.in-Some.is (c.in_ok-read.ensures.stands honest over keyed held.rows holds) in
     let others = subst (AreOthersFor tests places held.rows) c.in-Some.is (c.in_ok-read.ensures.others honest over keyed held.rows holds) in
-    let all = c.as_slice.ensures.value ∙ c.in_ok-places.ensures.made ∙ ap (λ (ks : List KeyColumn). places_besides (places_of ks) 0 _) c.keys.ensures.are
+    let all = c.as_slice.ensures.value ∙ c.in_ok-places.ensures.made ∙ ap (λ (ks : List KeyColumn). places_besides (places_of ks) 0 (field_views c.fields.result.now)) c.keys.ensures.are
     ∙ ap (λ (gs : Fields). places_besides (places_of root.keys) 0 gs) (c.fields.ensures ∙ c.schema.ensures) in
     let made = c.others_remain.ensures in
     some_ends tests root f held disk h places c.in-Some.rows all read others c.others_remain.result made.number made.key made.gone made.rest
