@@ -33,3 +33,5 @@ mod CreatedSo
 mod TasksAt
 mod OfFile
 mod LooksFound
+mod WholeLines
+mod BlocksRead

@@ -46,10 +46,6 @@ pub data MakesFrom {D : Type 0} (state : D → DiskState) (old new : Store D) (I
 abbrev pub Makes : {D : Type 0} → (D → DiskState) → Store D → Store D → (Fields → Call → Type 0) → (Fields → Refusal → Type 0) → Result ℕ Refusal → Type 0
 Makes state old new IsAsked IsRefused result = (state old.vault.disk).honest → (s : State) → Stands state old s → MakesFrom state old new IsAsked IsRefused result s
 
--- the rows of a text, one of each line, are to be appended
-abbrev pub AsksAppend : Bool → List ℕ → Fields → Call → Type 0
-AsksAppend texts text fs call = (rows : List ValueTrees) × AreRowTexts texts fs (lines text) rows × (call ≡ append rows)
-
 -- the rows that satisfy the filter of a text are to be removed
 abbrev pub AsksRemove : Bool → List ℕ → Fields → Call → Type 0
 AsksRemove texts text fs call = (ands : List (List Term)) × IsFilterTextAs texts (leaves_of fs) text ands × (call ≡ remove ands)

@@ -12,7 +12,7 @@ ghost use Rattle.upkeep.specs.Intact.{AreHeld};
 ghost use Rattle.jsonrows.specs.SchemaPrinted.{PrintsFields};
 ghost use Rattle.commands.specs.Importing.{files_view};
 ghost use Rattle.commands.specs.Places.{StaysKnown, StaysBut, AreFilesAt, IsKeptFrom, AreKeptAmong, InFolder};
-ghost use Rattle.commands.specs.Calls.{MayBeOfFile, PrintsOfFile, OnFolder, OnFiles, ComesUnfiltered, ComesFiltered, CallComes, GivesCall, GivesNoFile, IsPassedOn};
+ghost use Rattle.commands.specs.Calls.{MayBeOfFile, PrintsOfFile, OnFolder, OnFiles, OnFilesBy, ComesUnfiltered, ComesFiltered, CallComes, GivesCall, GivesNoFile, IsPassedOn};
 ghost use Rattle.commands.specs.Calls.{named_paths, filter_path, state_within, disk_within};
 ghost use Rattle.commands.specs.Looking.{LinesFit, Finds, LooksOnly, LooksInFolder};
 ghost use Rattle.commands.specs.Querying.{IsSchemaOfFile};
@@ -27,6 +27,7 @@ use crate::later_reason::Refused;
 use crate::lock::{Access, Patience};
 use crate::looking::{Checking, print_check, print_rows_fit, print_survey};
 use crate::notes::Notes;
+use crate::opening::Brought;
 use crate::part_reason::is_of_bytes;
 use crate::places::Places;
 use crate::querying::print_schema_of;
@@ -324,7 +325,7 @@ impl<S: Write + Clone + Drop> Making<'_, S> {
         if self.is_of_file(places) {
             self.make_of_file(places, out, why)
         } else {
-            self.make_with_files(places, out, err, why)
+            self.make_on_files(places, out, err, why)
         }
     }
 
@@ -371,6 +372,26 @@ impl<S: Write + Clone + Drop> Making<'_, S> {
     }
 
     /// Reads the files that the call names, and makes it.
+    fn make_on_files<P: Places, W: Write, E: Write>(
+        &self,
+        places: &mut P,
+        out: &mut W,
+        err: &mut E,
+        why: &mut Option<Reason>,
+    ) -> R<()>
+        ensures comes { OnFilesBy S P.Disk.state (P.known places.old) (P.known places.new) self.now.call.now self.now.call.now.task
+            (W.contents out.old) (W.contents out.new) result }
+        ensures quiet { self.now.terminals.err ≡ false → E.contents err.new ≡ E.contents err.old }
+    {
+        match &self.call.task {
+            Task::Change(Change::Append { rows, unless }) => {
+                self.append(places, rows, *unless, out, err, why)
+            }
+            _ => self.make_with_files(places, out, err, why),
+        }
+    }
+
+    /// Reads the files that the call names, whole, and makes it.
     fn make_with_files<P: Places, W: Write, E: Write>(
         &self,
         places: &mut P,
@@ -404,8 +425,8 @@ impl<S: Write + Clone + Drop> Making<'_, S> {
                 self.make_table(places, bytes, keys.as_slice(), err, why)
             }
             Task::Ask(question) => self.read(places, question, out, err, why),
-            Task::Change(_) => self.change(places, files, out, err, why),
-            Task::Run { .. } => self.change(places, files, out, err, why),
+            Task::Change(_) => self.change(places, Brought::Files(files), out, err, why),
+            Task::Run { .. } => self.change(places, Brought::Files(files), out, err, why),
             Task::Look(look) => self.look(places, look, bytes, out, err, why),
         }
     }

@@ -7,6 +7,7 @@ ghost use Rattle.memory_places.specs.Folders.{known_in_memory};
 use crate::disks::FolderDisks;
 use crate::folder_disk::FolderDisk;
 use crate::layout::{IS_FOLDER, Layout, NO_FOLDER};
+use crate::memory_reader::MemoryReader;
 use bits::{R, Refusal};
 use commands::{Access, Node, Notes, Patience, Places, Readers, Reason};
 use program::folder_of;
@@ -32,10 +33,12 @@ fn refused_at(path: &str, error: io::Error, notes: &Notes) -> Refusal
     Refusal::Device
 }
 
-impl Places for MemoryPlaces<'_> {
+impl<'a> Places for MemoryPlaces<'a> {
     type Disk = FolderDisk;
 
     type Held = Held;
+
+    type Reader = MemoryReader<'a>;
 
     ghost known = { λ places. known_in_memory places.layout.now places.disks };
 
@@ -45,6 +48,13 @@ impl Places for MemoryPlaces<'_> {
                 let copy = Vec::from_slice(alloc, bytes)?;
                 Ok(copy)
             }
+            None => Err(refused_at(path, self.layout.no_file(path), notes)),
+        }
+    }
+
+    fn reader(&mut self, _alloc: Global, path: &str, notes: &Notes) -> R<MemoryReader<'a>> {
+        match self.layout.file(path) {
+            Some(bytes) => Ok(MemoryReader::new(bytes)),
             None => Err(refused_at(path, self.layout.no_file(path), notes)),
         }
     }

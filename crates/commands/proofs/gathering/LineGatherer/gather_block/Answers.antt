@@ -1,0 +1,41 @@
+use Rattle.std.proofs.Common.{refl, Bool, Option, List, ℕ, Ok}
+use Rattle.footer.specs.declared.options.WriteOptions.{WriteOptions}
+use Rattle.manifest.specs.Groups.{Root}
+use Rattle.vault.proofs.Chained.{refused}
+use Rattle.commands.specs.Blocks.{AreKnown}
+use Rattle.commands.specs.inner.GatheredRows.{GathersBlock}
+use Rattle.commands.proofs.BlocksRead.{of_device, block_read, read_by, length_refused, piece_refused, piece_gathered}
+use Rattle.commands.proofs.gathering.LineGatherer.gather_block.Goals as goal
+
+pub returns-in_err-is_more-clause-gathers : goal.returns-in_err-is_more-clause-gathers
+returns-in_err-is_more-clause-gathers g c = λ texts root options start h.
+    let shut = g.B.BlockReader.is_shut c.args.file.now in
+    let e = c.in_err-is_more.field-0.0 in
+    refused (GathersBlock texts root options start (g.B.BlockReader.left c.read_block.new.self) shut c.read_block.new.buffer.items c.args.self.now) c.from_residual.result e c.from_residual.ensures.1
+    (of_device shut (AreKnown start) texts root.schema e c.in_err-is_more.ensures.refused)
+
+pub returns-in_err-check_length-clause-gathers : goal.returns-in_err-check_length-clause-gathers
+returns-in_err-check_length-clause-gathers g c = λ texts root options start h.
+    let left = g.B.BlockReader.left in
+    let shut = g.B.BlockReader.is_shut c.args.file.now in
+    let waiting = c.read_block.new.buffer.items in
+    let read = block_read texts root options start (left c.args.file.now) (left c.read_block.new.self) c.args.waiting.now.items waiting c.in_ok-is_more.is_more c.args.self.now
+        c.in_ok-is_more.ensures.read h in
+    let e = c.in_err-check_length.field-0.0 in
+    refused (GathersBlock texts root options start (left c.read_block.new.self) shut waiting _) c.from_residual-in_err-check_length.result e c.from_residual-in_err-check_length.ensures.1
+    (length_refused texts root options start (left c.read_block.new.self) waiting c.args.self.now read shut e c.in_err-check_length.ensures.which)
+
+pub returns-in_err-gather_bytes-clause-gathers : goal.returns-in_err-gather_bytes-clause-gathers
+returns-in_err-gather_bytes-clause-gathers g c = λ texts root options start h.
+    let left = g.B.BlockReader.left in
+    let shut = g.B.BlockReader.is_shut c.args.file.now in
+    let waiting = c.read_block.new.buffer.items in
+    let some = c.in_ok-is_more.is_more in
+    let read = block_read texts root options start (left c.args.file.now) (left c.read_block.new.self) c.args.waiting.now.items waiting some c.args.self.now c.in_ok-is_more.ensures.read h in
+    let over = λ (none : some ≡ false). (c.in_ok-is_more.ensures.read.over none).1 in
+    let e = c.in_err-gather_bytes.field-0.0 in
+    refused (GathersBlock texts root options start (left c.read_block.new.self) shut waiting _) c.from_residual-in_err-gather_bytes.result e c.from_residual-in_err-gather_bytes.ensures.1
+    (piece_refused texts root options start (left c.read_block.new.self) waiting c.args.self.now read shut some c.whole_length-whole.result c.whole_length-whole.ensures.is over e ?)
+
+pub returns-clause-gathers : goal.returns-clause-gathers
+returns-clause-gathers g c = ?

@@ -1,0 +1,55 @@
+//! Where bytes that are read in blocks are cut into lines.
+
+ghost use Rattle.std.specs.Prelude.{◌≡◌, ◌≤◌, ◌<◌, length, take, drop, vec_len};
+ghost use Rattle.commands.specs.inner.LineCuts.{IsLineLength, IsWholeLength};
+ghost use Rattle.commands.specs.Blocks.{AreWholeLines};
+
+/// How many bytes the first line of bytes has, with its line feed; all that there are, where none is a line feed.
+pub(crate) fn line_length(bytes: &[u8]) -> usize
+    ensures within { result ≤ length bytes.now }
+    ensures is { IsLineLength bytes.now result }
+{
+    for (place, byte) in bytes.iter().enumerate() {
+        if *byte == b'\n' {
+            return place + 1;
+        }
+    }
+    bytes.len()
+}
+
+/// How many bytes the whole lines of bytes have; all that there are, where no more come.
+pub(crate) fn whole_length(bytes: &[u8], come_more: bool) -> usize
+    ensures within { result ≤ length bytes.now }
+    ensures is { IsWholeLength bytes.now come_more result }
+{
+    if come_more {
+        after_last_feed(bytes)
+    } else {
+        bytes.len()
+    }
+}
+
+/// How many bytes there are up to the last line feed, and with it; 0 where there is none.
+fn after_last_feed(bytes: &[u8]) -> usize
+    ensures within { result ≤ length bytes.now }
+    ensures whole { AreWholeLines (take result bytes.now) }
+{
+    let mut end = bytes.len();
+    while end > 0 {
+        if bytes[end - 1] == b'\n' {
+            return end;
+        }
+        end -= 1;
+    }
+    0
+}
+
+/// Takes the first so many bytes away.
+pub(crate) fn forget(bytes: &mut Vec<u8>, count: usize)
+    requires { count ≤ vec_len bytes.old }
+    ensures { bytes.new.items ≡ drop count bytes.old.items }
+{
+    let left = bytes.len() - count;
+    bytes.copy_within(count.., 0);
+    bytes.truncate(left);
+}
