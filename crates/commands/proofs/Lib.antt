@@ -35,3 +35,4 @@ mod OfFile
 mod LooksFound
 mod WholeLines
 mod BlocksRead
+mod TablesFound

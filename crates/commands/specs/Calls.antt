@@ -168,19 +168,23 @@ pub data AppendsLines {D : Type 0} (S : Type 0) (state : D → DiskState) (old n
   no_rows : (e : Refusal) (table : Manifest) → InFolder (disk_within {D = D} {S = S}) old new call.folder.now (FindsTable (state_within state) call.options) ⊤ (Ok table)
       → AreRefusedOf (old.is_shut path) (old.file path) call.texts (root_of table).schema e
       → after ≡ before → result ≡ Err e → AppendsLines S state old new call path unless before after result
-  read : (mid : Known D) (table : Manifest) (bytes : List ℕ) (rows : List ValueTrees)
+  lines_read : (mid : Known D) (table : Manifest) (bytes : List ℕ) (rows : List ValueTrees)
       → InFolder (disk_within {D = D} {S = S}) old mid call.folder.now (FindsTable (state_within state) call.options) ⊤ (Ok table)
       → old.file path bytes → IsUtf8 bytes → AreRowTexts call.texts (root_of table).schema (lines bytes) rows
       → InFolder (disk_within {D = D} {S = S}) mid new call.folder.now
-        (ChangesDisk state call.options (ChangesByRows state call unless (root_of table) rows before after) before after) (after ≡ before) result
+      (ChangesDisk state call.options (ChangesByRows state call unless (root_of table) rows before after) before after) (after ≡ before) result
       → AppendsLines S state old new call path unless before after result
 
--- what comes of a call on the files that it names and on its folder, by its task
-abbrev pub OnFilesBy : {D : Type 0} (S : Type 0) → (D → DiskState) → Known D → Known D → Call → Task → Option (List ℕ) → Option (List ℕ)
+-- the path of the rows that a task appends, and the filter that no row may satisfy; none where the task is no append
+abbrev pub append_of : Task → Option (List ℕ × Option (List ℕ))
+append_of (ToChange (Append rows unless)) = Some (rows.now, lent_text unless)
+append_of _ = None
+
+-- what comes of a call on the files that it names and on its folder: of an append, or of another task
+abbrev pub OnFilesBy : {D : Type 0} (S : Type 0) → (D → DiskState) → Known D → Known D → Call → Option (List ℕ × Option (List ℕ)) → Option (List ℕ) → Option (List ℕ)
     → Result ⊤ Refusal → Type 0
-OnFilesBy S state old new call (ToChange (Append rows unless)) before after result =
-    AppendsLines S state old new call rows.now (lent_text unless) before after result
-OnFilesBy S state old new call _ before after result = OnFiles S state old new call before after result
+OnFilesBy S state old new call (Some asked) before after result = AppendsLines S state old new call asked.0 asked.1 before after result
+OnFilesBy S state old new call None before after result = OnFiles S state old new call before after result
 
 -- ---- a file in place of a folder
 
@@ -203,7 +207,7 @@ PrintsOfFile known path _ before after result = ⊥
 -- the folder and there is none, what that is.
 pub data ComesUnfiltered {D : Type 0} (S : Type 0) (state : D → DiskState) (old new : Known D) (call : Call)
     (before after : Option (List ℕ)) (result : Result ⊤ Refusal) : Type 0 where
-  on_folder : OnFilesBy S state old new call call.task before after result → ComesUnfiltered S state old new call before after result
+  on_folder : OnFilesBy S state old new call (append_of call.task) before after result → ComesUnfiltered S state old new call before after result
   on_file : old.is_folder call.folder.now false → StaysKnown old new → PrintsOfFile old call.folder.now call.task before after result
       → ComesUnfiltered S state old new call before after result
 

@@ -95,10 +95,12 @@ impl<'a> LineGatherer<'a> {
         ensures shown { IfOk result (λ g. g.progress.is_shown ≡ shows) }
         ensures which { RefusedMemoryOnly result }
     {
+        let gathered = begin_gathering(alloc, table, options)?;
+        let reader = Reader::new(alloc, table.schema())?;
         Ok(LineGatherer {
-            gathered: begin_gathering(alloc, table, options)?,
+            gathered,
             met: LineNotes::new(alloc),
-            reader: Reader::new(alloc, table.schema())?,
+            reader,
             texts,
             progress: Progress::new(alloc, "read", None, shows),
         })

@@ -1,6 +1,6 @@
 //! A call on the dataset in a folder, made.
 
-ghost use Rattle.std.specs.Prelude.{◌≡◌, ◌∷◌, ◌++◌, [], ℕ, Option, false, Some, Ok, Err, OnOk, IfOk, IfErr, IsTrue, slice_index_or};
+ghost use Rattle.std.specs.Prelude.{◌≡◌, ◌∷◌, ◌++◌, [], ℕ, Option, false, Some, None, Ok, Err, MatchOption, OnOk, IfOk, IfErr, IsTrue, slice_index_or};
 ghost use Rattle.std.specs.Io.KnownBytes.{Appends};
 ghost use Rattle.serde_json.specs.Data.{Items, array};
 ghost use Rattle.serde_json.specs.Written.{compact_text};
@@ -13,10 +13,10 @@ ghost use Rattle.jsonrows.specs.SchemaPrinted.{PrintsFields};
 ghost use Rattle.commands.specs.Importing.{files_view};
 ghost use Rattle.commands.specs.Places.{StaysKnown, StaysBut, AreFilesAt, IsKeptFrom, AreKeptAmong, InFolder};
 ghost use Rattle.commands.specs.Calls.{MayBeOfFile, PrintsOfFile, OnFolder, OnFiles, OnFilesBy, ComesUnfiltered, ComesFiltered, CallComes, GivesCall, GivesNoFile, IsPassedOn};
-ghost use Rattle.commands.specs.Calls.{named_paths, filter_path, state_within, disk_within};
+ghost use Rattle.commands.specs.Calls.{named_paths, append_of, filter_path, state_within, disk_within};
 ghost use Rattle.commands.specs.Looking.{LinesFit, Finds, LooksOnly, LooksInFolder};
 ghost use Rattle.commands.specs.Querying.{IsSchemaOfFile};
-ghost use Rattle.commands.specs.Tasks.{lent_texts};
+ghost use Rattle.commands.specs.Tasks.{lent_text, lent_texts};
 
 use crate::explaining::{filter_text_reason, no_text_reason};
 use crate::filter_file::{filter_file, with_filter};
@@ -379,15 +379,13 @@ impl<S: Write + Clone + Drop> Making<'_, S> {
         err: &mut E,
         why: &mut Option<Reason>,
     ) -> R<()>
-        ensures comes { OnFilesBy S P.Disk.state (P.known places.old) (P.known places.new) self.now.call.now self.now.call.now.task
+        ensures comes { OnFilesBy S P.Disk.state (P.known places.old) (P.known places.new) self.now.call.now (append_of self.now.call.now.task)
             (W.contents out.old) (W.contents out.new) result }
         ensures quiet { self.now.terminals.err ≡ false → E.contents err.new ≡ E.contents err.old }
     {
-        match &self.call.task {
-            Task::Change(Change::Append { rows, unless }) => {
-                self.append(places, rows, *unless, out, err, why)
-            }
-            _ => self.make_with_files(places, out, err, why),
+        match append_of(&self.call.task) {
+            Some(asked) => self.append(places, asked.path, asked.unless, out, err, why),
+            None => self.make_with_files(places, out, err, why),
         }
     }
 
@@ -689,6 +687,28 @@ pub(crate) fn file_named<'a>(task: &'a Task<'a>) -> Option<&'a str> {
         Task::Change(Change::Append { rows, .. }) => Some(rows),
         Task::Change(Change::Import { files, .. }) => files.first().map(|file| *file),
         Task::Change(Change::AddColumn { schema }) => Some(schema),
+        _ => None,
+    }
+}
+
+/// An append that is asked for.
+#[derive(Drop)]
+struct Append<'a> {
+    /// The path of its rows.
+    path: &'a str,
+    /// The filter that no row may satisfy.
+    unless: Option<&'a str>,
+}
+
+/// The append that a task is; none where it is another task.
+fn append_of<'a>(task: &'a Task<'a>) -> Option<Append<'a>>
+    ensures asked { MatchOption result (append_of task.now ≡ None) (λ asked. append_of task.now ≡ Some (asked.path.now, lent_text asked.unless)) }
+{
+    match task {
+        Task::Change(Change::Append { rows, unless }) => Some(Append {
+            path: rows,
+            unless: *unless,
+        }),
         _ => None,
     }
 }

@@ -1,6 +1,5 @@
-use Rattle.std.proofs.Common.{refl, Bool, Option, List, ℕ, Ok}
-use Rattle.footer.specs.declared.options.WriteOptions.{WriteOptions}
-use Rattle.manifest.specs.Groups.{Root}
+use Rattle.std.proofs.Common.{◌≡◌, false, refl}
+use Rattle.std.specs.Str.Lines.{lines}
 use Rattle.vault.proofs.Chained.{refused}
 use Rattle.commands.specs.Blocks.{AreKnown}
 use Rattle.commands.specs.inner.GatheredRows.{GathersBlock}
@@ -20,7 +19,7 @@ returns-in_err-check_length-clause-gathers g c = λ texts root options start h.
     let shut = g.B.BlockReader.is_shut c.args.file.now in
     let waiting = c.read_block.new.buffer.items in
     let read = block_read texts root options start (left c.args.file.now) (left c.read_block.new.self) c.args.waiting.now.items waiting c.in_ok-is_more.is_more c.args.self.now
-        c.in_ok-is_more.ensures.read h in
+    c.in_ok-is_more.ensures.read h in
     let e = c.in_err-check_length.field-0.0 in
     refused (GathersBlock texts root options start (left c.read_block.new.self) shut waiting _) c.from_residual-in_err-check_length.result e c.from_residual-in_err-check_length.ensures.1
     (length_refused texts root options start (left c.read_block.new.self) waiting c.args.self.now read shut e c.in_err-check_length.ensures.which)
@@ -31,11 +30,23 @@ returns-in_err-gather_bytes-clause-gathers g c = λ texts root options start h.
     let shut = g.B.BlockReader.is_shut c.args.file.now in
     let waiting = c.read_block.new.buffer.items in
     let some = c.in_ok-is_more.is_more in
-    let read = block_read texts root options start (left c.args.file.now) (left c.read_block.new.self) c.args.waiting.now.items waiting some c.args.self.now c.in_ok-is_more.ensures.read h in
+    let read = read_by texts root options start (left c.read_block.new.self) waiting c.args.self.now _ refl refl refl
+    (block_read texts root options start (left c.args.file.now) (left c.read_block.new.self) c.args.waiting.now.items waiting some c.args.self.now c.in_ok-is_more.ensures.read h) in
     let over = λ (none : some ≡ false). (c.in_ok-is_more.ensures.read.over none).1 in
     let e = c.in_err-gather_bytes.field-0.0 in
     refused (GathersBlock texts root options start (left c.read_block.new.self) shut waiting _) c.from_residual-in_err-gather_bytes.result e c.from_residual-in_err-gather_bytes.ensures.1
-    (piece_refused texts root options start (left c.read_block.new.self) waiting c.args.self.now read shut some c.whole_length-whole.result c.whole_length-whole.ensures.is over e ?)
+    (piece_refused texts root options start (left c.read_block.new.self) waiting _ read shut some c.whole_length-whole.result c.whole_length-whole.ensures.is over e
+    (c.in_err-gather_bytes.ensures.gathers texts root options (lines read.given) read.held))
 
 pub returns-clause-gathers : goal.returns-clause-gathers
-returns-clause-gathers g c = ?
+returns-clause-gathers g c = λ texts root options start h.
+    let left = g.B.BlockReader.left in
+    let shut = g.B.BlockReader.is_shut c.args.file.now in
+    let waiting = c.read_block.new.buffer.items in
+    let some = c.in_ok-is_more.is_more in
+    let read = read_by texts root options start (left c.read_block.new.self) waiting c.args.self.now _ refl refl refl
+    (block_read texts root options start (left c.args.file.now) (left c.read_block.new.self) c.args.waiting.now.items waiting some c.args.self.now c.in_ok-is_more.ensures.read h) in
+    let over = λ (none : some ≡ false). (c.in_ok-is_more.ensures.read.over none).1 in
+    let got = c.in_ok-gather_bytes.ensures.gathers texts root options (lines read.given) read.held in
+    piece_gathered texts root options start (left c.read_block.new.self) waiting _ read shut some c.whole_length-whole.result c.whole_length-whole.ensures.is over c.gather_bytes.new.self
+    c.forget.new.bytes.items c.forget.ensures got.0 got.1
