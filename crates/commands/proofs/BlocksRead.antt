@@ -103,13 +103,13 @@ of_shut {A} {B} shuts HasBytes HasOthers gives texts fs =
 -- another gatherer with the same rows
 pub held_by : (texts : Bool) (root : Root) (options : WriteOptions) (all : List (List ℕ)) (old new : LineGatherer) → new.gathered ≡ old.gathered → new.reader ≡ old.reader → new.texts ≡ old.texts
     → HoldsLines texts root options all old → HoldsLines texts root options all new
-held_by texts root options all old new rows reader as held = record {
+held_by texts root options all old new rows reader form held = record {
   rows = held.rows;
   read = held.read;
   held = subst (λ (g : Gathered). holds g held.rows) (sym rows) held.held;
   table = subst (AreGatheredFor root options) (sym rows) held.table;
   fields = ap fields_of reader ∙ held.fields;
-  as_texts = as ∙ held.as_texts;
+  as_texts = form ∙ held.as_texts;
 }
 
 -- the rows of lines that are the same
@@ -135,10 +135,10 @@ refused_in texts fs line e h = h
 pub line_added : {T : Type 0} (line : List ℕ) (old new : LineGatherer) (result : Result T Refusal) → OnOk result (AddsLine old.texts (fields_of old.reader) line old.gathered new.gathered)
     → RefusedOnly (IsRefusedLine old.texts (fields_of old.reader) line) result → KeepsTable old.gathered new.gathered → fields_of new.reader ≡ fields_of old.reader → new.texts ≡ old.texts
     → GathersLines (line ∷ []) old new result
-line_added line old new (Ok x) adds which keeps same as = λ texts root options all held.
+line_added line old new (Ok x) adds which keeps same form = λ texts root options all held.
     let table = held.table in
     let adds : AddsLine texts root.schema line old.gathered new.gathered =
-        subst (λ (t : Fields). AddsLine texts t line old.gathered new.gathered) held.fields (subst (λ (b : Bool). AddsLine b (fields_of old.reader) line old.gathered new.gathered) held.as_texts adds) in
+    subst (λ (t : Fields). AddsLine texts t line old.gathered new.gathered) held.fields (subst (λ (b : Bool). AddsLine b (fields_of old.reader) line old.gathered new.gathered) held.as_texts adds) in
     let more = adds held.rows held.held table.schema in
     record {
       rows = held.rows ++ more.0 ∷ [];
@@ -146,11 +146,11 @@ line_added line old new (Ok x) adds which keeps same as = λ texts root options 
       held = more.1.1;
       table = record { schema = keeps.schema ∙ table.schema; columns = keeps.columns ∙ table.columns; size = keeps.size ∙ table.size };
       fields = same ∙ held.fields;
-      as_texts = as ∙ held.as_texts;
+      as_texts = form ∙ held.as_texts;
     }
-line_added line old new (Err e) adds which keeps same as = λ texts root options all held.
+line_added line old new (Err e) adds which keeps same form = λ texts root options all held.
     let which : HasCause (IsRefusedLine texts root.schema line) e =
-        subst (λ (t : Fields). HasCause (IsRefusedLine texts t line) e) held.fields (subst (λ (b : Bool). HasCause (IsRefusedLine b (fields_of old.reader) line) e) held.as_texts which) in
+    subst (λ (t : Fields). HasCause (IsRefusedLine texts t line) e) held.fields (subst (λ (b : Bool). HasCause (IsRefusedLine b (fields_of old.reader) line) e) held.as_texts which) in
     refused_here texts root.schema (all ++ line ∷ []) all [] line held.rows refl held.read e (refused_in texts root.schema line e which)
 
 -- the rows of the lines of bytes are gathered that are a text
@@ -165,7 +165,7 @@ text_gathered bytes text same is old new (Err e) gathers = λ texts root options
 pub no_text : {T : Type 0} (bytes : List ℕ) → IsLineLength bytes (length bytes) → (IsUtf8 bytes → ⊥) → (old new : LineGatherer) → GathersBytes {T = T} bytes old new (Err Script)
 no_text bytes is lacks old new = λ texts root options all held.
     let l = no_text_line bytes is lacks in
-    refused_here texts root.schema (all ++ lines bytes) all [] l.0 held.rows (ap (λ (t : List (List ℕ)). all ++ t) l.1.0) held.read Script (inl l.1.1)
+    refused_here texts root.schema (all ++ lines bytes) all [] l.0 held.rows (ap (λ (t : List (List ℕ)). all ++ t) l.1) held.read Script (inl l.2)
 
 -- ---- blocks
 
@@ -177,21 +177,21 @@ module _ (texts : Bool) (root : Root) (options : WriteOptions) (start : Option (
   -- the same of another gatherer with the same rows
   pub read_by : (left : Option (List ℕ)) (waiting : List ℕ) (old new : LineGatherer) → new.gathered ≡ old.gathered → new.reader ≡ old.reader → new.texts ≡ old.texts
       → HasRead texts root options start left waiting old → HasRead texts root options start left waiting new
-  read_by left waiting old new rows reader as h = record {
+  read_by left waiting old new rows reader form h = record {
     given = h.given;
     gone = h.gone;
     whole = h.whole;
     utf8 = h.utf8;
-    held = held_by texts root options (lines h.given) old new rows reader as h.held;
+    held = held_by texts root options (lines h.given) old new rows reader form h.held;
   }
 
   pub all_read_by : (old new : LineGatherer) → new.gathered ≡ old.gathered → new.reader ≡ old.reader → new.texts ≡ old.texts
       → HasReadAll texts root options start old → HasReadAll texts root options start new
-  all_read_by old new rows reader as h = record {
+  all_read_by old new rows reader form h = record {
     bytes = h.bytes;
     known = h.known;
     utf8 = h.utf8;
-    held = held_by texts root options (lines h.bytes) old new rows reader as h.held;
+    held = held_by texts root options (lines h.bytes) old new rows reader form h.held;
   }
 
   -- a block more waits
@@ -223,10 +223,10 @@ module _ (texts : Bool) (root : Root) (options : WriteOptions) (start : Option (
     pub too_long : (n : ℕ) → 2 ^ 30 + 2 < n → IsLineLength waiting n → AreRefusedOf IsShut (AreKnown start) texts root.schema Limit
     too_long n long is =
         let l = long_first waiting (rest_of left) n (2 ^ 30) is long in
-        let all : lines bytes_so ≡ lines h.given ++ l.0 ∷ l.1.0 =
-            ap lines (append_assoc h.given waiting (rest_of left)) ∙ lines_of_both h.given (waiting ++ rest_of left) h.whole ∙ ap (λ (t : List (List ℕ)). lines h.given ++ t) l.1.1.0 in
+        let all : lines bytes_so ≡ lines h.given ++ l.0 ∷ l.1 =
+        ap lines (append_assoc h.given waiting (rest_of left)) ∙ lines_of_both h.given (waiting ++ rest_of left) h.whole ∙ ap (λ (t : List (List ℕ)). lines h.given ++ t) l.2 in
         of_lines IsShut (AreKnown start) texts root.schema bytes_so (known_so start left (h.given ++ waiting) h.gone) Limit
-        (refused_here texts root.schema (lines bytes_so) (lines h.given) l.1.0 l.0 h.held.rows all h.held.read Limit l.1.1.1)
+        (refused_here texts root.schema (lines bytes_so) (lines h.given) l.1 l.0 h.held.rows all h.held.read Limit l.3)
 
     pub length_refused : (e : Refusal) → HasCause (λ f. (f ≡ Limit) × ((n : ℕ) × (2 ^ 30 + 2 < n) × IsLineLength waiting n)) e
         → AreRefusedOf IsShut (AreKnown start) texts root.schema e
@@ -241,13 +241,13 @@ module _ (texts : Bool) (root : Root) (options : WriteOptions) (start : Option (
         let piece = take n waiting in
         let more = lines (drop n waiting ++ rest_of left) in
         let all : lines bytes_so ≡ (lines h.given ++ lines piece) ++ more =
-            lines_so piece (drop n waiting) (sym (take-append-drop n waiting)) ∙ ap (λ (t : List (List ℕ)). lines h.given ++ t) (lines_of_both piece (drop n waiting ++ rest_of left) whole)
-            ∙ sym (append_assoc (lines h.given) (lines piece) more) in
+        lines_so piece (drop n waiting) (sym (take-append-drop n waiting)) ∙ ap (λ (t : List (List ℕ)). lines h.given ++ t) (lines_of_both piece (drop n waiting ++ rest_of left) whole)
+        ∙ sym (append_assoc (lines h.given) (lines piece) more) in
         of_lines IsShut (AreKnown start) texts root.schema bytes_so (known_so start left (h.given ++ waiting) h.gone) e
         (refused_with texts root.schema (lines h.given ++ lines piece) more (lines bytes_so) all e refused)
     piece_refused false n whole over e refused =
         let all : lines h.given ++ lines (take n waiting) ≡ lines (h.given ++ waiting) =
-            ap (λ (t : List ℕ). lines h.given ++ lines t) (take_all n waiting (le_of_eq (sym whole))) ∙ sym (lines_of_both h.given waiting h.whole) in
+        ap (λ (t : List ℕ). lines h.given ++ lines t) (take_all n waiting (le_of_eq (sym whole))) ∙ sym (lines_of_both h.given waiting h.whole) in
         of_lines IsShut (AreKnown start) texts root.schema (h.given ++ waiting) (known_all start left (h.given ++ waiting) h.gone (over refl)) e
         (subst (λ (t : List (List ℕ)). AreRefusedIn texts root.schema t e) all refused)
 

@@ -14,13 +14,13 @@ ghost use Rattle.commands.specs.inner.LineCuts.{IsLineLength};
 ghost use Rattle.commands.specs.inner.GatheredRows.{AddsLine, HoldsLines, GathersLines, GathersBytes, GathersBlock, HasRead, HasReadAll};
 
 use crate::key_reason::gathered_reason;
-use crate::line_cuts::{forget, line_length, whole_length};
+use crate::line_cuts::{forget, line_at, line_length, whole_length};
 use crate::line_notes::{LineNotes, RowNotes};
 use crate::notes::Notes;
 use crate::places::BlockReader;
 use crate::reason::Reason;
 use crate::tasks::found;
-use crate::texts::text_of;
+use crate::texts::as_text;
 use assemble::RowSink;
 use bits::{R, Refusal};
 use footer::WriteOptions;
@@ -133,7 +133,7 @@ impl<'a> LineGatherer<'a> {
         ensures quiet { self.old.progress.is_shown ≡ false → E.contents err.new ≡ E.contents err.old }
     {
         let mut waiting = Vec::new(alloc);
-        'blocks: for _ in 0..u64::MAX {
+        'reads: for _ in 0..u64::MAX {
             if !self.gather_block(file, &mut waiting, notes, err)? {
                 return Ok(());
             }
@@ -172,9 +172,9 @@ impl<'a> LineGatherer<'a> {
         ensures quiet { self.old.progress.is_shown ≡ false → E.contents err.new ≡ E.contents err.old }
         ensures hidden { self.new.progress.is_shown ≡ self.old.progress.is_shown }
     {
-        match text_of(bytes) {
-            Ok(text) => self.gather_lines(text, err),
-            Err(_) => self.gather_texts(bytes, err),
+        match as_text(bytes) {
+            Some(text) => self.gather_lines(text, err),
+            None => self.gather_texts(bytes, err),
         }
     }
 
@@ -187,10 +187,9 @@ impl<'a> LineGatherer<'a> {
     {
         let mut place = 0;
         while place < bytes.len() {
-            let rest = &bytes[place..];
-            let length = line_length(rest);
-            self.gather_text(&rest[..length], err)?;
-            place += length;
+            let line = line_at(bytes, place);
+            self.gather_text(line, err)?;
+            place += line.len();
         }
         Ok(())
     }
@@ -202,9 +201,9 @@ impl<'a> LineGatherer<'a> {
         ensures quiet { self.old.progress.is_shown ≡ false → E.contents err.new ≡ E.contents err.old }
         ensures hidden { self.new.progress.is_shown ≡ self.old.progress.is_shown }
     {
-        match text_of(line) {
-            Ok(text) => self.gather_lines(text, err),
-            Err(_) => {
+        match as_text(line) {
+            Some(text) => self.gather_lines(text, err),
+            None => {
                 self.met.refuse_bytes();
                 Err(Refusal::Script)
             }

@@ -17,6 +17,16 @@ pub(crate) fn line_length(bytes: &[u8]) -> usize
     bytes.len()
 }
 
+/// The line that begins at a place of bytes, with its line feed; the rest, where none is a line feed.
+pub(crate) fn line_at(bytes: &[u8], place: usize) -> &[u8]
+    requires { place ≤ length bytes.now }
+    ensures is { IsLineLength (drop place bytes.now) (length result.now) }
+    ensures front { result.now ≡ take (length result.now) (drop place bytes.now) }
+{
+    let rest = bytes.split_at(place).1;
+    rest.split_at(line_length(rest)).0
+}
+
 /// How many bytes the whole lines of bytes have; all that there are, where no more come.
 pub(crate) fn whole_length(bytes: &[u8], come_more: bool) -> usize
     ensures within { result ≤ length bytes.now }

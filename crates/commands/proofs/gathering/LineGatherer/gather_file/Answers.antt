@@ -6,17 +6,17 @@ use Rattle.commands.specs.inner.GatheredRows.{HasReadAll, GathersBlock}
 use Rattle.commands.proofs.BlocksRead.{none_read, of_shut}
 use Rattle.commands.proofs.gathering.LineGatherer.gather_file.Goals as goal
 
-pub blocks-init : goal.blocks-init
-blocks-init g c = record {
+pub reads-init : goal.reads-init
+reads-init g c = record {
   read = λ texts root options held. none_read texts root options (g.B.BlockReader.left c.args.file.now) c.args.self.now held;
   shut = λ h. h;
   quiet = λ hidden. refl;
   hidden = refl;
 }
 
-pub blocks-preserved : goal.blocks-preserved
-blocks-preserved g c =
-    let l = c.blocks in
+pub reads-preserved : goal.reads-preserved
+reads-preserved g c =
+    let l = c.reads in
     let left = g.B.BlockReader.left in
     let shut = g.B.BlockReader.is_shut l.file in
     let block = c.in_ok-gather_block.ensures in
@@ -32,7 +32,7 @@ blocks-preserved g c =
 
 pub returns-then-not-branch-clause-gathers : goal.returns-then-not-branch-clause-gathers
 returns-then-not-branch-clause-gathers g c = λ texts root options held.
-    let l = c.blocks in
+    let l = c.reads in
     let left = g.B.BlockReader.left in
     let start = left c.args.file.now in
     subst (λ (b : Bool). GathersBlock texts root options start (left c.gather_block.new.file) (g.B.BlockReader.is_shut l.file) c.gather_block.new.waiting.items c.gather_block.new.self (Ok b))
@@ -40,7 +40,7 @@ returns-then-not-branch-clause-gathers g c = λ texts root options held.
 
 pub returns-in_err-gather_block-clause-gathers : goal.returns-in_err-gather_block-clause-gathers
 returns-in_err-gather_block-clause-gathers g c = λ texts root options held.
-    let l = c.blocks in
+    let l = c.reads in
     let start = g.B.BlockReader.left c.args.file.now in
     let shut = g.B.BlockReader.is_shut in
     let e = c.in_err-gather_block.field-0.0 in

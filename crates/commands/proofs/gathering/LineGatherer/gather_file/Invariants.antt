@@ -5,8 +5,8 @@ use Rattle.commands.specs.inner.GatheredRows.{HoldsLines, HasRead}
 use Rattle.commands.proofs.gathering.LineGatherer.gather_file.Given as goal
 
 -- the rows of the whole lines that were read are gathered
-abbrev pub invariant-blocks : goal.invariant-blocks
-invariant-blocks g l = record {
+abbrev pub invariant-reads : goal.invariant-reads
+invariant-reads g l = record {
   read : (texts : Bool) (root : Root) (options : WriteOptions) → HoldsLines texts root options [] l.fn.self
       → HasRead texts root options (g.B.BlockReader.left l.fn.file) (g.B.BlockReader.left l.file) l.waiting.items l.self;
   shut : g.B.BlockReader.is_shut l.file → g.B.BlockReader.is_shut l.fn.file;

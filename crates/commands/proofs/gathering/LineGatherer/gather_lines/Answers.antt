@@ -37,7 +37,7 @@ returns-in_err-gather_line-clause-gathers g c = λ texts root options all held.
     let after = drop (suc (length c.loop-line.yielded)) text in
     let split : text ≡ passed ++ line ∷ after = split_there text (length c.loop-line.yielded) line here.0 here.1 ∙ ap (λ (t : List (List ℕ)). t ++ line ∷ after) (sym so_far) in
     let joined : all ++ text ≡ ((all ++ passed) ++ line ∷ []) ++ after =
-        ap (λ (t : List (List ℕ)). all ++ t) split ∙ (sym (append_assoc all passed (line ∷ after)) ∙ sym (append_assoc (all ++ passed) (line ∷ []) after)) in
+    ap (λ (t : List (List ℕ)). all ++ t) split ∙ (sym (append_assoc all passed (line ∷ after)) ∙ sym (append_assoc (all ++ passed) (line ∷ []) after)) in
     refused (λ r. MatchResult r (λ _. HoldsLines texts root options (all ++ text) c.gather_line.new.self) (AreRefusedIn texts root.schema (all ++ text)))
     c.from_residual.result e c.from_residual.ensures.1
     (refused_with texts root.schema ((all ++ passed) ++ line ∷ []) after (all ++ text) joined e
