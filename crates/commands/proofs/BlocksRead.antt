@@ -26,7 +26,7 @@ use Rattle.commands.proofs.WholeLines.{lines_of_both, both_whole, long_first, no
 -- ---- bytes
 
 -- what is left to be read, as far as it is known
-rest_of : Option (List ℕ) → List ℕ
+abbrev rest_of : Option (List ℕ) → List ℕ
 rest_of None = []
 rest_of (Some bytes) = bytes
 
@@ -162,8 +162,8 @@ text_gathered bytes text same is old new (Err e) gathers = λ texts root options
     subst (λ (t : List ℕ). AreRefusedIn texts root.schema (all ++ lines t) e) same (gathers texts root options all held)
 
 -- a line that is no text is refused
-pub no_text : {T : Type 0} (bytes : List ℕ) → IsLineLength bytes (length bytes) → (IsUtf8 bytes → ⊥) → (old new : LineGatherer) → GathersBytes {T = T} bytes old new (Err Script)
-no_text bytes is lacks old new = λ texts root options all held.
+pub no_text : (T : Type 0) (bytes : List ℕ) → IsLineLength bytes (length bytes) → (IsUtf8 bytes → ⊥) → (old new : LineGatherer) → GathersBytes {T = T} bytes old new (Err Script)
+no_text T bytes is lacks old new = λ texts root options all held.
     let l = no_text_line bytes is lacks in
     refused_here texts root.schema (all ++ lines bytes) all [] l.0 held.rows (ap (λ (t : List (List ℕ)). all ++ t) l.1) held.read Script (inl l.2)
 

@@ -1,5 +1,5 @@
 -- Lines of bytes that are cut behind a line feed.
-use Rattle.std.proofs.Common.{◌≡◌, ◌∙◌, ◌≤◌, ◌<◌, ◌+◌, ◌⊎◌, inl, inr, ℕ, zero, suc, Bool, true, false, cond, List, [], ◌∷◌, ◌++◌, map, length, take, drop, refl, sym, ap, subst, arith, append_assoc, append-nil, length-append, take_at, eqb→eq, add-one, length-drop, take-append-drop}
+use Rattle.std.proofs.Common.{◌≡◌, ◌∙◌, ◌≤◌, ◌<◌, ◌+◌, ◌-◌, ◌⊎◌, inl, inr, ℕ, zero, suc, Bool, true, false, cond, List, [], ◌∷◌, ◌++◌, map, length, take, drop, refl, sym, ap, subst, arith, append_assoc, append-nil, length-append, take_at, eqb-true, ne_eqb, add-one, length-drop, take-append-drop}
 use Rattle.std.specs.Prelude.{◌==◌, if◌then◌else◌, slice_index, IsUtf8}
 use Rattle.std.specs.List.{slice_split, onto_first}
 use Rattle.std.specs.Str.Lines.{lines, lines_of_parts, strip_carriage_return}
@@ -97,15 +97,20 @@ begins_part (b ∷ front) more none =
     let h = begins_part front more none.1 in
     (h.0, h.1, ap (λ (is : Bool). cond is ([] ∷ parts_of (front ++ more)) (onto_first b (parts_of (front ++ more)))) none.0 ∙ ap (onto_first b) h.2)
 
+-- a last part that has bytes is a line
+last_part : (b : ℕ) (part : List ℕ) → lines_of_parts ((b ∷ part) ∷ []) ≡ (b ∷ part) ∷ []
+last_part b part = ap (λ (is : Bool). cond is [] ((b ∷ part) ∷ [])) (ne_eqb (length (b ∷ part)) 0 (λ none. omega (arith, none)))
+
 -- a line and its carriage return
 stripped : (line : List ℕ) → (line ≡ strip_carriage_return line) ⊎ (line ≡ strip_carriage_return line ++ 13 ∷ [])
 stripped [] = inl refl
-stripped (b ∷ line) = by (slice_index (b ∷ line) (length line) == 13) refl
+stripped (b ∷ line) = by (length (b ∷ line) - 1) (omega arith) (slice_index (b ∷ line) (length (b ∷ line) - 1) == 13) refl
   where
-    by : (is : Bool) → (slice_index (b ∷ line) (length line) == 13) ≡ is
-        → ((b ∷ line) ≡ (if is then take (length line) (b ∷ line) else b ∷ line)) ⊎ ((b ∷ line) ≡ (if is then take (length line) (b ∷ line) else b ∷ line) ++ 13 ∷ [])
-    by false is = inl refl
-    by true is = inr (sym (take_all (length line + 1) (b ∷ line) (omega arith)) ∙ (take_more (b ∷ line) (length line) 0 (omega arith) ∙ ap (λ (c : ℕ). take (length line) (b ∷ line) ++ c ∷ []) (eqb→eq (slice_index (b ∷ line) (length line)) 13 is)))
+    by : (k : ℕ) → k ≡ length line → (is : Bool) → (slice_index (b ∷ line) k == 13) ≡ is
+        → ((b ∷ line) ≡ (if is then take k (b ∷ line) else b ∷ line)) ⊎ ((b ∷ line) ≡ (if is then take k (b ∷ line) else b ∷ line) ++ 13 ∷ [])
+    by k at false is = inl refl
+    by k at true is =
+        inr (sym (take_all (k + 1) (b ∷ line) (omega (arith, at))) ∙ (take_more (b ∷ line) k 0 (omega (arith, at)) ∙ ap (λ (c : ℕ). take k (b ∷ line) ++ c ∷ []) (eqb-true (slice_index (b ∷ line) k) 13 is)))
 
 -- a line is at most one byte shorter than what stands before its line feed
 length_stripped : (line : List ℕ) → length line ≤ length (strip_carriage_return line) + 1
@@ -147,7 +152,7 @@ long_first bytes more n k (open_ended none many) long =
     by : (ps : List (List ℕ)) (part : List ℕ) → length part ≡ length bytes + length (begins_part bytes more none).0 → parts_of (bytes ++ more) ≡ part ∷ ps
         → (line : List ℕ) × (after : List (List ℕ)) × (lines (bytes ++ more) ≡ line ∷ after) × (k ≤ length line)
     by [] [] as_long same = absurd (omega (arith, as_long, many, long))
-    by [] (b ∷ part) as_long same = (b ∷ part, [], ap lines_of_parts same, omega (arith, as_long, many, long))
+    by [] (b ∷ part) as_long same = (b ∷ part, [], ap lines_of_parts same ∙ last_part b part, omega (arith, as_long, many, long))
     by (p ∷ ps) part as_long same =
         (strip_carriage_return part, lines_of_parts (p ∷ ps), ap lines_of_parts same, omega (arith, as_long, many, long, length_stripped part))
 
@@ -162,7 +167,7 @@ no_text_line bytes (ended front after none same many) lacks =
       λ is_text. lacks (subst IsUtf8 (sym is) (IsUtf8-append front (10 ∷ []) (utf8_stripped front is_text) (byte_is_text 10 (omega arith)))),
     )
 no_text_line [] (open_ended none many) lacks = absurd (lacks IsUtf8-nil)
-no_text_line (b ∷ bytes) (open_ended none many) lacks = (b ∷ bytes, ap lines_of_parts (only_part (b ∷ bytes) none), lacks)
+no_text_line (b ∷ bytes) (open_ended none many) lacks = (b ∷ bytes, ap lines_of_parts (only_part (b ∷ bytes) none) ∙ last_part b bytes, lacks)
 
 -- the lines of bytes are the first and those after it
 pub first_and_more : (bytes line after : List ℕ) → bytes ≡ line ++ after → IsLineLength bytes (length line) → lines bytes ≡ lines line ++ lines after

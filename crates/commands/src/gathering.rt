@@ -131,6 +131,7 @@ impl<'a> LineGatherer<'a> {
             → MatchResult result (λ _. HasReadAll texts root options (B.left file.old) self.new)
             (AreRefusedOf (B.is_shut file.old) (AreKnown (B.left file.old)) texts root.schema) }
         ensures quiet { self.old.progress.is_shown ≡ false → E.contents err.new ≡ E.contents err.old }
+        ensures hidden { self.new.progress.is_shown ≡ self.old.progress.is_shown }
     {
         let mut waiting = Vec::new(alloc);
         'reads: for _ in 0..u64::MAX {

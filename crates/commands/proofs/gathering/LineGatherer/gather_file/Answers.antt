@@ -1,14 +1,16 @@
-use Rattle.std.proofs.Common.{◌∙◌, Bool, Ok, refl, subst, false}
+use Rattle.std.proofs.Common.{◌∙◌, Bool, ℕ, List, Ok, refl, sym, subst}
 use Rattle.std.specs.Prelude.{MatchResult}
 use Rattle.vault.proofs.Chained.{refused}
 use Rattle.commands.specs.Blocks.{AreKnown, AreRefusedOf}
-use Rattle.commands.specs.inner.GatheredRows.{HasReadAll, GathersBlock}
+use Rattle.commands.specs.inner.GatheredRows.{HasRead, HasReadAll, GathersBlock}
 use Rattle.commands.proofs.BlocksRead.{none_read, of_shut}
 use Rattle.commands.proofs.gathering.LineGatherer.gather_file.Goals as goal
 
 pub reads-init : goal.reads-init
 reads-init g c = record {
-  read = λ texts root options held. none_read texts root options (g.B.BlockReader.left c.args.file.now) c.args.self.now held;
+  read = λ texts root options held.
+      let start = g.B.BlockReader.left c.args.file.now in
+      subst (λ (waiting : List ℕ). HasRead texts root options start start waiting c.args.self.now) (sym c.new-waiting.ensures.items) (none_read texts root options start c.args.self.now held);
   shut = λ h. h;
   quiet = λ hidden. refl;
   hidden = refl;
