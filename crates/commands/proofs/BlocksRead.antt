@@ -228,11 +228,11 @@ module _ (texts : Bool) (root : Root) (options : WriteOptions) (start : Option (
         of_lines IsShut (AreKnown start) texts root.schema bytes_so (known_so start left (h.given ++ waiting) h.gone) Limit
         (refused_here texts root.schema (lines bytes_so) (lines h.given) l.1 l.0 h.held.rows all h.held.read Limit l.3)
 
-    pub length_refused : (e : Refusal) → HasCause (λ f. (f ≡ Limit) × ((n : ℕ) × (2 ^ 30 + 2 < n) × IsLineLength waiting n)) e
+    pub length_refused : (e : Refusal) → HasCause (λ f. (f ≡ Limit) × (n : ℕ) × (2 ^ 30 + 2 < n) × IsLineLength waiting n) e
         → AreRefusedOf IsShut (AreKnown start) texts root.schema e
     length_refused =
-        caused (λ f. (f ≡ Limit) × ((n : ℕ) × (2 ^ 30 + 2 < n) × IsLineLength waiting n)) Refuses
-        (λ e long. subst Refuses (sym long.0) (too_long long.1.0 long.1.1 long.1.2))
+        caused (λ f. (f ≡ Limit) × (n : ℕ) × (2 ^ 30 + 2 < n) × IsLineLength waiting n) Refuses
+        (λ e long. subst Refuses (sym long.0) (too_long long.1 long.2 long.3))
 
     -- the lines of a piece are refused
     pub piece_refused : (some : Bool) (n : ℕ) → IsWholeLength waiting some n → (some ≡ false → IsAtEnd left) → (e : Refusal)

@@ -160,9 +160,10 @@ impl<'a> LineGatherer<'a> {
         ensures hidden { self.new.progress.is_shown ≡ self.old.progress.is_shown }
     {
         let is_more = file.read_block(waiting, notes)?;
-        check_length(waiting.as_slice(), &mut self.met)?;
-        let whole = whole_length(waiting.as_slice(), is_more);
-        self.gather_bytes(&waiting[..whole], err)?;
+        let bytes = waiting.as_slice();
+        check_length(bytes, &mut self.met)?;
+        let whole = whole_length(bytes, is_more);
+        self.gather_bytes(bytes.split_at(whole).0, err)?;
         forget(waiting, whole);
         Ok(is_more)
     }
