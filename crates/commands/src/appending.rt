@@ -1,7 +1,6 @@
 //! Rows of lines that are appended: they are read while nobody is kept from the dataset.
 
-ghost use Rattle.std.specs.Prelude.{◌≡◌, ⊤, List, false, IfOk, IfErr, Ok, Err};
-ghost use Rattle.bits.specs.Refusals.{HasCause};
+ghost use Rattle.std.specs.Prelude.{◌≡◌, ⊤, List, false, IfOk, IfErr};
 ghost use Rattle.schema.specs.Values.{ValueTrees};
 ghost use Rattle.footer.specs.declared.options.WriteOptions.{WriteOptions};
 ghost use Rattle.manifest.specs.Groups.{Root, root_of};

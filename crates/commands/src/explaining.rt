@@ -200,13 +200,14 @@ pub(crate) fn append_reason<D: Disk>(
     if let Some(reason) = filter_reason(alloc, store.schema(), unless, texts)? {
         return Ok(Some(reason));
     }
-    let (is_small, is_whole) = (rows.lines.bytes() < SMALL_TEXT, unless.is_none());
+    let RowNotes { schema, lines, key } = rows;
+    let is_small = lines.bytes() < SMALL_TEXT;
     match refusal {
-        Refusal::Schema if is_whole || !same_schema(rows.schema, store.schema()) => {
+        Refusal::Schema if unless.is_none() || !same_schema(schema, store.schema()) => {
             Ok(Some(Reason::OtherTable))
         }
-        Refusal::Key => Ok(rows.key),
-        Refusal::Limit => match rows.lines.large() {
+        Refusal::Key => Ok(key),
+        Refusal::Limit => match lines.large() {
             None if is_small => full_root(alloc, store),
             reason => Ok(reason),
         },
