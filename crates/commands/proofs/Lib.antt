@@ -36,3 +36,4 @@ mod LooksFound
 mod WholeLines
 mod BlocksRead
 mod TablesFound
+mod BlocksPut

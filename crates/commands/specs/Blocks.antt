@@ -1,5 +1,5 @@
 -- A file that is read in blocks: what is left of it, and its lines.
-use Rattle.std.specs.Prelude.{◌≡◌, ◌⊎◌, ◌≤◌, ◌^◌, ⊤, ℕ, Bool, false, List, [], ◌∷◌, ◌++◌, length, Option, Some, None, IsUtf8}
+use Rattle.std.specs.Prelude.{◌≡◌, ◌⊎◌, ◌≤◌, ◌+◌, ◌^◌, ⊤, ℕ, Bool, false, List, [], ◌∷◌, ◌++◌, length, take, Option, Some, None, IsUtf8}
 use Rattle.std.specs.Str.Lines.{lines}
 use Rattle.std.specs.Io.KnownBytes.{Consumes, IsAtEnd}
 use Rattle.rowtext.specs.Reading.{line_of}
@@ -23,6 +23,11 @@ pub record ReadsBlock (old new : Option (List ℕ)) (before after : List ℕ) (s
   pub joined : after ≡ before ++ block
   pub gone : Consumes old new block
   pub over : some ≡ false → (block ≡ []) × IsAtEnd new
+
+-- so many bytes were put behind those that were there
+pub record ArePutBehind (before after : List ℕ) (n : ℕ) : Type 0 where
+  pub front : take (length before) after ≡ before
+  pub many : length after ≡ length before + n
 
 -- ---- lines
 

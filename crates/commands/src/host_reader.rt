@@ -1,7 +1,8 @@
 //! A file of the host that is read in blocks.
 
-ghost use Rattle.std.specs.Prelude.{◌≡◌, None};
+ghost use Rattle.std.specs.Prelude.{◌≡◌, None, IfOk};
 ghost use Rattle.bits.specs.Refusals.{RefusedOnly};
+ghost use Rattle.commands.specs.Blocks.{ArePutBehind};
 
 use crate::folder::{is_input, refused_at};
 use crate::notes::Notes;
@@ -37,19 +38,29 @@ impl<O: Read + Drop, I: Read + Drop> BlockReader for HostReader<O, I> {
     ghost is_shut = { λ reader. Unit {0} };
 
     fn read_block(&mut self, buffer: &mut Vec<u8>, notes: &Notes) -> R<bool> {
-        let read = match &mut self.source {
-            Source::File(file) => next_block(file, buffer),
-            Source::Input(input) => next_block(input, buffer),
-        };
-        match read {
+        match self.source.next_block(buffer) {
             Ok(count) => Ok(count > 0),
             Err(error) => Err(refused_at(self.path.as_str(), error, notes)),
         }
     }
 }
 
+impl<O: Read + Drop, I: Read + Drop> Source<O, I> {
+    /// Puts the next bytes behind those that a buffer has: a block, or what is left. How many they are.
+    fn next_block(&mut self, buffer: &mut Vec<u8>) -> io::Result<usize>
+        ensures put { IfOk result (ArePutBehind buffer.old.items buffer.new.items) }
+    {
+        match self {
+            Source::File(file) => next_block(file, buffer),
+            Source::Input(input) => next_block(input, buffer),
+        }
+    }
+}
+
 /// Puts the next bytes of a reader behind those that a buffer has: a block, or what is left. How many they are.
-fn next_block<T: Read>(reader: &mut T, buffer: &mut Vec<u8>) -> io::Result<usize> {
+fn next_block<T: Read>(reader: &mut T, buffer: &mut Vec<u8>) -> io::Result<usize>
+    ensures put { IfOk result (ArePutBehind buffer.old.items buffer.new.items) }
+{
     let mut block = reader.by_ref().take(BLOCK_BYTES);
     block.read_to_end(buffer)
 }
