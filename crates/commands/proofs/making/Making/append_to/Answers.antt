@@ -1,4 +1,4 @@
-use Rattle.std.proofs.Common.{sym, subst}
+use Rattle.std.proofs.Common.{refl, sym, subst}
 use Rattle.gather.specs.declared.gathered.Gathered.{Gathered}
 use Rattle.gather.specs.GatheredRows.{holds}
 use Rattle.store.specs.Gathering.{AreGatheredFor}
@@ -13,7 +13,7 @@ returns g c = record {
         changed = c.append_rows-done.new.store;
         done = c.append_rows-done.result;
         makes = c.append_rows-done.ensures.appends root options given (subst (λ (rows : Gathered). holds rows given) same held) (subst (AreGatheredFor root options) same table);
-        unshown = ?;
+        unshown = (refl, c.clear.ensures);
         told = c.tell_done.ensures.told;
       };
 }
