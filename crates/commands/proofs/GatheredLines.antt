@@ -1,25 +1,18 @@
 -- Lines that are gathered one by one, and written now and then.
 use Rattle.std.proofs.Common.{Bool, ◌≡◌, ◌≤◌, ℕ, ◌+◌, List, [], ◌∷◌, ◌++◌, length, Option, Some, refl, sym, ap, subst, ◌∙◌, append_assoc}
-use Rattle.std.specs.Prelude.{true, false, IsTrue, Result, Ok, Err}
-use Rattle.std.specs.Result.{IsErrAnd}
+use Rattle.std.specs.Prelude.{true, false, Ok}
 use Rattle.std.specs.Io.KnownBytes.{Appends}
 use Rattle.std.proofs.KnownBytes.{Appends-trans, Appends-nil}
 use Rattle.std.proofs.lemmas.List.{append-nil}
 use Rattle.std.proofs.lemmas.List.Concat.{flat_map-append}
-use Rattle.bits.specs.Faults.{refusal_of as fault_refusal}
-use Rattle.bits.specs.declared.fault.Fault.{Fault}
-use Rattle.bits.specs.declared.refusal.Refusal.TheVariants.{Memory}
 use Rattle.schema.specs.Values.{ValueTrees}
 use Rattle.schema.specs.Shape.{Fields}
-use Rattle.schema.specs.Fits.{fits_each, RowsFit}
-use Rattle.row_group.specs.Left.{TakesRowTo, with_refusal}
+use Rattle.schema.specs.Fits.{RowsFit}
 use Rattle.rowtext.specs.declared.row_text.RowText.{RowText}
-use Rattle.rowtext.specs.Json.{row_text_as}
-use Rattle.rowtext.specs.Rows.{text_shows, BeginsLineAs, ShowsLineAs}
-use Rattle.rowtext.specs.inner.Opening.{opening_as, lines_token}
+use Rattle.rowtext.specs.Rows.{BeginsLineAs, AddsNextLine}
 use Rattle.commands.specs.Querying.{row_line, row_lines}
 use Rattle.commands.specs.QueryFile.{first_of}
-use Rattle.commands.specs.inner.Gathering.{HavePassed, AddsNextLine, AreGathered}
+use Rattle.commands.specs.inner.Gathering.{HavePassed, AreGathered}
 use Rattle.commands.proofs.FirstOf.{passed_more, all_passed, left_fit}
 
 -- one row more has one line more
@@ -67,27 +60,6 @@ pub same_gathered : (texts : Bool) (fs : Fields) (rows : List ValueTrees) (from 
 same_gathered texts fs rows from to old new p begins = record { printed = p.printed; written = p.written; gathered = p.gathered; gathers = begins; joined = p.joined }
 
 -- ---- rows one by one
-
--- a row that was shown and ended
-pub line_gathered : (texts : Bool) (fs : Fields) (S T : List ValueTrees → Type 0) (from shown to : RowText) (lines : List ℕ) → BeginsLineAs texts from fs lines → TakesRowTo S T (text_shows from) (text_shows shown) (Ok true)
-    → ((values : ValueTrees) → ShowsLineAs texts shown fs lines values → IsTrue (fits_each fs values) → BeginsLineAs texts to fs (lines ++ (row_text_as texts fs values ++ 10 ∷ []))) → AddsNextLine texts fs S T (BeginsLineAs texts to fs) lines (Ok true)
-line_gathered texts fs S T from shown to lines begins takes ended = λ rows s fit.
-    let t = takes rows s in
-    let shows : ShowsLineAs texts shown fs lines t.first = t.shown (opening_as texts fs ∷ lines_token lines ∷ []) begins in
-    let fits : RowsFit fs (t.first ∷ t.rest) = subst (RowsFit fs) t.split fit in
-    record { first = t.first; rest = t.rest; split = t.split; stands = t.stands; gathers = ended t.first shows fits.0 }
-
--- no row was left
-pub none_gathered : (texts : Bool) (fs : Fields) (S T : List ValueTrees → Type 0) (from shown : RowText) (lines : List ℕ) → BeginsLineAs texts from fs lines → shown ≡ from → TakesRowTo S T (text_shows from) (text_shows shown) (Ok false)
-    → AddsNextLine texts fs S T (BeginsLineAs texts shown fs) lines (Ok false)
-none_gathered texts fs S T from shown lines begins same takes = λ rows s. let t = takes rows s in (t.0, (t.1, subst (λ (text : RowText). BeginsLineAs texts text fs lines) (sym same) begins))
-
--- a fault that is passed on
-pub passes_fault : (texts : Bool) (fs : Fields) (S T : List ValueTrees → Type 0) (Gathers : List ℕ → Type 0) (lines : List ℕ) (r : Result Bool Fault) (f : Fault) → IsErrAnd r (λ g. g ≡ f) → ((rows : List ValueTrees) → S rows → fault_refusal f ≡ Memory)
-    → AddsNextLine texts fs S T Gathers lines (with_refusal r)
-passes_fault texts fs S T Gathers lines (Ok true) f is p = absurd is
-passes_fault texts fs S T Gathers lines (Ok false) f is p = absurd is
-passes_fault texts fs S T Gathers lines (Err g) f is p = λ rows s. ap fault_refusal is ∙ p rows s
 
 module _ (texts : Bool) (fs : Fields) (S : List ValueTrees → Type 0) (n : ℕ) (all : List ValueTrees) (from : RowText) (old mid : Option (List ℕ)) (p : HavePassed (λ (rows : List ValueTrees). AreGathered texts fs rows from old mid) S n all) where
   -- the line of a row more is gathered, and some are written

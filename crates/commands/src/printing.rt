@@ -10,17 +10,16 @@ ghost use Rattle.schema.specs.Values.{ValueTrees};
 ghost use Rattle.schema.specs.Shape.{Fields, no_fields};
 ghost use Rattle.schema.specs.Fits.{RowsFit};
 ghost use Rattle.rowtext.specs.Rows.{BeginsLineAs};
-ghost use Rattle.row_group.specs.Left.{with_refusal};
 ghost use Rattle.scan.specs.Left.{rows_stand};
 ghost use Rattle.jsonrows.specs.Answers.{answer_json_as, group_json};
 ghost use Rattle.jsonrows.specs.SchemaPrinted.{PrintsFields};
 ghost use Rattle.commands.specs.QueryFile.{first_of};
-ghost use Rattle.commands.specs.inner.Gathering.{AreGathered, HasWrittenLines, BeginsLines, AddsNextLine};
+ghost use Rattle.commands.specs.inner.Gathering.{AreGathered, HasWrittenLines, BeginsLines};
 
 use crate::folder::refusal_of;
 use crate::row_limit::most_of;
 use assemble::Discard;
-use bits::{Fault, R, Refusal};
+use bits::{R, Refusal};
 use itoa::Buffer;
 use jsonrows::{RowText, answer_to_as, group_to, schema_to};
 use scan::Rows;
@@ -105,22 +104,6 @@ pub fn print_shown<W: Write>(
     }
 }
 
-/// Takes the next row, and gathers its line; false after the last row. It fails only when out of memory.
-// Each row comes through here: what is returned fits a register.
-#[inline(always)]
-fn put_line(rows: &mut Rows<'_>, text: &mut RowText<'_>) -> Result<bool, Fault>
-    ensures puts { (texts : Bool) (fs : Fields) (lines : List ℕ) → BeginsLineAs texts text.old fs lines
-        → AddsNextLine texts fs (rows_stand rows.old) (rows_stand rows.new) (BeginsLineAs texts text.new fs) lines (with_refusal result) }
-{
-    if !rows.show_next(text)? {
-        return Ok(false);
-    }
-    match text.end_row() {
-        Ok(()) => Ok(true),
-        Err(_) => Err(Fault::Memory),
-    }
-}
-
 /// Takes rows, at most so many where there is a limit, and gathers their lines, which are written where they are many.
 /// Returns how many rows.
 fn gather_lines<W: Write>(
@@ -138,7 +121,7 @@ fn gather_lines<W: Write>(
     for count in 0..most_of(limit) {
         // For the proof: how many were taken has a name.
         let _ = count;
-        if !put_line(rows, text)? {
+        if !text.put_next(rows)? {
             return Ok(count);
         }
         write_full(text, out)?;

@@ -2,7 +2,7 @@
 
 use crate::records::shown_struct;
 use crate::schemas::{rows_of, text_after};
-use assemble::{RowBuilder, show_row};
+use assemble::{RowBuilder, show_repeated_row, show_row};
 use bits::{R, Refusal};
 use case_words::{both, shown_numbers, word, words_from};
 use filter::Filter;
@@ -16,6 +16,7 @@ pub fn outcome(alloc: Global, operation: &str, words: &[&str], line: &str) -> Op
         "row" => row(alloc, words, line),
         "row-as" => row_as(alloc, words, line),
         "same-row" => same_row(alloc, words, line),
+        "repeated" => repeated(alloc, words),
         "schema" => schema(alloc, line),
         "elements" => elements(alloc, line),
         "filter" => filter(alloc, line),
@@ -126,6 +127,41 @@ fn same_row(alloc: Global, words: &[&str], line: &str) -> R<String> {
         return Ok(format!(in alloc; "{size} bytes")?);
     }
     Ok(String::from_str(alloc, "another text")?)
+}
+
+/// The rows with texts, each shown twice as one that comes again.
+fn shown_again(alloc: Global, plan: &RowPlan<'_>, rows: &[Row]) -> R<String> {
+    let mut sink = RowText::new(alloc, plan);
+    let mut out = Vec::new(alloc);
+    for row in rows {
+        for _ in 0..2 {
+            show_repeated_row(row, &mut sink)?;
+            sink.put_row(&mut out)?;
+        }
+    }
+    Ok(String::from_utf8_lossy(alloc, out.as_slice())?)
+}
+
+/// The rows with texts, each printed twice by a printer that keeps nothing.
+fn printed_anew(alloc: Global, plan: &RowPlan<'_>, rows: &[Row]) -> R<String> {
+    let mut out = Vec::new(alloc);
+    for row in rows {
+        for _ in 0..2 {
+            let mut sink = RowText::new(alloc, plan);
+            show_row(row, &mut sink)?;
+            sink.put_row(&mut out)?;
+        }
+    }
+    Ok(String::from_utf8_lossy(alloc, out.as_slice())?)
+}
+
+/// `repeated SCHEMA ROW..`: the rows with texts, each shown twice as one that comes again.
+fn repeated(alloc: Global, words: &[&str]) -> R<String> {
+    let schema = schema_from(alloc, word(words, 1)?)?;
+    let rows = rows_of(alloc, &schema, words_from(words, 2))?;
+    let plan = RowPlan::with_texts(alloc, &schema, true)?;
+    let again = shown_again(alloc, &plan, rows.as_slice());
+    both(alloc, again, printed_anew(alloc, &plan, rows.as_slice()))
 }
 
 /// `row-as SCHEMA SCHEMA TEXT`: the row of the first schema, as the second one prints it.

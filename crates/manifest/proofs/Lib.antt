@@ -26,3 +26,4 @@ pub mod ShortTexts
 pub mod WithinBits
 pub mod OwnRoots
 pub mod WrittenRoots
+pub mod Unplacing

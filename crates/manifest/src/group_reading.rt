@@ -13,10 +13,9 @@ ghost use Rattle.row_group.specs.Greatest.{most_rows};
 ghost use Rattle.statistics.specs.Bounds.{Statistics as StatisticsShown, statistics_of};
 ghost use Rattle.manifest.specs.Groups.{Group as GroupShown, group_view};
 ghost use Rattle.manifest.specs.Records.{AreChunkRecords, IsGroupRecord, placed};
-ghost use Rattle.manifest.specs.inner.Reading.{HasFronts, IsChunksFault, IsGroupFault, IsRowsFault, FirstPath};
+ghost use Rattle.manifest.specs.inner.Reading.{HasFronts, IsChunksFault, IsGroupFault, IsRowsFault, FirstPath, unplaced};
 
 use crate::chunk_reading::statistics_in;
-use crate::copies::copied_chunk;
 use crate::fronts::Fronts;
 use crate::group::Group;
 use crate::part_paths::key_and_low_number;
@@ -28,7 +27,7 @@ use statistics::{GroupStats, Stats};
 use std::alloc::Global;
 
 /// What the record of a group in a root says, of a table with these keys, whose files have these leaves or those of the
-/// first fields.
+/// first fields. The records of its chunks are the group's from then on, without the path of its file: none is copied.
 ///
 /// Refused Schema where its chunks are not those of the leaves; Codec for a compressed chunk; Limit for more rows or
 /// entries than are read; Key for a path that names no key; Page for all else.
@@ -37,17 +36,17 @@ pub(crate) fn group_in(
     keys: &[KeyColumn],
     leaves: &[Leaf],
     fronts: &Fronts,
-    meta: &GroupMeta,
+    meta: GroupMeta,
 ) -> R<Group>
     ensures stands { (stored : Fields) → IsSchema stored → map leaf_view leaves.now ≡ leaves_of stored → HasFronts fronts.now stored
-        → IfOk result (λ g. IsGroupRecord (key_columns_view keys.now) stored (group_meta_view meta.now) (group_view g)) }
+        → IfOk result (λ g. IsGroupRecord (key_columns_view keys.now) stored (group_meta_view meta) (group_view g)) }
     ensures small { IfOk result (λ g. suc g.number < 2 ^ 64) }
     ensures only { (stored : Fields) → IsSchema stored → map leaf_view leaves.now ≡ leaves_of stored → HasFronts fronts.now stored
-        → IfErr result (λ e. (e ≡ Memory → ⊥) → (g : GroupShown) → suc g.number < 2 ^ 64 → IsGroupRecord (key_columns_view keys.now) stored (group_meta_view meta.now) g → ⊥) }
-    ensures which { IfErr result (IsGroupFault (group_meta_view meta.now)) }
+        → IfErr result (λ e. (e ≡ Memory → ⊥) → (g : GroupShown) → suc g.number < 2 ^ 64 → IsGroupRecord (key_columns_view keys.now) stored (group_meta_view meta) g → ⊥) }
+    ensures which { IfErr result (IsGroupFault (group_meta_view meta)) }
 {
     fronts_have_the_first_leaves();
-    let rows = rows_of(meta)?;
+    let rows = rows_of(&meta)?;
     let columns = meta.columns.as_slice();
     let Some(width) = fronts.width_of(columns.len()) else {
         return Err(Refusal::Schema);
@@ -56,7 +55,8 @@ pub(crate) fn group_in(
         return Err(Refusal::Page);
     };
     let (key, number) = key_and_low_number(alloc, keys, path)?;
-    let (chunks, known) = chunks_in(alloc, leaves, path, columns)?;
+    let known = known_at(alloc, leaves, path, columns)?;
+    let chunks = unplaced_chunks(meta.columns);
     let stats = GroupStats {
         rows,
         leaves: known,
@@ -99,15 +99,11 @@ fn path_in(chunks: &[ChunkMeta]) -> Option<&[u8]>
     }
 }
 
-/// The records of chunks as in their own file, which lies at this path, and what they say of their columns.
-fn chunks_in(
-    alloc: Global,
-    leaves: &[Leaf],
-    path: &[u8],
-    chunks: &[ChunkMeta],
-) -> R<(Vec<ChunkMeta>, Vec<Stats>)>
-    ensures placed { IfOk result (λ x. map chunk_meta_view chunks.now ≡ map (placed path.now) (map chunk_meta_view x.0.items)) }
-    ensures stands { IfOk result (λ x. AreChunkRecords (take (length chunks.now) (map leaf_view leaves.now)) (map chunk_meta_view x.0.items) (map statistics_of x.1.items)) }
+/// What the records of the chunks of a file at this path say of their columns, of which these are the first leaves.
+fn known_at(alloc: Global, leaves: &[Leaf], path: &[u8], chunks: &[ChunkMeta]) -> R<Vec<Stats>>
+    ensures placed { let cs = map chunk_meta_view chunks.now in OnOk result (cs ≡ map (placed path.now) (map unplaced cs)) }
+    ensures stands { let cs = map chunk_meta_view chunks.now in
+        IfOk result (λ known. AreChunkRecords (take (length chunks.now) (map leaf_view leaves.now)) (map unplaced cs) (map statistics_of known.items)) }
     ensures only { IfErr result (λ e. (e ≡ Memory → ⊥) → (own : List ChunkMetaShown) (known : List StatisticsShown)
         → map chunk_meta_view chunks.now ≡ map (placed path.now) own → AreChunkRecords (take (length chunks.now) (map leaf_view leaves.now)) own known → ⊥) }
     ensures which { IfErr result (IsChunksFault (map chunk_meta_view chunks.now)) }
@@ -115,7 +111,6 @@ fn chunks_in(
     if chunks.len() > leaves.len() {
         return Err(Refusal::Schema);
     }
-    let mut own = Vec::with_capacity(alloc, chunks.len())?;
     let mut known = Vec::with_capacity(alloc, chunks.len())?;
     for (i, chunk) in chunks.iter().enumerate() {
         if !is_at(chunk, path) {
@@ -123,10 +118,8 @@ fn chunks_in(
         }
         let stats = statistics_in(alloc, chunk, &leaves[i])?;
         known.push(stats)?;
-        let copy = copied_chunk(alloc, chunk, None)?;
-        own.push(copy)?;
     }
-    Ok((own, known))
+    Ok(known)
 }
 
 /// Whether a chunk lies in the file at this path.
@@ -137,4 +130,22 @@ fn is_at(chunk: &ChunkMeta, path: &[u8]) -> bool
         Some(file_path) => file_path.as_slice() == path,
         None => false,
     }
+}
+
+/// The records of chunks as in their own file, without a path.
+fn unplaced_chunks(chunks: Vec<ChunkMeta>) -> Vec<ChunkMeta>
+    ensures { map chunk_meta_view result.items ≡ map unplaced (map chunk_meta_view chunks.items) }
+{
+    let mut chunks = chunks;
+    for chunk in chunks.iter_mut() {
+        unplace(chunk);
+    }
+    chunks
+}
+
+/// Removes the path of the file.
+fn unplace(chunk: &mut ChunkMeta)
+    ensures { chunk_meta_view chunk.new ≡ unplaced (chunk_meta_view chunk.old) }
+{
+    chunk.file_path = None;
 }

@@ -58,7 +58,7 @@ pub(crate) fn read_root(alloc: Global, bytes: &[u8]) -> R<ReadRoot>
     if !are_of_type(&meta.column_orders, stored.leaves().len()) {
         return Err(Refusal::Page);
     }
-    let groups = groups_in(alloc, keys.as_slice(), &stored, meta.row_groups.as_slice())?;
+    let groups = groups_in(alloc, keys.as_slice(), &stored, meta.row_groups)?;
     if !are_in_order(groups.as_slice()) || !are_below(groups.as_slice(), next) {
         return Err(Refusal::Page);
     }
@@ -118,13 +118,13 @@ fn groups_in(
     alloc: Global,
     keys: &[KeyColumn],
     stored: &Schema,
-    metas: &[GroupMeta],
+    metas: Vec<GroupMeta>,
 ) -> R<Vec<Rc<Group>>>
-    ensures stand { IfOk result (λ gs. AreGroupRecords (key_columns_view keys.now) stored.now (map group_meta_view metas.now) (handles_view gs.items)) }
+    ensures stand { IfOk result (λ gs. AreGroupRecords (key_columns_view keys.now) stored.now (map group_meta_view metas.items) (handles_view gs.items)) }
     ensures few { IfOk result (λ gs. AllByRecursion (λ (g : GroupShown). suc g.number < 2 ^ 64) (handles_view gs.items)) }
     ensures only { IfErr result (λ e. (e ≡ Memory → ⊥) → (gs : List GroupShown) → AllByRecursion (λ (g : GroupShown). suc g.number < 2 ^ 64) gs
-        → AreGroupRecords (key_columns_view keys.now) stored.now (map group_meta_view metas.now) gs → ⊥) }
-    ensures which { IfErr result (IsGroupsFault (map group_meta_view metas.now)) }
+        → AreGroupRecords (key_columns_view keys.now) stored.now (map group_meta_view metas.items) gs → ⊥) }
+    ensures which { IfErr result (IsGroupsFault (map group_meta_view metas.items)) }
 {
     let fronts = Fronts::new(alloc, stored)?;
     let leaves = stored.leaves();

@@ -1,9 +1,9 @@
 -- A page header is read with the header that its type names.
-use Rattle.std.proofs.Common.{◌≡◌, ℕ, List, [], ◌++◌, refl, sym, ap, subst, ◌∙◌, Option, Some, None}
+use Rattle.std.proofs.Common.{◌≡◌, ℕ, List, [], ◌++◌, ap, subst, ◌∙◌, Option, Some, None}
 use Rattle.std.specs.Prelude.{Bool, true, false, if◌then◌else◌}
 use Rattle.std.proofs.lemmas.List.{append-nil}
 use Rattle.bits.specs.Codec.{NothingStands, NothingStandsEver, IsFunctional}
-use Rattle.thrift_compact.specs.Tree.{Node, struct, Fields}
+use Rattle.thrift_compact.specs.Tree.{Node, struct}
 use Rattle.thrift_compact.specs.Law.{ValuesStay}
 use Rattle.thrift_compact.specs.Values.{ValueOf, ReadAs}
 use Rattle.metadata.specs.FieldValues.{◌>>=◌, record_by}

@@ -7,7 +7,7 @@ use Rattle.thrift_compact.specs.Tree.{Node, Fields, no_fields, field}
 use Rattle.thrift_compact.specs.Values.{folded}
 use Rattle.metadata.specs.FieldValues.{◌>>=◌, later, all_with, last_of, known}
 use Rattle.metadata.specs.inner.Slots.{slot_step, other_step, known_row, needed_row, other_row, row_of}
-use Rattle.metadata.proofs.Found.{or_before, over}
+use Rattle.metadata.proofs.Found.{over}
 
 -- ---- ids
 

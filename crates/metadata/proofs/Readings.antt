@@ -1,17 +1,16 @@
 -- What stands where a value is read, and that nothing does where it is refused.
-use Rattle.std.proofs.Common.{◌≡◌, ◌⊎◌, ℕ, ◌+◌, ◌≤◌, List, [], ◌∷◌, ◌++◌, refl, sym, ap, subst, ◌∙◌, arith, inl, inr, append_assoc, Option, Some, None, Result, Ok, Err}
+use Rattle.std.proofs.Common.{◌≡◌, ◌⊎◌, ℕ, List, [], ◌∷◌, ◌++◌, refl, sym, ap, subst, ◌∙◌, arith, inl, inr, append_assoc, Option, Some, None, Result, Ok, Err}
 use Rattle.std.specs.Prelude.{ℤ, Bool, true, false, option_map, option_and_then}
 use Rattle.std.specs.Ordering.{int_eq}
 use Rattle.std.proofs.lemmas.Bool.Decides.{Decides-int_eq}
 use Rattle.std.specs.Result.{IsErrAnd, IfOk}
 use Rattle.std.proofs.lemmas.List.{append-nil}
 use Rattle.bits.specs.declared.refusal.Refusal.{Refusal}
-use Rattle.bits.specs.declared.refusal.Refusal.TheVariants.{Truncated, Thrift, Memory, Limit}
+use Rattle.bits.specs.declared.refusal.Refusal.TheVariants.{Truncated, Thrift, Memory}
 use Rattle.bits.specs.Refusals.{IsFault, HasCause, RefusedOnly}
 use Rattle.bits.specs.Codec.{NothingStands, NothingStandsEver, IsFunctional}
 use Rattle.bits.proofs.Passing.{passes}
 use Rattle.thrift_compact.specs.Tree.{Node, yes, no, i32, i64, binary, list, struct, Nodes, no_nodes, node, Fields, no_fields, field}
-use Rattle.thrift_compact.specs.Compact.{IsThrift}
 use Rattle.thrift_compact.specs.Law.{ValuesStay}
 use Rattle.thrift_compact.specs.Values.{IsRefusedFor, ValueOf, ReadAs, truth_of, folded, folded_each, fields_by, elements_by}
 use Rattle.metadata.specs.FieldValues.{◌>>=◌, int32, int64, boolean, text, tree, any_struct, record_by, each_of, list_by}
@@ -148,9 +147,6 @@ pub items_are : {X : Type 0} (read : Node → Option X) (x : Node) → elements_
 items_are read (list k xs) = items_from read [] xs ∙ map_same (each_of read xs)
 items_are read x = refl
 
-pub item_read : {X : Type 0} (read : Node → Option X) (done : List X) (code left : ℕ) (bytes : List ℕ) (v : X) (used : ℕ) → ReadAs read code left bytes v used → ReadAs (item_step read done) code left bytes (done ++ v ∷ []) used
-item_read read done code left bytes v used (x, s, e) = (x, s, ap (option_map (λ w. done ++ w ∷ [])) e)
-
 pub item_refused : {X : Type 0} (read : Node → Option X) (done : List X) (code left : ℕ) (b : List ℕ) → NothingStands (ReadAs read code left b) → NothingStands (ReadAs (item_step read done) code left b)
 item_refused read done code left b nothing y used (x, s, e) = let m = map_some (λ w. done ++ w ∷ []) (read x) y e in nothing m.0 used (x, s, m.1)
 
@@ -163,17 +159,9 @@ differ x y apart = go (int_eq x y) refl
     go true e = absurd (apart ((Decides-int_eq x y).0 e))
     go false e = e
 
-pub here_read : {X S : Type 0} (read : Node → Option X) (others : S → ℤ → Node → Option S) (s : (ℤ × Option X) × S) (id : ℤ) (code left : ℕ) (bytes : List ℕ) (v : X) (used : ℕ) → int_eq id s.0.0 ≡ true → ReadAs read code left bytes v used
-    → ReadAs (slot_step read others s id) code left bytes ((s.0.0, Some v), s.1) used
-here_read read others s id code left bytes v used e (x, w, f) = (x, w, step_here read others s id x e ∙ ap (option_map (λ z. ((s.0.0, Some z), s.1))) f)
-
 pub here_refused : {X S : Type 0} (read : Node → Option X) (others : S → ℤ → Node → Option S) (s : (ℤ × Option X) × S) (id : ℤ) (code left : ℕ) → int_eq id s.0.0 ≡ true → (b : List ℕ) → NothingStands (ReadAs read code left b) → NothingStands (ReadAs (slot_step read others s id) code left b)
 here_refused read others s id code left e b nothing n used (x, w, f) =
     let m = map_some (λ z. ((s.0.0, Some z), s.1)) (read x) n (sym (step_here read others s id x e) ∙ f) in nothing m.0 used (x, w, m.1)
-
-pub other_read : {X S : Type 0} (read : Node → Option X) (others : S → ℤ → Node → Option S) (s : (ℤ × Option X) × S) (id : ℤ) (code left : ℕ) (bytes : List ℕ) (t : S) (used : ℕ) → int_eq id s.0.0 ≡ false → ReadAs (others s.1 id) code left bytes t used
-    → ReadAs (slot_step read others s id) code left bytes (s.0, t) used
-other_read read others s id code left bytes t used e (x, w, f) = (x, w, step_other read others s id x e ∙ ap (option_map (λ z. (s.0, z))) f)
 
 pub other_refused : {X S : Type 0} (read : Node → Option X) (others : S → ℤ → Node → Option S) (s : (ℤ × Option X) × S) (id : ℤ) (code left : ℕ) → int_eq id s.0.0 ≡ false → (b : List ℕ) → NothingStands (ReadAs (others s.1 id) code left b) → NothingStands (ReadAs (slot_step read others s id) code left b)
 other_refused read others s id code left e b nothing n used (x, w, f) =
@@ -218,7 +206,7 @@ pub stands_for : {Y : Type 0} (is : Fields → Option Y) (code left : ℕ) (byte
 stands_for is code left bytes y used l (struct fs, v, e) = record { fields = fs; spelled = record { spelled = v.2; shallow = omega (arith, v.1, l) }; record_of = e }
 stands_for is code left bytes y used l (x, v, e) = absurd (cc)
 
-pub read_where_stands : {Y : Type 0} (is : Fields → Option Y) (code left : ℕ) (bytes : List ℕ) (y : Y) (used : ℕ) → code ≡ 12 → left ≡ 33 → StandsFor is bytes y used → ReadAs (record_by is) code left bytes y used
+read_where_stands : {Y : Type 0} (is : Fields → Option Y) (code left : ℕ) (bytes : List ℕ) (y : Y) (used : ℕ) → code ≡ 12 → left ≡ 33 → StandsFor is bytes y used → ReadAs (record_by is) code left bytes y used
 read_where_stands is code left bytes y used c l s = (struct s.fields, (sym c, omega (arith, l, s.spelled.shallow), s.spelled.spelled), s.record_of)
 
 pub nothing_for : {Y : Type 0} (is : Fields → Option Y) (code left : ℕ) (bytes : List ℕ) → code ≡ 12 → left ≡ 33 → NothingStands (ReadAs (record_by is) code left bytes) → NothingStands (StandsFor is bytes)

@@ -177,8 +177,8 @@ impl Slots for Others {
 
     ghost contents = { other_row };
 
-    fn keep(&mut self, alloc: Global, _id: i16, value: Unread<'_>) -> R<usize> {
-        value.pass(alloc)
+    fn keep(&mut self, _alloc: Global, _id: i16, value: Unread<'_>) -> R<usize> {
+        value.pass()
     }
 
     fn contents(self) -> R<()> {
@@ -252,7 +252,7 @@ impl<T: FromNode> TakesElements for Items<T> {
 }
 
 /// The elements of the list, each of which is of this type, and how many bytes it takes. Memory is
-/// taken as they come.
+/// taken as they come, and what the list does not need of it is given back.
 pub fn read_items<T: FromNode>(alloc: Global, value: Unread<'_>) -> R<(Vec<T>, usize)>
     ensures stands { IfOk result (λ x. ReadAs (list_by T.read) (code_of value.entry.kind) value.entry.left value.entry.bytes.now (map T.shown x.0.items) x.1) }
     ensures within { IfOk result (λ x. x.1 ≤ length value.entry.bytes.now) }
@@ -262,5 +262,6 @@ pub fn read_items<T: FromNode>(alloc: Global, value: Unread<'_>) -> R<(Vec<T>, u
         items: Vec::new(alloc),
     };
     let used = value.take_elements(alloc, &mut items)?;
+    items.items.shrink_to_fit();
     Ok((items.items, used))
 }

@@ -15,10 +15,10 @@ use Rattle.footer.specs.Own.{IsLaidOut}
 use Rattle.footer.specs.Writing.{IsOutOfRange}
 use Rattle.footer.specs.Writer.{has_rows, schema_of, options_of}
 use Rattle.columns.specs.Columns.{Columns, wanted_fields, wanted_places, cut, is_field, first_of}
+use Rattle.rowtext.specs.Rows.{AddsFirstLine, AddsNextLine}
 use Rattle.program.specs.Program.{IsCopyOf, MeansUpTo}
 use Rattle.program.specs.Words.{columns_of}
 use Rattle.program.specs.inner.Copied.{IsFileOfRows, IsFirstOfRows, IsAskedFile, cut_at, ArePassed, FirstStand}
-use Rattle.program.specs.inner.Gathered.{GathersFirst, GathersLine}
 
 -- ---- from a reader to a writer
 
@@ -122,8 +122,8 @@ take_none (suc n) [] e = refl
 take_none (suc n) (r ∷ rows) e = absurd (cc)
 
 -- one of them is taken
-pub first_taken : (texts : Bool) (fs : Fields) (S T : List ValueTrees → Type 0) (Gathers : List ℕ → Type 0) (n m : ℕ) (lines : List ℕ) (left : List ValueTrees) → n ≡ suc m → FirstStand S fs n left → GathersLine texts fs S T Gathers lines (Ok true)
-    → GathersFirst texts fs (FirstStand T fs m) Gathers lines left
+pub first_taken : (texts : Bool) (fs : Fields) (S T : List ValueTrees → Type 0) (Gathers : List ℕ → Type 0) (n m : ℕ) (lines : List ℕ) (left : List ValueTrees) → n ≡ suc m → FirstStand S fs n left → AddsNextLine texts fs S T Gathers lines (Ok true)
+    → AddsFirstLine texts fs (FirstStand T fs m) Gathers lines left
 first_taken texts fs S T Gathers n m lines left e f puts =
     let g = puts f.all f.stands f.fit in
     let fits : RowsFit fs (g.first ∷ g.rest) = subst (RowsFit fs) g.split f.fit in
@@ -136,7 +136,7 @@ first_taken texts fs S T Gathers n m lines left e f puts =
     }
 
 -- there is none
-pub none_taken : (texts : Bool) (fs : Fields) (S T : List ValueTrees → Type 0) (Gathers : List ℕ → Type 0) (n : ℕ) (lines : List ℕ) (left : List ValueTrees) → FirstStand S fs n left → GathersLine texts fs S T Gathers lines (Ok false)
+pub none_taken : (texts : Bool) (fs : Fields) (S T : List ValueTrees → Type 0) (Gathers : List ℕ → Type 0) (n : ℕ) (lines : List ℕ) (left : List ValueTrees) → FirstStand S fs n left → AddsNextLine texts fs S T Gathers lines (Ok false)
     → (left ≡ []) × (FirstStand T fs n [] × Gathers lines)
 none_taken texts fs S T Gathers n lines left f puts =
     let g = puts f.all f.stands in

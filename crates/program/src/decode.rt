@@ -8,13 +8,13 @@ ghost use Rattle.schema.specs.Shape.{Fields};
 ghost use Rattle.schema.specs.Fits.{RowsFit};
 ghost use Rattle.footer.specs.File.{FileMeans};
 ghost use Rattle.footer.specs.Faults.{HasFault};
-ghost use Rattle.footer.specs.Left.{rows_stand, with_refusal};
+ghost use Rattle.footer.specs.Left.{rows_stand};
 ghost use Rattle.rowtext.specs.Rows.{BeginsLineAs};
 ghost use Rattle.program.specs.Program.{WritesRowsOf, MeansRows};
-ghost use Rattle.program.specs.inner.Gathered.{AppendsLines, GathersLine, AreGathered, GathersLines, WritesPart};
+ghost use Rattle.program.specs.inner.Gathered.{AppendsLines, AreGathered, GathersLines, WritesPart};
 
 use crate::host::{OUTPUT_BUFFER_BYTES, write_text, write_whole};
-use bits::{Fault, R, Refusal};
+use bits::{R, Refusal};
 use footer::{FileReader, Rows, read_footer};
 use jsonrows::{RowPlan, RowText};
 use reports::Progress;
@@ -63,31 +63,15 @@ pub fn decode<W: Write, E: Write>(
     written
 }
 
-/// Takes the next row, and gathers its line; false after the last row. It fails only when out of memory.
-// Each row comes through here: what is returned fits a register.
-#[inline(always)]
-pub fn put_line(rows: &mut Rows<'_>, text: &mut RowText<'_>) -> Result<bool, Fault>
-    ensures puts { (texts : Bool) (fs : Fields) (lines : List ℕ) → BeginsLineAs texts text.old fs lines
-        → GathersLine texts fs (rows_stand rows.old) (rows_stand rows.new) (BeginsLineAs texts text.new fs) lines (with_refusal result) }
-{
-    if !rows.show_next(text)? {
-        return Ok(false);
-    }
-    match text.end_row() {
-        Ok(()) => Ok(true),
-        Err(_) => Err(Fault::Memory),
-    }
-}
-
 /// Takes rows and gathers their lines, until these are enough to be written or [`ROWS_AT_ONCE`] rows were taken.
 /// Returns how many, and 0 only after the last row. It fails only when out of memory.
-fn put_lines(rows: &mut Rows<'_>, text: &mut RowText<'_>) -> Result<usize, Fault>
+fn put_lines(rows: &mut Rows<'_>, text: &mut RowText<'_>) -> R<usize>
     ensures puts { (texts : Bool) (fs : Fields) (all : List ValueTrees) (old new : Option (List ℕ))
         → AreGathered texts fs (rows_stand rows.old) (BeginsLineAs texts text.old fs) all old new
         → GathersLines texts fs (rows_stand rows.new) (BeginsLineAs texts text.new fs) all old new result }
 {
     for count in 0..ROWS_AT_ONCE {
-        if !put_line(rows, text)? {
+        if !text.put_next(rows)? {
             return Ok(count);
         }
         if text.lines().len() >= OUTPUT_BUFFER_BYTES {

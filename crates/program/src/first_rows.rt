@@ -10,7 +10,7 @@ ghost use Rattle.footer.specs.Left.{rows_stand};
 ghost use Rattle.program.specs.Program.{WritesFirstRowsOf, WritesRowsUpTo, MeansUpTo, MeansRowsUpTo, HasFaultUpTo};
 ghost use Rattle.program.specs.inner.Gathered.{AppendsLines};
 
-use crate::decode::{decode, put_line, write_full};
+use crate::decode::{decode, write_full};
 use crate::host::write_whole;
 use bits::R;
 use footer::{FileReader, Rows};
@@ -81,7 +81,7 @@ fn write_first<W: Write>(
     for count in 0..limit {
         // For the proof: how many were taken has a name.
         let _ = count;
-        if !put_line(rows, &mut text)? {
+        if !text.put_next(rows)? {
             return write_whole(text.lines(), out);
         }
         write_full(&mut text, out)?;

@@ -25,6 +25,7 @@ pub mod RowOrder
 pub mod KeptTexts
 pub mod KeptSteps
 pub mod RowRuns
+pub mod NextLines
 pub mod RowPlans
 pub mod Openings
 pub mod TextLeaves

@@ -19,7 +19,7 @@ use Rattle.schema.specs.declared.order.Order.{Order}
 use Rattle.schema.specs.declared.order.Order.TheVariants.{Signed, Unsigned, FalseFirst, Bytewise}
 use Rattle.rowtext.specs.Json.{number_json, text_or, leaf_json, bytes_shown, leaf_shown, leaf_json_as}
 use Rattle.rowtext.specs.inner.Scalars.{integer_text, numbers_of, numbers_as}
-use Rattle.rowtext.specs.inner.Levels.{digits_text, bytes_text}
+use Rattle.rowtext.specs.inner.LeafTexts.{digits_text, bytes_text}
 
 pub same_number : (k : Kind) (o : Option Order) (z : ℤ) → integer_text (numbers_of k o) z ≡ number_text (number_json k o z)
 same_number Boolean None z = refl

@@ -1,8 +1,12 @@
 -- What prints the rows that it is shown.
-use Rattle.std.specs.Prelude.{◌≡◌, ℕ, Bool, false, List, [], ◌∷◌, option_map}
+use Rattle.std.specs.Prelude.{◌≡◌, ℕ, Bool, true, false, List, [], ◌∷◌, ◌++◌, Result, Ok, Err, option_map}
+use Rattle.bits.specs.declared.refusal.Refusal.{Refusal}
+use Rattle.bits.specs.declared.refusal.Refusal.TheVariants.{Memory}
 use Rattle.schema.specs.Values.{ValueTrees}
 use Rattle.schema.specs.Shape.{Fields}
+use Rattle.schema.specs.Fits.{RowsFit}
 use Rattle.assemble.specs.Sinks.{Token, tokens_each}
+use Rattle.rowtext.specs.Json.{row_text_as}
 use Rattle.rowtext.specs.declared.row_plan.RowPlan.{RowPlan}
 use Rattle.rowtext.specs.declared.row_text.RowText.{RowText}
 use Rattle.rowtext.specs.inner.Slots.{slots_view, slots_as, order_of, vec_items}
@@ -47,6 +51,22 @@ BeginsRowAs texts r fs = (lines : List ℕ) × BeginsLineAs texts r fs lines
 -- a `RowText` prints rows of the schema, with texts or without, holds some lines of earlier ones, and was shown the values of one
 abbrev pub ShowsRowAs : Bool → RowText → Fields → ValueTrees → Type 0
 ShowsRowAs texts r fs values = (lines : List ℕ) × ShowsLineAs texts r fs lines values
+
+-- ---- rows of a source
+
+-- the first of these rows is taken, and its line is held after these lines; T holds of the others
+pub record AddsFirstLine (texts : Bool) (fs : Fields) (T : List ValueTrees → Type 0) (Holds : List ℕ → Type 0) (lines : List ℕ) (rows : List ValueTrees) : Type 0 where
+  pub first : ValueTrees
+  pub rest : List ValueTrees
+  pub split : rows ≡ first ∷ rest
+  pub stands : T rest
+  pub gathers : Holds (lines ++ (row_text_as texts fs first ++ 10 ∷ []))
+
+-- the line of the first of the rows that stood is added, or there is none; out of memory aside, nothing is refused where rows stood
+abbrev pub AddsNextLine : Bool → Fields → (List ValueTrees → Type 0) → (List ValueTrees → Type 0) → (List ℕ → Type 0) → List ℕ → Result Bool Refusal → Type 0
+AddsNextLine texts fs S T Holds lines (Ok true) = (rows : List ValueTrees) → S rows → RowsFit fs rows → AddsFirstLine texts fs T Holds lines rows
+AddsNextLine texts fs S T Holds lines (Ok false) = (rows : List ValueTrees) → S rows → (rows ≡ []) × (T [] × Holds lines)
+AddsNextLine texts fs S T Holds lines (Err e) = (rows : List ValueTrees) → S rows → e ≡ Memory
 
 -- ---- without texts
 

@@ -1,4 +1,5 @@
 pub mod Scalars
+pub mod LeafTexts
 pub mod Fill
 pub mod Slots
 pub mod Levels

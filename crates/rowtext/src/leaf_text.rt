@@ -4,7 +4,8 @@ ghost use Rattle.std.specs.Prelude.{◌≡◌, ◌≤◌, ◌+◌, ◌++◌, len
 ghost use Rattle.schema.specs.Borrowed.{value_ref_view};
 ghost use Rattle.serde_json.specs.Written.{compact_text};
 ghost use Rattle.rowtext.specs.Json.{bytes_shown, hex_json};
-ghost use Rattle.rowtext.specs.inner.Levels.{bytes_text, digits_text, value_text, text_at, seen};
+ghost use Rattle.rowtext.specs.inner.LeafTexts.{bytes_text, digits_text, value_text};
+ghost use Rattle.rowtext.specs.inner.Levels.{text_at, seen};
 
 use crate::line::Line;
 use crate::row_plan::Slot;

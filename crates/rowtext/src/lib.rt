@@ -11,6 +11,7 @@ mod hex_pairs;
 mod integers;
 mod json_text;
 mod kept_rows;
+mod kept_texts;
 mod key;
 mod lanes;
 mod laws;

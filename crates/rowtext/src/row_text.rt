@@ -8,11 +8,12 @@ ghost use Rattle.schema.specs.Values.{ValueTrees};
 ghost use Rattle.schema.specs.Views.{row_view};
 ghost use Rattle.assemble.specs.Sinks.{Adds, single};
 ghost use Rattle.rowtext.specs.Json.{row_text, row_text_as};
-ghost use Rattle.rowtext.specs.Rows.{plan_schema, IsReady, IsReadyAs, text_shows, BeginsRow, BeginsRowAs, ShowsRow, ShowsRowAs, BeginsLine, BeginsLineAs, ShowsLine, ShowsLineAs};
+ghost use Rattle.rowtext.specs.Rows.{plan_schema, IsReady, IsReadyAs, text_shows, BeginsRow, BeginsRowAs, ShowsRow, ShowsRowAs, BeginsLine, BeginsLineAs, ShowsLine, ShowsLineAs, AddsNextLine};
 ghost use Rattle.rowtext.specs.inner.Slots.{leaf_slot, order_view};
 ghost use Rattle.rowtext.specs.inner.Levels.{top_of, state_of, begun, next_slot, left, closed, level_at, entered, seen, held, from_of, braced_at, sorted, kept_starts};
 
 use crate::kept_rows::put_object;
+use crate::kept_texts::KeptTexts;
 use crate::leaf_text::put_single;
 use crate::level::{
     Leaf, Level, Outer, leaf_of, order_in, short_leaf_at, short_leaf_in, slot_at, slot_in,
@@ -21,13 +22,16 @@ use crate::line::Line;
 use crate::object_text::{put_braces, put_line_end, rest, sort};
 use crate::row_plan::{RowPlan, Slot};
 use crate::scalars::NUMBER_ROOM;
+use assemble::RowSource;
+use bits::R;
 use schema::{Row, ValueRef};
 use std::alloc::{AllocError, Global};
 
 /// Prints the rows that it is shown. The bytes of each value are copied into one buffer, which is kept from row
 /// to row; where the fields of an object do not stand in the order of their names, its members are copied once
 /// more when it ends. Rows that are ended by [`end_row`](RowText::end_row) stay in the buffer as lines, until
-/// [`clear_lines`](RowText::clear_lines) is called.
+/// [`clear_lines`](RowText::clear_lines) is called. Of the values that may come again, as `repeated` shows them, the last one of each
+/// field is kept with its text, which is then copied.
 #[derive(Drop)]
 pub struct RowText<'a> {
     plan: &'a RowPlan<'a>,
@@ -43,6 +47,8 @@ pub struct RowText<'a> {
     outer: Vec<Outer<'a>>,
     /// Room for the members of an object in another order.
     spare: Line,
+    /// The texts of values that may come again.
+    repeated: KeptTexts,
 }
 
 /// Room for a short name, and for a number or a short string in quotes.
@@ -63,6 +69,7 @@ impl<'a> RowText<'a> {
             shown: 0,
             outer: Vec::new(alloc),
             spare: Line::new(alloc),
+            repeated: KeptTexts::new(alloc),
         }
     }
 
@@ -215,6 +222,17 @@ impl<'a> RowText<'a> {
         put_single(slot, value, &mut self.text)
     }
 
+    /// Shows a number or bytes that may come again, as `show` does: the text is made once, and copied where the same value
+    /// comes again.
+    #[inline(never)]
+    pub(crate) fn show_repeated(&mut self, value: ValueRef<'_>) -> Result<(), AllocError>
+        ensures shown { OnOk result (Adds (text_shows self.old) (text_shows self.new) (single (value_ref_view value.entry) ∷ [])) }
+    {
+        let index = self.shown;
+        let slot = self.begin_value()?;
+        self.repeated.put_single(index, slot, value, &mut self.text)
+    }
+
     /// Goes into a level of which no value was shown yet.
     #[inline(always)]
     pub(crate) fn enter(&mut self, level: Level<'a>) -> Result<(), AllocError>
@@ -336,6 +354,22 @@ impl<'a> RowText<'a> {
         self.here = RowText::top(self.plan, self.text.len());
         self.shown = 0;
         Ok(())
+    }
+
+    /// Takes the next row of a source, and prints it and a line feed after the lines of the rows before it, as when its values
+    /// are shown and the row is ended. Returns false after the last row, and then prints nothing. The rows must fit the schema,
+    /// and none may have begun. Where the source has rows left, it fails only when out of memory; all rows that it holds are then
+    /// lost, and the caller makes a new `RowText`.
+    #[inline(always)]
+    pub fn put_next<S: RowSource>(&mut self, rows: &mut S) -> R<bool>
+        ensures puts { (texts : Bool) (fs : Fields) (lines : List ℕ) → BeginsLineAs texts self.old fs lines
+            → AddsNextLine texts fs (S.stands rows.old) (S.stands rows.new) (BeginsLineAs texts self.new fs) lines result }
+    {
+        if !rows.next_to(self)? {
+            return Ok(false);
+        }
+        self.end_row()?;
+        Ok(true)
     }
 
     /// Prints a row that is kept, and a line feed, after the lines of the rows before it, as when its values are shown

@@ -40,6 +40,14 @@ impl<'a> RowSink for RowText<'a> {
     }
 
     #[inline(never)]
+    fn repeated(&mut self, value: ValueRef<'_>) -> Result<(), AllocError> {
+        match value {
+            ValueRef::Int(_) | ValueRef::Bytes(_) => self.show_repeated(value),
+            _ => self.value(value),
+        }
+    }
+
+    #[inline(never)]
     fn int(&mut self, number: i64) -> Result<(), AllocError> {
         match self.take_leaf() {
             None => show_int(number, self),

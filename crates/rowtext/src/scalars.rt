@@ -1,6 +1,6 @@
 //! Numbers, booleans and null as JSON text.
 
-ghost use Rattle.std.specs.Prelude.{◌≡◌, ◌≤◌, ◌++◌, OnOk};
+ghost use Rattle.std.specs.Prelude.{◌≡◌, ◌≤◌, ◌++◌, OnOk, IsTrue};
 ghost use Rattle.std.specs.Fmt.{signed_decimal};
 ghost use Rattle.serde_json.specs.Data as json;
 ghost use Rattle.serde_json.specs.Find.{of_integer};
@@ -59,6 +59,36 @@ fn numbers_of(leaf_type: &LeafType) -> Numbers
         (Some(Order::Unsigned), Kind::Int32) => Numbers::Unsigned32,
         (Some(Order::Unsigned), _) => Numbers::Unsigned64,
         _ => Numbers::Signed,
+    }
+}
+
+/// Whether two forms are the same.
+fn same_form(a: Form, b: Form) -> bool
+    ensures { IsTrue result → a ≡ b }
+{
+    match (a, b) {
+        (Form::Date, Form::Date) => true,
+        (Form::Time(a), Form::Time(b)) | (Form::Timestamp(a), Form::Timestamp(b)) => a == b,
+        (Form::Decimal(a), Form::Decimal(b)) | (Form::ShortestBytes(a), Form::ShortestBytes(b)) => {
+            a == b
+        }
+        (Form::FixedBytes(scale, len), Form::FixedBytes(scale_b, len_b)) => {
+            scale == scale_b && len == len_b
+        }
+        _ => false,
+    }
+}
+
+/// Whether two leaves print their numbers in the same way.
+pub fn same_numbers(a: Numbers, b: Numbers) -> bool
+    ensures { IsTrue result → a ≡ b }
+{
+    match (a, b) {
+        (Numbers::Signed, Numbers::Signed)
+        | (Numbers::Unsigned32, Numbers::Unsigned32)
+        | (Numbers::Unsigned64, Numbers::Unsigned64) => true,
+        (Numbers::Texts(a), Numbers::Texts(b)) => same_form(a, b),
+        _ => false,
     }
 }
 

@@ -12,7 +12,7 @@ ghost use Rattle.scan.specs.inner.Parts.{ShowsNext, IsMemoryWhere, IsCutPart, Ar
 use crate::held::Held;
 use crate::parts::Part;
 use crate::run_reader::{RunReader, check_run};
-use assemble::{RowSink, show_row};
+use assemble::{RowSink, show_repeated_row};
 use bits::{Fault, R};
 use schema::Row;
 use std::alloc::Global;
@@ -111,14 +111,14 @@ fn show_part<K: RowSink>(part: &mut PartReader<'_>, sink: &mut K) -> Result<(), 
     }
 }
 
-/// Shows a sink the values of a row.
+/// Shows a sink the values of a row, which are shown again for the next row.
 #[inline(always)]
 fn show_given<K: RowSink>(row: &Row, sink: &mut K) -> Result<(), Fault>
     ensures shown { OnOk result (Adds (K.shows sink.old) (K.shows sink.new) (tokens_each (row_view row.now))) }
     ensures memory { IfErr result (λ f. f ≡ Fault.Memory) }
     ensures base_stays { K.base sink.new ≡ K.base sink.old }
 {
-    match show_row(row, sink) {
+    match show_repeated_row(row, sink) {
         Ok(()) => Ok(()),
         Err(_) => Err(Fault::Memory),
     }

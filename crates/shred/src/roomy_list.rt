@@ -9,8 +9,8 @@ use plain::{place_byte_array, place_int32, place_int64, place_text};
 use schema::Kind;
 use std::alloc::{AllocError, Global};
 
-/// For how many items room is made first, at least.
-const FIRST_ROOM: usize = 4;
+/// For how many items room is made first, at least. A list that stays so short takes no more than these.
+const FIRST_ROOM: usize = 1;
 
 /// For how many more items room is made at a time, at most. The room is written when it is made, so a long list would
 /// take twice its items if it doubled.
@@ -82,6 +82,9 @@ impl<T: Copy> RoomyList<T> {
         let Some(wanted) = self.items.len().checked_add(more.max(step)) else {
             return Err(AllocError);
         };
+        if self.items.is_empty() {
+            self.items.reserve_exact(wanted)?;
+        }
         self.items.resize(wanted, filler)
     }
 }

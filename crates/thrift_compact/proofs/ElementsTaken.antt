@@ -1,12 +1,12 @@
 -- The elements of a list, each of them taken.
-use Rattle.std.proofs.Common.{◌≡◌, ℕ, suc, ◌+◌, ◌<◌, ◌≤◌, List, [], ◌∷◌, ◌++◌, length, drop, refl, sym, ap, subst, ◌∙◌, arith, Option, Some, None}
+use Rattle.std.proofs.Common.{◌≡◌, ℕ, suc, ◌+◌, ◌<◌, ◌≤◌, List, ◌++◌, length, drop, refl, sym, ap, subst, ◌∙◌, arith, Option, Some}
 use Rattle.std.proofs.lemmas.List.{drop-drop, length-drop}
 use Rattle.std.specs.Prelude.{option_and_then}
 use Rattle.bits.specs.Codec.{NothingStands}
-use Rattle.thrift_compact.specs.Tree.{Node, Nodes, no_nodes, node, nest, nodes_nest, count}
-use Rattle.thrift_compact.specs.Compact.{IsElement, IsValue, AreElements, kind}
+use Rattle.thrift_compact.specs.Tree.{Node, Nodes, no_nodes, node, nodes_nest, count}
+use Rattle.thrift_compact.specs.Compact.{AreElements}
 use Rattle.thrift_compact.specs.Values.{folded_each}
-use Rattle.thrift_compact.specs.inner.Reading.{ElementsOf, ElementOf, ElementRead, ElementsTaken}
+use Rattle.thrift_compact.specs.inner.Reading.{ElementRead, ElementsTaken}
 use Rattle.thrift_compact.proofs.NodeTypes.{alike}
 use Rattle.thrift_compact.proofs.One.{Same, one_value}
 use Rattle.thrift_compact.proofs.Stays.{value_later}

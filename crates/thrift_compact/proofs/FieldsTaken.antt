@@ -1,12 +1,12 @@
 -- The fields of a struct, each of them taken.
-use Rattle.std.proofs.Common.{◌≡◌, ℕ, ◌+◌, ◌<◌, ◌≤◌, List, [], ◌∷◌, ◌++◌, length, drop, refl, sym, ap, subst, ◌∙◌, arith, Option, Some, None}
+use Rattle.std.proofs.Common.{◌≡◌, ℕ, ◌+◌, ◌≤◌, List, ◌++◌, length, drop, refl, sym, ap, subst, ◌∙◌, arith, Option, Some, None}
 use Rattle.std.specs.Prelude.{ℤ, pos, option_and_then}
 use Rattle.std.proofs.lemmas.List.{drop-drop, length-drop}
 use Rattle.bits.specs.Codec.{NothingStands}
 use Rattle.thrift_compact.specs.Tree.{Node, Fields, no_fields, field, nest, fields_nest}
 use Rattle.thrift_compact.specs.Compact.{IsByte, IsFieldHead, IsValue, AreFields, kind}
-use Rattle.thrift_compact.specs.Values.{ValueOf, ReadAs, folded}
-use Rattle.thrift_compact.specs.inner.Reading.{FieldsOf, FieldsTaken}
+use Rattle.thrift_compact.specs.Values.{ReadAs, folded}
+use Rattle.thrift_compact.specs.inner.Reading.{FieldsTaken}
 use Rattle.thrift_compact.proofs.Parts.{one_field_head, not_end}
 use Rattle.thrift_compact.proofs.One.{Same, one_value}
 use Rattle.thrift_compact.proofs.Stays.{value_later, field_head_later}

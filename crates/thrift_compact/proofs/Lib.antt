@@ -7,6 +7,7 @@ pub mod FieldsRead
 pub mod FieldsTaken
 pub mod ElementsTaken
 pub mod TakenParts
+pub mod PassedOver
 pub mod Refused
 pub mod Within
 pub mod Stays

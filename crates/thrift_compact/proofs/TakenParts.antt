@@ -1,16 +1,16 @@
 -- What is taken of a value, by its type.
-use Rattle.std.proofs.Common.{◌≡◌, ◌⊎◌, ℕ, ◌+◌, ◌-◌, ◌<◌, ◌≤◌, List, [], ◌++◌, length, drop, refl, sym, ap, subst, ◌∙◌, arith, inl, inr, Option, Some, None}
-use Rattle.std.specs.Prelude.{ℤ, pos, Bool, false, if◌then◌else◌}
+use Rattle.std.proofs.Common.{◌≡◌, ◌⊎◌, ℕ, ◌+◌, ◌-◌, ◌<◌, ◌≤◌, List, refl, sym, ap, subst, ◌∙◌, arith, inl, inr, Option, Some, None}
+use Rattle.std.specs.Prelude.{ℤ, Bool, false, if◌then◌else◌}
 use Rattle.std.proofs.lemmas.Bool.Decides.{nat_tests}
 use Rattle.bits.specs.Codec.{NothingStands}
 use Rattle.thrift_compact.specs.declared.tree.ElementType.{ElementType}
-use Rattle.thrift_compact.specs.declared.tree.ElementType.TheVariants.{True, False, I8, I16, I32, I64, Double, Binary, List as ListType, Set, Map, Struct, Other}
-use Rattle.thrift_compact.specs.Tree.{Node, yes, no, flag, i8, i16, i32, i64, double, binary, list, set, empty_map, map, struct, Nodes, no_nodes, Fields, nest, nodes_nest, fields_nest, count}
-use Rattle.thrift_compact.specs.Compact.{IsElement, IsValue, AreElements, AreFields, kind}
+use Rattle.thrift_compact.specs.declared.tree.ElementType.TheVariants.{True, False, Other}
+use Rattle.thrift_compact.specs.Tree.{Node, yes, no, flag, list, struct, nest}
+use Rattle.thrift_compact.specs.Compact.{IsElement, IsValue, kind}
 use Rattle.thrift_compact.specs.View.{code_of, is_type}
 use Rattle.thrift_compact.specs.Reading.{IsNamed}
-use Rattle.thrift_compact.specs.Values.{ValueOf, ReadAs, folded, folded_each, fields_by, elements_by}
-use Rattle.thrift_compact.specs.inner.Reading.{FieldsOf, FieldsTaken, ListOf, ListTaken, ElementsOf, ElementOf, ElementRead, ElementsTaken}
+use Rattle.thrift_compact.specs.Values.{ReadAs, fields_by, elements_by}
+use Rattle.thrift_compact.specs.inner.Reading.{FieldsTaken, ListTaken, ElementRead}
 use Rattle.thrift_compact.proofs.NodeTypes.{is_list, is_struct}
 
 -- ---- structs and lists

@@ -8,6 +8,7 @@ mod copying;
 mod heads;
 mod laws;
 mod numbers;
+mod passing;
 mod reading;
 mod sameness;
 mod taking;

@@ -5,7 +5,7 @@ ghost use Rattle.bits.specs.Varint.{IsUleb};
 ghost use Rattle.bits.specs.Refusals.{RefusedOnly, RefusedMemoryOnly};
 ghost use Rattle.bits.specs.Codec.{Appends};
 ghost use Rattle.thrift_compact.specs.Compact.{IsByte, IsSignedByte, IsSigned, IsDouble, IsBinary};
-ghost use Rattle.thrift_compact.specs.inner.Reading.{IsRefusedFor, IsShortNumber, IsNumber};
+ghost use Rattle.thrift_compact.specs.inner.Reading.{IsRefusedFor, IsShortNumber, IsNumber, SomethingStands};
 ghost use Rattle.thrift_compact.specs.Length.{size_length, size_i64};
 ghost use Rattle.thrift_compact.specs.inner.Writing.{Keeps, IsShortestSigned};
 
@@ -84,6 +84,19 @@ pub(crate) fn binary_at(alloc: Global, bytes: &[u8]) -> R<(Vec<u8>, usize)>
     }
     let end = head + size as usize;
     Ok((Vec::from_slice(alloc, &bytes[head..end])?, end))
+}
+
+/// How many bytes a length and that many bytes take.
+pub(crate) fn pass_binary(bytes: &[u8]) -> R<usize>
+    ensures stands { IfOk result (SomethingStands IsBinary bytes.now) }
+    ensures within { IfOk result (λ used. used ≤ length bytes.now) }
+    ensures which { RefusedOnly (IsRefusedFor IsBinary bytes.now) result }
+{
+    let (size, head) = read_uleb(bytes)?;
+    if size > (bytes.len() - head) as u64 {
+        return Err(Refusal::Truncated);
+    }
+    Ok(head + size as usize)
 }
 
 /// A zigzag varint.

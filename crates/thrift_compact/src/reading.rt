@@ -62,12 +62,7 @@ pub(crate) fn fields_at(alloc: Global, left: u32, bytes: &[u8]) -> R<(Vec<Field>
 
 /// A value of this type, in which `left` more levels may nest.
 #[cycle(read)]
-pub(crate) fn value_at(
-    alloc: Global,
-    kind: ElementType,
-    left: u32,
-    bytes: &[u8],
-) -> R<(Node, usize)>
+fn value_at(alloc: Global, kind: ElementType, left: u32, bytes: &[u8]) -> R<(Node, usize)>
     requires { IsNamed kind }
     ensures stands { IfOk result (λ x. ValueOf (code_of kind) left bytes.now (view x.0) x.1) }
     ensures within { IfOk result (λ x. x.1 ≤ length bytes.now) }

@@ -9,7 +9,8 @@ ghost use Rattle.thrift_compact.specs.Reading.{IsNamed};
 ghost use Rattle.thrift_compact.specs.Values.{IsRefusedFor, ValueOf, ReadAs, truth_of, passed, fields_by, elements_by};
 
 use crate::numbers::{binary_at, i32_at, i64_at};
-use crate::reading::{fields_at, value_at};
+use crate::passing::pass_value;
+use crate::reading::fields_at;
 use crate::taking::{TakesElements, TakesFields, fields_taken_at, list_taken_at};
 use crate::tree::{DEEPEST, ElementType, Tree};
 use bits::{R, Refusal};
@@ -116,14 +117,14 @@ impl<'b> Unread<'b> {
         }
     }
 
-    /// How many bytes the value takes, whatever it is.
-    pub fn pass(self, alloc: Global) -> R<usize>
+    /// How many bytes the value takes, whatever it is. Takes no memory.
+    pub fn pass(self) -> R<usize>
         requires named { IsNamed self.kind }
         ensures stands { IfOk result (λ used. ReadAs passed (code_of self.entry.kind) self.entry.left self.entry.bytes.now tt used) }
         ensures within { IfOk result (λ used. used ≤ length self.entry.bytes.now) }
         ensures which { RefusedOnly (IsRefusedFor (ReadAs passed (code_of self.entry.kind) self.entry.left) self.entry.bytes.now) result }
     {
-        let (_, used) = value_at(alloc, self.kind, self.left, self.bytes)?;
+        let used = pass_value(self.kind, self.left, self.bytes)?;
         Ok(used)
     }
 

@@ -1,14 +1,11 @@
 -- Rows that are taken from a reader one by one, and lines that are gathered before they are written.
-use Rattle.std.specs.Prelude.{◌≡◌, ℕ, Bool, true, false, List, [], ◌∷◌, ◌++◌, length, Option, Some, None, Result, Ok, Err}
+use Rattle.std.specs.Prelude.{◌≡◌, ℕ, Bool, List, [], ◌++◌, length, Option, Some, None}
 use Rattle.std.specs.Io.KnownBytes.{Appends}
-use Rattle.bits.specs.declared.refusal.Refusal.{Refusal}
-use Rattle.bits.specs.declared.refusal.Refusal.TheVariants.{Memory}
 use Rattle.schema.specs.Values.{ValueTrees}
 use Rattle.schema.specs.Shape.{Fields, no_fields}
-use Rattle.schema.specs.Fits.{RowsFit}
 use Rattle.rowtext.specs.declared.row_text.RowText.{RowText}
 use Rattle.rowtext.specs.Rows.{BeginsLineAs}
-use Rattle.commands.specs.Querying.{row_line, row_lines}
+use Rattle.commands.specs.Querying.{row_lines}
 
 -- ---- rows
 
@@ -22,21 +19,6 @@ pub record HavePassed (Has Stand : List ValueTrees → Type 0) (n : ℕ) (all : 
   pub many : length given ≡ n
 
 -- ---- lines
-
--- the first of these rows is taken, and its line gathered after these lines; the others stand
-pub record AddsFirstLine (texts : Bool) (fs : Fields) (T : List ValueTrees → Type 0) (Gathers : List ℕ → Type 0) (lines : List ℕ)
-    (rows : List ValueTrees) : Type 0 where
-  pub first : ValueTrees
-  pub rest : List ValueTrees
-  pub split : rows ≡ first ∷ rest
-  pub stands : T rest
-  pub gathers : Gathers (lines ++ row_line texts fs first)
-
--- the line of the first of the rows that stood, or none; out of memory aside, nothing is refused where rows stood
-abbrev pub AddsNextLine : Bool → Fields → (List ValueTrees → Type 0) → (List ValueTrees → Type 0) → (List ℕ → Type 0) → List ℕ → Result Bool Refusal → Type 0
-AddsNextLine texts fs S T Gathers lines (Ok true) = (rows : List ValueTrees) → S rows → RowsFit fs rows → AddsFirstLine texts fs T Gathers lines rows
-AddsNextLine texts fs S T Gathers lines (Ok false) = (rows : List ValueTrees) → S rows → (rows ≡ []) × (T [] × Gathers lines)
-AddsNextLine texts fs S T Gathers lines (Err e) = (rows : List ValueTrees) → S rows → e ≡ Memory
 
 -- the lines of these rows were written or are gathered
 pub record AreGathered (texts : Bool) (fs : Fields) (rows : List ValueTrees) (text : RowText) (old new : Option (List ℕ)) : Type 0 where

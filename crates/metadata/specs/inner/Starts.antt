@@ -23,9 +23,25 @@ StatisticsPlaces = Place (List ℕ) × (Place (List ℕ) × (Place ℤ × (Place
 
 -- the places of Statistics before the first field
 abbrev pub statistics_start : StatisticsPlaces
-statistics_start = ((ids.statistics_max, None), ((ids.statistics_min, None), ((ids.statistics_null_count, None),
-    ((ids.statistics_distinct_count, None), ((ids.statistics_max_value, None), ((ids.statistics_min_value, None),
-    ((ids.statistics_is_max_value_exact, None), ((ids.statistics_is_min_value_exact, None), tt))))))))
+statistics_start = (
+  (ids.statistics_max, None),
+  (
+    (ids.statistics_min, None),
+    (
+      (ids.statistics_null_count, None),
+      (
+        (ids.statistics_distinct_count, None),
+        (
+          (ids.statistics_max_value, None),
+          (
+            (ids.statistics_min_value, None),
+            ((ids.statistics_is_max_value_exact, None), ((ids.statistics_is_min_value_exact, None), tt)),
+          ),
+        ),
+      ),
+    ),
+  ),
+)
 
 -- places for the fields of a ColumnMetaData
 abbrev pub ColumnMetaPlaces : Type 0
@@ -34,9 +50,28 @@ ColumnMetaPlaces = Place ℤ × (Place (List ℤ) × (Place (List (List ℕ)) ×
 
 -- the places of a ColumnMetaData before the first field
 abbrev pub column_meta_start : ColumnMetaPlaces
-column_meta_start = ((ids.column_kind, None), ((ids.column_encodings, None), ((ids.column_path_in_schema, None), ((ids.column_codec, None),
-    ((ids.column_num_values, None), ((ids.column_total_uncompressed_size, None), ((ids.column_total_compressed_size, None),
-    ((ids.column_data_page_offset, None), ((ids.column_dictionary_page_offset, None), ((ids.column_statistics, None), tt))))))))))
+column_meta_start = (
+  (ids.column_kind, None),
+  (
+    (ids.column_encodings, None),
+    (
+      (ids.column_path_in_schema, None),
+      (
+        (ids.column_codec, None),
+        (
+          (ids.column_num_values, None),
+          (
+            (ids.column_total_uncompressed_size, None),
+            (
+              (ids.column_total_compressed_size, None),
+              ((ids.column_data_page_offset, None), ((ids.column_dictionary_page_offset, None), ((ids.column_statistics, None), tt))),
+            ),
+          ),
+        ),
+      ),
+    ),
+  ),
+)
 
 -- places for the fields of a ColumnChunk
 abbrev pub ChunkMetaPlaces : Type 0
@@ -68,9 +103,31 @@ ElementPlaces = Place ℤ × (Place ℤ × (Place ℤ × (Place (List ℕ) × (P
 
 -- the places of a SchemaElement before the first field
 abbrev pub element_start : ElementPlaces
-element_start = ((ids.element_kind, None), ((ids.element_type_length, None), ((ids.element_repetition_type, None), ((ids.element_name, None),
-    ((ids.element_num_children, None), ((ids.element_converted_type, None), ((ids.element_scale, None), ((ids.element_precision, None),
-    ((ids.element_field_id, None), ((ids.element_logical_type, None), tt))))))))))
+element_start = (
+  (ids.element_kind, None),
+  (
+    (ids.element_type_length, None),
+    (
+      (ids.element_repetition_type, None),
+      (
+        (ids.element_name, None),
+        (
+          (ids.element_num_children, None),
+          (
+            (ids.element_converted_type, None),
+            (
+              (ids.element_scale, None),
+              (
+                (ids.element_precision, None),
+                ((ids.element_field_id, None), ((ids.element_logical_type, None), tt)),
+              ),
+            ),
+          ),
+        ),
+      ),
+    ),
+  ),
+)
 
 -- places for the fields of a DataPageHeader
 abbrev pub DataPageHeaderPlaces : Type 0
@@ -78,8 +135,16 @@ DataPageHeaderPlaces = Place ℤ × (Place ℤ × (Place ℤ × (Place ℤ × (P
 
 -- the places of a DataPageHeader before the first field
 abbrev pub data_page_header_start : DataPageHeaderPlaces
-data_page_header_start = ((ids.data_num_values, None), ((ids.data_encoding, None), ((ids.data_definition_level_encoding, None),
-    ((ids.data_repetition_level_encoding, None), ((ids.data_statistics, None), tt)))))
+data_page_header_start = (
+  (ids.data_num_values, None),
+  (
+    (ids.data_encoding, None),
+    (
+      (ids.data_definition_level_encoding, None),
+      ((ids.data_repetition_level_encoding, None), ((ids.data_statistics, None), tt)),
+    ),
+  ),
+)
 
 -- places for the fields of a DictionaryPageHeader
 abbrev pub DictionaryPageHeaderPlaces : Type 0
@@ -95,9 +160,25 @@ DataPageHeaderV2Places = Place ℤ × (Place ℤ × (Place ℤ × (Place ℤ × 
 
 -- the places of a DataPageHeaderV2 before the first field
 abbrev pub data_page_header_v2_start : DataPageHeaderV2Places
-data_page_header_v2_start = ((ids.data_v2_num_values, None), ((ids.data_v2_num_nulls, None), ((ids.data_v2_num_rows, None),
-    ((ids.data_v2_encoding, None), ((ids.data_v2_definition_levels_byte_length, None), ((ids.data_v2_repetition_levels_byte_length, None),
-    ((ids.data_v2_is_compressed, None), ((ids.data_v2_statistics, None), tt))))))))
+data_page_header_v2_start = (
+  (ids.data_v2_num_values, None),
+  (
+    (ids.data_v2_num_nulls, None),
+    (
+      (ids.data_v2_num_rows, None),
+      (
+        (ids.data_v2_encoding, None),
+        (
+          (ids.data_v2_definition_levels_byte_length, None),
+          (
+            (ids.data_v2_repetition_levels_byte_length, None),
+            ((ids.data_v2_is_compressed, None), ((ids.data_v2_statistics, None), tt)),
+          ),
+        ),
+      ),
+    ),
+  ),
+)
 
 -- places for the fields of a PageHeader
 abbrev pub PageHeaderPlaces : Type 0
@@ -105,8 +186,19 @@ PageHeaderPlaces = Place ℤ × (Place ℤ × (Place ℤ × (Place ℤ × (Place
 
 -- the places of a PageHeader before the first field
 abbrev pub page_header_start : PageHeaderPlaces
-page_header_start = ((ids.page_kind, None), ((ids.page_uncompressed_page_size, None), ((ids.page_compressed_page_size, None), ((ids.page_crc, None),
-    ((ids.page_data_page_header, None), ((ids.page_dictionary_page_header, None), ((ids.page_data_page_header_v2, None), tt)))))))
+page_header_start = (
+  (ids.page_kind, None),
+  (
+    (ids.page_uncompressed_page_size, None),
+    (
+      (ids.page_compressed_page_size, None),
+      (
+        (ids.page_crc, None),
+        ((ids.page_data_page_header, None), ((ids.page_dictionary_page_header, None), ((ids.page_data_page_header_v2, None), tt))),
+      ),
+    ),
+  ),
+)
 
 -- places for the fields of a FileMetaData
 abbrev pub FileMetaPlaces : Type 0
@@ -115,5 +207,16 @@ FileMetaPlaces = Place ℤ × (Place (List Element) × (Place ℤ × (Place (Lis
 
 -- the places of a FileMetaData before the first field
 abbrev pub file_meta_start : FileMetaPlaces
-file_meta_start = ((ids.file_version, None), ((ids.file_schema, None), ((ids.file_num_rows, None), ((ids.file_row_groups, None),
-    ((ids.file_key_value_metadata, None), ((ids.file_created_by, None), ((ids.file_column_orders, None), tt)))))))
+file_meta_start = (
+  (ids.file_version, None),
+  (
+    (ids.file_schema, None),
+    (
+      (ids.file_num_rows, None),
+      (
+        (ids.file_row_groups, None),
+        ((ids.file_key_value_metadata, None), ((ids.file_created_by, None), ((ids.file_column_orders, None), tt))),
+      ),
+    ),
+  ),
+)

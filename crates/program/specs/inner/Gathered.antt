@@ -1,33 +1,16 @@
 -- Lines that are gathered before they are written.
-use Rattle.std.specs.Prelude.{◌≡◌, ℕ, zero, suc, Bool, true, false, List, [], ◌∷◌, ◌++◌, Option, Result, Ok, Err}
+use Rattle.std.specs.Prelude.{◌≡◌, ℕ, zero, suc, Bool, List, [], ◌++◌, Option, Result, Ok, Err}
 use Rattle.std.specs.Io.KnownBytes.{Appends}
-use Rattle.bits.specs.Faults.{refusal_of}
-use Rattle.bits.specs.declared.fault.Fault.{Fault}
 use Rattle.bits.specs.declared.refusal.Refusal.{Refusal}
 use Rattle.bits.specs.declared.refusal.Refusal.TheVariants.{Memory}
 use Rattle.schema.specs.Values.{ValueTrees}
 use Rattle.schema.specs.Shape.{Fields}
 use Rattle.schema.specs.Fits.{RowsFit}
-use Rattle.rowtext.specs.Json.{row_text_as}
 use Rattle.program.specs.Program.{lines_of}
 
 -- after what a writer held, where that is known, stand the lines of these rows, with texts or without
 abbrev pub AppendsLines : Bool → Fields → List ValueTrees → Option (List ℕ) → Option (List ℕ) → Type 0
 AppendsLines texts fs rows old new = Appends old new (lines_of texts fs rows)
-
--- the first of these rows is taken, and its line gathered after these lines; the others stand
-pub record GathersFirst (texts : Bool) (fs : Fields) (T : List ValueTrees → Type 0) (Gathers : List ℕ → Type 0) (lines : List ℕ) (rows : List ValueTrees) : Type 0 where
-  pub first : ValueTrees
-  pub rest : List ValueTrees
-  pub split : rows ≡ first ∷ rest
-  pub stands : T rest
-  pub gathers : Gathers (lines ++ (row_text_as texts fs first ++ 10 ∷ []))
-
--- the line of the first of the rows that stood, or none; out of memory aside, nothing is refused where rows stood
-abbrev pub GathersLine : Bool → Fields → (List ValueTrees → Type 0) → (List ValueTrees → Type 0) → (List ℕ → Type 0) → List ℕ → Result Bool Refusal → Type 0
-GathersLine texts fs S T Gathers lines (Ok true) = (rows : List ValueTrees) → S rows → RowsFit fs rows → GathersFirst texts fs T Gathers lines rows
-GathersLine texts fs S T Gathers lines (Ok false) = (rows : List ValueTrees) → S rows → (rows ≡ []) × (T [] × Gathers lines)
-GathersLine texts fs S T Gathers lines (Err e) = (rows : List ValueTrees) → S rows → e ≡ Memory
 
 -- what was written, what is gathered, and the lines of the rows that are left are the lines of all rows
 pub record AreGathered (texts : Bool) (fs : Fields) (S : List ValueTrees → Type 0) (Gathers : List ℕ → Type 0) (all : List ValueTrees) (old new : Option (List ℕ)) : Type 0 where
@@ -41,10 +24,10 @@ pub record AreGathered (texts : Bool) (fs : Fields) (S : List ValueTrees → Typ
   pub joined : lines_of texts fs all ≡ printed ++ (gathered ++ lines_of texts fs left)
 
 -- rows are gathered, at least one unless none is left (0); it fails only when out of memory
-abbrev pub GathersLines : Bool → Fields → (List ValueTrees → Type 0) → (List ℕ → Type 0) → List ValueTrees → Option (List ℕ) → Option (List ℕ) → Result ℕ Fault → Type 0
+abbrev pub GathersLines : Bool → Fields → (List ValueTrees → Type 0) → (List ℕ → Type 0) → List ValueTrees → Option (List ℕ) → Option (List ℕ) → Result ℕ Refusal → Type 0
 GathersLines texts fs S Gathers all old new (Ok zero) = (p : AreGathered texts fs S Gathers all old new) × (p.left ≡ [])
 GathersLines texts fs S Gathers all old new (Ok (suc count)) = AreGathered texts fs S Gathers all old new
-GathersLines texts fs S Gathers all old new (Err fault) = refusal_of fault ≡ Memory
+GathersLines texts fs S Gathers all old new (Err e) = e ≡ Memory
 
 -- a prefix of these lines is written, and the rest is still gathered
 pub record WritesPart (old new : Option (List ℕ)) (Gathers : List ℕ → Type 0) (lines : List ℕ) : Type 0 where

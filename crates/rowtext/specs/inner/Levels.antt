@@ -1,42 +1,19 @@
 -- What a sink holds of the values that it was shown, as text.
-use Rattle.std.specs.Prelude.{ℕ, zero, suc, ◌-◌, Bool, true, false, List, [], ◌∷◌, ◌++◌, map, reverse, length, take, drop, flat_map, Option, Some, None, option_map, nat_lt, if◌then◌else◌}
+use Rattle.std.specs.Prelude.{ℕ, zero, suc, ◌-◌, Bool, true, false, List, [], ◌∷◌, ◌++◌, map, reverse, length, take, drop, flat_map, Option, Some, None, option_map, nat_lt}
 use Rattle.std.specs.Borrow.{Bor}
-use Rattle.json.specs.Print.{quoted}
 use Rattle.serde_json.specs.Data as json
 use Rattle.serde_json.specs.Written.{compact_text, comma_if}
-use Rattle.hex.specs.Hex.{encode_lower}
-use Rattle.schema.specs.Values.{ValueTree, boolean, integer, bytes}
+use Rattle.schema.specs.Values.{ValueTree}
 use Rattle.schema.specs.Shape.{Fields}
 use Rattle.assemble.specs.Sinks.{Token, single, group_begins, group_ends, list_begins, list_ends}
-use Rattle.rowtext.specs.declared.scalars.Numbers.{Numbers}
-use Rattle.rowtext.specs.declared.scalars.Numbers.TheVariants.{Texts}
-use Rattle.rowtext.specs.Json.{bytes_shown}
 use Rattle.rowtext.specs.declared.row_plan.Slot.{Slot as CodeSlot}
 use Rattle.rowtext.specs.declared.row_plan.RowPlan.{RowPlan}
 use Rattle.rowtext.specs.declared.level.Level.{Level as CodeLevel}
 use Rattle.rowtext.specs.declared.level.Level.TheVariants.{Row, SortedRow, Group, Unknown, List as ListOf}
 use Rattle.rowtext.specs.declared.level.Outer.{Outer as CodeOuter}
 use Rattle.rowtext.specs.declared.row_text.RowText.{RowText}
-use Rattle.rowtext.specs.inner.Scalars.{integer_text}
+use Rattle.rowtext.specs.inner.LeafTexts.{value_text}
 use Rattle.rowtext.specs.inner.Slots.{Slot, leaf_slot, group_slot, Slots, no_slots, slot, slot_view, slots_view, key_in, slots_as, order_of, vec_items}
-
--- ---- the text of a value of a leaf
-
--- the text of bytes that are no text: as their form shows them, and else their hexadecimal digits in quotes
-abbrev pub digits_text : Numbers → List ℕ → List ℕ
-digits_text (Texts form) s = compact_text (bytes_shown form s)
-digits_text _ s = quoted (encode_lower s)
-
--- the text of bytes: themselves in quotes if they are text
-abbrev pub bytes_text : Numbers → Bool → List ℕ → List ℕ
-bytes_text n t s = if t then quoted s else digits_text n s
-
--- the text of a value of a leaf; null for a value that no leaf has
-abbrev pub value_text : Numbers → Bool → ValueTree → List ℕ
-value_text n t (boolean b) = compact_text (json.boolean b)
-value_text n t (integer z) = integer_text n z
-value_text n t (bytes s) = bytes_text n t s
-value_text n t _ = compact_text json.null
 
 -- the text of a value at a slot; null if the slot is not that of a leaf, or there is none
 abbrev pub text_at : Option Slot → ValueTree → List ℕ

@@ -6,7 +6,11 @@ use Rattle.thrift_compact.specs.declared.tree.ElementType.TheVariants.{List as L
 pub use Rattle.thrift_compact.specs.Values.{IsRefusedFor, ValueOf}
 use Rattle.thrift_compact.specs.Tree.{Node, Nodes, list, Pairs, Fields, nest, nodes_nest, pairs_nest, fields_nest, count, count_pairs}
 use Rattle.thrift_compact.specs.Values.{folded, folded_each}
-use Rattle.thrift_compact.specs.Compact.{IsSigned, kind, IsElement, IsValue, AreElements, ArePairs, AreFields}
+use Rattle.thrift_compact.specs.Compact.{IsSigned, IsElement, IsValue, AreElements, ArePairs, AreFields}
+
+-- something stands in the first `used` bytes
+abbrev pub SomethingStands : {Y : Type 0} → (List ℕ → Y → ℕ → Type 0) → List ℕ → ℕ → Type 0
+SomethingStands {Y} Stands bytes used = (y : Y) × Stands bytes y used
 
 -- an i16 at the start of the bytes
 abbrev pub IsShortNumber : List ℕ → ℤ → ℕ → Type 0

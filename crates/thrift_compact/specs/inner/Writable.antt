@@ -1,5 +1,5 @@
 -- The test whether a struct has bytes: Thrift's compact protocol, "Struct Encoding", "List and Set", "Map".
-use Rattle.std.specs.Prelude.{ℕ, ◌-◌, ◌^◌, ℤ, nat_lt, ◌==◌, Bool, true, false, ◌&&◌, length}
+use Rattle.std.specs.Prelude.{ℕ, ◌-◌, ◌^◌, ℤ, nat_lt, ◌==◌, Bool, true, ◌&&◌, length}
 use Rattle.bits.specs.Varint.{zigzag_of}
 use Rattle.thrift_compact.specs.Tree.{Node, yes, no, flag, i8, i16, i32, i64, double, binary, list, set, empty_map, map, struct, Nodes, no_nodes, node, Pairs, no_pairs, pair, Fields, no_fields, field, count, count_pairs}
 use Rattle.thrift_compact.specs.Compact.{kind}

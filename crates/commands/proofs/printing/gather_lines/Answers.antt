@@ -1,12 +1,11 @@
 use Rattle.std.proofs.Common.{◌≡◌, Bool, List, Ok, sym, subst, arith}
 use Rattle.bits.proofs.Passing.{passes}
-use Rattle.bits.specs.Faults.{refusal_of}
 use Rattle.bits.specs.Refusals.{HasCause}
 use Rattle.bits.specs.declared.refusal.Refusal.TheVariants.{Device}
 use Rattle.schema.specs.Values.{ValueTrees}
-use Rattle.rowtext.specs.Rows.{BeginsLineAs}
+use Rattle.rowtext.specs.Rows.{BeginsLineAs, AddsNextLine}
 use Rattle.scan.specs.Left.{rows_stand}
-use Rattle.commands.specs.inner.Gathering.{AreGathered, AddsNextLine}
+use Rattle.commands.specs.inner.Gathering.{AreGathered}
 use Rattle.commands.proofs.FirstOf.{none_passed, enough_passed}
 use Rattle.commands.proofs.GatheredLines.{none_yet, line_more, line_none}
 use Rattle.commands.proofs.printing.gather_lines.Goals as goal
@@ -28,11 +27,11 @@ loop-count-preserved g c = record {
       let mid = contents at.out in
       let new = contents c.write_full.new.out in
       let S = rows_stand at.rows in
-      let T = rows_stand c.put_line.new.rows in
-      let to = c.put_line.new.text in
+      let T = rows_stand c.put_next.new.rows in
+      let to = c.put_next.new.self in
       let p = at.invariant.gathers texts fs all begins s fit in
       let lines = p.has.gathered in
-      let one = subst (λ (b : Bool). AddsNextLine texts fs S T (BeginsLineAs texts to fs) lines (Ok b)) c.if-not-branch.false (c.in_ok-put_line.ensures.puts texts fs lines p.has.gathers) in
+      let one = subst (λ (b : Bool). AddsNextLine texts fs S T (BeginsLineAs texts to fs) lines (Ok b)) c.if-not-branch.false (c.in_ok-put_next.ensures.puts texts fs lines p.has.gathers) in
       line_more texts fs S at.count all at.text old mid p T to c.write_full.new.text new fit one (λ rows. c.in_ok-write_full.ensures.gathered texts fs rows old);
   within = λ most is. let end = c.most_of-count-end.ensures most is in let more = c.loop-count-test.true in omega (arith, end, more);
 }
@@ -41,11 +40,11 @@ pub returns-then-not-branch-clause-gathers : goal.returns-then-not-branch-clause
 returns-then-not-branch-clause-gathers g c = λ texts fs all begins s fit.
     let at = c.loop-count in
     let S = rows_stand at.rows in
-    let T = rows_stand c.put_line.new.rows in
-    let to = c.put_line.new.text in
+    let T = rows_stand c.put_next.new.rows in
+    let to = c.put_next.new.self in
     let p = at.invariant.gathers texts fs all begins s fit in
     let lines = p.has.gathered in
-    let none = subst (λ (b : Bool). AddsNextLine texts fs S T (BeginsLineAs texts to fs) lines (Ok b)) c.if-not-branch.true (c.in_ok-put_line.ensures.puts texts fs lines p.has.gathers) in
+    let none = subst (λ (b : Bool). AddsNextLine texts fs S T (BeginsLineAs texts to fs) lines (Ok b)) c.if-not-branch.true (c.in_ok-put_next.ensures.puts texts fs lines p.has.gathers) in
     line_none texts fs S at.count all at.text (g.W.Write.contents c.args.out.now) (g.W.Write.contents at.out) p T to c.args.limit at.invariant.within none
 
 pub returns-in-Some-clause-gathers : goal.returns-in-Some-clause-gathers
@@ -58,8 +57,8 @@ returns-in-Some-clause-gathers g c = λ texts fs all begins s fit.
     let within = at.invariant.within _ is in
     enough_passed (λ (rows : List ValueTrees). AreGathered texts fs rows at.text (g.W.Write.contents c.args.out.now) (g.W.Write.contents at.out)) (rows_stand at.rows) at.count all p c.args.limit _ is (omega (arith, over, end, within))
 
-pub returns-in_err-put_line-clause-which : goal.returns-in_err-put_line-clause-which
-returns-in_err-put_line-clause-which g c = λ texts fs all begins s fit.
+pub returns-in_err-put_next-clause-which : goal.returns-in_err-put_next-clause-which
+returns-in_err-put_next-clause-which g c = λ texts fs all begins s fit.
     let p = c.loop-count.invariant.gathers texts fs all begins s fit in
-    passes (HasCause (λ e. e ≡ Device)) c.from_residual.result (refusal_of c.in_err-put_line.field-0.0) c.from_residual.ensures.1
-    (subst (HasCause (λ e. e ≡ Device)) (sym (c.in_err-put_line.ensures.puts texts fs p.has.gathered p.has.gathers p.left p.stands)) tt)
+    passes (HasCause (λ e. e ≡ Device)) c.from_residual.result c.in_err-put_next.field-0.0 c.from_residual.ensures.1
+    (subst (HasCause (λ e. e ≡ Device)) (sym (c.in_err-put_next.ensures.puts texts fs p.has.gathered p.has.gathers p.left p.stands)) tt)

@@ -1,4 +1,4 @@
-use Rattle.std.proofs.Common.{[], subst}
+use Rattle.std.proofs.Common.{[], subst, sym}
 use Rattle.std.specs.Prelude.{map}
 use Rattle.bits.specs.Codec.{NothingStands}
 use Rattle.thrift_compact.specs.View.{code_of}
@@ -14,7 +14,8 @@ returns-clause-stands g c =
     let v = c.args.value in
     let held = map T.shown c.take_elements.new.taker.items.items in
     let s = subst (λ xs. ReadAs (elements_by (item_step T.read) (map T.shown xs)) (code_of v.kind) v.left v.bytes.now held c.in_ok-used.used) c.new.ensures.items c.in_ok-used.ensures.stands in
-    same_read (elements_by (item_step T.read) []) (list_by T.read) (code_of v.kind) v.left v.bytes.now held c.in_ok-used.used (items_are T.read) s
+    subst (λ xs. ReadAs (list_by T.read) (code_of v.kind) v.left v.bytes.now (map T.shown xs) c.in_ok-used.used) (sym c.shrink_to_fit.ensures.items)
+    (same_read (elements_by (item_step T.read) []) (list_by T.read) (code_of v.kind) v.left v.bytes.now held c.in_ok-used.used (items_are T.read) s)
 
 pub returns-in_err-used-clause-which : goal.returns-in_err-used-clause-which
 returns-in_err-used-clause-which g c =

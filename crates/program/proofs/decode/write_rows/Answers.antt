@@ -1,7 +1,6 @@
 use Rattle.std.proofs.Common.{◌≡◌, [], refl, sym, subst, ◌∙◌}
 use Rattle.std.proofs.lemmas.Result.{on_ok_weaker}
 use Rattle.bits.proofs.Passing.{passes}
-use Rattle.bits.specs.Faults.{refusal_of}
 use Rattle.bits.specs.Refusals.{HasCause}
 use Rattle.bits.specs.declared.refusal.Refusal.TheVariants.{Device}
 use Rattle.schema.specs.Shape.{Fields}
@@ -14,7 +13,7 @@ pub returns-in_err-count-clause-which : goal.returns-in_err-count-clause-which
 returns-in_err-count-clause-which g c = λ all s fit.
     let old = g.W.Write.contents c.args.out.now in
     let mid = g.W.Write.contents c.more.out in
-    passes (HasCause (λ e. e ≡ Device)) c.from_residual-in_err-count.result (refusal_of c.in_err-count.field-0.0) c.from_residual-in_err-count.ensures.1
+    passes (HasCause (λ e. e ≡ Device)) c.from_residual-in_err-count.result c.in_err-count.field-0.0 c.from_residual-in_err-count.ensures.1
     (subst (HasCause (λ e. e ≡ Device)) (sym (c.in_err-count.ensures.puts c.args.texts c.args.schema.now all old mid (c.more.invariant.gathers all s fit))) tt)
 
 pub returns-then-count-eq0-clause-stands : goal.returns-then-count-eq0-clause-stands

@@ -3,7 +3,7 @@ use Rattle.thrift_compact.specs.Values.{ReadAs}
 use Rattle.thrift_compact.specs.inner.Reading.{ElementRead}
 use Rattle.std.proofs.Common.{◌++◌}
 use Rattle.thrift_compact.proofs.Refused.{refused}
-use Rattle.thrift_compact.proofs.TakenParts.{element_of_value, value_of_element, plain_type}
+use Rattle.thrift_compact.proofs.TakenParts.{value_of_element, plain_type}
 use Rattle.thrift_compact.proofs.taking.element_taken.Goals as goal
 
 pub returns-in_err-used-in_default-clause-which : goal.returns-in_err-used-in_default-clause-which

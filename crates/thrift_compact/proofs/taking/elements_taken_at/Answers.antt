@@ -1,4 +1,4 @@
-use Rattle.std.proofs.Common.{◌≡◌, ◌+◌, ◌≤◌, length, drop, subst, arith}
+use Rattle.std.proofs.Common.{◌≡◌, ◌≤◌, length, subst, arith}
 use Rattle.thrift_compact.specs.View.{code_of}
 use Rattle.thrift_compact.specs.inner.Reading.{ElementRead, ElementsTaken}
 use Rattle.thrift_compact.proofs.ElementsTaken as elements

@@ -1,4 +1,4 @@
-use Rattle.std.proofs.Common.{◌≡◌, ℕ, List, refl, subst, ap, ◌∙◌, Option, Some, None}
+use Rattle.std.proofs.Common.{◌≡◌, ℕ, List, refl, subst, ◌∙◌, Option, Some, None}
 use Rattle.std.specs.Prelude.{Bool, true, false, is_some, option_map, if◌then◌else◌}
 use Rattle.thrift_compact.specs.Values.{ReadAs}
 use Rattle.metadata.specs.FieldValues.{record_by}

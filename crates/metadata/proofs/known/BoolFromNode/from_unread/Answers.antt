@@ -1,4 +1,3 @@
-use Rattle.std.proofs.Common.{refl}
 use Rattle.thrift_compact.specs.View.{code_of}
 use Rattle.thrift_compact.specs.Values.{ValueOf, ReadAs, truth_of}
 use Rattle.metadata.specs.FieldValues.{boolean}

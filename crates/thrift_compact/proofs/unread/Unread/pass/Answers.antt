@@ -1,7 +1,11 @@
+use Rattle.std.proofs.Common.{refl}
 use Rattle.thrift_compact.specs.View.{code_of}
 use Rattle.thrift_compact.specs.Values.{ValueOf, ReadAs, passed}
 use Rattle.thrift_compact.proofs.Refused.{refused}
 use Rattle.thrift_compact.proofs.unread.Unread.pass.Goals as goal
+
+pub returns-clause-stands : goal.returns-clause-stands
+returns-clause-stands c = let s = c.in_ok-used.ensures.stands in (s.0, s.1, refl)
 
 pub returns-in_err-used-clause-which : goal.returns-in_err-used-clause-which
 returns-in_err-used-clause-which c =
