@@ -143,9 +143,10 @@ module _ {D : Type 0} {old mid : Known D} (stays : StaysKnown old mid) (S : Type
   on_files_before (read files are comes) = read files (files_before stays (named_paths call.task) files are) (on_folder_before call.task files comes)
   on_files_before (unread e kept still unprinted is) = unread e (among_before stays (named_paths call.task) e kept) (stays_then stays still) unprinted is
 
+module _ {P D : Type 0} {old mid : Known D} (stays : StaysKnown old mid) (S : Type 0) (state : D → DiskState) (known : P → Known D) (call : Call) (before after : Option (List ℕ)) (result : Result ⊤ Refusal) (new : Known D) where
   -- so does what comes of an append
-  lines_before : (path : List ℕ) (unless : Option (List ℕ)) → AppendsLines S state mid new call path unless before after result
-      → AppendsLines S state old new call path unless before after result
+  lines_before : (path : List ℕ) (unless : Option (List ℕ)) → AppendsLines S state known mid new call path unless before after result
+      → AppendsLines S state known old new call path unless before after result
   lines_before path unless (no_file e kept still unprinted is) = no_file e (kept_before stays path e kept) (stays_then stays still) unprinted is
   lines_before path unless (no_table e comes unprinted is) = no_table e (carried stays _ call.folder.now _ _ (Err e) comes) unprinted is
   lines_before path unless (no_rows e table comes kept unprinted is) =
@@ -154,11 +155,11 @@ module _ {D : Type 0} {old mid : Known D} (stays : StaysKnown old mid) (S : Type
   lines_before path unless (lines_read here table bytes rows comes there utf8 are after_it) =
       lines_read here table bytes rows (carried stays _ call.folder.now _ _ (Ok table) comes) ((stays.files path bytes).1 there) utf8 are after_it
 
-  by_task_before : (asked : Option (List ℕ × Option (List ℕ))) → OnFilesBy S state mid new call asked before after result → OnFilesBy S state old new call asked before after result
+  by_task_before : (asked : Option (List ℕ × Option (List ℕ))) → OnFilesBy S state known mid new call asked before after result → OnFilesBy S state known old new call asked before after result
   by_task_before (Some asked) comes = lines_before asked.0 asked.1 comes
-  by_task_before None comes = on_files_before comes
+  by_task_before None comes = on_files_before stays S state call before after result new comes
 
-  pub comes_before : ComesUnfiltered S state mid new call before after result → ComesUnfiltered S state old new call before after result
+  pub comes_before : ComesUnfiltered S state known mid new call before after result → ComesUnfiltered S state known old new call before after result
   comes_before (on_folder comes) = on_folder (by_task_before (append_of call.task) comes)
   comes_before (on_file none still prints) = on_file ((stays.is_folder call.folder.now false).1 none) (stays_then stays still) (of_file_before stays before after result call.folder.now call.task prints)
 

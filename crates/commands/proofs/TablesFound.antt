@@ -36,17 +36,17 @@ pub found_of : {D : Type 0} {state : D → DiskState} {options : WriteOptions} {
 found_of store opens back (Ok table) same which = found store table opens back same refl
 found_of store opens back (Err e) same which = not_told store opens back (ap Err (only_memory e which))
 
-module _ {D S : Type 0} {state : D → DiskState} {old new : Known D} {call : Call} {path : List ℕ} {unless before after : Option (List ℕ)} where
+module _ {P D S : Type 0} {state : D → DiskState} {known : P → Known D} {old new : Known D} {call : Call} {path : List ℕ} {unless before after : Option (List ℕ)} where
   -- the file was not had
   pub no_file_of : (result : Result ⊤ Refusal) (e : Refusal) → IsErrAnd result (λ f. f ≡ e) → IsKeptFrom old path e → StaysKnown old new → after ≡ before
-      → AppendsLines S state old new call path unless before after result
+      → AppendsLines S state known old new call path unless before after result
   no_file_of (Ok x) e is kept stays unprinted = absurd is
   no_file_of (Err f) e is kept stays unprinted = no_file e kept stays unprinted (ap Err is)
 
   -- no table was found
   pub no_table_of : (result : Result ⊤ Refusal) (e : Refusal) → IsErrAnd result (λ f. f ≡ e)
       → InFolder (disk_within {D = D} {S = S}) old new call.folder.now (FindsTable (state_within state) call.options) ⊤ (Err e) → after ≡ before
-      → AppendsLines S state old new call path unless before after result
+      → AppendsLines S state known old new call path unless before after result
   no_table_of (Ok x) e is finds unprinted = absurd is
   no_table_of (Err f) e is finds unprinted = no_table e finds unprinted (ap Err is)
 
@@ -54,7 +54,7 @@ module _ {D S : Type 0} {state : D → DiskState} {old new : Known D} {call : Ca
   pub no_rows_of : (result : Result ⊤ Refusal) (e : Refusal) (table : Manifest) → IsErrAnd result (λ f. f ≡ e)
       → InFolder (disk_within {D = D} {S = S}) old new call.folder.now (FindsTable (state_within state) call.options) ⊤ (Ok table)
       → AreRefusedOf (old.is_shut path) (old.file path) call.texts (root_of table).schema e → after ≡ before
-      → AppendsLines S state old new call path unless before after result
+      → AppendsLines S state known old new call path unless before after result
   no_rows_of (Ok x) e table is finds refused unprinted = absurd is
   no_rows_of (Err f) e table is finds refused unprinted = no_rows e table finds refused unprinted (ap Err is)
 

@@ -157,23 +157,23 @@ pub data OnFiles {D : Type 0} (S : Type 0) (state : D → DiskState) (old new : 
 -- ---- an append
 
 -- What comes of an append of the rows of a file's lines. Its table is looked up, and the lines are read for that, while the folder is not
--- used; the rows are then appended to the dataset that is in the folder by then. Or the file is not had, or there is no table, or the lines
+-- used; the rows are then appended to the dataset that is in the folder by then, as the places in between have it. Or the file is not had, or there is no table, or the lines
 -- are refused; then nothing is printed, and the folder is only read.
-pub data AppendsLines {D : Type 0} (S : Type 0) (state : D → DiskState) (old new : Known D) (call : Call) (path : List ℕ) (unless : Option (List ℕ))
+pub data AppendsLines {P D : Type 0} (S : Type 0) (state : D → DiskState) (known : P → Known D) (old new : Known D) (call : Call) (path : List ℕ) (unless : Option (List ℕ))
     (before after : Option (List ℕ)) (result : Result ⊤ Refusal) : Type 0 where
   no_file : (e : Refusal) → IsKeptFrom old path e → StaysKnown old new → after ≡ before → result ≡ Err e
-      → AppendsLines S state old new call path unless before after result
+      → AppendsLines S state known old new call path unless before after result
   no_table : (e : Refusal) → InFolder (disk_within {D = D} {S = S}) old new call.folder.now (FindsTable (state_within state) call.options) ⊤ (Err e)
-      → after ≡ before → result ≡ Err e → AppendsLines S state old new call path unless before after result
+      → after ≡ before → result ≡ Err e → AppendsLines S state known old new call path unless before after result
   no_rows : (e : Refusal) (table : Manifest) → InFolder (disk_within {D = D} {S = S}) old new call.folder.now (FindsTable (state_within state) call.options) ⊤ (Ok table)
       → AreRefusedOf (old.is_shut path) (old.file path) call.texts (root_of table).schema e
-      → after ≡ before → result ≡ Err e → AppendsLines S state old new call path unless before after result
-  lines_read : (mid : Known D) (table : Manifest) (bytes : List ℕ) (rows : List ValueTrees)
-      → InFolder (disk_within {D = D} {S = S}) old mid call.folder.now (FindsTable (state_within state) call.options) ⊤ (Ok table)
+      → after ≡ before → result ≡ Err e → AppendsLines S state known old new call path unless before after result
+  lines_read : (mid : P) (table : Manifest) (bytes : List ℕ) (rows : List ValueTrees)
+      → InFolder (disk_within {D = D} {S = S}) old (known mid) call.folder.now (FindsTable (state_within state) call.options) ⊤ (Ok table)
       → old.file path bytes → IsUtf8 bytes → AreRowTexts call.texts (root_of table).schema (lines bytes) rows
-      → InFolder (disk_within {D = D} {S = S}) mid new call.folder.now
+      → InFolder (disk_within {D = D} {S = S}) (known mid) new call.folder.now
       (ChangesDisk state call.options (ChangesByRows state call unless (root_of table) rows before after) before after) (after ≡ before) result
-      → AppendsLines S state old new call path unless before after result
+      → AppendsLines S state known old new call path unless before after result
 
 -- the path of the rows that a task appends, and the filter that no row may satisfy; none where the task is no append
 abbrev pub append_of : Task → Option (List ℕ × Option (List ℕ))
@@ -181,10 +181,10 @@ append_of (ToChange (Append rows unless)) = Some (rows.now, lent_text unless)
 append_of _ = None
 
 -- what comes of a call on the files that it names and on its folder: of an append, or of another task
-abbrev pub OnFilesBy : {D : Type 0} (S : Type 0) → (D → DiskState) → Known D → Known D → Call → Option (List ℕ × Option (List ℕ)) → Option (List ℕ) → Option (List ℕ)
+abbrev pub OnFilesBy : {P D : Type 0} (S : Type 0) → (D → DiskState) → (P → Known D) → Known D → Known D → Call → Option (List ℕ × Option (List ℕ)) → Option (List ℕ) → Option (List ℕ)
     → Result ⊤ Refusal → Type 0
-OnFilesBy S state old new call (Some asked) before after result = AppendsLines S state old new call asked.0 asked.1 before after result
-OnFilesBy S state old new call None before after result = OnFiles S state old new call before after result
+OnFilesBy S state known old new call (Some asked) before after result = AppendsLines S state known old new call asked.0 asked.1 before after result
+OnFilesBy S state known old new call None before after result = OnFiles S state old new call before after result
 
 -- ---- a file in place of a folder
 
@@ -205,11 +205,11 @@ PrintsOfFile known path _ before after result = ⊥
 
 -- What comes of a call that is not on a file with its filter: what it asks of its folder and files; or, where a file may be named in place of
 -- the folder and there is none, what that is.
-pub data ComesUnfiltered {D : Type 0} (S : Type 0) (state : D → DiskState) (old new : Known D) (call : Call)
+pub data ComesUnfiltered {P D : Type 0} (S : Type 0) (state : D → DiskState) (known : P → Known D) (old new : Known D) (call : Call)
     (before after : Option (List ℕ)) (result : Result ⊤ Refusal) : Type 0 where
-  on_folder : OnFilesBy S state old new call (append_of call.task) before after result → ComesUnfiltered S state old new call before after result
+  on_folder : OnFilesBy S state known old new call (append_of call.task) before after result → ComesUnfiltered S state known old new call before after result
   on_file : old.is_folder call.folder.now false → StaysKnown old new → PrintsOfFile old call.folder.now call.task before after result
-      → ComesUnfiltered S state old new call before after result
+      → ComesUnfiltered S state known old new call before after result
 
 -- ---- filters in files
 
@@ -265,10 +265,10 @@ pub data Filtered {D : Type 0} (old new : Known D) (call : Call) (ComesOf : Call
       → Filtered old new call ComesOf Unchanged result
 
 -- what comes of a call, whose filter its words have or name a file of; where there is no filter nothing is printed
-abbrev pub ComesFiltered : {D : Type 0} (S : Type 0) → (D → DiskState) → Known D → Known D → Call → Option (List ℕ) → Option (List ℕ) → Result ⊤ Refusal
+abbrev pub ComesFiltered : {P D : Type 0} (S : Type 0) → (D → DiskState) → (P → Known D) → Known D → Known D → Call → Option (List ℕ) → Option (List ℕ) → Result ⊤ Refusal
     → Type 0
-ComesFiltered S state old new call before after result =
-    Filtered old new call (λ asked. ComesUnfiltered S state old new asked before after result) (after ≡ before) result
+ComesFiltered S state known old new call before after result =
+    Filtered old new call (λ asked. ComesUnfiltered S state known old new asked before after result) (after ≡ before) result
 
 -- ---- a call
 
@@ -279,11 +279,11 @@ IsPassedOn (Ok _) (Err e) = HasCause (λ f. f ≡ Device) e
 IsPassedOn (Err e) result = result ≡ Err e
 
 -- What comes of a call, and of the end of what is printed; or memory runs out before it.
-pub data CallComes {D : Type 0} (S : Type 0) (state : D → DiskState) (old new : Known D) (call : Call)
+pub data CallComes {P D : Type 0} (S : Type 0) (state : D → DiskState) (known : P → Known D) (old new : Known D) (call : Call)
     (before after : Option (List ℕ)) (result : Result ⊤ Refusal) : Type 0 where
-  made : (printed : Option (List ℕ)) (made : Result ⊤ Refusal) → ComesFiltered S state old new call before printed made → Keeps printed after
-      → IsPassedOn made result → CallComes S state old new call before after result
-  no_memory : StaysKnown old new → after ≡ before → result ≡ Err Memory → CallComes S state old new call before after result
+  made : (printed : Option (List ℕ)) (made : Result ⊤ Refusal) → ComesFiltered S state known old new call before printed made → Keeps printed after
+      → IsPassedOn made result → CallComes S state known old new call before after result
+  no_memory : StaysKnown old new → after ≡ before → result ≡ Err Memory → CallComes S state known old new call before after result
 
 -- ---- files of a query
 

@@ -30,7 +30,7 @@ use Rattle.store.specs.declared.store.Store.{Store}
 use Rattle.store.specs.Stands.{Stands}
 use Rattle.store.specs.Promises.{Acts}
 use Rattle.commands.specs.Lines.{AreRefusedRows}
-use Rattle.commands.specs.Making.{Makes, AsksAppend, AsksRemove, AsksColumn, Rewrites, RewritesPlanned, RunsScript}
+use Rattle.commands.specs.Making.{Makes, AsksRemove, AsksColumn, Rewrites, RewritesPlanned, RunsScript}
 use Rattle.commands.specs.Querying.{Reads, query_lines, ListsGroups}
 use Rattle.commands.specs.GroupColumns.{ListsColumns}
 use Rattle.commands.specs.First.{first_lines}

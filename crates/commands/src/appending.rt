@@ -43,7 +43,7 @@ impl<S: Write + Clone + Drop> Making<'_, S> {
         err: &mut E,
         why: &mut Option<Reason>,
     ) -> R<()>
-        ensures comes { AppendsLines S P.Disk.state (P.known places.old) (P.known places.new) self.now.call.now path.now (lent_text unless.entry)
+        ensures comes { AppendsLines S P.Disk.state P.known (P.known places.old) (P.known places.new) self.now.call.now path.now (lent_text unless.entry)
             (W.contents out.old) (W.contents out.new) result }
         ensures quiet { self.now.terminals.err ≡ false → E.contents err.new ≡ E.contents err.old }
     {

@@ -108,7 +108,7 @@ impl<'a> LineGatherer<'a> {
 
     /// The rows, and what is kept of them.
     pub(crate) fn into_parts(self, alloc: Global) -> (Gathered<'a>, RowNotes<'a>)
-        ensures { result.0 ≡ self.gathered }
+        ensures { result.0 ≡ self.entry.gathered }
     {
         let LineGatherer { gathered, met, .. } = self;
         let notes = RowNotes {

@@ -59,9 +59,9 @@ pub struct Folders<P: Places + Drop, S: Write + Clone + Drop> {
 
 impl<P: Places + Drop, S: Write + Clone + Drop, W: Write, E: Write> Datasets<W, E>
     for Folders<P, S> {
-    ghost prints = { λ old new call before after. CallComes S P.Disk.state (P.known old.places) (P.known new.places) call before after (Ok tt) };
+    ghost prints = { λ old new call before after. CallComes S P.Disk.state P.known (P.known old.places) (P.known new.places) call before after (Ok tt) };
 
-    ghost refuses = { λ old new call before after e. CallComes S P.Disk.state (P.known old.places) (P.known new.places) call before after (Err e) };
+    ghost refuses = { λ old new call before after e. CallComes S P.Disk.state P.known (P.known old.places) (P.known new.places) call before after (Err e) };
 
     ghost gives = { λ old new call was is. (most : Option ℕ) × GivesCall S P.Disk.state (P.known old.places) (P.known new.places) call most was is (Ok tt) };
 
@@ -123,7 +123,7 @@ impl<P: Places + Drop, S: Write + Clone + Drop> Folders<P, S> {
         err: &mut E,
         terminals: Terminals,
     ) -> R<()>
-        ensures comes { CallComes S P.Disk.state (P.known self.old.places) (P.known self.new.places) call.now (W.contents out.old) (W.contents out.new) result }
+        ensures comes { CallComes S P.Disk.state P.known (P.known self.old.places) (P.known self.new.places) call.now (W.contents out.old) (W.contents out.new) result }
         ensures quiet { terminals.err ≡ false → OnOk result (E.contents err.new ≡ E.contents err.old) }
     {
         let notes = Notes::new(alloc)?;
@@ -207,7 +207,7 @@ impl<S: Write + Clone + Drop> Making<'_, S> {
         err: &mut E,
         why: &mut Option<Reason>,
     ) -> R<()>
-        ensures comes { ComesFiltered S P.Disk.state (P.known places.old) (P.known places.new) self.now.call.now (W.contents out.old) (W.contents out.new) result }
+        ensures comes { ComesFiltered S P.Disk.state P.known (P.known places.old) (P.known places.new) self.now.call.now (W.contents out.old) (W.contents out.new) result }
         ensures quiet { self.now.terminals.err ≡ false → E.contents err.new ≡ E.contents err.old }
     {
         match filter_file(self.call) {
@@ -227,7 +227,7 @@ impl<S: Write + Clone + Drop> Making<'_, S> {
         why: &mut Option<Reason>,
     ) -> R<()>
         requires named { filter_path self.now.call.now.task ≡ Some path.now }
-        ensures comes { ComesFiltered S P.Disk.state (P.known places.old) (P.known places.new) self.now.call.now (W.contents out.old) (W.contents out.new) result }
+        ensures comes { ComesFiltered S P.Disk.state P.known (P.known places.old) (P.known places.new) self.now.call.now (W.contents out.old) (W.contents out.new) result }
         ensures quiet { self.now.terminals.err ≡ false → E.contents err.new ≡ E.contents err.old }
     {
         let bytes = places.bytes(self.alloc, path, self.notes)?;
@@ -319,7 +319,7 @@ impl<S: Write + Clone + Drop> Making<'_, S> {
         err: &mut E,
         why: &mut Option<Reason>,
     ) -> R<()>
-        ensures comes { ComesUnfiltered S P.Disk.state (P.known places.old) (P.known places.new) self.now.call.now (W.contents out.old) (W.contents out.new) result }
+        ensures comes { ComesUnfiltered S P.Disk.state P.known (P.known places.old) (P.known places.new) self.now.call.now (W.contents out.old) (W.contents out.new) result }
         ensures quiet { self.now.terminals.err ≡ false → E.contents err.new ≡ E.contents err.old }
     {
         if self.is_of_file(places) {
@@ -379,7 +379,7 @@ impl<S: Write + Clone + Drop> Making<'_, S> {
         err: &mut E,
         why: &mut Option<Reason>,
     ) -> R<()>
-        ensures comes { OnFilesBy S P.Disk.state (P.known places.old) (P.known places.new) self.now.call.now (append_of self.now.call.now.task)
+        ensures comes { OnFilesBy S P.Disk.state P.known (P.known places.old) (P.known places.new) self.now.call.now (append_of self.now.call.now.task)
             (W.contents out.old) (W.contents out.new) result }
         ensures quiet { self.now.terminals.err ≡ false → E.contents err.new ≡ E.contents err.old }
     {

@@ -31,6 +31,6 @@ returns-clause-comes g c =
     let call = c.args.self.now.call.now in
     let all = c.in_ok-rows.ensures.stands in
     let table = c.in_ok-table.table in
-    lines_read _ table all.bytes all.held.rows (carried c.reader.ensures.same _ call.folder.now _ _ (Ok c.in_ok-table.table) c.in_ok-table.ensures.finds)
+    lines_read c.find_table.new.places table all.bytes all.held.rows (carried c.reader.ensures.same _ call.folder.now _ _ (Ok c.in_ok-table.table) c.in_ok-table.ensures.finds)
     (c.in_ok-file.ensures.opened all.bytes all.known) all.utf8 all.held.read
     (in_folder_so _ _ c.change.result (λ begun ended. changes_so _ _ c.change.result (λ from to with. with (root_of table) all.held.rows all.held.held all.held.table)) c.change.ensures.comes)
