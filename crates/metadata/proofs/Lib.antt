@@ -13,3 +13,4 @@ pub mod Rows
 pub mod Readings
 pub mod OwnHeader
 pub mod Numbers
+pub mod BegunFooters

@@ -4,13 +4,15 @@ use Rattle.std.specs.Prelude.{IsTrue, IfSome, option_map}
 use Rattle.std.specs.List.{AllByRecursion}
 use Rattle.bits.specs.declared.refusal.Refusal.{Refusal}
 use Rattle.bits.specs.declared.refusal.Refusal.TheVariants.{Thrift, Memory}
-use Rattle.bits.specs.Refusals.{HasCause, RefusedOnly}
+use Rattle.bits.specs.Refusals.{HasCause, RefusedOnly, RefusedMemoryOnly}
 use Rattle.thrift_compact.specs.Tree.{Node, i32, i64, binary, struct, Fields}
 use Rattle.thrift_compact.specs.View.{nodes_of, fields_of}
 use Rattle.thrift_compact.specs.Shapes.{StructsWithBytesHaveTheShape, is_of_type, is_member, has_shape, each_has_shape, fields_have_shape, IsShapeless}
 use Rattle.schema.specs.Elements.{Element}
 use Rattle.metadata.specs.Records.{KeyValue, Statistics, ColumnMeta, ChunkMeta, GroupMeta, ColumnOrder, type_order, other_order, FileMeta, DataPageHeader, DictionaryPageHeader, DataPageHeaderV2, PageHeader}
-use Rattle.metadata.specs.ToTree.{Entry, present, present_of, written, truth, many, record_as, STRUCT, key_value_table, key_value_fields, statistics_table, statistics_fields, column_meta_table, column_meta_fields, chunk_meta_table, chunk_meta_fields, group_meta_table, group_meta_fields, column_order_fields, element_table, element_fields, file_meta_table, file_meta_fields, data_page_header_table, data_page_header_fields, dictionary_page_header_table, dictionary_page_header_fields, data_page_header_v2_table, data_page_header_v2_fields, page_header_table, page_header_fields}
+use Rattle.metadata.specs.Ids as ids
+use Rattle.metadata.specs.Begun.{fields_before, fields_after}
+use Rattle.metadata.specs.ToTree.{Entry, there, given, present, present_of, written, truth, many, record_as, STRUCT, key_value_table, key_value_fields, statistics_table, statistics_fields, column_meta_table, column_meta_fields, chunk_meta_table, chunk_meta_fields, group_meta_table, group_meta_fields, column_order_fields, element_table, element_fields, file_meta_table, file_meta_fields, data_page_header_table, data_page_header_fields, dictionary_page_header_table, dictionary_page_header_fields, data_page_header_v2_table, data_page_header_v2_fields, page_header_table, page_header_fields}
 use Rattle.schema.specs.Law.{IsWritable}
 use Rattle.metadata.specs.Kept.{KeepsWritten}
 
@@ -86,8 +88,16 @@ column_fits x = table_fits 27 (column_meta_table x)
 chunk_fits : (x : ChunkMeta) → IsTrue (fields_have_shape 28 (chunk_meta_fields x))
 chunk_fits x = table_fits 28 (chunk_meta_table x) (binary_fits 28 x.file_path, (i64_fits 28 x.file_offset, (column_fits x.meta_data, tt)))
 
-group_fits : (x : GroupMeta) → IsTrue (fields_have_shape 30 (group_meta_fields x))
+pub group_fits : (x : GroupMeta) → IsTrue (fields_have_shape 30 (group_meta_fields x))
 group_fits x = table_fits 30 (group_meta_table x) (all_fit 29 STRUCT (record_as chunk_meta_fields) chunk_fits x.columns, (i64_fits 30 x.total_byte_size, (refl, tt)))
+
+-- a chunk's struct by itself
+column_fits_alone : (x : ColumnMeta) → IsTrue (fields_have_shape 31 (column_meta_fields x))
+column_fits_alone x = table_fits 31 (column_meta_table x)
+    (refl, (given_fits 31 (many 5 i32) x.encodings (λ zs. all_fit 30 5 i32 (λ z. refl) zs), (all_fit 30 8 binary (λ text. refl) x.path_in_schema, (refl, (refl, (i64_fits 31 x.total_uncompressed_size, (i64_fits 31 x.total_compressed_size, (refl, (i64_fits 31 x.dictionary_page_offset, (given_fits 31 (record_as statistics_fields) x.statistics (statistics_fit 30), tt))))))))))
+
+pub chunk_fits_alone : (x : ChunkMeta) → IsTrue (fields_have_shape 32 (chunk_meta_fields x))
+chunk_fits_alone x = table_fits 32 (chunk_meta_table x) (binary_fits 32 x.file_path, (i64_fits 32 x.file_offset, (column_fits_alone x.meta_data, tt)))
 
 kept_fits : (s : Option Fields) → IfSome s (λ s. IsTrue (fields_have_shape 29 s)) → IfSome (option_map struct s) (Fits 30)
 kept_fits None p = tt
@@ -107,6 +117,15 @@ order_fits other_order = refl
 pub footer_fits : (m : FileMeta) → EachKeepsShape m → IsTrue (fields_have_shape 32 (file_meta_fields m))
 footer_fits m p = table_fits 32 (file_meta_table m)
     (i32_fits 32 m.version, (each_fits KeepsShape 31 STRUCT (record_as element_fields) m.schema element_fits p, (i64_fits 32 m.num_rows, (all_fit 31 STRUCT (record_as group_meta_fields) group_fits m.row_groups, (given_fits 32 (many STRUCT (record_as key_value_fields)) m.key_value_metadata (all_fit 31 STRUCT (record_as key_value_fields) pair_fits), (binary_fits 32 m.created_by, (given_fits 32 (many STRUCT (record_as column_order_fields)) m.column_orders (all_fit 31 STRUCT (record_as column_order_fields) order_fits), tt)))))))
+
+-- the fields of a footer before its groups, and those after them
+pub before_fits : (m : FileMeta) → EachKeepsShape m → IsTrue (fields_have_shape 32 (fields_of (fields_before m)))
+before_fits m p = table_fits 32 (given i32 ids.file_version m.version ∷ there (many STRUCT (record_as element_fields)) ids.file_schema m.schema ∷ given i64 ids.file_num_rows m.num_rows ∷ [])
+    (i32_fits 32 m.version, (each_fits KeepsShape 31 STRUCT (record_as element_fields) m.schema element_fits p, (i64_fits 32 m.num_rows, tt)))
+
+pub after_fits : (m : FileMeta) → IsTrue (fields_have_shape 32 (fields_of (fields_after m)))
+after_fits m = table_fits 32 (given (many STRUCT (record_as key_value_fields)) ids.file_key_value_metadata m.key_value_metadata ∷ given binary ids.file_created_by m.created_by ∷ given (many STRUCT (record_as column_order_fields)) ids.file_column_orders m.column_orders ∷ [])
+    (given_fits 32 (many STRUCT (record_as key_value_fields)) m.key_value_metadata (all_fit 31 STRUCT (record_as key_value_fields) pair_fits), (binary_fits 32 m.created_by, (given_fits 32 (many STRUCT (record_as column_order_fields)) m.column_orders (all_fit 31 STRUCT (record_as column_order_fields) order_fits), tt)))
 
 data_fits : (x : DataPageHeader) → IsTrue (fields_have_shape 31 (data_page_header_fields x))
 data_fits x = table_fits 31 (data_page_header_table x)
@@ -140,10 +159,19 @@ pub not_shapeless : (b : Bool) → IsTrue b → b ≡ false → ⊥
 not_shapeless true p e = not_true (sym e)
 not_shapeless false p e = not_true p
 
-because : (b : Bool) (Q : Type 0) (e : Refusal) → (b ≡ false → Q) → HasCause (IsShapeless b) e → HasCause (λ f. (f ≡ Thrift) × Q) e
+pub because : (b : Bool) (Q : Type 0) (e : Refusal) → (b ≡ false → Q) → HasCause (IsShapeless b) e → HasCause (λ f. (f ≡ Thrift) × Q) e
 because b Q Memory gives p = p
 because b Q e gives p = (p.0, gives p.1)
 
 pub refused_where : {X : Type 0} (b : Bool) (Q : Type 0) (r : Result X Refusal) → (b ≡ false → Q) → RefusedOnly (IsShapeless b) r → RefusedOnly (λ e. (e ≡ Thrift) × Q) r
 refused_where b Q (Ok x) gives p = p
 refused_where b Q (Err e) gives p = because b Q e gives p
+
+-- what has the shape is refused for memory only
+pub memory_left : (b : Bool) (e : Refusal) → IsTrue b → HasCause (IsShapeless b) e → HasCause (λ f. ⊥) e
+memory_left b Memory fits p = p
+memory_left b e fits p = not_shapeless b fits p.1
+
+pub memory_only : {X : Type 0} (b : Bool) (r : Result X Refusal) → IsTrue b → RefusedOnly (IsShapeless b) r → RefusedMemoryOnly r
+memory_only b (Ok x) fits p = p
+memory_only b (Err e) fits p = memory_left b e fits p

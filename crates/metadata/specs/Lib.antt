@@ -7,4 +7,5 @@ pub mod Views
 pub mod Answers
 pub mod Weight
 pub mod Kept
+pub mod Begun
 pub mod inner

@@ -1,7 +1,9 @@
 //! ChunkMeta: the struct, how it is read and how it is written.
 
-ghost use Rattle.std.specs.Prelude.{◌≡◌, IfOk, refl};
-ghost use Rattle.bits.specs.Refusals.{RefusedMemoryOnly};
+ghost use Rattle.std.specs.Prelude.{◌≡◌, ◌≤◌, ◌⊎◌, length, IfOk, OnOk, OnErr, refl};
+ghost use Rattle.bits.specs.Refusals.{OnFault, RefusedOnly, RefusedMemoryOnly};
+ghost use Rattle.bits.specs.Codec.{NothingStands};
+ghost use Rattle.thrift_compact.specs.Length.{size_struct, AppendsStruct};
 ghost use Rattle.thrift_compact.specs.View.{field_views, tree_view};
 ghost use Rattle.metadata.specs.FieldValues.{record_by};
 ghost use Rattle.metadata.specs.ToTree.{chunk_meta_fields, record_as, STRUCT};
@@ -9,7 +11,7 @@ ghost use Rattle.metadata.specs.FromTree.{chunk_meta};
 ghost use Rattle.metadata.specs.Records.{ChunkMeta as ChunkMetaShown};
 ghost use Rattle.metadata.specs.Views.{chunk_meta_view};
 ghost use Rattle.metadata.specs.inner.Starts.{chunk_meta_start};
-ghost use Rattle.metadata.specs.Answers.{IsRecordOf};
+ghost use Rattle.metadata.specs.Answers.{IsRecordOf, StandsFor, AppendsRecord};
 
 use crate::column_meta::ColumnMeta;
 use crate::copies::copied_text;
@@ -19,7 +21,7 @@ use crate::put::{ToElement, ToNode, put, put_given};
 use crate::slots::{Known, Needed, Others, Slots, optional, read_row, required};
 use bits::{R, Refusal};
 use std::alloc::Global;
-use thrift_compact::{ElementType, Field, Node, Tree, Unread};
+use thrift_compact::{ElementType, Field, Node, Tree, Unread, write_struct};
 
 /// A ColumnChunk (`parquet.thrift`): where a column of a group stands.
 #[derive(Debug, Drop)]
@@ -39,6 +41,20 @@ impl ChunkMeta {
         chunk_meta_of(alloc, tree.fields.as_slice())
     }
 
+    /// The record of the struct at the start of the bytes, and how many bytes that struct takes;
+    /// what follows is not looked at. By one pass over the struct's bytes.
+    ///
+    /// Refused Truncated or Thrift only where no prefix of the bytes is such a record.
+    pub fn read(alloc: Global, bytes: &[u8]) -> R<(ChunkMeta, usize)>
+        ensures stands { IfOk result (λ x. StandsFor chunk_meta bytes.now (chunk_meta_view x.0) x.1) }
+        ensures within { IfOk result (λ x. x.1 ≤ length bytes.now) }
+        ensures only { OnFault result (NothingStands (StandsFor chunk_meta bytes.now)) }
+        ensures which { RefusedOnly (λ e. (e ≡ Refusal.Truncated) ⊎ (e ≡ Refusal.Thrift)) result }
+    {
+        let (record, used) = ChunkMeta::from_unread(alloc, Unread::of_struct(bytes))?;
+        Ok((record, used))
+    }
+
     /// The struct of the record, in the order of the ids; what is absent is left out. Refused only
     /// Memory.
     pub fn to_tree(&self, alloc: Global) -> R<Tree>
@@ -47,6 +63,20 @@ impl ChunkMeta {
     {
         let fields = fields_of_chunk_meta(alloc, self)?;
         Ok(Tree { fields })
+    }
+
+    /// Writes the struct of the record at the end of `out`, and nothing else, in the fewest bytes that it
+    /// has. What is written is read as this record, whatever follows it. It fails only when out of memory;
+    /// then `out` is unchanged.
+    pub fn write(&self, alloc: Global, out: &mut Vec<u8>) -> R<()>
+        ensures stands { OnOk result (AppendsStruct (chunk_meta_fields (chunk_meta_view self.now)) out.old.items out.new.items) }
+        ensures read_again { let seen = chunk_meta_view self.now in
+            OnOk result (AppendsRecord chunk_meta seen (size_struct (chunk_meta_fields seen)) out.old.items out.new.items) }
+        ensures which { RefusedMemoryOnly result }
+        ensures unchanged { OnErr result (out.new.items ≡ out.old.items) }
+    {
+        let tree = self.to_tree(alloc)?;
+        write_struct(&tree, out)
     }
 
     /// A copy. It fails only when out of memory; time and room are linear in what the record holds. (A caller that gives

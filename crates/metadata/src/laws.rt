@@ -42,6 +42,13 @@ pub fn one_footer()
     one_struct();
 }
 
+/// A prefix of the bytes stands for at most one record of a chunk.
+pub fn one_chunk()
+    ensures { IsFunctional (StandsFor chunk_meta) }
+{
+    one_struct();
+}
+
 /// A prefix of the bytes stands for at most one page header.
 pub fn one_page_header()
     ensures { IsFunctional (StandsFor page_header) }

@@ -24,6 +24,7 @@ mod data_page_header_v2;
 mod dictionary_page_header;
 mod element;
 mod file_meta;
+mod footer_pieces;
 mod group_meta;
 mod ids;
 mod key_value;
@@ -44,6 +45,8 @@ pub use element::{element_from_tree, element_to_tree};
 pub use file_meta::FileMeta;
 pub use group_meta::GroupMeta;
 pub use key_value::KeyValue;
-pub use laws::{footer_again, one_footer, one_page_header, page_header_again, records_again};
+pub use laws::{
+    footer_again, one_chunk, one_footer, one_page_header, page_header_again, records_again,
+};
 pub use page_header::{DATA_PAGE, DATA_PAGE_V2, DICTIONARY_PAGE, PageHeader};
 pub use statistics::Statistics;

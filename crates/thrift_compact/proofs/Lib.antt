@@ -19,6 +19,7 @@ pub mod Most
 pub mod Spelled
 pub mod Steps
 pub mod Writes
+pub mod WrittenPieces
 pub mod Again
 pub mod Texts
 pub mod Passed

@@ -15,6 +15,7 @@ use Rattle.thrift_compact.specs.Tree.{Node, i16, i32, double, binary, list, map,
 use Rattle.thrift_compact.specs.Compact.{IsByte, IsBinary, IsListHead, IsMapHead, IsThrift, IsFieldHead, IsValue, AreFields, kind}
 use Rattle.thrift_compact.specs.View.{view, views, pair_views, field_view, field_views}
 use Rattle.thrift_compact.specs.Length.{size_length, size_i64, size_i32, size_i16, size_list_head, size_struct, size_value, size_elements, size_pairs, size_field_head, size_fields}
+use Rattle.thrift_compact.specs.Piecewise.{AreBegun, size_begun, last_id}
 use Rattle.thrift_compact.specs.inner.Writing.{IsWithoutBytes, SpellsValue, SpellsElement, SpellsElements, SpellsPair, SpellsPairs, SpellsField, SpellsFields, IsShortestSigned}
 use Rattle.thrift_compact.proofs.Elements.{append, views_push}
 use Rattle.thrift_compact.proofs.PairsRead.{append_pairs, pair_views_push}
@@ -41,7 +42,7 @@ pub count_views : (xs : List CodeNode) → count (views xs) ≡ length xs
 count_views [] = refl
 count_views (x ∷ xs) = ap suc (count_views xs)
 
-push : (xs : Nodes) (x : Node) (code left : ℕ) (bytes : List ℕ) (u v : ℕ) → SpellsElements code left xs bytes u → SpellsElement code left x (drop u bytes) v → SpellsElements code left (append xs (node x no_nodes)) bytes (u + v)
+pub push : (xs : Nodes) (x : Node) (code left : ℕ) (bytes : List ℕ) (u v : ℕ) → SpellsElements code left xs bytes u → SpellsElement code left x (drop u bytes) v → SpellsElements code left (append xs (node x no_nodes)) bytes (u + v)
 push no_nodes x code left bytes u v p q =
     let q2 = subst (λ (n : ℕ). IsValue x (drop n bytes) v) p.1 q.2 in
     (omega (arith, q.1), (q.0, (v, 0, q2, refl, omega (arith, p.1))))
@@ -51,7 +52,7 @@ push (node y ys) x code left bytes u v p q =
     let r = push ys x code left (drop p.1.1.0 bytes) p.1.1.1 v (omega (arith, p.0), p.1.1.3) (q.0, q.1, q2) in
     (omega (arith, p.0, r.0), (p.1.0, (p.1.1.0, p.1.1.1 + v, p.1.1.2, r.1, omega (arith, p.1.1.4))))
 
-size_push : (xs : Nodes) (x : Node) → size_elements (append xs (node x no_nodes)) ≡ size_elements xs + size_value x
+pub size_push : (xs : Nodes) (x : Node) → size_elements (append xs (node x no_nodes)) ≡ size_elements xs + size_value x
 size_push no_nodes x = omega arith
 size_push (node y ys) x = omega (arith, size_push ys x)
 
@@ -117,17 +118,8 @@ pair_of (x ∷ ps) (suc i) d k l left lt bytes used p = let f = p.1.2 in pair_of
 
 -- ---- fields
 
--- fields without the byte that ends them; `last` is the last one's id
-abbrev pub Begun : ℕ → Fields → ℤ → ℤ → List ℕ → ℕ → Type 0
-Begun left no_fields previous last bytes used = (used ≡ 0) × (last ≡ previous)
-Begun left (field id x fs) previous last bytes used = (u v w : ℕ) × IsFieldHead previous bytes id (kind x) u × SpellsValue left x (drop u bytes) v × Begun left fs id last (drop (u + v) bytes) w × (used ≡ u + v + w)
-
-abbrev pub size_begun : Fields → ℤ → ℕ
-size_begun no_fields previous = 0
-size_begun (field id x fs) previous = size_field_head previous id + size_value x + size_begun fs id
-
-push_field : (fs : Fields) (id : ℤ) (x : Node) (left : ℕ) (previous last : ℤ) (bytes : List ℕ) (u v : ℕ) → Begun left fs previous last bytes u → SpellsField last left id x (drop u bytes) v
-    → Begun left (append_fields fs (field id x no_fields)) previous id bytes (u + v)
+pub push_field : (fs : Fields) (id : ℤ) (x : Node) (left : ℕ) (previous last : ℤ) (bytes : List ℕ) (u v : ℕ) → AreBegun left fs previous last bytes u → SpellsField last left id x (drop u bytes) v
+    → AreBegun left (append_fields fs (field id x no_fields)) previous id bytes (u + v)
 push_field no_fields id x left previous last bytes u v p q =
     let q1 = subst (λ (n : ℕ). SpellsField last left id x (drop n bytes) v) p.0 q in
     let q2 = subst (λ (z : ℤ). SpellsField z left id x bytes v) p.1 q1 in
@@ -137,11 +129,11 @@ push_field (field jd y fs) id x left previous last bytes u v p q =
     let q2 = subst (λ (c : List ℕ). SpellsField last left id x c v) (sym e) q in
     (p.0, p.1, p.2 + v, p.3, p.4, push_field fs id x left jd last (drop (p.0 + p.1) bytes) p.2 v p.5 q2, omega (arith, p.6))
 
-last_of : (fs : Fields) (left : ℕ) (previous last : ℤ) (bytes : List ℕ) (u : ℕ) → Begun left fs previous last bytes u → (id : ℤ) (x : Node) → size_begun (append_fields fs (field id x no_fields)) previous ≡ size_begun fs previous + (size_field_head last id + size_value x)
-last_of no_fields left previous last bytes u p id x = let e : size_field_head previous id ≡ size_field_head last id = ap (λ (z : ℤ). size_field_head z id) (sym p.1) in omega (arith, e)
-last_of (field jd y fs) left previous last bytes u p id x = omega (arith, last_of fs left jd last (drop (p.0 + p.1) bytes) p.2 p.5 id x)
+pub size_more : (fs : Fields) (left : ℕ) (previous last : ℤ) (bytes : List ℕ) (u : ℕ) → AreBegun left fs previous last bytes u → (id : ℤ) (x : Node) → size_begun (append_fields fs (field id x no_fields)) previous ≡ size_begun fs previous + (size_field_head last id + size_value x)
+size_more no_fields left previous last bytes u p id x = let e : size_field_head previous id ≡ size_field_head last id = ap (λ (z : ℤ). size_field_head z id) (sym p.1) in omega (arith, e)
+size_more (field jd y fs) left previous last bytes u p id x = omega (arith, size_more fs left jd last (drop (p.0 + p.1) bytes) p.2 p.5 id x)
 
-finish : (fs : Fields) (left : ℕ) (previous last : ℤ) (bytes : List ℕ) (u v : ℕ) → Begun left fs previous last bytes u → IsByte (drop u bytes) 0 v → (fields_nest fs ≤ left) × AreFields fs previous bytes (u + v)
+pub finish : (fs : Fields) (left : ℕ) (previous last : ℤ) (bytes : List ℕ) (u v : ℕ) → AreBegun left fs previous last bytes u → IsByte (drop u bytes) 0 v → (fields_nest fs ≤ left) × AreFields fs previous bytes (u + v)
 finish no_fields left previous last bytes u v p q =
     let b = subst (λ (n : ℕ). IsByte (drop n bytes) 0 v) p.0 q in
     (omega arith, subst (λ (n : ℕ). IsByte bytes 0 n) (let e : v ≡ u + v = omega (arith, p.0) in e) b)
@@ -150,7 +142,7 @@ finish (field id x fs) left previous last bytes u v p q =
     let r = finish fs left id last (drop (p.0 + p.1) bytes) p.2 v p.5 (subst (λ (c : List ℕ). IsByte c 0 v) (sym e) q) in
     (omega (arith, r.0, p.4.0), (p.0, p.1, p.2 + v, p.3, p.4.1, r.1, omega (arith, p.6)))
 
-size_end : (fs : Fields) (previous : ℤ) → size_fields fs previous ≡ size_begun fs previous + 1
+pub size_end : (fs : Fields) (previous : ℤ) → size_fields fs previous ≡ size_begun fs previous + 1
 size_end no_fields previous = refl
 size_end (field id x fs) previous = omega (arith, size_end fs id)
 
@@ -161,38 +153,34 @@ field_all previous id x k left old mid new is p q =
     (λ bytes u v a b. (u, v, subst (λ (j : ℕ). IsFieldHead previous bytes id j u) is a, b, refl)) p q
 
 pub fields_more : (fs : List Field) (i : ℕ) (d : Field) (left : ℕ) (last : ℤ) (old mid new : List ℕ) → i < length fs
-    → Appends (Begun left (field_views (take i fs)) (pos 0) last) (size_begun (field_views (take i fs)) (pos 0)) old mid
+    → Appends (AreBegun left (field_views (take i fs)) (pos 0) last) (size_begun (field_views (take i fs)) (pos 0)) old mid
     → Appends (SpellsField last left (field_view (get_or fs i d)).0 (field_view (get_or fs i d)).1) (size_field_head last (field_view (get_or fs i d)).0 + size_value (field_view (get_or fs i d)).1) mid new
-    → Appends (Begun left (field_views (take (i + 1) fs)) (pos 0) (field_view (get_or fs i d)).0) (size_begun (field_views (take (i + 1) fs)) (pos 0)) old new
+    → Appends (AreBegun left (field_views (take (i + 1) fs)) (pos 0) (field_view (get_or fs i d)).0) (size_begun (field_views (take (i + 1) fs)) (pos 0)) old new
 fields_more fs i d left last old mid new lt p q =
     let id = (field_view (get_or fs i d)).0 in
     let x = (field_view (get_or fs i d)).1 in
     let front = field_views (take i fs) in
     let e : field_views (take (i + 1) fs) ≡ append_fields front (field id x no_fields) = ap field_views (take_more fs i d lt) ∙ field_views_push (take i fs) (get_or fs i d) in
-    let a = appends_then (Begun left front (pos 0) last) (SpellsField last left id x) (Begun left (append_fields front (field id x no_fields)) (pos 0) id) (size_begun front (pos 0)) (size_field_head last id + size_value x) old mid new
+    let a = appends_then (AreBegun left front (pos 0) last) (SpellsField last left id x) (AreBegun left (append_fields front (field id x no_fields)) (pos 0) id) (size_begun front (pos 0)) (size_field_head last id + size_value x) old mid new
     (λ bytes u v. push_field front id x left (pos 0) last bytes u v) p q in
-    let m = last_of front left (pos 0) last (p.text ++ []) (length p.text) (p.stands []) id x in
-    let b = subst (λ (n : ℕ). Appends (Begun left (append_fields front (field id x no_fields)) (pos 0) id) n old new) (sym m) a in
-    subst (λ (gs : Fields). Appends (Begun left gs (pos 0) id) (size_begun gs (pos 0)) old new) (sym e) b
+    let m = size_more front left (pos 0) last (p.text ++ []) (length p.text) (p.stands []) id x in
+    let b = subst (λ (n : ℕ). Appends (AreBegun left (append_fields front (field id x no_fields)) (pos 0) id) n old new) (sym m) a in
+    subst (λ (gs : Fields). Appends (AreBegun left gs (pos 0) id) (size_begun gs (pos 0)) old new) (sym e) b
 
-pub fields_all : (fs : List Field) (i : ℕ) (left : ℕ) (last : ℤ) (old mid new : List ℕ) → length fs ≤ i → Appends (Begun left (field_views (take i fs)) (pos 0) last) (size_begun (field_views (take i fs)) (pos 0)) old mid
+pub fields_all : (fs : List Field) (i : ℕ) (left : ℕ) (last : ℤ) (old mid new : List ℕ) → length fs ≤ i → Appends (AreBegun left (field_views (take i fs)) (pos 0) last) (size_begun (field_views (take i fs)) (pos 0)) old mid
     → Appends (λ bytes. IsByte bytes 0) 1 mid new → Appends (SpellsFields left (field_views fs)) (size_fields (field_views fs) (pos 0)) old new
 fields_all fs i left last old mid new le p q =
-    let whole = subst (λ (gs : List Field). Appends (Begun left (field_views gs) (pos 0) last) (size_begun (field_views gs) (pos 0)) old mid) (take_all i fs le) p in
-    let a = appends_then (Begun left (field_views fs) (pos 0) last) (λ bytes. IsByte bytes 0) (SpellsFields left (field_views fs)) (size_begun (field_views fs) (pos 0)) 1 old mid new
+    let whole = subst (λ (gs : List Field). Appends (AreBegun left (field_views gs) (pos 0) last) (size_begun (field_views gs) (pos 0)) old mid) (take_all i fs le) p in
+    let a = appends_then (AreBegun left (field_views fs) (pos 0) last) (λ bytes. IsByte bytes 0) (SpellsFields left (field_views fs)) (size_begun (field_views fs) (pos 0)) 1 old mid new
     (λ bytes u v. finish (field_views fs) left (pos 0) last bytes u v) whole q in
     subst (λ (n : ℕ). Appends (SpellsFields left (field_views fs)) n old new) (sym (size_end (field_views fs) (pos 0))) a
 
 -- the last id that was written is the last field's
-abbrev pub last_id : Fields → ℤ → ℤ
-last_id no_fields previous = previous
-last_id (field id x fs) previous = last_id fs id
-
-last_is : (fs : Fields) (left : ℕ) (previous last : ℤ) (bytes : List ℕ) (u : ℕ) → Begun left fs previous last bytes u → last ≡ last_id fs previous
+pub last_is : (fs : Fields) (left : ℕ) (previous last : ℤ) (bytes : List ℕ) (u : ℕ) → AreBegun left fs previous last bytes u → last ≡ last_id fs previous
 last_is no_fields left previous last bytes u p = p.1
 last_is (field id x fs) left previous last bytes u p = last_is fs left id last (drop (p.0 + p.1) bytes) p.2 p.5
 
-pub begun_last : (fs : List Field) (i : ℕ) (left : ℕ) (last : ℤ) (old mid : List ℕ) → Appends (Begun left (field_views (take i fs)) (pos 0) last) (size_begun (field_views (take i fs)) (pos 0)) old mid → last ≡ last_id (field_views (take i fs)) (pos 0)
+pub begun_last : (fs : List Field) (i : ℕ) (left : ℕ) (last : ℤ) (old mid : List ℕ) → Appends (AreBegun left (field_views (take i fs)) (pos 0) last) (size_begun (field_views (take i fs)) (pos 0)) old mid → last ≡ last_id (field_views (take i fs)) (pos 0)
 begun_last fs i left last old mid p = last_is (field_views (take i fs)) left (pos 0) last (p.text ++ []) (length p.text) (p.stands [])
 
 field_there : (fs : List Field) (i : ℕ) (d : Field) (left : ℕ) (previous last : ℤ) → i < length fs → last ≡ last_id (field_views (take i fs)) previous → (bytes : List ℕ) (used : ℕ) → (fields_nest (field_views fs) ≤ left) × AreFields (field_views fs) previous bytes used

@@ -7,4 +7,5 @@ pub mod Length
 pub mod Writable
 pub mod Shapes
 pub mod Law
+pub mod Piecewise
 pub mod inner

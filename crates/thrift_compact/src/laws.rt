@@ -5,6 +5,7 @@ ghost use Rattle.bits.specs.Codec.{IsFunctional};
 ghost use Rattle.thrift_compact.specs.Compact.{IsThrift};
 ghost use Rattle.thrift_compact.specs.Law.{StructsStay, ValuesStay, CutStructsDoNotStand, WrittenStructsStand, WrittenStructsAreNoOthers};
 ghost use Rattle.thrift_compact.specs.Length.{NoSpellingIsShorter};
+ghost use Rattle.thrift_compact.specs.Piecewise.{StructsBeginEmpty, ListsEnd};
 ghost use Rattle.thrift_compact.specs.Shapes.{StructsWithBytesHaveTheShape};
 ghost use Rattle.thrift_compact.specs.Values.{ValueOf};
 
@@ -51,4 +52,10 @@ pub fn structs_with_bytes_have_the_shape()
 /// there is one.
 pub fn no_spelling_is_shorter()
     ensures { NoSpellingIsShorter }
+{}
+
+/// A struct without fields is begun by no bytes, and a list all of whose elements are written is a field.
+pub fn structs_are_written_in_pieces()
+    ensures begins { StructsBeginEmpty }
+    ensures ends { ListsEnd }
 {}

@@ -9,6 +9,7 @@ mod heads;
 mod laws;
 mod numbers;
 mod passing;
+mod piecewise;
 mod reading;
 mod sameness;
 mod taking;
@@ -19,9 +20,10 @@ mod writing;
 
 pub use copying::copied_fields;
 pub use laws::{
-    no_spelling_is_shorter, one_struct, one_value, structs_with_bytes_have_the_shape,
-    what_follows_changes_nothing, what_is_written_is_read_again,
+    no_spelling_is_shorter, one_struct, one_value, structs_are_written_in_pieces,
+    structs_with_bytes_have_the_shape, what_follows_changes_nothing, what_is_written_is_read_again,
 };
+pub use piecewise::{put_end, put_list_start, put_next_fields, put_next_struct};
 pub use reading::read_struct;
 pub use taking::{TakesElements, TakesFields};
 pub use tree::{ElementType, Field, Node, Tree};

@@ -50,7 +50,7 @@ pub fn write_struct(tree: &Tree, out: &mut Vec<u8>) -> R<()>
 
 /// Fields and the byte that ends them.
 #[cycle(write)]
-fn put_fields(fields: &[Field], left: u32, out: &mut Vec<u8>) -> R<()>
+pub(crate) fn put_fields(fields: &[Field], left: u32, out: &mut Vec<u8>) -> R<()>
     ensures stands { OnOk result (Appends (SpellsFields left (field_views fields.now)) (size_struct (field_views fields.now)) out.old.items out.new.items) }
     ensures which { RefusedOnly (IsWithoutBytes (SpellsFields left (field_views fields.now))) result }
     ensures kept { Keeps out.old.items out.new.items }
@@ -65,7 +65,7 @@ fn put_fields(fields: &[Field], left: u32, out: &mut Vec<u8>) -> R<()>
 }
 
 #[cycle(write)]
-fn put_field(previous: i16, field: &Field, left: u32, out: &mut Vec<u8>) -> R<()>
+pub(crate) fn put_field(previous: i16, field: &Field, left: u32, out: &mut Vec<u8>) -> R<()>
     ensures stands { let seen = field_view field.now in OnOk result (AppendsField previous left seen.0 seen.1 out.old.items out.new.items) }
     ensures which { let seen = field_view field.now in RefusedOnly (IsWithoutBytes (SpellsField previous left seen.0 seen.1)) result }
     ensures kept { Keeps out.old.items out.new.items }

@@ -11,6 +11,7 @@ use Rattle.thrift_compact.specs.declared.tree.Field.{Field}
 use Rattle.thrift_compact.specs.Compact.{IsFieldHead}
 use Rattle.thrift_compact.specs.View.{view, views, pair_views, field_view, field_views}
 use Rattle.thrift_compact.specs.Length.{size_i64, size_value, size_field_head}
+use Rattle.thrift_compact.specs.Piecewise.{AreBegun, size_begun}
 use Rattle.thrift_compact.specs.inner.Writing.{SpellsValue, SpellsElement, SpellsElements, SpellsPair, SpellsPairs, SpellsField, SpellsFields, IsWithoutBytes, IsShortestSigned}
 use Rattle.thrift_compact.proofs.Appending.{ok_then, appends_so, appends_then, keeps_then, pushed}
 use Rattle.thrift_compact.proofs.Writes as writes
@@ -108,7 +109,7 @@ put_fields-loop-field-preserved t c =
     let fits : FitsSigned w16 f.id = search rules in
     let last_is = ap (λ (y : Field). (field_view y).0) (sym c.field-item.is) ∙ ap (λ (p : ℤ × Node). p.0) e ∙ sym (to_z-of_z w16 f.id fits) in
     let front = field_views (take (c.loop-field.field-index + 1) c.args.fields.now) in
-    subst (λ (z : ℤ). Appends (writes.Begun c.args.left front (pos 0) z) (writes.size_begun front (pos 0)) c.args.out.now.items c.put_field.new.out.items) last_is m
+    subst (λ (z : ℤ). Appends (AreBegun c.args.left front (pos 0) z) (size_begun front (pos 0)) c.args.out.now.items c.put_field.new.out.items) last_is m
 
 pub put_fields-returns-clause-stands : goal.put_fields-returns-clause-stands
 put_fields-returns-clause-stands t c =

@@ -4,7 +4,7 @@ use Rattle.bits.specs.Codec.{Appends}
 use Rattle.thrift_compact.specs.View.{views, pair_views, field_views}
 use Rattle.thrift_compact.specs.Length.{size_elements, size_pairs}
 use Rattle.thrift_compact.specs.inner.Writing.{SpellsElements, SpellsPairs}
-use Rattle.thrift_compact.proofs.Writes.{Begun, size_begun}
+use Rattle.thrift_compact.specs.Piecewise.{AreBegun, size_begun}
 use Rattle.thrift_compact.proofs.writing.+write.Given as goal
 
 abbrev pub decreases-put_value : goal.decreases-put_value
@@ -44,4 +44,4 @@ abbrev pub invariant-put_pairs-loop-pair : goal.invariant-put_pairs-loop-pair
 invariant-put_pairs-loop-pair l = let front = pair_views (take l.pair-index l.pairs) in Appends (SpellsPairs l.keys l.values l.left front) (size_pairs front) l.fn.out.items l.out.items
 
 abbrev pub invariant-put_fields-loop-field : goal.invariant-put_fields-loop-field
-invariant-put_fields-loop-field l = let front = field_views (take l.field-index l.fields) in Appends (Begun l.left front (pos 0) l.previous) (size_begun front (pos 0)) l.fn.out.items l.out.items
+invariant-put_fields-loop-field l = let front = field_views (take l.field-index l.fields) in Appends (AreBegun l.left front (pos 0) l.previous) (size_begun front (pos 0)) l.fn.out.items l.out.items
