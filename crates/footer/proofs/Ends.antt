@@ -4,7 +4,9 @@ use Rattle.std.proofs.lemmas.List.{append-nil, drop_at}
 use Rattle.thrift_compact.specs.Compact.{IsThrift}
 use Rattle.byteorder.specs.Endian.{little_bytes, little_number}
 use Rattle.byteorder.specs.Numbers.{little_number-reads_back}
-use Rattle.std.specs.Prelude.{Result, Ok, Err, Some, OnOk}
+use Rattle.std.proofs.Common.{Vec, Global}
+use Rattle.std.specs.Prelude.{Result, Ok, Err, Some, IfOk, OnOk}
+use Rattle.thrift_compact.specs.Length.{AppendsStruct}
 use Rattle.bits.specs.declared.refusal.Refusal.{Refusal}
 use Rattle.bits.specs.declared.refusal.Refusal.TheVariants.{Memory}
 use Rattle.bits.specs.Refusals.{RefusedOnly}
@@ -59,3 +61,9 @@ pub never : {X : Type 0} (Cause : Refusal → Type 0) (P : Type 0) (r : Result X
 never Cause P (Ok x) p only = tt
 never Cause P (Err Memory) p only = tt
 never Cause P (Err e) p only = absurd (only.1 p)
+
+-- a file that is closed after its record ends with it
+pub closed : (front mid : List ℕ) (start : ℕ) (meta : FileMeta) (r : Result (Vec ℕ Global) Refusal) → length front ≡ start → AppendsStruct (file_meta_fields meta) front mid
+    → IfOk r (λ file. (front : List ℕ) (meta : FileMeta) → length front ≡ start → AppendsStruct (file_meta_fields meta) front mid → EndsWith front meta file.items) → IfOk r (λ file. EndsWith front meta file.items)
+closed front mid start meta (Ok file) begins added all = all front meta begins added
+closed front mid start meta (Err e) begins added all = tt

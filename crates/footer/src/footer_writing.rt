@@ -1,11 +1,12 @@
 //! The end of a file that is written: the footer, its length, and the magic.
 
-ghost use Rattle.std.specs.Prelude.{◌≡◌, ◌⊎◌, ◌+◌, ◌<◌, ◌≤◌, ◌++◌, List, ℕ, length, IfOk, OnOk, Err};
+ghost use Rattle.std.specs.Prelude.{◌≡◌, ◌⊎◌, ◌+◌, ◌-◌, ◌<◌, ◌≤◌, ◌++◌, List, ℕ, length, IfOk, OnOk, Err};
 ghost use Rattle.bits.specs.Codec.{Appends};
 ghost use Rattle.bits.specs.Refusals.{RefusedOnly, RefusedMemoryOnly};
 ghost use Rattle.byteorder.specs.Endian.{little_bytes};
 ghost use Rattle.thrift_compact.specs.Compact.{IsThrift};
-ghost use Rattle.thrift_compact.specs.Length.{size_struct};
+ghost use Rattle.thrift_compact.specs.Length.{size_struct, AppendsStruct};
+ghost use Rattle.metadata.specs.Records.{FileMeta as FileMetaShown};
 ghost use Rattle.metadata.specs.ToTree.{file_meta_fields};
 ghost use Rattle.metadata.specs.Views.{file_meta_view};
 ghost use Rattle.metadata.specs.Kept.{EachKeepsWritten};
@@ -41,11 +42,28 @@ pub fn with_footer(alloc: Global, front: Vec<u8>, meta: &FileMeta) -> R<Vec<u8>>
         → (most_of_footer < footer_weight keys seen) ⊎ (most_of_file < length front.items + 8 + footer_weight keys seen) }
     ensures which { RefusedOnly (λ e. e ≡ Refusal.Limit) result }
 {
-    footer_again();
+    let start = front.len();
     let mut out = front;
-    let start = out.len();
     write_record(alloc, meta, &mut out)?;
-    let size = out.len() - start;
+    close_file(out, start)
+}
+
+/// The file of these bytes, of which those from `start` on are the record of its footer: the bytes, the footer's length
+/// in four bytes, and `PAR1`. So a footer can be written that is no record in memory, as [`FileMeta::begin`] does it.
+///
+/// Refused Limit exactly when the footer is longer than 16 MiB, or the file than 2^31 - 1 bytes, out of memory aside.
+/// Takes no time but for the twelve bytes.
+pub fn close_file(out: Vec<u8>, start: usize) -> R<Vec<u8>>
+    ensures stands { IfOk result (λ file. (front : List ℕ) (meta : FileMetaShown) → length front ≡ start → AppendsStruct (file_meta_fields meta) front out.items → EndsWith front meta file.items) }
+    ensures size { IfOk result (λ file. length file.items ≤ most_of_file) }
+    ensures footer_size { IfOk result (λ file. (before footer : List ℕ) → IsFramed file.items before footer → length footer ≤ most_of_footer) }
+    ensures within_limits { IfOk result (λ file. IsLong file.items → ⊥) }
+    ensures limit { result ≡ Err Refusal.Limit → (most_of_footer < length out.items - start) ⊎ (most_of_file < length out.items + 8) }
+    ensures which { RefusedOnly (λ e. e ≡ Refusal.Limit) result }
+{
+    footer_again();
+    let mut out = out;
+    let size = out.len().saturating_sub(start);
     if size > MOST_BYTES_OF_FOOTER || out.len() > MOST_BYTES_OF_FILE - 8 {
         return Err(Refusal::Limit);
     }

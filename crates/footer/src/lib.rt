@@ -24,7 +24,7 @@ pub use file_reader::{FileReader, read_file};
 pub use file_writer::FileWriter;
 pub use file_writing::write_file;
 pub use footer_reading::read_footer;
-pub use footer_writing::with_footer;
+pub use footer_writing::{close_file, with_footer};
 pub use laws::{chunks_have_the_dictionaries_asked_for, one_list_of_first_rows, one_list_of_rows};
 pub use limits::{MAGIC, MOST_BYTES_OF_FILE, MOST_BYTES_OF_FOOTER};
 pub use options::WriteOptions;

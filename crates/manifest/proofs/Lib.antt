@@ -27,3 +27,4 @@ pub mod WithinBits
 pub mod OwnRoots
 pub mod WrittenRoots
 pub mod Unplacing
+pub mod PutGroups

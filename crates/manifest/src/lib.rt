@@ -10,7 +10,6 @@ mod builder;
 mod chunk_reading;
 mod copies;
 mod description;
-mod ending;
 mod fronts;
 mod group;
 mod group_reading;

@@ -1,54 +1,23 @@
-use Rattle.std.proofs.Common.{◌≡◌, ◌<◌, ◌^◌, ◌∙◌, ◌∷◌, [], ℕ, pos, List, Some, length, map, replicate, ap, sym, subst, arith, Err}
+use Rattle.std.proofs.Common.{◌≡◌, ◌<◌, ◌^◌, ◌∙◌, ◌∷◌, [], ℕ, pos, List, Some, length, map, replicate, ap, sym, subst, arith}
 use Rattle.std.specs.Prelude.{sum_by, codes}
 use Rattle.std.specs.List.{AllByRecursion}
 use Rattle.std.specs.Fmt.{decimal}
 use Rattle.std.proofs.lemmas.List.{length-map}
-use Rattle.bits.specs.declared.refusal.Refusal.TheVariants.{Limit}
 use Rattle.serde_json.specs.Written.{compact_text}
 use Rattle.schema.specs.Elements.{Element}
 use Rattle.schema.specs.Listed.{elements_of}
-use Rattle.schema.specs.Shape.{Fields}
 use Rattle.schema.specs.Stripe.{Leaf, leaves_of}
 use Rattle.schema.specs.Views.{leaf_view}
 use Rattle.schema.specs.Keys.{KeyColumn, key_columns_view}
 use Rattle.metadata.specs.Kept.{KeepsWritten}
-use Rattle.metadata.specs.Records.{GroupMeta, type_order}
-use Rattle.metadata.specs.declared.group_meta.GroupMeta.{GroupMeta as CodeGroupMeta}
-use Rattle.metadata.specs.Views.{group_meta_view}
+use Rattle.metadata.specs.Records.{type_order}
 use Rattle.footer.proofs.Writable.{elements_writable}
-use Rattle.partition.specs.Folders.{CanPartition}
-use Rattle.manifest.specs.Groups.{Group, Root, groups_in}
-use Rattle.manifest.specs.Root.{IsDescription, IsKeysText, keys_data, stored_of}
-use Rattle.manifest.specs.Laid.{group_record, size_by}
-use Rattle.manifest.specs.inner.Writing.{IsRootOf, IsSized}
-use Rattle.manifest.proofs.Summed.{recorded_rows, signed_back, as_signed}
-use Rattle.manifest.proofs.GroupLists.{same_refusal}
-use Rattle.manifest.proofs.WithinBits.{rows_within, described_sized, each_keyed}
-use Rattle.manifest.proofs.OwnRoots.{many_too_heavy}
+use Rattle.manifest.specs.Groups.{Group, groups_in}
+use Rattle.manifest.specs.Root.{IsKeysText, keys_data, stored_of}
+use Rattle.manifest.specs.Laid.{group_record}
+use Rattle.manifest.proofs.Summed.{signed_back, as_signed}
+use Rattle.manifest.proofs.WithinBits.{rows_within}
 use Rattle.manifest.proofs.writing.record_of.Goals as goal
-
-pub returns-in_err-row_groups-clause-limit : goal.returns-in_err-row_groups-clause-limit
-returns-in_err-row_groups-clause-limit c = λ is root d parts.
-    let same = same_refusal c.from_residual.result c.in_err-row_groups.field-0.0 Limit c.from_residual.ensures.1 is in
-    let keyed = each_keyed root.keys (stored_of root) root.groups d.each in
-    absurd (c.in_err-row_groups.ensures.limit (ap Err same)
-    (subst (λ (gs : List Group). AllByRecursion (λ (g : Group). CanPartition (key_columns_view c.args.keys.now) g.key) gs) parts.groups_are
-    (subst (λ (ks : List KeyColumn). AllByRecursion (λ (g : Group). CanPartition ks g.key) root.groups) parts.keys_are keyed)))
-
--- the records of all groups
-recorded : (keys : List KeyColumn) (gs : List Group) (rs : List CodeGroupMeta) (root : Root) (stored : Fields) (next : ℕ) → IsDescription root → IsRootOf root stored keys next gs
-    → (AllByRecursion IsSized gs → map group_meta_view rs ≡ map (group_record keys) gs) → map group_meta_view rs ≡ map (group_record root.keys) root.groups
-recorded keys gs rs root stored next d parts made =
-    made (subst (λ (xs : List Group). AllByRecursion IsSized xs) parts.groups_are (described_sized root d)) ∙ (λ i. map (group_record (sym parts.keys_are i)) (sym parts.groups_are i))
-
-counted : (rs : List CodeGroupMeta) (root : Root) → map group_meta_view rs ≡ map (group_record root.keys) root.groups → length rs ≡ length root.groups
-counted rs root e = sym (length-map rs group_meta_view) ∙ ap (λ (ms : List GroupMeta). length ms) e ∙ length-map root.groups (group_record root.keys)
-
-pub returns-then-len-ge-MOST_GROUPS-clause-limit : goal.returns-then-len-ge-MOST_GROUPS-clause-limit
-returns-then-len-ge-MOST_GROUPS-clause-limit c = λ e root d parts.
-    let rs = c.in_ok-row_groups.row_groups.items in
-    let count = counted rs root (recorded (key_columns_view c.args.keys.now) (groups_in c.args.groups.now) rs root c.args.stored.now c.args.next d parts c.in_ok-row_groups.ensures.records) in
-    many_too_heavy root (omega (arith, count, c.len.ensures, c.if-len-ge-MOST_GROUPS.true))
 
 pub returns-clause-writable : goal.returns-clause-writable
 returns-clause-writable c =
@@ -60,17 +29,11 @@ returns-clause-keys_are c =
     subst (λ (t : List ℕ). IsKeysText t (key_columns_view c.args.keys.now)) text.compact text
 
 pub returns-clause-record_is : goal.returns-clause-record_is
-returns-clause-record_is c = λ root d parts.
-    let stored = c.args.stored.now in
-    let rs = c.in_ok-row_groups.row_groups.items in
-    let records = recorded (key_columns_view c.args.keys.now) (groups_in c.args.groups.now) rs root stored c.args.next d parts c.in_ok-row_groups.ensures.records in
-    let count = counted rs root records in
+returns-clause-record_is c = λ root d few parts.
     let within = rows_within root.keys (stored_of root) root.groups d.each in
     let total = sum_by (λ (g : Group). g.known.rows) root.groups in
-    let small : total < 2 ^ 63 = omega (arith, within, count, c.len.ensures, c.if-len-ge-MOST_GROUPS.false) in
-    let seen : sum_by (λ (g : GroupMeta). size_by (Some g.num_rows)) (map group_meta_view c.as_slice.result.now) ≡ total
-    = ap (λ (xs : List CodeGroupMeta). sum_by (λ (g : GroupMeta). size_by (Some g.num_rows)) (map group_meta_view xs)) c.as_slice.ensures.value
-    ∙ ap (λ (ms : List GroupMeta). sum_by (λ (g : GroupMeta). size_by (Some g.num_rows)) ms) records ∙ recorded_rows root.keys root.groups in
+    let small : total < 2 ^ 63 = omega (arith, within, few) in
+    let seen : sum_by (λ (g : Group). g.known.rows) (groups_in c.args.groups.now) ≡ total = ap (λ (gs : List Group). sum_by (λ (g : Group). g.known.rows) gs) (sym parts.groups_are) in
     let rows : c.rows_of-rows.result ≡ total = c.rows_of-rows.ensures (omega (arith, seen, small)) ∙ seen in
     let number : c.signed.result ≡ pos total = signed_back c.signed.result c.rows_of-rows.result total rows small c.signed.ensures in
     let elements = c.in_ok-schema.ensures.copies ∙ c.elements.ensures ∙ ap elements_of (sym parts.stored_is) in
@@ -82,7 +45,7 @@ returns-clause-record_is c = λ root d parts.
       version = Some (pos 1);
       schema = elements i;
       num_rows = Some (as_signed c.signed.result total number small i);
-      row_groups = records i;
+      row_groups = map (group_record root.keys) root.groups;
       key_value_metadata = Some ((written.2 ∙ (λ j. record { key = codes "pqds.keys"; value = Some (text j) } ∷ record { key = codes "pqds.next"; value = Some (decimal (sym parts.next_is j)) } ∷ [])) i);
       created_by = Some (c.in_ok-created_by.ensures.items i);
       column_orders = Some (orders i);
