@@ -1,11 +1,12 @@
 -- The rows that marks select.
-use Rattle.std.proofs.Common.{ℕ, ◌≡◌, ◌≢◌, ◌+◌, Bool, true, false, List, [], ◌∷◌, length, map, refl, ap, sym, ◌∙◌, arith}
-use Rattle.std.specs.Prelude.{filter, cond, nat_lt}
+use Rattle.std.proofs.Common.{ℕ, ◌≡◌, ◌≢◌, ◌+◌, Bool, true, false, not, nat_eq, List, [], ◌∷◌, length, map, refl, ap, sym, ◌∙◌, arith}
+use Rattle.std.specs.Prelude.{filter, cond, nat_lt, replicate}
 use Rattle.std.specs.List.{list_any}
-use Rattle.std.proofs.lemmas.Bool.{false≢true}
+use Rattle.std.proofs.lemmas.Bool.{false≢true, eqb-true}
 use Rattle.std.proofs.lemmas.Bool.Decides.{nat_tests}
+use Rattle.std.proofs.lemmas.List.{length-map, length-replicate}
 use Rattle.std.proofs.lemmas.List.Recursion.{is_count_by}
-use Rattle.scan.specs.Left.{selected_by}
+use Rattle.scan.specs.Left.{selected_by, turned}
 use Rattle.scan.specs.inner.Marked.{has_selected, count_selected, HaveSelected}
 
 pub selected_filter : {A : Type 0} (p : A → Bool) (xs : List A) → selected_by (map p xs) xs ≡ filter p xs
@@ -62,3 +63,38 @@ set_many (false ∷ marks) (x ∷ xs) size = set_many marks xs (omega (arith, si
 pub chosen_many : {A : Type 0} (marks : List Bool) (count : ℕ) → (marks ≢ [] → length marks ≡ count) → (xs : List A) → length xs ≡ count → length (selected_by marks xs) ≡ count_selected marks count
 chosen_many [] count many xs size = size
 chosen_many (m ∷ marks) count many xs size = set_many (m ∷ marks) xs (let n = many (λ e. cc) in omega (arith, n, size)) ∙ is_count_by set_in (λ b. b) refl (λ x rest. refl) (m ∷ marks)
+
+-- ---- the others
+
+twice : {A : Type 0} (p : A → Bool) (xs : List A) → map not (map p xs) ≡ map (λ x. not (p x)) xs
+twice p [] = refl
+twice p (x ∷ xs) = ap (λ (ms : List Bool). not (p x) ∷ ms) (twice p xs)
+
+pub others_filter : {A : Type 0} (p : A → Bool) (xs : List A) → selected_by (turned (length xs) (map p xs)) xs ≡ filter (λ x. not (p x)) xs
+others_filter p [] = refl
+others_filter p (x ∷ xs) = ap (λ (ms : List Bool). selected_by (not (p x) ∷ ms) (x ∷ xs)) (twice p xs) ∙ selected_filter (λ y. not (p y)) (x ∷ xs)
+
+none_set : {A : Type 0} (xs : List A) → selected_by (replicate (length xs) false) xs ≡ []
+none_set [] = refl
+none_set (x ∷ xs) = none_set xs
+
+none_fails : {A : Type 0} (p : A → Bool) → ((x : A) → p x ≡ true) → (xs : List A) → filter (λ x. not (p x)) xs ≡ []
+none_fails p pass [] = refl
+none_fails p pass (x ∷ xs) = ap (λ (b : Bool). cond (not b) (x ∷ filter (λ y. not (p y)) xs) (filter (λ y. not (p y)) xs)) (pass x) ∙ none_fails p pass xs
+
+-- where each passes, there are no others
+pub no_others : {A : Type 0} (p : A → Bool) → ((x : A) → p x ≡ true) → (xs : List A) → selected_by (turned (length xs) []) xs ≡ filter (λ x. not (p x)) xs
+no_others p pass xs = none_set xs ∙ sym (none_fails p pass xs)
+
+pub turned_many : (count : ℕ) (marks : List Bool) → (marks ≢ [] → length marks ≡ count) → length (turned count marks) ≡ count
+turned_many count [] many = length-replicate count false
+turned_many count (m ∷ marks) many = length-map (m ∷ marks) not ∙ many (λ e. cc)
+
+-- where there are no marks, none of the others is marked; else each mark is turned round
+pub turned_none : (count : ℕ) (marks : List Bool) → nat_eq (length marks) 0 ≡ true → replicate count false ≡ turned count marks
+turned_none count [] e = refl
+turned_none count (m ∷ marks) e = absurd (let none : length (m ∷ marks) ≡ 0 = eqb-true (length (m ∷ marks)) 0 e in omega (arith, none))
+
+pub turned_each : (count : ℕ) (marks : List Bool) → nat_eq (length marks) 0 ≡ false → map not marks ≡ turned count marks
+turned_each count [] e = absurd (false≢true (sym e))
+turned_each count (m ∷ marks) e = refl

@@ -1,5 +1,5 @@
 -- The rows of a group that was read and accepted, and those that a reader of them still has to give.
-use Rattle.std.specs.Prelude.{◌≡◌, ◌≢◌, ℕ, zero, suc, Bool, true, false, List, [], ◌∷◌, map, length, get_or, Option, Some, None}
+use Rattle.std.specs.Prelude.{◌≡◌, ◌≢◌, ℕ, zero, suc, Bool, true, false, not, List, [], ◌∷◌, map, filter, length, get_or, replicate, Option, Some, None}
 use Rattle.std.specs.List.{AllByRecursion, slice_get}
 use Rattle.schema.specs.Values.{ValueTrees, no_values, value as item}
 use Rattle.schema.specs.Fits.{RowsFit}
@@ -21,7 +21,7 @@ use Rattle.scan.specs.declared.part_reader.PartReader.{PartReader}
 use Rattle.scan.specs.declared.part_reader.PartReader.TheVariants as reader_of
 use Rattle.scan.specs.declared.run_reader.RunReader.{RunReader}
 use Rattle.scan.specs.declared.rows_left.Rows.{Rows}
-use Rattle.scan.specs.Selected.{AreSelected}
+use Rattle.scan.specs.Selected.{AreSelected, Decides, cut_to}
 use Rattle.scan.specs.inner.Texts.{AreHeld, texts_view}
 use Rattle.scan.specs.inner.Uses.{picked}
 
@@ -48,6 +48,11 @@ selected_by [] xs = xs
 selected_by (m ∷ marks) [] = []
 selected_by (true ∷ marks) (x ∷ xs) = x ∷ selected_by marks xs
 selected_by (false ∷ marks) (x ∷ xs) = selected_by marks xs
+
+-- the marks of the others of this many things: set where these are not, and nowhere where there are no marks
+abbrev pub turned : ℕ → List Bool → List Bool
+turned count [] = replicate count false
+turned count (m ∷ marks) = map not (m ∷ marks)
 
 -- ---- what a reader still has to give
 
@@ -109,10 +114,27 @@ pub record RowsHeld (g : GroupRows) (rows : List ValueTrees) : Type 0 where
 abbrev pub rows_held : GroupRows → List ValueTrees → Type 0
 rows_held = RowsHeld
 
+-- as many rows were read as are counted, with a mark for each or none at all, and these of them are not selected
+pub record OthersHeld (g : GroupRows) (rows : List ValueTrees) : Type 0 where
+  pub pieces : List (List ValueTrees)
+  pub count : length pieces ≡ g.count
+  pub many : g.marks.items ≢ [] → length g.marks.items ≡ g.count
+  pub parts : PartsHold g.held g.parts.items pieces
+  pub others : rows ≡ map (joined (length g.parts.items)) (selected_by (turned g.count g.marks.items) pieces)
+
+-- the rows of the group that were read and accepted, and are not selected
+abbrev pub others_held : GroupRows → List ValueTrees → Type 0
+others_held = OthersHeld
+
 -- the rows that were read are those that satisfy, cut, and there is one; or none satisfies
 abbrev pub AreReadFor : List (List Test) → List ℕ → List ValueTrees → Option GroupRows → Type 0
 AreReadFor tests places rows None = AreSelected tests places rows []
 AreReadFor tests places rows (Some g) = (out : List ValueTrees) × AreSelected tests places rows out × rows_held g out × (out ≢ [])
+
+-- the rows that were read besides those that satisfy are those that do not, cut; where none satisfies, none are kept
+abbrev pub AreOthersFor : List (List Test) → List ℕ → List ValueTrees → Option GroupRows → Type 0
+AreOthersFor tests places rows None = Unit {0}
+AreOthersFor tests places rows (Some g) = (p : ValueTrees → Bool) → Decides p tests → others_held g (map (cut_to places) (filter (λ row. not (p row)) rows))
 
 -- some rows were read and accepted, whatever the disk did; or there are none
 abbrev pub AreAccepted : Option GroupRows → Type 0

@@ -1,6 +1,6 @@
 //! From a part file to rows that can be shown.
 
-ghost use Rattle.std.specs.Prelude.{◌≡◌, ◌≢◌, ◌↔◌, ◌≤◌, ◌+◌, ℕ, true, List, [], length, map, count_by, IfOk, IfSome};
+ghost use Rattle.std.specs.Prelude.{◌≡◌, ◌≢◌, ◌↔◌, ◌≤◌, ◌+◌, ℕ, true, false, List, [], length, map, replicate, count_by, IfOk, IfSome};
 ghost use Rattle.std.specs.List.{list_any};
 ghost use Rattle.bits.specs.Refusals.{RefusedOnly, RefusedMemoryOnly};
 ghost use Rattle.schema.specs.Keys.{key_columns_view, places_of, AreKeys};
@@ -13,7 +13,7 @@ ghost use Rattle.manifest.specs.Groups.{group_view};
 ghost use Rattle.filter.specs.Test.{tests_in};
 ghost use Rattle.scan.specs.Cost.{chunks_read};
 ghost use Rattle.scan.specs.Faults.{IsPartRefusal, IsOfParts, IsDevice};
-ghost use Rattle.scan.specs.Left.{AreReadFor, AreAccepted, rows_held, rows_stand, selected_by};
+ghost use Rattle.scan.specs.Left.{AreReadFor, AreOthersFor, AreAccepted, rows_held, others_held, rows_stand, selected_by, turned};
 ghost use Rattle.scan.specs.Selected.{IsOver, Holds, IsRuledOut, cut_to};
 ghost use Rattle.scan.specs.inner.Marked.{HaveSelected, has_selected, count_selected, AreMarked, AreMarksFor, MayRead, MayShow};
 ghost use Rattle.scan.specs.inner.Marks.{HaveCells};
@@ -73,6 +73,10 @@ impl GroupRows {
             → AreKeys (key_columns_view keys.now) schema.now → (rows : List ValueTrees)
             → Holds (D.state vault.old.disk) (key_columns_view keys.now) schema.now (group_view group.now) rows
             → IfOk result (AreReadFor (tests_in filter.now) places.now rows) }
+        ensures others { (D.state vault.old.disk).honest → IsOver (tests_in filter.now) schema.now
+            → AreKeys (key_columns_view keys.now) schema.now → (rows : List ValueTrees)
+            → Holds (D.state vault.old.disk) (key_columns_view keys.now) schema.now (group_view group.now) rows
+            → IfOk result (AreOthersFor (tests_in filter.now) places.now rows) }
         ensures accepted { IfOk result AreAccepted }
         ensures only { (D.state vault.old.disk).honest → AreKeys (key_columns_view keys.now) schema.now → (rows : List ValueTrees)
             → Holds (D.state vault.old.disk) (key_columns_view keys.now) schema.now (group_view group.now) rows → RefusedOnly IsDevice result }
@@ -98,6 +102,31 @@ impl GroupRows {
         ensures { (rows : List ValueTrees) → rows_held self.now rows → result ≡ length rows }
     {
         count_selected(self.marks.as_slice(), self.count)
+    }
+
+    /// The other rows of the group: those that do not satisfy the filter, cut in the same way. There may be none.
+    ///
+    /// Nothing is read. It fails only when out of memory.
+    pub fn others(self, alloc: Global) -> R<GroupRows>
+        ensures others { (rows : List ValueTrees) → others_held self rows → IfOk result (λ g. rows_held g rows) }
+        ensures accepted { (rows : List ValueTrees) → rows_held self rows → IfOk result (λ g. (others : List ValueTrees) × rows_held g others) }
+        ensures which { RefusedMemoryOnly result }
+    {
+        let GroupRows {
+            held,
+            parts,
+            marks,
+            count,
+            width,
+        } = self;
+        let others = turned(alloc, marks.as_slice(), count)?;
+        Ok(GroupRows {
+            held,
+            parts,
+            marks: others,
+            count,
+            width,
+        })
     }
 
     /// These rows, from the first one. No page is read yet.
@@ -140,6 +169,10 @@ fn accepted_rows<D: Disk>(
         → AreKeys (key_columns_view keys.now) schema.now → (rows : List ValueTrees)
         → Holds (D.state vault.old.disk) (key_columns_view keys.now) schema.now (group_view group.now) rows
         → IfOk result (AreReadFor (tests_in filter.now) places.now rows) }
+    ensures others { (D.state vault.old.disk).honest → IsOver (tests_in filter.now) schema.now
+        → AreKeys (key_columns_view keys.now) schema.now → (rows : List ValueTrees)
+        → Holds (D.state vault.old.disk) (key_columns_view keys.now) schema.now (group_view group.now) rows
+        → IfOk result (AreOthersFor (tests_in filter.now) places.now rows) }
     ensures accepted { IfOk result AreAccepted }
     ensures only { (D.state vault.old.disk).honest → AreKeys (key_columns_view keys.now) schema.now → (rows : List ValueTrees)
         → Holds (D.state vault.old.disk) (key_columns_view keys.now) schema.now (group_view group.now) rows → RefusedOnly IsDevice result }
@@ -268,6 +301,33 @@ fn count_marks(marks: &[bool]) -> u64
     marks.iter().filter(|mark| **mark).count() as u64
 }
 
+/// The marks of the others of so many rows: set where these are not, and nowhere where there are no marks.
+fn turned(alloc: Global, marks: &[bool], count: u64) -> R<Vec<bool>>
+    ensures turned { IfOk result (λ others. others.items ≡ turned count marks.now) }
+    ensures which { RefusedMemoryOnly result }
+{
+    if marks.is_empty() {
+        return none_marked(alloc, count);
+    }
+    let mut others = Vec::with_capacity(alloc, marks.len())?;
+    for mark in marks {
+        others.push(!*mark)?;
+    }
+    Ok(others)
+}
+
+/// As many marks, none of which is set.
+fn none_marked(alloc: Global, count: u64) -> R<Vec<bool>>
+    ensures marks { IfOk result (λ marks. marks.items ≡ replicate count false) }
+    ensures which { RefusedMemoryOnly result }
+{
+    let mut marks = Vec::new(alloc);
+    for _ in 0..count {
+        marks.push(false)?;
+    }
+    Ok(marks)
+}
+
 /// Whether one of the marks is set.
 fn has_mark(marks: &[bool]) -> bool
     ensures { result ≡ list_any (λ b. b) marks.now }
@@ -294,6 +354,8 @@ fn rows_in(
     requires some { HaveSelected marked.marks.items (group_view group.now).known.rows }
     ensures stands { (rows : List ValueTrees) → MayShow (tests_in filter.now) (key_columns_view keys.now) schema.now (group_view group.now) places.now marked rows
         → IfOk result (λ g. rows_held g (map (cut_to places.now) (selected_by marked.marks.items rows))) }
+    ensures others { (rows : List ValueTrees) → MayShow (tests_in filter.now) (key_columns_view keys.now) schema.now (group_view group.now) places.now marked rows
+        → IfOk result (λ g. others_held g (map (cut_to places.now) (selected_by (turned (group_view group.now).known.rows marked.marks.items) rows))) }
     ensures accepted { IfOk result (λ g. (rows : List ValueTrees) × rows_held g rows × (rows ≢ [])) }
     ensures only { (rows : List ValueTrees) → MayShow (tests_in filter.now) (key_columns_view keys.now) schema.now (group_view group.now) places.now marked rows
         → RefusedMemoryOnly result }

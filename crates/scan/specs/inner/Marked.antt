@@ -1,5 +1,5 @@
 -- What was read of a group some of whose rows satisfy, for the clauses of private functions.
-use Rattle.std.specs.Prelude.{◌≡◌, ◌≢◌, ℕ, nat_lt, Bool, true, List, [], ◌∷◌, length, filter, count_by, Option, Some, None}
+use Rattle.std.specs.Prelude.{◌≡◌, ◌≢◌, ℕ, nat_lt, Bool, true, not, List, [], ◌∷◌, length, filter, count_by, Option, Some, None}
 use Rattle.std.specs.List.{list_any}
 use Rattle.schema.specs.Keys.{KeyColumn, places_of}
 use Rattle.schema.specs.Shape.{Fields}
@@ -8,7 +8,7 @@ use Rattle.schema.specs.Values.{ValueTrees}
 use Rattle.filter.specs.Test.{Test}
 use Rattle.manifest.specs.Groups.{Group}
 use Rattle.scan.specs.declared.group_rows.Marked.{Marked}
-use Rattle.scan.specs.Left.{selected_by}
+use Rattle.scan.specs.Left.{selected_by, turned}
 use Rattle.scan.specs.Selected.{Decides, AreSelected}
 use Rattle.scan.specs.inner.Marks.{MaySelect}
 use Rattle.scan.specs.inner.Texts.{texts_view}
@@ -29,9 +29,10 @@ pub record HaveSelected (marks : List Bool) (count : ℕ) : Type 0 where
   pub many : marks ≢ [] → length marks ≡ count
   pub some : has_selected marks count ≡ true
 
--- the marks select the rows that satisfy
+-- the marks select the rows that satisfy, and the marks of the others those that do not
 abbrev pub AreMarksFor : List (List Test) → List ValueTrees → List Bool → Type 0
-AreMarksFor tests rows marks = (p : ValueTrees → Bool) → Decides p tests → selected_by marks rows ≡ filter p rows
+AreMarksFor tests rows marks = (p : ValueTrees → Bool) → Decides p tests
+    → (selected_by marks rows ≡ filter p rows) × (selected_by (turned (length rows) marks) rows ≡ filter (λ row. not (p row)) rows)
 
 -- the marks select the rows that satisfy; where nothing is marked, none does
 abbrev pub AreMarked : List (List Test) → List ℕ → List ValueTrees → Option Marked → Type 0

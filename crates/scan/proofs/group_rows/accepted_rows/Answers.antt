@@ -1,4 +1,4 @@
-use Rattle.std.proofs.Common.{◌≡◌, ◌+◌, Option, map, ap, subst, arith}
+use Rattle.std.proofs.Common.{◌≡◌, ◌+◌, ℕ, Option, map, ap, sym, subst, ◌∙◌, arith}
 use Rattle.std.specs.Prelude.{IfSome}
 use Rattle.schema.specs.Keys.{key_columns_view}
 use Rattle.filter.specs.Test.{tests_in}
@@ -6,7 +6,7 @@ use Rattle.manifest.specs.Groups.{group_view}
 use Rattle.scan.specs.declared.group_rows.Marked.{Marked}
 use Rattle.scan.specs.Cost.{chunks_read}
 use Rattle.scan.specs.Faults.{IsOfParts, IsDevice}
-use Rattle.scan.specs.Left.{selected_by}
+use Rattle.scan.specs.Left.{selected_by, turned, others_held}
 use Rattle.scan.specs.Selected.{cut_to}
 use Rattle.scan.specs.inner.Marked.{HaveSelected, AreMarked, MayRead}
 use Rattle.scan.proofs.Chosen.{some_chosen}
@@ -65,10 +65,22 @@ returns-in_ok-rows_in-in-Some-clause-stands g c honest over are rows h =
     let chosen = subst (AreMarked tests places rows) c.in-Some.is (c.in_ok-read_marked.ensures.stands honest over are rows h) in
     let have = subst (λ (o : Option Marked). IfSome o (λ m. HaveSelected m.marks.items (group_view c.args.group.now).known.rows)) c.in-Some.is c.in_ok-read_marked.ensures.some in (
       map (cut_to places) (selected_by marks rows),
-      (λ p decides. ap (map (cut_to places)) (chosen p decides)),
+      (λ p decides. ap (map (cut_to places)) (chosen p decides).0),
       c.in_ok-rows_in-in-Some.ensures.stands rows may,
       (λ none. some_chosen marks (group_view c.args.group.now).known.rows have rows may.count (none_mapped (cut_to places) (selected_by marks rows) none)),
     )
+
+pub returns-in_ok-rows_in-in-Some-clause-others : goal.returns-in_ok-rows_in-in-Some-clause-others
+returns-in_ok-rows_in-in-Some-clause-others g c honest over are rows h p decides =
+    let tests = tests_in c.args.filter.now in
+    let places = c.args.places.now in
+    let marks = c.in-Some.marked.marks.items in
+    let may =
+    subst (MayRead tests (key_columns_view c.args.keys.now) c.args.schema.now (group_view c.args.group.now) places rows) c.in-Some.is
+    (c.in_ok-read_marked.ensures.may honest are rows h) in
+    let chosen = subst (AreMarked tests places rows) c.in-Some.is (c.in_ok-read_marked.ensures.stands honest over are rows h) in
+    subst (others_held c.in_ok-rows_in-in-Some.field-0) (ap (map (cut_to places)) (ap (λ (n : ℕ). selected_by (turned n marks) rows) (sym may.count) ∙ (chosen p decides).1))
+    (c.in_ok-rows_in-in-Some.ensures.others rows may)
 
 pub returns-in_ok-rows_in-in-Some-clause-effect : goal.returns-in_ok-rows_in-in-Some-clause-effect
 returns-in_ok-rows_in-in-Some-clause-effect g c =

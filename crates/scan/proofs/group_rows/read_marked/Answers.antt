@@ -112,7 +112,7 @@ returns-then-not-has_selected-clause-stands g c honest over are rows h =
     let ms = c.in_ok-marks.marks.items in
     let away = ap (λ (xs : List Bool). has_selected xs gr.known.rows) (sym c.as_slice-4.ensures.value) ∙ sym c.has_selected.ensures ∙ c.if-not-has_selected.true in
     let none = none_chosen ms gr.known.rows c.in_ok-marks.ensures.many away rows count in
-    λ p decides. sym (ap (map (cut_to places)) (sym (decided p decides) ∙ none))
+    λ p decides. sym (ap (map (cut_to places)) (sym (decided p decides).0 ∙ none))
 
 pub returns-then-not-has_selected-clause-effect : goal.returns-then-not-has_selected-clause-effect
 returns-then-not-has_selected-clause-effect g c =

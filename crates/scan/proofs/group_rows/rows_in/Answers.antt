@@ -6,7 +6,7 @@ use Rattle.manifest.specs.Groups.{group_view}
 use Rattle.metadata.specs.Views.{chunk_meta_view}
 use Rattle.scan.specs.declared.held.Held.{Held}
 use Rattle.scan.specs.declared.parts.Part.{Part}
-use Rattle.scan.specs.Left.{joined, selected_by, PartsHold}
+use Rattle.scan.specs.Left.{joined, selected_by, turned, PartsHold}
 use Rattle.scan.specs.inner.Parts.{wanted_from, Making, AreCutParts}
 use Rattle.scan.specs.inner.Texts.{texts_view}
 use Rattle.scan.proofs.Chosen.{some_chosen}
@@ -55,6 +55,29 @@ returns-clause-stands c rows may =
       many = c.requires.some.many;
       parts = parts_hold tests keys fs gr places first later rows valid may.select h copy_is chunks_are refl refl parts made;
       selected = rows_selected tests keys fs gr places first later rows valid may.select h copy_is chunks_are refl refl parts made c.args.marked.marks.items;
+    }
+
+pub returns-clause-others : goal.returns-clause-others
+returns-clause-others c rows may =
+    let tests = tests_in c.args.filter.now in
+    let keys = key_columns_view c.args.keys.now in
+    let fs = c.args.schema.now in
+    let gr = group_view c.args.group.now in
+    let places = c.args.places.now in
+    let first = texts_view c.args.marked.first.items in
+    let later = texts_view c.args.marked.later.items in
+    let h : Held = record { schema = c.in_ok-copy.copy; chunks = c.in_ok-chunks.chunks; first = c.args.marked.first; later = c.args.marked.later } in
+    let chunks_are = c.in_ok-chunks.ensures.same ∙ ap (map chunk_meta_view) c.as_slice.ensures.value in
+    let parts = c.in_ok-parts.parts.items in
+    let made = c.in_ok-parts.ensures.stands in
+    let valid = c.leaves.ensures.valid.1 in
+    let copy_is = c.in_ok-copy.ensures.same in
+    record {
+      pieces = all_pieces tests keys fs gr places first later rows valid may.select h copy_is chunks_are refl refl parts made;
+      count = pieces_count tests keys fs gr places first later rows valid may.select h copy_is chunks_are refl refl parts made ∙ may.count;
+      many = c.requires.some.many;
+      parts = parts_hold tests keys fs gr places first later rows valid may.select h copy_is chunks_are refl refl parts made;
+      others = rows_selected tests keys fs gr places first later rows valid may.select h copy_is chunks_are refl refl parts made (turned gr.known.rows c.args.marked.marks.items);
     }
 
 pub returns-clause-accepted : goal.returns-clause-accepted
