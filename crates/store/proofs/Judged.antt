@@ -1,97 +1,95 @@
--- Which rows of a group satisfy, and what is left of it.
-use Rattle.std.proofs.Common.{◌≡◌, ◌+◌, ◌↔◌, ℕ, Bool, true, false, not, List, [], ◌∷◌, map, filter, length, Result, Ok, Err, refl, sym, ◌∙◌, ap, arith}
-use Rattle.std.specs.Prelude.{if◌then◌else◌, IsTrue, IfOk, Vec}
-use Rattle.std.specs.declared.alloc.Global.{Global}
-use Rattle.std.specs.List.{AllByRecursion}
+-- What is left of a group of which some rows satisfy.
+use Rattle.std.proofs.Common.{◌≡◌, ℕ, true, not, List, [], map, filter, length, Some, Result, Ok, Err, sym, ◌∙◌, ap, subst, arith}
+use Rattle.std.specs.Prelude.{IfOk}
+use Rattle.std.proofs.lemmas.List.{length-map}
 use Rattle.bits.specs.declared.refusal.Refusal.{Refusal}
 use Rattle.bits.specs.declared.refusal.Refusal.TheVariants.{Memory}
 use Rattle.bits.specs.Refusals.{RefusedOnly, RefusedMemoryOnly}
-use Rattle.schema.specs.declared.row.Row.{Row as CodeRow}
-use Rattle.schema.specs.Keys.{KeyColumn, row_without_keys}
-use Rattle.schema.specs.Views.{key_view, rows_view}
+use Rattle.schema.specs.Fits.{fits_each, RowsFit}
+use Rattle.schema.specs.Keys.{KeyColumn, AreKeys, places_of, row_without_keys}
+use Rattle.schema.specs.Shape.{Fields}
+use Rattle.schema.specs.Views.{key_view}
 use Rattle.disk.specs.State.{State as DiskState}
 use Rattle.filter.specs.Test.{Test}
-use Rattle.filter.specs.Satisfies.{Satisfies}
 use Rattle.filter.specs.Deciding.{satisfies as all_satisfied}
+use Rattle.gather.specs.KeyBuffers.{HoldsRows}
 use Rattle.manifest.specs.Groups.{Group as FileGroup, Root}
+use Rattle.manifest.specs.Root.{stored_of}
+use Rattle.scan.specs.declared.group_rows.GroupRows.{GroupRows}
 use Rattle.scan.specs.Faults.{IsDevice}
-use Rattle.scan.specs.Selected.{IsRuledOut, RuledOutGroupsHoldNone}
+use Rattle.scan.specs.Left.{AreReadFor, AreOthersFor, rows_held, others_held}
+use Rattle.scan.specs.Selected.{IsOver, Holds, AreSelected, cut_to}
 use Rattle.table.specs.Table.{Row, Group}
 use Rattle.table.proofs.Deciding.{tests_decide}
 use Rattle.store.specs.declared.remaining.Remains.{Remains}
 use Rattle.store.specs.Counting.{IsHeld}
+use Rattle.store.specs.Promises.{IsSure}
 use Rattle.store.specs.Reading.{OnlyReads, IsReading}
 use Rattle.store.specs.Removing.{AreRemains, not_those}
+use Rattle.store.specs.Showing.{places_besides}
+use Rattle.store.proofs.Kept.{all_kept}
 use Rattle.store.proofs.Passed.{reading_done, reading_poor}
+use Rattle.store.proofs.StoredColumns.{cut_each, stored_each}
+use Rattle.store.proofs.Tallied.{held_there}
+use Rattle.store.proofs.WholeRows.{stored_fit}
 
--- ---- whether a row satisfies
+-- ---- how many satisfy
 
-one_truth : {S : Type 0} (a b : Bool) → (IsTrue a ↔ S) → (IsTrue b ↔ S) → a ≡ b
-one_truth true true h k = refl
-one_truth false false h k = refl
-one_truth true false h k = absurd (let e : false ≡ true = k.1 (h.0 refl) in cc)
-one_truth false true h k = absurd (let e : false ≡ true = h.1 (k.0 refl) in cc)
+-- where none is selected, none satisfies
+pub none_selected : (tests : List (List Test)) (places : List ℕ) (given : List Row) → AreSelected tests places given [] → length (filter (all_satisfied tests) given) ≡ 0
+none_selected tests places given are =
+    sym (ap length (are (all_satisfied tests) (tests_decide tests)) ∙ length-map (filter (all_satisfied tests) given) (cut_to places))
 
-pub is_decided : (tests : List (List Test)) (row : Row) (b : Bool) → (IsTrue b ↔ Satisfies tests row) → b ≡ all_satisfied tests row
-is_decided tests row b h = one_truth b (all_satisfied tests row) h (tests_decide tests row)
-
-pub none_satisfies : (tests : List (List Test)) (given : List Row) → AllByRecursion (λ row. Satisfies tests row → ⊥) given → length (filter (all_satisfied tests) given) ≡ 0
-none_satisfies tests [] h = refl
-none_satisfies tests (row ∷ given) h = by (all_satisfied tests row) refl (none_satisfies tests given h.1)
-  where
-    by : (b : Bool) → all_satisfied tests row ≡ b → length (filter (all_satisfied tests) given) ≡ 0 → length (if b then row ∷ filter (all_satisfied tests) given else filter (all_satisfied tests) given) ≡ 0
-    by true e r = absurd (h.0 ((tests_decide tests row).0 e))
-    by false e r = r
-
-pub ruled_out_none : (law : RuledOutGroupsHoldNone) (disk : DiskState) (tests : List (List Test)) (root : Root) (f : FileGroup) (g : Group) → IsHeld disk tests root f g → IsRuledOut tests root.keys f → length (filter (all_satisfied tests) g.rows) ≡ 0
-ruled_out_none law disk tests root f g h out = none_satisfies tests g.rows (law root.keys root.schema f h.stored.0.bytes g.rows tests h.keyed h.over h.described.0 h.stored.0.means out)
-
--- what is held is held without a filter
-pub unfiltered : (disk : DiskState) (tests : List (List Test)) (root : Root) (f : FileGroup) (g : Group) → IsHeld disk tests root f g → IsHeld disk [] root f g
-unfiltered disk tests root f g h = record { over = ([], refl); keyed = h.keyed; count = h.count; stored = h.stored; described = h.described }
-
--- ---- row by row
-
-module _ (tests : List (List Test)) where
-  abbrev pass : Row → Bool
-  pass = all_satisfied tests
-
-  pub one_found : (row : Row) (given : List Row) (found all : ℕ) → pass row ≡ true → found + length (filter pass (row ∷ given)) ≡ all → (found + 1) + length (filter pass given) ≡ all
-  one_found row given found all e sum =
-      let a = ap (λ (b : Bool). length (if b then row ∷ filter pass given else filter pass given)) e in
-      omega (arith, a, sum)
-
-  pub none_found : (row : Row) (given : List Row) (found all : ℕ) → pass row ≡ false → found + length (filter pass (row ∷ given)) ≡ all → found + length (filter pass given) ≡ all
-  none_found row given found all e sum =
-      let a = ap (λ (b : Bool). length (if b then row ∷ filter pass given else filter pass given)) e in
-      omega (arith, a, sum)
-
-  pub rest_more : (row : Row) (given : List Row) → pass row ≡ false → not_those pass (row ∷ given) ≡ row ∷ not_those pass given
-  rest_more row given e = ap (λ (b : Bool). if not b then row ∷ not_those pass given else not_those pass given) e
-
-  pub rest_same : (row : Row) (given : List Row) → pass row ≡ true → not_those pass (row ∷ given) ≡ not_those pass given
-  rest_same row given e = ap (λ (b : Bool). if not b then row ∷ not_those pass given else not_those pass given) e
+-- those that are selected are as many as satisfy
+many_selected : (tests : List (List Test)) (places : List ℕ) (given out : List Row) → AreSelected tests places given out → length out ≡ length (filter (all_satisfied tests) given)
+many_selected tests places given out are = ap length (are (all_satisfied tests) (tests_decide tests)) ∙ length-map (filter (all_satisfied tests) given) (cut_to places)
 
 -- ---- what is left of a group
 
-module _ (tests : List (List Test)) (keys : List KeyColumn) (f : FileGroup) (g : Group) (r : Remains) (number : r.number ≡ f.number) (key : key_view r.rest.key ≡ f.key) where
-  pub all_left : r.gone ≡ 0 → length (filter (all_satisfied tests) g.rows) ≡ 0 → AreRemains tests keys f g r
-  all_left none out = record { number = number; key = key; gone = none ∙ sym out; rest = λ some. absurd (omega (arith, none, some)) }
-
-  pub some_left : r.gone ≡ length (filter (all_satisfied tests) g.rows) → rows_view r.rest.rows.items ≡ map (row_without_keys keys) (not_those (all_satisfied tests) g.rows) → AreRemains tests keys f g r
-  some_left many rest = record { number = number; key = key; gone = many; rest = λ some. rest }
-
-module _ (tests : List (List Test)) (keys : List KeyColumn) (f : FileGroup) (g : Group) where
-  -- so it is of what is given
+module _ (tests : List (List Test)) (root : Root) (f : FileGroup) (g : Group) where
+  -- no row satisfies
   pub none_ends : (result : Result Remains Refusal) → IfOk result (λ r. r.number ≡ f.number) → IfOk result (λ r. key_view r.rest.key ≡ f.key) → IfOk result (λ r. r.gone ≡ 0) → length (filter (all_satisfied tests) g.rows) ≡ 0
-      → IfOk result (λ r. AreRemains tests keys f g r)
-  none_ends (Ok r) number key none out = all_left tests keys f g r number key none out
+      → IfOk result (λ r. AreRemains tests root f g r)
+  none_ends (Ok r) number key none out = record { number = number; key = key; gone = none ∙ sym out; rest = λ some. absurd (omega (arith, none, some)) }
   none_ends (Err e) number key none out = tt
 
-  pub some_ends : (result : Result Remains Refusal) → IfOk result (λ r. r.number ≡ f.number) → IfOk result (λ r. key_view r.rest.key ≡ f.key) → (gone : ℕ) → IfOk result (λ r. r.gone ≡ gone) → gone ≡ length (filter (all_satisfied tests) g.rows)
-      → (rows : Vec CodeRow Global) → IfOk result (λ r. r.rest.rows ≡ rows) → rows_view rows.items ≡ map (row_without_keys keys) (not_those (all_satisfied tests) g.rows) → IfOk result (λ r. AreRemains tests keys f g r)
-  some_ends (Ok r) number key gone gone_is many rows rows_are rest = some_left tests keys f g r number key (gone_is ∙ many) (ap (λ (v : Vec CodeRow Global). rows_view v.items) rows_are ∙ rest)
-  some_ends (Err e) number key gone gone_is many rows rows_are rest = tt
+  module _ (disk : DiskState) (h : IsHeld disk tests root f g) where
+    fit : RowsFit root.schema g.rows
+    fit = stored_fit disk root.keys root.schema h.count f g h.keyed h.described.0 h.stored.0
+
+    abbrev left : List Row
+    left = not_those (all_satisfied tests) g.rows
+
+    left_fit : RowsFit root.schema left
+    left_fit = all_kept (λ (row : Row). not (all_satisfied tests row)) (λ (row : Row). fits_each root.schema row ≡ true) g.rows fit
+
+    -- some row does, and the others were read
+    pub some_ends : (places : List ℕ) (rows : GroupRows) → places ≡ places_besides (places_of root.keys) 0 root.schema → AreReadFor tests places g.rows (Some rows) → AreOthersFor tests places g.rows (Some rows)
+        → (result : Result Remains Refusal) → IfOk result (λ r. r.number ≡ f.number) → IfOk result (λ r. key_view r.rest.key ≡ f.key)
+        → IfOk result (λ r. (given : List Row) → rows_held rows given → r.gone ≡ length given)
+        → IfOk result (λ r. (others : List Row) → others_held rows others → RowsFit (stored_of root) others → HoldsRows (stored_of root) others r.rest)
+        → IfOk result (λ r. AreRemains tests root f g r)
+    some_ends places rows all read others (Err e) number key gone rest = tt
+    some_ends places rows all read others (Ok r) number key gone rest =
+        let cut : map (cut_to places) left ≡ map (row_without_keys root.keys) left
+        = ap (λ (ps : List ℕ). map (cut_to ps) left) all ∙ cut_each root.keys root.schema left left_fit in
+        record {
+          number = number;
+          key = key;
+          gone = gone read.0 read.2 ∙ many_selected tests places g.rows read.0 read.1;
+          rest = λ some. rest (map (row_without_keys root.keys) left) (subst (others_held rows) cut (others (all_satisfied tests) (tests_decide tests))) (stored_each root.keys root.schema left left_fit);
+        }
+
+-- only what is held is read, with the keys and the schema as they are lent
+module _ (disk : DiskState) (tests : List (List Test)) (root : Root) (f : FileGroup) (g : Group) (h : IsHeld disk tests root f g) (keys : List KeyColumn) (fs : Fields) (keys_are : keys ≡ root.keys) (fs_are : fs ≡ root.schema) where
+  pub over_lent : IsOver tests fs
+  over_lent = subst (IsOver tests) (sym fs_are) h.over
+
+  pub keyed_lent : AreKeys keys fs
+  keyed_lent = subst (λ (ks : List KeyColumn). AreKeys ks fs) (sym keys_are) (subst (AreKeys root.keys) (sym fs_are) h.keyed)
+
+  pub holds_lent : Holds disk keys fs f g.rows
+  holds_lent = subst (λ (ks : List KeyColumn). Holds disk ks fs f g.rows) (sym keys_are) (subst (λ (gs : Fields). Holds disk root.keys gs f g.rows) (sym fs_are) (held_there disk tests root f g h))
 
 -- ---- only read, and out of memory where it is refused
 
@@ -104,3 +102,8 @@ pub device_too : (T : Type 0) (result : Result T Refusal) → RefusedMemoryOnly 
 device_too T (Ok x) m = tt
 device_too T (Err Memory) m = tt
 device_too T (Err e) m = absurd m
+
+pub sure_so : (T : Type 0) (result : Result T Refusal) → RefusedMemoryOnly result → IsSure result
+sure_so T (Ok x) m is = cc
+sure_so T (Err Memory) m is = cc
+sure_so T (Err e) m is = absurd m

@@ -111,3 +111,6 @@ pub mod RunByRun
 pub mod Idle
 pub mod FreePaths
 pub mod Shown
+pub mod StoredColumns
+pub mod BufferRows
+pub mod PlacesMade

@@ -1,5 +1,5 @@
 -- Rows that are too much for a file of one group are too much for one of smaller groups.
-use Rattle.std.proofs.Common.{◌≡◌, ◌≤◌, ◌+◌, ◌-◌, ◌*◌, ◌/◌, ◌⊎◌, ℕ, zero, suc, List, [], ◌∷◌, ◌++◌, map, length, take, drop, sum_by, refl, sym, ◌∙◌, ap, subst, arith, inl, inr, ⊎_elim}
+use Rattle.std.proofs.Common.{◌≡◌, ◌≤◌, ◌+◌, ◌-◌, ◌*◌, ◌/◌, ◌⊎◌, ℕ, zero, suc, List, [], ◌∷◌, ◌++◌, map, length, take, drop, sum_by, Option, Result, Ok, Err, refl, sym, ◌∙◌, ap, subst, arith, inl, inr, ⊎_elim}
 use Rattle.std.specs.Prelude.{◌<ℤ◌, pos}
 use Rattle.std.specs.List.{Any}
 use Rattle.std.proofs.lemmas.List.Sums.{sum_by-cons}
@@ -10,8 +10,8 @@ use Rattle.std.proofs.lemmas.Grind.{flat_map-append}
 use Rattle.std.proofs.lemmas.List.{take-append-drop, length-append, length-drop, nil_from_length, take_all}
 use Rattle.std.proofs.lemmas.List.Elements.{filter_map-append}
 use Rattle.bits.specs.declared.refusal.Refusal.{Refusal}
-use Rattle.bits.specs.declared.refusal.Refusal.TheVariants.{Limit, Memory}
-use Rattle.bits.specs.Refusals.{HasCause}
+use Rattle.bits.specs.declared.refusal.Refusal.TheVariants.{Limit, Memory, RowShape, Key as BadKey}
+use Rattle.bits.specs.Refusals.{HasCause, RefusedOnly}
 use Rattle.schema.specs.declared.value.Kind.{Kind}
 use Rattle.schema.specs.declared.value.Kind.TheVariants.{Boolean}
 use Rattle.schema.specs.Values.{ValueTree, bytes, group, ValueTrees}
@@ -30,7 +30,8 @@ use Rattle.manifest.specs.Groups.{Root}
 use Rattle.manifest.specs.Root.{stored_of}
 use Rattle.table.specs.Table.{Row, Key}
 use Rattle.store.specs.Wide.{AreFew, HasFewEntries}
-use Rattle.store.specs.Writing.{IsUnfit}
+use Rattle.store.specs.declared.store.Store.{Store}
+use Rattle.store.specs.Writing.{IsUnfit, IsUnfitPart, IsPartRefusal}
 
 -- ---- how many parts there are
 
@@ -208,7 +209,30 @@ module _ (fs : Fields) (o wide : WriteOptions) (rows : List ValueTrees) (size : 
       none_or zero = inl refl
       none_or (suc n) = inr (omega arith)
 
--- why a file of these rows is not made: a limit, or memory
-pub unfit_whole : (root : Root) (o : WriteOptions) (key : Key) (rows : List Row) (e : Refusal) → (e ≡ Limit) ⊎ (e ≡ Memory) → (e ≡ Limit → IsOutOfRange o ⊎ IsTooMuch (stored_of root) o rows) → HasCause (IsUnfit root o key rows) e
-unfit_whole root o key rows e (inl is) h = subst (λ (f : Refusal). HasCause (IsUnfit root o key rows) f) (sym is) (h is)
-unfit_whole root o key rows e (inr is) h = subst (λ (f : Refusal). HasCause (IsUnfit root o key rows) f) (sym is) tt
+-- why a file of these rows is not made by other options: by the same limits
+pub unfit_whole : (root : Root) (o wide : WriteOptions) (key : Key) (rows : List Row) → (IsOutOfRange wide ⊎ IsTooMuch (stored_of root) wide rows → IsOutOfRange o ⊎ IsTooMuch (stored_of root) o rows) → (e : Refusal)
+    → HasCause (IsUnfit root wide key rows) e → HasCause (IsUnfit root o key rows) e
+unfit_whole root o wide key rows narrower Memory h = tt
+unfit_whole root o wide key rows narrower Limit h = narrower h
+unfit_whole root o wide key rows narrower RowShape h = h
+unfit_whole root o wide key rows narrower BadKey h = h
+unfit_whole root o wide key rows narrower e h = absurd h
+
+-- so it is of a result
+pub unfit_either : (T : Type 0) (root : Root) (o wide : WriteOptions) (key : Key) (rows : List Row) → (IsOutOfRange wide ⊎ IsTooMuch (stored_of root) wide rows → IsOutOfRange o ⊎ IsTooMuch (stored_of root) o rows) → (result : Result T Refusal)
+    → RefusedOnly (IsUnfit root wide key rows) result → RefusedOnly (IsUnfit root o key rows) result
+unfit_either T root o wide key rows narrower (Ok x) h = tt
+unfit_either T root o wide key rows narrower (Err e) h = unfit_whole root o wide key rows narrower e h
+
+-- memory is such a refusal
+pub unfit_memory : (root : Root) (o : WriteOptions) (key : Key) (rows : List Row) (e : Refusal) → HasCause (λ _. ⊥) e → HasCause (IsUnfit root o key rows) e
+unfit_memory root o key rows Memory h = tt
+unfit_memory root o key rows e h = absurd h
+
+-- where a part file is not made, it is not written
+pub unwritten : {D : Type 0} (store : Store D) (job : Option ℕ) (key : Key) (rows : List Row) (e : Refusal) → HasCause (IsUnfitPart store key rows) e → HasCause (IsPartRefusal store job key rows) e
+unwritten store job key rows Memory h = tt
+unwritten store job key rows Limit h = h
+unwritten store job key rows RowShape h = h
+unwritten store job key rows BadKey h = h
+unwritten store job key rows e h = absurd h

@@ -17,7 +17,6 @@ use Rattle.filter.specs.Test.{Test}
 use Rattle.filter.specs.Terms.{tests_of}
 use Rattle.filter.specs.Deciding.{satisfies as all_satisfied}
 use Rattle.partition.specs.Folders.{CanPartition}
-use Rattle.partition.specs.Splitting.{key_rows_view}
 use Rattle.manifest.specs.Groups.{Group as FileGroup, Root, root_of}
 use Rattle.manifest.specs.Records.{IsGroup}
 use Rattle.planning.specs.Replaced.{Change, changes_view}
@@ -135,15 +134,15 @@ module _ {D : Type 0} (state : D → DiskState) (start now : Store D) (s : State
     left_in : AllByRecursion (IsRowIn s.table.schema s.table.keys at.group.key) left_rows
     left_in = all_kept (λ (row : Row). not (pass row)) (IsRowIn s.table.schema s.table.keys at.group.key) at.group.rows at.in_table.rows_in
 
-    module _ (rest : Remains) (are : AreRemains tests root.keys at.file at.group rest) where
+    module _ (rest : Remains) (are : AreRemains tests root at.file at.group rest) where
       key_is : key_view rest.rest.key ≡ at.group.key
       key_is = are.key ∙ sym at.stored.key
 
-      pub is_buffer : 1 ≤ rest.gone → IsBuffer s.table.schema s.table.keys (key_rows_view rest.rest) (buffer (key_view rest.rest.key) left_rows)
-      is_buffer some = record {
+      pub is_buffer : IsBuffer s.table.schema s.table.keys (buffer (key_view rest.rest.key) (map (row_without_keys root.keys) left_rows)) (buffer (key_view rest.rest.key) left_rows)
+      is_buffer = record {
         key_is = refl;
         can = subst (λ (k : Key). CanPartition s.table.keys k) (sym key_is) at.in_table.keyed;
-        are = subst (λ (ws : List Row). AreRowsOf s.table.keys (key_view rest.rest.key) ws left_rows) (sym (are.rest some ∙ ap (λ (ks : List KeyColumn). map (row_without_keys ks) left_rows) r.written.wrote.shows.keys))
+        are = subst (λ (ws : List Row). AreRowsOf s.table.keys (key_view rest.rest.key) ws left_rows) (sym (ap (λ (ks : List KeyColumn). map (row_without_keys ks) left_rows) r.written.wrote.shows.keys))
             (rows_of s.table.schema s.table.keys (key_view rest.rest.key) at.group.key r.written.wrote.shows.valid.keys key_is left_rows left_in);
         rows_in = subst (λ (k : Key). AllByRecursion (IsRowIn s.table.schema s.table.keys k) left_rows) (sym key_is) left_in;
       }

@@ -1,7 +1,7 @@
 -- A removal, from group to group: what is read, and what is written of it.
 use Rattle.std.proofs.Common.{◌≡◌, ◌≤◌, ◌+◌, ◌⊎◌, ℕ, true, false, List, [], ◌∷◌, ◌++◌, map, length, Option, None, Result, Ok, Err, refl, sym, ◌∙◌, ap, subst, arith, ⊎_elim}
 use Rattle.std.specs.Prelude.{OnOk}
-use Rattle.std.proofs.lemmas.List.{nil_from_length, length-map}
+use Rattle.std.proofs.lemmas.List.{nil_from_length}
 use Rattle.std.specs.Rc.{rc_value}
 use Rattle.std.specs.declared.rc.Rc.{Rc}
 use Rattle.std.specs.declared.alloc.Global.{Global}
@@ -11,14 +11,13 @@ use Rattle.bits.specs.Refusals.{HasCause, RefusedMemoryOnly}
 use Rattle.schema.specs.Shape.{Fields}
 use Rattle.schema.specs.Fits.{RowsFit}
 use Rattle.schema.specs.Keys.{KeyColumn, AreRowsOf, row_without_keys, without_keys}
-use Rattle.schema.specs.Views.{key_view, row_view, rows_view}
+use Rattle.schema.specs.Views.{key_view}
 use Rattle.disk.specs.State.{State as DiskState}
 use Rattle.vault.specs.declared.vault.Vault.{Vault}
 use Rattle.vault.specs.Calls.{LeavesAll, HasFailed}
 use Rattle.footer.specs.Writing.{IsOutOfRange, IsTooMuch}
 use Rattle.footer.specs.declared.options.WriteOptions.{WriteOptions}
 use Rattle.partition.specs.Folders.{CanPartition}
-use Rattle.partition.specs.Splitting.{key_rows_view}
 use Rattle.manifest.specs.declared.group.Group.{Group as CodeGroup}
 use Rattle.manifest.specs.Groups.{Group as FileGroup, group_view, root_of}
 use Rattle.manifest.specs.Root.{stored_of}
@@ -125,8 +124,8 @@ no_more_held : (keys : List KeyColumn) (key : Key) (held : List Row) → AreRows
 no_more_held keys key [] h = refl
 no_more_held keys key (row ∷ held) h = absurd h
 
-module _ {D : Type 0} (state : D → DiskState) (start now : Store D) (s : State) (is_open : s.closed ≡ false) (files : List FileGroup) (groups : List Group) (has : HasWritten state start now s None files groups) (r : Remains) (held : List Row)
-    (b : IsBuffer s.table.schema s.table.keys (key_rows_view r.rest) (buffer (key_view r.rest.key) held)) (before after : Removed) where
+module _ {D : Type 0} (state : D → DiskState) (start now : Store D) (s : State) (is_open : s.closed ≡ false) (files : List FileGroup) (groups : List Group) (has : HasWritten state start now s None files groups) (r : Remains) (stored held : List Row)
+    (b : IsBuffer s.table.schema s.table.keys (buffer (key_view r.rest.key) stored) (buffer (key_view r.rest.key) held)) (before after : Removed) where
   -- what a kept change tells
   abbrev Kept : List FileGroup → Result (Unit {0}) Refusal → Type 0
   Kept come result = OnOk result (changes_view after.changes.items ≡ changes_view before.changes.items ++ record { number = r.number; come = come } ∷ []) × OnOk result (after.count ≡ before.count + r.gone) × RefusedMemoryOnly result
@@ -139,10 +138,10 @@ module _ {D : Type 0} (state : D → DiskState) (start now : Store D) (s : State
   poor e h new = absurd h
 
   -- no row is left
-  pub put_nothing : length r.rest.rows.items ≡ 0 → (come : List FileGroup) → come ≡ [] → (result : Result (Unit {0}) Refusal) → Kept come result → Ends now result
+  pub put_nothing : length stored ≡ 0 → (come : List FileGroup) → come ≡ [] → (result : Result (Unit {0}) Refusal) → Kept come result → Ends now result
   put_nothing none come is (Ok x) kept = record {
     outcome = goes;
-    is = no_more_held s.table.keys (key_view r.rest.key) held (subst (λ (ws : List Row). AreRowsOf s.table.keys (key_view r.rest.key) ws held) (ap rows_view (nil_from_length r.rest.rows.items none)) b.are);
+    is = no_more_held s.table.keys (key_view r.rest.key) held (subst (λ (ws : List Row). AreRowsOf s.table.keys (key_view r.rest.key) ws held) (nil_from_length stored none) b.are);
     written = subst (λ (fs : List FileGroup). HasWritten state start now s None fs (groups ++ [])) (sym (nothing_more files)) (subst (λ (gs : List Group). HasWritten state start now s None files gs) (sym (nothing_more groups)) has);
     changed = kept.0 ∙ ap (λ (fs : List FileGroup). changes_view before.changes.items ++ record { number = r.number; come = fs } ∷ []) is;
     counted = kept.1;
@@ -158,11 +157,11 @@ module _ {D : Type 0} (state : D → DiskState) (start now : Store D) (s : State
     Wrote result = Writes state now new None key held result (counted s now.next_group)
 
     -- its file is not written
-    pub put_refused : (e : Refusal) → Wrote (Err e) → HasCause (IsPartRefusal now None key (rows_view r.rest.rows.items)) e → Ends new (Err e)
+    pub put_refused : (e : Refusal) → Wrote (Err e) → HasCause (IsPartRefusal now None key stored) e → Ends new (Err e)
     put_refused e writes cause = (
       wrote_so state start now new s None files groups key held has later same (Err e) writes,
       writes.no_more,
-      why_not state start now s is_open files groups has new key (rows_view r.rest.rows.items) held b e cause
+      why_not state start now s is_open files groups has new key stored held b e cause
           (λ is. failed_on (state start.vault.disk) (state now.vault.disk) (state new.vault.disk) has.no_less later (writes.cause is)),
     )
 
@@ -170,10 +169,10 @@ module _ {D : Type 0} (state : D → DiskState) (start now : Store D) (s : State
       pub put_poor : Ends new (Err Memory)
       put_poor = (wrote_so state start now new s None files groups key held has later same (Ok g) writes, writes.no_more, tt)
 
-      pub put_one : 1 ≤ length r.rest.rows.items → (come : List FileGroup) → come ≡ group_view (rc_value g) ∷ [] → (result : Result (Unit {0}) Refusal) → Kept come result → Ends new result
+      pub put_one : 1 ≤ length stored → (come : List FileGroup) → come ≡ group_view (rc_value g) ∷ [] → (result : Result (Unit {0}) Refusal) → Kept come result → Ends new result
       put_one some come is (Ok x) kept = record {
         outcome = comes (group_view (rc_value g)) (written_group now.next_group key held);
-        is = (refl, (let m = same_length s.table.keys key (rows_view r.rest.rows.items) held b.are in let l = length-map r.rest.rows.items row_view in omega (arith, some, m, l)));
+        is = (refl, (let m = same_length s.table.keys key stored held b.are in omega (arith, some, m)));
         written = one_more state start now new s None files groups key held has later same g writes;
         changed = kept.0 ∙ ap (λ (fs : List FileGroup). changes_view before.changes.items ++ record { number = r.number; come = fs } ∷ []) is;
         counted = kept.1;

@@ -35,3 +35,4 @@ pub mod Stepping
 pub mod Removing
 pub mod Rewritten
 pub mod Shown
+pub mod Showing

@@ -3,13 +3,15 @@ use Rattle.std.specs.Prelude.{◌≡◌, ◌≤◌, ◌+◌, ℕ, Bool, true, fa
 use Rattle.std.specs.List.{list_any, AllZip}
 use Rattle.bits.specs.declared.refusal.Refusal.{Refusal}
 use Rattle.bits.specs.declared.refusal.Refusal.TheVariants.{Limit, Device, Memory}
-use Rattle.schema.specs.Keys.{KeyColumn, row_without_keys}
-use Rattle.schema.specs.Views.{key_view, rows_view}
+use Rattle.schema.specs.Keys.{row_without_keys}
+use Rattle.schema.specs.Views.{key_view}
 use Rattle.disk.specs.State.{State as DiskState}
 use Rattle.vault.specs.Calls.{HasFailed}
 use Rattle.filter.specs.Test.{Test}
 use Rattle.filter.specs.Deciding.{satisfies as all_satisfied}
-use Rattle.manifest.specs.Groups.{Group as FileGroup, root_of}
+use Rattle.gather.specs.KeyBuffers.{HoldsRows}
+use Rattle.manifest.specs.Groups.{Group as FileGroup, Root, root_of}
+use Rattle.manifest.specs.Root.{stored_of}
 use Rattle.planning.specs.Replaced.{Change, changes_view}
 use Rattle.table.specs.Table.{Row, Key, Group, rows}
 use Rattle.table.specs.Leading.{touched}
@@ -32,11 +34,11 @@ abbrev pub not_those : (Row → Bool) → List Row → List Row
 not_those test given = filter (λ row. not (test row)) given
 
 -- what was read of a group: how many rows satisfy, and, where one does, the others without their keys
-pub record AreRemains (tests : List (List Test)) (keys : List KeyColumn) (f : FileGroup) (g : Group) (r : Remains) : Type 0 where
+pub record AreRemains (tests : List (List Test)) (root : Root) (f : FileGroup) (g : Group) (r : Remains) : Type 0 where
   pub number : r.number ≡ f.number
   pub key : key_view r.rest.key ≡ f.key
   pub gone : r.gone ≡ length (filter (all_satisfied tests) g.rows)
-  pub rest : 1 ≤ r.gone → rows_view r.rest.rows.items ≡ map (row_without_keys keys) (not_those (all_satisfied tests) g.rows)
+  pub rest : 1 ≤ r.gone → HoldsRows (stored_of root) (map (row_without_keys root.keys) (not_those (all_satisfied tests) g.rows)) r.rest
 
 -- In the place of a group it stays itself, nothing comes, or a file of the rest of its rows comes.
 pub data Outcome : Type 0 where

@@ -78,7 +78,7 @@ impl<D: Disk> Store<D> {
     }
 
     /// Writes the rows of a buffer, at least one and at most as many as a group has, as a part file under the next number.
-    fn write_buffered(
+    pub(crate) fn write_buffered(
         &mut self,
         alloc: Global,
         job: Option<JobId>,
@@ -109,7 +109,7 @@ impl<D: Disk> Store<D> {
 
 /// The part file of the rows of a buffer in a table under a number, written by these options: its path, its bytes, and the
 /// group that its own footer records.
-fn buffered_part(
+pub(crate) fn buffered_part(
     alloc: Global,
     table: &Manifest,
     number: u64,

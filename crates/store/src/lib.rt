@@ -48,12 +48,14 @@ mod run;
 mod run_reading;
 mod run_sources;
 mod run_writing;
+mod showing;
 mod sources;
 mod staging;
 mod starting;
 mod store;
 mod turn;
 mod wanted;
+mod wide_part;
 mod widening;
 
 pub use gathered_rows::begin_gathering;

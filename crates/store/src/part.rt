@@ -1,6 +1,6 @@
 //! Part files.
 
-ghost use Rattle.std.specs.Prelude.{◌≡◌, ◌≢◌, ◌≤◌, ◌<◌, ◌+◌, ◌^◌, ◌-◌, ◌↔◌, ◌⊎◌, ℕ, List, true, false, IfOk, IfSome, Err, length, string_bytes};
+ghost use Rattle.std.specs.Prelude.{◌≡◌, ◌≢◌, ◌≤◌, ◌<◌, ◌+◌, ◌^◌, ◌-◌, ◌↔◌, ◌⊎◌, ℕ, List, true, false, IfOk, Err, length, string_bytes};
 ghost use Rattle.bits.specs.Refusals.{RefusedOnly};
 ghost use Rattle.schema.specs.Views.{rows_view, key_view};
 ghost use Rattle.schema.specs.Keys.{AreRowsOf};
@@ -12,8 +12,6 @@ ghost use Rattle.footer.specs.Writing.{IsOutOfRange, IsTooMuch};
 ghost use Rattle.table.specs.Table.{Row as TableRow};
 ghost use Rattle.vault.specs.Views.{IsNoRoot};
 ghost use Rattle.vault.specs.Calls.{CountsOnce, HasFailed};
-ghost use Rattle.shred.specs.Columns.{column_refs_view};
-ghost use Rattle.store.specs.Wide.{AreFew, HasFewEntries};
 ghost use Rattle.store.specs.Writing.{IsPartFor, IsUnfit};
 
 use crate::store::Store;
@@ -22,9 +20,7 @@ use disk::Disk;
 use footer::{WriteOptions, write_file};
 use manifest::{Group, Manifest};
 use partition::{part_path, part_paths_are_not_roots};
-use row_group::{MOST_ENTRIES_OF_CHUNK, MOST_ROWS_OF_GROUP};
-use schema::{Key, Row, Schema};
-use shred::{ColumnRef, shred};
+use schema::{Key, Row};
 use snapshots::Event;
 use std::alloc::Global;
 use std::rc::Rc;
@@ -115,76 +111,6 @@ impl<D: Disk> Store<D> {
             rows,
         )
     }
-
-    /// The part file of rows of one key that may be more than a group has: it has one group with all of them. Where they are too
-    /// much for it, they are too much for a file with groups as the options say, and it is refused Limit.
-    pub(crate) fn make_wide_part(&self, alloc: Global, key: &Key, rows: &[Row]) -> R<Part>
-        requires some { 1 ≤ length rows.now }
-        requires counter { self.now.next_group < 2 ^ 64 - 1 }
-        ensures made { IfOk result (λ part. (held : List TableRow) → AreRowsOf (root_of self.now.manifest).keys (key_view key.now) (rows_view rows.now) held
-            → IsPartFor (root_of self.now.manifest).keys (root_of self.now.manifest).schema self.now.next_group (key_view key.now) held part) }
-        ensures no_root { IfOk result (λ part. IsNoRoot (string_bytes part.path)) }
-        ensures which { RefusedOnly (IsUnfitPart self.now (key_view key.now) (rows_view rows.now)) result }
-    {
-        let Some(options) = wide_options(&self.options, rows.len()) else {
-            return Err(Refusal::Memory);
-        };
-        match part_of(alloc, &self.manifest, self.next_group, &options, key, rows) {
-            Ok(part) => Ok(part),
-            Err(Refusal::Limit) => Err(why_too_wide(alloc, self.manifest.stored(), rows)),
-            Err(refusal) => Err(refusal),
-        }
-    }
-}
-
-/// These options, but with groups of this many rows. None where a group may not have as many.
-fn wide_options(options: &WriteOptions, rows: usize) -> Option<WriteOptions>
-    ensures rows { IfSome result (λ o. o.group_rows ≡ rows) }
-    ensures few { IfSome result (λ _. rows ≤ 16777216) }
-    ensures pages { IfSome result (λ o. o.page_rows ≡ options.now.page_rows) }
-    ensures version { IfSome result (λ o. o.page_version ≡ options.now.page_version) }
-    ensures style { IfSome result (λ o. o.style ≡ options.now.style) }
-{
-    if rows > MOST_ROWS_OF_GROUP as usize {
-        return None;
-    }
-    Some(WriteOptions {
-        group_rows: rows as u32,
-        page_rows: options.page_rows,
-        page_version: options.page_version,
-        style: options.style,
-    })
-}
-
-/// Why rows are not written as one group, where that is refused Limit: Limit; but Memory where a column of them has more
-/// entries than a chunk may have, as no group has that could be read, and where memory runs out here.
-fn why_too_wide(alloc: Global, stored: &Schema, rows: &[Row]) -> Refusal
-    ensures few { result ≡ Refusal.Limit → HasFewEntries stored.now (rows_view rows.now) }
-    ensures which { (result ≡ Refusal.Limit) ⊎ (result ≡ Refusal.Memory) }
-{
-    match has_few_entries(alloc, stored, rows) {
-        Ok(true) => Refusal::Limit,
-        Ok(false) | Err(_) => Refusal::Memory,
-    }
-}
-
-/// Whether no column of the rows has more entries than a chunk may have.
-fn has_few_entries(alloc: Global, stored: &Schema, rows: &[Row]) -> R<bool>
-    ensures { IfOk result (λ few. few ≡ true → HasFewEntries stored.now (rows_view rows.now)) }
-{
-    let columns = shred(alloc, stored, rows)?;
-    Ok(are_few(columns.as_slice()))
-}
-
-fn are_few(columns: &[ColumnRef<'_>]) -> bool
-    ensures { result ≡ true → AreFew (column_refs_view columns.now) }
-{
-    for column in columns {
-        if column.entries.len() > MOST_ENTRIES_OF_CHUNK as usize {
-            return false;
-        }
-    }
-    true
 }
 
 /// The part file of rows of one key in a table under a number, written by these options.

@@ -2,16 +2,16 @@
 
 ghost use Rattle.std.specs.Prelude.{◌≡◌, ◌≤◌, ◌<◌, ◌+◌, ◌↔◌, ◌⊎◌, ℕ, List, [], ◌∷◌, ◌++◌, true, false, None, Ok, IfOk, OnOk, length};
 ghost use Rattle.std.specs.List.{AllByRecursion};
-ghost use Rattle.bits.specs.Refusals.{RefusedOnly, RefusedMemoryOnly};
-ghost use Rattle.schema.specs.Keys.{AreRowsOf};
+ghost use Rattle.bits.specs.Refusals.{RefusedMemoryOnly};
 ghost use Rattle.schema.specs.Stripe.{leaves_of};
-ghost use Rattle.schema.specs.Views.{key_view, rows_view};
+ghost use Rattle.schema.specs.Views.{key_view};
 ghost use Rattle.vault.specs.Calls.{HasFailed};
 ghost use Rattle.filter.specs.Deciding.{satisfies as all_satisfied};
 ghost use Rattle.filter.specs.Terms.{tests_of};
 ghost use Rattle.filter.specs.Test.{tests_in};
-ghost use Rattle.partition.specs.Splitting.{key_rows_view};
+ghost use Rattle.gather.specs.KeyBuffers.{HoldsRows};
 ghost use Rattle.manifest.specs.Groups.{Group as Described, root_of, groups_in, handles_view};
+ghost use Rattle.manifest.specs.Root.{stored_of};
 ghost use Rattle.planning.specs.Numbered.{brought};
 ghost use Rattle.planning.specs.Replaced.{changes_view, replaced};
 ghost use Rattle.planning.specs.Told.{IsNextOf};
@@ -19,14 +19,12 @@ ghost use Rattle.table.specs.Deciding.{Filter as Terms};
 
 use crate::beginning::MOST_NUMBERS;
 use crate::counting::sum_of;
-use crate::filling::LAST_NUMBER;
 use crate::remaining::{Remains, remains_at};
 use crate::store::Store;
 use bits::{R, Refusal};
 use disk::Disk;
 use filter::{Filter, Term};
-use manifest::{Group, Version};
-use partition::KeyRows;
+use manifest::{Group, Manifest, Version};
 use planning::{Change, next_after};
 use std::alloc::Global;
 use std::rc::Rc;
@@ -50,16 +48,16 @@ impl<D: Disk> Store<D> {
     ghost use Rattle.store.specs.Filling.{HasWritten, IsBuffer};
     ghost use Rattle.store.specs.Promises.{Acts, ActsFrom, HasCause, StaysClosed, IsSure, ClosesInDoubt};
     ghost use Rattle.store.specs.Removing.{Puts, HasReplaced, Replaces, ReplacesAll};
-    ghost use Rattle.store.specs.Stands.{Shows, Stands};
-    ghost use Rattle.store.specs.Writing.{Writes, IsPartRefusal};
+    ghost use Rattle.store.specs.Stands.{Stands};
 
     /// Removes the rows that satisfy, in a commit of its own: Ok(n), of n rows. What is left of a group in which some row
     /// satisfies is one part file under a new number, in the group's place; where nothing is left, the group goes. The
     /// others stay as they are. Where no row satisfies, nothing is written.
     ///
-    /// A group that the filter rules out is not read; of another one each chunk is, once. Held are the rows of one group
-    /// at a time, and copies of those that are left of it. Time is linear in the groups and in the rows that are read,
-    /// but for finding each group, which is logarithmic.
+    /// A group that the filter rules out is not read; of another one the chunks that the filter looks at are, and, where
+    /// some row satisfies, the others: each once. No row is made. Held are the chunks of one group at a time, and what is
+    /// left of it as columns. Time is linear in the groups and in the values that are read, but for finding each group,
+    /// which is logarithmic.
     ///
     /// Refused Closed; Full where there are no more group numbers; for the first term that has a fault; Limit for a file
     /// or a root that is too much; Device, and InDoubt where the root may be the old one or the new one.
@@ -91,7 +89,8 @@ impl<D: Disk> Store<D> {
         ensures counts { (D.state self.old.vault.disk).failures ≤ (D.state self.new.vault.disk).failures }
         ensures honest { (D.state self.old.vault.disk).honest ↔ (D.state self.new.vault.disk).honest }
     {
-        let removed = self.replace_groups(alloc, filter)?;
+        let table = self.description()?;
+        let removed = self.replace_groups(alloc, &table, filter)?;
         if removed.count == 0 {
             return Ok(0);
         }
@@ -101,9 +100,9 @@ impl<D: Disk> Store<D> {
         Ok(removed.count)
     }
 
-    /// Judges each group of the table, and writes what is left of it where some row of it goes.
-    fn replace_groups(&mut self, alloc: Global, filter: &Filter) -> R<Removed>
-        ensures replaces { (D.state self.old.vault.disk).honest → (s : State) (terms : Terms) → s.closed ≡ false → tests_of (leaves_of s.table.schema) terms ≡ Ok (tests_in filter.now)
+    /// Judges each group of the table, which is described so, and writes what is left of it where some row of it goes.
+    fn replace_groups(&mut self, alloc: Global, table: &Manifest, filter: &Filter) -> R<Removed>
+        ensures replaces { (D.state self.old.vault.disk).honest → (s : State) (terms : Terms) → root_of table.now ≡ root_of self.old.manifest → s.closed ≡ false → tests_of (leaves_of s.table.schema) terms ≡ Ok (tests_in filter.now)
             → HasWritten D.state self.old self.old s None [] [] → self.old.next_group ≡ s.next_group
             → ReplacesAll D.state self.old self.new s (all_satisfied (tests_in filter.now)) result }
         ensures same { self.new ≡ record self.old { vault = self.new.vault; snapshots = self.new.snapshots; next_group = self.new.next_group } }
@@ -117,20 +116,22 @@ impl<D: Disk> Store<D> {
         };
         let count = self.manifest.groups().len();
         for place in 0..count {
-            self.replace_group(alloc, filter, place, &mut removed)?;
+            self.replace_group(alloc, table, filter, place, &mut removed)?;
         }
         Ok(removed)
     }
 
-    /// Judges the group at a place, and writes what is left of it where some row of it goes.
+    /// Judges the group at a place of the table, which is described so, and writes what is left of it where some row of it
+    /// goes.
     fn replace_group(
         &mut self,
         alloc: Global,
+        table: &Manifest,
         filter: &Filter,
         place: usize,
         removed: &mut Removed,
     ) -> R<()>
-        ensures replaces { (D.state self.old.vault.disk).honest → (start : Store D) (s : State) (terms : Terms) → s.closed ≡ false → tests_of (leaves_of s.table.schema) terms ≡ Ok (tests_in filter.now)
+        ensures replaces { (D.state self.old.vault.disk).honest → (start : Store D) (s : State) (terms : Terms) → root_of table.now ≡ root_of self.old.manifest → s.closed ≡ false → tests_of (leaves_of s.table.schema) terms ≡ Ok (tests_in filter.now)
             → place < length (root_of self.old.manifest).groups → HasReplaced D.state start self.old s (all_satisfied (tests_in filter.now)) place removed.old
             → Replaces D.state start self.new s (all_satisfied (tests_in filter.now)) (place + 1) removed.new result }
         ensures same { self.new ≡ record self.old { vault = self.new.vault; snapshots = self.new.snapshots; next_group = self.new.next_group } }
@@ -138,53 +139,32 @@ impl<D: Disk> Store<D> {
         ensures counts { (D.state self.old.vault.disk).failures ≤ (D.state self.new.vault.disk).failures }
         ensures honest { (D.state self.old.vault.disk).honest ↔ (D.state self.new.vault.disk).honest }
     {
-        let remains = remains_at(alloc, &mut self.vault, &self.manifest, filter, place)?;
+        let remains = remains_at(alloc, &mut self.vault, table, filter, place)?;
         if remains.gone == 0 {
             return Ok(());
         }
-        self.put_remains(alloc, &remains, removed)
+        self.put_remains(alloc, remains, removed)
     }
 
     /// Writes what is left of a group, where any row is, and keeps the change.
-    fn put_remains(&mut self, alloc: Global, remains: &Remains, removed: &mut Removed) -> R<()>
-        ensures puts { (D.state self.old.vault.disk).honest → (start : Store D) (s : State) (files : List Described) (groups : List TableGroup) (held : List TableRow) → s.closed ≡ false
-            → HasWritten D.state start self.old s None files groups → IsBuffer s.table.schema s.table.keys (key_rows_view remains.now.rest) (buffer (key_view remains.now.rest.key) held)
-            → Puts D.state start self.old self.new s files groups held remains.now removed.old removed.new result }
+    fn put_remains(&mut self, alloc: Global, remains: Remains<'_>, removed: &mut Removed) -> R<()>
+        ensures puts { (D.state self.old.vault.disk).honest → (start : Store D) (s : State) (files : List Described) (groups : List TableGroup) (stored held : List TableRow) → s.closed ≡ false
+            → HasWritten D.state start self.old s None files groups → HoldsRows (stored_of (root_of self.old.manifest)) stored remains.entry.rest
+            → IsBuffer s.table.schema s.table.keys (buffer (key_view remains.entry.rest.key) stored) (buffer (key_view remains.entry.rest.key) held)
+            → Puts D.state start self.old self.new s files groups held remains.entry removed.old removed.new result }
         ensures same { self.new ≡ record self.old { vault = self.new.vault; snapshots = self.new.snapshots; next_group = self.new.next_group } }
         ensures sure { IsSure result }
         ensures counts { (D.state self.old.vault.disk).failures ≤ (D.state self.new.vault.disk).failures }
         ensures honest { (D.state self.old.vault.disk).honest ↔ (D.state self.new.vault.disk).honest }
     {
-        if remains.rest.rows.is_empty() {
-            return add_change(removed, remains, Vec::new(alloc));
+        let Remains { number, gone, rest } = remains;
+        if rest.rows.len() == 0 {
+            return add_change(removed, number, gone, Vec::new(alloc));
         }
-        let group = self.write_whole(alloc, &remains.rest)?;
+        let group = self.write_whole(alloc, rest)?;
         let mut come = Vec::new(alloc);
         come.push(group)?;
-        add_change(removed, remains, come)
-    }
-
-    /// Writes rows of one key, one at least, as one part file: also where they are more than a group has, as what is left
-    /// of a group may be that was written when a group had more rows.
-    fn write_whole(&mut self, alloc: Global, rest: &KeyRows) -> R<Rc<Group>>
-        requires some { 1 ≤ length rest.now.rows.items }
-        ensures writes { (D.state self.old.vault.disk).honest → (s : State) (held : List TableRow) → Shows D.state self.old s → s.closed ≡ false
-            → AreRowsOf s.table.keys (key_view rest.now.key) (rows_view rest.now.rows.items) held → Writes D.state self.old self.new None (key_view rest.now.key) held result s }
-        ensures which { RefusedOnly (IsPartRefusal self.old None (key_view rest.now.key) (rows_view rest.now.rows.items)) result }
-        ensures same { self.new ≡ record self.old { vault = self.new.vault; snapshots = self.new.snapshots; next_group = self.new.next_group } }
-        ensures rises { self.new.next_group ≤ self.old.next_group + 1 }
-        ensures counts { (D.state self.old.vault.disk).failures ≤ (D.state self.new.vault.disk).failures }
-        ensures honest { (D.state self.old.vault.disk).honest ↔ (D.state self.new.vault.disk).honest }
-    {
-        let rows = rest.rows.as_slice();
-        if self.next_group >= LAST_NUMBER {
-            return Err(Refusal::Memory);
-        }
-        if rows.len() <= self.options.group_rows as usize {
-            return self.write_part(alloc, None, &rest.key, rows);
-        }
-        let part = self.make_wide_part(alloc, &rest.key, rows)?;
-        self.put_part(alloc, None, part)
+        add_change(removed, number, gone, come)
     }
 
     /// The version with these changes.
@@ -201,17 +181,14 @@ impl<D: Disk> Store<D> {
     }
 }
 
-/// In the place of the group of which this is left, these come.
-fn add_change(removed: &mut Removed, remains: &Remains, come: Vec<Rc<Group>>) -> R<()>
-    ensures changed { OnOk result (changes_view removed.new.changes.items ≡ changes_view removed.old.changes.items ++ record { number = remains.now.number; come = handles_view come.items } ∷ []) }
-    ensures counted { OnOk result (removed.new.count ≡ removed.old.count + remains.now.gone) }
+/// In the place of the group of this number, of which so many rows go, these come.
+fn add_change(removed: &mut Removed, number: u64, gone: u64, come: Vec<Rc<Group>>) -> R<()>
+    ensures changed { OnOk result (changes_view removed.new.changes.items ≡ changes_view removed.old.changes.items ++ record { number = number; come = handles_view come.items } ∷ []) }
+    ensures counted { OnOk result (removed.new.count ≡ removed.old.count + gone) }
     ensures which { RefusedMemoryOnly result }
 {
-    let count = sum_of(removed.count, remains.gone)?;
-    removed.changes.push(Change {
-        number: remains.number,
-        come,
-    })?;
+    let count = sum_of(removed.count, gone)?;
+    removed.changes.push(Change { number, come })?;
     removed.count = count;
     Ok(())
 }

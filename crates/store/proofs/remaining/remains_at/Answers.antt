@@ -13,7 +13,7 @@ returns-in-Some-clause-stands g c honest f held there h =
     let root = root_of c.args.table.now in
     let at = subst (λ (gs : List FileGroup). slice_get gs c.args.place ≡ Some f) (sym c.groups.ensures.are) there in
     let same = found c.group_at.result c.in-Some.group (λ x. group_view x.now) (slice_get (groups_in c.groups.result.now) c.args.place) f c.in-Some.is c.group_at.ensures at in
-    subst (λ (x : FileGroup). IfOk c.remains_of.result (λ r. AreRemains (tests_in c.args.filter.now) root.keys x held r)) same
+    subst (λ (x : FileGroup). IfOk c.remains_of.result (λ r. AreRemains (tests_in c.args.filter.now) root x held r)) same
     (c.remains_of.ensures.stands honest held (subst (λ (x : FileGroup). IsHeld (g.D.Disk.state c.args.vault.now.disk) (tests_in c.args.filter.now) root x held) (sym same) h))
 
 pub returns-in-Some-clause-only : goal.returns-in-Some-clause-only

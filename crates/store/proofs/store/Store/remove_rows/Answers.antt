@@ -1,6 +1,7 @@
-use Rattle.std.proofs.Common.{◌≡◌, ◌≤◌, ◌<◌, ◌⊎◌, ℕ, true, List, Err, ap, sym, ◌∙◌, subst}
+use Rattle.std.proofs.Common.{◌≡◌, ◌≤◌, ◌<◌, ◌⊎◌, ℕ, true, List, Err, inl, inr, ap, sym, ◌∙◌, subst}
 use Rattle.std.specs.List.{AllByRecursion}
 use Rattle.bits.specs.declared.refusal.Refusal.{Refusal}
+use Rattle.bits.specs.declared.refusal.Refusal.TheVariants.{Device, InDoubt, Memory}
 use Rattle.vault.specs.Calls.{HasFailed}
 use Rattle.vault.proofs.Chained.{refused}
 use Rattle.filter.specs.Test.{tests_in}
@@ -15,8 +16,24 @@ use Rattle.table.specs.Views.{answered}
 use Rattle.store.specs.Promises.{ActsFrom}
 use Rattle.store.proofs.Adding.{failed_since}
 use Rattle.store.proofs.Dropped.{failure_of, memory_only}
+use Rattle.store.proofs.Removals.{out_of_memory}
 use Rattle.store.proofs.Removed.{begins, halted_by, replaced_by, halted, halted_cause, poor_after, nothing_removed, planned, too_heavy, done_so, refused_so}
 use Rattle.store.proofs.store.Store.remove_rows.Goals as goal
+
+not_memory : (e : Refusal) → (e ≡ Device) ⊎ (e ≡ InDoubt) → e ≡ Memory → ⊥
+not_memory e (inl is) memory = cc
+not_memory e (inr is) memory = cc
+
+pub returns-in_err-table-clause-acts : goal.returns-in_err-table-clause-acts
+returns-in_err-table-clause-acts g c honest s terms stands is_open fine made =
+    refused (λ r. ActsFrom g.D.Disk.state c.args.self.now c.args.self.now (remove terms) (answered {T = ℕ} (λ x. done x) r) s) c.from_residual.result _ c.from_residual.ensures.1
+    (subst (λ (e : Refusal). ActsFrom g.D.Disk.state c.args.self.now c.args.self.now (remove terms) (answered {T = ℕ} (λ x. done x) (Err e)) s) (sym (memory_only c.in_err-table.field-0.0 c.in_err-table.ensures.which))
+    (out_of_memory g.D.Disk.state c.args.self.now s stands is_open terms))
+
+pub returns-in_err-table-clause-cause : goal.returns-in_err-table-clause-cause
+returns-in_err-table-clause-cause g c honest s terms stands is_open fine made =
+    refused (λ r. is_failure (answered {T = ℕ} (λ x. done x) r) ≡ true → HasFailed (g.D.Disk.state c.args.self.now.vault.disk) (g.D.Disk.state c.args.self.now.vault.disk)) c.from_residual.result _ c.from_residual.ensures.1
+    (λ h. absurd (not_memory c.in_err-table.field-0.0 (failure_of c.in_err-table.field-0.0 h) (memory_only c.in_err-table.field-0.0 c.in_err-table.ensures.which)))
 
 pub returns-in_err-removed-clause-acts : goal.returns-in_err-removed-clause-acts
 returns-in_err-removed-clause-acts g c honest s terms stands is_open fine made =
@@ -25,8 +42,8 @@ returns-in_err-removed-clause-acts g c honest s terms stands is_open fine made =
     let mid = c.replace_groups.new.self in
     let tests = tests_in c.args.filter.now in
     let e = c.in_err-removed.field-0.0 in
-    let stop = halted_by st old s stands is_open terms fine tests made mid e (c.in_err-removed.ensures.replaces honest s terms is_open made (begins st old s stands is_open) stands.shows.next_group) in
-    refused (λ r. ActsFrom st old mid (remove terms) (answered {T = ℕ} (λ x. done x) r) s) c.from_residual.result e c.from_residual.ensures.1 (halted st old s stands is_open terms fine mid e stop)
+    let stop = halted_by st old s stands is_open terms fine tests made mid e (c.in_err-removed.ensures.replaces honest s terms c.in_ok-table.ensures.same is_open made (begins st old s stands is_open) stands.shows.next_group) in
+    refused (λ r. ActsFrom st old mid (remove terms) (answered {T = ℕ} (λ x. done x) r) s) c.from_residual-in_err-removed.result e c.from_residual-in_err-removed.ensures.1 (halted st old s stands is_open terms fine mid e stop)
 
 pub returns-in_err-removed-clause-cause : goal.returns-in_err-removed-clause-cause
 returns-in_err-removed-clause-cause g c honest s terms stands is_open fine made =
@@ -35,8 +52,8 @@ returns-in_err-removed-clause-cause g c honest s terms stands is_open fine made 
     let mid = c.replace_groups.new.self in
     let tests = tests_in c.args.filter.now in
     let e = c.in_err-removed.field-0.0 in
-    let stop = halted_by st old s stands is_open terms fine tests made mid e (c.in_err-removed.ensures.replaces honest s terms is_open made (begins st old s stands is_open) stands.shows.next_group) in
-    refused (λ r. is_failure (answered {T = ℕ} (λ x. done x) r) ≡ true → HasFailed (st old.vault.disk) (st mid.vault.disk)) c.from_residual.result e c.from_residual.ensures.1 (halted_cause st old s stands is_open terms fine mid e stop)
+    let stop = halted_by st old s stands is_open terms fine tests made mid e (c.in_err-removed.ensures.replaces honest s terms c.in_ok-table.ensures.same is_open made (begins st old s stands is_open) stands.shows.next_group) in
+    refused (λ r. is_failure (answered {T = ℕ} (λ x. done x) r) ≡ true → HasFailed (st old.vault.disk) (st mid.vault.disk)) c.from_residual-in_err-removed.result e c.from_residual-in_err-removed.ensures.1 (halted_cause st old s stands is_open terms fine mid e stop)
 
 pub returns-then-removed-eq0-clause-acts : goal.returns-then-removed-eq0-clause-acts
 returns-then-removed-eq0-clause-acts g c honest s terms stands is_open fine made =
@@ -45,7 +62,7 @@ returns-then-removed-eq0-clause-acts g c honest s terms stands is_open fine made
     let mid = c.replace_groups.new.self in
     let tests = tests_in c.args.filter.now in
     let removed = c.in_ok-removed.removed in
-    let r = replaced_by st old s stands is_open terms fine tests made mid removed (c.in_ok-removed.ensures.replaces honest s terms is_open made (begins st old s stands is_open) stands.shows.next_group) in
+    let r = replaced_by st old s stands is_open terms fine tests made mid removed (c.in_ok-removed.ensures.replaces honest s terms c.in_ok-table.ensures.same is_open made (begins st old s stands is_open) stands.shows.next_group) in
     nothing_removed st old s stands is_open terms fine mid removed r c.if-removed-eq0.true
 
 pub returns-in_err-groups-clause-acts : goal.returns-in_err-groups-clause-acts
@@ -55,7 +72,7 @@ returns-in_err-groups-clause-acts g c honest s terms stands is_open fine made =
     let mid = c.replace_groups.new.self in
     let tests = tests_in c.args.filter.now in
     let removed = c.in_ok-removed.removed in
-    let r = replaced_by st old s stands is_open terms fine tests made mid removed (c.in_ok-removed.ensures.replaces honest s terms is_open made (begins st old s stands is_open) stands.shows.next_group) in
+    let r = replaced_by st old s stands is_open terms fine tests made mid removed (c.in_ok-removed.ensures.replaces honest s terms c.in_ok-table.ensures.same is_open made (begins st old s stands is_open) stands.shows.next_group) in
     refused (λ r. ActsFrom st old mid (remove terms) (answered {T = ℕ} (λ x. done x) r) s) c.from_residual-in_err-groups.result _ c.from_residual-in_err-groups.ensures.1
     (subst (λ (e : Refusal). ActsFrom st old mid (remove terms) (answered {T = ℕ} (λ x. done x) (Err e)) s) (sym (memory_only c.in_err-groups.field-0.0 c.in_err-groups.ensures.which)) (poor_after st old s stands is_open terms fine mid removed r))
 
@@ -82,7 +99,7 @@ returns-in_err-commit_version-clause-acts g c honest s terms stands is_open fine
     let mid = c.replace_groups.new.self in
     let tests = tests_in c.args.filter.now in
     let removed = c.in_ok-removed.removed in
-    let r = replaced_by st old s stands is_open terms fine tests made mid removed (c.in_ok-removed.ensures.replaces honest s terms is_open made (begins st old s stands is_open) stands.shows.next_group) in
+    let r = replaced_by st old s stands is_open terms fine tests made mid removed (c.in_ok-removed.ensures.replaces honest s terms c.in_ok-table.ensures.same is_open made (begins st old s stands is_open) stands.shows.next_group) in
     let next = c.next_with-next.result in
     let some = c.if-removed-eq0.false in
     let was : c.next.result ≡ s.table.next = c.next.ensures ∙ (r.written.wrote.shows.shown is_open).next in
@@ -107,7 +124,7 @@ returns-in_err-commit_version-clause-cause g c honest s terms stands is_open fin
     let mid = c.replace_groups.new.self in
     let tests = tests_in c.args.filter.now in
     let removed = c.in_ok-removed.removed in
-    let r = replaced_by st old s stands is_open terms fine tests made mid removed (c.in_ok-removed.ensures.replaces honest s terms is_open made (begins st old s stands is_open) stands.shows.next_group) in
+    let r = replaced_by st old s stands is_open terms fine tests made mid removed (c.in_ok-removed.ensures.replaces honest s terms c.in_ok-table.ensures.same is_open made (begins st old s stands is_open) stands.shows.next_group) in
     let next = c.next_with-next.result in
     let some = c.if-removed-eq0.false in
     let was : c.next.result ≡ s.table.next = c.next.ensures ∙ (r.written.wrote.shows.shown is_open).next in
@@ -130,7 +147,7 @@ returns-clause-acts g c honest s terms stands is_open fine made =
     let mid = c.replace_groups.new.self in
     let tests = tests_in c.args.filter.now in
     let removed = c.in_ok-removed.removed in
-    let r = replaced_by st old s stands is_open terms fine tests made mid removed (c.in_ok-removed.ensures.replaces honest s terms is_open made (begins st old s stands is_open) stands.shows.next_group) in
+    let r = replaced_by st old s stands is_open terms fine tests made mid removed (c.in_ok-removed.ensures.replaces honest s terms c.in_ok-table.ensures.same is_open made (begins st old s stands is_open) stands.shows.next_group) in
     let next = c.next_with-next.result in
     let some = c.if-removed-eq0.false in
     let was : c.next.result ≡ s.table.next = c.next.ensures ∙ (r.written.wrote.shows.shown is_open).next in

@@ -1,17 +1,35 @@
-use Rattle.std.proofs.Common.{◌≤◌, ◌+◌, refl, ap, arith}
+use Rattle.std.proofs.Common.{◌≡◌, ◌≤◌, ◌+◌, ℕ, List, map, Some, Result, Err, refl, ap, subst, arith}
+use Rattle.std.specs.Prelude.{slice_get}
+use Rattle.bits.specs.declared.refusal.Refusal.{Refusal}
+use Rattle.bits.specs.Refusals.{RefusedOnly}
+use Rattle.schema.specs.Keys.{row_without_keys}
+use Rattle.disk.specs.State.{State as DiskState}
 use Rattle.vault.proofs.Chained.{refused}
-use Rattle.filter.specs.Test.{tests_in}
+use Rattle.filter.specs.Test.{Test, tests_in}
 use Rattle.filter.specs.Deciding.{satisfies as all_satisfied}
-use Rattle.manifest.specs.Groups.{root_of}
+use Rattle.manifest.specs.Groups.{Group as FileGroup, Root, root_of}
+use Rattle.scan.specs.Faults.{IsDevice}
+use Rattle.table.specs.Table.{Group}
 use Rattle.store.specs.declared.store.Store.{Store}
 use Rattle.store.specs.declared.remaining.Remains.{Remains}
-use Rattle.store.specs.Removing.{Replaces, files_come, groups_come, not_those}
+use Rattle.store.specs.Counting.{IsHeld}
+use Rattle.store.specs.Removing.{AreRemains, Replaces, files_come, groups_come, not_those}
 use Rattle.store.proofs.Replacing.{has_read}
 use Rattle.store.proofs.Replaced.{at, held, is_buffer, stays_on, put_ends, read_stops}
 use Rattle.store.proofs.store.Store.replace_group.Goals as goal
 
+-- the table that is read is the store's
+module _ {D : Type 0} (state : D → DiskState) (old : Store D) (root : Root) (same : root ≡ root_of old.manifest) (tests : List (List Test)) (place : ℕ) (f : FileGroup) (g : Group) where
+  remains_by : (r : Remains) → (slice_get root.groups place ≡ Some f → IsHeld (state old.vault.disk) tests root f g → AreRemains tests root f g r)
+      → slice_get (root_of old.manifest).groups place ≡ Some f → IsHeld (state old.vault.disk) tests (root_of old.manifest) f g → AreRemains tests (root_of old.manifest) f g r
+  remains_by r of = subst (λ (q : Root). slice_get q.groups place ≡ Some f → IsHeld (state old.vault.disk) tests q f g → AreRemains tests q f g r) same of
+
+  only_by : (T : Type 0) (result : Result T Refusal) → (slice_get root.groups place ≡ Some f → IsHeld (state old.vault.disk) tests root f g → RefusedOnly IsDevice result)
+      → slice_get (root_of old.manifest).groups place ≡ Some f → IsHeld (state old.vault.disk) tests (root_of old.manifest) f g → RefusedOnly IsDevice result
+  only_by T result of = subst (λ (q : Root). slice_get q.groups place ≡ Some f → IsHeld (state old.vault.disk) tests q f g → RefusedOnly IsDevice result) same of
+
 pub returns-in_err-remains-clause-replaces : goal.returns-in_err-remains-clause-replaces
-returns-in_err-remains-clause-replaces g c honest start s terms is_open made within r =
+returns-in_err-remains-clause-replaces g c honest start s terms same is_open made within r =
     let st = g.D.Disk.state in
     let old = c.args.self.now in
     let tests = tests_in c.args.filter.now in
@@ -23,10 +41,10 @@ returns-in_err-remains-clause-replaces g c honest start s terms is_open made wit
     let here = at st start old s is_open tests place removed r within in
     refused (λ o. Replaces st start (record old { vault = vault }) s (all_satisfied tests) (place + 1) removed o) c.from_residual.result e c.from_residual.ensures.1
     (read_stops st start old s is_open tests place removed r vault Remains e failed.ensures.effect
-    (failed.ensures.only honest here.file here.group here.file_at (held st start old s is_open tests place removed r within terms made)) honest)
+    (only_by st old (root_of c.args.table.now) same tests place here.file here.group Remains (Err e) (failed.ensures.only honest here.file here.group) here.file_at (held st start old s is_open tests place removed r within terms made)) honest)
 
 pub returns-then-remains-eq0-clause-replaces : goal.returns-then-remains-eq0-clause-replaces
-returns-then-remains-eq0-clause-replaces g c honest start s terms is_open made within r =
+returns-then-remains-eq0-clause-replaces g c honest start s terms same is_open made within r =
     let st = g.D.Disk.state in
     let old = c.args.self.now in
     let tests = tests_in c.args.filter.now in
@@ -35,11 +53,11 @@ returns-then-remains-eq0-clause-replaces g c honest start s terms is_open made w
     let vault = c.remains_at.new.vault in
     let done = c.in_ok-remains in
     let here = at st start old s is_open tests place removed r within in
-    let are = done.ensures.stands honest here.file here.group here.file_at (held st start old s is_open tests place removed r within terms made) in
+    let are = remains_by st old (root_of c.args.table.now) same tests place here.file here.group done.remains (done.ensures.stands honest here.file here.group) here.file_at (held st start old s is_open tests place removed r within terms made) in
     stays_on st start old s is_open tests place removed r within done.remains are c.if-remains-eq0.true vault (done.ensures.effect.unchanged honest) done.ensures.effect.counts.later
 
 pub returns-clause-replaces : goal.returns-clause-replaces
-returns-clause-replaces g c honest start s terms is_open made within r =
+returns-clause-replaces g c honest start s terms same is_open made within r =
     let st = g.D.Disk.state in
     let old = c.args.self.now in
     let tests = tests_in c.args.filter.now in
@@ -49,12 +67,13 @@ returns-clause-replaces g c honest start s terms is_open made within r =
     let done = c.in_ok-remains in
     let rest = done.remains in
     let here = at st start old s is_open tests place removed r within in
-    let are = done.ensures.stands honest here.file here.group here.file_at (held st start old s is_open tests place removed r within terms made) in
+    let are = remains_by st old (root_of c.args.table.now) same tests place here.file here.group done.remains (done.ensures.stands honest here.file here.group) here.file_at (held st start old s is_open tests place removed r within terms made) in
     let some : 1 ≤ rest.gone = omega (arith, c.if-remains-eq0.false) in
     let mid = record old { vault = vault } in
     let new = c.put_remains.new.self in
     let has = has_read st start old s is_open vault (done.ensures.effect.unchanged honest) done.ensures.effect.counts.later _ (files_come r.outcomes) (groups_come r.outcomes) r.written in
-    let buffer = is_buffer st start old s is_open tests place removed r within rest are some in
-    let puts = c.put_remains.ensures.puts (done.ensures.effect.honest.0 honest) start s (files_come r.outcomes) (groups_come r.outcomes) (not_those (all_satisfied tests) here.group.rows) is_open has buffer in
+    let left = not_those (all_satisfied tests) here.group.rows in
+    let buffer = is_buffer st start old s is_open tests place removed r within rest are in
+    let puts = c.put_remains.ensures.puts (done.ensures.effect.honest.0 honest) start s (files_come r.outcomes) (groups_come r.outcomes) (map (row_without_keys (root_of old.manifest).keys) left) left is_open has (are.rest some) buffer in
     put_ends st start old s is_open tests place removed r within rest are mid new c.put_remains.new.removed some refl
     (ap (λ (x : Store g.row.D.Denot). root_of x.manifest) c.put_remains.ensures.same) c.put_remains.result puts

@@ -14,7 +14,7 @@ loop-place-init g c = record {
   same = refl;
   failures = omega arith;
   honest = (λ h. h, λ h. h);
-  replaces = λ honest s terms is_open made has same. at_first g.D.Disk.state c.args.self.now s has same (all_satisfied (tests_in c.args.filter.now)) _ (ap changes_view c.new.ensures.items) refl;
+  replaces = λ honest s terms described is_open made has same. at_first g.D.Disk.state c.args.self.now s has same (all_satisfied (tests_in c.args.filter.now)) _ (ap changes_view c.new.ensures.items) refl;
 }
 
 pub loop-place-preserved : goal.loop-place-preserved
@@ -31,11 +31,11 @@ loop-place-preserved g c =
       same = done.ensures.same ∙ ap (λ (x : Store g.row.D.Denot). record x { vault = new.vault; snapshots = new.snapshots; next_group = new.next_group }) so_far.same;
       failures = omega (arith, so_far.failures, done.ensures.counts);
       honest = both so_far.honest done.ensures.honest;
-      replaces = λ honest s terms is_open made has same. done.ensures.replaces (so_far.honest.0 honest) old s terms is_open made within (so_far.replaces honest s terms is_open made has same);
+      replaces = λ honest s terms described is_open made has same. done.ensures.replaces (so_far.honest.0 honest) old s terms (described ∙ sym manifest) is_open made within (so_far.replaces honest s terms described is_open made has same);
     }
 
 pub returns-in_err-replace_group-clause-replaces : goal.returns-in_err-replace_group-clause-replaces
-returns-in_err-replace_group-clause-replaces g c honest s terms is_open made has same =
+returns-in_err-replace_group-clause-replaces g c honest s terms described is_open made has same =
     let old = c.args.self.now in
     let mid = c.loop-place.self in
     let so_far = c.loop-place.invariant in
@@ -43,13 +43,13 @@ returns-in_err-replace_group-clause-replaces g c honest s terms is_open made has
     let within : c.loop-place.place < length (root_of mid.manifest).groups
     = subst (λ (gs : List FileGroup). c.loop-place.place < length gs) (c.groups.ensures.are ∙ sym (ap (λ r. r.groups) manifest)) (omega (arith, c.loop-place-test.true, c.len-count.ensures)) in
     refused (λ o. ReplacesAll g.D.Disk.state old c.replace_group.new.self s (all_satisfied (tests_in c.args.filter.now)) o) c.from_residual.result _ c.from_residual.ensures.1
-    (c.in_err-replace_group.ensures.replaces (so_far.honest.0 honest) old s terms is_open made within (so_far.replaces honest s terms is_open made has same))
+    (c.in_err-replace_group.ensures.replaces (so_far.honest.0 honest) old s terms (described ∙ sym manifest) is_open made within (so_far.replaces honest s terms described is_open made has same))
 
 pub returns-clause-replaces : goal.returns-clause-replaces
-returns-clause-replaces g c honest s terms is_open made has same =
+returns-clause-replaces g c honest s terms described is_open made has same =
     let mid = c.loop-place.self in
     let so_far = c.loop-place.invariant in
     let manifest = ap (λ (x : Store g.row.D.Denot). root_of x.manifest) so_far.same in
     let past : length (root_of mid.manifest).groups ≤ c.loop-place.place
     = subst (λ (gs : List FileGroup). length gs ≤ c.loop-place.place) (c.groups.ensures.are ∙ sym (ap (λ r. r.groups) manifest)) (omega (arith, c.loop-place-test.false, c.len-count.ensures)) in
-    at_last g.D.Disk.state c.args.self.now mid s is_open (all_satisfied (tests_in c.args.filter.now)) c.loop-place.place c.loop-place.removed (so_far.replaces honest s terms is_open made has same) past
+    at_last g.D.Disk.state c.args.self.now mid s is_open (all_satisfied (tests_in c.args.filter.now)) c.loop-place.place c.loop-place.removed (so_far.replaces honest s terms described is_open made has same) past

@@ -1,40 +1,74 @@
-use Rattle.std.proofs.Common.{◌≡◌, List, None, refl, sym, subst}
+use Rattle.std.proofs.Common.{◌≡◌, ◌≤◌, ℕ, List, length, None, refl, sym, subst, arith}
 use Rattle.bits.specs.declared.refusal.Refusal.{Refusal}
 use Rattle.bits.specs.declared.refusal.Refusal.TheVariants.{Device, Memory}
-use Rattle.bits.specs.Refusals.{HasCause}
-use Rattle.schema.specs.declared.row.Row.{Row as CodeRow}
+use Rattle.bits.specs.Refusals.{HasCause, RefusedOnly}
 use Rattle.schema.specs.Keys.{KeyColumn, AreRowsOf}
-use Rattle.schema.specs.Views.{rows_view, key_view}
+use Rattle.schema.specs.Views.{key_view}
 use Rattle.vault.proofs.Chained.{refused}
+use Rattle.gather.specs.declared.key_buffer.KeyBuffer.{KeyBuffer}
+use Rattle.gather.specs.KeyBuffers.{HoldsRows}
 use Rattle.manifest.specs.Groups.{root_of}
+use Rattle.manifest.specs.Root.{stored_of}
 use Rattle.table.specs.Table.{Row, Key}
 use Rattle.store.specs.declared.store.Store.{Store}
-use Rattle.store.specs.Writing.{Writes, IsUnfitPart}
+use Rattle.store.specs.Gathering.{HoldsPart}
+use Rattle.store.specs.Writing.{Writes, IsUnfitPart, IsPartRefusal}
+use Rattle.store.proofs.Narrowed.{unwritten}
 use Rattle.store.proofs.Written.{nothing_written, part_for}
 use Rattle.store.proofs.store.Store.write_whole.Goals as goal
 
 no_device : {D : Type 0} (store : Store D) (key : Key) (rows : List Row) (e : Refusal) → HasCause (IsUnfitPart store key rows) e → e ≡ Device → ⊥
 no_device store key rows e cause is = subst (λ (x : Refusal). HasCause (IsUnfitPart store key rows) x) is cause
 
-pub returns-then-self-ge-LAST_NUMBER-clause-writes : goal.returns-then-self-ge-LAST_NUMBER-clause-writes
-returns-then-self-ge-LAST_NUMBER-clause-writes g c honest s held shows is_open are =
+holds_part : {D : Type 0} (store : Store D) (rest : KeyBuffer) (stored : List Row) (count : ℕ) → HoldsRows (stored_of (root_of store.manifest)) stored rest → count ≡ length stored → 1 ≤ count → count ≤ store.options.group_rows
+    → HoldsPart (root_of store.manifest) store.options rest stored
+holds_part store rest stored count holds many some few = record { rows = holds; some = omega (arith, many, some); few = omega (arith, many, few) }
+
+pub returns-then-rows-eq0-clause-writes : goal.returns-then-rows-eq0-clause-writes
+returns-then-rows-eq0-clause-writes g c honest s stored held shows is_open holds are =
     let old = c.args.self.now in
-    nothing_written g.D.Disk.state old s None (key_view c.args.rest.now.key) held shows is_open old.snapshots refl Memory (λ is. cc)
+    nothing_written g.D.Disk.state old s None (key_view c.args.rest.key) held shows is_open old.snapshots refl Memory (λ is. cc)
+
+pub returns-then-self-ge-LAST_NUMBER-clause-writes : goal.returns-then-self-ge-LAST_NUMBER-clause-writes
+returns-then-self-ge-LAST_NUMBER-clause-writes g c honest s stored held shows is_open holds are =
+    let old = c.args.self.now in
+    nothing_written g.D.Disk.state old s None (key_view c.args.rest.key) held shows is_open old.snapshots refl Memory (λ is. cc)
+
+pub returns-then-rows-self-clause-writes : goal.returns-then-rows-self-clause-writes
+returns-then-rows-self-clause-writes g c honest s stored held shows is_open holds are =
+    let many = c.len-rows.ensures.counted stored holds.held in
+    let part = holds_part c.args.self.now c.args.rest stored c.len-rows.result holds many (omega (arith, c.if-rows-eq0.false)) c.if-rows-self.true in
+    c.write_buffered.ensures.writes honest s stored held shows is_open refl part are
+
+pub returns-then-rows-self-clause-which : goal.returns-then-rows-self-clause-which
+returns-then-rows-self-clause-which g c stored holds =
+    let many = c.len-rows.ensures.counted stored holds.held in
+    c.write_buffered.ensures.which stored (holds_part c.args.self.now c.args.rest stored c.len-rows.result holds many (omega (arith, c.if-rows-eq0.false)) c.if-rows-self.true)
+
+pub returns-in_err-part-clause-which : goal.returns-in_err-part-clause-which
+returns-in_err-part-clause-which g c stored holds =
+    let old = c.args.self.now in
+    let key = key_view c.args.rest.key in
+    let many = c.len-rows.ensures.counted stored holds.held in
+    refused (λ r. RefusedOnly (IsPartRefusal old None key stored) r) c.from_residual.result _ c.from_residual.ensures.1
+    (unwritten old None key stored c.in_err-part.field-0.0 (c.in_err-part.ensures.which stored holds (omega (arith, many, c.if-rows-eq0.false))))
 
 pub returns-in_err-part-clause-writes : goal.returns-in_err-part-clause-writes
-returns-in_err-part-clause-writes g c honest s held shows is_open are =
+returns-in_err-part-clause-writes g c honest s stored held shows is_open holds are =
     let old = c.args.self.now in
-    let key = key_view c.args.rest.now.key in
+    let key = key_view c.args.rest.key in
+    let many = c.len-rows.ensures.counted stored holds.held in
     refused (λ r. Writes g.D.Disk.state old old None key held r s) c.from_residual.result _ c.from_residual.ensures.1
-    (nothing_written g.D.Disk.state old s None key held shows is_open old.snapshots refl _ (no_device old key (rows_view c.as_slice-rows.result.now) c.in_err-part.field-0.0 c.in_err-part.ensures.which))
+    (nothing_written g.D.Disk.state old s None key held shows is_open old.snapshots refl _
+    (no_device old key stored c.in_err-part.field-0.0 (c.in_err-part.ensures.which stored holds (omega (arith, many, c.if-rows-eq0.false)))))
 
 pub returns-clause-writes : goal.returns-clause-writes
-returns-clause-writes g c honest s held shows is_open are =
+returns-clause-writes g c honest s stored held shows is_open holds are =
     let old = c.args.self.now in
     let part = c.in_ok-part.part in
-    let key = key_view c.args.rest.now.key in
-    let rows = rows_view c.as_slice-rows.result.now in
-    let so = subst (λ (rs : List CodeRow). AreRowsOf s.table.keys key (rows_view rs) held) (sym c.as_slice-rows.ensures.value) are in
-    let made = c.in_ok-part.ensures.made held (subst (λ (ks : List KeyColumn). AreRowsOf ks key rows held) (sym shows.keys) so) in
+    let key = key_view c.args.rest.key in
+    let many = c.len-rows.ensures.counted stored holds.held in
+    let some : 1 ≤ length stored = omega (arith, many, c.if-rows-eq0.false) in
+    let made = c.in_ok-part.ensures.made stored held holds some (subst (λ (ks : List KeyColumn). AreRowsOf ks key stored held) (sym shows.keys) are) in
     let ready = part_for (root_of old.manifest).keys s.table.keys (root_of old.manifest).schema s.table.schema old.next_group s.next_group key held part shows.keys shows.schema shows.next_group made in
     c.put_part.ensures.writes honest s key held shows is_open refl ready

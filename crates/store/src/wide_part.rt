@@ -1,0 +1,127 @@
+//! Part files of what is left of a group, which may be more rows than a group has.
+
+ghost use Rattle.std.specs.Prelude.{◌≡◌, ◌≤◌, ◌<◌, ◌+◌, ◌^◌, ◌-◌, ◌↔◌, List, false, true, None, IfOk, IfSome, length, string_bytes};
+ghost use Rattle.bits.specs.Refusals.{RefusedOnly, RefusedMemoryOnly};
+ghost use Rattle.schema.specs.Views.{key_view};
+ghost use Rattle.schema.specs.Keys.{AreRowsOf};
+ghost use Rattle.shred.specs.Buffer.{schema_of, holds};
+ghost use Rattle.gather.specs.KeyBuffers.{HoldsRows};
+ghost use Rattle.manifest.specs.Groups.{root_of};
+ghost use Rattle.manifest.specs.Root.{stored_of};
+ghost use Rattle.table.specs.Table.{Row as TableRow};
+ghost use Rattle.vault.specs.Views.{IsNoRoot};
+ghost use Rattle.store.specs.Promises.{IsSure};
+ghost use Rattle.store.specs.Wide.{HasFewEntries};
+ghost use Rattle.store.specs.Writing.{IsPartFor, IsUnfit};
+
+use crate::buffered_part::buffered_part;
+use crate::filling::LAST_NUMBER;
+use crate::part::Part;
+use crate::store::Store;
+use bits::{R, Refusal};
+use disk::Disk;
+use footer::WriteOptions;
+use gather::KeyBuffer;
+use manifest::{Group, Manifest};
+use row_group::{MOST_ENTRIES_OF_CHUNK, MOST_ROWS_OF_GROUP};
+use shred::RowBuffer;
+use std::alloc::Global;
+use std::rc::Rc;
+
+impl<D: Disk> Store<D> {
+    ghost use Rattle.table.specs.State.{State};
+    ghost use Rattle.store.specs.Stands.{Shows};
+    ghost use Rattle.store.specs.Writing.{Writes, IsPartRefusal};
+
+    /// Writes the rows of a buffer as one part file: also where they are more than a group has, as what is left of a group
+    /// may be that was written when a group had more rows. They are at least one, of the schema of the table's files, and
+    /// numbers are left; else it is refused Memory.
+    pub(crate) fn write_whole(&mut self, alloc: Global, rest: KeyBuffer<'_>) -> R<Rc<Group>>
+        ensures writes { (D.state self.old.vault.disk).honest → (s : State) (stored held : List TableRow) → Shows D.state self.old s → s.closed ≡ false
+            → HoldsRows (stored_of (root_of self.old.manifest)) stored rest.entry → AreRowsOf s.table.keys (key_view rest.entry.key) stored held
+            → Writes D.state self.old self.new None (key_view rest.entry.key) held result s }
+        ensures which { (stored : List TableRow) → HoldsRows (stored_of (root_of self.old.manifest)) stored rest.entry
+            → RefusedOnly (IsPartRefusal self.old None (key_view rest.entry.key) stored) result }
+        ensures sure { IsSure result }
+        ensures same { self.new ≡ record self.old { vault = self.new.vault; snapshots = self.new.snapshots; next_group = self.new.next_group } }
+        ensures rises { self.new.next_group ≤ self.old.next_group + 1 }
+        ensures counts { (D.state self.old.vault.disk).failures ≤ (D.state self.new.vault.disk).failures }
+        ensures honest { (D.state self.old.vault.disk).honest ↔ (D.state self.new.vault.disk).honest }
+    {
+        let rows = rest.rows.len();
+        if rows == 0 {
+            return Err(Refusal::Memory);
+        }
+        if self.next_group >= LAST_NUMBER {
+            return Err(Refusal::Memory);
+        }
+        if rows <= self.options.group_rows as usize {
+            return self.write_buffered(alloc, None, rest);
+        }
+        let part = wide_part(alloc, &self.manifest, self.next_group, &self.options, rest)?;
+        self.put_part(alloc, None, part)
+    }
+}
+
+/// The part file of the rows of a buffer, at least one, that may be more than a group has: it has one group with all of
+/// them. Where they are too much for it, they are too much for a file with groups as the options say, and it is refused
+/// Limit; but Memory where a column of them has more entries than a chunk may have, as no group has that could be read.
+fn wide_part(
+    alloc: Global,
+    table: &Manifest,
+    number: u64,
+    options: &WriteOptions,
+    buffer: KeyBuffer<'_>,
+) -> R<Part>
+    requires counter { number < 2 ^ 64 - 1 }
+    ensures made { IfOk result (λ part. (stored held : List TableRow) → HoldsRows (stored_of (root_of table.now)) stored buffer.entry → 1 ≤ length stored
+        → AreRowsOf (root_of table.now).keys (key_view buffer.entry.key) stored held
+        → IsPartFor (root_of table.now).keys (root_of table.now).schema number (key_view buffer.entry.key) held part) }
+    ensures no_root { IfOk result (λ part. IsNoRoot (string_bytes part.path)) }
+    ensures which { (stored : List TableRow) → HoldsRows (stored_of (root_of table.now)) stored buffer.entry → 1 ≤ length stored
+        → RefusedOnly (IsUnfit (root_of table.now) options.now (key_view buffer.entry.key) stored) result }
+    ensures sure { IsSure result }
+{
+    let Some(wide) = wide_options(options, buffer.rows.len()) else {
+        return Err(Refusal::Memory);
+    };
+    if !has_few_entries(alloc, &buffer.rows)? {
+        return Err(Refusal::Memory);
+    }
+    buffered_part(alloc, table, number, &wide, buffer)
+}
+
+/// These options, but with groups of this many rows. None where a group may not have as many.
+fn wide_options(options: &WriteOptions, rows: usize) -> Option<WriteOptions>
+    ensures rows { IfSome result (λ o. o.group_rows ≡ rows) }
+    ensures few { IfSome result (λ _. rows ≤ 16777216) }
+    ensures pages { IfSome result (λ o. o.page_rows ≡ options.now.page_rows) }
+    ensures version { IfSome result (λ o. o.page_version ≡ options.now.page_version) }
+    ensures style { IfSome result (λ o. o.style ≡ options.now.style) }
+{
+    if rows > MOST_ROWS_OF_GROUP as usize {
+        return None;
+    }
+    Some(WriteOptions {
+        group_rows: rows as u32,
+        page_rows: options.page_rows,
+        page_version: options.page_version,
+        style: options.style,
+    })
+}
+
+/// Whether no column of the rows has more entries than a chunk may have. Time is linear in the entries.
+fn has_few_entries(alloc: Global, rows: &RowBuffer<'_>) -> R<bool>
+    ensures few { IfOk result (λ few. few ≡ true → (held : List TableRow) → holds rows.now held → HasFewEntries (schema_of rows.now) held) }
+    ensures which { RefusedMemoryOnly result }
+{
+    let leaves = rows.schema().leaves().len();
+    let mut entries = Vec::new(alloc);
+    for leaf in 0..leaves {
+        rows.entries(leaf, &mut entries)?;
+        if entries.len() > MOST_ENTRIES_OF_CHUNK as usize {
+            return Ok(false);
+        }
+    }
+    Ok(true)
+}
