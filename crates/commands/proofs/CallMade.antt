@@ -24,8 +24,8 @@ only_memory : (e : Refusal) → HasCause (λ f. ⊥) e → e ≡ Memory
 only_memory Memory has = refl
 only_memory e has = absurd has
 
-pub no_memory_of : {D S : Type 0} {state : D → DiskState} {old new : Known D} {call : Call} {before after : Option (List ℕ)} (result : Result ⊤ Refusal) (e : Refusal)
-    → IsErrAnd result (λ f. f ≡ e) → HasCause (λ f. ⊥) e → StaysKnown old new → after ≡ before → CallComes S state old new call before after result
+pub no_memory_of : {P D S : Type 0} {state : D → DiskState} {known : P → Known D} {old new : Known D} {call : Call} {before after : Option (List ℕ)} (result : Result ⊤ Refusal) (e : Refusal)
+    → IsErrAnd result (λ f. f ≡ e) → HasCause (λ f. ⊥) e → StaysKnown old new → after ≡ before → CallComes S state known old new call before after result
 no_memory_of (Ok x) e is memory stays unprinted = absurd is
 no_memory_of (Err f) e is memory stays unprinted = no_memory stays unprinted (ap Err (is ∙ only_memory e memory))
 

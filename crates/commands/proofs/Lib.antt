@@ -33,3 +33,7 @@ mod CreatedSo
 mod TasksAt
 mod OfFile
 mod LooksFound
+mod WholeLines
+mod BlocksRead
+mod TablesFound
+mod BlocksPut

@@ -1,5 +1,5 @@
 -- What is known of places, over several steps.
-use Rattle.std.proofs.Common.{◌≡◌, ◌↔◌, ℕ, Bool, false, List, [], ◌∷◌, Option, Result, Ok, Err, IsErrAnd, ap}
+use Rattle.std.proofs.Common.{◌≡◌, ◌↔◌, ℕ, Bool, false, List, [], ◌∷◌, Option, Some, None, Result, Ok, Err, IsErrAnd, ap}
 use Rattle.std.specs.Prelude.{⊤, Contains}
 use Rattle.std.proofs.lemmas.Result.{on_ok_weaker}
 use Rattle.bits.specs.declared.refusal.Refusal.{Refusal}
@@ -17,7 +17,10 @@ use Rattle.commands.specs.Places.{Known, StaysKnown, StaysBut, IsKeptFrom, AreKe
 use Rattle.commands.specs.Tasks.{first_file}
 use Rattle.commands.specs.Creating.{InNewFolder, handed_back, not_made, not_taken, taken_away, MakesTable, Creates, of_schema, not_begun}
 use Rattle.commands.specs.Looking.{LooksInFolder, looked, no_folder}
-use Rattle.commands.specs.Calls.{OnFolder, OnFiles, read, unread, PrintsOfFile, ComesUnfiltered, on_folder, on_file, named_paths}
+use Rattle.manifest.specs.Groups.{root_of}
+use Rattle.commands.specs.Calls.{OnFolder, OnFiles, OnFilesBy, read, unread, PrintsOfFile, ComesUnfiltered, on_folder, on_file, named_paths, append_of}
+use Rattle.commands.specs.Calls.{AppendsLines, no_file, no_table, no_rows, lines_read}
+use Rattle.commands.proofs.BlocksRead.{of_shut}
 use Rattle.commands.specs.Calls.{GivesAsked, of_question, not_asked}
 
 -- what holds both ways, twice over
@@ -140,8 +143,24 @@ module _ {D : Type 0} {old mid : Known D} (stays : StaysKnown old mid) (S : Type
   on_files_before (read files are comes) = read files (files_before stays (named_paths call.task) files are) (on_folder_before call.task files comes)
   on_files_before (unread e kept still unprinted is) = unread e (among_before stays (named_paths call.task) e kept) (stays_then stays still) unprinted is
 
-  pub comes_before : ComesUnfiltered S state mid new call before after result → ComesUnfiltered S state old new call before after result
-  comes_before (on_folder comes) = on_folder (on_files_before comes)
+module _ {P D : Type 0} {old mid : Known D} (stays : StaysKnown old mid) (S : Type 0) (state : D → DiskState) (known : P → Known D) (call : Call) (before after : Option (List ℕ)) (result : Result ⊤ Refusal) (new : Known D) where
+  -- so does what comes of an append
+  lines_before : (path : List ℕ) (unless : Option (List ℕ)) → AppendsLines S state known mid new call path unless before after result
+      → AppendsLines S state known old new call path unless before after result
+  lines_before path unless (no_file e kept still unprinted is) = no_file e (kept_before stays path e kept) (stays_then stays still) unprinted is
+  lines_before path unless (no_table e comes unprinted is) = no_table e (carried stays _ call.folder.now _ _ (Err e) comes) unprinted is
+  lines_before path unless (no_rows e table comes kept unprinted is) =
+      no_rows e table (carried stays _ call.folder.now _ _ (Ok table) comes)
+      (of_shut (stays.is_shut path).1 (mid.file path) (old.file path) (λ bytes. (stays.files path bytes).1) call.texts (root_of table).schema e kept) unprinted is
+  lines_before path unless (lines_read here table bytes rows comes there utf8 are after_it) =
+      lines_read here table bytes rows (carried stays _ call.folder.now _ _ (Ok table) comes) ((stays.files path bytes).1 there) utf8 are after_it
+
+  by_task_before : (asked : Option (List ℕ × Option (List ℕ))) → OnFilesBy S state known mid new call asked before after result → OnFilesBy S state known old new call asked before after result
+  by_task_before (Some asked) comes = lines_before asked.0 asked.1 comes
+  by_task_before None comes = on_files_before stays S state call before after result new comes
+
+  pub comes_before : ComesUnfiltered S state known mid new call before after result → ComesUnfiltered S state known old new call before after result
+  comes_before (on_folder comes) = on_folder (by_task_before (append_of call.task) comes)
   comes_before (on_file none still prints) = on_file ((stays.is_folder call.folder.now false).1 none) (stays_then stays still) (of_file_before stays before after result call.folder.now call.task prints)
 
 -- so does what a sink gets

@@ -11,7 +11,9 @@ use Rattle.schema.specs.declared.row.Row.{Row}
 use Rattle.schema.specs.Views.{row_view, rows_view}
 use Rattle.commands.specs.Lines.{IsRowText, AreRowTexts, IsRefusedLine, HasFirstFault}
 
-one_more : (texts : Bool) (fs : Fields) (lines : List (List ℕ)) (rows : List ValueTrees) (text : List ℕ) (row : ValueTrees) → AreRowTexts texts fs lines rows → IsRowText texts fs text row → AreRowTexts texts fs (lines ++ text ∷ []) (rows ++ row ∷ [])
+-- the texts of some rows, and that of one more
+pub one_more : (texts : Bool) (fs : Fields) (lines : List (List ℕ)) (rows : List ValueTrees) (text : List ℕ) (row : ValueTrees) → AreRowTexts texts fs lines rows
+    → IsRowText texts fs text row → AreRowTexts texts fs (lines ++ text ∷ []) (rows ++ row ∷ [])
 one_more texts fs [] [] text row so_far last = (last, tt)
 one_more texts fs [] (r ∷ rows) text row so_far last = absurd so_far
 one_more texts fs (t ∷ lines) [] text row so_far last = absurd so_far

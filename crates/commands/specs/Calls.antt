@@ -1,6 +1,7 @@
 -- What comes of a call on a dataset, from the files and the folder that it names to what is printed.
 use Rattle.std.specs.Prelude.{◌≡◌, ◌≢◌, ◌⊎◌, ⊤, ℕ, Bool, true, false, List, [], ◌∷◌, ◌++◌, ◌==◌, if◌then◌else◌}
 use Rattle.std.specs.Prelude.{OnOk, length, codes, decimal, Option, Some, None, option_and_then, Result, Ok, Err, IsUtf8}
+use Rattle.std.specs.Str.Lines.{lines}
 use Rattle.std.specs.Io.KnownBytes.{Appends, Keeps}
 use Rattle.serde_json.specs.Data.{Items, array}
 use Rattle.serde_json.specs.Written.{compact_text}
@@ -9,6 +10,10 @@ use Rattle.bits.specs.declared.refusal.Refusal.{Refusal}
 use Rattle.bits.specs.declared.refusal.Refusal.TheVariants.{Device, Memory, Script}
 use Rattle.disk.specs.State.{State as DiskState}
 use Rattle.schema.specs.Shape.{Fields}
+use Rattle.schema.specs.Values.{ValueTrees}
+use Rattle.footer.specs.declared.options.WriteOptions.{WriteOptions}
+use Rattle.manifest.specs.Groups.{Root, root_of}
+use Rattle.manifest.specs.declared.description.Manifest.{Manifest}
 use Rattle.store.specs.declared.store.Store.{Store}
 use Rattle.dataset_words.specs.declared.call.Call.{Call}
 use Rattle.dataset_words.specs.declared.call.Task.{Task}
@@ -25,6 +30,9 @@ use Rattle.commands.specs.Places.{Known, StaysKnown, IsKeptFrom, AreKeptAmong, A
 use Rattle.commands.specs.Creating.{Creates}
 use Rattle.commands.specs.Looking.{LooksInFolder}
 use Rattle.commands.specs.Opening.{OpensToRead, OpensToChange, MayCleanUp}
+use Rattle.commands.specs.Lines.{AreRowTexts}
+use Rattle.commands.specs.Blocks.{AreRefusedOf}
+use Rattle.commands.specs.Appending.{FindsTable, AppendsRows}
 use Rattle.commands.specs.Tasks.{lent_text, lent_texts, first_file, PrintsAnswer, MakesInStyle, RunsBytes, RunsBytesToRefusal, GivesAnswer}
 use Rattle.commands.specs.declared.watched.Watched.{Watched}
 
@@ -67,30 +75,42 @@ module _ {D S : Type 0} (state : D → DiskState) where
   abbrev pub state_within : Watched D S → DiskState
   state_within watched = state watched.disk
 
-  -- A store is changed as a call asks for, with the bytes of the files that it names, and what came of it is printed.
-  pub record Changes (call : Call) (change : Change) (files : List (List ℕ)) (before after : Option (List ℕ))
+  -- A store is changed so, and what came of it is printed.
+  pub record Changes (Makes : Store (Watched D S) → Store (Watched D S) → Result ℕ Refusal → Type 0) (before after : Option (List ℕ))
       (old new : Store (Watched D S)) (result : Result ⊤ Refusal) : Type 0 where
     pub changed : Store (Watched D S)
     pub done : Result ℕ Refusal
-    pub makes : MakesInStyle state_within call.keeps_style call.texts old changed change files done
+    pub makes : Makes old changed done
     pub unshown : IsUnshown changed new
     pub told : TellsDone done before after result
 
+  -- a store is changed as a call asks for, with the bytes of the files that it names
+  abbrev pub ChangesAsAsked : Call → Change → List (List ℕ) → Option (List ℕ) → Option (List ℕ) → Store (Watched D S) → Store (Watched D S) → Result ⊤ Refusal
+      → Type 0
+  ChangesAsAsked call change files before after old new result =
+      Changes (λ from to done. MakesInStyle state_within call.keeps_style call.texts from to change files done) before after old new result
+
+  -- rows that were read for a table are appended as a call asks for
+  abbrev pub ChangesByRows : Call → Option (List ℕ) → Root → List ValueTrees → Option (List ℕ) → Option (List ℕ) → Store (Watched D S) → Store (Watched D S)
+      → Result ⊤ Refusal → Type 0
+  ChangesByRows call unless root rows before after old new result =
+      Changes (λ from to done. AppendsRows state_within call.texts root call.options rows unless from to done) before after old new result
+
   -- what a change or a script makes of a store; nothing else does
   abbrev pub ChangesStore : Call → Task → List (List ℕ) → Option (List ℕ) → Option (List ℕ) → Store (Watched D S) → Store (Watched D S) → Result ⊤ Refusal → Type 0
-  ChangesStore call (ToChange change) files before after old new result = Changes call change files before after old new result
+  ChangesStore call (ToChange change) files before after old new result = ChangesAsAsked call change files before after old new result
   ChangesStore call (Run script stops) files before after old new result = RunsCalls state_within stops call.texts old new (first_file files) before after result
   ChangesStore call _ files before after old new result = (new ≡ old) × (after ≡ before)
 
-  -- What a change or a script makes of the dataset on a disk: it is opened, keeps what is replaced, is changed, and is cleaned. Or its
-  -- opening is refused, and nothing is printed.
-  pub data ChangesDisk (call : Call) (files : List (List ℕ)) (before after : Option (List ℕ))
-      (old new : Watched D S) (result : Result ⊤ Refusal) : Type 0 where
-    changed : (opened changed cleaned : Store (Watched D S)) → OpensToChange state_within old call.options (Ok opened)
-        → ChangesStore call call.task files before after (record opened { keeps = true }) changed result
-        → MayCleanUp state_within changed cleaned → new ≡ cleaned.vault.disk → ChangesDisk call files before after old new result
-    not_opened : (e : Refusal) → OpensToChange state_within old call.options (Err (new, e)) → after ≡ before → result ≡ Err e
-        → ChangesDisk call files before after old new result
+  -- What is made of the dataset on a disk: it is opened, keeps what is replaced, this comes of it, and it is cleaned. Or its opening is
+  -- refused, and nothing is printed.
+  pub data ChangesDisk (options : WriteOptions) (Comes : Store (Watched D S) → Store (Watched D S) → Result ⊤ Refusal → Type 0)
+      (before after : Option (List ℕ)) (old new : Watched D S) (result : Result ⊤ Refusal) : Type 0 where
+    changed : (opened changed cleaned : Store (Watched D S)) → OpensToChange state_within old options (Ok opened)
+        → Comes (record opened { keeps = true }) changed result
+        → MayCleanUp state_within changed cleaned → new ≡ cleaned.vault.disk → ChangesDisk options Comes before after old new result
+    not_opened : (e : Refusal) → OpensToChange state_within old options (Err (new, e)) → after ≡ before → result ≡ Err e
+        → ChangesDisk options Comes before after old new result
 
 -- ---- a folder
 
@@ -104,9 +124,11 @@ abbrev pub OnFolder : {D : Type 0} (S : Type 0) → (D → DiskState) → Known 
 OnFolder {D} S state old new call (Ask question) files before after result =
     InFolder (disk_within {D = D} {S = S}) old new call.folder.now (Answers (state_within state) call question before after) (after ≡ before) result
 OnFolder {D} S state old new call (ToChange change) files before after result =
-    InFolder (disk_within {D = D} {S = S}) old new call.folder.now (ChangesDisk state call files before after) (after ≡ before) result
+    InFolder (disk_within {D = D} {S = S}) old new call.folder.now
+    (ChangesDisk state call.options (ChangesStore state call call.task files before after) before after) (after ≡ before) result
 OnFolder {D} S state old new call (Run script stops) files before after result =
-    InFolder (disk_within {D = D} {S = S}) old new call.folder.now (ChangesDisk state call files before after) (after ≡ before) result
+    InFolder (disk_within {D = D} {S = S}) old new call.folder.now
+    (ChangesDisk state call.options (ChangesStore state call call.task files before after) before after) (after ≡ before) result
 OnFolder {D} S state old new call (LookAt look) files before after result =
     LooksInFolder (state_within {D = D} {S = S} state) (disk_within {D = D} {S = S}) old new call.folder.now call.texts look (first_file files) before after result
 OnFolder {D} S state old new call (Create schema keys) files before after result =
@@ -125,13 +147,47 @@ named_paths (ToChange (Import files unless)) = lent_texts files.items
 named_paths (ToChange (AddColumn schema)) = schema.now ∷ []
 named_paths _ = []
 
--- what comes of a task on the files that it names and on its folder; or some file is not had, nothing is printed and nothing changes
+-- What comes of a task that is no append on the files that it names and on its folder; or some file is not had, nothing is printed and
+-- nothing changes.
 pub data OnFiles {D : Type 0} (S : Type 0) (state : D → DiskState) (old new : Known D) (call : Call)
     (before after : Option (List ℕ)) (result : Result ⊤ Refusal) : Type 0 where
   read : (files : List (List ℕ)) → AreFilesAt old (named_paths call.task) files → OnFolder S state old new call call.task files before after result
       → OnFiles S state old new call before after result
   unread : (e : Refusal) → AreKeptAmong old (named_paths call.task) e → StaysKnown old new → after ≡ before → result ≡ Err e
       → OnFiles S state old new call before after result
+
+-- ---- an append
+
+-- What comes of an append of the rows of a file's lines. Its table is looked up, and the lines are read for that, while the folder is not
+-- used; the rows are then appended to the dataset that is in the folder by then, as the places in between have it. Or the file is not had,
+-- or there is no table, or the lines are refused; then nothing is printed, and the folder is only read.
+pub data AppendsLines {P D : Type 0} (S : Type 0) (state : D → DiskState) (known : P → Known D) (old new : Known D) (call : Call)
+    (path : List ℕ) (unless : Option (List ℕ)) (before after : Option (List ℕ)) (result : Result ⊤ Refusal) : Type 0 where
+  no_file : (e : Refusal) → IsKeptFrom old path e → StaysKnown old new → after ≡ before → result ≡ Err e
+      → AppendsLines S state known old new call path unless before after result
+  no_table : (e : Refusal) → InFolder (disk_within {D = D} {S = S}) old new call.folder.now (FindsTable (state_within state) call.options) ⊤ (Err e)
+      → after ≡ before → result ≡ Err e → AppendsLines S state known old new call path unless before after result
+  no_rows : (e : Refusal) (table : Manifest)
+      → InFolder (disk_within {D = D} {S = S}) old new call.folder.now (FindsTable (state_within state) call.options) ⊤ (Ok table)
+      → AreRefusedOf (old.is_shut path) (old.file path) call.texts (root_of table).schema e
+      → after ≡ before → result ≡ Err e → AppendsLines S state known old new call path unless before after result
+  lines_read : (mid : P) (table : Manifest) (bytes : List ℕ) (rows : List ValueTrees)
+      → InFolder (disk_within {D = D} {S = S}) old (known mid) call.folder.now (FindsTable (state_within state) call.options) ⊤ (Ok table)
+      → old.file path bytes → IsUtf8 bytes → AreRowTexts call.texts (root_of table).schema (lines bytes) rows
+      → InFolder (disk_within {D = D} {S = S}) (known mid) new call.folder.now
+      (ChangesDisk state call.options (ChangesByRows state call unless (root_of table) rows before after) before after) (after ≡ before) result
+      → AppendsLines S state known old new call path unless before after result
+
+-- the path of the rows that a task appends, and the filter that no row may satisfy; none where the task is no append
+abbrev pub append_of : Task → Option (List ℕ × Option (List ℕ))
+append_of (ToChange (Append rows unless)) = Some (rows.now, lent_text unless)
+append_of _ = None
+
+-- what comes of a call on the files that it names and on its folder: of an append, or of another task
+abbrev pub OnFilesBy : {P D : Type 0} (S : Type 0) → (D → DiskState) → (P → Known D) → Known D → Known D → Call → Option (List ℕ × Option (List ℕ))
+    → Option (List ℕ) → Option (List ℕ) → Result ⊤ Refusal → Type 0
+OnFilesBy S state known old new call (Some asked) before after result = AppendsLines S state known old new call asked.0 asked.1 before after result
+OnFilesBy S state known old new call None before after result = OnFiles S state old new call before after result
 
 -- ---- a file in place of a folder
 
@@ -152,11 +208,11 @@ PrintsOfFile known path _ before after result = ⊥
 
 -- What comes of a call that is not on a file with its filter: what it asks of its folder and files; or, where a file may be named in place of
 -- the folder and there is none, what that is.
-pub data ComesUnfiltered {D : Type 0} (S : Type 0) (state : D → DiskState) (old new : Known D) (call : Call)
+pub data ComesUnfiltered {P D : Type 0} (S : Type 0) (state : D → DiskState) (known : P → Known D) (old new : Known D) (call : Call)
     (before after : Option (List ℕ)) (result : Result ⊤ Refusal) : Type 0 where
-  on_folder : OnFiles S state old new call before after result → ComesUnfiltered S state old new call before after result
+  on_folder : OnFilesBy S state known old new call (append_of call.task) before after result → ComesUnfiltered S state known old new call before after result
   on_file : old.is_folder call.folder.now false → StaysKnown old new → PrintsOfFile old call.folder.now call.task before after result
-      → ComesUnfiltered S state old new call before after result
+      → ComesUnfiltered S state known old new call before after result
 
 -- ---- filters in files
 
@@ -212,10 +268,10 @@ pub data Filtered {D : Type 0} (old new : Known D) (call : Call) (ComesOf : Call
       → Filtered old new call ComesOf Unchanged result
 
 -- what comes of a call, whose filter its words have or name a file of; where there is no filter nothing is printed
-abbrev pub ComesFiltered : {D : Type 0} (S : Type 0) → (D → DiskState) → Known D → Known D → Call → Option (List ℕ) → Option (List ℕ) → Result ⊤ Refusal
-    → Type 0
-ComesFiltered S state old new call before after result =
-    Filtered old new call (λ asked. ComesUnfiltered S state old new asked before after result) (after ≡ before) result
+abbrev pub ComesFiltered : {P D : Type 0} (S : Type 0) → (D → DiskState) → (P → Known D) → Known D → Known D → Call → Option (List ℕ) → Option (List ℕ)
+    → Result ⊤ Refusal → Type 0
+ComesFiltered S state known old new call before after result =
+    Filtered old new call (λ asked. ComesUnfiltered S state known old new asked before after result) (after ≡ before) result
 
 -- ---- a call
 
@@ -226,11 +282,11 @@ IsPassedOn (Ok _) (Err e) = HasCause (λ f. f ≡ Device) e
 IsPassedOn (Err e) result = result ≡ Err e
 
 -- What comes of a call, and of the end of what is printed; or memory runs out before it.
-pub data CallComes {D : Type 0} (S : Type 0) (state : D → DiskState) (old new : Known D) (call : Call)
+pub data CallComes {P D : Type 0} (S : Type 0) (state : D → DiskState) (known : P → Known D) (old new : Known D) (call : Call)
     (before after : Option (List ℕ)) (result : Result ⊤ Refusal) : Type 0 where
-  made : (printed : Option (List ℕ)) (made : Result ⊤ Refusal) → ComesFiltered S state old new call before printed made → Keeps printed after
-      → IsPassedOn made result → CallComes S state old new call before after result
-  no_memory : StaysKnown old new → after ≡ before → result ≡ Err Memory → CallComes S state old new call before after result
+  made : (printed : Option (List ℕ)) (made : Result ⊤ Refusal) → ComesFiltered S state known old new call before printed made → Keeps printed after
+      → IsPassedOn made result → CallComes S state known old new call before after result
+  no_memory : StaysKnown old new → after ≡ before → result ≡ Err Memory → CallComes S state known old new call before after result
 
 -- ---- files of a query
 

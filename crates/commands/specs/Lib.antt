@@ -13,6 +13,8 @@ pub mod Kept
 pub mod Tasks
 pub mod Places
 pub mod Opening
+pub mod Blocks
+pub mod Appending
 pub mod Looking
 pub mod Creating
 pub mod Calls

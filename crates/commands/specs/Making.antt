@@ -4,13 +4,12 @@ use Rattle.std.specs.Str.Lines.{lines}
 use Rattle.std.specs.Io.KnownBytes.{Appends}
 use Rattle.bits.specs.declared.refusal.Refusal.{Refusal}
 use Rattle.schema.specs.Shape.{Fields}
-use Rattle.schema.specs.Values.{ValueTrees}
 use Rattle.schema.specs.Stripe.{Leaf, leaves_of}
 use Rattle.schema.specs.Listed.{listings}
 use Rattle.filter.specs.Terms.{Term}
 use Rattle.disk.specs.State.{State as DiskState}
 use Rattle.table.specs.State.{State}
-use Rattle.table.specs.Calls.{Call, append, remove, begin_rewrite, commit, plan_rewrite, add_column, done, job, planned, refused as refused_answer}
+use Rattle.table.specs.Calls.{Call, remove, begin_rewrite, commit, plan_rewrite, add_column, done, job, planned, refused as refused_answer}
 use Rattle.table.specs.Views.{answered, answer_view}
 use Rattle.table.specs.declared.answer.Answer.{Answer}
 use Rattle.jsonrows.specs.Filters.{IsFilterTextAs, IsRefusedFilterAs}
@@ -19,7 +18,7 @@ use Rattle.store.specs.declared.store.Store.{Store}
 use Rattle.store.specs.Stands.{Stands}
 use Rattle.store.specs.Promises.{ActsFrom}
 use Rattle.store.specs.Running.{RunsFrom}
-use Rattle.commands.specs.Lines.{AreRowTexts, AreCallTexts, AreRefusedCalls, AreAnswerLines}
+use Rattle.commands.specs.Lines.{AreCallTexts, AreRefusedCalls, AreAnswerLines}
 
 -- ---- filters
 
@@ -45,10 +44,6 @@ pub data MakesFrom {D : Type 0} (state : D → DiskState) (old new : Store D) (I
 -- on an honest disk, from each state that the store stands in
 abbrev pub Makes : {D : Type 0} → (D → DiskState) → Store D → Store D → (Fields → Call → Type 0) → (Fields → Refusal → Type 0) → Result ℕ Refusal → Type 0
 Makes state old new IsAsked IsRefused result = (state old.vault.disk).honest → (s : State) → Stands state old s → MakesFrom state old new IsAsked IsRefused result s
-
--- the rows of a text, one of each line, are to be appended
-abbrev pub AsksAppend : Bool → List ℕ → Fields → Call → Type 0
-AsksAppend texts text fs call = (rows : List ValueTrees) × AreRowTexts texts fs (lines text) rows × (call ≡ append rows)
 
 -- the rows that satisfy the filter of a text are to be removed
 abbrev pub AsksRemove : Bool → List ℕ → Fields → Call → Type 0

@@ -2,7 +2,6 @@
 use Rattle.std.specs.Prelude.{◌≡◌, ℕ, Bool, true, false, List, [], ◌∷◌, ◌++◌, codes, decimal, map}
 use Rattle.std.specs.Prelude.{Option, Some, None, option_map, Result, Ok, Err, OnOk, IsOk, IsUtf8}
 use Rattle.std.specs.Borrow.{Bor}
-use Rattle.std.specs.Str.Lines.{lines}
 use Rattle.std.specs.Io.KnownBytes.{Appends}
 use Rattle.serde_json.specs.Data.{Items, array}
 use Rattle.serde_json.specs.Written.{compact_text}
@@ -29,8 +28,7 @@ use Rattle.jsonrows.specs.SchemaPrinted.{PrintsFields}
 use Rattle.store.specs.declared.store.Store.{Store}
 use Rattle.store.specs.Stands.{Stands}
 use Rattle.store.specs.Promises.{Acts}
-use Rattle.commands.specs.Lines.{AreRefusedRows}
-use Rattle.commands.specs.Making.{Makes, AsksAppend, AsksRemove, AsksColumn, Rewrites, RewritesPlanned, RunsScript}
+use Rattle.commands.specs.Making.{Makes, AsksRemove, AsksColumn, Rewrites, RewritesPlanned, RunsScript}
 use Rattle.commands.specs.Querying.{Reads, query_lines, ListsGroups}
 use Rattle.commands.specs.GroupColumns.{ListsColumns}
 use Rattle.commands.specs.First.{first_lines}
@@ -123,11 +121,6 @@ abbrev pub MakesAsked : {D : Type 0} → (D → DiskState) → Bool → Store D 
 MakesAsked state texts old new None IsAsked IsRefused result = Makes state old new IsAsked IsRefused result
 MakesAsked state texts old new (Some text) IsAsked IsRefused result = MakesUnless state texts old new text IsAsked IsRefused result
 
--- the rows of the lines of bytes come in
-abbrev pub AppendsBytes : {D : Type 0} → (D → DiskState) → Bool → Store D → Store D → Option (List ℕ) → List ℕ → Result ℕ Refusal → Type 0
-AppendsBytes state texts old new unless bytes result =
-    IfText bytes (MakesAsked state texts old new unless (AsksAppend texts bytes) (λ fs. AreRefusedRows texts fs (lines bytes)) result) (new ≡ old) result
-
 -- the column of bytes comes in
 abbrev pub AddsColumn : {D : Type 0} → (D → DiskState) → Store D → Store D → List ℕ → Result ℕ Refusal → Type 0
 AddsColumn state old new bytes result = IfText bytes (Makes state old new (AsksColumn bytes) (λ fs. IsRefusedSchema bytes) result) (new ≡ old) result
@@ -143,9 +136,10 @@ ImportsAsked state texts old new unless [] result = MakesAsked state texts old n
 ImportsAsked state texts old new unless (file ∷ []) result = MakesAsked state texts old new unless (AsksImport file) (λ fs e. ⊥) result
 ImportsAsked state texts old new unless (file ∷ other ∷ files) result = ImportsSeveral state texts old new unless (file ∷ other ∷ files) result
 
--- what a change asks for is made, with the bytes of the files that it names
+-- What a change asks for is made, with the bytes of the files that it names. Of an append nothing is: its rows come in by themselves,
+-- as `AppendsRows` says.
 abbrev pub MakesChange : {D : Type 0} → (D → DiskState) → Bool → Store D → Store D → Change → List (List ℕ) → Result ℕ Refusal → Type 0
-MakesChange state texts old new (Append path unless) files result = AppendsBytes state texts old new (lent_text unless) (first_file files) result
+MakesChange state texts old new (Append path unless) files result = (result ≡ Ok 0) × (new ≡ old)
 MakesChange state texts old new (Import paths unless) files result = ImportsAsked state texts old new (lent_text unless) files result
 MakesChange state texts old new (AddColumn path) files result = AddsColumn state old new (first_file files) result
 MakesChange state texts old new (Remove filter) files result =

@@ -4,3 +4,5 @@ pub mod GatheredRows
 pub mod Gathering
 pub mod Parts
 pub mod Staged
+pub mod LineCuts
+pub mod Brought

@@ -1,42 +1,19 @@
 //! Commands that change a dataset. Each is one commit, and returns how many rows it appended, removed or rewrote.
 
-ghost use Rattle.std.specs.Prelude.{◌≡◌, false};
-ghost use Rattle.std.specs.Str.Lines.{lines};
+ghost use Rattle.std.specs.Prelude.{◌≡◌};
 ghost use Rattle.schema.specs.Elements.{elements_view};
 ghost use Rattle.schema.specs.Listed.{listings};
 ghost use Rattle.schema.specs.Stripe.{leaves_of};
 ghost use Rattle.jsonrows.specs.Filters.{IsRefusedFilterAs};
 ghost use Rattle.jsonrows.specs.SchemaJson.{IsRefusedSchema};
-ghost use Rattle.commands.specs.Lines.{AreRefusedRows};
-ghost use Rattle.commands.specs.Making.{Makes, AsksAppend, AsksRemove, AsksColumn, Rewrites, RewritesPlanned};
+ghost use Rattle.commands.specs.Making.{Makes, AsksRemove, AsksColumn, Rewrites, RewritesPlanned};
 
-use crate::gathering::gathered_rows;
 use bits::R;
 use disk::Disk;
 use jsonrows::{filter_from_as, schema_from};
 use schema::{Element, Schema};
 use std::alloc::Global;
-use std::io::Write;
 use store::Store;
-
-/// Appends the rows of a text, one of each line. With `texts`, dates, times, timestamps and decimals are also read from their
-/// texts. Refused as `row_from_as` refuses the first line that is no row, and then as `Store::append_gathered`. Where `shows`
-/// says so, `err` shows how many rows were read so far.
-pub fn append<D: Disk, E: Write>(
-    alloc: Global,
-    store: &mut Store<D>,
-    text: &str,
-    texts: bool,
-    err: &mut E,
-    shows: bool,
-) -> R<u64>
-    ensures makes { Makes D.state store.old store.new (AsksAppend texts text.now) (λ fs. AreRefusedRows texts fs (lines text.now)) result }
-    ensures quiet { shows ≡ false → E.contents err.new ≡ E.contents err.old }
-{
-    let table = store.description()?;
-    let gathered = gathered_rows(alloc, &table, &store.options, text, texts, err, shows)?;
-    store.append_gathered(alloc, gathered)
-}
 
 /// Puts the one field of a text at the end of the schema. Refused as `schema_from` refuses the text, and then as
 /// `Store::add_column`.

@@ -1,22 +1,21 @@
 //! Which reason a refusal has, found after it: nothing here decides what is refused.
 
+use crate::comparing::same_schema;
 use crate::import_reason::import_reason;
-use crate::key_reason::{keys_reason, rows_reason};
+use crate::key_reason::keys_reason;
+use crate::line_notes::RowNotes;
 use crate::part_reason::is_of_bytes;
 use crate::reason::Reason;
-use crate::row_lines::rows_of;
 use crate::texts::text_of;
 use bits::{R, Refusal};
 use dataset_words::{Change, Question};
 use disk::Disk;
 use manifest::Manifest;
 use reasons::{
-    Cause, call_fault, column_fault, filter_fault, large_value, options_fault, row_fault,
-    schema_fault, utf8_fault,
+    Cause, call_fault, column_fault, filter_fault, options_fault, schema_fault, utf8_fault,
 };
 use schema::Schema;
 use std::alloc::Global;
-use std::io;
 use store::Store;
 
 /// A text of rows with fewer bytes has no column of 16,777,216 entries: each takes two bytes at least. Nor has it the values of
@@ -117,10 +116,6 @@ pub fn change_reason<D: Disk>(
         return Ok(Some(reason));
     }
     match change {
-        Change::Append { .. } => match text_of(bytes) {
-            Ok(text) => append_reason(alloc, store, text, texts, refusal),
-            Err(_) => no_text_reason(alloc, bytes),
-        },
         Change::AddColumn { .. } => match column_reason(alloc, store.schema(), bytes)? {
             None if *refusal == Refusal::Limit && store.schema().leaves().len() < MOST_COLUMNS =>
                 full_root(alloc, store),
@@ -190,27 +185,31 @@ fn shown_by(change: &Change<'_>) -> &'static str {
     }
 }
 
-/// Why the rows of a text are not appended.
-fn append_reason<D: Disk>(
+/// Why rows that were gathered are not appended, unless some row satisfies a filter, where there is more to say than the refusal.
+pub(crate) fn append_reason<D: Disk>(
     alloc: Global,
     store: &Store<D>,
-    text: &str,
+    rows: RowNotes<'_>,
+    unless: Option<&str>,
     texts: bool,
     refusal: &Refusal,
 ) -> R<Option<Reason>> {
+    if *refusal == Refusal::InDoubt {
+        return Ok(Some(Reason::InDoubt("count")));
+    }
+    if let Some(reason) = filter_reason(alloc, store.schema(), unless, texts)? {
+        return Ok(Some(reason));
+    }
+    let RowNotes { schema, lines, key } = rows;
+    let is_small = lines.bytes() < SMALL_TEXT;
     match refusal {
-        Refusal::Script | Refusal::RowShape => {
-            let fault = row_fault(alloc, store.schema(), "", text, texts)?;
-            Ok(fault.map(|fault| Reason::Text(fault)))
+        Refusal::Schema if unless.is_none() || !same_schema(schema, store.schema()) => {
+            Ok(Some(Reason::OtherTable))
         }
-        Refusal::Key => {
-            let rows = rows_of(alloc, store.schema(), text, texts, &mut io::sink(), false)?;
-            rows_reason(alloc, store.keys(), rows.as_slice())
-        }
-        Refusal::Limit => match large_value(alloc, store.schema(), "", text, texts)? {
-            Some(fault) => Ok(Some(Reason::Large(fault))),
-            None if text.len() < SMALL_TEXT => full_root(alloc, store),
-            None => Ok(None),
+        Refusal::Key => Ok(key),
+        Refusal::Limit => match lines.large() {
+            None if is_small => full_root(alloc, store),
+            reason => Ok(reason),
         },
         _ => Ok(None),
     }
@@ -235,9 +234,7 @@ fn unless_reason(
     texts: bool,
 ) -> R<Option<Reason>> {
     match change {
-        Change::Append { unless, .. } | Change::Import { unless, .. } => {
-            filter_reason(alloc, schema, *unless, texts)
-        }
+        Change::Import { unless, .. } => filter_reason(alloc, schema, *unless, texts),
         _ => Ok(None),
     }
 }

@@ -5,6 +5,7 @@ ghost use Rattle.commands.specs.Places.{knows_nothing};
 use crate::file_ends::ends_of;
 use crate::folder::{bytes_at, bytes_of, disk_of, is_folder, make_folder, node_at, root_is_free};
 use crate::folder_lock::locked;
+use crate::host_reader::{HostReader, open_reader};
 use crate::lock::{Access, Lock, Patience};
 use crate::notes::Notes;
 use crate::places::{Node, Places};
@@ -31,10 +32,21 @@ where
 
     type Held = F::File;
 
+    type Reader = HostReader<F::File, F::Reader>;
+
     ghost known = { λ places. knows_nothing };
 
     fn bytes(&mut self, alloc: Global, path: &str, notes: &Notes) -> R<Vec<u8>> {
         bytes_of(self.files, alloc, path, notes)
+    }
+
+    fn reader(
+        &mut self,
+        alloc: Global,
+        path: &str,
+        notes: &Notes,
+    ) -> R<HostReader<F::File, F::Reader>> {
+        open_reader(self.files, alloc, path, notes)
     }
 
     fn ends(&mut self, alloc: Global, path: &str, notes: &Notes) -> R<Vec<u8>> {

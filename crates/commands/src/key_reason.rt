@@ -4,8 +4,9 @@
 
 use crate::reason::{KeyFault, Reason, ValueFault};
 use bits::R;
-use partition::{key_columns, row_can_partition};
-use schema::{KeyColumn, Row, Schema, Value};
+use gather::Gathered;
+use partition::{can_partition, key_columns, row_can_partition};
+use schema::{Key, KeyColumn, Row, Schema, Value};
 use std::alloc::Global;
 
 /// The most key columns that a table has.
@@ -65,7 +66,8 @@ pub fn rows_reason(alloc: Global, keys: &[KeyColumn], rows: &[Row]) -> R<Option<
     for row in rows {
         for key in keys.chunks(1) {
             if !row_can_partition(key, row) {
-                return row_reason(alloc, number, key, row);
+                let value = key.first().and_then(|key| row.values.get(key.at));
+                return value_reason(alloc, number, key, value);
             }
         }
         number = number.saturating_add(1);
@@ -73,12 +75,38 @@ pub fn rows_reason(alloc: Global, keys: &[KeyColumn], rows: &[Row]) -> R<Option<
     Ok(None)
 }
 
-/// Why the row of this number names no folder by this key.
-fn row_reason(alloc: Global, number: u64, key: &[KeyColumn], row: &Row) -> R<Option<Reason>> {
+/// Which of some rows that are gathered, counted from 1, has a key that names no folder, and why; none where each names one.
+pub fn gathered_reason(alloc: Global, rows: &Gathered<'_>) -> R<Option<Reason>> {
+    let Some(fault) = rows.fault() else {
+        return Ok(None);
+    };
+    let number = (fault.row as u64).saturating_add(1);
+    let mut values = fault.key.copied(alloc)?.values.into_iter();
+    for column in rows.columns().chunks(1) {
+        let Some(value) = values.next() else {
+            return Ok(None);
+        };
+        let mut own = Vec::new(alloc);
+        own.push(value)?;
+        let key = Key { values: own };
+        if !can_partition(column, &key) {
+            return value_reason(alloc, number, column, key.values.first());
+        }
+    }
+    Ok(None)
+}
+
+/// Why the row of this number, with this value of a key, names no folder by it.
+fn value_reason(
+    alloc: Global,
+    number: u64,
+    key: &[KeyColumn],
+    value: Option<&Value>,
+) -> R<Option<Reason>> {
     let Some(key) = key.first() else {
         return Ok(None);
     };
-    let fault = match row.values.get(key.at) {
+    let fault = match value {
         Some(Value::Bytes(text)) if text.is_empty() => ValueFault::Empty,
         _ => ValueFault::TooLong,
     };

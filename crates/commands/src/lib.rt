@@ -4,6 +4,7 @@
 //! are ([`Places`]); [`HostPlaces`] are those of the host.
 #![tactic(auto)]
 
+mod appending;
 mod changing;
 mod column_text;
 mod comparing;
@@ -18,12 +19,15 @@ mod gathering;
 mod giving;
 mod group_columns;
 mod host_places;
+mod host_reader;
 mod import_reason;
 mod importing;
 mod kept_style;
 mod key_reason;
 mod later_reason;
 mod laws;
+mod line_cuts;
+mod line_notes;
 mod lock;
 mod looking;
 mod making;
@@ -51,17 +55,19 @@ mod unless;
 mod watched;
 mod writing_query;
 
-pub use changing::{add_column, append, remove_rows, rewrite_groups, rewrite_small};
+pub use appending::append_rows;
+pub use changing::{add_column, remove_rows, rewrite_groups, rewrite_small};
 pub use first_rows::print_first_rows;
 pub use group_columns::print_groups_and_columns;
 pub use host_places::HostPlaces;
+pub use host_reader::HostReader;
 pub use importing::{import_files, import_files_unless};
 pub use laws::a_file_has_the_footer_of_its_ends;
 pub use lock::{Access, Lock, Patience};
 pub use looking::{Checking, print_check, print_rows_fit, print_survey};
 pub use making::Folders;
 pub use notes::{Explains, Notes};
-pub use places::{Node, Places};
+pub use places::{BlockReader, Node, Places};
 pub use printing::print_done;
 pub use querying::{print_count, print_groups, print_rows, print_schema, print_schema_of};
 pub use readers_lock::Readers;

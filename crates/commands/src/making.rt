@@ -1,6 +1,6 @@
 //! A call on the dataset in a folder, made.
 
-ghost use Rattle.std.specs.Prelude.{◌≡◌, ◌∷◌, ◌++◌, [], ℕ, Option, false, Some, Ok, Err, OnOk, IfOk, IfErr, IsTrue, slice_index_or};
+ghost use Rattle.std.specs.Prelude.{◌≡◌, ◌∷◌, ◌++◌, [], ℕ, Option, false, Some, None, Ok, Err, MatchOption, OnOk, IfOk, IfErr, IsTrue, slice_index_or};
 ghost use Rattle.std.specs.Io.KnownBytes.{Appends};
 ghost use Rattle.serde_json.specs.Data.{Items, array};
 ghost use Rattle.serde_json.specs.Written.{compact_text};
@@ -12,11 +12,12 @@ ghost use Rattle.upkeep.specs.Intact.{AreHeld};
 ghost use Rattle.jsonrows.specs.SchemaPrinted.{PrintsFields};
 ghost use Rattle.commands.specs.Importing.{files_view};
 ghost use Rattle.commands.specs.Places.{StaysKnown, StaysBut, AreFilesAt, IsKeptFrom, AreKeptAmong, InFolder};
-ghost use Rattle.commands.specs.Calls.{MayBeOfFile, PrintsOfFile, OnFolder, OnFiles, ComesUnfiltered, ComesFiltered, CallComes, GivesCall, GivesNoFile, IsPassedOn};
-ghost use Rattle.commands.specs.Calls.{named_paths, filter_path, state_within, disk_within};
+ghost use Rattle.commands.specs.Calls.{MayBeOfFile, PrintsOfFile, OnFolder, OnFiles, OnFilesBy, ComesUnfiltered, ComesFiltered, CallComes};
+ghost use Rattle.commands.specs.Calls.{GivesCall, GivesNoFile, IsPassedOn};
+ghost use Rattle.commands.specs.Calls.{named_paths, append_of, filter_path, state_within, disk_within};
 ghost use Rattle.commands.specs.Looking.{LinesFit, Finds, LooksOnly, LooksInFolder};
 ghost use Rattle.commands.specs.Querying.{IsSchemaOfFile};
-ghost use Rattle.commands.specs.Tasks.{lent_texts};
+ghost use Rattle.commands.specs.Tasks.{lent_text, lent_texts};
 
 use crate::explaining::{filter_text_reason, no_text_reason};
 use crate::filter_file::{filter_file, with_filter};
@@ -27,6 +28,7 @@ use crate::later_reason::Refused;
 use crate::lock::{Access, Patience};
 use crate::looking::{Checking, print_check, print_rows_fit, print_survey};
 use crate::notes::Notes;
+use crate::opening::Brought;
 use crate::part_reason::is_of_bytes;
 use crate::places::Places;
 use crate::querying::print_schema_of;
@@ -58,9 +60,9 @@ pub struct Folders<P: Places + Drop, S: Write + Clone + Drop> {
 
 impl<P: Places + Drop, S: Write + Clone + Drop, W: Write, E: Write> Datasets<W, E>
     for Folders<P, S> {
-    ghost prints = { λ old new call before after. CallComes S P.Disk.state (P.known old.places) (P.known new.places) call before after (Ok tt) };
+    ghost prints = { λ old new call before after. CallComes S P.Disk.state P.known (P.known old.places) (P.known new.places) call before after (Ok tt) };
 
-    ghost refuses = { λ old new call before after e. CallComes S P.Disk.state (P.known old.places) (P.known new.places) call before after (Err e) };
+    ghost refuses = { λ old new call before after e. CallComes S P.Disk.state P.known (P.known old.places) (P.known new.places) call before after (Err e) };
 
     ghost gives = { λ old new call was is. (most : Option ℕ) × GivesCall S P.Disk.state (P.known old.places) (P.known new.places) call most was is (Ok tt) };
 
@@ -122,7 +124,8 @@ impl<P: Places + Drop, S: Write + Clone + Drop> Folders<P, S> {
         err: &mut E,
         terminals: Terminals,
     ) -> R<()>
-        ensures comes { CallComes S P.Disk.state (P.known self.old.places) (P.known self.new.places) call.now (W.contents out.old) (W.contents out.new) result }
+        ensures comes { CallComes S P.Disk.state P.known (P.known self.old.places) (P.known self.new.places) call.now
+            (W.contents out.old) (W.contents out.new) result }
         ensures quiet { terminals.err ≡ false → OnOk result (E.contents err.new ≡ E.contents err.old) }
     {
         let notes = Notes::new(alloc)?;
@@ -206,7 +209,8 @@ impl<S: Write + Clone + Drop> Making<'_, S> {
         err: &mut E,
         why: &mut Option<Reason>,
     ) -> R<()>
-        ensures comes { ComesFiltered S P.Disk.state (P.known places.old) (P.known places.new) self.now.call.now (W.contents out.old) (W.contents out.new) result }
+        ensures comes { ComesFiltered S P.Disk.state P.known (P.known places.old) (P.known places.new) self.now.call.now
+            (W.contents out.old) (W.contents out.new) result }
         ensures quiet { self.now.terminals.err ≡ false → E.contents err.new ≡ E.contents err.old }
     {
         match filter_file(self.call) {
@@ -226,7 +230,8 @@ impl<S: Write + Clone + Drop> Making<'_, S> {
         why: &mut Option<Reason>,
     ) -> R<()>
         requires named { filter_path self.now.call.now.task ≡ Some path.now }
-        ensures comes { ComesFiltered S P.Disk.state (P.known places.old) (P.known places.new) self.now.call.now (W.contents out.old) (W.contents out.new) result }
+        ensures comes { ComesFiltered S P.Disk.state P.known (P.known places.old) (P.known places.new) self.now.call.now
+            (W.contents out.old) (W.contents out.new) result }
         ensures quiet { self.now.terminals.err ≡ false → E.contents err.new ≡ E.contents err.old }
     {
         let bytes = places.bytes(self.alloc, path, self.notes)?;
@@ -318,13 +323,14 @@ impl<S: Write + Clone + Drop> Making<'_, S> {
         err: &mut E,
         why: &mut Option<Reason>,
     ) -> R<()>
-        ensures comes { ComesUnfiltered S P.Disk.state (P.known places.old) (P.known places.new) self.now.call.now (W.contents out.old) (W.contents out.new) result }
+        ensures comes { ComesUnfiltered S P.Disk.state P.known (P.known places.old) (P.known places.new) self.now.call.now
+            (W.contents out.old) (W.contents out.new) result }
         ensures quiet { self.now.terminals.err ≡ false → E.contents err.new ≡ E.contents err.old }
     {
         if self.is_of_file(places) {
             self.make_of_file(places, out, why)
         } else {
-            self.make_with_files(places, out, err, why)
+            self.make_on_files(places, out, err, why)
         }
     }
 
@@ -371,6 +377,24 @@ impl<S: Write + Clone + Drop> Making<'_, S> {
     }
 
     /// Reads the files that the call names, and makes it.
+    fn make_on_files<P: Places, W: Write, E: Write>(
+        &self,
+        places: &mut P,
+        out: &mut W,
+        err: &mut E,
+        why: &mut Option<Reason>,
+    ) -> R<()>
+        ensures comes { OnFilesBy S P.Disk.state P.known (P.known places.old) (P.known places.new) self.now.call.now (append_of self.now.call.now.task)
+            (W.contents out.old) (W.contents out.new) result }
+        ensures quiet { self.now.terminals.err ≡ false → E.contents err.new ≡ E.contents err.old }
+    {
+        match append_of(&self.call.task) {
+            Some(asked) => self.append(places, asked.path, asked.unless, out, err, why),
+            None => self.make_with_files(places, out, err, why),
+        }
+    }
+
+    /// Reads the files that the call names, whole, and makes it.
     fn make_with_files<P: Places, W: Write, E: Write>(
         &self,
         places: &mut P,
@@ -404,8 +428,8 @@ impl<S: Write + Clone + Drop> Making<'_, S> {
                 self.make_table(places, bytes, keys.as_slice(), err, why)
             }
             Task::Ask(question) => self.read(places, question, out, err, why),
-            Task::Change(_) => self.change(places, files, out, err, why),
-            Task::Run { .. } => self.change(places, files, out, err, why),
+            Task::Change(_) => self.change(places, Brought::Files(files), out, err, why),
+            Task::Run { .. } => self.change(places, Brought::Files(files), out, err, why),
             Task::Look(look) => self.look(places, look, bytes, out, err, why),
         }
     }
@@ -668,6 +692,28 @@ pub(crate) fn file_named<'a>(task: &'a Task<'a>) -> Option<&'a str> {
         Task::Change(Change::Append { rows, .. }) => Some(rows),
         Task::Change(Change::Import { files, .. }) => files.first().map(|file| *file),
         Task::Change(Change::AddColumn { schema }) => Some(schema),
+        _ => None,
+    }
+}
+
+/// An append that is asked for.
+#[derive(Drop)]
+struct Append<'a> {
+    /// The path of its rows.
+    path: &'a str,
+    /// The filter that no row may satisfy.
+    unless: Option<&'a str>,
+}
+
+/// The append that a task is; none where it is another task.
+fn append_of<'a>(task: &'a Task<'a>) -> Option<Append<'a>>
+    ensures asked { MatchOption result (append_of task.now ≡ None) (λ asked. append_of task.now ≡ Some (asked.path.now, lent_text asked.unless)) }
+{
+    match task {
+        Task::Change(Change::Append { rows, unless }) => Some(Append {
+            path: rows,
+            unless: *unless,
+        }),
         _ => None,
     }
 }

@@ -3,15 +3,25 @@
 //! A call that reads shares the readers' lock, and removes nothing. One that changes the dataset has the folder's lock, and
 //! removes what is not needed any more, at its opening and at its end, where no reader needs it.
 
-ghost use Rattle.std.specs.Prelude.{◌≡◌, ◌++◌, false, true, codes, decimal, Ok, Err, OnOk, IfErr, MatchResult};
+ghost use Rattle.std.specs.Prelude.{◌≡◌, ◌++◌, List, false, true, codes, decimal, Ok, Err, OnOk, IfErr, MatchResult};
 ghost use Rattle.std.specs.Io.KnownBytes.{Appends};
 ghost use Rattle.bits.specs.Refusals.{RefusedOnly};
 ghost use Rattle.commands.specs.Importing.{files_view};
 ghost use Rattle.commands.specs.Places.{StaysKnown, IsKeptFrom, InFolder};
+ghost use Rattle.schema.specs.Values.{ValueTrees};
+ghost use Rattle.manifest.specs.Groups.{Root};
+ghost use Rattle.gather.specs.GatheredRows.{holds};
+ghost use Rattle.store.specs.Gathering.{AreGatheredFor};
+ghost use Rattle.commands.specs.inner.Brought.{ChangesWith};
+ghost use Rattle.commands.specs.Tasks.{lent_text};
 ghost use Rattle.commands.specs.Opening.{OpensToRead, OpensToChange, MayCleanUp};
-ghost use Rattle.commands.specs.Calls.{Answers, Changes, ChangesStore, ChangesDisk, RunsCalls, IsUnshown, TellsDone, state_within, disk_within};
+ghost use Rattle.commands.specs.Calls.{Answers, ChangesAsAsked, ChangesByRows, ChangesStore, ChangesDisk, RunsCalls, IsUnshown, TellsDone};
+ghost use Rattle.commands.specs.Calls.{state_within, disk_within};
 
+use crate::appending::append_rows;
+use crate::explaining::append_reason;
 use crate::folder::refusal_of;
+use crate::gathering::LineGatherer;
 use crate::lock::Access;
 use crate::making::{Making, root_reason};
 use crate::notes::Explains;
@@ -20,7 +30,7 @@ use crate::printing::print_done;
 use crate::readers_lock::Readers;
 use crate::reason::Reason;
 use crate::stopping::run_to_refusal;
-use crate::tasks::{ask, bytes_at, change_in_style, run};
+use crate::tasks::{ask, bytes_at, change_in_style, found, run};
 use crate::watched::Watched;
 use bits::{R, Refusal};
 use dataset_words::{Change, Question, Task};
@@ -32,6 +42,15 @@ use store::Store;
 
 /// The seconds for which a command that has made a change tries to keep readers out.
 const CLEANING_SECONDS: u64 = 1;
+
+/// What was read for a change before the folder is locked.
+#[derive(Drop)]
+pub(crate) enum Brought<'a> {
+    /// The bytes of the files that the call names.
+    Files(&'a [Vec<u8>]),
+    /// The rows of an append, and the filter that no row may satisfy.
+    Rows(LineGatherer<'a>, Option<&'a str>),
+}
 
 impl<S: Write + Clone + Drop> Making<'_, S> {
     /// Opens the dataset to read it, and prints what is asked.
@@ -123,60 +142,57 @@ impl<S: Write + Clone + Drop> Making<'_, S> {
     pub(crate) fn change<P: Places, W: Write, E: Write>(
         &self,
         places: &mut P,
-        files: &[Vec<u8>],
+        brought: Brought<'_>,
         out: &mut W,
         err: &mut E,
         why: &mut Option<Reason>,
     ) -> R<()>
         ensures comes { InFolder (disk_within {D = P.Disk} {S = S}) (P.known places.old) (P.known places.new) self.now.call.now.folder.now
-            (ChangesDisk P.Disk.state self.now.call.now (files_view files.now) (W.contents out.old) (W.contents out.new))
-            (W.contents out.new ≡ W.contents out.old) result }
+            (ChangesDisk P.Disk.state self.now.call.now.options (ChangesWith P.Disk.state self.now.call.now brought.entry (W.contents out.old) (W.contents out.new))
+            (W.contents out.old) (W.contents out.new)) (W.contents out.new ≡ W.contents out.old) result }
         ensures quiet { self.now.terminals.err ≡ false → E.contents err.new ≡ E.contents err.old }
     {
         let lock = places.lock(self.call.folder, Access::Writes, self.patience(), err, why)?;
-        let made = self.change_in_folder(places, files, out, err, why);
+        let made = self.change_in_folder(places, brought, out, why);
         drop(lock);
         made
     }
 
     /// Opens the dataset, in the locked folder, and changes it.
-    fn change_in_folder<P: Places, W: Write, E: Write>(
+    fn change_in_folder<P: Places, W: Write>(
         &self,
         places: &mut P,
-        files: &[Vec<u8>],
+        brought: Brought<'_>,
         out: &mut W,
-        err: &mut E,
         why: &mut Option<Reason>,
     ) -> R<()>
         ensures comes { InFolder (disk_within {D = P.Disk} {S = S}) (P.known places.old) (P.known places.new) self.now.call.now.folder.now
-            (ChangesDisk P.Disk.state self.now.call.now (files_view files.now) (W.contents out.old) (W.contents out.new))
-            (W.contents out.new ≡ W.contents out.old) result }
-        ensures quiet { self.now.terminals.err ≡ false → E.contents err.new ≡ E.contents err.old }
+            (ChangesDisk P.Disk.state self.now.call.now.options (ChangesWith P.Disk.state self.now.call.now brought.entry (W.contents out.old) (W.contents out.new))
+            (W.contents out.old) (W.contents out.new)) (W.contents out.new ≡ W.contents out.old) result }
     {
         let disk = self.take(places, self.shows_disk())?;
-        let (disk, made) = self.change_on(places, disk, files, out, err, why);
+        let (disk, made) = self.change_on(places, disk, brought, out, why);
         self.give(places, disk);
         made
     }
 
     /// Opens the dataset on a disk, in the locked folder, and changes it. The disk is handed back.
-    fn change_on<P: Places, D: Explains, W: Write, E: Write>(
+    fn change_on<P: Places, D: Explains, W: Write>(
         &self,
         places: &mut P,
         disk: Watched<D, S>,
-        files: &[Vec<u8>],
+        brought: Brought<'_>,
         out: &mut W,
-        err: &mut E,
         why: &mut Option<Reason>,
     ) -> (Watched<D, S>, R<()>)
-        ensures comes { ChangesDisk D.state self.now.call.now (files_view files.now) (W.contents out.old) (W.contents out.new) disk result.0 result.1 }
+        ensures comes { ChangesDisk D.state self.now.call.now.options (ChangesWith D.state self.now.call.now brought.entry (W.contents out.old) (W.contents out.new))
+            (W.contents out.old) (W.contents out.new) disk result.0 result.1 }
         ensures same { StaysKnown (P.known places.old) (P.known places.new) }
-        ensures quiet { self.now.terminals.err ≡ false → E.contents err.new ≡ E.contents err.old }
     {
         match self.open(places, disk) {
             Ok(store) => {
                 let mut store = store;
-                let made = self.change_store(&mut store, files, out, err, why);
+                let made = self.change_store(&mut store, brought, out, why);
                 self.clean_up(places, &mut store);
                 (store.into_disk(), made)
             }
@@ -187,22 +203,36 @@ impl<S: Write + Clone + Drop> Making<'_, S> {
         }
     }
 
-    /// Changes the dataset, and prints what came of it.
-    fn change_store<D: Explains, W: Write, E: Write>(
+    /// Changes the dataset with what was read before, and prints what came of it.
+    fn change_store<D: Explains, W: Write>(
+        &self,
+        store: &mut Store<Watched<D, S>>,
+        brought: Brought<'_>,
+        out: &mut W,
+        why: &mut Option<Reason>,
+    ) -> R<()>
+        ensures comes { ChangesWith D.state self.now.call.now brought.entry (W.contents out.old) (W.contents out.new) store.old store.new result }
+    {
+        match brought {
+            Brought::Files(files) => self.change_by_files(store, files, out, why),
+            Brought::Rows(rows, unless) => self.append_to(store, rows, unless, out, why),
+        }
+    }
+
+    /// Changes the dataset with the bytes of the files that the call names, and prints what came of it.
+    fn change_by_files<D: Explains, W: Write>(
         &self,
         store: &mut Store<Watched<D, S>>,
         files: &[Vec<u8>],
         out: &mut W,
-        err: &mut E,
         why: &mut Option<Reason>,
     ) -> R<()>
         ensures comes { ChangesStore D.state self.now.call.now self.now.call.now.task (files_view files.now)
             (W.contents out.old) (W.contents out.new) store.old store.new result }
-        ensures quiet { self.now.terminals.err ≡ false → E.contents err.new ≡ E.contents err.old }
     {
         match &self.call.task {
             Task::Create { .. } | Task::Look(_) | Task::Ask(_) => Ok(()),
-            Task::Change(change) => self.make_change(store, change, files, out, err, why),
+            Task::Change(change) => self.make_change(store, change, files, out, why),
             Task::Run { stops, .. } => {
                 let bytes = bytes_at(files, 0);
                 run_calls(self.alloc, store, bytes, *stops, self.call.texts, out, why)
@@ -211,27 +241,46 @@ impl<S: Write + Clone + Drop> Making<'_, S> {
     }
 
     /// Makes a change of the dataset, and prints that it is done.
-    fn make_change<D: Explains, W: Write, E: Write>(
+    fn make_change<D: Explains, W: Write>(
         &self,
         store: &mut Store<Watched<D, S>>,
         change: &Change<'_>,
         files: &[Vec<u8>],
         out: &mut W,
-        err: &mut E,
         why: &mut Option<Reason>,
     ) -> R<()>
-        ensures comes { Changes D.state self.now.call.now change.now (files_view files.now) (W.contents out.old) (W.contents out.new) store.old store.new result }
-        ensures quiet { self.now.terminals.err ≡ false → E.contents err.new ≡ E.contents err.old }
+        ensures comes { ChangesAsAsked D.state self.now.call.now change.now (files_view files.now) (W.contents out.old) (W.contents out.new)
+            store.old store.new result }
     {
-        let (alloc, texts, shows) = (self.alloc, self.call.texts, self.terminals.err);
+        let (alloc, texts) = (self.alloc, self.call.texts);
         let keeps = self.call.keeps_style;
         let mut at = None;
-        let done = change_in_style(
-            alloc, store, change, keeps, files, texts, err, shows, why, &mut at,
-        );
+        let done = change_in_style(alloc, store, change, keeps, files, texts, why, &mut at);
         store.vault.disk.clear();
         if let (Some(place), Err(refusal)) = (at, &done) {
             self.name_file(place, refusal, why);
+        }
+        tell_done(done, out, why)
+    }
+
+    /// Appends rows to the dataset, and prints that it is done.
+    fn append_to<D: Explains, W: Write>(
+        &self,
+        store: &mut Store<Watched<D, S>>,
+        rows: LineGatherer<'_>,
+        unless: Option<&str>,
+        out: &mut W,
+        why: &mut Option<Reason>,
+    ) -> R<()>
+        ensures comes { (root : Root) (given : List ValueTrees) → holds rows.entry.gathered given → AreGatheredFor root self.now.call.now.options rows.entry.gathered
+            → ChangesByRows D.state self.now.call.now (lent_text unless.entry) root given (W.contents out.old) (W.contents out.new) store.old store.new result }
+    {
+        let (alloc, texts) = (self.alloc, self.call.texts);
+        let (gathered, notes) = rows.into_parts(alloc);
+        let done = append_rows(alloc, store, unless, gathered, texts);
+        store.vault.disk.clear();
+        if let Err(refusal) = &done {
+            *why = found(append_reason(alloc, store, notes, unless, texts, refusal));
         }
         tell_done(done, out, why)
     }

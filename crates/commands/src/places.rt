@@ -1,6 +1,9 @@
 //! Where datasets are.
 
-ghost use Rattle.std.specs.Prelude.{◌≡◌, ℕ, List, false, OnOk, IfOk, IfErr, IsTrue};
+ghost use Rattle.std.specs.Prelude.{◌≡◌, ℕ, List, Option, false, OnOk, IfOk, IfErr, IsTrue};
+ghost use Rattle.bits.specs.Refusals.{RefusedOnly};
+ghost use Rattle.bits.specs.declared.refusal.Refusal.TheVariants.{Device};
+ghost use Rattle.commands.specs.Blocks.{AreKnown, ReadsBlock};
 ghost use Rattle.commands.specs.Places.{Known, StaysKnown, StaysBut, IsKeptFrom, AreKeptFrom, HasEnds};
 
 use crate::lock::{Access, Patience};
@@ -20,6 +23,22 @@ pub enum Node {
     File(u64),
 }
 
+/// A file that is read from its first byte to its last, a block at a time.
+pub trait BlockReader {
+    /// The bytes that are left to be read, where they are known.
+    ghost left: { Self → Option (List ℕ) };
+
+    /// That the file cannot be read.
+    ghost is_shut: { Self → Type 0 };
+
+    /// Reads the next block, and puts it behind the bytes that `buffer` has. False where nothing was left. Refused Device where the
+    /// file cannot be read, which is noted.
+    fn read_block(&mut self, buffer: &mut Vec<u8>, notes: &Notes) -> R<bool>
+        ensures read { IfOk result (ReadsBlock (left self.old) (left self.new) buffer.old.items buffer.new.items) }
+        ensures refused { RefusedOnly (λ e. (e ≡ Device) × is_shut self.old) result }
+        ensures shut { is_shut self.new → is_shut self.old };
+}
+
 /// Where datasets are: files by their paths, and folders, each with a disk, that can be locked.
 pub trait Places {
     /// The disk of a folder.
@@ -28,12 +47,22 @@ pub trait Places {
     /// A lock, which is held until this is dropped.
     type Held: Drop;
 
+    /// A file that is read in blocks.
+    type Reader: BlockReader + Drop;
+
     /// What is known of files and folders. Where nothing is known, each clause holds of anything.
     ghost known: { Self → Known Self.Disk };
 
     /// The bytes of the file at a path, all of them. Refused Device where it cannot be read, which is noted.
     fn bytes(&mut self, alloc: Global, path: &str, notes: &Notes) -> R<Vec<u8>>
         ensures read { IfOk result (λ bytes. (known self.old).file path.now bytes.items) }
+        ensures refused { IfErr result (IsKeptFrom (known self.old) path.now) }
+        ensures same { StaysKnown (known self.old) (known self.new) };
+
+    /// Opens the file at a path, to be read in blocks. Refused as [`bytes`](Places::bytes).
+    fn reader(&mut self, alloc: Global, path: &str, notes: &Notes) -> R<Self::Reader>
+        ensures opened { IfOk result (λ reader. (bytes : List ℕ) → AreKnown (Self.Reader.left reader) bytes → (known self.old).file path.now bytes) }
+        ensures shut { IfOk result (λ reader. Self.Reader.is_shut reader → (known self.old).is_shut path.now) }
         ensures refused { IfErr result (IsKeptFrom (known self.old) path.now) }
         ensures same { StaysKnown (known self.old) (known self.new) };
 

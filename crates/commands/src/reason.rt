@@ -44,6 +44,8 @@ pub enum Reason {
     File(String),
     /// No group has this number.
     NoGroup(u64),
+    /// The folder has another table than the one for which rows were read.
+    OtherTable,
     /// The folder has a `_metadata`.
     HasRoot,
     /// The folder has part files that are no dataset's: this one.
@@ -135,6 +137,12 @@ impl Told<'_> {
                 write!(
                     f,
                     "{folder}/_metadata was not written by pqds: it describes no table"
+                )
+            }
+            Reason::OtherTable => {
+                write!(
+                    f,
+                    "the columns or the keys of {folder} were changed while the rows were read: append them once more"
                 )
             }
             Reason::HasRoot => {

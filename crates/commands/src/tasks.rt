@@ -4,9 +4,9 @@ ghost use Rattle.std.specs.Prelude.{◌≡◌, false, slice_index_or, []};
 ghost use Rattle.commands.specs.Importing.{files_view};
 ghost use Rattle.commands.specs.Unless.{AsksImport};
 ghost use Rattle.commands.specs.Tasks.{lent_text, lent_texts, columns_named, PrintsQuery, PrintsAnswer, RunsBytes};
-ghost use Rattle.commands.specs.Tasks.{AppendsBytes, AddsColumn, ImportsSeveral, ImportsAsked, MakesAsked, MakesChange, MakesInStyle};
+ghost use Rattle.commands.specs.Tasks.{AddsColumn, ImportsSeveral, ImportsAsked, MakesAsked, MakesChange, MakesInStyle};
 
-use crate::changing::{add_column, append, remove_rows, rewrite_groups, rewrite_small};
+use crate::changing::{add_column, remove_rows, rewrite_groups, rewrite_small};
 use crate::explaining::{change_reason, question_reason, script_reason};
 use crate::first_rows::print_first_rows;
 use crate::folder::refusal_of;
@@ -18,7 +18,7 @@ use crate::reason::Reason;
 use crate::renewing::rewrite_all;
 use crate::running::run_script;
 use crate::texts::{columns_named, owned, text_of};
-use crate::unless::{append_unless, import_unless};
+use crate::unless::import_unless;
 use bits::R;
 use dataset_words::{Change, Question};
 use disk::Disk;
@@ -107,24 +107,21 @@ fn print_query<D: Disk, W: Write, E: Write>(
     }
 }
 
-/// Changes a store, with the bytes of the files that the change names. With `texts`, dates, times, timestamps and decimals are
-/// also read from their texts, in rows and filters. Where `shows` says so, `err` shows how many of its rows were read so far. Where
-/// it is refused, `why` may get the reason, and `refused` the place of the file that is refused among several.
-pub fn make_change<D: Disk, E: Write>(
+/// Changes a store, with the bytes of the files that the change names. Of an append it does nothing: its rows come in by
+/// [`append_rows`](crate::append_rows). With `texts`, dates, times, timestamps and decimals are also read from their texts in filters. Where it is
+/// refused, `why` may get the reason, and `refused` the place of the file that is refused among several.
+pub fn make_change<D: Disk>(
     alloc: Global,
     store: &mut Store<D>,
     change: &Change<'_>,
     files: &[Vec<u8>],
     texts: bool,
-    err: &mut E,
-    shows: bool,
     why: &mut Option<Reason>,
     refused: &mut Option<usize>,
 ) -> R<u64>
     ensures makes { MakesChange D.state texts store.old store.new change.now (files_view files.now) result }
-    ensures quiet { shows ≡ false → E.contents err.new ≡ E.contents err.old }
 {
-    let changed = change_store(alloc, store, change, files, texts, err, shows, refused);
+    let changed = change_store(alloc, store, change, files, texts, refused);
     if let Err(refusal) = &changed {
         let bytes = bytes_at(files, refused.unwrap_or(0));
         *why = found(change_reason(alloc, store, change, bytes, texts, refusal));
@@ -133,23 +130,20 @@ pub fn make_change<D: Disk, E: Write>(
 }
 
 /// Makes a change as [`make_change`] does; where `keeps` says so, in the style of the first group that the change writes anew.
-pub fn change_in_style<D: Disk, E: Write>(
+pub fn change_in_style<D: Disk>(
     alloc: Global,
     store: &mut Store<D>,
     change: &Change<'_>,
     keeps: bool,
     files: &[Vec<u8>],
     texts: bool,
-    err: &mut E,
-    shows: bool,
     why: &mut Option<Reason>,
     refused: &mut Option<usize>,
 ) -> R<u64>
     ensures makes { MakesInStyle D.state keeps texts store.old store.new change.now (files_view files.now) result }
-    ensures quiet { shows ≡ false → E.contents err.new ≡ E.contents err.old }
 {
     keep_style(alloc, store, change, keeps, texts)?;
-    make_change(alloc, store, change, files, texts, err, shows, why, refused)
+    make_change(alloc, store, change, files, texts, why, refused)
 }
 
 /// The bytes of the file at a place; none where there is no such file.
@@ -164,23 +158,19 @@ pub fn bytes_at(files: &[Vec<u8>], place: usize) -> &[u8]
 
 /// Changes a store, with the bytes of the files that the change names. `refused` gets the place of the one that is refused among
 /// several.
-fn change_store<D: Disk, E: Write>(
+fn change_store<D: Disk>(
     alloc: Global,
     store: &mut Store<D>,
     change: &Change<'_>,
     files: &[Vec<u8>],
     texts: bool,
-    err: &mut E,
-    shows: bool,
     refused: &mut Option<usize>,
 ) -> R<u64>
     ensures makes { MakesChange D.state texts store.old store.new change.now (files_view files.now) result }
-    ensures quiet { shows ≡ false → E.contents err.new ≡ E.contents err.old }
 {
     match change {
-        Change::Append { unless, .. } => {
-            append_bytes(alloc, store, *unless, bytes_at(files, 0), texts, err, shows)
-        }
+        // Its rows come in by themselves, once they are gathered.
+        Change::Append { .. } => Ok(0),
         Change::Import { unless, .. } => import(alloc, store, *unless, files, texts, refused),
         Change::AddColumn { .. } => add_column_of(alloc, store, bytes_at(files, 0)),
         Change::Remove { filter } => remove_rows(alloc, store, filter, texts),
@@ -188,27 +178,6 @@ fn change_store<D: Disk, E: Write>(
         Change::Rewrite { numbers } => rewrite_groups(alloc, store, numbers.as_slice()),
         Change::RewriteSmall { min_rows } => rewrite_small(alloc, store, *min_rows),
         Change::RewriteAll => rewrite_all(alloc, store),
-    }
-}
-
-/// Appends the rows of the lines of bytes; where there is a filter, unless some row satisfies it. Refused Script for bytes that are
-/// no text.
-fn append_bytes<D: Disk, E: Write>(
-    alloc: Global,
-    store: &mut Store<D>,
-    unless: Option<&str>,
-    bytes: &[u8],
-    texts: bool,
-    err: &mut E,
-    shows: bool,
-) -> R<u64>
-    ensures appends { AppendsBytes D.state texts store.old store.new (lent_text unless.entry) bytes.now result }
-    ensures quiet { shows ≡ false → E.contents err.new ≡ E.contents err.old }
-{
-    let text = text_of(bytes)?;
-    match unless {
-        Some(filter) => append_unless(alloc, store, filter, text, texts, err, shows),
-        None => append(alloc, store, text, texts, err, shows),
     }
 }
 

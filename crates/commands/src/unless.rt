@@ -1,39 +1,39 @@
 //! Rows that are appended unless some row satisfies a filter.
 
-ghost use Rattle.std.specs.Prelude.{◌≡◌, false};
-ghost use Rattle.std.specs.Str.Lines.{lines};
-ghost use Rattle.commands.specs.Lines.{AreRefusedRows};
-ghost use Rattle.commands.specs.Making.{AsksAppend};
+ghost use Rattle.std.specs.Prelude.{◌≡◌, List, Some};
+ghost use Rattle.schema.specs.Values.{ValueTrees};
+ghost use Rattle.footer.specs.declared.options.WriteOptions.{WriteOptions};
+ghost use Rattle.manifest.specs.Groups.{Root};
+ghost use Rattle.gather.specs.GatheredRows.{holds};
+ghost use Rattle.store.specs.Gathering.{AreGatheredFor};
+ghost use Rattle.commands.specs.Appending.{AppendsRows};
 ghost use Rattle.commands.specs.Unless.{CountsByText, MakesUnless, AsksImport};
 
-use crate::changing::append;
 use bits::R;
 use disk::Disk;
+use gather::Gathered;
 use jsonrows::filter_from_as;
 use std::alloc::Global;
-use std::io::Write;
 use store::Store;
 
-/// Appends the rows of a text as [`append`] does, unless some row of the table satisfies a filter: then it returns 0, and
-/// nothing is appended. With `texts`, dates, times, timestamps and decimals are also read from their texts, in the filter too.
-/// Refused as `filter_from_as` refuses the filter, as `Store::count`, and then as [`append`].
-pub fn append_unless<D: Disk, E: Write>(
+/// Appends rows that were gathered for a table, unless some row of the store's table satisfies a filter: then it returns 0, and
+/// nothing is appended. With `texts`, dates, times, timestamps and decimals are also read from their texts in the filter. Refused as
+/// `filter_from_as` refuses the filter, as `Store::count`, and then as `Store::append_gathered`.
+pub fn append_unless<D: Disk>(
     alloc: Global,
     store: &mut Store<D>,
     filter: &str,
-    text: &str,
+    rows: Gathered<'_>,
     texts: bool,
-    err: &mut E,
-    shows: bool,
 ) -> R<u64>
-    ensures makes { MakesUnless D.state texts store.old store.new filter.now (AsksAppend texts text.now) (λ fs. AreRefusedRows texts fs (lines text.now)) result }
-    ensures quiet { shows ≡ false → E.contents err.new ≡ E.contents err.old }
+    ensures appends { (root : Root) (options : WriteOptions) (given : List ValueTrees) → holds rows.entry given → AreGatheredFor root options rows.entry
+        → AppendsRows D.state texts root options given (Some filter.now) store.old store.new result }
 {
     let count = count_rows(alloc, store, filter, texts)?;
     if count > 0 {
         return Ok(0);
     }
-    append(alloc, store, text, texts, err, shows)
+    store.append_gathered(alloc, rows)
 }
 
 /// Appends the rows of a Parquet file, unless some row of the table satisfies a filter: then it returns 0, and nothing is

@@ -33,8 +33,13 @@ keeps the rules of docs/DISK.md; whether yours does is not known to the program.
 Where standard error is a terminal, it shows after each 100000 rows how many were read, and then how much was read from the
 disk and written to it so far; at the end that is removed. With --quiet it is not shown.
 
-Refused 14 or 29 for the first line that is no row, after a line that says which and why; 17 Key for a row whose key has no folder
-(an empty text, or a longer name than 255 bytes), after a line that says which; 23 NoTable where DIR has no dataset.
+The lines are read before DIR is locked, so that other commands may use it meanwhile: the rows may come from a slow pipe, or from a
+query of the same dataset. They are kept as columns; of the lines only a block and the longest one are in memory.
+
+Refused 14, 29 or 13 for the first line that is no row, is not UTF-8, or has more than 1 GiB, after a line that says which and why;
+4 Schema where DIR has got other columns or keys by the time that all lines are read, after a line that says so; 17 Key for a row
+whose key has no folder (an empty text, or a longer name than 255 bytes), after a line that says which; 23 NoTable where DIR has no
+dataset.
 
 Refused 26 InDoubt where the disk failed at the moment of the commit: the rows are all there, or none is. So it is after a kill.
 `pqds count DIR`, compared with the count before, shows which.

@@ -12,6 +12,7 @@ mod layout;
 mod memory_parts;
 mod memory_paths;
 mod memory_places;
+mod memory_reader;
 mod tree;
 
 pub use calling::made_call;
@@ -21,4 +22,5 @@ pub use layout::{Layout, There};
 pub use memory_parts::MemoryParts;
 pub use memory_paths::MemoryPaths;
 pub use memory_places::{Held, MemoryPlaces};
+pub use memory_reader::MemoryReader;
 pub use tree::Tree;

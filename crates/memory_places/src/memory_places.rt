@@ -7,6 +7,7 @@ ghost use Rattle.memory_places.specs.Folders.{known_in_memory};
 use crate::disks::FolderDisks;
 use crate::folder_disk::FolderDisk;
 use crate::layout::{IS_FOLDER, Layout, NO_FOLDER};
+use crate::memory_reader::MemoryReader;
 use bits::{R, Refusal};
 use commands::{Access, Node, Notes, Patience, Places, Readers, Reason};
 use program::folder_of;
@@ -37,6 +38,8 @@ impl Places for MemoryPlaces<'_> {
 
     type Held = Held;
 
+    type Reader = MemoryReader;
+
     ghost known = { λ places. known_in_memory places.layout.now places.disks };
 
     fn bytes(&mut self, alloc: Global, path: &str, notes: &Notes) -> R<Vec<u8>> {
@@ -47,6 +50,11 @@ impl Places for MemoryPlaces<'_> {
             }
             None => Err(refused_at(path, self.layout.no_file(path), notes)),
         }
+    }
+
+    fn reader(&mut self, alloc: Global, path: &str, notes: &Notes) -> R<MemoryReader> {
+        let bytes = self.bytes(alloc, path, notes)?;
+        Ok(MemoryReader::new(bytes))
     }
 
     fn ends(&mut self, alloc: Global, path: &str, notes: &Notes) -> R<Vec<u8>> {

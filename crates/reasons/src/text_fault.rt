@@ -11,6 +11,9 @@ use simdutf8::basic::from_utf8;
 use std::alloc::Global;
 use std::fmt::{self, Display, Formatter};
 
+/// What is wrong in a line that is no text.
+pub const NOT_UTF8: &str = "not UTF-8";
+
 /// What is wrong in a text, and where.
 #[derive(Debug, Drop)]
 pub struct TextFault {
@@ -62,12 +65,31 @@ pub fn row_fault(
             Ok(_) => {}
             Err(Refusal::Memory) => return Err(Refusal::Memory),
             Err(_) => {
-                let misfit = row_misfit(alloc, schema, line, texts)?;
-                return Ok(Some(TextFault::in_line(alloc, file, number, misfit)?));
+                return Ok(Some(line_fault(alloc, schema, file, number, line, texts)?));
             }
         }
     }
     Ok(None)
+}
+
+/// Why a line of a file, which has this number, is no row of a schema. With `texts`, dates, times, timestamps and decimals are
+/// texts.
+pub fn line_fault(
+    alloc: Global,
+    schema: &Schema,
+    file: &str,
+    number: u64,
+    line: &str,
+    texts: bool,
+) -> R<TextFault> {
+    let misfit = row_misfit(alloc, schema, line, texts)?;
+    TextFault::in_line(alloc, file, number, misfit)
+}
+
+/// What is wrong in a line of a file, which has this number, in these words.
+pub fn fault_at(alloc: Global, file: &str, number: u64, what: &str) -> R<TextFault> {
+    let misfit = Misfit::because(alloc, what)?;
+    TextFault::in_line(alloc, file, number, misfit)
 }
 
 /// Why a line is no row of a schema.
@@ -136,8 +158,7 @@ pub fn utf8_fault(alloc: Global, file: &str, bytes: &[u8]) -> R<Option<TextFault
     for line in bytes.split(|byte| *byte == b'\n') {
         number = number.saturating_add(1);
         if from_utf8(line).is_err() {
-            let misfit = Misfit::because(alloc, "not UTF-8")?;
-            return Ok(Some(TextFault::in_line(alloc, file, number, misfit)?));
+            return Ok(Some(fault_at(alloc, file, number, NOT_UTF8)?));
         }
     }
     Ok(None)

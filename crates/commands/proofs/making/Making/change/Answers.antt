@@ -9,3 +9,6 @@ returns-in_err-lock-clause-comes g c =
 pub returns-clause-comes : goal.returns-clause-comes
 returns-clause-comes g c =
     carried c.lock.ensures.same _ c.args.self.now.call.now.folder.now _ _ c.change_in_folder-made.result c.change_in_folder-made.ensures.comes
+
+pub invariant_of-brought : goal.invariant_of-brought
+invariant_of-brought g c = record { alike = c.brought-1.given.0.0.gathered.buffers.alike }

@@ -11,3 +11,6 @@ returns-in-Ok-clause-comes g c =
 
 pub returns-in-Err-clause-comes : goal.returns-in-Err-clause-comes
 returns-in-Err-clause-comes g c = not_opened c.in-Err.refusal c.in-Err.ensures.opens refl refl
+
+pub invariant_of-brought : goal.invariant_of-brought
+invariant_of-brought g c = record { alike = c.brought-1.given.0.0.gathered.buffers.alike }

@@ -1,16 +1,20 @@
-use Rattle.std.proofs.Common.{◌∙◌, ℕ, List, sym, subst}
-use Rattle.dataset_words.specs.declared.call.Task.{Task}
-use Rattle.commands.specs.Importing.{files_view}
-use Rattle.commands.specs.Calls.{ChangesStore, RunsCalls, state_within}
-use Rattle.commands.proofs.TasksMade.{first_at}
+use Rattle.std.proofs.Common.{sym, subst}
+use Rattle.commands.specs.inner.Brought.{ChangesWith}
+use Rattle.commands.specs.declared.opening.Brought.{Brought}
 use Rattle.commands.proofs.making.Making.change_store.Goals as goal
 
-pub returns-in-Run-clause-comes : goal.returns-in-Run-clause-comes
-returns-in-Run-clause-comes g c =
-    let state = g.D.Disk.state in
+pub returns-in-Files : goal.returns-in-Files
+returns-in-Files g c =
     let contents = g.W.Write.contents in
-    let call = c.args.self.now.call.now in
-    let files = files_view c.args.files.now in
-    subst (λ (t : Task). ChangesStore state call t files (contents c.args.out.now) (contents c.run_calls.new.out) c.args.store.now c.run_calls.new.store c.run_calls.result) (sym c.in-Run.is)
-    (subst (λ (file : List ℕ). RunsCalls (state_within {S = g.row.S.Denot} state) c.in-Run.stops call.texts c.args.store.now c.run_calls.new.store file (contents c.args.out.now) (contents c.run_calls.new.out) c.run_calls.result)
-    (c.bytes_at-bytes.ensures ∙ first_at files) c.run_calls.ensures.runs)
+    record {
+      comes = subst (λ (b : Brought). ChangesWith g.D.Disk.state c.args.self.now.call.now b (contents c.args.out.now) (contents c.change_by_files.new.out) c.args.store.now
+          c.change_by_files.new.store c.change_by_files.result) (sym c.in-Files.is) c.change_by_files.ensures.comes;
+    }
+
+pub returns-in-Rows : goal.returns-in-Rows
+returns-in-Rows g c =
+    let contents = g.W.Write.contents in
+    record {
+      comes = subst (λ (b : Brought). ChangesWith g.D.Disk.state c.args.self.now.call.now b (contents c.args.out.now) (contents c.append_to.new.out) c.args.store.now
+          c.append_to.new.store c.append_to.result) (sym c.in-Rows.is) c.append_to.ensures.comes;
+    }

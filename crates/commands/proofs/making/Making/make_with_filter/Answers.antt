@@ -19,8 +19,8 @@ returns-in-Ok-clause-comes g c =
     let before = g.W.Write.contents c.args.out.now in
     let after = g.W.Write.contents c.make.new.out in
     let own = c.with_call.result.call.now in
-    filtered_so (λ (asked : Call). ComesUnfiltered S state old new asked before after c.make.result) (after ≡ before) c.args.self.now.call.now c.in-Ok.call own c.make.result c.args.path.now c.in_ok-bytes.bytes.items c.as_slice.result.now
-    c.requires.named c.in_ok-bytes.ensures.read c.as_slice.ensures.value is.0 is.1 c.with_call.ensures.call (comes_before c.bytes.ensures.same S state own before after c.make.result new c.make.ensures.comes)
+    filtered_so (λ (asked : Call). ComesUnfiltered S state g.P.Places.known old new asked before after c.make.result) (after ≡ before) c.args.self.now.call.now c.in-Ok.call own c.make.result c.args.path.now c.in_ok-bytes.bytes.items c.as_slice.result.now
+    c.requires.named c.in_ok-bytes.ensures.read c.as_slice.ensures.value is.0 is.1 c.with_call.ensures.call (comes_before c.bytes.ensures.same S state g.P.Places.known own before after c.make.result new c.make.ensures.comes)
 
 pub returns-clause-comes : goal.returns-clause-comes
 returns-clause-comes g c =

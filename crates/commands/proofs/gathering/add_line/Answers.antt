@@ -1,7 +1,7 @@
 use Rattle.std.proofs.lemmas.Result.{on_ok_weaker}
 use Rattle.rowtext.specs.Reader.{schema_of}
 use Rattle.commands.proofs.RowsGathered.{line_gathered}
-use Rattle.commands.proofs.gathering.gather_line.Goals as goal
+use Rattle.commands.proofs.gathering.add_line.Goals as goal
 
 pub returns-clause-stands : goal.returns-clause-stands
 returns-clause-stands c =

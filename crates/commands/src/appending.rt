@@ -1,0 +1,142 @@
+//! Rows of lines that are appended: they are read while nobody is kept from the dataset.
+
+ghost use Rattle.std.specs.Prelude.{◌≡◌, ⊤, List, false, IfOk, IfErr};
+ghost use Rattle.schema.specs.Values.{ValueTrees};
+ghost use Rattle.footer.specs.declared.options.WriteOptions.{WriteOptions};
+ghost use Rattle.manifest.specs.Groups.{Root, root_of};
+ghost use Rattle.gather.specs.GatheredRows.{holds};
+ghost use Rattle.store.specs.Gathering.{AreGatheredFor};
+ghost use Rattle.commands.specs.Appending.{AppendsRows, FindsTable};
+ghost use Rattle.commands.specs.Blocks.{AreKnown, AreRefusedOf};
+ghost use Rattle.commands.specs.Places.{InFolder};
+ghost use Rattle.commands.specs.Tasks.{lent_text};
+ghost use Rattle.commands.specs.Calls.{AppendsLines, state_within, disk_within};
+ghost use Rattle.commands.specs.inner.GatheredRows.{HasReadAll};
+
+use crate::gathering::{LineGatherer, gathered_lines};
+use crate::making::{Making, root_reason};
+use crate::opening::Brought;
+use crate::places::{BlockReader, Places};
+use crate::reason::Reason;
+use crate::unless::append_unless;
+use bits::R;
+use disk::Disk;
+use gather::Gathered;
+use manifest::Manifest;
+use std::alloc::Global;
+use std::io::Write;
+use store::Store;
+
+impl<S: Write + Clone + Drop> Making<'_, S> {
+    /// Appends the rows of the lines of the file at a path; where there is a filter, unless some row satisfies it. The file is opened
+    /// first. Its lines are read over the table that is found then; the folder is locked, and the dataset opened to change it, when all
+    /// are read.
+    ///
+    /// Refused Device where the file cannot be read, which is noted; as the opening of the dataset; for the first line that is no row,
+    /// as [`gathered_lines`]; and then as [`append_rows`].
+    pub(crate) fn append<P: Places, W: Write, E: Write>(
+        &self,
+        places: &mut P,
+        path: &str,
+        unless: Option<&str>,
+        out: &mut W,
+        err: &mut E,
+        why: &mut Option<Reason>,
+    ) -> R<()>
+        ensures comes { AppendsLines S P.Disk.state P.known (P.known places.old) (P.known places.new) self.now.call.now path.now (lent_text unless.entry)
+            (W.contents out.old) (W.contents out.new) result }
+        ensures quiet { self.now.terminals.err ≡ false → E.contents err.new ≡ E.contents err.old }
+    {
+        let mut file = places.reader(self.alloc, path, self.notes)?;
+        let table = self.find_table(places, err, why)?;
+        let rows = self.gather(&table, &mut file, err, why)?;
+        drop(file);
+        self.change(places, Brought::Rows(rows, unless), out, err, why)
+    }
+
+    /// The rows of the lines of a file, gathered for a table.
+    fn gather<'a, B: BlockReader, E: Write>(
+        &self,
+        table: &'a Manifest,
+        file: &mut B,
+        err: &mut E,
+        why: &mut Option<Reason>,
+    ) -> R<LineGatherer<'a>>
+        ensures stands { IfOk result (HasReadAll self.now.call.now.texts (root_of table.now) self.now.call.now.options (B.left file.old)) }
+        ensures which { IfErr result (AreRefusedOf (B.is_shut file.old) (AreKnown (B.left file.old)) self.now.call.now.texts (root_of table.now).schema) }
+        ensures quiet { self.now.terminals.err ≡ false → E.contents err.new ≡ E.contents err.old }
+    {
+        let (alloc, texts, shows) = (self.alloc, self.call.texts, self.terminals.err);
+        let (options, notes) = (&self.call.options, self.notes);
+        gathered_lines(alloc, table, options, texts, file, notes, err, shows, why)
+    }
+
+    /// What the root says of the dataset in the folder, which is opened to read it, and not used any more then.
+    fn find_table<P: Places, E: Write>(
+        &self,
+        places: &mut P,
+        err: &mut E,
+        why: &mut Option<Reason>,
+    ) -> R<Manifest>
+        ensures finds { InFolder (disk_within {D = P.Disk} {S = S}) (P.known places.old) (P.known places.new) self.now.call.now.folder.now
+            (FindsTable (state_within P.Disk.state) self.now.call.now.options) ⊤ result }
+        ensures quiet { self.now.terminals.err ≡ false → E.contents err.new ≡ E.contents err.old }
+    {
+        let lock = self.share(places, err, why)?;
+        let found = self.find_table_in_folder(places, why);
+        drop(lock);
+        found
+    }
+
+    /// The same, where the folder is shared.
+    fn find_table_in_folder<P: Places>(
+        &self,
+        places: &mut P,
+        why: &mut Option<Reason>,
+    ) -> R<Manifest>
+        ensures finds { InFolder (disk_within {D = P.Disk} {S = S}) (P.known places.old) (P.known places.new) self.now.call.now.folder.now
+            (FindsTable (state_within P.Disk.state) self.now.call.now.options) ⊤ result }
+    {
+        let disk = self.take(places, false)?;
+        let (disk, found) = self.find_table_on(disk, why);
+        self.give(places, disk);
+        found
+    }
+
+    /// The same of a dataset on a disk, which is handed back.
+    fn find_table_on<D: Disk>(&self, disk: D, why: &mut Option<Reason>) -> (D, R<Manifest>)
+        ensures finds { FindsTable D.state self.now.call.now.options disk result.0 result.1 }
+    {
+        match store::open_to_read(self.alloc, disk, self.call.options) {
+            Ok(store) => {
+                let table = store.description();
+                (store.into_disk(), table)
+            }
+            Err((disk, refusal)) => {
+                *why = root_reason(&refusal);
+                (disk, Err(refusal))
+            }
+        }
+    }
+}
+
+/// Appends rows that were gathered for a table; where there is a filter, unless some row satisfies it: then it returns 0, and nothing
+/// is appended. With `texts`, dates, times, timestamps and decimals are also read from their texts in the filter.
+///
+/// Refused as [`append_unless`], and as `Store::append_gathered`: Schema where the store has another table than the one for which
+/// the rows were gathered, and then nothing is appended.
+pub fn append_rows<D: Disk>(
+    alloc: Global,
+    store: &mut Store<D>,
+    unless: Option<&str>,
+    rows: Gathered<'_>,
+    texts: bool,
+) -> R<u64>
+    ensures appends { (root : Root) (options : WriteOptions) (given : List ValueTrees) → holds rows.entry given → AreGatheredFor root options rows.entry
+        → AppendsRows D.state texts root options given (lent_text unless.entry) store.old store.new result }
+{
+    match unless {
+        Some(filter) => append_unless(alloc, store, filter, rows, texts),
+        None => store.append_gathered(alloc, rows),
+    }
+}
