@@ -1,6 +1,6 @@
 -- The values of fields, one by one.
 use Rattle.std.proofs.Common.{ℕ, zero, suc, ◌≡◌, ◌+◌, ◌≤◌, List, [], ◌∷◌, ◌++◌, map, length, take, drop, refl, ap, sym, subst, ◌∙◌, arith, append_assoc}
-use Rattle.std.proofs.lemmas.List.{length-map, drop-drop, take-append-drop, length-take-le}
+use Rattle.std.proofs.lemmas.List.{length-map, drop-drop, take-append-drop, length-take-le, take-map, drop-map as drop-mapped}
 use Rattle.std.proofs.Math.Seq.{drop-append-add}
 use Rattle.std.proofs.lemmas.Bool.{and_parts, false≢true}
 use Rattle.bits.specs.declared.refusal.Refusal.{Refusal}
@@ -49,16 +49,6 @@ take_front (x ∷ xs) ys (suc n) e = ap (λ t. x ∷ t) (take_front xs ys n (ome
 
 drop_past : {A : Type 0} (m n : ℕ) (xs ys : List A) → length xs ≡ m → drop (m + n) (xs ++ ys) ≡ drop n ys
 drop_past m n xs ys e = ap (λ i. drop (i + n) (xs ++ ys)) (sym e) ∙ drop-append-add xs ys n
-
-take-map : {A B : Type 0} (f : A → B) (n : ℕ) (xs : List A) → take n (map f xs) ≡ map f (take n xs)
-take-map f zero xs = refl
-take-map f (suc n) [] = refl
-take-map f (suc n) (x ∷ xs) = ap (λ t. f x ∷ t) (take-map f n xs)
-
-drop-mapped : {A B : Type 0} (f : A → B) (n : ℕ) (xs : List A) → drop n (map f xs) ≡ map f (drop n xs)
-drop-mapped f zero xs = refl
-drop-mapped f (suc n) [] = refl
-drop-mapped f (suc n) (x ∷ xs) = drop-mapped f n xs
 
 alike_take : (n : ℕ) (xs ys : Columns) → AreAlike xs ys → AreAlike (take n xs) (take n ys)
 alike_take n xs ys h = sym (take-map (map level) n xs) ∙ ap (take n) h ∙ take-map (map level) n ys

@@ -1,7 +1,7 @@
 -- The first row of a flat schema, whose values are taken off the columns one by one.
-use Rattle.std.proofs.Common.{◌≡◌, ℕ, zero, suc, ◌+◌, ◌<◌, Bool, true, false, ◌&&◌, List, [], ◌∷◌, ◌++◌, map, length, get_or, Option, Some, refl, sym, ap, subst, ◌∙◌, arith}
+use Rattle.std.proofs.Common.{◌≡◌, ℕ, zero, suc, ◌+◌, ◌<◌, true, List, [], ◌∷◌, ◌++◌, map, length, get_or, Option, Some, refl, sym, ap, subst, ◌∙◌, arith}
 use Rattle.std.specs.Prelude.{option_map}
-use Rattle.std.proofs.lemmas.Bool.{false≢true}
+use Rattle.std.proofs.lemmas.Bool.{false≢true, and_parts as both_true}
 use Rattle.std.proofs.lemmas.List.{length-append, length-map}
 use Rattle.std.proofs.Math.ListN.{set}
 use Rattle.bits.specs.declared.fault.Fault.{Fault}
@@ -74,10 +74,6 @@ begins_each k (field (leaf n Required t) fs) row rows (suc i) flat lt = begins_e
 begins_each k (field (leaf n Optional t) fs) row rows i flat lt = absurd (false≢true flat)
 begins_each k (field (leaf n Repeated t) fs) row rows i flat lt = absurd (false≢true flat)
 begins_each k (field (fields n r a gs) fs) row rows i flat lt = absurd (false≢true flat)
-
-both_true : (a b : Bool) → (a && b) ≡ true → (a ≡ true) × (b ≡ true)
-both_true true b h = (refl, h)
-both_true false b h = absurd (false≢true h)
 
 no_group : (k : Kind) (vs : ValueTrees) → fits_kind k (group vs) ≡ true → ⊥
 no_group Boolean vs h = false≢true h

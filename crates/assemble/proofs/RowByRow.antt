@@ -5,6 +5,7 @@ use Rattle.std.proofs.lemmas.List.{append-nil, length-append, length-map}
 use Rattle.bits.specs.declared.refusal.Refusal.{Refusal}
 use Rattle.schema.specs.declared.value.Repetition.TheVariants.{Required}
 use Rattle.std.specs.Result.{IsErrAnd}
+use Rattle.lists.proofs.Lists.{all_weaker}
 use Rattle.schema.specs.declared.row.Row.{Row}
 use Rattle.assemble.specs.Sinks.{Token}
 use Rattle.assemble.specs.Standing.{IsRefusedFor}
@@ -30,10 +31,6 @@ use Rattle.assemble.proofs.Groups.{group_stripes, group_wants}
 -- the stripes of a row begin with levels 0
 abbrev RowStarts : Fields → Leaf → Type 0
 RowStarts fs l = (row : ValueTrees) → fits_each fs row ≡ true → Starts 0 0 (stripe l.steps (group row) 0 0 0)
-
-all_weaker : {A : Type 0} (P Q : A → Type 0) → ((x : A) → P x → Q x) → (xs : List A) → AllByRecursion P xs → AllByRecursion Q xs
-all_weaker P Q f [] h = tt
-all_weaker P Q f (x ∷ xs) h = (f x h.0, all_weaker P Q f xs h.1)
 
 row_starts : (fs : Fields) → AllByRecursion (RowStarts fs) (leaves_of fs)
 row_starts fs = all_weaker (λ (l : Leaf). IsLeafFrom fs 0 l.steps) (RowStarts fs) (λ l is row h. starts_each fs 0 l.steps is (group row) row h (At-whole row) 0 0 0) (leaves_of fs) (listed_from fs 0)

@@ -2,7 +2,7 @@
 use Rattle.std.proofs.Common.{ℕ, zero, suc, ◌≡◌, ◌<◌, ◌≤◌, ◌-◌, List, [], ◌∷◌, ◌++◌, ◌⊎◌, map, length, take, drop, get_or, refl, ap, sym, subst, ◌∙◌, arith, Some, Option, Result, Ok, Err, inl, inr}
 use Rattle.std.specs.Result.{IsErrAnd, IfErr, IfOk}
 use Rattle.std.proofs.Math.ListN.{set}
-use Rattle.std.proofs.lemmas.List.{length-take-le, length-append}
+use Rattle.std.proofs.lemmas.List.{length-take-le, length-append, map-append as map_joined}
 use borrow.Rule.Slice.PartMut.{put_mid, mid_of}
 use Rattle.bits.specs.declared.refusal.Refusal.{Refusal}
 use Rattle.bits.specs.declared.refusal.Refusal.TheVariants as refusal
@@ -33,10 +33,6 @@ kept_at f (z ∷ xs) (suc i) x y lt e = ap (λ t. f z ∷ t) (kept_at f xs i x y
 among_later : (e : Refusal) (xs ys : List (Option Refusal)) → IsAmong e ys → IsAmong e (xs ++ ys)
 among_later e [] ys h = h
 among_later e (x ∷ xs) ys h = inr (among_later e xs ys h)
-
-map_joined : {A B : Type 0} (f : A → B) (xs ys : List A) → map f (xs ++ ys) ≡ map f xs ++ map f ys
-map_joined f [] ys = refl
-map_joined f (x ∷ xs) ys = ap (λ t. f x ∷ t) (map_joined f xs ys)
 
 pub among_put : {A : Type 0} (f : A → Option Refusal) (a : ℕ) (xs ys : List A) (e : Refusal) → a ≤ length xs → IsAmong e (map f ys) → IsAmong e (map f (put_mid a (length xs - a) xs ys))
 among_put f a xs ys e le h = subst (λ zs. IsAmong e (map f zs)) (sym (tail_put a xs ys le)) (subst (IsAmong e) (sym (map_joined f (take a xs) ys)) (among_later e (map f (take a xs)) (map f ys) h))

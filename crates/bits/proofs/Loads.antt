@@ -1,5 +1,5 @@
 -- Numbers of few bits, read by one load of eight bytes.
-use Rattle.std.proofs.Common.{◌≡◌, ℕ, zero, suc, ◌+◌, ◌-◌, ◌*◌, ◌/◌, ◌%◌, ◌^◌, ◌<◌, ◌≤◌, List, [], ◌∷◌, ◌++◌, length, get_or, take, drop, refl, sym, ap, ◌∙◌, arith, inl, inr}
+use Rattle.std.proofs.Common.{◌≡◌, ℕ, zero, suc, ◌+◌, ◌-◌, ◌*◌, ◌/◌, ◌%◌, ◌^◌, ◌<◌, ◌≤◌, List, [], ◌∷◌, ◌++◌, length, get_or, take, drop, refl, sym, ap, ◌∙◌, arith, inl, inr, add-mul as add-mul-distrib}
 use Rattle.std.specs.Prelude.{slice_range, slice_index, bit_and}
 use Rattle.std.proofs.Math.Seq.{drop-nil, take-nil}
 use Rattle.std.proofs.Math.Nat.{div-div-eq-div-mul, zero-div, zero-mod, pow-suc}
@@ -7,6 +7,7 @@ use Rattle.std.proofs.lemmas.Nat.{and_mask, mod-pow-add}
 use Rattle.std.proofs.Math.Pow.{pow_mono}
 use Rattle.std.proofs.lemmas.List.{drop-take, length-drop, length-take, length-append, get_or-take, get_or_past, get_or_default, get_or-drop, get_or_append_left, get_or-append_right}
 use Rattle.std.proofs.lemmas.Bool.{cases_lt}
+use Rattle.lists.proofs.Slices.{take_twice as take-again}
 use Rattle.byteorder.specs.Endian.{little_from, little_number}
 use Rattle.bits.specs.Bits.{bits, number, IsPacked}
 use Rattle.bits.proofs.BitLists.{bits_below, number_bound}
@@ -66,12 +67,6 @@ bits-take (suc a) (b ∷ bytes) =
     let e : 8 * suc a ≡ suc (suc (suc (suc (suc (suc (suc (suc (8 * a)))))))) = omega arith in
     rw (e, bits-take a bytes) refl
 
-take-again : (w m : ℕ) (xs : List ℕ) → w ≤ m → take w (take m xs) ≡ take w xs
-take-again zero m xs le = refl
-take-again (suc w) zero xs le = absurd (omega arith)
-take-again (suc w) (suc m) [] le = refl
-take-again (suc w) (suc m) (x ∷ xs) le = ap (λ (t : List ℕ). x ∷ t) (take-again w m xs (omega (arith, le)))
-
 drop-again : (a b : ℕ) (xs : List ℕ) → drop b (drop a xs) ≡ drop (a + b) xs
 drop-again zero b xs = let e : 0 + b ≡ b = omega arith in rw e refl
 drop-again (suc a) b [] = drop-nil b ∙ sym (drop-nil (suc a + b))
@@ -130,9 +125,6 @@ packed-eight bytes w a b c d e f g h room ia ib ic id ie if_ ig ih = record { wi
     at (suc (suc (suc (suc (suc (suc zero)))))) lt = moved 6 (6 * w) g 0 refl ig
     at (suc (suc (suc (suc (suc (suc (suc zero))))))) lt = moved 7 (7 * w) h 0 refl ih
     at (suc (suc (suc (suc (suc (suc (suc (suc i)))))))) lt = absurd (omega arith)
-
-pub add-mul-distrib : (a b w : ℕ) → (a + b) * w ≡ a * w + b * w
-add-mul-distrib a b w = grind arith
 
 -- numbers, and after them those of the bytes that are left
 pub packed-more : (bytes : List ℕ) (w at : ℕ) (xs ys : List ℕ) → at ≤ length bytes → 8 * at ≡ length xs * w → IsPacked bytes w xs → IsPacked (drop at bytes) w ys → IsPacked bytes w (xs ++ ys)

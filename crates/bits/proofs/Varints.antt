@@ -1,15 +1,12 @@
 -- Numbers in groups of seven bits.
-use Rattle.std.proofs.Common.{◌≡◌, ◌⊎◌, ℕ, zero, suc, refl, ◌+◌, ◌-◌, ◌*◌, ◌/◌, ◌%◌, ◌^◌, ◌<◌, ◌≤◌, List, [], ◌∷◌, ◌++◌, length, get_or, set, take, sym, ap, subst, ◌∙◌, arith, inl, inr, add-one}
+use Rattle.std.proofs.Common.{◌≡◌, ◌⊎◌, ℕ, ◌+◌, ◌-◌, ◌*◌, ◌/◌, ◌%◌, ◌^◌, ◌<◌, ◌≤◌, List, [], ◌∷◌, ◌++◌, length, get_or, set, take, sym, ap, subst, ◌∙◌, arith, inl, inr, add-one}
 use Rattle.std.proofs.lemmas.List.{length-set, get_or_append_left, get_or_at, take_all, take_more_set, get_or-set_same, get_or-set_other, length-append, take_more, length-take-le, get_or-take}
-use Rattle.std.proofs.lemmas.Nat.{pow-add, shl_whole, and_mask}
+use Rattle.std.proofs.lemmas.Nat.{shl_whole, and_mask}
 use Rattle.std.proofs.lemmas.Bool.{cases_lt}
-use Rattle.std.proofs.Math.Nat.{pow-le-pow_right, pow-suc, mul-le-mul_left}
+use Rattle.std.proofs.Math.Nat.{pow-le-pow_right, mul-le-mul_left}
 use Rattle.std.specs.Int.Bits.{bit_and}
+use Rattle.lists.proofs.Numbers.{seven_more, powers_of_128 as powers}
 use Rattle.bits.specs.Varint.{groups, IsUleb}
-
--- seven more bits
-seven_more : (n : ℕ) → 2 ^ (7 * suc n) ≡ 128 * 2 ^ (7 * n)
-seven_more n = ap (λ (k : ℕ). 2 ^ k) (let e : 7 * suc n ≡ 7 + 7 * n = omega arith in e) ∙ pow-add 2 7 (7 * n)
 
 pub groups_push : (xs : List ℕ) (b : ℕ) → groups (xs ++ b ∷ []) ≡ groups xs + 2 ^ (7 * length xs) * (b % 128)
 groups_push [] b = omega arith
@@ -145,10 +142,6 @@ put_all buffer n rest used fits small p =
       number = rw (take_all (used + 1) (take used buffer ++ rest ∷ []) (omega (arith, size)), g, low, full) p.whole;
       fits = fits;
     })
-
-powers : (k : ℕ) → 128 ^ k ≡ 2 ^ (7 * k)
-powers zero = refl
-powers (suc k) = rw (pow-suc 128 k, seven_more k, powers k) (omega arith)
 
 -- no shorter text stands for the number
 pub put_shortest : (buffer : List ℕ) (n rest used : ℕ) → Put buffer n rest used → (used + 1 ≡ 1) ⊎ (128 ^ (used + 1 - 1) ≤ n)

@@ -6,6 +6,7 @@ use Rattle.bits.specs.Refusals.{HasCause}
 use Rattle.bits.specs.declared.refusal.Refusal.{Refusal}
 use Rattle.bits.specs.declared.refusal.Refusal.TheVariants.{Truncated, Magic, Thrift, Schema, Codec, Float, Int96, Encoding, Page, Levels, Value, Utf8, Limit, RowShape, NoColumn, Unordered, Key, NoGroup, Stale, NoJob, NoCursor, Full, NoTable, Exists, Device, InDoubt, Closed, Memory, Script}
 use Rattle.std.proofs.lemmas.List.{length-map}
+use Rattle.lists.proofs.Numbers.{or_nat_eq_below as not_this, nat_eq_itself as this_one}
 use Rattle.schema.specs.declared.value.Repetition.{Repetition}
 use Rattle.schema.specs.declared.annotation.GroupAnnotation.{GroupAnnotation}
 use Rattle.schema.specs.Shape.{Field, leaf, fields, Fields, no_fields, field}
@@ -14,7 +15,7 @@ use Rattle.schema.specs.Law.{IsGroupOf, IsValid, AreValid, IsSchema}
 use Rattle.schema.specs.Cutting.{group_of, kept, cut, cut_each, is_among, cut_to, ArePlaces, IsCutFault}
 use Rattle.columns.specs.Columns.{fields_at}
 use Rattle.columns.specs.inner.Among.{is_at, leaves_among}
-use Rattle.columns.proofs.Among.{not_this, not_before, this_one}
+use Rattle.columns.proofs.Among.{not_before}
 
 -- ---- cuts that take all, or nothing
 

@@ -1,9 +1,9 @@
 -- What is done with the batches that a cursor gives, one after another.
-use Rattle.std.proofs.Common.{◌≡◌, ◌⊎◌, ℕ, ◌+◌, Bool, true, ◌==◌, List, [], ◌∷◌, ◌++◌, length, Option, Some, None, Result, Ok, OnOk, if◌then◌else◌, refl, sym, ◌∙◌, ap, subst, append_assoc, arith, inl, inr}
+use Rattle.std.proofs.Common.{◌≡◌, ◌⊎◌, ℕ, ◌+◌, Bool, true, List, [], ◌∷◌, ◌++◌, length, Option, Some, None, Result, Ok, OnOk, if◌then◌else◌, refl, sym, ◌∙◌, ap, subst, append_assoc, arith, inl, inr}
 use Rattle.std.specs.List.{list_all}
-use Rattle.std.proofs.lemmas.Bool.{eq-eqb}
 use Rattle.std.proofs.lemmas.List.{append-nil, length-append}
 use Rattle.std.proofs.lemmas.Grind.{flat_map-append}
+use Rattle.lists.proofs.Numbers.{eq_itself as same_number}
 use Rattle.bits.specs.declared.refusal.Refusal.{Refusal}
 use Rattle.schema.specs.Shape.{Fields}
 use Rattle.schema.specs.Values.{ValueTrees}
@@ -53,9 +53,6 @@ given_more n [] (a ∷ answers) call answer e = absurd (omega (arith, e))
 given_more n (c ∷ calls) [] call answer e = absurd (omega (arith, e))
 given_more n (c ∷ calls) (a ∷ answers) call answer e =
     ap (λ bs. given_by n c a ++ bs) (given_more n calls answers call answer (omega (arith, e))) ∙ sym (append_assoc (given_by n c a) (given n calls answers) (given_by n call answer))
-
-same_number : (n : ℕ) → (n == n) ≡ true
-same_number n = eq-eqb n n refl
 
 pub one_given : (n : ℕ) (calls : List Call) (answers : List Answer) (b : Batch) → length calls ≡ length answers → given n (calls ++ fetch n ∷ []) (answers ++ batch b ∷ []) ≡ given n calls answers ++ b ∷ []
 one_given n calls answers b e = given_more n calls answers (fetch n) (batch b) e ∙ ap (λ (own : Bool). given n calls answers ++ (if own then b ∷ [] else [])) (same_number n)

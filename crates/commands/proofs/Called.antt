@@ -2,6 +2,7 @@
 use Rattle.std.proofs.Common.{Bool, ◌≡◌, ◌<◌, ℕ, suc, List, [], ◌∷◌, ◌++◌, length, map, take, drop, get_or, refl, sym, subst}
 use Rattle.std.specs.Borrow.{Bor}
 use Rattle.std.proofs.lemmas.List.{map_push}
+use Rattle.lists.proofs.Slices.{parts_around as split_there}
 use Rattle.bits.specs.declared.refusal.Refusal.{Refusal}
 use Rattle.bits.specs.declared.refusal.Refusal.TheVariants.{Memory}
 use Rattle.bits.specs.Refusals.{HasCause}
@@ -12,7 +13,6 @@ use Rattle.table.specs.Views.{call_view, calls_view}
 use Rattle.jsonrows.specs.Calls.{IsCallTextAs, IsRefusedCallAs}
 use Rattle.jsonrows.specs.Scripts.{IsAfter}
 use Rattle.commands.specs.Lines.{AreCallTexts, HasFirstFaultOfCalls}
-use Rattle.commands.proofs.Told.{split_there}
 
 one_more : (texts : Bool) (fs mid last : Fields) (lines : List (List ℕ)) (calls : List Call) (text : List ℕ) (call : Call) → AreCallTexts texts fs lines calls mid → IsCallTextAs texts mid text call → IsAfter call mid last
     → AreCallTexts texts fs (lines ++ text ∷ []) (calls ++ call ∷ []) last

@@ -2,6 +2,7 @@
 use Rattle.std.proofs.Common.{◌≡◌, ◌≢◌, ◌≤◌, ◌⊎◌, ⊎_elim, inl, inr, ◌↔◌, ℕ, List, None, Result, Ok, Err, OnOk, IfOk, IfErr, refl, sym, subst, ◌∙◌, arith}
 use Rattle.std.specs.Prelude.{⊤}
 use Rattle.std.proofs.lemmas.Result.{on_ok_weaker}
+use Rattle.lists.proofs.Booleans.{iff_through as both}
 use Rattle.bits.specs.declared.refusal.Refusal.{Refusal}
 use Rattle.bits.specs.declared.refusal.Refusal.TheVariants.{Limit, Key, Exists, Device, InDoubt, Memory}
 use Rattle.schema.specs.Shape.{Fields}
@@ -10,7 +11,6 @@ use Rattle.disk.specs.State.{Image, State as DiskState, content}
 use Rattle.vault.specs.Views.{Same, root_path}
 use Rattle.vault.specs.Calls.{HasFailed, LeavesAll}
 use Rattle.vault.proofs.Moments.{le_or, clear_after}
-use Rattle.vault.proofs.Chained.{both}
 use Rattle.footer.specs.declared.options.WriteOptions.{WriteOptions}
 use Rattle.recovery.proofs.Sweeping.{reads_on}
 use Rattle.store.specs.Spares.{HasRoom}

@@ -1,6 +1,7 @@
 -- The first of some rows, where there is a limit, and how many more there may be.
 use Rattle.std.proofs.Common.{◌≡◌, ◌≤◌, ℕ, zero, suc, ◌+◌, ◌-◌, List, [], ◌∷◌, ◌++◌, take, length, Option, Some, None, refl, sym, ◌∙◌, ap, subst, length-append, append_assoc, arith}
 use Rattle.std.proofs.lemmas.List.{append-nil, take_all}
+use Rattle.lists.proofs.Slices.{take_front as front_taken}
 use Rattle.schema.specs.Shape.{Fields}
 use Rattle.schema.specs.Values.{ValueTrees}
 use Rattle.schema.specs.Fits.{RowsFit}
@@ -56,9 +57,6 @@ pub few_taken : {A : Type 0} (n : ℕ) (xs : List A) → n ≤ length xs → len
 few_taken zero xs few = refl
 few_taken (suc n) [] few = absurd (omega (arith, few))
 few_taken (suc n) (x ∷ xs) few = ap suc (few_taken n xs (omega (arith, few)))
-
-pub all_taken : {A : Type 0} (n : ℕ) (xs : List A) → length xs ≤ n → take n xs ≡ xs
-all_taken n xs few = take_all n xs few
 
 taken_again : {A : Type 0} (n : ℕ) (xs : List A) → take (length (take n xs)) xs ≡ take n xs
 taken_again zero xs = refl
@@ -117,12 +115,6 @@ passed_more Has Again S T n all p first rest split stands again = record {
   joined = p.joined ∙ (ap (λ (rs : List ValueTrees). p.given ++ rs) split ∙ sym (append_assoc p.given (first ∷ []) rest));
   many = length-append p.given (first ∷ []) ∙ ap (λ (k : ℕ). k + 1) p.many;
 }
-
-front_taken : {A : Type 0} (k : ℕ) (xs ys : List A) → length xs ≡ k → take k (xs ++ ys) ≡ xs
-front_taken zero [] ys e = refl
-front_taken zero (x ∷ xs) ys e = absurd (omega (arith, e))
-front_taken (suc k) [] ys e = absurd (omega (arith, e))
-front_taken (suc k) (x ∷ xs) ys e = ap (λ (zs : List _). x ∷ zs) (front_taken k xs ys (omega (arith, e)))
 
 module _ (Has S : List ValueTrees → Type 0) (n : ℕ) (all : List ValueTrees) (p : HavePassed Has S n all) where
   pub left_fit : (fs : Fields) → RowsFit fs all → RowsFit fs p.left

@@ -2,6 +2,7 @@
 use Rattle.std.proofs.Common.{◌≡◌, ◌↔◌, ℕ, Bool, false, List, [], ◌∷◌, Option, Some, None, Result, Ok, Err, IsErrAnd, ap}
 use Rattle.std.specs.Prelude.{⊤, Contains}
 use Rattle.std.proofs.lemmas.Result.{on_ok_weaker}
+use Rattle.lists.proofs.Booleans.{iff_through as both}
 use Rattle.bits.specs.declared.refusal.Refusal.{Refusal}
 use Rattle.bits.specs.declared.refusal.Refusal.TheVariants.{Device, Memory}
 use Rattle.bits.specs.Refusals.{HasCause}
@@ -22,10 +23,6 @@ use Rattle.commands.specs.Calls.{OnFolder, OnFiles, OnFilesBy, read, unread, Pri
 use Rattle.commands.specs.Calls.{AppendsLines, no_file, no_table, no_rows, lines_read}
 use Rattle.commands.proofs.BlocksRead.{of_shut}
 use Rattle.commands.specs.Calls.{GivesAsked, of_question, not_asked}
-
--- what holds both ways, twice over
-both : {A B C : Type 0} → A ↔ B → B ↔ C → A ↔ C
-both f g = (λ a. g.0 (f.0 a), λ c. f.1 (g.1 c))
 
 same : {A : Type 0} → A ↔ A
 same = (λ a. a, λ a. a)

@@ -1,6 +1,7 @@
 -- Calls that are made up to the first that is refused.
 use Rattle.std.proofs.Common.{◌≡◌, ◌≤◌, ◌<◌, ◌+◌, ◌-◌, ℕ, zero, suc, true, List, [], ◌∷◌, ◌++◌, length, map, take, drop, get_or, Vec, Global, vec_len, Option, Some, None, IfSome, IfNone, refl, sym, ◌∙◌, ap, subst, arith, inl, inr, length-append}
-use Rattle.std.proofs.lemmas.List.{take_more, map_push, map-append, take_all, take-append-le, take-append-drop, length-map}
+use Rattle.std.proofs.lemmas.List.{map_push, map-append, take_all, take-append-le, take-append-drop, length-map}
+use Rattle.lists.proofs.Slices.{map_take_next as taken}
 use Rattle.bits.specs.declared.refusal.Refusal.{Refusal}
 use Rattle.bits.specs.declared.refusal.Refusal.TheVariants.{Memory}
 use Rattle.disk.specs.State.{State as DiskState}
@@ -92,9 +93,6 @@ last_done all xs x e ends last = subst (λ (ys : List CodeAnswer). AreDone (map 
 
 pub counted_calls : (calls : Vec CodeCall Global) (made left : List Call) → map call_view calls.items ≡ made ++ left → length (made ++ left) ≡ vec_len calls
 counted_calls calls made left joined = sym (calls.ok.0 ∙ (sym (length-map calls.items call_view) ∙ ap length joined))
-
-pub taken : {A B : Type 0} (view : A → B) (xs : List A) (i : ℕ) (x : A) → i < length xs → x ≡ get_or xs i x → map view (take (i + 1) xs) ≡ map view (take i xs) ++ view x ∷ []
-taken view xs i x lt is = ap (map view) (take_more xs i x lt) ∙ ap (λ y. map view (take i xs ++ y ∷ [])) (sym is) ∙ map_push view (take i xs) x
 
 parted : (calls : List CodeCall) (n : ℕ) → map call_view calls ≡ map call_view (take n calls) ++ map call_view (drop n calls)
 parted calls n = ap (map call_view) (sym (take-append-drop n calls)) ∙ map-append call_view (take n calls) (drop n calls)

@@ -1,7 +1,8 @@
 -- Lines that are read as rows, one after another.
-use Rattle.std.proofs.Common.{Bool, ◌≡◌, ◌<◌, ℕ, zero, suc, List, [], ◌∷◌, ◌++◌, length, map, take, drop, get_or, sym, ap, arith}
+use Rattle.std.proofs.Common.{Bool, ◌≡◌, ◌<◌, ℕ, suc, List, [], ◌∷◌, ◌++◌, length, map, take, drop, get_or}
 use Rattle.std.specs.Borrow.{Bor}
 use Rattle.std.proofs.lemmas.List.{map_push}
+use Rattle.lists.proofs.Slices.{parts_around as split_there}
 use Rattle.bits.specs.declared.refusal.Refusal.{Refusal}
 use Rattle.bits.specs.declared.refusal.Refusal.TheVariants.{Memory}
 use Rattle.bits.specs.Refusals.{HasCause}
@@ -33,11 +34,6 @@ told_one_more texts fs lines rows text row is so_far = rw (map_push row_view row
 -- where no line is left
 pub told_all : (texts : Bool) (fs : Fields) (lines : List (Bor (List ℕ))) (all : List (List ℕ)) (rows : List ValueTrees) → map (λ t. t.now) lines ≡ all → AreRowTexts texts fs (map (λ t. t.now) lines) rows → AreRowTexts texts fs all rows
 told_all texts fs lines all rows e told = rw (← e) told
-
-pub split_there : (all : List (List ℕ)) (n : ℕ) (x : List ℕ) → n < length all → x ≡ get_or all n x → all ≡ take n all ++ x ∷ drop (suc n) all
-split_there [] n x h e = absurd (omega arith)
-split_there (y ∷ ys) zero x h e = ap (λ z. z ∷ ys) (sym e)
-split_there (y ∷ ys) (suc n) x h e = ap (λ zs. y ∷ zs) (split_there ys n x (omega arith) e)
 
 pub with_cause : (P Q : Refusal → Type 0) → ((e : Refusal) → P e → Q e) → (e : Refusal) → HasCause P e → HasCause Q e
 with_cause P Q f Memory h = tt

@@ -1,6 +1,7 @@
 -- The wanted columns of a schema, and the rows of a table cut to them.
-use Rattle.std.proofs.Common.{◌≡◌, ◌≤◌, ◌<◌, ◌+◌, ℕ, suc, Bool, true, false, ◌&&◌, ◌||◌, nat_eq, List, ◌∷◌, map, if◌then◌else◌, refl, sym, ◌∙◌, ap, arith}
-use Rattle.std.proofs.lemmas.Bool.{eqb-true, eqb-false}
+use Rattle.std.proofs.Common.{◌≡◌, ◌≤◌, ◌<◌, ◌+◌, ℕ, suc, Bool, true, false, ◌||◌, nat_eq, List, ◌∷◌, map, if◌then◌else◌, refl, sym, ◌∙◌, ap, arith}
+use Rattle.std.proofs.lemmas.Bool.{eqb-true, and_parts as both}
+use Rattle.lists.proofs.Numbers.{nat_eq_above as other, nat_eq_itself as same_place}
 use Rattle.schema.specs.Cutting.{is_among}
 use Rattle.schema.specs.Shape.{Fields, no_fields, field, name_of}
 use Rattle.schema.specs.Values.{ValueTrees, no_values, value, trees_of, member_at}
@@ -15,20 +16,6 @@ wrong e = absurd (cc)
 abbrev wanted_fields : Columns → Fields → Fields
 wanted_fields columns no_fields = no_fields
 wanted_fields columns (field f fs) = if is_wanted columns (name_of f) then field f (wanted_fields columns fs) else wanted_fields columns fs
-
-other : (i j : ℕ) → j < i → nat_eq i j ≡ false
-other i j low = by (nat_eq i j) refl
-  where
-    by : (b : Bool) → nat_eq i j ≡ b → b ≡ false
-    by false e = refl
-    by true e = let same : i ≡ j = eqb-true i j e in absurd (omega (arith, low, same))
-
-same_place : (i : ℕ) → nat_eq i i ≡ true
-same_place i = by (nat_eq i i) refl
-  where
-    by : (b : Bool) → nat_eq i i ≡ b → b ≡ true
-    by true e = refl
-    by false e = absurd (eqb-false i i e refl)
 
 -- places of later fields are no places of earlier ones
 none_below : (columns : Columns) (i j : ℕ) (fs : Fields) → j < i → is_among (wanted_places columns i fs) j ≡ false
@@ -72,10 +59,6 @@ fields_are columns places i (field f fs) all = by (λ later. fields_are columns 
 
 pub wanted_ones : (columns : Columns) (fs : Fields) → fields_at (wanted_places columns 0 fs) 0 fs ≡ wanted_fields columns fs
 wanted_ones columns fs = fields_are columns (wanted_places columns 0 fs) 0 fs (λ j high. refl)
-
-both : (a b : Bool) → (a && b) ≡ true → (a ≡ true) × (b ≡ true)
-both true b h = (refl, h)
-both false b h = wrong (sym h)
 
 -- a row that fits is cut to one that fits the wanted fields
 cut_fits : (columns : Columns) (whole : ValueTrees) (i : ℕ) (fs : Fields) (vs : ValueTrees) → ((j : ℕ) → member_at (i + j) whole ≡ member_at j vs) → fits_each fs vs ≡ true

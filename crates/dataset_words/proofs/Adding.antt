@@ -1,9 +1,10 @@
 -- Arguments and subcommands that are added to a command, one after another, and arguments that exclude or need others.
-use Rattle.std.proofs.Common.{◌≡◌, ◌∙◌, ap, ap₂, refl, sym, Bool, true, false, List, [], ◌∷◌, ◌++◌, length, arith}
-use Rattle.std.specs.Prelude.{◌||◌, ◌&&◌, not}
+use Rattle.std.proofs.Common.{◌≡◌, ◌∙◌, ap, ap₂, refl, sym, false, List, [], ◌∷◌, ◌++◌, length, arith}
+use Rattle.std.specs.Prelude.{◌||◌, not}
 use Rattle.std.specs.Borrow.{Bor}
 use Rattle.std.proofs.lemmas.List.{length-append}
 use borrow.Author.Tests.{ne_eqb}
+use Rattle.std.proofs.lemmas.Bool.{and_right, and_left}
 use Rattle.clap.specs.Adds.{AddsConflicts, AddsRequiredUnless}
 use Rattle.clap.specs.Built.{AddsArg, AddsSubcommand}
 use Rattle.clap.specs.Simple.{App, with_rule, with_subcommand}
@@ -42,13 +43,6 @@ adds_sub so_far is added = record {
 
 not_empty : {X : Type 0} (xs : List X) (y : X) → is_empty (xs ++ y ∷ []) ≡ false
 not_empty xs y = ne_eqb (length (xs ++ y ∷ [])) 0 (λ z. omega (arith, z, length-append xs (y ∷ [])))
-
-and_right : (a b : Bool) → b ≡ false → (a && b) ≡ false
-and_right true b e = e
-and_right false b e = refl
-
-and_left : (a b : Bool) → a ≡ false → (a && b) ≡ false
-and_left a b e = ap (λ c. c && b) e
 
 pub bound_by_conflict : (old new : Arg) (rule : Rule) (id : Bor Text) → IsArg rule old → AddsConflicts old new (id ∷ []) → IsArg (bound rule) new
 bound_by_conflict old new rule id is added =

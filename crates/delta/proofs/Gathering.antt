@@ -5,6 +5,7 @@ use Rattle.std.specs.Int.{Width, int_wrap}
 use Rattle.std.proofs.lemmas.List.{take_all, length-append, length-drop, length-take, length-take-le, append-nil, drop-drop, length-map, take-append-drop}
 use Rattle.std.proofs.Math.Nat.{add-mul}
 use Rattle.std.proofs.lemmas.Int.{ints}
+use Rattle.lists.proofs.Slices.{take_joined as take_both}
 use Rattle.bits.specs.Codec.{NothingStands}
 use Rattle.bits.proofs.Loops.{Continues}
 use Rattle.bits.proofs.Loops as loops
@@ -12,7 +13,7 @@ use Rattle.delta.specs.Delta.{AreMiniblocks, IsBlock, AreBlocks, IsHeader, joine
 use Rattle.delta.specs.inner.Taken.{IsTaken, AreNeeded}
 use Rattle.delta.proofs.One.{one_block, one_header, one_needed}
 use Rattle.delta.proofs.Sums.{length-sums, sums_front}
-use Rattle.delta.proofs.Taking.{take_both, miniblock_within}
+use Rattle.delta.proofs.Taking.{miniblock_within}
 
 body_count : (s : ℕ) (ws bytes ns : List ℕ) (u : ℕ) → AreMiniblocks s ws bytes ns u → length ns ≡ length ws * s
 body_count s [] bytes ns u p = ap length p.0 ∙ (let e : 0 ≡ 0 * s = omega arith in e)

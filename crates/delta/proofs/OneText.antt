@@ -4,11 +4,12 @@ use Rattle.std.specs.Prelude.{ℤ, pos, ◌+ℤ◌, ◌≤ℤ◌, slice_index}
 use Rattle.std.specs.Int.{Width}
 use Rattle.std.proofs.lemmas.Bool.{cases_lt}
 use Rattle.std.proofs.lemmas.Int.{ints}
-use Rattle.std.proofs.lemmas.Nat.{pow-add}
 use Rattle.std.proofs.lemmas.List.{take_all, length-drop, length-take-le, take_at, drop_at, take-append-drop, get_or-take, get_or-drop, get_or_past}
 use Rattle.std.proofs.lemmas.List.Elements.{All-drop, All-take, All-get_or, All-contains}
 use Rattle.std.proofs.lemmas.Grind.{same_number_lists}
-use Rattle.std.proofs.Math.Nat.{add-mul, mul-le-mul_right, pow-suc}
+use Rattle.std.proofs.Math.Nat.{add-mul, mul-le-mul_right}
+use Rattle.lists.proofs.Numbers.{powers_of_128 as sevens}
+use Rattle.lists.proofs.Lists.{same_number_and_rest as cons_same}
 use Rattle.bits.specs.Bits.{bits, number, IsPacked}
 use Rattle.bits.specs.Codec.{InTurn}
 use Rattle.bits.specs.Varint.{groups, IsShortestUleb, zigzag_of}
@@ -44,12 +45,6 @@ in_turn Each law (y ∷ ys) a b u v la lb (i, j, is, more, u_is) (k, l, has, oth
     subst (λ (n : ℕ). SameFront a b n v) (sym u_is) (subst (λ (n : ℕ). SameFront a b (i + j) n) (sym v_is) (both a b i k j l here rest))
 
 -- ---- varints
-
-sevens : (k : ℕ) → 128 ^ k ≡ 2 ^ (7 * k)
-sevens zero = refl
-sevens (suc k) =
-    let e : 7 * suc k ≡ 7 * k + 7 = omega arith in
-    pow-suc 128 k ∙ ap (λ (n : ℕ). n * 128) (sevens k) ∙ sym (ap (λ (n : ℕ). 2 ^ n) e ∙ pow-add 2 (7 * k) 7)
 
 no_longer : (a b : List ℕ) (n u v : ℕ) → IsShortestUleb a n u → IsShortestUleb b n v → v ≤ u
 no_longer a b n u v p q = elim (cases_lt u v) [
@@ -104,9 +99,6 @@ same_uleb a b n u v la lb p q = record { size = same; front = same_number_lists 
         ]
 
 -- ---- packed numbers
-
-cons_same : (x y : ℕ) (xs ys : List ℕ) → x ∷ xs ≡ y ∷ ys → (x ≡ y) × (xs ≡ ys)
-cons_same x y xs ys e = let h : x ≡ y = cc in let t : xs ≡ ys = cc in (h, t)
 
 same_numbers : (xs ys : List ℕ) → length xs ≡ length ys → ((i : ℕ) → get_or xs i 0 < 2) → ((i : ℕ) → get_or ys i 0 < 2) → number xs ≡ number ys → xs ≡ ys
 same_numbers [] [] s p q e = refl

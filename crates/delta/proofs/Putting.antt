@@ -8,6 +8,7 @@ use Rattle.std.proofs.Math.Pow.{pow_mono}
 use Rattle.std.proofs.Math.Nat.{mul-le-mul_right, add-mul}
 use Rattle.std.proofs.lemmas.Bool.{cases_lt}
 use Rattle.std.proofs.lemmas.Int.{ints}
+use Rattle.lists.proofs.Slices.{take_joined as take_both}
 use Rattle.bits.specs.Bits.{IsPadded, packed_size}
 use Rattle.bits.specs.Codec.{InTurn, Appends}
 use Rattle.bits.specs.Varint.{IsUleb, IsShortestUleb, zigzag_of}
@@ -16,7 +17,6 @@ use Rattle.delta.specs.Delta.{IsMiniblock, AreMiniblocks, IsBlock, AreBlocks, Is
 use Rattle.delta.specs.inner.Taken.{Adds, deltas_of}
 use Rattle.delta.specs.inner.Put.{block_count, PutDeltas}
 use Rattle.delta.proofs.Sums.{sums_front, adds_nothing, adds_both}
-use Rattle.delta.proofs.Taking.{take_both}
 use Rattle.delta.proofs.Gathering.{joined_push}
 use Rattle.delta.proofs.Varints.{short, two}
 

@@ -2,10 +2,10 @@
 use Rattle.std.proofs.Common.{◌≡◌, ℕ, zero, suc, ◌+◌, ◌-◌, ◌*◌, ◌/◌, ◌%◌, ◌<◌, ◌≤◌, min, List, [], ◌∷◌, ◌++◌, length, get_or, take, drop, replicate, refl, sym, ap, subst, ◌∙◌, arith, inl, inr, append_assoc}
 use Rattle.std.specs.Prelude.{ℤ, pos, ◌+ℤ◌, slice_range, slice_index}
 use Rattle.std.specs.Int.{Width}
-use Rattle.std.proofs.lemmas.List.{take_all, length-append, length-drop, length-take-le, append-nil, take-append-le, map-append, drop-drop, drop_more, take-map, drop_all}
-use Rattle.std.proofs.Math.Seq.{take-append-add}
+use Rattle.std.proofs.lemmas.List.{take_all, length-append, length-drop, length-take-le, append-nil, map-append, drop-drop, drop_more, take-map, drop_all}
 use Rattle.std.proofs.Math.Nat.{mul-le-mul_right}
 use Rattle.std.proofs.lemmas.Bool.{cases_lt}
+use Rattle.lists.proofs.Slices.{take_joined as take_both}
 use Rattle.bits.specs.Bits.{bits, number, IsPacked}
 use Rattle.bits.specs.Codec.{NothingStands}
 use Rattle.bits.specs.Varint.{IsUleb, zigzag_of}
@@ -77,17 +77,6 @@ miniblock_within size width used bytes numbers p =
     omega (arith, p.packed.within, same, p.ends)
 
 -- ---- several miniblocks
-
-pub take_both : {A : Type 0} (n : ℕ) (xs ys : List A) → take n (xs ++ ys) ≡ take n xs ++ take (n - length xs) ys
-take_both {A} n xs ys =
-    elim (cases_lt (length xs) n) [
-      | inl lt ↦
-          let e : length xs + (n - length xs) ≡ n = omega arith in
-          ap (λ (k : ℕ). take k (xs ++ ys)) (sym e) ∙ take-append-add xs ys (n - length xs) ∙ ap (λ (t : List A). t ++ take (n - length xs) ys) (sym (take_all n xs (omega arith)))
-      | inr le ↦
-          let z : n - length xs ≡ 0 = omega arith in
-          take-append-le n xs ys le ∙ sym (append-nil (take n xs)) ∙ ap (λ (k : ℕ). take n xs ++ take k ys) (sym z)
-    ]
 
 -- the miniblocks of the first i widths are read, up to `at`
 pub record IsReading (w : Width) (least : ℤ) (size : ℕ) (widths bytes : List ℕ) (left : ℕ) (old new : List ℤ) (at rest i : ℕ) : Type 0 where

@@ -8,7 +8,7 @@ use Rattle.std.specs.List.{list_any}
 use Rattle.std.specs.Ordering.{int_eq}
 use Rattle.std.specs.Str.{bytes_eq}
 use mathlib.Core.Bool.{beq}
-use Rattle.std.proofs.lemmas.Bool.{false≢true}
+use Rattle.std.proofs.lemmas.Bool.{false≢true, not-true as not_true}
 use Rattle.std.proofs.lemmas.Bool.Decides.{Decides-int_eq}
 use Rattle.std.proofs.lemmas.List.{length-map, map-append}
 use Rattle.std.proofs.lemmas.List.Folds.{list_any_at}
@@ -71,10 +71,6 @@ by_kinds eq bb bn bt nb nn nt tb tn both (Number y) (Bytes t) = rw (nt y t) (oth
 by_kinds eq bb bn bt nb nn nt tb tn both (Bytes s) (Boolean b) = rw (tb s b) (other_kinds (bytes s.now) (boolean b) (λ h. false≢true (ap is_boolean h)))
 by_kinds eq bb bn bt nb nn nt tb tn both (Bytes s) (Number z) = rw (tn s z) (other_kinds (bytes s.now) (integer z) (λ h. false≢true (ap is_integer h)))
 by_kinds eq bb bn bt nb nn nt tb tn both (Bytes s) (Bytes t) = rw (both s t) (same_bytes s.now t.now)
-
-pub not_true : (b : Bool) → not b ≡ true → b ≡ false
-not_true true h = absurd (false≢true h)
-not_true false h = refl
 
 module _ (eq : ValueKey → ValueKey → Bool) (decides : (p q : ValueKey) → Decides (eq p q) (key_view p ≡ key_view q)) where
   -- a key that a set lacks is the value of none that it has

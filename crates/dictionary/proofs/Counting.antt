@@ -8,11 +8,13 @@ use Rattle.std.proofs.lemmas.Option.{slice_get_within}
 use Rattle.std.proofs.lemmas.List.{length-append, length-map}
 use Rattle.std.proofs.lemmas.List.Elements.{All-head, All-tail}
 use Rattle.std.proofs.lemmas.Map.Steps.{length-le_from_distinct_below}
+use Rattle.lists.proofs.Slices.{slice_get_append as get_append}
+use Rattle.lists.proofs.Lists.{same_first as first_is, same_rest as rest_is}
 use Rattle.indexmap.proofs.CallerLemmas.{Contains-list_any}
 use Rattle.schema.specs.Values.{ValueTree}
 use Rattle.dictionary.specs.Entries.{AreDifferent, AreEntriesAt, IsIndexed, AreMoreThan}
 use Rattle.dictionary.specs.inner.Placing.{IsFull}
-use Rattle.dictionary.proofs.Lookups.{get_append, get_pushed, contains_from_get, get_from_contains, indexes_within, value_at, entry_of, no_cons, first_is, rest_is}
+use Rattle.dictionary.proofs.Lookups.{get_pushed, contains_from_get, get_from_contains, indexes_within, value_at, entry_of, no_cons}
 use Rattle.dictionary.proofs.Growing.{different_more}
 
 -- an entry is one of the values

@@ -3,10 +3,11 @@ use Rattle.std.proofs.Common.{◌≡◌, ℕ, ◌+◌, ◌<◌, ◌⊎◌, List,
 use Rattle.std.specs.Prelude.{slice_get, All, Contains}
 use Rattle.std.proofs.lemmas.Option.{slice_get_within}
 use Rattle.std.proofs.lemmas.List.{map-append, length-append, take-append-le, take_all}
+use Rattle.lists.proofs.Slices.{slice_get_append as get_append}
 use Rattle.schema.specs.Values.{ValueTree}
 use Rattle.dictionary.specs.Entries.{AreDifferent, ComesInTurn, IsIndexed}
 use Rattle.dictionary.specs.inner.Placing.{IsPlaced}
-use Rattle.dictionary.proofs.Lookups.{not_some, get_append, get_last, get_pushed, contains_from_get, stand_again, indexes_within}
+use Rattle.dictionary.proofs.Lookups.{not_some, get_last, get_pushed, contains_from_get, stand_again, indexes_within}
 
 nat_case : (k n : ℕ) → k < n + 1 → (k < n) ⊎ (k ≡ n)
 nat_case k n lt = grind arith

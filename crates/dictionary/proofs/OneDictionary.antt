@@ -1,11 +1,12 @@
 -- A list of values has at most one list of entries, and at most one list of indexes.
 use Rattle.std.proofs.Common.{◌≡◌, ℕ, zero, suc, ◌<◌, ◌≤◌, List, [], ◌∷◌, length, map, take, Some, refl, sym, ap, subst, ◌∙◌, arith}
 use Rattle.std.specs.Prelude.{slice_get, All}
-use Rattle.std.proofs.lemmas.Option.{slice_get_within}
+use Rattle.std.proofs.lemmas.Option.{slice_get_within, same_Some as some_is}
 use Rattle.std.proofs.lemmas.List.Elements.{All-head, All-tail}
+use Rattle.lists.proofs.Lists.{same_first as first_is, same_rest as rest_is}
 use Rattle.schema.specs.Values.{ValueTree}
 use Rattle.dictionary.specs.Entries.{AreDifferent, AreEntriesAt, IsIndexed}
-use Rattle.dictionary.proofs.Lookups.{not_some, some_is, no_cons, first_is, rest_is, value_at}
+use Rattle.dictionary.proofs.Lookups.{not_some, no_cons, value_at}
 
 -- what all before a place have, one that stands there has
 in_taken : (P : ℕ → Type 0) (xs : List ℕ) (i n x : ℕ) → slice_get xs i ≡ Some x → i < n → All P (take n xs) → P x

@@ -1,13 +1,14 @@
 -- What pages of indexes stand for.
 use Rattle.std.proofs.Common.{◌≡◌, ℕ, zero, suc, ◌+◌, ◌<◌, ◌≤◌, List, [], ◌∷◌, ◌++◌, length, map, refl, sym, ap, subst, ◌∙◌, arith, append_assoc}
 use Rattle.std.specs.Prelude.{All}
+use Rattle.lists.proofs.Lists.{same_first as first_is, same_rest as rest_is}
 use Rattle.bits.specs.Codec.{NothingStands, IsFunctional, Appends}
 use Rattle.hybrid_rle.specs.Hybrid.{IsHybrid}
 use Rattle.hybrid_rle.proofs.Hybrids.{one_hybrid}
 use Rattle.schema.specs.Values.{ValueTree}
 use Rattle.dictionary.specs.Entries.{AreEntriesAt}
 use Rattle.dictionary.specs.IndexPages.{AreIndexesOf, IsIndexPage, IsWrittenIndexPage, AreIndexed}
-use Rattle.dictionary.proofs.Lookups.{first_is, rest_is, one_value_each}
+use Rattle.dictionary.proofs.Lookups.{one_value_each}
 
 pub indexes_one : (w n : ℕ) → IsFunctional (λ bytes. AreIndexesOf w bytes n)
 indexes_one zero n bytes is js used taken p q = (p.0 ∙ sym q.0, p.1 ∙ sym q.1)

@@ -1,19 +1,13 @@
 -- Where the last slash of a path is.
-use Rattle.std.proofs.Common.{◌≡◌, ◌≢◌, ◌<◌, ◌≤◌, ◌⊎◌, ⊎_elim, inl, inr, ℕ, zero, suc, ◌+◌, ◌-◌, List, [], ◌∷◌, ◌++◌, length, take, get_or, slice_index, Bool, true, false, if◌then◌else◌, ◌==◌, refl, sym, ◌∙◌, ap, subst, arith, length-append, All, IsTrue, MatchBool}
+use Rattle.std.proofs.Common.{◌≡◌, ◌≢◌, ◌<◌, ◌⊎◌, ⊎_elim, inl, inr, ℕ, zero, suc, ◌+◌, ◌-◌, List, [], ◌∷◌, ◌++◌, length, take, get_or, slice_index, Bool, true, false, ◌==◌, refl, sym, ◌∙◌, ap, subst, arith, length-append, All, IsTrue, MatchBool}
 use Rattle.std.proofs.lemmas.Bool.Decides.{eqb_tells}
 use Rattle.std.proofs.lemmas.List.{get_or-take, length-take-le, get_or-append_right}
 use Rattle.std.specs.List.{AllWithin}
 use Rattle.std.proofs.lemmas.List.Elements.{All-from_all_within}
 use Rattle.std.proofs.Math.Seq.{get_or-append_seam, take-append_seam}
+use Rattle.lists.proofs.Slices.{take_twice}
+use Rattle.lists.proofs.Booleans.{if_true as pick_one, if_false as pick_other}
 use Rattle.disk.specs.Paths.{slash, before_slash, folder_of, path_in, IsName, IsOnTheWay}
-
-pick_one : {A : Type 0} (b : Bool) (x y : A) → b ≡ true → (if b then x else y) ≡ x
-pick_one true x y is = refl
-pick_one false x y is = absurd (let P : Bool → Type 0 = elim [ false ↦ Unit {0} | true ↦ ⊥ ] in subst P is tt)
-
-pick_other : {A : Type 0} (b : Bool) (x y : A) → b ≡ false → (if b then x else y) ≡ y
-pick_other false x y is = refl
-pick_other true x y is = absurd (let P : Bool → Type 0 = elim [ true ↦ Unit {0} | false ↦ ⊥ ] in subst P is tt)
 
 same_or_less : (n k : ℕ) → k < suc n → (k ≡ n) ⊎ (k < n)
 same_or_less zero zero lt = inl refl
@@ -72,12 +66,6 @@ folder_of-path_in (b ∷ rest) name is =
 
 pub folder-on_the_way : (path : List ℕ) → folder_of path ≢ [] → IsOnTheWay (folder_of path) path
 folder-on_the_way path some = ⊎_elim (λ none. absurd (some none)) (λ at. at) (ends_before path (length path))
-
-take_twice : (i k : ℕ) (path : List ℕ) → i ≤ k → take i (take k path) ≡ take i path
-take_twice zero k path le = refl
-take_twice (suc i) zero path le = absurd (omega (arith, le))
-take_twice (suc i) (suc k) [] le = refl
-take_twice (suc i) (suc k) (b ∷ path) le = ap (λ (l : List ℕ). b ∷ l) (take_twice i k path (omega (arith, le)))
 
 pub further-on_the_way : (folder path : List ℕ) → IsOnTheWay folder (folder_of path) → IsOnTheWay folder path
 further-on_the_way folder path on = ⊎_elim

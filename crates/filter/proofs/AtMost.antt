@@ -2,7 +2,7 @@
 use Rattle.std.proofs.Common.{◌≡◌, Bool, true, false, not, Option, Some, None, refl, ap, sym, subst, inl, inr}
 use Rattle.std.specs.Prelude.{IfSome}
 use Rattle.std.specs.Ordering.{is_lt, is_le, is_gt, is_ge}
-use Rattle.std.proofs.lemmas.Bool.{false≢true}
+use Rattle.std.proofs.lemmas.Bool.{false≢true, false_from_ne_true as not_true, or_cases as either, and_parts as both_true}
 use Rattle.schema.specs.declared.order.Order.{Order}
 use Rattle.schema.specs.Values.{ValueTree, list, ValueTrees, no_values, value as item, each}
 use Rattle.schema.specs.Orders.{IsAtMost, IsBelow}
@@ -11,7 +11,6 @@ use Rattle.statistics.specs.Bounds.{Statistics}
 use Rattle.filter.specs.declared.term.Op.{Op}
 use Rattle.filter.specs.declared.term.Op.TheVariants as op
 use Rattle.filter.proofs.Same.{same_is}
-use Rattle.filter.proofs.Tests.{not_true, either, both_true}
 use Rattle.filter.specs.Same.{same, one_passes, is_listed}
 use Rattle.filter.specs.Deciding.{passes}
 use Rattle.filter.specs.inner.Excluded.{bound_is, is_outside, are_outside, is_only, excludes}

@@ -2,9 +2,9 @@
 use Rattle.std.proofs.Common.{◌≡◌, ℕ, zero, suc, ◌-◌, List, [], ◌∷◌, ◌++◌, length, refl, sym, subst, inl, inr}
 use Rattle.std.specs.Prelude.{replicate, count_by, nat_lt}
 use Rattle.std.specs.List.{slice_get, AllByRecursion}
+use Rattle.lists.proofs.Lists.{all_weaker as all_map}
 use Rattle.statistics.specs.Bounds.{Statistics}
 use Rattle.filter.specs.Satisfies.{AnyOf}
-use Rattle.filter.proofs.Columns.{all_map}
 use Rattle.filter.specs.Test.{Test}
 use Rattle.filter.specs.RuledOut.{given_or_absent, key_at, IsOutBy, IsOut}
 use Rattle.statistics.specs.Absent.{absent_statistics, known_over}

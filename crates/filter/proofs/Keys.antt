@@ -4,8 +4,8 @@ use Rattle.std.specs.List.{slice_get}
 use Rattle.std.specs.Prelude.{count_by, nat_lt, cond}
 use Rattle.std.proofs.lemmas.List.Sums.{sum_by-cons}
 use Rattle.std.proofs.lemmas.List.Recursion.{is_sum_by}
-use Rattle.filter.proofs.Tests.{not_true}
 use Rattle.std.proofs.lemmas.List.{drop_more}
+use Rattle.std.proofs.lemmas.Bool.{false_from_ne_true as not_true}
 use Rattle.schema.specs.declared.key.KeyColumn.{KeyColumn}
 use Rattle.schema.specs.declared.value.Value.{Value}
 use Rattle.schema.specs.Values.{view}

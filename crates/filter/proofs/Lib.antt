@@ -1,4 +1,3 @@
-pub mod Tests
 pub mod Keys
 pub mod Members
 pub mod Same
@@ -9,7 +8,6 @@ pub mod Soundness
 pub mod TermTests
 pub mod CutTests
 pub mod Made
-pub mod Places
 pub mod LeafValues
 pub mod Renewing
 pub mod Completing

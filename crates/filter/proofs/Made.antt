@@ -3,11 +3,11 @@ use Rattle.std.proofs.Common.{◌≡◌, ◌≢◌, ℕ, suc, ◌+◌, ◌<◌, 
 use Rattle.std.specs.Str.{bytes_eq}
 use Rattle.std.specs.Cmp.Lexicographic.{pointwise, pointwise_decides, bytes_decides}
 use Rattle.std.proofs.lemmas.List.{drop_more}
+use Rattle.std.proofs.lemmas.Bool.{false_from_ne_true as not_true}
 use Rattle.bits.specs.declared.refusal.Refusal.{Refusal}
 use Rattle.schema.specs.declared.field.Leaf.{Leaf as CodeLeaf}
 use Rattle.schema.specs.Views.{leaf_view}
 use Rattle.filter.specs.Terms.{named_leaf, with_first, then_rest, each_of}
-use Rattle.filter.proofs.Tests.{not_true}
 
 -- what was made, and what the rest gives
 abbrev pub before : {Y : Type 0} → List Y → Result (List Y) Refusal → Result (List Y) Refusal

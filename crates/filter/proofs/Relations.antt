@@ -1,11 +1,11 @@
 -- The tests of rows and groups are the relations.
 use Rattle.std.proofs.Common.{◌≡◌, ◌≢◌, ℕ, Bool, true, false, not, ◌&&◌, ◌||◌, ◌==◌, List, [], ◌∷◌, Option, Some, None, IsTrue, Vec, Global, length, refl, ap, sym, ◌∙◌, ◌⊎◌, inl, inr, eqb-true, eq-eqb}
-use Rattle.std.specs.Prelude.{◌↔◌, option_map}
+use Rattle.std.specs.Prelude.{◌↔◌}
 use Rattle.std.specs.List.{AllByRecursion, list_any, list_all}
 use Rattle.std.specs.declared.cmp.Ordering.{Ordering}
-use Rattle.std.specs.declared.cmp.Ordering.TheVariants as ordering
-use Rattle.std.specs.Ordering.{is_some_and, is_lt, is_le, is_gt, is_ge, ordering_reverse}
+use Rattle.std.specs.Ordering.{is_some_and, is_lt, is_le, is_gt, is_ge}
 use Rattle.std.proofs.lemmas.Bool.{false≢true}
+use Rattle.lists.proofs.Options.{ge_reversed as ge_turned, gt_reversed as gt_turned}
 use Rattle.schema.specs.declared.order.Order.{Order}
 use Rattle.schema.specs.Values.{ValueTree, null, boolean, integer, bytes, group, list, ValueTrees, no_values, value as item, each}
 use Rattle.schema.specs.Orders.{compared, IsAtMost, IsBelow}
@@ -49,18 +49,6 @@ any_is p P f [] = (λ e. absurd (false≢true e), λ e. absurd e)
 any_is p P f (x ∷ xs) = or_is (p x) (list_any p xs) (P x) (AnyOf P xs) (f x) (any_is p P f xs)
 
 -- ---- comparisons
-
-ge_turned : (x : Option Ordering) → is_some_and is_ge (option_map ordering_reverse x) ≡ is_some_and is_le x
-ge_turned None = refl
-ge_turned (Some ordering.Less) = refl
-ge_turned (Some ordering.Equal) = refl
-ge_turned (Some ordering.Greater) = refl
-
-gt_turned : (x : Option Ordering) → is_some_and is_gt (option_map ordering_reverse x) ≡ is_some_and is_lt x
-gt_turned None = refl
-gt_turned (Some ordering.Less) = refl
-gt_turned (Some ordering.Equal) = refl
-gt_turned (Some ordering.Greater) = refl
 
 ge_is : (o : Option Order) (a b : ValueTree) → Is (is_some_and is_ge (compared o a b)) (IsAtMost o b a)
 ge_is o a b = let e = ap (is_some_and is_ge) (reversed_in o a b) ∙ ge_turned (compared o b a) in (λ h. sym e ∙ h, λ h. e ∙ h)

@@ -3,23 +3,12 @@ use Rattle.std.proofs.Common.{◌≡◌, ◌<◌, ◌+◌, ℕ, suc, Bool, true,
 use Rattle.std.specs.Prelude.{◌↔◌, ◌&&◌}
 use Rattle.std.specs.Cmp.{signed_Decides}
 use Rattle.std.specs.Cmp.Lexicographic.{bytes_decides}
-use Rattle.std.proofs.lemmas.Bool.{false≢true, and_parts}
+use Rattle.std.proofs.lemmas.Bool.{false≢true, and_parts, false_from_ne_true as not_true}
 use Rattle.std.proofs.lemmas.List.{drop_more}
-use mathlib.Core.Bool.{beq}
+use Rattle.lists.proofs.Booleans.{same_by_beq as same_booleans, beq_itself as boolean_itself}
 use Rattle.schema.specs.declared.value.Value.{Value}
 use Rattle.schema.specs.Values.{ValueTree, null, boolean, integer, bytes, group, list, ValueTrees, no_values, value as item, view, views}
 use Rattle.filter.specs.Same.{same, same_each}
-use Rattle.filter.proofs.Tests.{not_true}
-
-same_booleans : (a b : Bool) → beq a b ≡ true → a ≡ b
-same_booleans true true h = refl
-same_booleans false false h = refl
-same_booleans true false h = cc
-same_booleans false true h = cc
-
-boolean_itself : (a : Bool) → beq a a ≡ true
-boolean_itself true = refl
-boolean_itself false = refl
 
 mutual
   pub same_is : (v w : ValueTree) → same v w ≡ true → v ≡ w

@@ -1,8 +1,9 @@
 -- Ruled out means that no row satisfies.
-use Rattle.std.proofs.Common.{◌≡◌, ℕ, Bool, true, false, ◌&&◌, ◌||◌, ◌==◌, List, [], ◌∷◌, length, Option, Some, None, IsTrue, refl, ap, sym, ◌∙◌, inl, inr, eqb-true}
+use Rattle.std.proofs.Common.{◌≡◌, ℕ, Bool, true, false, ◌&&◌, ◌==◌, List, [], ◌∷◌, length, Option, Some, None, IsTrue, refl, ap, sym, ◌∙◌, inl, inr, eqb-true}
 use Rattle.std.specs.Prelude.{IfSome}
 use Rattle.std.specs.List.{AllByRecursion, list_any, list_all}
-use Rattle.std.proofs.lemmas.Bool.{false≢true}
+use Rattle.std.proofs.lemmas.Bool.{false≢true, and_right as and_false, or_from as or_false, or_cases as either, and_parts as both_true, not-true as not_so}
+use Rattle.lists.proofs.Lists.{all_weaker as all_map, all_always as all_each}
 use Rattle.schema.specs.Values.{ValueTree, null, ValueTrees}
 use Rattle.schema.specs.Stripe.{column}
 use Rattle.schema.specs.declared.order.Order.{Order}
@@ -13,21 +14,12 @@ use Rattle.filter.specs.Deciding.{holds, satisfies}
 use Rattle.filter.specs.inner.Excluded.{excludes, is_out_by, is_out, ruled_out}
 use Rattle.filter.specs.Law.{Describes, RuledOutHoldsNoRow}
 use Rattle.filter.proofs.AtMost.{IsWithin, excluded}
-use Rattle.filter.proofs.Tests.{either, both_true, not_so}
 use Rattle.filter.proofs.Relations.{satisfies_is, ruled_out_is}
-use Rattle.filter.proofs.Columns.{all_map, all_zip, all_each, AtRow, each_row, all_null}
+use Rattle.filter.proofs.Columns.{all_zip, AtRow, each_row, all_null}
 
 -- a term is false of a row
 abbrev IsFalseOf : Test → ValueTrees → Type 0
 IsFalseOf t row = holds t (value_of t row) ≡ false
-
-and_false : (a b : Bool) → b ≡ false → (a && b) ≡ false
-and_false true b h = h
-and_false false b h = refl
-
-or_false : (a b : Bool) → a ≡ false → b ≡ false → (a || b) ≡ false
-or_false true b h k = h
-or_false false b h k = k
 
 null_false : (t : Test) (v : ValueTree) → v ≡ null → holds t v ≡ false
 null_false t v h = ap (holds t) h

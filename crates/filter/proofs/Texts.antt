@@ -4,8 +4,8 @@ use Rattle.std.specs.Prelude.{MatchBool, IsPermutation}
 use Rattle.std.specs.List.{list_any}
 use Rattle.std.specs.Str.{bytes_eq}
 use Rattle.std.specs.Cmp.Lexicographic.{bytes_decides}
-use Rattle.std.proofs.lemmas.Bool.{false≢true}
 use Rattle.std.proofs.lemmas.List.Sorted.{list_any-IsPermutation}
+use Rattle.lists.proofs.Booleans.{true_by_false_not as not_false}
 use Rattle.filter.specs.inner.Sets.{is_text}
 
 -- a set that has a byte string already has it when it is put in
@@ -15,10 +15,6 @@ known q text keys there = by (bytes_eq q text) refl
     by : (b : Bool) → bytes_eq q text ≡ b → list_any (is_text q) keys ≡ (b || list_any (is_text q) keys)
     by true is = ap (λ (t : List ℕ). list_any (is_text t) keys) ((bytes_decides q text).0 is) ∙ there
     by false is = refl
-
-not_false : (b : Bool) → false ≡ not b → b ≡ true
-not_false true e = refl
-not_false false e = absurd (false≢true e)
 
 pub put_text : (keys new : List (Vec ℕ Global)) (copy : Vec ℕ Global) (added : Bool) (q : List ℕ) → added ≡ not (list_any (is_text copy.items) keys)
     → MatchBool added (IsPermutation (copy ∷ keys) new) (new ≡ keys) → list_any (is_text q) new ≡ (bytes_eq q copy.items || list_any (is_text q) keys)

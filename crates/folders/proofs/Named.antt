@@ -1,5 +1,5 @@
 -- The paths of a root's groups, as a set that grows group by group.
-use Rattle.std.proofs.Common.{◌≡◌, ◌<◌, ◌≤◌, ◌+◌, ◌||◌, ℕ, zero, suc, List, [], ◌∷◌, ◌++◌, length, drop, get_or, Bool, true, false, String, refl, sym, ◌∙◌, ap, arith, drop-cons}
+use Rattle.std.proofs.Common.{◌≡◌, ◌<◌, ◌≤◌, ◌+◌, ◌||◌, ℕ, zero, suc, List, [], ◌∷◌, ◌++◌, length, drop, get_or, Bool, true, false, String, refl, sym, ◌∙◌, ap, arith}
 use Rattle.std.specs.Prelude.{Contains}
 use Rattle.std.specs.Str.{bytes_eq}
 use Rattle.std.specs.Rc.{rc_value}
@@ -8,6 +8,8 @@ use Rattle.std.specs.HashSet.{HashSet, contains_text}
 use Rattle.std.specs.declared.alloc.Global.{Global}
 use Rattle.std.proofs.lemmas.Bool.{false≢true}
 use Rattle.std.proofs.lemmas.Slice.Eq.{bytes_eq-Decides}
+use Rattle.lists.proofs.Slices.{drop_past as past, drop_here as from_index}
+use Rattle.lists.proofs.Booleans.{or_assoc as assoc_or, or_false}
 use Rattle.manifest.specs.declared.group.Group.{Group as CodeGroup}
 use Rattle.manifest.specs.declared.block.Block.{Block}
 use Rattle.manifest.specs.Groups.{Group, Root, group_view, handles_view, groups_of_blocks}
@@ -48,26 +50,9 @@ swap_or true false c = refl
 swap_or false true c = refl
 swap_or false false c = refl
 
-assoc_or : (a b c : Bool) → ((a || b) || c) ≡ (a || (b || c))
-assoc_or true b c = refl
-assoc_or false b c = refl
-
-or_false : (a : Bool) → (a || false) ≡ a
-or_false true = refl
-or_false false = refl
-
 any_append : (root : Root) (q : List ℕ) (xs ys : List Group) → has_path root q (xs ++ ys) ≡ (has_path root q xs || has_path root q ys)
 any_append root q [] ys = refl
 any_append root q (x ∷ xs) ys = ap (λ b. bytes_eq (path_of_group root x) q || b) (any_append root q xs ys) ∙ sym (assoc_or (bytes_eq (path_of_group root x) q) (has_path root q xs) (has_path root q ys))
-
-past : {X : Type 0} (xs : List X) (i : ℕ) → length xs ≤ i → drop i xs ≡ []
-past [] zero le = refl
-past [] (suc i) le = refl
-past (x ∷ xs) zero le = absurd (omega (arith, le))
-past (x ∷ xs) (suc i) le = past xs i (omega (arith, le))
-
-from_index : {X : Type 0} (xs : List X) (i : ℕ) (x : X) → i < length xs → x ≡ get_or xs i x → drop i xs ≡ x ∷ drop (i + 1) xs
-from_index xs i x lt is = drop-cons xs i x lt ∙ (let same : get_or xs i x ≡ x = sym is in let next : suc i ≡ i + 1 = omega arith in cc)
 
 module _ {S : Type 0} (root : Root) (q : List ℕ) where
   pub group_more : (groups : List (Rc CodeGroup Global)) (i : ℕ) (g : Rc CodeGroup Global) → i < length groups → g ≡ get_or groups i g → (old new : HashSet (String Global) S)

@@ -1,8 +1,8 @@
 -- The groups of a file, one after the other.
 use Rattle.std.proofs.Common.{◌≡◌, ◌<◌, ℕ, zero, suc, ◌+◌, List, [], ◌∷◌, ◌++◌, length, map, drop, get_or, refl, sym, ap, subst, ◌∙◌, arith}
 use Rattle.std.specs.Prelude.{flat_map, Contains}
-use Rattle.std.proofs.lemmas.List.{length-map, get_or-map}
 use Rattle.std.proofs.Math.Seq.{drop-cons}
+use Rattle.lists.proofs.Slices.{contains_mapped as among}
 use Rattle.bits.specs.declared.refusal.Refusal.{Refusal}
 use Rattle.bits.specs.declared.refusal.Refusal.TheVariants as refusal
 use Rattle.bits.specs.Refusals.{HasCause}
@@ -15,10 +15,6 @@ use Rattle.row_group.specs.Limits.{IsReadable}
 use Rattle.footer.specs.File.{LiesHere, AreGroups, GroupsMean}
 use Rattle.footer.specs.Faults.{HasGroupsFault}
 use Rattle.footer.specs.Left.{GroupsHold}
-
--- what was found at an index is among those that are shown
-pub among : {X Y : Type 0} (f : X → Y) (xs : List X) (i : ℕ) (x : X) → i < length xs → x ≡ get_or xs i x → Contains (map f xs) (f x)
-among f xs i x within is = (i, subst (λ (n : ℕ). i < n) (sym (length-map xs f)) within, get_or-map f xs i x (f x) within ∙ ap f (sym is))
 
 -- a group with rows before others that have rows
 pub one_more : {X : Type 0} (f : X → GroupMeta) (front : List ℕ) (fs : Fields) (xs : List X) (i : ℕ) (x : X) → i < length xs → x ≡ get_or xs i x

@@ -8,6 +8,7 @@ use Rattle.std.proofs.Math.Nat.{div-eq_of_lt, add-div_right, div-add-mod, mod-lt
 use Rattle.std.proofs.lemmas.Nat.{div-mul-add}
 use Rattle.std.proofs.lemmas.List.{append-nil, length-take, length-drop, take-append-drop, nil_from_length}
 use Rattle.std.proofs.lemmas.List.Sums.{sum_by-cons}
+use Rattle.lists.proofs.Lists.{any_later}
 use Rattle.schema.specs.Values.{ValueTrees}
 use Rattle.schema.specs.Shape.{Fields}
 use Rattle.schema.specs.Fits.{RowsFit}
@@ -23,7 +24,7 @@ use Rattle.footer.specs.File.{magic, AreGroups}
 use Rattle.footer.specs.Writing.{chunk_options, groups_from, groups_of, HasLargeColumn, IsOutOfRange, empty_groups, large_groups, empty_pages, IsTooMuch, many_entries, long_value, heavy_file}
 use Rattle.footer.specs.Own.{AppendsGroups}
 use Rattle.footer.specs.Writer.{IsBegun}
-use Rattle.footer.proofs.Parted.{any_later, long_within, fit_within}
+use Rattle.footer.proofs.Parted.{long_within, fit_within}
 
 -- ---- how many groups there are
 

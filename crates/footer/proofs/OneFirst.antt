@@ -1,6 +1,7 @@
 -- The first rows of a file are one list, and the first of all its rows.
 use Rattle.std.proofs.Common.{◌≡◌, ◌≤◌, ◌⊎◌, inl, inr, ℕ, zero, suc, ◌-◌, List, [], ◌∷◌, ◌++◌, length, take, refl, sym, ap, subst, ◌∙◌, arith, length-append}
 use Rattle.std.specs.Prelude.{flat_map}
+use Rattle.lists.proofs.Slices.{take_joined}
 use Rattle.bits.specs.Codec.{IsFunctional}
 use Rattle.schema.specs.Values.{ValueTrees}
 use Rattle.schema.specs.Shape.{Fields}
@@ -17,14 +18,6 @@ use Rattle.footer.specs.Laws.{FirstRowsAreOneList, FirstRowsAreOfTheFile, FilesH
 use Rattle.footer.proofs.OneFile.{one_file}
 use Rattle.footer.proofs.FirstRows.{first_seen}
 use Rattle.footer.proofs.OneMeaning.{one_held}
-
--- the first n of two lists that are joined
-take_joined : {X : Type 0} (n : ℕ) (xs ys : List X) → take n (xs ++ ys) ≡ take n xs ++ take (n - length xs) ys
-take_joined {X = X} zero xs ys = let none : 0 - length xs ≡ 0 = omega arith in subst (λ (k : ℕ). take 0 (xs ++ ys) ≡ take 0 xs ++ take k ys) (sym none) refl
-take_joined {X = X} (suc n) [] ys = let all : suc n - length {A = X} [] ≡ suc n = omega arith in ap (λ (k : ℕ). take k ys) (sym all)
-take_joined {X = X} (suc n) (x ∷ xs) ys =
-    let less : n - length xs ≡ suc n - length (x ∷ xs) = omega arith in
-    ap (λ (t : List X). x ∷ t) (take_joined n xs ys) ∙ ap (λ (k : ℕ). x ∷ (take n xs ++ take k ys)) less
 
 -- a group of these rows leaves so many to be found
 left_after : (front : List ℕ) (fs : Fields) (g : GroupMeta) (rows : List ValueTrees) (n : ℕ) → GroupMeans front fs g rows → n - counted g.num_rows ≡ n - length rows

@@ -4,6 +4,7 @@ use Rattle.std.specs.Prelude.{IsTrue}
 use Rattle.std.specs.List.{Any, AllByRecursion}
 use Rattle.std.proofs.lemmas.List.Elements.{filter_map-append}
 use Rattle.std.proofs.lemmas.Grind.{flat_map-append}
+use Rattle.lists.proofs.Lists.{any_later, any_left as any_first}
 use Rattle.schema.specs.Values.{ValueTree, group, ValueTrees}
 use Rattle.schema.specs.Shape.{Fields}
 use Rattle.schema.specs.Fits.{fits_each, RowsFit}
@@ -20,15 +21,6 @@ all_between P [] (x ∷ b) c h = (h.0, all_between P [] b c h.1)
 
 pub fit_within : (fs : Fields) (a b c rows : List ValueTrees) → rows ≡ a ++ (b ++ c) → RowsFit fs rows → RowsFit fs b
 fit_within fs a b c rows is h = all_between (λ row. IsTrue (fits_each fs row)) a b c (subst (RowsFit fs) is h)
-
-pub any_later : {X : Type 0} (P : X → Type 0) (x : X) (xs : List X) → Any P xs → Any P (x ∷ xs)
-any_later P x xs (k, y, within, is, holds) = (suc k, y, omega (arith, within), is, holds)
-
--- of some of those in between, and so of some of all
-any_first : {X : Type 0} (P : X → Type 0) (b c : List X) → Any P b → Any P (b ++ c)
-any_first P [] c (k, y, within, is, holds) = absurd (omega (arith, within))
-any_first P (x ∷ b) c (zero, y, within, is, holds) = (zero, y, omega arith, is, holds)
-any_first P (x ∷ b) c (suc k, y, within, is, holds) = any_later P x (b ++ c) (any_first P b c (k, y, omega (arith, within), is, holds))
 
 any_between : {X : Type 0} (P : X → Type 0) (a b c : List X) → Any P b → Any P (a ++ (b ++ c))
 any_between P [] b c h = any_first P b c h

@@ -6,12 +6,12 @@ use Rattle.std.proofs.lemmas.List.{length-map, length-replicate}
 use Rattle.std.proofs.Math.Nat.{suc-mul}
 use Rattle.std.proofs.lemmas.List.Sums.{sum_by-cons}
 use Rattle.std.proofs.lemmas.List.Elements.{All-from_recursion}
+use Rattle.lists.proofs.Lists.{all_append as all_joined}
 use Rattle.schema.specs.Values.{ValueTrees}
 use Rattle.schema.specs.Shape.{Field, leaf, fields, Fields, no_fields, field}
 use Rattle.schema.specs.Stripe.{Leaf, Entry, below, leaves, leaves_from, leaves_of, columns}
 use Rattle.schema.specs.Listed.{listing, listings}
 use Rattle.schema.specs.Law.{IsWithinLimits}
-use Rattle.schema.proofs.Kept.{all_joined}
 use Rattle.pages.specs.declared.encoding.Encoding.{Encoding}
 use Rattle.pages.specs.declared.encoding.Encoding.TheVariants.{Plain, Rle}
 use Rattle.metadata.specs.Records.{Statistics, ColumnMeta, ChunkMeta, GroupMeta, type_order}

@@ -1,11 +1,11 @@
 -- The elements of a schema can be written in a footer.
 use Rattle.std.specs.Prelude.{IfSome}
 use Rattle.std.specs.List.{AllByRecursion}
+use Rattle.lists.proofs.Lists.{all_append as all_joined}
 use Rattle.schema.specs.Annotations.{Annotation, plain, known, other_converted, other_logical, logical_struct}
 use Rattle.schema.specs.Shape.{Field, leaf, fields, Fields, no_fields, field}
 use Rattle.schema.specs.Listed.{listing, listings, elements_of}
 use Rattle.schema.specs.Law.{IsWritable, KeepsWritable, IsValid, AreValid, IsSchema}
-use Rattle.schema.proofs.Kept.{all_joined}
 use Rattle.metadata.specs.Kept.{KeepsWritten}
 
 kept_writable : (a : Annotation) → KeepsWritable a → IfSome (logical_struct a) IsWritable

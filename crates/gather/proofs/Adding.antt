@@ -2,14 +2,13 @@
 use Rattle.std.proofs.Common.{◌≡◌, ℕ, zero, suc, ◌<◌, ◌≤◌, Bool, false, List, [], ◌∷◌, ◌++◌, length, get_or, set, map, refl, ap, sym, subst, ◌∙◌, arith, length-append}
 use Rattle.std.specs.Prelude.{◌||◌, if◌then◌else◌}
 use Rattle.std.specs.List.{AllByRecursion, list_any}
-use Rattle.std.proofs.lemmas.List.{set-set, get_or-set_same}
+use Rattle.std.proofs.lemmas.List.{set-set, get_or-set_same, map_push}
 use Rattle.schema.specs.Values.{ValueTree, ValueTrees}
 use Rattle.schema.specs.Views.{key_view}
 use Rattle.schema.specs.Keys.{KeyColumn, key_of_row, row_without_keys}
 use Rattle.shred.specs.Buffer.{schema_of, holds}
 use Rattle.partition.specs.Folders.{CanPartition}
 use Rattle.partition.specs.Order.{is_same_key}
-use Rattle.partition.proofs.WithKeys.{map_push}
 use Rattle.gather.specs.declared.key_buffer.KeyBuffer.{KeyBuffer}
 use Rattle.gather.specs.declared.key_buffers.KeyBuffers.{KeyBuffers}
 use Rattle.gather.specs.Parts.{parts_view}

@@ -2,9 +2,10 @@
 use Rattle.std.proofs.Common.{◌≡◌, ℕ, zero, suc, ◌<◌, ◌≤◌, Bool, false, List, [], ◌∷◌, ◌++◌, length, get_or, set, refl, ap, sym, subst, ◌∙◌, arith, lit<}
 use Rattle.std.specs.Prelude.{Contains, if◌then◌else◌}
 use Rattle.std.specs.List.{AllByRecursion}
-use Rattle.std.proofs.lemmas.List.{append-nil}
+use Rattle.std.proofs.lemmas.List.{append-nil, map_push}
 use Rattle.std.proofs.lemmas.Bool.{lt-ltb, le-ltb}
 use Rattle.std.proofs.lemmas.List.Elements.{Contains-append_left}
+use Rattle.lists.proofs.Lists.{all_weaker_on as all_map}
 use Rattle.schema.specs.Shape.{Fields}
 use Rattle.schema.specs.Values.{ValueTree, ValueTrees}
 use Rattle.schema.specs.Views.{key_view}
@@ -14,7 +15,7 @@ use Rattle.partition.specs.Order.{is_same_key}
 use Rattle.partition.specs.Splitting.{KeyRows, rows_with, HaveKeys}
 use Rattle.partition.specs.inner.Parts.{AreDifferent}
 use Rattle.partition.proofs.SameKeys.{key_same, other_way}
-use Rattle.partition.proofs.WithKeys.{all_map, all_push, map_push, among}
+use Rattle.partition.proofs.WithKeys.{all_push, among}
 use Rattle.gather.specs.declared.key_buffer.KeyBuffer.{KeyBuffer}
 use Rattle.gather.specs.Groups.{waiting_after, left_after, waiting_rows, full_groups}
 use Rattle.gather.specs.Buffers.{keys_of}

@@ -1,10 +1,10 @@
 -- Rows that are gathered as they are shown.
 use Rattle.std.proofs.Common.{◌≡◌, true, List, [], ◌∷◌, ◌++◌, length, refl, ap, sym, subst, ◌∙◌, IsTrue}
+use Rattle.lists.proofs.Lists.{all_append as all_joined}
 use Rattle.schema.specs.Shape.{Fields}
 use Rattle.schema.specs.Fits.{fits_each}
 use Rattle.schema.specs.Values.{ValueTrees}
 use Rattle.schema.specs.Keys.{KeyColumn}
-use Rattle.schema.proofs.Kept.{all_joined}
 use Rattle.assemble.specs.Sinks.{Token, tokens_each, Adds}
 use Rattle.shred.specs.inner.Opening.{schema_token, rows_said}
 use Rattle.shred.proofs.Openings.{one_schema, rows_back}

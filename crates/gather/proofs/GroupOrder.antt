@@ -7,9 +7,9 @@ use Rattle.std.specs.List.Sorted.{IsPermutation, IsSortedBy}
 use Rattle.std.specs.List.{items_where_true}
 use Rattle.std.specs.Ordering.{is_lt}
 use Rattle.std.proofs.lemmas.Bool.{false≢true, lt-ltb}
-use Rattle.std.proofs.lemmas.List.Elements.{recursion_from_All, All-from_recursion}
-use Rattle.std.proofs.lemmas.List.Sorted.{All-permutation, Contains-permutation, IsPermutation-map}
+use Rattle.std.proofs.lemmas.List.Sorted.{Contains-permutation, IsPermutation-map}
 use Rattle.std.proofs.lemmas.Map.Keys.{IsDistinct-IsPermutation}
+use Rattle.lists.proofs.Lists.{all_permuted as moved, all_weaker_on as all_map}
 use Rattle.schema.specs.Shape.{Fields}
 use Rattle.schema.specs.Values.{ValueTree, ValueTrees}
 use Rattle.schema.specs.Views.{key_view}
@@ -20,7 +20,6 @@ use Rattle.partition.specs.Order.{key_cmp, is_same_key, AreAscending}
 use Rattle.partition.specs.Splitting.{KeyRows}
 use Rattle.partition.specs.inner.Parts.{AreDifferent}
 use Rattle.partition.proofs.SameKeys.{key_flips, key_below}
-use Rattle.partition.proofs.WithKeys.{all_map}
 use Rattle.gather.specs.declared.key_buffer.KeyBuffer.{KeyBuffer}
 use Rattle.gather.specs.Groups.{waiting_rows, full_groups}
 use Rattle.gather.specs.Buffers.{keys_of}
@@ -111,9 +110,6 @@ from_distinct : (ks : List Key) → IsDistinct is_same_key ks → AreDifferent k
 unfolding IsDistinct
 from_distinct [] h = tt
 from_distinct (k ∷ ks) h = (h.0, from_distinct ks h.1)
-
-moved : {X : Type 0} (P : X → Type 0) (xs ys : List X) → IsPermutation xs ys → AllByRecursion P xs → AllByRecursion P ys
-moved P xs ys p h = recursion_from_All P ys (All-permutation P xs ys p (All-from_recursion P xs h))
 
 abbrev pub before : KeyBuffer → KeyBuffer → Bool
 before x y = is_lt (key_cmp (key_view x.key) (key_view y.key))

@@ -1,6 +1,8 @@
 -- Which faults a call's text can have.
 use Rattle.std.proofs.Common.{◌≡◌, ◌≤◌, ◌⊎◌, inl, inr, ℕ, suc, option_and_then, arith, Bool, true, false, List, ◌∷◌, codes, Option, Some, None, if◌then◌else◌, Result, Ok, Err, refl, sym, ap, subst, ◌∙◌}
 use Rattle.std.specs.Prelude.{IfErr, IfOk}
+use Rattle.std.proofs.lemmas.Option.{same_Some as some_same}
+use Rattle.lists.proofs.Options.{and_then_some as and_then_gave}
 use Rattle.bits.specs.declared.refusal.Refusal.{Refusal}
 use Rattle.bits.specs.declared.refusal.Refusal.TheVariants.{RowShape, Script, Memory}
 use Rattle.bits.specs.Refusals.{HasCause, RefusedOnly, IsFault}
@@ -18,9 +20,9 @@ use Rattle.jsonrows.specs.declared.call_form.Form.TheVariants as form
 use Rattle.jsonrows.specs.Filters.{listed, ◌>>=◌, or_fault, name_of, filter_of_as}
 use Rattle.jsonrows.specs.SchemaJson.{has_only, SaysColumn}
 use Rattle.jsonrows.specs.Calls.{natural_of, naturals_of, row_in_as, rows_of_as, columns_of, bytes_of, members_of, forms, form_named, member_of, form_by, form_if, form_of, rows_at_as, natural_at, numbers_at, filter_at_as, columns_at, bytes_at, call_by_as, IsNewColumn, IsCallAs, IsCallTextAs, IsRefusedValueAs, IsRefusedCallAs}
-use Rattle.jsonrows.proofs.SchemaMembers.{and_then_gave, is_string, is_object}
+use Rattle.jsonrows.proofs.SchemaMembers.{is_string, is_object}
 use Rattle.jsonrows.proofs.SchemaFields.{member_depth}
-use Rattle.jsonrows.proofs.FilterFaults.{AreOfForm, then_form, script_form, shape_form, each_form, name_form, filter_form, some_same}
+use Rattle.jsonrows.proofs.FilterFaults.{AreOfForm, then_form, script_form, shape_form, each_form, name_form, filter_form}
 
 -- ---- members
 

@@ -3,6 +3,7 @@ use Rattle.std.proofs.Common.{◌≡◌, ◌≢◌, ℕ, length, ap₂, zero, su
 use Rattle.std.specs.Prelude.{IsUtf8, IfOk, OnOk}
 use Rattle.std.specs.Str.{is_utf8}
 use Rattle.std.proofs.lemmas.Str.{IsUtf8-from_is_utf8, is_utf8-from_IsUtf8}
+use Rattle.std.proofs.lemmas.Bool.{false_from_ne_true as not_true}
 use Rattle.bits.specs.declared.refusal.Refusal.{Refusal}
 use Rattle.bits.specs.declared.refusal.Refusal.TheVariants.{RowShape, Memory}
 use Rattle.bits.specs.Refusals.{HasCause}
@@ -18,7 +19,6 @@ use Rattle.schema.specs.Shape.{Field, Fields, name_of}
 use Rattle.schema.specs.Fits.{fits}
 use Rattle.schema.specs.Keys.{field_at}
 use Rattle.schema.specs.Views.{field_view, field_views}
-use Rattle.filter.proofs.Tests.{not_true}
 use Rattle.rowtext.specs.Json.{field_json_as}
 use Rattle.rowtext.proofs.Forms.{view-Bytes}
 use Rattle.jsonrows.specs.inner.ValueJson.{IsShownSo, IsMisfit}

@@ -1,6 +1,7 @@
 -- Which faults a filter's text can have.
 use Rattle.std.proofs.Common.{◌≡◌, ℕ, Bool, true, false, List, [], ◌∷◌, Option, Some, None, option_map, if◌then◌else◌, Result, Ok, Err, sym, ap, subst, ◌∙◌}
 use Rattle.std.specs.Prelude.{IfErr}
+use Rattle.std.proofs.lemmas.Option.{same_Some as some_same}
 use Rattle.bits.specs.declared.refusal.Refusal.{Refusal}
 use Rattle.bits.specs.declared.refusal.Refusal.TheVariants.{RowShape, Script, Memory}
 use Rattle.bits.specs.Refusals.{HasCause, RefusedOnly}
@@ -153,9 +154,6 @@ module _ (texts : Bool) where
   filter_form leaves (string s) = tt
   filter_form leaves (array ds) = filter_form_in leaves (listed ds)
   filter_form leaves (object ms) = tt
-
-pub some_same : {A : Type 0} (x y : A) → Some x ≡ Some y → x ≡ y
-some_same x y e = cc
 
 module _ (texts : Bool) where
   refused_at : (leaves : List Leaf) (text : List ℕ) (d : Data) (e : Refusal) → read text ≡ Some d → HasCause (λ x. filter_of_as texts leaves d ≡ Err x) e → IsRefusedFilterAs texts leaves text e

@@ -1,10 +1,10 @@
 -- Values that are made one by one of the items of a slice.
 use Rattle.std.proofs.Common.{◌≡◌, ℕ, ◌+◌, ◌<◌, List, [], ◌∷◌, ◌++◌, length, get_or, map, drop, Result, Ok, sym, ap, ◌∙◌}
 use Rattle.std.proofs.lemmas.List.{map-append, drop_more}
+use Rattle.lists.proofs.Slices.{map_drop_here as reads}
 use Rattle.bits.specs.declared.refusal.Refusal.{Refusal}
 use Rattle.filter.specs.Terms.{each_of}
 use Rattle.filter.proofs.Made.{before, made_more}
-use Rattle.filter.proofs.Places.{reads}
 
 pub one_more_made : {A B X Y : Type 0} (see : A → X) (seen : B → Y) (f : X → Result Y Refusal) (xs : List A) (i : ℕ) (x : A) (made new : List B) (y : B) (w : Result (List Y) Refusal) → i < length xs → x ≡ get_or xs i x → new ≡ made ++ y ∷ [] → f (see x) ≡ Ok (seen y)
     → before (map seen made) (each_of f (map see (drop i xs))) ≡ w → before (map seen new) (each_of f (map see (drop (i + 1) xs))) ≡ w

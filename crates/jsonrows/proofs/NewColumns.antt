@@ -1,6 +1,7 @@
 -- The elements of one field, as they are found in a JSON value.
 use Rattle.std.proofs.Common.{◌≡◌, ◌≤◌, Bool, true, false, true≢false, List, [], ◌++◌, Option, Some, None, is_some, option_map, Result, Ok, Err, sym, ap, subst, ◌∙◌, arith}
 use Rattle.std.specs.Prelude.{IfOk}
+use Rattle.std.proofs.lemmas.Option.{same_Some as same_value}
 use Rattle.bits.specs.declared.refusal.Refusal.{Refusal}
 use Rattle.bits.specs.Refusals.{OnFault}
 use Rattle.serde_json.specs.Data.{Data, depth}
@@ -8,7 +9,6 @@ use Rattle.schema.specs.Elements.{Element}
 use Rattle.jsonrows.specs.SchemaJson.{SaysColumn}
 use Rattle.jsonrows.specs.inner.SchemaReading.{Said, field_said, said_below, AreElementsOf}
 use Rattle.jsonrows.specs.inner.SchemaViews.{Says}
-use Rattle.jsonrows.proofs.Said.{same_value}
 use Rattle.jsonrows.proofs.SchemaMembers.{none_is}
 use Rattle.jsonrows.proofs.SchemaFields.{field_found, below_found, field_there, FieldThere}
 

@@ -2,6 +2,8 @@
 use Rattle.std.proofs.Common.{Bool, ◌≡◌, ◌≢◌, ℕ, ◌+◌, ◌<◌, true, List, [], ◌∷◌, length, get_or, map, drop, Option, Some, Vec, Global, Result, Err, refl, sym, ap, ◌∙◌}
 use Rattle.std.specs.Str.{bytes_eq}
 use Rattle.std.specs.Cmp.Lexicographic.{pointwise, pointwise_decides, bytes_decides}
+use Rattle.std.proofs.lemmas.Bool.{false_from_ne_true as not_true}
+use Rattle.lists.proofs.Slices.{map_drop_here as reads}
 use Rattle.bits.specs.declared.refusal.Refusal.{Refusal}
 use Rattle.bits.specs.declared.refusal.Refusal.TheVariants.{Memory}
 use Rattle.bits.specs.Refusals.{HasCause}
@@ -14,8 +16,6 @@ use Rattle.schema.specs.Annotations.{LeafType}
 use Rattle.schema.specs.Values.{ValueTree}
 use Rattle.schema.specs.Views.{leaf_view}
 use Rattle.filter.specs.Terms.{then_rest, each_of}
-use Rattle.filter.proofs.Places.{reads}
-use Rattle.filter.proofs.Tests.{not_true}
 use Rattle.jsonrows.specs.Filters.{listed, leaf_named, list_value, value_of_as, values_of_as}
 
 listed-of : (ds : List Data) → listed (items_of ds) ≡ ds

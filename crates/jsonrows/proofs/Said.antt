@@ -3,6 +3,7 @@ use Rattle.std.proofs.Common.{◌≡◌, ◌<◌, ◌≤◌, ◌^◌, ℕ, suc, 
 use Rattle.std.proofs.lemmas.Bool.{lt-ltb}
 use Rattle.std.proofs.lemmas.Bool.Decides.{nat_tests}
 use Rattle.std.specs.Prelude.{IfOk}
+use Rattle.std.proofs.lemmas.Option.{same_Some as same_value}
 use Rattle.serde_json.specs.Data.{Data, Items}
 use Rattle.serde_json.specs.Find.{get, as_str, as_array}
 use Rattle.serde_json.specs.Events.{items_len}
@@ -24,9 +25,6 @@ both next left = option_and_then (λ some. option_map (λ more. some ++ more) le
 abbrev value_or : {A : Type 0} → A → Option A → A
 value_or d None = d
 value_or d (Some x) = x
-
-pub same_value : {A : Type 0} (x y : A) → Some x ≡ Some y → x ≡ y
-same_value x y e = ap (value_or x) e
 
 after-after : (old some : List Said) (left : Option (List Said)) → after old (option_map (λ more. some ++ more) left) ≡ after (old ++ some) left
 after-after old some None = refl

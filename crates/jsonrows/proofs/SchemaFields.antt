@@ -7,6 +7,8 @@ use Rattle.std.specs.declared.cmp.Ordering.TheVariants.{Less, Equal, Greater}
 use Rattle.std.specs.Cmp.Lexicographic.{slice_cmp}
 use Rattle.std.proofs.Math.Nat.{le-max_left, le-max_right}
 use Rattle.std.proofs.lemmas.Bool.Decides.{Decides-ltb}
+use Rattle.std.proofs.lemmas.Option.{same_Some as same_value}
+use Rattle.lists.proofs.Options.{and_then_some as and_then_gave, map_some as map_gave, some_if as if_gave}
 use Rattle.serde_json.specs.Data.{Data, null, boolean, number, string, array, object, Items, no_items, item, Members, no_members, member, depth, items_depth, members_depth}
 use Rattle.serde_json.specs.Find.{as_str, as_array, get_member}
 use Rattle.serde_json.specs.Events.{items_len}
@@ -20,8 +22,7 @@ use Rattle.schema.specs.Faults.{HasFault}
 use Rattle.schema.specs.Listing.{Branch, branch, Branches, no_branches, branches, depth_first, depth_first_each, IsSchemaOf}
 use Rattle.jsonrows.specs.SchemaJson.{repetitions, IsText, IsWord, Has, Lacks, IsLeaf, IsGroup, SaysField, SaysFields, SaysSchema, SaysElements, IsSchemaText, IsRefusedSchema}
 use Rattle.jsonrows.specs.inner.SchemaReading.{word_of, Said, said_of_group, leaf_said, group_said, said_by, field_said, fields_said, said_below, all_said, HasStruct, IsElementOf, AreElementsOf}
-use Rattle.jsonrows.proofs.Said.{same_value}
-use Rattle.jsonrows.proofs.SchemaMembers.{none_is, and_then_gave, map_gave, if_gave, is_array, text_found, text_there, word_found, word_there, has_found, has_there}
+use Rattle.jsonrows.proofs.SchemaMembers.{none_is, is_array, text_found, text_there, word_found, word_there, has_found, has_there}
 use Rattle.jsonrows.proofs.SchemaNotes.{none_kept}
 use Rattle.jsonrows.proofs.SchemaLeaves.{leaf_found, leaf_there, group_found, group_there}
 

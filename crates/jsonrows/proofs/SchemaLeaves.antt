@@ -2,6 +2,9 @@
 use Rattle.std.proofs.Common.{◌≡◌, ◌⊎◌, inl, inr, ℕ, ◌^◌, nat_lt, ℤ, pos, true, false, ◌&&◌, codes, List, Option, Some, None, option_and_then, refl, sym, ap, subst, ◌∙◌}
 use Rattle.std.specs.Prelude.{◌↔◌, IsSome}
 use Rattle.std.proofs.lemmas.Bool.Decides.{Decides-ltb}
+use Rattle.std.proofs.lemmas.Bool.{and_parts as and_true}
+use Rattle.std.proofs.lemmas.Option.{same_Some as same_value}
+use Rattle.lists.proofs.Options.{and_then_some as and_then_gave, some_if as if_gave}
 use Rattle.serde_json.specs.Data.{array, object, Items, Members}
 use Rattle.serde_json.specs.Find.{get_member}
 use Rattle.serde_json.specs.Events.{items_len}
@@ -15,9 +18,7 @@ use Rattle.schema.specs.Listing.{typed}
 use Rattle.jsonrows.specs.declared.schema_reading.Numbers.{Numbers}
 use Rattle.jsonrows.specs.SchemaJson.{repetitions, types, group_notes, leaf_members, group_members, are_called, is_known, IsText, IsWord, IsInt32, Has, Lacks, MayHave, IsUnnamed, IsNote, IsLeaf, IsGroup}
 use Rattle.jsonrows.specs.inner.SchemaReading.{word_of, int32_of, optional, length_of, numbers_of, kind_of, is_unnamed, Note, note, note_of, Said, said_of_leaf, said_of_group, leaf_said, group_said, HasStruct, IsElementOf}
-use Rattle.rowtext.proofs.Both.{and_true}
-use Rattle.jsonrows.proofs.Said.{same_value}
-use Rattle.jsonrows.proofs.SchemaMembers.{and_then_gave, if_gave, word_found, word_there, int_found, int_there, has_found, has_there, may_found, may_there, length_found, length_there}
+use Rattle.jsonrows.proofs.SchemaMembers.{word_found, word_there, int_found, int_there, has_found, has_there, may_found, may_there, length_found, length_there}
 use Rattle.jsonrows.proofs.SchemaNotes.{none_kept, unnamed_found, unnamed_there, note_found, note_there}
 
 -- ---- the numbers of a leaf

@@ -3,29 +3,18 @@ use Rattle.std.proofs.Common.{◌≡◌, ℕ, ℤ, pos, Bool, true, false, true�
 use Rattle.std.specs.Prelude.{◌↔◌, IsSome}
 use Rattle.std.specs.Ordering.{int_eq}
 use Rattle.std.proofs.lemmas.Bool.Decides.{Decides-int_eq}
+use Rattle.std.proofs.lemmas.Option.{same_Some as same_value}
+use Rattle.lists.proofs.Options.{and_then_some as and_then_gave, map_some as map_gave, some_if as if_gave}
 use Rattle.serde_json.specs.Data.{Data, Num, null, boolean, number, string, array, object, Items, Members}
 use Rattle.serde_json.specs.Find.{as_i64, as_str, as_number, as_array, get, get_member}
 use Rattle.schema.specs.Fits.{is_within}
 use Rattle.jsonrows.specs.SchemaJson.{Word, number_of, IsText, IsWord, IsInt32, Has, Lacks, MayHave}
 use Rattle.jsonrows.specs.inner.SchemaReading.{word_of, int32_of, optional, length_of, absent}
-use Rattle.jsonrows.proofs.Said.{same_value}
 
 -- ---- steps that gave a value
 
 pub none_is : {A : Type 0} {B : Type 0} (x : A) → None ≡ Some x → B
 none_is x e = absurd (true≢false (sym (ap is_some e)))
-
-pub and_then_gave : {A B : Type 0} (f : A → Option B) (o : Option A) (y : B) → option_and_then f o ≡ Some y → (x : A) × (o ≡ Some x) × (f x ≡ Some y)
-and_then_gave f None y e = none_is y e
-and_then_gave f (Some x) y e = (x, refl, e)
-
-pub map_gave : {A B : Type 0} (f : A → B) (o : Option A) (y : B) → option_map f o ≡ Some y → (x : A) × (o ≡ Some x) × (f x ≡ y)
-map_gave f None y e = none_is y e
-map_gave f (Some x) y e = (x, refl, same_value (f x) y e)
-
-pub if_gave : {A : Type 0} (b : Bool) (o : Option A) (y : A) → (if b then o else None) ≡ Some y → (b ≡ true) × (o ≡ Some y)
-if_gave true o y e = (refl, e)
-if_gave false o y e = none_is y e
 
 -- ---- kinds of values
 

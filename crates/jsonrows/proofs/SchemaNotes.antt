@@ -1,6 +1,9 @@
 -- What is found in the members of a leaf and of a group is what they say.
-use Rattle.std.proofs.Common.{◌≡◌, inl, inr, ℕ, ℤ, Bool, true, false, not, true≢false, codes, bytes_eq, List, length, Option, Some, None, option_map, option_and_then, if◌then◌else◌, refl, sym, ap, subst, ◌∙◌}
+use Rattle.std.proofs.Common.{◌≡◌, inl, inr, ℕ, ℤ, Bool, true, false, not, codes, bytes_eq, List, length, Option, Some, None, option_map, option_and_then, if◌then◌else◌, refl, sym, ap, subst, ◌∙◌}
 use Rattle.std.proofs.lemmas.Slice.Eq.{bytes_eq-Decides}
+use Rattle.std.proofs.lemmas.Bool.{not-true as not_true}
+use Rattle.std.proofs.lemmas.Option.{same_Some as same_value}
+use Rattle.lists.proofs.Options.{and_then_some as and_then_gave, map_some as map_gave, some_if as if_gave}
 use Rattle.serde_json.specs.Data.{Data, string, object, Members}
 use Rattle.serde_json.specs.Find.{as_str, get_member}
 use Rattle.thrift_compact.specs.Tree.{Fields as Struct}
@@ -13,14 +16,9 @@ use Rattle.schema.specs.Listing.{typed}
 use Rattle.rowtext.specs.Reading.{bytes_of_digits}
 use Rattle.jsonrows.specs.SchemaJson.{number_of, notes, is_known, IsText, IsNote}
 use Rattle.jsonrows.specs.inner.SchemaReading.{int32_of, optional, stored_kind, kind_of, is_unnamed, Note, note, other_of, named_of, note_by, note_of, HasStruct}
-use Rattle.jsonrows.proofs.Said.{same_value}
-use Rattle.jsonrows.proofs.SchemaMembers.{none_is, and_then_gave, map_gave, if_gave, is_string, int_found, int_there}
+use Rattle.jsonrows.proofs.SchemaMembers.{none_is, is_string, int_found, int_there}
 
 -- ---- names over a type
-
-not_true : (b : Bool) → not b ≡ true → b ≡ false
-not_true true h = absurd (true≢false (sym h))
-not_true false h = refl
 
 pub unnamed_found : (z : ℤ) (length c : Option ℤ) (s : Option Struct) → is_unnamed (kind_of (Some z) length) c s ≡ true → (k : Kind) → typed z length ≡ Some (Stored k) → is_known (annotation_of k c s) ≡ false
 unnamed_found z length c s h k e = not_true (is_known (annotation_of k c s)) (subst (λ o. is_unnamed (stored_kind o) c s ≡ true) e h)

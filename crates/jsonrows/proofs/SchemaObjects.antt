@@ -2,6 +2,7 @@
 use Rattle.std.proofs.Common.{◌≡◌, ℕ, Bool, true, false, true≢false, ◌&&◌, List, [], ◌∷◌, ◌++◌, Option, Some, None, String, Vec, BTreeMap, Global, Ordering, Less, Equal, Greater, string_bytes, nat_cmp, refl, sym, ap, subst, ◌∙◌, append_assoc, append-nil}
 use Rattle.std.specs.Cmp.Lexicographic.{slice_cmp}
 use Rattle.std.specs.Ordering.{match_ordering}
+use Rattle.std.proofs.lemmas.Bool.{and_parts as and_true}
 use Rattle.serde_json.specs.Data.{Data, Members, member, put, object}
 use Rattle.serde_json.specs.View.{view, items_view, members_view}
 use Rattle.serde_json.specs.declared.value.Value.{Value, Object}
@@ -18,7 +19,6 @@ use Rattle.schema.specs.Views.{leaf_type_view, field_view, field_views}
 use Rattle.schema.proofs.Seen.{view-Leaf, view-Group}
 use Rattle.jsonrows.specs.SchemaPrinted.{MayBe, with_member, those_there, leaf_json, group_json, Spells, IsOfShort, AreOfShort}
 use Rattle.jsonrows.specs.inner.SchemaPrinting.{AreStructBytes, put_maybe, put_each, HasShortLeaf, HasShortNumbers, HaveShortNumbers, IsPrintedField, ArePrintedFields}
-use Rattle.rowtext.proofs.Both.{and_true}
 
 -- ---- members that are put from the last one on
 

@@ -6,6 +6,8 @@ use Rattle.std.specs.declared.cmp.Ordering.{Ordering}
 use Rattle.std.specs.declared.cmp.Ordering.TheVariants.{Less, Equal, Greater}
 use Rattle.std.specs.Cmp.Lexicographic.{slice_cmp}
 use Rattle.std.proofs.lemmas.Bool.Decides.{Decides-ltb}
+use Rattle.std.proofs.lemmas.Bool.{and_parts as and_true}
+use Rattle.std.proofs.lemmas.Option.{same_Some as same_value}
 use Rattle.hex.specs.Hex.{encode_lower}
 use Rattle.serde_json.specs.Data.{Data, string, array, Items, no_items, item, Members}
 use Rattle.serde_json.specs.Find.{as_i64, of_integer, get_member}
@@ -28,9 +30,7 @@ use Rattle.schema.specs.Listing.{typed, Branch, branch, Branches, no_branches, b
 use Rattle.schema.proofs.Again.{a_schema_is_its_elements}
 use Rattle.jsonrows.specs.SchemaJson.{number_of, repetitions, types, notes, group_notes, leaf_members, group_members, is_one_of, are_called, is_known, IsWord, IsInt32, MayHave, IsUnnamed, IsNote, IsLeaf, IsGroup, SaysField, SaysFields}
 use Rattle.jsonrows.specs.SchemaPrinted.{repetition_word, type_word, note_word, group_note_word, MayBe, with_member, those_there, integer_json, length_json, note_json, converted_json, logical_json, leaf_json, group_json, Spells, PrintsField, PrintsFields, IsShort, IsOfShort, AreOfShort, SchemasReadBack}
-use Rattle.rowtext.proofs.Both.{and_true}
 use Rattle.rowtext.proofs.HexTexts.{digits_said}
-use Rattle.jsonrows.proofs.Said.{same_value}
 
 -- ---- members that may be there
 

@@ -1,8 +1,9 @@
 -- Values of fields as JSON values, one by one.
-use Rattle.std.proofs.Common.{◌≡◌, ℕ, zero, suc, Bool, true, false, true≢false, ◌&&◌, List, [], ◌∷◌, ◌++◌, append-nil, map, drop, Vec, Global, refl, sym, ap, ◌∙◌}
+use Rattle.std.proofs.Common.{◌≡◌, ℕ, zero, suc, Bool, true, false, true≢false, List, [], ◌∷◌, ◌++◌, append-nil, map, drop, Vec, Global, refl, sym, ap, ◌∙◌}
 use Rattle.std.specs.Prelude.{IsUtf8}
 use Rattle.std.specs.Str.{is_utf8}
 use Rattle.std.proofs.lemmas.Str.{IsUtf8-from_is_utf8, is_utf8-from_IsUtf8}
+use Rattle.std.proofs.lemmas.Bool.{and_right as and_false, and_left as not_both, false_from_ne_true as not_true}
 use Rattle.bits.specs.declared.refusal.Refusal.{Refusal}
 use Rattle.bits.specs.declared.refusal.Refusal.TheVariants.{Memory}
 use Rattle.bits.specs.Refusals.{HasCause}
@@ -21,7 +22,6 @@ use Rattle.schema.specs.Shape.{Field, leaf, fields, repetition_of}
 use Rattle.schema.specs.Fits.{fits, fits_inside, fits_each}
 use Rattle.rowtext.specs.Json.{bytes_json, inside_json_as, items_json, field_json_as}
 use Rattle.rowtext.proofs.Forms.{view-List}
-use Rattle.filter.proofs.Tests.{not_true}
 use Rattle.jsonrows.specs.inner.ValueJson.{IsMisfit}
 
 -- ---- bytes
@@ -55,10 +55,6 @@ list_json texts f w vs xs r is same = ap (λ ys. json.array (items_json (inside_
 
 -- ---- fields one by one
 
-and_false : (b c : Bool) → c ≡ false → (b && c) ≡ false
-and_false true c h = h
-and_false false c h = refl
-
 -- where the later values do not fit, all do not
 pub misfit_after : (i : ℕ) (fs : List CodeField) (vs : List Value) → fits_each (field_views (drop i fs)) (views (drop i vs)) ≡ false → fits_each (field_views fs) (views vs) ≡ false
 misfit_after zero fs vs h = h
@@ -66,10 +62,6 @@ misfit_after (suc i) [] [] h = absurd (true≢false h)
 misfit_after (suc i) [] (v ∷ vs) h = refl
 misfit_after (suc i) (f ∷ fs) [] h = refl
 misfit_after (suc i) (f ∷ fs) (v ∷ vs) h = and_false (fits (field_view f) (value_view v)) (fits_each (field_views fs) (views vs)) (misfit_after i fs vs h)
-
-not_both : (b c : Bool) → b ≡ false → (b && c) ≡ false
-not_both true c h = absurd (true≢false h)
-not_both false c h = refl
 
 -- a value that does not fit is refused for all
 pub member_misfit : (fs rest : List CodeField) (vs others : List Value) (i : ℕ) (f : CodeField) (v : Value) (e : Refusal) → drop i fs ≡ f ∷ rest → drop i vs ≡ v ∷ others

@@ -4,7 +4,8 @@ use Rattle.std.specs.Prelude.{unsigned_abs, IfSome, IsNone}
 use Rattle.std.specs.Int.{int_div_euclid, int_rem_euclid}
 use Rattle.std.proofs.Math.Nat.{pow-le-pow_right}
 use Rattle.std.proofs.lemmas.Bool.Decides.{Decides-ltb, nat_tests}
-use Rattle.std.proofs.lemmas.Bool.{leb-true, le-leb}
+use Rattle.std.proofs.lemmas.Bool.{leb-true, le-leb, and_parts as both_true, and_from as and_is}
+use Rattle.lists.proofs.Numbers.{eq_from_same as is_length}
 use Rattle.jiff_core.specs.Calendar.{IsBetween}
 use Rattle.jiff_core.proofs.SignedLemmas.{signed_arith, int_rem_euclid-parts}
 use Rattle.schema.specs.Fits.{is_within, are_bytes}
@@ -20,7 +21,7 @@ use Rattle.leaftext.specs.Reads.{decimal_read}
 use Rattle.leaftext.specs.Bytes.{bytes_text_of, lowest_byte, bytes_before, fixed_bytes, unrepeated, shortest_bytes}
 use Rattle.leaftext.specs.Forms.{form_bytes_text, form_bytes_read, FormBytesReadBack}
 use Rattle.leaftext.specs.Laws.{ShortestBytesAgree, FixedBytesAgree}
-use Rattle.leaftext.proofs.Tests.{passed, stopped, lets, both_true, and_is, found_at, missed_at, answers}
+use Rattle.leaftext.proofs.Tests.{passed, stopped, lets, found_at, missed_at, answers}
 use Rattle.leaftext.proofs.Decimals as decimals
 
 -- ---- the bytes of a number
@@ -253,9 +254,6 @@ shortest_bytes_agree scale bytes text = ((printed, prints), (was_read, reads))
 
 length_is : (n m : ℕ) → (n == m) ≡ true → n ≡ m
 length_is n m e = grind (arith, nat_tests)
-
-is_length : (n m : ℕ) → n ≡ m → (n == m) ≡ true
-is_length n m e = grind (arith, nat_tests)
 
 pub fixed_bytes_agree : FixedBytesAgree
 fixed_bytes_agree scale n bytes text low high = ((printed, prints), (was_read, reads))

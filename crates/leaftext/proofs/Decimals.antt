@@ -2,7 +2,7 @@
 use Rattle.std.proofs.Common.{◌≡◌, ℕ, ◌-◌, ◌^◌, ◌≤◌, nat_le, ℤ, pos, negsuc, ◌*ℤ◌, List, Bool, true, false, ◌&&◌, Option, Some, None, if◌then◌else◌, refl, sym, ◌∙◌, ap, subst, arith}
 use Rattle.std.specs.Prelude.{bytes_eq}
 use Rattle.std.proofs.lemmas.Bool.Decides.{Decides-ltb}
-use Rattle.std.proofs.lemmas.Bool.{leb-true, le-leb}
+use Rattle.std.proofs.lemmas.Bool.{leb-true, le-leb, and_parts as both_true, and_from as and_is}
 use Rattle.jiff_core.proofs.SignedLemmas.{signed_arith}
 use Rattle.valuetext.specs.Decimals.{decimal_text, IsDecimalNumber, IsDecimalText, ReadsDecimal}
 use Rattle.valuetext.specs.inner.Scan.{places_in, number_written}
@@ -10,7 +10,7 @@ use Rattle.valuetext.proofs.DecimalTexts.{shown_is}
 use Rattle.leaftext.specs.Texts.{is_decimal_number, decimal_text_of}
 use Rattle.leaftext.specs.Reads.{scaled, decimal_read}
 use Rattle.leaftext.specs.Laws.{DecimalsAgree}
-use Rattle.leaftext.proofs.Tests.{passed, lets, both_true, and_is, same_bytes, bytes_same}
+use Rattle.leaftext.proofs.Tests.{passed, lets, same_bytes, bytes_same}
 
 pub number_is : (z : ℤ) → is_decimal_number z ≡ true → IsDecimalNumber z
 number_is (pos n) e = let h = (Decides-ltb n (2 ^ 127)).0 e in (omega (arith, signed_arith, h), omega (arith, signed_arith, h))

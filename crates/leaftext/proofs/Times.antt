@@ -2,6 +2,7 @@
 use Rattle.std.proofs.Common.{◌≡◌, ℕ, zero, suc, ◌-◌, ◌*◌, ◌/◌, ◌%◌, ◌^◌, ◌==◌, ◌<◌, ◌≤◌, ◌⊎◌, inl, inr, nat_lt, ℤ, pos, negsuc, List, true, Option, Some, None, refl, sym, ◌∙◌, ap, subst, arith}
 use Rattle.std.specs.Prelude.{bytes_eq}
 use Rattle.std.proofs.lemmas.Bool.Decides.{Decides-ltb, Decides-eqb}
+use Rattle.std.proofs.lemmas.Bool.{and_parts as both_true, and_from as and_is, or_cases as either_true, or_left, or_right}
 use Rattle.jiff_core.specs.declared.civil.time.Time.{Time}
 use Rattle.jiff_core.specs.Time.{time_nanos}
 use Rattle.jiff_core.proofs.DateTimeLemmas.{time_nanos_bound, time_nanos_injective}
@@ -15,7 +16,7 @@ use Rattle.valuetext.proofs.TimeTexts.{one_number, within_day}
 use Rattle.leaftext.specs.Texts.{clock_text, time_text_of}
 use Rattle.leaftext.specs.Reads.{is_in_places, is_in_some_places, is_written, time_read}
 use Rattle.leaftext.specs.Laws.{TimesAgree}
-use Rattle.leaftext.proofs.Tests.{passed, stopped, lets, both_true, and_is, either_true, or_left, or_right, found_at, missed_at, answers, same_bytes, bytes_same, false_true}
+use Rattle.leaftext.proofs.Tests.{passed, stopped, lets, found_at, missed_at, answers, same_bytes, bytes_same, false_true}
 
 -- the time that a clock shows so many nanoseconds after midnight
 abbrev time_at : (n : ℕ) → n < 86_400_000_000_000 → Time

@@ -3,6 +3,8 @@ use Rattle.std.proofs.Common.{◌≡◌, ℕ, ◌==◌, inl, inr, ℤ, pos, ◌+
 use Rattle.std.specs.Int.{int_div_euclid, int_rem_euclid}
 use Rattle.std.specs.Result.{result_ok}
 use Rattle.std.proofs.lemmas.Bool.Decides.{Decides-eqb}
+use Rattle.std.proofs.lemmas.Bool.{or_cases as either_true, or_left, or_right}
+use Rattle.lists.proofs.Options.{some_if as if_passed}
 use Rattle.jiff_core.proofs.SignedLemmas.{signed_arith}
 use Rattle.jiff_core.specs.declared.error.Error.{Error}
 use Rattle.jiff_fmt.specs.Reader.{◌>>=◌}
@@ -18,7 +20,6 @@ use Rattle.valuetext.proofs.TimestampTexts.{moment_of, time_within, parts_of}
 use Rattle.leaftext.specs.Texts.{date_text_of, time_text_of, date_and_time, timestamp_text_of}
 use Rattle.leaftext.specs.Reads.{date_read, time_read, moment_read, zone_read, timestamp_read}
 use Rattle.leaftext.specs.Laws.{TimestampsAgree}
-use Rattle.leaftext.proofs.Tests.{either_true, or_left, or_right}
 use Rattle.leaftext.proofs.Dates as dates
 use Rattle.leaftext.proofs.Times as times
 
@@ -55,10 +56,6 @@ separates b e =
 is_separator : (b : ℕ) → IsSeparator b → ((b == 84) || (b == 32)) ≡ true
 is_separator b (inl e) = or_left (b == 84) (b == 32) ((Decides-eqb b 84).1 e)
 is_separator b (inr e) = or_right (b == 84) (b == 32) ((Decides-eqb b 32).1 e)
-
-if_passed : {A : Type 0} (b : Bool) (o : Option A) (a : A) → (if b then o else None) ≡ Some a → (b ≡ true) × (o ≡ Some a)
-if_passed true o a e = (refl, e)
-if_passed false o a e = absurd (cc)
 
 moment_is : (unit : TimeUnit) (d t s : Option ℤ) (number : ℤ) → moment_read unit d t s ≡ Some number
     → (day time seconds : ℤ) × (d ≡ Some day) × (t ≡ Some time) × (s ≡ Some seconds) × (day *ℤ pos (per_day unit) +ℤ time -ℤ seconds *ℤ pos (per_second unit) ≡ number)

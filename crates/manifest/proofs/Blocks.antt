@@ -1,5 +1,5 @@
 -- Groups at places of blocks.
-use Rattle.std.proofs.Common.{◌≡◌, ℕ, zero, suc, ◌+◌, ◌-◌, ◌<◌, ◌≤◌, List, [], ◌∷◌, ◌++◌, length, get_or, take, drop, map, refl, ap, sym, subst, ◌∙◌, Some, arith, length-append}
+use Rattle.std.proofs.Common.{◌≡◌, ℕ, zero, suc, ◌+◌, ◌-◌, ◌<◌, ◌≤◌, List, [], ◌∷◌, ◌++◌, length, get_or, take, drop, refl, ap, sym, subst, ◌∙◌, Some, arith, length-append}
 use Rattle.std.specs.Prelude.{IfSome, Option}
 use Rattle.std.proofs.lemmas.Option.{slice_get-get_or}
 use Rattle.std.specs.List.{AllByRecursion, slice_get}
@@ -8,29 +8,12 @@ use Rattle.std.proofs.lemmas.List.Concat.{flat_map-cons}
 use Rattle.std.specs.Rc.{rc_value}
 use Rattle.std.specs.declared.rc.Rc.{Rc}
 use Rattle.std.specs.declared.alloc.Global.{Global}
+use Rattle.lists.proofs.Slices.{slice_get_left as get_front, slice_get_right as get_behind, slice_get_map as get_mapped}
+use Rattle.lists.proofs.Lists.{length_map as length_mapped}
 use Rattle.manifest.specs.declared.group.Group.{Group as CodeGroup}
 use Rattle.manifest.specs.declared.block.Block.{Block}
 use Rattle.manifest.specs.Handles.{Group, group_view, handles_view, groups_of_blocks, starts_of}
 use Rattle.manifest.specs.inner.Places.{IsStartAt}
-
-get_front : {A : Type 0} (xs ys : List A) (n : ℕ) → n < length xs → slice_get (xs ++ ys) n ≡ slice_get xs n
-get_front [] ys n h = absurd (omega (arith, h))
-get_front (x ∷ xs) ys zero h = refl
-get_front (x ∷ xs) ys (suc n) h = get_front xs ys n (omega (arith, h))
-
-get_behind : {A : Type 0} (xs ys : List A) (n : ℕ) → length xs ≤ n → slice_get (xs ++ ys) n ≡ slice_get ys (n - length xs)
-get_behind [] ys n h = let e : n - 0 ≡ n = omega arith in rw e refl
-get_behind (x ∷ xs) ys zero h = absurd (omega (arith, h))
-get_behind (x ∷ xs) ys (suc n) h = let e : suc n - suc (length xs) ≡ n - length xs = omega arith in rw e (get_behind xs ys n (omega (arith, h)))
-
-get_mapped : {X Y : Type 0} (f : X → Y) (xs : List X) (i : ℕ) (x : X) → i < length xs → x ≡ get_or xs i x → slice_get (map f xs) i ≡ Some (f x)
-get_mapped f [] i x h is = absurd (omega (arith, h))
-get_mapped f (y ∷ xs) zero x h is = ap (λ z. Some (f z)) (sym is)
-get_mapped f (y ∷ xs) (suc i) x h is = get_mapped f xs i x (omega (arith, h)) is
-
-length_mapped : {X Y : Type 0} (f : X → Y) (xs : List X) → length (map f xs) ≡ length xs
-length_mapped f [] = refl
-length_mapped f (x ∷ xs) = ap suc (length_mapped f xs)
 
 abbrev Blocks : Type 0
 Blocks = List (Rc Block Global)

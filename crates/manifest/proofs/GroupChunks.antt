@@ -3,6 +3,8 @@ use Rattle.std.proofs.Common.{◌≡◌, ℕ, zero, suc, ◌+◌, ◌<◌, ◌�
 use Rattle.std.specs.Prelude.{Contains, MatchOption}
 use Rattle.std.specs.List.{slice_get}
 use Rattle.std.proofs.lemmas.List.{get_or-map, length-map}
+use Rattle.std.proofs.lemmas.Option.{same_Some as same_some}
+use Rattle.lists.proofs.Slices.{take_next}
 use Rattle.bits.specs.declared.refusal.Refusal.{Refusal}
 use Rattle.bits.specs.declared.refusal.Refusal.TheVariants.{Schema, Codec, Page, Key, Limit, Memory}
 use Rattle.bits.specs.Refusals.{HasCause, IsFault}
@@ -61,10 +63,6 @@ group_of_groups gs g Limit at h = (g, at, h)
 group_of_groups gs g Memory at h = tt
 group_of_groups gs g e at h = absurd h
 
--- an item at a place of a list is contained, seen
-pub contains_seen : {A B : Type 0} (f : A → B) (xs : List A) (i : ℕ) (x : A) → i < length xs → x ≡ get_or xs i x → Contains (map f xs) (f x)
-contains_seen f xs i x lt e = (i, omega (arith, lt, length-map xs f), get_or-map f xs i x (f x) lt ∙ ap f (sym e))
-
 -- ---- records at places
 
 -- the record at a place
@@ -119,15 +117,8 @@ take_suc [] i x lt e = absurd (omega (arith, lt))
 take_suc {A} (y ∷ xs) zero x lt e = ap (λ (z : A). z ∷ []) (sym e)
 take_suc {A} (y ∷ xs) (suc i) x lt e = ap (λ (l : List A). y ∷ l) (take_suc xs i x (omega (arith, lt)) e)
 
-pub take_next : {A : Type 0} (xs : List A) (i : ℕ) (x : A) → i < length xs → x ≡ get_or xs i x → take (i + 1) xs ≡ take i xs ++ x ∷ []
-take_next {A} xs i x lt e = ap (λ (n : ℕ). take n xs) (let q : i + 1 ≡ suc i = omega arith in q) ∙ take_suc xs i x lt e
-
 pub take_next_seen : {A B : Type 0} (f : A → B) (xs : List A) (i : ℕ) (x : A) → i < length xs → x ≡ get_or xs i x → take (i + 1) (map f xs) ≡ take i (map f xs) ++ f x ∷ []
 take_next_seen f xs i x lt e = take_next (map f xs) i (f x) (omega (arith, lt, length-map xs f)) (sym (get_or-map f xs i x (f x) lt ∙ ap f (sym e)))
-
-pub map_push : {A B : Type 0} (f : A → B) (xs : List A) (x : A) → map f (xs ++ x ∷ []) ≡ map f xs ++ f x ∷ []
-map_push f [] x = refl
-map_push {A} {B} f (y ∷ xs) x = ap (λ (l : List B). f y ∷ l) (map_push f xs x)
 
 pub placed_back : (path : List ℕ) (c d : ChunkMeta) → c.file_path ≡ Some path → d ≡ unplaced c → placed path d ≡ c
 placed_back path c d h e = ap (placed path) e ∙ (λ i. record { file_path = sym h i; file_offset = c.file_offset; meta_data = c.meta_data })
@@ -158,9 +149,6 @@ first_placed path (c ∷ own) all found e some h = subst (λ (cs : List ChunkMet
 
 none_some : {A : Type 0} (o : Option A) (x : A) → o ≡ None → o ≡ Some x → ⊥
 none_some o x p q = cc
-
-same_some : {A : Type 0} (x y : A) → Some x ≡ Some y → x ≡ y
-same_some x y e = cc
 
 -- how many chunks the record of a group has
 pub group_chunks : (keys : List KeyColumn) (stored : Fields) (m : GroupMeta) (g : Group) → IsGroupRecord keys stored m g → length (leaves_of (first_fields g.width stored)) ≡ length m.columns

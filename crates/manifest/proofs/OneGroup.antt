@@ -1,6 +1,7 @@
 -- A group's record describes one group.
 use Rattle.std.proofs.Common.{◌≡◌, ◌≢◌, ℕ, zero, suc, ◌≤◌, pos, List, [], ◌∷◌, length, map, Option, Some, None, refl, ap, sym, ◌∙◌, subst, arith, length-append}
 use Rattle.std.specs.List.{AllByRecursion}
+use Rattle.lists.proofs.Lists.{length_map as length_mapped}
 use Rattle.schema.specs.declared.value.Kind.{Kind}
 use Rattle.schema.specs.Values.{ValueTree}
 use Rattle.schema.specs.Shape.{Fields, no_fields, field}
@@ -13,7 +14,7 @@ use Rattle.partition.specs.Folders.{part_path_of, PartPathsNameParts}
 use Rattle.manifest.specs.Records.{placed, HasStatistics, AreChunkRecords}
 use Rattle.schema.specs.Fronts.{first_fields}
 use Rattle.manifest.specs.Laws.{GroupsAreOne}
-use Rattle.schema.proofs.FrontLeaves.{length_mapped, leaf_some, leaves_tell_fronts}
+use Rattle.schema.proofs.FrontLeaves.{leaf_some, leaves_tell_fronts}
 
 abbrev AreHere : List ChunkMeta → Type 0
 AreHere cs = AllByRecursion (λ (c : ChunkMeta). c.file_path ≡ None) cs

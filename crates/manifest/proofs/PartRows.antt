@@ -2,7 +2,7 @@
 use Rattle.std.proofs.Common.{◌≡◌, ℕ, zero, suc, ◌+◌, Bool, true, false, ◌&&◌, ◌||◌, nat_eq, List, [], ◌∷◌, map, Some, refl, ap, sym, subst, ◌∙◌, arith, add-zero, eqb-true}
 use Rattle.std.specs.Prelude.{cond}
 use Rattle.std.specs.List.{AllByRecursion}
-use Rattle.std.proofs.lemmas.Bool.{false≢true, and_parts}
+use Rattle.std.proofs.lemmas.Bool.{false≢true, and_parts, and_from as true_both}
 use Rattle.schema.specs.Values.{ValueTree, ValueTrees, no_values, value as item, member_at}
 use Rattle.schema.specs.Shape.{Field, Fields, no_fields, field, count}
 use Rattle.schema.specs.Fits.{fits, fits_each, RowsFit}
@@ -22,9 +22,6 @@ use Rattle.schema.proofs.Padding.{padded_rows_fit}
 use Rattle.schema.proofs.Grown.{keys_and_others, padded_width, fitting_width}
 
 -- ---- rows fit
-
-true_both : (a b : Bool) → a ≡ true → b ≡ true → a && b ≡ true
-true_both a b p q = rw (p, q) refl
 
 -- a row fits where its values besides some fit, and those do too
 fits_back : (gone : ℕ → Bool) (i : ℕ) (fs : Fields) (row : ValueTrees) → width row ≡ count fs → fits_each (fields_besides gone i fs) (values_besides gone i row) ≡ true

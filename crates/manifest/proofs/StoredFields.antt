@@ -6,7 +6,8 @@ use Rattle.std.specs.Prelude.{Result, Ok, Err, IfOk, IfErr}
 use Rattle.bits.specs.Refusals.{RefusedMemoryOnly}
 use Rattle.bits.specs.declared.refusal.Refusal.{Refusal}
 use Rattle.bits.specs.declared.refusal.Refusal.TheVariants.{Truncated, Magic, Thrift, Schema, Codec, Float, Int96, Encoding, Page, Levels, Value, Utf8, Limit, RowShape, NoColumn, Unordered, Key, NoGroup, Stale, NoJob, NoCursor, Full, NoTable, Exists, Device, InDoubt, Closed, Memory, Script}
-use Rattle.std.proofs.lemmas.Bool.Decides.{nat_tests}
+use Rattle.lists.proofs.Numbers.{or_nat_eq_below as not_this, nat_eq_itself as this_one}
+use Rattle.lists.proofs.Lists.{length_map as length_mapped}
 use Rattle.schema.specs.declared.value.Repetition.{Repetition}
 use Rattle.schema.specs.declared.annotation.GroupAnnotation.{GroupAnnotation}
 use Rattle.schema.specs.Shape.{Field, leaf, fields, Fields, no_fields, field, count}
@@ -15,7 +16,6 @@ use Rattle.schema.specs.Law.{IsGroupOf, IsValid, AreValid, IsSchema}
 use Rattle.schema.specs.Cutting.{group_of, kept, cut, cut_each, is_among, cut_to, ArePlaces, IsCutTo, IsCutFault}
 use Rattle.schema.specs.Keys.{KeyColumn, AreKeys, places_of, fields_besides, without_keys}
 use Rattle.manifest.specs.inner.Stored.{top_place, stored_places}
-use Rattle.schema.proofs.FrontLeaves.{length_mapped}
 use Rattle.schema.proofs.Grown.{keys_and_others}
 
 -- ---- cuts that take all, or nothing
@@ -111,16 +111,6 @@ none_earlier gone at n (l ∷ ls) h = by (gone (top_place l.steps)) (none_earlie
     by : (b : Bool) → is_among (stored_places gone (suc at) ls) n ≡ false → is_among (cond b (stored_places gone (suc at) ls) (at ∷ stored_places gone (suc at) ls)) n ≡ false
     by true rest = rest
     by false rest = other (nat_eq at n) refl rest
-
-not_this : (at n : ℕ) (b : Bool) → suc at ≤ n → (nat_eq at n || b) ≡ b
-not_this at n b h = by (nat_eq at n) refl
-  where
-    by : (t : Bool) → nat_eq at n ≡ t → (t || b) ≡ b
-    by true e = absurd (omega (arith, h, eqb-true at n e))
-    by false e = refl
-
-this_one : (at : ℕ) → nat_eq at at ≡ true
-this_one at = grind (arith, nat_tests)
 
 places_agree : (gone : ℕ → Bool) (at : ℕ) (ls : List Leaf) → Agree (is_among (stored_places gone at ls)) gone at ls
 places_agree gone at [] = tt

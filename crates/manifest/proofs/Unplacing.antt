@@ -1,10 +1,9 @@
 -- Records of chunks without the paths of their files.
 use Rattle.std.proofs.Common.{◌≡◌, ℕ, ◌+◌, ◌<◌, ◌≤◌, List, [], ◌∷◌, ◌++◌, length, get_or, set, take, drop, map, sym, ap, ◌∙◌, arith}
-use Rattle.std.proofs.lemmas.List.{drop_more, drop-set-lt, take_all, take_more, take_more_set}
+use Rattle.std.proofs.lemmas.List.{drop_more, drop-set-lt, take_all, take_more, take_more_set, map_push}
 use Rattle.metadata.specs.declared.chunk_meta.ChunkMeta.{ChunkMeta as CodeChunkMeta}
 use Rattle.metadata.specs.Views.{chunk_meta_view}
 use Rattle.manifest.specs.inner.Reading.{unplaced}
-use Rattle.manifest.proofs.GroupChunks.{map_push}
 
 -- the first records have no path any more, and the others are as they were
 pub record AreUnplaced (i : ℕ) (olds news : List CodeChunkMeta) : Type 0 where

@@ -2,12 +2,11 @@
 use Rattle.std.proofs.Common.{◌≡◌, ◌≢◌, ◌⊎◌, inl, inr, ⊎_elim, ℕ, List, [], ◌∷◌, ◌++◌, Bool, true, false, if◌then◌else◌, ◌==◌, bytes_eq, refl, sym, ◌∙◌}
 use Rattle.std.proofs.lemmas.Bool.Decides.{Decides-eqb}
 use Rattle.std.proofs.lemmas.Slice.Eq.{bytes_eq-Decides}
+use Rattle.std.proofs.lemmas.Bool.{false≢true as not_true}
+use Rattle.lists.proofs.Booleans.{if_true as then_so, if_false as else_so}
 use Rattle.disk.specs.declared.binding.Binding.{Binding}
 use Rattle.disk.specs.declared.binding.Binding.TheVariants.{Nothing, Folder, File}
 use Rattle.mem_disk.specs.Tables.{Among}
-
-pub not_true : false ≡ true → ⊥
-not_true e = cc
 
 pub true_or_false : (t : Bool) → (t ≡ true) ⊎ (t ≡ false)
 true_or_false true = inl refl
@@ -24,14 +23,6 @@ equal_or_not n m = ⊎_elim
     (λ yes. inl ((Decides-eqb n m).0 yes, yes))
     (λ no. inr ((λ e. not_true (sym no ∙ (Decides-eqb n m).1 e)), no))
     (true_or_false (n == m))
-
-pub then_so : {A : Type 0} (t : Bool) (a b : A) → t ≡ true → (if t then a else b) ≡ a
-then_so true a b is = refl
-then_so false a b is = absurd (not_true is)
-
-pub else_so : {A : Type 0} (t : Bool) (a b : A) → t ≡ false → (if t then a else b) ≡ b
-else_so false a b is = refl
-else_so true a b is = absurd (not_true (sym is))
 
 pub at_same : {A : Type 0} (q p : List ℕ) (a b : A) → q ≡ p → (if bytes_eq q p then a else b) ≡ a
 at_same q p a b e = then_so (bytes_eq q p) a b ((bytes_eq-Decides q p).1 e)

@@ -1,6 +1,7 @@
 -- What the rules of a disk say of a record that stays or goes on.
 use Rattle.std.proofs.Common.{◌≡◌, ◌≢◌, ◌⊎◌, ◌<◌, ◌≤◌, inl, inr, ⊎_elim, ℕ, List, [], ◌∷◌, ◌++◌, length, take, true, false, IsTrue, refl, sym, ◌∙◌, ap, subst, arith, Result, Ok, Err, Some, None, OnOk, OnErr, IfErr, IsErrOf, is_ok, is_err}
 use Rattle.std.proofs.lemmas.Result.{on_ok_weaker}
+use Rattle.std.proofs.lemmas.Bool.{false≢true as not_true}
 use Rattle.disk.specs.declared.binding.Binding.{Binding}
 use Rattle.disk.specs.declared.binding.Binding.TheVariants.{Nothing, Folder, File}
 use Rattle.disk.specs.Paths.{folder_of}
@@ -16,7 +17,7 @@ use Rattle.mem_disk.specs.declared.fuse.Trip.TheVariants.{Fails}
 use Rattle.mem_disk.specs.Loose.{Loose, empty, bound, appended, node_synced, node_doubted, folder_synced, replayed, image_of, MayName, MayLeave, IsSound, GoesOn}
 use Rattle.mem_disk.specs.Failing.{taken, HasDone}
 use Rattle.mem_disk.specs.States.{state_with, AlsoFailed, IsAnswer}
-use Rattle.mem_disk.proofs.Choices.{not_true, at_same, at_other, at_other_node, equal_or_not, file_is_something, file_is_no_folder, folder_is_something, file_node}
+use Rattle.mem_disk.proofs.Choices.{at_same, at_other, at_other_node, equal_or_not, file_is_something, file_is_no_folder, folder_is_something, file_node}
 use Rattle.mem_disk.proofs.Bindings.{bound_from, bound_reads, bound_sound, bound_leaves, folder_from, folder_firm}
 use Rattle.mem_disk.proofs.Writes.{appended_from, appended_reads, appended_bytes, synced_from, synced_firm, doubted_from}
 use Rattle.mem_disk.proofs.Passing.{passes_by, passes_on, passes_still, is_still, leaves_now, now_after}

@@ -1,5 +1,6 @@
 -- What is listed of a folder.
 use Rattle.std.proofs.Common.{◌≡◌, ◌≢◌, ◌<◌, ◌≤◌, inl, inr, ⊎_elim, ℕ, zero, suc, List, [], ◌∷◌, ◌++◌, length, drop, get_or, string_bytes, slice_get, Option, MatchOption, None, Some, Bor, refl, sym, ◌∙◌, ap, subst, arith}
+use Rattle.lists.proofs.Slices.{drop_front}
 use Rattle.disk.specs.Paths.{slash, path_in, IsName}
 use Rattle.disk.specs.State.{Image}
 use Rattle.disk.specs.Calls.{IsListedAs, AreNamesIn}
@@ -10,10 +11,6 @@ use Rattle.mem_disk.specs.declared.name.Name.{Name}
 use Rattle.mem_disk.specs.Tables.{at_first, name_in, FindsNone, AreApart}
 use Rattle.mem_disk.specs.Listings.{IsEntryOf, IsUnlisted, AreListed}
 use Rattle.mem_disk.proofs.Choices.{same_or_not, at_same, at_other}
-
-pub drop_front : (xs ys : List ℕ) → drop (length xs) (xs ++ ys) ≡ ys
-drop_front [] ys = refl
-drop_front (x ∷ xs) ys = drop_front xs ys
 
 pub behind_it : (folder name : List ℕ) → folder ≢ [] → path_in folder name ≡ folder ++ slash ∷ name
 behind_it [] name some = absurd (some refl)

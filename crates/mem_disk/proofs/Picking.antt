@@ -2,9 +2,10 @@
 use Rattle.std.proofs.Common.{◌≡◌, ◌≢◌, ◌<◌, ◌≤◌, ⊎_elim, ℕ, ◌+◌, ◌-◌, ◌*◌, ◌/◌, ◌%◌, List, [], ◌∷◌, ◌++◌, length, take, drop, get_or, slice_index, if◌then◌else◌, ◌==◌, refl, sym, ◌∙◌, ap, subst, arith}
 use Rattle.std.proofs.lemmas.List.{take_all, take_more, drop-drop, drop_all, get_or-drop, get_or_append_left, get_or-append-add}
 use Rattle.std.proofs.lemmas.Bool.{cases_lt}
+use Rattle.lists.proofs.Booleans.{if_true as then_so, if_false as else_so}
 use Rattle.mem_disk.specs.declared.node.Node.{Node}
 use Rattle.mem_disk.specs.Picks.{next_word, byte_by, touched, words_after, PickInTurn}
-use Rattle.mem_disk.proofs.Choices.{equal_or_not, then_so, else_so}
+use Rattle.mem_disk.proofs.Choices.{equal_or_not}
 
 -- ---- in turn
 

@@ -1,6 +1,7 @@
 -- Where nothing is loose, a stop leaves the disk as it reads.
 use Rattle.std.proofs.Common.{◌≡◌, ◌≢◌, ◌≤◌, ⊎_elim, ℕ, zero, suc, List, [], ◌∷◌, length, false, IsTrue, refl, sym, ◌∙◌, ap, subst, arith}
 use Rattle.std.proofs.lemmas.List.{length-take}
+use Rattle.std.proofs.lemmas.Bool.{false≢true as not_true}
 use Rattle.disk.specs.Paths.{folder_of}
 use Rattle.disk.specs.State.{Image, IsWhole, IsAtRest}
 use Rattle.disk.specs.declared.binding.Binding.TheVariants.{Nothing, Folder}
@@ -9,7 +10,7 @@ use Rattle.mem_disk.specs.declared.call.Call.{Call}
 use Rattle.mem_disk.specs.Tables.{Among}
 use Rattle.mem_disk.specs.Loose.{Loose, empty, replayed, image_of, MayLeave}
 use Rattle.mem_disk.specs.States.{state_with}
-use Rattle.mem_disk.proofs.Choices.{not_true, folder_or_not, nothing_or_not}
+use Rattle.mem_disk.proofs.Choices.{folder_or_not, nothing_or_not}
 use Rattle.mem_disk.proofs.Passing.{leaves_now}
 
 pub shorter : (b : ℕ) (q : List ℕ) → length (folder_of (b ∷ q)) ≤ length q

@@ -1,6 +1,7 @@
 -- Bytes that are written behind a node's end, and nodes that are synced.
-use Rattle.std.proofs.Common.{◌≡◌, ◌≢◌, ◌<◌, ◌≤◌, ⊎_elim, ℕ, zero, suc, ◌+◌, ◌*◌, ◌/◌, max, min, List, [], ◌∷◌, ◌++◌, length, take, Bool, true, false, if◌then◌else◌, ◌==◌, refl, sym, ◌∙◌, ap, subst, arith, length-append}
+use Rattle.std.proofs.Common.{◌≡◌, ◌≢◌, ◌<◌, ◌≤◌, ⊎_elim, ℕ, ◌+◌, ◌*◌, ◌/◌, max, min, List, [], ◌∷◌, ◌++◌, length, take, Bool, true, false, if◌then◌else◌, ◌==◌, refl, sym, ◌∙◌, ap, subst, arith, length-append}
 use Rattle.std.proofs.lemmas.List.{take_all, take-append-le, length-take}
+use Rattle.lists.proofs.Slices.{take_twice as take_front}
 use Rattle.disk.specs.State.{Image}
 use Rattle.disk.specs.Calls.{Tears}
 use Rattle.mem_disk.specs.Loose.{Loose, appended, node_synced, node_doubted, image_of, MayHold, MayLeave, IsSound}
@@ -20,12 +21,6 @@ no_more (x ∷ more) e = absurd (omega (arith, e))
 nothing_behind : (now : List ℕ) → now ++ [] ≡ now
 nothing_behind [] = refl
 nothing_behind (x ∷ now) = ap (λ (xs : List ℕ). x ∷ xs) (nothing_behind now)
-
-take_front : (n m : ℕ) (xs : List ℕ) → n ≤ m → take n (take m xs) ≡ take n xs
-take_front zero m xs le = refl
-take_front (suc n) zero xs le = absurd (omega (arith, le))
-take_front (suc n) (suc m) [] le = refl
-take_front (suc n) (suc m) (x ∷ xs) le = ap (λ (ys : List ℕ). x ∷ ys) (take_front n m xs (omega (arith, le)))
 
 -- what a node may have held before more was written
 record Torn (synced : ℕ) (now bytes : List ℕ) (count : ℕ) : Type 0 where

@@ -1,6 +1,6 @@
 -- Footers that are written group by group.
-use Rattle.std.proofs.Common.{◌≡◌, ℕ, ℤ, List, [], ◌∷◌, ◌++◌, length, map, refl, sym, ap, subst, append_assoc}
-use Rattle.std.proofs.lemmas.List.{append-nil, length-map}
+use Rattle.std.proofs.Common.{◌≡◌, ℕ, ℤ, List, [], ◌∷◌, ◌++◌, length, map, sym, ap, subst, append_assoc}
+use Rattle.std.proofs.lemmas.List.{append-nil, length-map, map_push as mapped_push}
 use Rattle.std.specs.Prelude.{option_map}
 use Rattle.thrift_compact.specs.Tree.{Node, i32, i64, list, struct, Fields}
 use Rattle.thrift_compact.specs.View.{nodes_of, fields_of}
@@ -24,10 +24,6 @@ footer_joined m =
     let schema = (ids.file_schema, many STRUCT (record_as element_fields) m.schema) ∷ [] in
     let rows = present ids.file_num_rows (option_map i64 m.num_rows) in
     ap fields_of (regrouped version schema rows (groups_field m ∷ []) (fields_after m))
-
-mapped_push : {A B : Type 0} (f : A → B) (xs : List A) (x : A) → map f (xs ++ x ∷ []) ≡ map f xs ++ f x ∷ []
-mapped_push f [] x = refl
-mapped_push {A} {B} f (y ∷ xs) x = ap (λ (zs : List B). f y ∷ zs) (mapped_push f xs x)
 
 -- one more group
 pub group_more : (m : FileMeta) (gs : List GroupMeta) (g : GroupMeta) (fields : Fields) (old mid new : List ℕ) → fields ≡ group_meta_fields g

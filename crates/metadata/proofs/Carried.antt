@@ -6,6 +6,7 @@ use Rattle.std.specs.Ordering.{int_eq}
 use Rattle.std.proofs.lemmas.Bool.{and_parts}
 use Rattle.std.proofs.lemmas.Bool.Decides.{nat_tests}
 use Rattle.std.proofs.Math.IntN.{+ℤ_comm, -ℤ-+ℤ_cancel}
+use Rattle.std.proofs.lemmas.Option.{same_Some as some_same}
 use Rattle.thrift_compact.specs.Tree.{Node, yes, no, i32, i64, binary, list, struct, Nodes, no_nodes, node, Fields, no_fields, field, nest, nodes_nest, fields_nest, count}
 use Rattle.thrift_compact.specs.View.{nodes_of}
 use Rattle.thrift_compact.specs.Compact.{IsByte, kind, IsElement, IsFieldHead, IsListHead, IsValue, AreElements, AreFields}
@@ -46,10 +47,6 @@ bind_some None f y e = absurd (cc)
 some_or : {A : Type 0} → A → Option A → A
 some_or x (Some y) = y
 some_or x None = x
-
-pub some_same : {A : Type 0} (x y : A) → Some x ≡ Some y → x ≡ y
-unfolding some_or
-some_same x y e = ap (some_or x) e
 
 -- what is read of a value can be written where that value can
 pub record Carries {X : Type 0} (read : Node → Option X) (write : X → Node) : Type 0 where

@@ -1,6 +1,7 @@
 -- Where a record stands, its own struct has bytes too.
 use Rattle.std.proofs.Common.{◌≡◌, ℕ, ◌∙◌, ap, List, [], ◌∷◌, ◌++◌, length, pos, refl, subst, arith, Option, Some, None}
 use Rattle.std.specs.Prelude.{Bool, true, false, is_some, option_map, if◌then◌else◌}
+use Rattle.std.proofs.lemmas.Option.{same_Some as some_same}
 use Rattle.thrift_compact.specs.Tree.{Node, i32, i64, binary, struct, Fields, no_fields}
 use Rattle.thrift_compact.specs.Compact.{IsThrift}
 use Rattle.schema.specs.Elements.{Element}
@@ -11,7 +12,7 @@ use Rattle.metadata.specs.FromTree.{key_value, statistics, column_meta, chunk_me
 use Rattle.metadata.specs.ToTree.{truth, many, record_as, INT32, BINARY, STRUCT, key_value_table, key_value_fields, statistics_table, statistics_fields, column_meta_table, column_meta_fields, chunk_meta_table, chunk_meta_fields, group_meta_table, group_meta_fields, column_order_fields, element_table, element_fields, file_meta_table, file_meta_fields, data_page_header_table, data_page_header_fields, dictionary_page_header_table, dictionary_page_header_fields, data_page_header_v2_table, data_page_header_v2_fields, page_header_table, page_header_fields}
 use Rattle.metadata.specs.Answers.{StandsFor}
 use Rattle.thrift_compact.proofs.Texts.{byte_text}
-use Rattle.metadata.proofs.Carried.{Good, GoodFields, GoodValue, AllGood, all_good, bind_some, some_same, Carries, good_known, good_needed, good_table, int32_carries, int64_carries, boolean_carries, text_carries, tree_carries, record_carries, list_carries}
+use Rattle.metadata.proofs.Carried.{Good, GoodFields, GoodValue, AllGood, all_good, bind_some, Carries, good_known, good_needed, good_table, int32_carries, int64_carries, boolean_carries, text_carries, tree_carries, record_carries, list_carries}
 
 key_value_good : (fs : Fields) (x : KeyValue) (left : ℕ) → key_value fs ≡ Some x → AllGood left fs → GoodFields left (key_value_fields x)
 key_value_good fs x left e all =

@@ -3,6 +3,8 @@ use Rattle.std.proofs.Common.{◌≡◌, List, [], ◌∷◌, refl, sym, ap, sub
 use Rattle.std.specs.Prelude.{ℤ, Bool, true, false, not, ◌&&◌, option_map, option_and_then, if◌then◌else◌}
 use Rattle.std.specs.Ordering.{int_eq}
 use Rattle.std.proofs.lemmas.Bool.Decides.{Decides-int_eq}
+use Rattle.std.proofs.lemmas.Bool.{and_parts as both_true}
+use Rattle.std.proofs.lemmas.Option.{same_Some as some_is}
 use Rattle.thrift_compact.specs.Tree.{Node, Fields, no_fields, field}
 use Rattle.thrift_compact.specs.Values.{folded}
 use Rattle.metadata.specs.FieldValues.{◌>>=◌, later, all_with, last_of, known}
@@ -25,11 +27,6 @@ fresh_both : (b c : Bool) → not b && c ≡ true → (b ≡ false) × (c ≡ tr
 fresh_both true c e = absurd (cc)
 fresh_both false true e = (refl, refl)
 fresh_both false false e = absurd (cc)
-
-both_true : (b c : Bool) → b && c ≡ true → (b ≡ true) × (c ≡ true)
-both_true true true e = (refl, refl)
-both_true true false e = absurd (cc)
-both_true false c e = absurd (cc)
 
 -- ---- one place
 
@@ -134,9 +131,6 @@ joined_skips {X} {S} {R} join read step row ids from fits s id x fs f =
     let fresh = fresh_both (int_eq id s.0.0) (is_fresh id (ids s.1)) f in
     ap (λ (r : Option R). option_and_then (λ v. join v r) (over s.0.1 (known read s.0.0 (field id x fs)))) (fits.skips s.1 id x fs fresh.1)
     ∙ ap (λ (k : Option (Option X)). option_and_then (λ v. join v (from s.1 fs)) (over s.0.1 k)) (known_skips read s.0.0 id x fs fresh.0)
-
-some_is : {A : Type 0} (x y : A) → Some x ≡ Some y → x ≡ y
-some_is x y e = cc
 
 slot_keeps : {X S R : Type 0} (read : Node → Option X) (step : S → ℤ → Node → Option S) (row : S → Option R) (ids : S → List ℤ) (from : S → Fields → Option R)
     → Fits step row ids from → (s n : (ℤ × Option X) × S) (id : ℤ) (x : Node) → slot_step read step s id x ≡ Some n → slot_ids ids n ≡ slot_ids ids s

@@ -5,6 +5,7 @@ use Rattle.std.specs.Ordering.{int_eq}
 use Rattle.std.proofs.lemmas.Bool.Decides.{Decides-int_eq}
 use Rattle.std.specs.Result.{IsErrAnd, IfOk}
 use Rattle.std.proofs.lemmas.List.{append-nil}
+use Rattle.lists.proofs.Options.{map_some}
 use Rattle.bits.specs.declared.refusal.Refusal.{Refusal}
 use Rattle.bits.specs.declared.refusal.Refusal.TheVariants.{Truncated, Thrift, Memory}
 use Rattle.bits.specs.Refusals.{IsFault, HasCause, RefusedOnly}
@@ -42,10 +43,6 @@ pub record_refused : {X Y Z V : Type 0} (view : X → Y) (is : Option Y) (Whole 
 record_refused view is Whole bytes r e same p nothing = passes (HasCause (IsRefusedFor Whole bytes)) r e same (record_because view is Whole bytes e p nothing)
 
 -- ---- options
-
-pub map_some : {A B : Type 0} (f : A → B) (o : Option A) (y : B) → option_map f o ≡ Some y → (x : A) × (o ≡ Some x) × (f x ≡ y)
-map_some f None y e = absurd (cc)
-map_some f (Some x) y e = (x, refl, cc)
 
 -- ---- values without others in them
 

@@ -1,7 +1,8 @@
 -- The structs of records have the shape of what can be written.
-use Rattle.std.proofs.Common.{◌≡◌, refl, sym, ℕ, ℤ, List, [], ◌∷◌, ◌++◌, map, Option, Some, None, Bool, true, false, ◌&&◌, Result, Ok, Err}
+use Rattle.std.proofs.Common.{◌≡◌, refl, ℕ, ℤ, List, [], ◌∷◌, ◌++◌, map, Option, Some, None, Bool, true, false, ◌&&◌, Result, Ok, Err}
 use Rattle.std.specs.Prelude.{IsTrue, IfSome, option_map}
 use Rattle.std.specs.List.{AllByRecursion}
+use Rattle.lists.proofs.Booleans.{not_true_and_false as not_shapeless}
 use Rattle.bits.specs.declared.refusal.Refusal.{Refusal}
 use Rattle.bits.specs.declared.refusal.Refusal.TheVariants.{Thrift, Memory}
 use Rattle.bits.specs.Refusals.{HasCause, RefusedOnly, RefusedMemoryOnly}
@@ -150,14 +151,6 @@ kept_shape law (Some s) p = law 29 s p.shallow p.bytes
 pub each_keeps_shape : StructsWithBytesHaveTheShape → (es : List Element) → AllByRecursion KeepsWritten es → AllByRecursion KeepsShape es
 each_keeps_shape law [] p = tt
 each_keeps_shape law (e ∷ es) p = (kept_shape law e.logical_type p.0, each_keeps_shape law es p.1)
-
-not_true : false ≡ true → ⊥
-not_true e = cc
-
--- what has the shape is not refused for it
-pub not_shapeless : (b : Bool) → IsTrue b → b ≡ false → ⊥
-not_shapeless true p e = not_true (sym e)
-not_shapeless false p e = not_true p
 
 pub because : (b : Bool) (Q : Type 0) (e : Refusal) → (b ≡ false → Q) → HasCause (IsShapeless b) e → HasCause (λ f. (f ≡ Thrift) × Q) e
 because b Q Memory gives p = p

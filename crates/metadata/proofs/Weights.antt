@@ -1,9 +1,10 @@
 -- What the struct of a record takes at most, by its weight.
 use Rattle.std.proofs.Common.{◌≡◌, refl, ℕ, ◌+◌, ◌*◌, ◌^◌, ◌<◌, ◌≤◌, ℤ, pos, ◌-ℤ◌, List, [], ◌∷◌, length, map, Option, Some, None, Bool, true, false, ◌&&◌, arith, lit<}
-use Rattle.std.specs.Prelude.{if◌then◌else◌, IfSome, All, sum_by, nat_le, codes}
+use Rattle.std.specs.Prelude.{IfSome, All, sum_by, nat_le, codes}
 use Rattle.std.proofs.lemmas.Bool.{and_parts}
 use Rattle.std.proofs.lemmas.List.Sums.{sum_by-cons}
 use Rattle.std.proofs.lemmas.List.Elements.{All-head, All-tail}
+use Rattle.lists.proofs.Numbers.{if_at_most}
 use Rattle.bits.specs.Varint.{zigzag_of}
 use Rattle.thrift_compact.specs.Tree.{Node, i32, i64, binary, struct, Fields, count}
 use Rattle.thrift_compact.specs.View.{nodes_of}
@@ -73,10 +74,6 @@ size_truth : (id : ℤ) (o : Option Bool) → size_entry (given truth id o) ≤ 
 size_truth id None = omega arith
 size_truth id (Some true) = omega arith
 size_truth id (Some false) = omega arith
-
-if_at_most : (b : Bool) (x y most : ℕ) → x ≤ most → y ≤ most → (if b then x else y) ≤ most
-if_at_most true x y most h g = h
-if_at_most false x y most h g = g
 
 length_at_most : (n : ℕ) → size_length n ≤ 10
 length_at_most n = size_at_most 10 n (omega arith)

@@ -2,6 +2,7 @@
 use Rattle.std.proofs.Common.{◌≡◌, ℕ, ◌≤◌, List, length, Option, Some, sym, ap, subst, ◌∙◌, arith, inl, inr, pos}
 use Rattle.std.specs.Prelude.{Result, Ok, Err, OnOk}
 use Rattle.std.proofs.lemmas.List.{length-map}
+use Rattle.lists.proofs.Options.{one_some as some_is}
 use Rattle.bits.specs.declared.refusal.Refusal.{Refusal}
 use Rattle.schema.specs.Stripe.{Leaf, Entry}
 use Rattle.schema.specs.Values.{ValueTree}
@@ -80,9 +81,6 @@ pub record IsVersionTwo (h : PageHeader) (own : DataPageHeaderV2) : Type 0 where
 pub record IsOfDictionary (h : PageHeader) (own : DictionaryPageHeader) : Type 0 where
   pub kind : h.kind ≡ pos 2
   pub header : h.dictionary_page_header ≡ Some own
-
-some_is : {A : Type 0} (o : Option A) (a b : A) → o ≡ Some a → o ≡ Some b → a ≡ b
-some_is o a b p q = cc
 
 pub no_page_v1 : (leaf : Leaf) (d : Option (List ValueTree)) (h : PageHeader) (own : DataPageHeader) (body : List ℕ) (left : ℕ) → IsVersionOne h own → ((es : List Entry) → IsBodyV1 leaf d own body es → length es ≤ left → ⊥)
     → (page : Page) → IsBody leaf d h body page → length (entries_of page) ≤ left → ⊥

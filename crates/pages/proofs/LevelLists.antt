@@ -1,8 +1,9 @@
 -- The entries of a page, from their levels and their values.
-use Rattle.std.proofs.Common.{◌≡◌, ℕ, zero, suc, ◌+◌, ◌-◌, ◌<◌, Bool, true, false, List, [], ◌∷◌, length, filter, drop, replicate, Option, Some, None, refl, sym, ap, subst, ◌∙◌, arith, add-one}
+use Rattle.std.proofs.Common.{◌≡◌, ℕ, zero, suc, ◌+◌, ◌-◌, ◌<◌, Bool, true, false, List, [], ◌∷◌, length, filter, drop, replicate, Option, Some, None, refl, sym, ap, subst, ◌∙◌, arith}
 use Rattle.std.specs.Prelude.{◌==◌, slice_get, min, Ok, Err}
 use Rattle.std.proofs.lemmas.List.{length-drop}
 use Rattle.std.proofs.lemmas.Bool.Decides.{nat_tests}
+use Rattle.lists.proofs.Slices.{drop_found_more as drop_get, drop_missing as drop_none}
 use Rattle.bits.specs.declared.fault.Fault.{Fault}
 use Rattle.bits.specs.declared.fault.Fault.TheVariants.{Memory}
 use Rattle.schema.specs.Values.{ValueTree}
@@ -12,20 +13,6 @@ use Rattle.pages.specs.Left.{entry_by, values_after, entries_by, value_where, va
 use Rattle.plain.specs.Flat.{flat_entry, flat_entries}
 
 -- ---- a level at an index
-
-drop_suc : {X : Type 0} (xs : List X) (i : ℕ) (x : X) → slice_get xs i ≡ Some x → drop i xs ≡ x ∷ drop (suc i) xs
-drop_suc [] i x is = cc
-drop_suc (y ∷ ys) zero x is = cc
-drop_suc (y ∷ ys) (suc i) x is = drop_suc ys i x is
-
-pub drop_get : {X : Type 0} (xs : List X) (i : ℕ) (x : X) → slice_get xs i ≡ Some x → drop i xs ≡ x ∷ drop (i + 1) xs
-drop_get xs i x is = drop_suc xs i x is ∙ ap (λ (n : ℕ). x ∷ drop n xs) (sym (add-one i))
-
-pub drop_none : {X : Type 0} (xs : List X) (i : ℕ) → slice_get xs i ≡ None → drop i xs ≡ []
-drop_none [] zero is = refl
-drop_none [] (suc i) is = refl
-drop_none (y ∷ ys) zero is = cc
-drop_none (y ∷ ys) (suc i) is = drop_none ys i is
 
 -- ---- the entries
 

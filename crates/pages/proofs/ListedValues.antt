@@ -24,6 +24,7 @@ use Rattle.pages.specs.inner.Reading.{AllFit, HasBytes, AreLeafValues, AreSpelle
 use Rattle.bits.specs.declared.refusal.Refusal.{Refusal}
 use Rattle.bits.specs.Refusals.{OnFault}
 use Rattle.std.specs.Prelude.{Result, Ok, Err, IfOk, ◌⊎◌}
+use Rattle.std.proofs.lemmas.Bool.{and_from as both}
 use Rattle.schema.specs.declared.borrowed.ValueRef.{ValueRef}
 use Rattle.schema.specs.Borrowed.{value_ref_view}
 use Rattle.dictionary.specs.Entries.{AreEntriesAt}
@@ -100,11 +101,6 @@ other_prefixes law t text n known used kind stands unfit d ws p =
     unfit (subst (AllFit t) (here.1.are ∙ ap (λ (ts : List (List ℕ)). map byte_value ts) same.0) p.fit)
 
 -- ---- numbers
-
-both : (a b : Bool) → a ≡ true → b ≡ true → a && b ≡ true
-both true true p q = refl
-both true false p q = q
-both false b p q = p
 
 -- values of a kind that is no text's fit a leaf of it
 kind_fits : (t : LeafType) (k : Kind) (vs : List ValueTree) → ((kind : Kind) (v : ValueTree) → IsOfKind kind v ↔ IsTrue (fits_kind kind v)) → t.kind ≡ k → ((a : Annotation) → is_text k a ≡ false) → AllByRecursion (IsOfKind k) vs → AllFit t vs

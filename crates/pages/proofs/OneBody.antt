@@ -2,6 +2,7 @@
 use Rattle.std.proofs.Common.{◌≡◌, ℕ, ◌<◌, List, [], ◌∷◌, length, Option, Some, None, refl, sym, ap, subst, ◌∙◌, arith, inl, inr}
 use Rattle.std.specs.Prelude.{IsTrue, MatchOption}
 use Rattle.std.specs.List.{AllByRecursion}
+use Rattle.lists.proofs.Lists.{same_number_and_rest as firsts}
 use Rattle.bits.specs.Codec.{IsFunctional}
 use Rattle.schema.specs.declared.value.Kind.{Kind}
 use Rattle.schema.specs.Annotations.{LeafType}
@@ -27,9 +28,6 @@ made r d o = record { repetition = r; definition = d; value = o }
 
 abbrev IsThere : ℕ → LeafType → ℕ → Option ValueTree → Type 0
 IsThere g t d o = MatchOption o (d < g) (λ v. (d ≡ g) × IsTrue (fits_leaf t v))
-
-firsts : (a b : ℕ) (xs ys : List ℕ) → a ∷ xs ≡ b ∷ ys → (a ≡ b) × (xs ≡ ys)
-firsts a b xs ys e = (cc, cc)
 
 first_value : (a b : ValueTree) (xs ys : List ValueTree) → a ∷ xs ≡ b ∷ ys → (a ≡ b) × (xs ≡ ys)
 first_value a b xs ys e = (cc, cc)

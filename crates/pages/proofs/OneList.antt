@@ -1,5 +1,5 @@
 -- The values in a text, and the levels in a section, are one list of so many.
-use Rattle.std.proofs.Common.{◌≡◌, ℕ, zero, suc, ◌*◌, ◌^◌, ◌<◌, ◌≤◌, Bool, true, false, List, [], ◌∷◌, ◌++◌, map, length, get_or, take, drop, Option, Some, refl, sym, ap, subst, ◌∙◌, arith, append_assoc, inl, inr}
+use Rattle.std.proofs.Common.{◌≡◌, ℕ, zero, suc, ◌*◌, ◌^◌, ◌<◌, ◌≤◌, Bool, List, [], ◌∷◌, ◌++◌, map, length, take, drop, Option, Some, refl, sym, ap, subst, ◌∙◌, arith, append_assoc, inl, inr}
 use Rattle.std.specs.Prelude.{ℤ}
 use Rattle.std.specs.Int.{Width, w32, w64, from_bool}
 use Rattle.std.specs.List.{AllByRecursion}
@@ -7,6 +7,7 @@ use Rattle.std.proofs.lemmas.List.{length-map, take_at, drop_at}
 use Rattle.std.proofs.lemmas.Bool.{cases_lt}
 use Rattle.std.proofs.Math.Nat.{pow-le-pow_right}
 use Rattle.std.proofs.Common.{pow-suc}
+use Rattle.lists.proofs.Lists.{same_by_bits as bits_one}
 use Rattle.byteorder.specs.Endian.{little_bytes, little_number}
 use Rattle.byteorder.specs.Numbers.{little_number-reads_back}
 use Rattle.bits.specs.Codec.{IsFunctional}
@@ -74,15 +75,6 @@ all_zero [] [] size p q = refl
 all_zero [] (y ∷ ys) size p q = absurd (omega (arith, size))
 all_zero (x ∷ xs) [] size p q = absurd (omega (arith, size))
 all_zero (x ∷ xs) (y ∷ ys) size p q = let rest = all_zero xs ys (omega (arith, size)) p.1 q.1 in let a = p.0 in let b = q.0 in cc
-
-bits_one : (xs ys : List Bool) → map from_bool xs ≡ map from_bool ys → xs ≡ ys
-bits_one [] [] e = refl
-bits_one [] (y ∷ ys) e = cc
-bits_one (x ∷ xs) [] e = cc
-bits_one (true ∷ xs) (true ∷ ys) e = ap (λ (t : List Bool). true ∷ t) (bits_one xs ys (ap (drop 1) e))
-bits_one (false ∷ xs) (false ∷ ys) e = ap (λ (t : List Bool). false ∷ t) (bits_one xs ys (ap (drop 1) e))
-bits_one (true ∷ xs) (false ∷ ys) e = absurd (let h = ap (λ (t : List ℕ). get_or t 0 0) e in omega (arith, h))
-bits_one (false ∷ xs) (true ∷ ys) e = absurd (let h = ap (λ (t : List ℕ). get_or t 0 0) e in omega (arith, h))
 
 -- ---- values
 

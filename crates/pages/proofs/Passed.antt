@@ -1,5 +1,5 @@
 -- A refusal that is passed on by `?`, in this crate's clauses.
-use Rattle.std.proofs.Common.{◌≡◌, Bool, true, false, Result, Ok, Err, ◌∙◌, sym}
+use Rattle.std.proofs.Common.{◌≡◌, Bool, true, Result, Ok, Err, ◌∙◌, sym}
 use Rattle.std.specs.Result.{is_err, IsErrAnd, OnOk}
 use Rattle.bits.specs.declared.refusal.Refusal.{Refusal}
 use Rattle.bits.specs.declared.refusal.Refusal.TheVariants.{Memory, Limit}
@@ -33,9 +33,6 @@ on_ok_all (Err e) all p q r = tt
 pub no_error : {X : Type 0} (P : Type 0) (r : Result X Refusal) (b : Bool) → b ≡ true → b ≡ is_err r → OnOk r P
 no_error P (Ok x) b on is = absurd cc
 no_error P (Err e) b on is = tt
-
-pub not_false : true ≡ false → ⊥
-not_false e = cc
 
 -- refusals that come only where P does not come where P does not hold
 pub excluded : {X P : Type 0} (Cause Also : Refusal → Type 0) (r : Result X Refusal) → (P → ⊥) → RefusedOnly (λ e. Cause e × P) r → RefusedOnly Also r

@@ -1,7 +1,9 @@
 -- Which values are text.
 use Rattle.std.proofs.Common.{ℕ, ◌≡◌, Bool, true, false, cond, List, [], ◌∷◌, Result, Ok, Err, refl, sym}
-use Rattle.std.specs.Prelude.{IsTrue, ◌&&◌, ◌↔◌, map}
+use Rattle.std.specs.Prelude.{IsTrue, ◌↔◌, map}
 use Rattle.std.specs.List.{AllByRecursion, list_all}
+use Rattle.std.proofs.lemmas.Bool.{and_from as both}
+use Rattle.lists.proofs.Booleans.{and_first as first_of_both, and_second as second_of_both}
 use Rattle.schema.specs.declared.value.Kind.{Kind}
 use Rattle.schema.specs.declared.row.Entry.{Entry}
 use Rattle.schema.specs.Annotations.{LeafType, is_text}
@@ -9,19 +11,6 @@ use Rattle.schema.specs.Fits.{fits_leaf, fits_kind, is_valid_text}
 use Rattle.schema.specs.Values.{ValueTree}
 use Rattle.plain.specs.Plain.{IsOfKind}
 use Rattle.plain.specs.Held.{entry_value}
-
-both : (a b : Bool) → a ≡ true → b ≡ true → a && b ≡ true
-both true true p q = refl
-both true false p q = q
-both false b p q = p
-
-first_of_both : (a b : Bool) → a && b ≡ true → a ≡ true
-first_of_both true b p = refl
-first_of_both false b p = p
-
-second_of_both : (a b : Bool) → a && b ≡ true → b ≡ true
-second_of_both true b p = p
-second_of_both false b p = cc
 
 where_asked : (asked valid : Bool) → (asked ≡ true → valid ≡ true) → cond asked valid true ≡ true
 where_asked true valid p = p refl

@@ -1,7 +1,7 @@
 -- Key columns and the fields that they name.
 use Rattle.std.proofs.Common.{◌≡◌, ℕ, zero, suc, ◌<◌, ◌≤◌, false, List, [], ◌∷◌, ◌++◌, length, get_or, map, Option, Some, None, refl, ap, sym, ◌∙◌, arith, eq-eqb, drop, append-nil}
 use Rattle.std.specs.List.{AllByRecursion}
-use Rattle.std.proofs.lemmas.Bool.{false≢true}
+use Rattle.std.proofs.lemmas.Bool.{false≢true, or_parts as or_false}
 use Rattle.std.proofs.lemmas.List.{drop_all}
 use Rattle.schema.specs.declared.field.Field.{Field as CodeField}
 use Rattle.schema.specs.declared.key.KeyKind.{KeyKind}
@@ -14,8 +14,9 @@ use Rattle.schema.specs.Views.{field_view, field_views}
 use Rattle.schema.specs.Law.{AllDiffer, names}
 use Rattle.schema.specs.Keys.{KeyColumn, stored_kind, key_type, key_field, field_at, AreKeys, AreDistinct, places_of}
 use Rattle.partition.specs.Folders.{AreKeyColumns, KeysCanPartition}
-use Rattle.partition.proofs.Partitioning.{or_false}
 use Rattle.std.specs.Prelude.{nat_eq}
+use Rattle.std.proofs.lemmas.Option.{same_Some as same_some}
+use Rattle.lists.proofs.Lists.{same_first as heads, same_rest as tails}
 
 pub field_is : (fs : List CodeField) (i : ℕ) (f : CodeField) → i < length fs → f ≡ get_or fs i f → field_at i (field_views fs) ≡ Some (field_view f)
 field_is [] i f h e = absurd (omega (arith, h))
@@ -30,9 +31,6 @@ no_field (g ∷ fs) (suc i) f h e = no_field fs i f (omega (arith, h)) e
 pub count_is : (fs : List CodeField) → count (field_views fs) ≡ length fs
 count_is [] = refl
 count_is (f ∷ fs) = ap suc (count_is fs)
-
-pub same_some : {X : Type 0} (x y : X) → Some x ≡ Some y → x ≡ y
-same_some x y h = cc
 
 -- a name stands at one place
 name_there : (fs : Fields) (n : List ℕ) (i : ℕ) (f : Field) → field_at i fs ≡ Some f → AllByRecursion (λ m. n ≡ m → ⊥) (names fs) → n ≡ name_of f → ⊥
@@ -72,12 +70,6 @@ AreThere fs columns = AllByRecursion (λ (k : KeyColumn). field_at k.at fs ≡ S
 
 abbrev pub named : List KeyColumn → List (List ℕ)
 named columns = map (λ (k : KeyColumn). k.name) columns
-
-heads : {X : Type 0} (x y : X) (xs ys : List X) → x ∷ xs ≡ y ∷ ys → x ≡ y
-heads x y xs ys h = cc
-
-tails : {X : Type 0} (x y : X) (xs ys : List X) → x ∷ xs ≡ y ∷ ys → xs ≡ ys
-tails x y xs ys h = cc
 
 one_column : (fs : Fields) (j k : KeyColumn) → AllDiffer (names fs) → field_at j.at fs ≡ Some (key_field j) → field_at k.at fs ≡ Some (key_field k) → j.name ≡ k.name → j ≡ k
 one_column fs j k differ p q same =

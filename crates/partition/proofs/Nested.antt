@@ -3,7 +3,8 @@ use Rattle.std.proofs.Common.{◌≡◌, ◌≢◌, ◌<◌, ◌≤◌, ◌&&◌
 use Rattle.std.specs.Prelude.{nat_eq}
 use Rattle.std.specs.List.{AllByRecursion, join_with_byte}
 use Rattle.std.proofs.Math.Seq.{take-suc}
-use Rattle.std.proofs.lemmas.Bool.{and_parts, false≢true}
+use Rattle.std.proofs.lemmas.Bool.{and_parts, false≢true, or_parts as or_false}
+use Rattle.lists.proofs.Slices.{all_take as all_taken, map_take as map_taken}
 use Rattle.schema.specs.Law.{AllDiffer}
 use Rattle.schema.specs.Values.{ValueTree}
 use Rattle.schema.specs.Keys.{KeyColumn, places_of, AreDistinct}
@@ -11,21 +12,10 @@ use Rattle.schema.specs.Cutting.{is_among}
 use Rattle.partition.specs.Folders.{escaped, value_text, folder, folders, path, is_key, is_key_value, AreKeyColumns, name_in}
 use Rattle.partition.specs.Nesting.{IsPlainName, path_to, folder_at, FewerCanPartition, FoldersNest, PartNamesArePlain}
 use Rattle.partition.proofs.Naming.{join_is, rest_of}
-use Rattle.partition.proofs.Partitioning.{or_false}
 use Rattle.partition.proofs.PartNaming.{name_no_slash}
 use Rattle.partition.proofs.ReadingBack.{folder_no_slash}
 
 -- ---- fewer columns
-
-all_taken : {X : Type 0} (P : X → Type 0) (d : ℕ) (xs : List X) → AllByRecursion P xs → AllByRecursion P (take d xs)
-all_taken P zero xs all = tt
-all_taken P (suc d) [] all = tt
-all_taken P (suc d) (x ∷ xs) all = (all.0, all_taken P d xs all.1)
-
-pub map_taken : {X Y : Type 0} (f : X → Y) (d : ℕ) (xs : List X) → map f (take d xs) ≡ take d (map f xs)
-map_taken f zero xs = refl
-map_taken f (suc d) [] = refl
-map_taken f (suc d) (x ∷ xs) = ap (λ ys. f x ∷ ys) (map_taken f d xs)
 
 differ_taken : (d : ℕ) (ns : List (List ℕ)) → AllDiffer ns → AllDiffer (take d ns)
 differ_taken zero ns all = tt

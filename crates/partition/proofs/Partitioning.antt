@@ -1,10 +1,10 @@
 -- The tests of columns and keys say which can partition.
-use Rattle.std.proofs.Common.{◌≡◌, ◌≢◌, ℕ, zero, suc, ◌<◌, ◌≤◌, Bool, true, false, not, ◌&&◌, ◌||◌, List, [], ◌∷◌, length, get_or, map, IsTrue, refl, ap, sym, ◌∙◌, arith}
+use Rattle.std.proofs.Common.{◌≡◌, ◌≢◌, ℕ, zero, suc, ◌<◌, ◌≤◌, Bool, true, false, not, ◌&&◌, List, [], ◌∷◌, length, get_or, map, IsTrue, refl, ap, sym, ◌∙◌, arith}
 use Rattle.std.specs.Prelude.{nat_le, nat_eq, ◌↔◌}
 use Rattle.std.specs.List.{AllByRecursion, list_any}
 use Rattle.std.specs.Str.{bytes_eq}
 use Rattle.std.specs.Cmp.Lexicographic.{bytes_decides}
-use Rattle.std.proofs.lemmas.Bool.{false≢true, and_parts, leb-true, le-leb}
+use Rattle.std.proofs.lemmas.Bool.{false≢true, and_parts, leb-true, le-leb, and_from as both, both_ways as not_both, or_parts as or_false, or_from as no_either, false_from_ne_true as is_not, not-true as not_true, not_from_false as from_not}
 use Rattle.schema.specs.declared.key.KeyColumn.{KeyColumn as CodeKeyColumn}
 use Rattle.schema.specs.declared.key.KeyKind.{KeyKind}
 use Rattle.schema.specs.declared.key.KeyKind.TheVariants.{Boolean, Int32, Int64, Utf8}
@@ -29,11 +29,6 @@ have_folders-lengths (c ∷ cs) (v ∷ vs) h =
     none true = refl
     none false = refl
 
-pub both : (a b : Bool) → a ≡ true → b ≡ true → a && b ≡ true
-both true true p q = refl
-both true false p q = q
-both false b p q = p
-
 to_folders : (columns : List KeyColumn) (key : List ValueTree) → is_key columns key ≡ true → AllByRecursion (λ f. length f ≤ 255) (folders columns key) → have_folders columns key ≡ true
 to_folders [] [] h k = refl
 to_folders [] (v ∷ vs) h k = h
@@ -53,29 +48,6 @@ from_folders (c ∷ cs) (v ∷ vs) h =
     (both _ _ one.0 more.0, (leb-true (length (folder c v)) 255 one.1, more.1))
 
 -- ---- columns
-
-not_both : (b : Bool) → b ≡ false → b ≡ true → ⊥
-not_both b p q = false≢true (sym p ∙ q)
-
-pub or_false : (a b : Bool) → a || b ≡ false → (a ≡ false) × (b ≡ false)
-or_false true b h = absurd (false≢true (sym h))
-or_false false b h = (refl, h)
-
-no_either : (a b : Bool) → a ≡ false → b ≡ false → a || b ≡ false
-no_either true b p q = p
-no_either false b p q = q
-
-is_not : (b : Bool) → (b ≡ true → ⊥) → b ≡ false
-is_not true h = absurd (h refl)
-is_not false h = refl
-
-not_true : (b : Bool) → not b ≡ true → b ≡ false
-not_true true h = absurd (false≢true h)
-not_true false h = refl
-
-from_not : (b : Bool) → b ≡ false → not b ≡ true
-from_not true h = sym h
-from_not false h = refl
 
 names_apart : (c : KeyColumn) (cs : List KeyColumn) → list_any (clashes c) cs ≡ false → AllByRecursion (λ m. c.name ≡ m → ⊥) (map (λ d. d.name) cs) × (is_among (places_of cs) c.at ≡ false)
 names_apart c [] h = (tt, refl)

@@ -12,10 +12,10 @@ use Rattle.std.specs.declared.alloc.Global.{Global}
 use Rattle.std.specs.Ordering.{int_eq}
 use Rattle.std.specs.Str.{bytes_eq}
 use mathlib.Core.Bool.{beq}
+use Rattle.std.proofs.lemmas.Bool.{or_parts as or_false}
 use Rattle.partition.specs.Order.{is_same_value, is_same_key}
 use Rattle.partition.specs.inner.Parts.{part_view, parts_view}
 use Rattle.partition.proofs.SameKeys.{same_key}
-use Rattle.partition.proofs.Partitioning.{or_false}
 
 pub same_parts : (eq : Part → Part → Bool) → ((p q : Part) → eq p q ≡ is_same_value (part_view p) (part_view q)) → (xs ys : List Part) → pointwise eq xs ys ≡ is_same_key (parts_view xs) (parts_view ys)
 same_parts eq is [] [] = refl

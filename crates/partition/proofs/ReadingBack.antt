@@ -1,5 +1,5 @@
 -- What a path is read as.
-use Rattle.std.proofs.Common.{◌≡◌, ℕ, zero, suc, ◌+◌, ◌<◌, ◌≤◌, Bool, true, false, not, List, [], ◌∷◌, ◌++◌, length, get_or, drop, map, IsTrue, refl, ap, sym, subst, ◌∙◌, arith, append_assoc, add-one}
+use Rattle.std.proofs.Common.{◌≡◌, ℕ, zero, suc, ◌+◌, ◌<◌, ◌≤◌, Bool, true, false, not, List, [], ◌∷◌, ◌++◌, length, get_or, drop, IsTrue, refl, ap, sym, subst, ◌∙◌, arith, append_assoc, add-one}
 use Rattle.std.specs.List.{AllByRecursion}
 use Rattle.std.proofs.lemmas.Bool.{false≢true, and_parts}
 use Rattle.std.proofs.lemmas.List.{append-nil}
@@ -117,7 +117,3 @@ columns_end [] zero h = refl
 columns_end [] (suc i) h = refl
 columns_end (c ∷ cs) zero h = absurd (omega (arith, h))
 columns_end (c ∷ cs) (suc i) h = columns_end cs i (omega (arith, h))
-
-pub map_push : {X Y : Type 0} (f : X → Y) (xs : List X) (y : X) → map f (xs ++ y ∷ []) ≡ map f xs ++ f y ∷ []
-map_push f [] y = refl
-map_push f (x ∷ xs) y = ap (λ l. f x ∷ l) (map_push f xs y)

@@ -1,6 +1,5 @@
 -- When two keys are the same, and how they compare.
 use Rattle.std.proofs.Common.{◌≡◌, ℕ, ℤ, pos, Bool, true, false, ◌&&◌, List, [], ◌∷◌, refl, ap, sym, ◌∙◌}
-use mathlib.Core.Bool.{beq}
 use Rattle.std.specs.declared.cmp.Ordering.{Ordering}
 use Rattle.std.specs.declared.cmp.Ordering.TheVariants.{Less, Equal, Greater}
 use Rattle.std.specs.Ordering.{nat_cmp, int_cmp, bool_cmp, is_lt, ordering_then, ordering_reverse, then_cmp, on}
@@ -10,22 +9,13 @@ use Rattle.std.proofs.lemmas.Map.Lookups.{exact_signed, exact_bytes}
 use Rattle.std.specs.Cmp.Lexicographic.{slice_cmp, bytes_decides}
 use Rattle.std.proofs.lemmas.Bool.{false≢true, and_parts}
 use Rattle.std.proofs.lemmas.Cmp.{nat_cmp_total, int_cmp_total, nat_list_cmp_total, int_eq_equiv, nat_list_eq_equiv, lists_total, on_total, then_total}
+use Rattle.lists.proofs.Booleans.{same_by_beq as same_boolean, beq_itself as boolean_same, same_by_bool_cmp as boolean_equal}
 use Rattle.schema.specs.declared.key.KeyKind.{KeyKind}
 use Rattle.schema.specs.declared.key.KeyKind.TheVariants.{Boolean, Int32, Int64, Utf8}
 use Rattle.schema.specs.Values.{ValueTree, null, boolean, integer, bytes, group, list}
 use Rattle.schema.specs.Keys.{KeyColumn}
 use Rattle.partition.specs.Folders.{is_key_value, is_key}
 use Rattle.partition.specs.Order.{value_cmp, key_cmp, kind_rank, is_same_value, is_same_key}
-
-same_boolean : (a b : Bool) → beq a b ≡ true → a ≡ b
-same_boolean true true h = refl
-same_boolean true false h = absurd (false≢true h)
-same_boolean false true h = absurd (false≢true h)
-same_boolean false false h = refl
-
-boolean_same : (a : Bool) → beq a a ≡ true
-boolean_same true = refl
-boolean_same false = refl
 
 same_value : (v w : ValueTree) → is_same_value v w ≡ true → v ≡ w
 same_value (boolean a) (boolean b) h = ap boolean (same_boolean a b h)
@@ -190,12 +180,6 @@ pub key_total : IsTotalOrder key_cmp
 key_total = lists_total value_total
 
 -- ---- keys that compare as equal are the same
-
-boolean_equal : (a b : Bool) → bool_cmp a b ≡ Equal → a ≡ b
-boolean_equal true true h = refl
-boolean_equal true false h = cc
-boolean_equal false true h = cc
-boolean_equal false false h = refl
 
 equal_value : (kind : KeyKind) (v w : ValueTree) → is_key_value kind v ≡ true → is_key_value kind w ≡ true → value_cmp v w ≡ Equal → v ≡ w
 equal_value Boolean (boolean a) (boolean b) p q h = ap boolean (boolean_equal a b h)

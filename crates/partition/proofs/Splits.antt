@@ -5,9 +5,9 @@ use Rattle.std.specs.List.{AllByRecursion, IsDistinct}
 use Rattle.std.specs.List.Sorted.{IsPermutation, IsSortedBy}
 use Rattle.std.specs.Ordering.{is_lt}
 use Rattle.std.proofs.lemmas.Bool.{false≢true}
-use Rattle.std.proofs.lemmas.List.Elements.{recursion_from_All, All-from_recursion}
-use Rattle.std.proofs.lemmas.List.Sorted.{All-permutation, Contains-permutation, IsPermutation-map}
+use Rattle.std.proofs.lemmas.List.Sorted.{Contains-permutation, IsPermutation-map}
 use Rattle.std.proofs.lemmas.Map.Keys.{IsDistinct-IsPermutation}
+use Rattle.lists.proofs.Lists.{all_permuted as moved, all_weaker_on as all_map}
 use Rattle.schema.specs.Values.{ValueTree, ValueTrees}
 use Rattle.schema.specs.Views.{key_view}
 use Rattle.schema.specs.Keys.{KeyColumn, key_of_row, row_without_keys}
@@ -17,7 +17,6 @@ use Rattle.partition.specs.Order.{key_cmp, is_same_key, AreAscending}
 use Rattle.partition.specs.Splitting.{KeyRows, key_rows_view, has_key, rows_with, IsSplit}
 use Rattle.partition.specs.inner.Parts.{AreDifferent, AreWithKeys}
 use Rattle.partition.proofs.SameKeys.{key_same, key_flips, key_below}
-use Rattle.partition.proofs.WithKeys.{all_map}
 
 abbrev keys : List KeyRows → List (List ValueTree)
 keys parts = map (λ (p : KeyRows). p.key) parts
@@ -36,9 +35,6 @@ from_distinct : (ks : List (List ValueTree)) → IsDistinct is_same_key ks → A
 unfolding IsDistinct
 from_distinct [] h = tt
 from_distinct (k ∷ ks) h = (h.0, from_distinct ks h.1)
-
-moved : {X : Type 0} (P : X → Type 0) (xs ys : List X) → IsPermutation xs ys → AllByRecursion P xs → AllByRecursion P ys
-moved P xs ys p h = recursion_from_All P ys (All-permutation P xs ys p (All-from_recursion P xs h))
 
 -- ---- a key that a row has is the key of a row
 

@@ -2,8 +2,9 @@
 use Rattle.std.proofs.Common.{◌≡◌, ℕ, zero, suc, ◌<◌, Bool, true, false, List, [], ◌∷◌, ◌++◌, inl, inr, length, get_or, set, map, refl, ap, sym, subst, ◌∙◌, arith, lit<}
 use Rattle.std.specs.Prelude.{cond, filter, Contains, if◌then◌else◌}
 use Rattle.std.specs.List.{AllByRecursion}
-use Rattle.std.proofs.lemmas.List.{append-nil}
+use Rattle.std.proofs.lemmas.List.{append-nil, map_push}
 use Rattle.std.proofs.lemmas.List.Elements.{Contains-push, Contains-append_left}
+use Rattle.lists.proofs.Lists.{all_weaker_on as all_map}
 use Rattle.schema.specs.Values.{ValueTree, ValueTrees}
 use Rattle.schema.specs.declared.row.Row.{Row}
 use Rattle.schema.specs.Views.{key_view, row_view, rows_view}
@@ -17,17 +18,9 @@ use Rattle.partition.proofs.SameKeys.{key_same, other_way}
 
 -- ---- lists
 
-pub all_map : {X : Type 0} (P Q : X → Type 0) (xs : List X) → ((x : X) → P x → Q x) → AllByRecursion P xs → AllByRecursion Q xs
-all_map P Q [] f h = tt
-all_map P Q (x ∷ xs) f h = (f x h.0, all_map P Q xs f h.1)
-
 pub all_push : {X : Type 0} (P : X → Type 0) (xs : List X) (y : X) → AllByRecursion P xs → P y → AllByRecursion P (xs ++ y ∷ [])
 all_push P [] y h k = (k, tt)
 all_push P (x ∷ xs) y h k = (h.0, all_push P xs y h.1 k)
-
-pub map_push : {X Y : Type 0} (f : X → Y) (xs : List X) (y : X) → map f (xs ++ y ∷ []) ≡ map f xs ++ f y ∷ []
-map_push f [] y = refl
-map_push f (x ∷ xs) y = ap (λ l. f x ∷ l) (map_push f xs y)
 
 contained : {X : Type 0} (P : X → Type 0) (xs : List X) (x : X) (i : ℕ) → i < length xs → get_or xs i x ≡ x → AllByRecursion P xs → P x
 contained P [] x i h e a = absurd (omega (arith, h))

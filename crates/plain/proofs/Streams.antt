@@ -1,6 +1,6 @@
 -- Values that are split: each is in PLAIN in the text that their bytes are joined to.
-use Rattle.std.proofs.Common.{Fits, w8, ◌≡◌, ℕ, zero, suc, ◌+◌, ◌*◌, ◌/◌, ◌%◌, ◌<◌, List, [], ◌∷◌, ◌++◌, length, get_or, drop, refl, sym, ap, subst, ◌∙◌, arith, slice_index, inl, inr, Result, Ok, Err}
-use Rattle.std.specs.Prelude.{All, OnOk}
+use Rattle.std.proofs.Common.{Fits, w8, ◌≡◌, ℕ, zero, suc, ◌+◌, ◌*◌, ◌/◌, ◌%◌, ◌<◌, List, [], ◌∷◌, ◌++◌, length, get_or, drop, refl, sym, ap, subst, ◌∙◌, arith, slice_index, inl, inr}
+use Rattle.std.specs.Prelude.{All}
 use Rattle.std.proofs.Math.Facts.{Fits-of_lt}
 use Rattle.std.proofs.Math.Nat.{div-add-mod, mod-lt, div-lt_iff_lt-mul}
 use Rattle.std.proofs.lemmas.Bool.{cases_lt}
@@ -252,7 +252,3 @@ split_after kind k n values empty items body old new is count none plain same p 
     let all : body ≡ plain.text ++ [] = same ∙ plain.joined ∙ ap (λ (t : List ℕ). t ++ plain.text) none ∙ sym (append-nil plain.text) in
     let here : IsPlain kind (length values) body values (length plain.text) = subst (λ (t : List ℕ). IsPlain kind (length values) t values (length plain.text)) (sym all) (plain.stands []) in
     split_written kind k values body old new (length plain.text) is here (subst (λ (m : ℕ). AppendsColumns m k body old new) count p)
-
-pub when_written : {X E : Type 0} (P Q : Type 0) (r : Result X E) → (P → Q) → OnOk r P → OnOk r Q
-when_written P Q (Ok x) step p = step p
-when_written P Q (Err e) step p = p

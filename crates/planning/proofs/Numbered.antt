@@ -2,7 +2,7 @@
 use Rattle.std.proofs.Common.{◌≡◌, ◌⊎◌, inl, inr, ℕ, Bool, true, false, ◌||◌, List, [], ◌∷◌, ◌++◌, map, Option, Some, None, nat_eq, refl, sym, ◌∙◌, ap, subst, append_assoc}
 use Rattle.std.specs.Prelude.{if◌then◌else◌}
 use Rattle.std.specs.List.{AllByRecursion}
-use Rattle.std.proofs.lemmas.Bool.{false≢true, eqb-true}
+use Rattle.std.proofs.lemmas.Bool.{false≢true, eqb-true, false_from_ne_true as by_no}
 use Rattle.schema.specs.Cutting.{is_among}
 use Rattle.schema.specs.Keys.{AreDistinct}
 use Rattle.partition.specs.Order.{AreInTableOrder}
@@ -43,10 +43,6 @@ in_either ms ns n e = by (is_among ms n) (sym (among_append ms ns n) ∙ e)
     by : (b : Bool) → (b || is_among ns n) ≡ true → (b ≡ true) ⊎ (is_among ns n ≡ true)
     by true f = inl refl
     by false f = inr f
-
-by_no : (b : Bool) → (b ≡ true → ⊥) → b ≡ false
-by_no true f = absurd (f refl)
-by_no false f = refl
 
 -- ---- what comes for a number
 

@@ -6,7 +6,7 @@ use Rattle.std.specs.List.Sorted.{IsSortedBy, IsStableBy, ties}
 use Rattle.std.specs.declared.cmp.Ordering.{Ordering}
 use Rattle.std.specs.declared.cmp.Ordering.TheVariants.{Less, Equal, Greater}
 use Rattle.std.specs.Ordering.{is_le, is_lt, ordering_reverse}
-use Rattle.std.proofs.lemmas.Bool.{false≢true, and_parts}
+use Rattle.std.proofs.lemmas.Bool.{false≢true, and_parts, and_from as both}
 use Rattle.schema.specs.Values.{ValueTree}
 use Rattle.partition.specs.Order.{key_cmp}
 use Rattle.partition.proofs.SameKeys.{key_total}
@@ -21,9 +21,6 @@ le_is a b = by (key_cmp a b) (key_cmp b a) (key_total.antisymm b a)
     by Less p e = ap (λ q. not (is_lt q)) (sym e)
     by Equal p e = ap (λ q. not (is_lt q)) (sym e)
     by Greater p e = ap (λ q. not (is_lt q)) (sym e)
-
-both : (a b : Bool) → a ≡ true → b ≡ true → (a && b) ≡ true
-both a b p q = cc
 
 turned : (a b : Bool) → (a && b) ≡ (b && a)
 turned true true = refl

@@ -1,10 +1,11 @@
 -- The command line that is built, and what its parser finds in words.
-use Rattle.std.proofs.Common.{◌≡◌, ◌≢◌, ◌⊎◌, inl, inr, ◌∙◌, ap, ap₂, refl, sym, ℕ, Bool, true, false, List, [], ◌∷◌, ◌++◌, length, map, Result, Ok}
+use Rattle.std.proofs.Common.{◌≡◌, ◌≢◌, ◌⊎◌, inl, inr, ◌∙◌, ap, ap₂, refl, sym, ℕ, true, false, List, [], ◌∷◌, ◌++◌, length, map, Result, Ok}
 use Rattle.std.proofs.Common.{Err, Some, subst, arith}
-use Rattle.std.specs.Prelude.{◌||◌, ◌&&◌, not, String, string_bytes, Option, None, IfErr, IfNone, IfOk, IfSome, codes}
+use Rattle.std.specs.Prelude.{◌||◌, not, String, string_bytes, Option, None, IfErr, IfNone, IfOk, IfSome, codes}
 use Rattle.std.specs.Borrow.{Bor}
 use Rattle.std.proofs.lemmas.List.{length-append}
 use borrow.Author.Tests.{ne_eqb}
+use Rattle.std.proofs.lemmas.Bool.{and_right, and_left}
 use Rattle.clap.specs.Adds.{AddsConflicts, AddsRequirements}
 use Rattle.clap.specs.Built.{AddsArg, AddsSubcommand}
 use Rattle.clap.specs.Simple.{App, HasMatchesOf, app_of, is_simple, subcommand_of, with_rule, with_subcommand}
@@ -47,13 +48,6 @@ with_sub command is added = record {
 
 not_empty : {X : Type 0} (xs : List X) (y : X) → is_empty (xs ++ y ∷ []) ≡ false
 not_empty xs y = ne_eqb (length (xs ++ y ∷ [])) 0 (λ z. omega (arith, z, length-append xs (y ∷ [])))
-
-and_right : (a b : Bool) → b ≡ false → (a && b) ≡ false
-and_right true b e = e
-and_right false b e = refl
-
-and_left : (a b : Bool) → a ≡ false → (a && b) ≡ false
-and_left a b e = ap (λ c. c && b) e
 
 -- an argument that excludes another one
 pub bound_by_conflict : (old new : Arg) (rule : Rule) (id : Bor Text) → IsArg rule old → AddsConflicts old new (id ∷ []) → IsArg (bound rule) new

@@ -4,6 +4,7 @@ use Rattle.std.proofs.lemmas.Bool.{false≢true}
 use Rattle.std.specs.Prelude.{IfOk}
 use Rattle.std.specs.List.{list_all}
 use Rattle.std.proofs.lemmas.List.{map-append, length-map, take_all}
+use Rattle.lists.proofs.Slices.{take_front as front_taken}
 use Rattle.bits.specs.declared.refusal.Refusal.{Refusal}
 use Rattle.schema.specs.Values.{ValueTrees}
 use Rattle.schema.specs.Shape.{Fields}
@@ -36,12 +37,6 @@ passed_more Has Again S T cut_so n all row cut_off is p takes gives =
       joined = p.joined ∙ (ap (λ (rs : List ValueTrees). p.given ++ rs) t.1 ∙ sym (append_assoc p.given (row ∷ []) t.0));
       many = length-append p.given (row ∷ []) ∙ ap (λ (k : ℕ). k + 1) p.many;
     }
-
-front_taken : {A : Type 0} (k : ℕ) (xs ys : List A) → length xs ≡ k → take k (xs ++ ys) ≡ xs
-front_taken zero [] ys e = refl
-front_taken zero (x ∷ xs) ys e = absurd (omega (arith, e))
-front_taken (suc k) [] ys e = absurd (omega (arith, e))
-front_taken (suc k) (x ∷ xs) ys e = ap (λ (zs : List _). x ∷ zs) (front_taken k xs ys (omega (arith, e)))
 
 module _ (Has S : List ValueTrees → Type 0) (cut_so : ValueTrees → ValueTrees) (n : ℕ) (all : List ValueTrees) (p : ArePassed Has S cut_so n all) where
   -- none is left

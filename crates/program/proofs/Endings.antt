@@ -1,6 +1,6 @@
 -- How calls end: why they are refused, and what they did.
 use Rattle.std.proofs.Common.{◌≡◌, ◌≢◌, ◌⊎◌, inl, inr, ℕ, Bool, List, Option, Result, Ok, Err, refl, sym, subst, ◌∙◌}
-use Rattle.std.specs.Prelude.{Some, IfSome, IfErr, OnOk}
+use Rattle.std.specs.Prelude.{Some, IfSome, IfErr}
 use Rattle.std.specs.Str.{IsUtf8}
 use Rattle.bits.specs.declared.refusal.Refusal.{Refusal}
 use Rattle.bits.specs.declared.refusal.Refusal.TheVariants.{Memory, Device, Script}
@@ -67,11 +67,6 @@ module _ (texts : Bool) (options : WriteOptions) (schema_at rows_at : Place) whe
   pub by_texts : (schema_text rows_text : List ℕ) (e : Refusal) → HasBytes schema_at schema_text → HasBytes rows_at rows_text
       → AreRefusedTexts texts options schema_text rows_text e → Refused e
   by_texts schema_text rows_text e schema rows h = inr (inr (record { schema_text = schema_text; rows_text = rows_text; schema = schema; rows = rows; why = h }))
-
--- what holds whatever is answered
-pub on_ok_anyway : {X E : Type 0} (P : Type 0) (r : Result X E) → P → OnOk r P
-on_ok_anyway P (Ok x) p = p
-on_ok_anyway P (Err e) p = tt
 
 -- a refusal of a call whose output was asked once more
 pub after_output : (P : Refusal → Type 0) (old mid new : Option (List ℕ)) (e f : Refusal) → f ≡ e → P e → IsUnwritten old mid e → (e ≢ Device → new ≡ mid)

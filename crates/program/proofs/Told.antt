@@ -1,8 +1,9 @@
 -- Lines that are read as rows, one after another.
-use Rattle.std.proofs.Common.{◌≡◌, ◌⊎◌, inr, Bool, true, Result, Ok, Err, Vec, Global, subst, ◌<◌, ℕ, zero, suc, List, [], ◌∷◌, ◌++◌, length, map, take, drop, get_or, refl, sym, ap, ◌∙◌, arith}
+use Rattle.std.proofs.Common.{◌≡◌, ◌⊎◌, inr, Bool, true, Result, Ok, Err, Vec, Global, subst, ◌<◌, ℕ, suc, List, [], ◌∷◌, ◌++◌, length, map, take, drop, get_or, refl, sym, ap, ◌∙◌}
 use Rattle.std.specs.Prelude.{IsTrue, IfOk, OnOk, IfErr}
 use Rattle.std.specs.Borrow.{Bor}
 use Rattle.std.proofs.lemmas.List.{map_push, take-append-drop}
+use Rattle.lists.proofs.Slices.{parts_around as split_there}
 use Rattle.bits.specs.declared.refusal.Refusal.{Refusal}
 use Rattle.bits.specs.declared.refusal.Refusal.TheVariants.{RowShape, Script, Limit, Memory}
 use Rattle.bits.specs.Refusals.{HasCause, IsFault, OnFault, RefusedMemoryOnly}
@@ -79,11 +80,6 @@ pub record HasRead (with_texts : Bool) (fs : Fields) (o : WriteOptions) (texts :
   pub fields : reads ≡ fs
   pub schema : schema_of writer ≡ fs
   pub options : options_of writer ≡ o
-
-split_there : (all : List (List ℕ)) (n : ℕ) (x : List ℕ) → n < length all → x ≡ get_or all n x → all ≡ take n all ++ x ∷ drop (suc n) all
-split_there [] n x h e = absurd (omega arith)
-split_there (y ∷ ys) zero x h e = ap (λ z. z ∷ ys) (sym e)
-split_there (y ∷ ys) (suc n) x h e = ap (λ zs. y ∷ zs) (split_there ys n x (omega arith) e)
 
 with_cause : (P Q : Refusal → Type 0) → ((e : Refusal) → P e → Q e) → (e : Refusal) → HasCause P e → HasCause Q e
 with_cause P Q f Memory h = tt

@@ -1,11 +1,13 @@
 -- A walk through the key folders, entry by entry.
-use Rattle.std.proofs.Common.{◌≡◌, ◌≢◌, ◌<◌, ◌≤◌, ◌+◌, ℕ, suc, List, [], ◌∷◌, length, take, map, get_or, true, Some, String, string_bytes, refl, sym, ◌∙◌, ap, subst, arith, inl, inr, ⊎_elim}
+use Rattle.std.proofs.Common.{◌≡◌, ◌≢◌, ◌<◌, ◌≤◌, ◌+◌, ℕ, suc, List, [], length, take, get_or, true, Some, String, string_bytes, refl, sym, ◌∙◌, ap, subst, arith, inl, inr, ⊎_elim}
 use Rattle.std.specs.Prelude.{Result, Ok, Err, OnOk, is_ok}
 use Rattle.std.specs.List.{slice_get}
 use Rattle.std.specs.declared.alloc.Global.{Global}
 use Rattle.std.specs.HashSet.{HashSet}
 use Rattle.std.proofs.lemmas.Bool.{cases_lt, false≢true}
 use Rattle.std.proofs.lemmas.Option.{slice_get-get_or, slice_get_within, same_Some}
+use Rattle.lists.proofs.Slices.{map_take as map_taken}
+use Rattle.lists.proofs.Lists.{length_map as count_map}
 use Rattle.bits.specs.declared.refusal.Refusal.{Refusal}
 use Rattle.schema.specs.Keys.{KeyColumn}
 use Rattle.disk.specs.Paths.{path_in}
@@ -19,7 +21,7 @@ use Rattle.vault.specs.Views.{IsNoRoot, next_path}
 use Rattle.vault.specs.Calls.{Forgets, LeavesAll}
 use Rattle.partition.specs.Folders.{path, part_name_of, IsRoot, PartPathsAreNotRoots}
 use Rattle.partition.specs.Nesting.{path_to}
-use Rattle.partition.proofs.Nested.{map_taken, fewer_can_partition, folders_nest}
+use Rattle.partition.proofs.Nested.{fewer_can_partition, folders_nest}
 use Rattle.manifest.specs.Groups.{Root}
 use Rattle.schema.specs.Keys.{key_columns_view, key_column_view}
 use Rattle.schema.specs.declared.key.KeyColumn.{KeyColumn as CodeKeyColumn}
@@ -160,10 +162,6 @@ swept_after root depth folder s0 s1 s2 all swept = record { files = no_new_on s0
 
 pub listed_after : (s0 s1 : State) (folder : List ℕ) (entries now : List Entry) → LeavesAll s0 s1 → now ≡ entries → AreNamesIn s0.seen folder entries → AreNamesIn s1.seen folder now
 listed_after s0 s1 folder entries now all same listed = names_in s0.seen s1.seen folder now all.names (subst (AreNamesIn s0.seen folder) (sym same) listed)
-
-count_map : {X Y : Type 0} (f : X → Y) (xs : List X) → length (map f xs) ≡ length xs
-count_map f [] = refl
-count_map f (x ∷ xs) = ap suc (count_map f xs)
 
 pub count_columns : (ks : List CodeKeyColumn) (columns : List KeyColumn) → key_columns_view ks ≡ columns → length ks ≡ length columns
 count_columns ks columns is = sym (count_map key_column_view ks) ∙ ap length is

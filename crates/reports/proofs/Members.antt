@@ -1,8 +1,9 @@
 -- The member that is set in a logical type.
-use Rattle.std.proofs.Common.{rules, ◌≡◌, ℕ, ◌≤◌, ℤ, pos, negsuc, List, [], ◌∷◌, Some, length, get_or, refl, ap, ◌∙◌, arith, to_z, of_z}
+use Rattle.std.proofs.Common.{rules, ◌≡◌, ℕ, ◌≤◌, ℤ, List, [], ◌∷◌, Some, length, get_or, refl, ap, ◌∙◌, arith, to_z, of_z}
 use Rattle.std.specs.Prelude.{FitsSigned}
 use Rattle.std.specs.Int.{w16, w32}
 use Rattle.std.proofs.lemmas.Int.{to_z-of_z}
+use Rattle.lists.proofs.Numbers.{fits_wider as wider}
 use Rattle.thrift_compact.specs.declared.tree.Field.{Field}
 use Rattle.thrift_compact.specs.declared.tree.Node.TheFolds.{the_lemmas}
 use Rattle.thrift_compact.specs.View.{view, field_view, field_views}
@@ -15,10 +16,6 @@ first_member [] m h is = absurd (omega (arith, h))
 first_member (f ∷ fs) m h is =
     let e : field_view f ≡ (f.id, view f.value) = search (rules, the_lemmas) in
     rw (is, e) refl
-
-wider : (z : ℤ) → FitsSigned w16 z → FitsSigned w32 z
-wider (pos n) p = record { sfits = omega (arith, p.sfits) }
-wider (negsuc n) p = record { sfits = omega (arith, p.sfits) }
 
 -- an id is the same number in 16 bits and in 32
 pub widened : (z id : ℤ) → FitsSigned w16 z → id ≡ to_z w16 (of_z w16 z) → to_z w32 (of_z w32 id) ≡ z

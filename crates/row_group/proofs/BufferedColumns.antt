@@ -2,6 +2,7 @@
 use Rattle.std.proofs.Common.{◌≡◌, ℕ, zero, suc, ◌<◌, List, [], ◌∷◌, ◌++◌, map, length, get_or, refl, ap, ◌∙◌, arith, append_assoc}
 use Rattle.std.specs.List.{AllByRecursion}
 use Rattle.std.proofs.lemmas.List.{length-map}
+use Rattle.lists.proofs.Slices.{get_or_map_here as shown_here}
 use Rattle.schema.specs.declared.field.Leaf.{Leaf as CodeLeaf}
 use Rattle.schema.specs.Values.{ValueTrees}
 use Rattle.schema.specs.Shape.{Fields}
@@ -10,7 +11,6 @@ use Rattle.schema.specs.Views.{leaf_view}
 use Rattle.schema.specs.Stripe.{Leaf, Entry, columns, leaves_of}
 use Rattle.schema.specs.Law.{IsEntryOf, EntriesAreOfLeaves}
 use Rattle.row_group.specs.inner.Columns.{Extends}
-use Rattle.row_group.proofs.Places.{shown_here}
 use Rattle.row_group.proofs.ColumnsWritten.{as_many, column_of_leaf, columns_of_leaves}
 
 any_default : {A : Type 0} (xs : List A) (i : ℕ) (d e : A) → i < length xs → get_or xs i d ≡ get_or xs i e

@@ -4,6 +4,7 @@ use Rattle.std.specs.Prelude.{ℤ, pos, ◌<ℤ◌, flat_map, filter, sum_by, na
 use Rattle.std.specs.List.{Any, AllByRecursion}
 use Rattle.std.proofs.lemmas.Bool.Decides.{nat_tests}
 use Rattle.std.proofs.lemmas.List.{length-append, length-map, drop_at}
+use Rattle.lists.proofs.Lists.{all_left as all_front, all_right as all_back}
 use Rattle.bits.specs.Codec.{Appends, InTurn}
 use Rattle.schema.specs.Values.{ValueTree}
 use Rattle.schema.specs.Stripe.{Leaf, Entry}
@@ -29,7 +30,7 @@ use Rattle.row_group.specs.Writing.{AppendsChunk}
 use Rattle.row_group.specs.inner.Parts.{SaysOfPages, IsShortChunk, AppendsPages}
 use Rattle.row_group.proofs.OneRest.{PagesAreOne}
 use Rattle.row_group.proofs.PartWeights.{values_append, values_weigh, indexes_weigh, with_dictionary}
-use Rattle.row_group.proofs.PartsPut.{both_forms, all_front, all_back}
+use Rattle.row_group.proofs.PartsPut.{both_forms}
 use Rattle.row_group.proofs.ShortChunks.{short_chunk}
 
 -- ---- pages in turn

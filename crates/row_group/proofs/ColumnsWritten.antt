@@ -3,12 +3,12 @@ use Rattle.std.proofs.Common.{◌≡◌, ℕ, zero, suc, ◌+◌, ◌<◌, ◌�
 use Rattle.std.specs.Prelude.{pos, ◌<ℤ◌}
 use Rattle.std.specs.List.{AllByRecursion}
 use Rattle.std.proofs.lemmas.List.{take_more, length-append}
+use Rattle.lists.proofs.Lists.{all_append as all_joined}
 use Rattle.schema.specs.Values.{ValueTrees}
 use Rattle.schema.specs.Shape.{Fields}
 use Rattle.schema.specs.Fits.{RowsFit}
 use Rattle.schema.specs.Stripe.{Leaf, Entry, column, columns, leaves_of}
 use Rattle.schema.specs.Law.{IsEntryOf, EntriesAreOfLeaves, RowsBeginOnce}
-use Rattle.schema.proofs.Kept.{all_joined}
 use Rattle.metadata.specs.Records.{ChunkMeta, GroupMeta}
 use Rattle.pages.specs.Writing.{AreShort}
 use Rattle.row_group.specs.Greatest.{most_entries, most_rows}

@@ -3,6 +3,7 @@ use Rattle.std.proofs.Common.{◌≡◌, ◌≢◌, ℕ, suc, ◌+◌, ◌<◌, 
 use Rattle.std.specs.Prelude.{min}
 use Rattle.std.specs.List.{Any, AllByRecursion}
 use Rattle.std.proofs.lemmas.List.{append-nil, length-append, length-map, length-take, map-append, take_all, take_at, take-take, take-append-drop, drop_at}
+use Rattle.lists.proofs.Lists.{all_append as all_both, any_left as any_front}
 use Rattle.bits.specs.Codec.{Appends}
 use Rattle.schema.specs.declared.value.Kind.{Kind}
 use Rattle.schema.specs.declared.value.Kind.TheVariants.{Boolean}
@@ -25,7 +26,7 @@ use Rattle.row_group.specs.Greatest.{most_bytes_before}
 use Rattle.row_group.specs.Paged.{BeginsRow}
 use Rattle.row_group.specs.inner.Parts.{IsFirstPage, IsPart, AppendsParts, ArePartsTooMuch}
 use Rattle.row_group.specs.inner.Parts as parts_of
-use Rattle.row_group.proofs.PartsPut.{PartsPut, none_put, one_put, all_put, too_heavy, page_too_much, value_part, all_in_page, all_both, any_front, any_back}
+use Rattle.row_group.proofs.PartsPut.{PartsPut, none_put, one_put, all_put, too_heavy, page_too_much, value_part, all_in_page, any_back}
 
 -- ---- the entries of values
 

@@ -5,13 +5,13 @@ use Rattle.std.proofs.lemmas.Bool.Decides.{nat_tests}
 use Rattle.std.proofs.lemmas.Bool.{cases_lt}
 use Rattle.std.proofs.lemmas.List.{append-nil, length-map, take-map, length-append, length-take-le, take-append-drop, drop_all}
 use Rattle.std.proofs.lemmas.List.Elements.{filter-append}
+use Rattle.lists.proofs.Slices.{map_drop_here as reads}
 use Rattle.schema.specs.Stripe.{Entry}
 use Rattle.schema.specs.declared.borrowed.EntryRef.{EntryRef}
 use Rattle.schema.specs.Borrowed.{entry_ref_view}
 use Rattle.pages.specs.Headers.{rows_in}
 use Rattle.row_group.specs.Paged.{BeginsRow, ArePages, ArePagesOf}
 use Rattle.row_group.specs.inner.Parts.{IsFirstPage}
-use Rattle.row_group.proofs.Places.{reads}
 
 -- ---- rows
 

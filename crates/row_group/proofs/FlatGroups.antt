@@ -2,12 +2,12 @@
 use Rattle.std.proofs.Common.{◌≡◌, ℕ, true, List, [], ◌∷◌, length, drop, Option, sym, subst}
 use Rattle.std.specs.Prelude.{pos}
 use Rattle.std.specs.List.{AllByRecursion}
+use Rattle.lists.proofs.Lists.{all_append as all_joined}
 use Rattle.bits.specs.Codec.{InTurn}
 use Rattle.schema.specs.Values.{ValueTree}
 use Rattle.schema.specs.Shape.{Fields}
 use Rattle.schema.specs.Stripe.{Leaf, Entry, leaves_of}
 use Rattle.schema.specs.Law.{IsEntryOf}
-use Rattle.schema.proofs.Kept.{all_joined}
 use Rattle.metadata.specs.Records.{ColumnMeta, ChunkMeta, GroupMeta}
 use Rattle.pages.specs.Page.{Page, IsPage}
 use Rattle.pages.specs.Chunk.{all_entries, entries_of}

@@ -2,13 +2,13 @@
 use Rattle.std.proofs.Common.{◌≡◌, ℕ, zero, suc, ◌+◌, ◌<◌, ◌≤◌, Some, List, [], ◌∷◌, ◌++◌, map, length, get_or, drop, refl, sym, subst, arith, append_assoc}
 use Rattle.std.specs.Prelude.{slice_get}
 use Rattle.std.proofs.lemmas.List.{append-nil, at_drop_all}
+use Rattle.lists.proofs.Slices.{map_drop_here as reads}
 use Rattle.schema.specs.Shape.{Fields}
 use Rattle.schema.specs.Stripe.{Leaf, Entry, leaves_of}
 use Rattle.metadata.specs.Records.{ColumnMeta, ChunkMeta, GroupMeta}
 use Rattle.row_group.specs.Chunks.{ColumnMeans, AreChunks}
 use Rattle.row_group.specs.Limits.{IsChunkOver, HasColumn, BeginsWith}
 use Rattle.row_group.specs.inner.Readers.{EachChunk, AreSound}
-use Rattle.row_group.proofs.Places.{reads}
 
 -- `done` is so of the chunks before these and their leaves
 abbrev pub UpTo : {X : Type 0} → (ColumnMeta → Leaf → X → Type 0) → List ChunkMeta → List Leaf → List ChunkMeta → List Leaf → List X → Type 0

@@ -1,6 +1,7 @@
 -- The pages that are left after the next one.
 use Rattle.std.proofs.Common.{◌≡◌, ℕ, zero, suc, ◌+◌, ◌<◌, ◌≤◌, List, [], ◌∷◌, ◌++◌, map, filter, length, take, drop, Option, Some, None, refl, sym, ap, subst, ◌∙◌, arith, append_assoc}
 use Rattle.std.proofs.lemmas.List.{length-append, length-drop, drop-drop}
+use Rattle.lists.proofs.Lists.{same_first as heads, same_rest as tails}
 use Rattle.bits.specs.Codec.{InTurn, NothingStands}
 use Rattle.schema.specs.Values.{ValueTree}
 use Rattle.schema.specs.Stripe.{Leaf, Entry}
@@ -14,12 +15,6 @@ use Rattle.row_group.specs.inner.Pages.{Passes, MayCome, known_after}
 -- what is left after this page
 abbrev pub after : ChunkLeft → Page → ℕ → ℕ → ChunkLeft
 after s p used lacking = record { leaf = s.leaf; known = known_after s.known p; bytes = drop used s.bytes; lacking = lacking }
-
-heads : {A : Type 0} (x y : A) (xs ys : List A) → x ∷ xs ≡ y ∷ ys → x ≡ y
-heads x y xs ys e = cc
-
-tails : {A : Type 0} (x y : A) (xs ys : List A) → x ∷ xs ≡ y ∷ ys → xs ≡ ys
-tails x y xs ys e = cc
 
 -- ---- the first of the pages stands where the dictionary is what is known of it
 

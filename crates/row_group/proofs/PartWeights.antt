@@ -5,13 +5,15 @@ use Rattle.std.proofs.lemmas.Bool.{cases_lt}
 use Rattle.std.proofs.lemmas.List.{length-append, take_all, take-take}
 use Rattle.std.proofs.lemmas.List.Elements.{filter_map-append}
 use Rattle.std.proofs.lemmas.List.Sums.{sum_by-cons, sum_by_push, sum_by-take-le}
+use Rattle.std.proofs.lemmas.Option.{same_Some as some_is}
+use Rattle.lists.proofs.Slices.{item_there as there_is}
 use Rattle.schema.specs.declared.value.Kind.{Kind}
 use Rattle.schema.specs.declared.value.Kind.TheVariants.{Boolean, Int32, Int64, ByteArray, FixedLenByteArray}
 use Rattle.schema.specs.Values.{ValueTree, null, boolean, integer, bytes, group, list}
 use Rattle.schema.specs.Stripe.{Entry}
 use Rattle.plain.specs.Plain.{text_size}
 use Rattle.dictionary.specs.Entries.{IsIndexed, ComesInTurn}
-use Rattle.dictionary.proofs.Lookups.{value_at, some_is}
+use Rattle.dictionary.proofs.Lookups.{value_at}
 use Rattle.pages.specs.Page.{values}
 use Rattle.pages.specs.Writing.{page_weight, index_weight, dictionary_weight}
 use Rattle.pages.proofs.WrittenPages.{nulls_and_values}
@@ -75,11 +77,6 @@ take_one : {X : Type 0} (xs : List X) (i : ℕ) (x : X) → slice_get xs i ≡ S
 take_one [] i x is = absurd cc
 take_one {X} (y ∷ ys) zero x is = ap (λ (z : X). z ∷ []) (some_is y x is)
 take_one {X} (y ∷ ys) (suc i) x is = ap (λ (t : List X). y ∷ t) (take_one ys i x is)
-
-there_is : {X : Type 0} (xs : List X) (i : ℕ) → i < length xs → (x : X) × (slice_get xs i ≡ Some x)
-there_is [] i lt = absurd (omega (arith, lt))
-there_is (x ∷ xs) zero lt = (x, refl)
-there_is (x ∷ xs) (suc i) lt = there_is xs i (omega (arith, lt))
 
 take_light : (f : ValueTree → ℕ) (vs : List ValueTree) (m n : ℕ) → m ≤ n → sum_by f (take m vs) ≤ sum_by f (take n vs)
 take_light f vs m n le = subst (λ (t : List ValueTree). sum_by f t ≤ sum_by f (take n vs)) (take-take m n vs le) (sum_by-take-le f (take n vs) m)

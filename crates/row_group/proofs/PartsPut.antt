@@ -1,9 +1,10 @@
 -- Pages that are written one after another.
-use Rattle.std.proofs.Common.{◌≡◌, ℕ, suc, ◌+◌, ◌<◌, ◌≤◌, List, [], ◌∷◌, ◌++◌, length, take, drop, map, Option, None, Some, Result, Ok, Err, refl, sym, ap, subst, ◌∙◌, arith, append_assoc}
+use Rattle.std.proofs.Common.{◌≡◌, ℕ, ◌+◌, ◌<◌, ◌≤◌, List, [], ◌∷◌, ◌++◌, length, take, drop, map, Option, None, Some, Result, Ok, Err, refl, sym, ap, subst, ◌∙◌, arith, append_assoc}
 use Rattle.std.specs.Prelude.{All, OnErr, sum_by, slice_get}
 use Rattle.std.specs.List.{Any, AllByRecursion}
-use Rattle.std.proofs.lemmas.List.{append-nil, length-map, take-map, get_or_append_left, append_cancel_left, length-append, take-append-drop, take_at, drop-drop, drop_all}
+use Rattle.std.proofs.lemmas.List.{append-nil, length-map, take-map, append_cancel_left, length-append, take-append-drop, take_at, drop-drop, drop_all}
 use Rattle.std.proofs.lemmas.List.Sums.{sum_by_push, sum_by-append}
+use Rattle.lists.proofs.Lists.{all_left as all_front, all_right as all_back, all_append as all_both, any_later, any_left as any_front}
 use Rattle.bits.specs.declared.refusal.Refusal.{Refusal}
 use Rattle.bits.specs.Codec.{Appends, InTurn}
 use Rattle.bits.proofs.Appending.{appends_turn}
@@ -43,24 +44,6 @@ both_forms First Second most more old new p q = record {
 }
 
 -- ---- what holds of all entries holds of some of them
-
-pub all_front : {X : Type 0} (P : X → Type 0) (xs ys : List X) → AllByRecursion P (xs ++ ys) → AllByRecursion P xs
-all_front P [] ys all = tt
-all_front P (x ∷ xs) ys all = (all.0, all_front P xs ys all.1)
-
-pub all_back : {X : Type 0} (P : X → Type 0) (xs ys : List X) → AllByRecursion P (xs ++ ys) → AllByRecursion P ys
-all_back P [] ys all = all
-all_back P (x ∷ xs) ys all = all_back P xs ys all.1
-
-pub all_both : {X : Type 0} (P : X → Type 0) (xs ys : List X) → AllByRecursion P xs → AllByRecursion P ys → AllByRecursion P (xs ++ ys)
-all_both P [] ys none all = all
-all_both P (x ∷ xs) ys some all = (some.0, all_both P xs ys some.1 all)
-
-any_later : {X : Type 0} (P : X → Type 0) (x : X) (xs : List X) → Any P xs → Any P (x ∷ xs)
-any_later P x xs any = (suc any.0, any.1, omega (arith, any.2), any.3, any.4)
-
-pub any_front : {X : Type 0} (P : X → Type 0) (xs ys : List X) → Any P xs → Any P (xs ++ ys)
-any_front P xs ys any = (any.0, any.1, omega (arith, any.2, length-append xs ys), get_or_append_left xs ys any.1 any.0 any.2 ∙ any.3, any.4)
 
 pub any_back : {X : Type 0} (P : X → Type 0) (xs ys : List X) → Any P ys → Any P (xs ++ ys)
 any_back P [] ys any = any

@@ -7,6 +7,7 @@ use Rattle.bits.specs.declared.refusal.Refusal.{Refusal}
 use Rattle.bits.specs.declared.refusal.Refusal.TheVariants as refusal
 use Rattle.std.specs.Prelude.{MatchOption, is_some}
 use Rattle.std.proofs.lemmas.Bool.{false≢true}
+use Rattle.std.proofs.lemmas.List.{nil_from_length as empty}
 use Rattle.schema.specs.declared.borrowed.ValueRef.{ValueRef}
 use Rattle.schema.specs.declared.borrowed.EntryRef.{EntryRef}
 use Rattle.schema.specs.Annotations.{LeafType}
@@ -23,10 +24,6 @@ use Rattle.row_group.specs.Left.{ReaderLeft, ChunkStands}
 use Rattle.row_group.specs.inner.Pages.{kept_fault, Passes, IsRefusedAt, NextPage}
 use Rattle.row_group.specs.inner.Readers.{KeepsFault, Fills, AdvancesReader, entry_of_plain, GivesPlain, PeeksPage}
 use Rattle.row_group.proofs.NextPages.{holds_nothing}
-
-pub empty : {A : Type 0} (xs : List A) → length xs ≡ 0 → xs ≡ []
-empty [] e = refl
-empty (x ∷ xs) e = absurd (omega (arith, e))
 
 abbrev pub reader : ChunkLeft → List Entry → Option Fault → ReaderLeft
 reader pages here f = record { pages = pages; here = here; fault = f }

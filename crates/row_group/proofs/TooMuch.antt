@@ -2,7 +2,7 @@
 use Rattle.std.proofs.Common.{◌≡◌, ℕ, zero, suc, ◌+◌, ◌<◌, ◌≤◌, ◌++◌, List, [], ◌∷◌, length, get_or, take, Some, inl, inr, refl, sym, ap, subst, ◌∙◌, arith}
 use Rattle.std.specs.Prelude.{◌↔◌, All, IsTrue, flat_map, sum_by, slice_get}
 use Rattle.std.specs.List.{Any, AllByRecursion}
-use Rattle.std.proofs.lemmas.Option.{slice_get_within}
+use Rattle.std.proofs.lemmas.Option.{slice_get_within, slice_get-get_or as got, same_Some as some_is}
 use Rattle.std.proofs.lemmas.List.{length-append, take-take, take_at}
 use Rattle.schema.specs.declared.value.Kind.{Kind}
 use Rattle.schema.specs.declared.value.Kind.TheVariants.{Boolean, Int32, Int64, ByteArray, FixedLenByteArray}
@@ -12,7 +12,7 @@ use Rattle.schema.specs.Fits.{fits_kind}
 use Rattle.schema.specs.Law.{IsEntryOf}
 use Rattle.plain.specs.Plain.{IsOfKind, IsTooLong}
 use Rattle.dictionary.specs.Entries.{IsIndexed}
-use Rattle.dictionary.proofs.Lookups.{get_from_contains, entry_of, some_is}
+use Rattle.dictionary.proofs.Lookups.{get_from_contains, entry_of}
 use Rattle.dictionary.proofs.Counting.{entry_comes}
 use Rattle.pages.specs.declared.encoding.Encoding.{Encoding}
 use Rattle.pages.specs.Page.{values}
@@ -75,11 +75,6 @@ indexes_much leaf o vs before mid es ds is weigh large has indexed near (heavy_p
     heavy parts cut (omega (arith, h, near, weigh parts, indexes_weigh parts es cut.joined, with_dictionary o.style leaf.leaf_type.kind es ds is (length parts) has indexed))
 
 -- ---- entries and values
-
-got : {X : Type 0} (xs : List X) (i : ℕ) (d : X) → i < length xs → slice_get xs i ≡ Some (get_or xs i d)
-got [] i d lt = absurd (omega (arith, lt))
-got (x ∷ xs) zero d lt = refl
-got (x ∷ xs) (suc i) d lt = got xs i d (omega (arith, lt))
 
 is_at : {X : Type 0} (xs : List X) (i : ℕ) (x d : X) → slice_get xs i ≡ Some x → get_or xs i d ≡ x
 is_at [] i x d h = absurd cc

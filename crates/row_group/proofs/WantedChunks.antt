@@ -2,12 +2,12 @@
 use Rattle.std.proofs.Common.{◌≡◌, ℕ, zero, suc, ◌+◌, ◌<◌, ◌≤◌, Bool, true, false, Some, List, [], ◌∷◌, ◌++◌, map, length, get_or, drop, refl, sym, ap, subst, ◌∙◌, arith, add-one}
 use Rattle.std.specs.Prelude.{slice_get, if◌then◌else◌}
 use Rattle.std.proofs.lemmas.List.{at_drop_all}
+use Rattle.lists.proofs.Slices.{map_drop_here as reads}
 use Rattle.schema.specs.Stripe.{Leaf, Entry}
 use Rattle.schema.specs.Cutting.{wanted_of}
 use Rattle.metadata.specs.Records.{ColumnMeta, ChunkMeta}
 use Rattle.row_group.specs.Chunks.{ColumnMeans, AreChunks}
 use Rattle.row_group.specs.inner.Readers.{EachChunk}
-use Rattle.row_group.proofs.Places.{reads}
 use Rattle.row_group.proofs.InOrder.{UpTo, one_done, all_done}
 
 -- ---- a loop over all of them has come to a place

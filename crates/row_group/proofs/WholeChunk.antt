@@ -2,7 +2,7 @@
 use Rattle.std.proofs.Common.{◌≡◌, ℕ, ◌+◌, ◌-◌, ◌<◌, ◌≤◌, List, [], ◌∷◌, ◌++◌, map, length, take, refl, sym, ap, subst, ◌∙◌, arith}
 use Rattle.std.specs.Prelude.{pos, ◌<ℤ◌}
 use Rattle.std.proofs.lemmas.Int.{ints}
-use Rattle.std.proofs.lemmas.List.{append-nil, length-drop}
+use Rattle.std.proofs.lemmas.List.{append-nil, length-drop, nil_from_length as empty}
 use Rattle.bits.specs.Codec.{NothingStands}
 use Rattle.bits.specs.Refusals.{IsFault, HasCause}
 use Rattle.bits.specs.declared.refusal.Refusal.{Refusal}
@@ -18,7 +18,6 @@ use Rattle.row_group.specs.Limits.{IsChunkOver, many_entries, long_value, IsOfCh
 use Rattle.row_group.specs.Rest.{ChunkLeft, all_pages, AreNext, HoldsRest, HasRestOver}
 use Rattle.row_group.specs.inner.Pages.{Passes, PassesAll, IsRefusedAt, IsRefusedWithin}
 use Rattle.row_group.proofs.NextPages.{holds_nothing}
-use Rattle.row_group.proofs.Readers.{empty}
 
 -- the record is of this leaf, and counts n entries, which are not too many
 pub record IsRecord (m : ColumnMeta) (leaf : Leaf) (n : ℕ) : Type 0 where

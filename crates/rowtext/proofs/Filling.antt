@@ -8,6 +8,7 @@ use Rattle.std.proofs.Math.Seq.{drop-append_seam, take-add}
 use Rattle.std.proofs.lemmas.Cmp.{nat_list_cmp_total, tied_itself}
 use Rattle.std.proofs.lemmas.List.{length-append, take-append-le, drop-append-le, take_all, length-drop, drop-drop}
 use Rattle.std.proofs.lemmas.Map.Lookups.{exact_bytes}
+use Rattle.std.proofs.lemmas.Bool.{and_parts as and_true}
 use Rattle.serde_json.specs.Data.{Data, Members, no_members, member, put}
 use Rattle.serde_json.specs.Find.{get_member}
 use Rattle.serde_json.proofs.Views.{get_member-put, get_member-put_other}
@@ -23,7 +24,6 @@ use Rattle.rowtext.specs.Reading.{value_before, read_as, without, field_read_as,
 use Rattle.rowtext.specs.declared.spans.Span.{Span}
 use Rattle.rowtext.specs.inner.Fill.{IsCalled}
 use Rattle.rowtext.specs.inner.Spans.{absent_tokens, may_lack, is_there, are_there, AreJoined, read_at}
-use Rattle.rowtext.proofs.Both.{and_true}
 use Rattle.rowtext.proofs.JsonTexts.{IsBefore, AreInOrder}
 use Rattle.rowtext.proofs.RowJson.{before_further}
 

@@ -1,6 +1,7 @@
 -- A row that is read fits.
 use Rattle.std.proofs.Common.{◌≡◌, ◌&&◌, Bool, true, false, Option, Some, None, option_map, option_and_then, if◌then◌else◌, refl, sym, subst, ◌∙◌}
 use Rattle.std.specs.Prelude.{IsTrue}
+use Rattle.std.proofs.lemmas.Bool.{and_from as both}
 use Rattle.serde_json.specs.Data.{Data, Items, no_items, item, Members, no_members, member, null, boolean, number, string, array, object}
 use Rattle.serde_json.specs.Find.{get_member}
 use Rattle.schema.specs.declared.value.Repetition.{Repetition}
@@ -25,9 +26,6 @@ passes_test false p v e = tt
 leaf_fits : (t : LeafType) (o : Option ValueTree) → Passes (fits_leaf t) (option_and_then (λ v. if fits_leaf t v then Some v else None) o)
 leaf_fits t None = tt
 leaf_fits t (Some v) = passes_test (fits_leaf t v) (fits_leaf t) v refl
-
-both : (a b : Bool) → a ≡ true → b ≡ true → (a && b) ≡ true
-both a b x y = rw (x, y) refl
 
 joins : (p : ValueTree → Bool) (q ps : ValueTrees → Bool) → ((v : ValueTree) (vs : ValueTrees) → ps (value v vs) ≡ (p v && q vs)) → (o : Option ValueTree) (os : Option ValueTrees) → Passes p o → Passes q os → Passes ps (value_before o os)
 joins p q ps split None os x y = tt

@@ -1,5 +1,6 @@
 -- The text of kept values that fit is that of a row.
 use Rattle.std.proofs.Common.{◌≡◌, ℕ, Bool, true, false, true≢false, Option, List, [], ◌∷◌, ◌++◌, refl, ap, ap₂, sym, ◌∙◌, append_assoc}
+use Rattle.std.proofs.lemmas.Bool.{and_parts as and_true}
 use Rattle.serde_json.specs.Data.{Data}
 use Rattle.serde_json.specs.Data as json
 use Rattle.serde_json.specs.Written.{compact_text, comma_if, items_text}
@@ -18,7 +19,6 @@ use Rattle.rowtext.specs.inner.Scalars.{numbers_as}
 use Rattle.rowtext.specs.inner.Slots.{Slot, Slots, leaf_slot, group_slot, slot_as, slots_as, key_of, key_in, order_of}
 use Rattle.rowtext.specs.inner.Kept.{kept_text, kept_items, kept_pieces, kept_object}
 use Rattle.rowtext.proofs.SameNumbers.{integer_is, bytes_are, IsOther, other_shown}
-use Rattle.rowtext.proofs.Both.{and_true}
 use Rattle.rowtext.proofs.RowOrder.{pieces_as, object_ordered}
 
 -- values that pass have, in a slot, the text of what is shown of them

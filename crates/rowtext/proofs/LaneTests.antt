@@ -1,6 +1,6 @@
 -- From a vector's mask to the bytes before the first that a test finds.
 use Rattle.std.proofs.Common.{◌≡◌, ℕ, zero, suc, ◌+◌, ◌-◌, ◌%◌, ◌^◌, ◌<◌, ◌≤◌, Bool, true, false, not, cond, eqb, leb, ltb, ◌&&◌, inl, inr, List, [], ◌∷◌, length, get_or, map, replicate, Fits, w8, refl, sym, ap, ap₂, ◌∙◌, arith}
-use Rattle.std.proofs.lemmas.Bool.{and_parts, cases_lt}
+use Rattle.std.proofs.lemmas.Bool.{and_parts, cases_lt, not-false as no_other}
 use Rattle.std.proofs.lemmas.Simd.{length-chunk, chunk-fits, zip2_splat, zip2_splat_left, zip2_of_maps, map-map, mask_l-mod, first_set_mask_l, run_in_chunk_le, run_in_chunk_fails}
 use Rattle.std.proofs.lemmas.List.{get_or_default, length-map}
 use Rattle.std.specs.List.{AllPass}
@@ -80,10 +80,6 @@ plain_counted d i n r room few fits made =
 
 abbrev is_other : ℕ → Bool
 is_other x = not (is_lower_digit x)
-
-no_other : (b : Bool) → not b ≡ false → b ≡ true
-no_other true h = refl
-no_other false h = sym h
 
 abbrev less : ℕ → ℕ → ℕ
 less a b = (a + (256 - b)) % 256

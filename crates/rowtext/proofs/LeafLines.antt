@@ -1,6 +1,7 @@
 -- The values of leaves that were read from a line.
 use Rattle.std.proofs.Common.{◌≡◌, ℕ, ℤ, true, false, List, [], ◌∷◌, ◌++◌, Option, Some, None, option_map, option_and_then, if◌then◌else◌, ap, ◌∙◌}
 use Rattle.std.specs.Option.{option_or}
+use Rattle.std.proofs.lemmas.Bool.{and_parts as and_true}
 use Rattle.serde_json.specs.Data.{Num}
 use Rattle.serde_json.specs.Data as json
 use Rattle.schema.specs.Annotations.{LeafType, is_text, order_of}
@@ -15,7 +16,6 @@ use Rattle.rowtext.specs.declared.cursor.Cursor.{Cursor}
 use Rattle.rowtext.specs.declared.pieces.Piece.{Piece}
 use Rattle.rowtext.specs.inner.Lines.{Takes}
 use Rattle.rowtext.specs.inner.Pieces.{tokens_of, IsScalar, IsTextLexed, IsRead, IsIntegerRead, IsNumberAdded, IsLeafRead}
-use Rattle.rowtext.proofs.Both.{and_true}
 use Rattle.rowtext.proofs.Lexing.{scalar_taken}
 use Rattle.rowtext.proofs.JsonTexts.{IsExact, number_back, number_there}
 use Rattle.rowtext.proofs.RowJson.{number_exact}

@@ -1,5 +1,4 @@
 pub mod Levels
-pub mod Both
 pub mod Forms
 pub mod Joined
 pub mod Taken

@@ -5,6 +5,7 @@ use Rattle.std.specs.List.{AllByRecursion}
 use Rattle.std.proofs.Math.Seq.{drop-append_seam, take-append_seam}
 use Rattle.std.proofs.lemmas.List.{length-append, length-map, map-append, take-append-le, drop-append-le, take_all, take_more, length-drop}
 use Rattle.std.proofs.lemmas.Grind.{flat_map-append}
+use Rattle.std.proofs.lemmas.Bool.{and_from as both}
 use Rattle.serde_json.specs.Written.{compact_text}
 use Rattle.schema.specs.declared.field.Field.{Field as CodeField}
 use Rattle.schema.specs.Fits.{fits, fits_each}
@@ -23,7 +24,6 @@ use Rattle.rowtext.specs.inner.PieceLists.{exchanged}
 use Rattle.rowtext.specs.inner.Slots.{slot_of, key_in, indices_of}
 use Rattle.rowtext.specs.inner.Spans.{span_tokens, IsSpan, fits_at, member_text, IsNoted, IsMemberRead}
 use Rattle.rowtext.proofs.RowOrder.{pieces, flat_same, pieces_ordered}
-use Rattle.rowtext.proofs.Both.{both}
 use Rattle.rowtext.proofs.LinePieces.{grows_then}
 
 -- ---- parts

@@ -4,6 +4,7 @@ use Rattle.std.specs.Prelude.{IsTrue}
 use Rattle.std.specs.Cmp.Lexicographic.{slice_cmp}
 use Rattle.std.specs.Ordering.{match_ordering, ordering_reverse}
 use Rattle.std.proofs.lemmas.Cmp.{nat_list_cmp_total}
+use Rattle.std.proofs.lemmas.Bool.{and_parts as and_true}
 use Rattle.serde_json.specs.Data.{Data, Num, Items, Members, no_members, member, put, depth, items_depth, members_depth}
 use Rattle.serde_json.specs.Data as json
 use Rattle.schema.specs.declared.value.Repetition.{Repetition}
@@ -19,7 +20,6 @@ use Rattle.schema.specs.Reading.{tall, tallest}
 use Rattle.leaftext.specs.declared.leaf_form.Form.{Form}
 use Rattle.leaftext.specs.Forms.{form_if, form_text, form_bytes_text}
 use Rattle.rowtext.specs.Json.{number_json, leaf_json, text_or, hex_json, leaf_shown, leaf_json_as, items_json, json_as, object_json, field_json_as, members_json, members_json_as}
-use Rattle.rowtext.proofs.Both.{and_true}
 use Rattle.rowtext.proofs.JsonTexts.{IsExact, IsBefore, AreInOrder, IsReadable, AreReadable, HaveReadable}
 use Rattle.rowtext.proofs.Numbers.{integer_exact, bits_exact}
 

@@ -9,6 +9,7 @@ use Rattle.std.proofs.Math.Seq.{take-append_seam, drop-append_seam}
 use Rattle.std.proofs.lemmas.List.{length-append}
 use Rattle.std.proofs.lemmas.Bool.Decides.{nat_tests}
 use Rattle.std.proofs.lemmas.Map.Lookups.{exact_bytes}
+use Rattle.std.proofs.lemmas.Bool.{and_parts as and_true}
 use Rattle.json.specs.Print.{quoted}
 use Rattle.serde_json.specs.Data.{Data, Members, no_members, member, put}
 use Rattle.serde_json.specs.Data as json
@@ -21,7 +22,6 @@ use Rattle.rowtext.specs.inner.Slots.{slot_as, key_in, key_of, put_index, ordere
 use Rattle.rowtext.specs.inner.Kept.{nth, in_order, kept_object}
 use Rattle.rowtext.specs.inner.Lines.{keyed, open_text}
 use Rattle.rowtext.specs.inner.Levels.{between, first_or, piece, sorted, braced, braced_at}
-use Rattle.rowtext.proofs.Both.{and_true}
 
 -- ---- pieces, by where they begin
 

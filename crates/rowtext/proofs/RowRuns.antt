@@ -4,6 +4,7 @@ use Rattle.std.specs.List.{concat}
 use Rattle.std.specs.Prelude.{IsTrue}
 use Rattle.std.proofs.Math.Seq.{take-append_seam, drop-append_seam}
 use Rattle.std.proofs.lemmas.List.{length-append}
+use Rattle.std.proofs.lemmas.Bool.{and_parts as and_true}
 use Rattle.serde_json.specs.Data.{Data, Items, no_items, item, Members}
 use Rattle.serde_json.specs.Data as json
 use Rattle.serde_json.specs.Written.{compact_text, comma_if, items_text}
@@ -19,7 +20,6 @@ use Rattle.rowtext.specs.inner.Slots.{Slot, no_slots, slot_as, slots_as, key_of,
 use Rattle.rowtext.specs.inner.Levels.{State, Level, object, items, held, next_slot, begun, more, entered, left, inside, with_starts, sorted, braced_at, kept_starts, closed, run, root_as, text_at}
 use Rattle.rowtext.proofs.KeptTexts.{no_group, no_list, leaf_of, group_of, leaf_kept}
 use Rattle.rowtext.proofs.RowSteps.{run_append}
-use Rattle.rowtext.proofs.Both.{and_true}
 use Rattle.rowtext.proofs.RowOrder.{starts_of, pieces_as, object_text}
 
 -- values that pass are printed, in a slot, as what is shown of them

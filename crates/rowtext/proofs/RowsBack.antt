@@ -8,6 +8,7 @@ use Rattle.std.specs.Ordering.{match_ordering}
 use Rattle.std.proofs.lemmas.Bool.Decides.{Decides-ltb}
 use Rattle.std.proofs.lemmas.Cmp.{nat_list_cmp_total, tied_itself}
 use Rattle.std.proofs.lemmas.Map.Lookups.{exact_bytes}
+use Rattle.std.proofs.lemmas.Bool.{and_parts as and_true}
 use Rattle.hex.specs.Hex.{encode_lower, IsBytes}
 use Rattle.serde_json.specs.Data.{Data, Items, Members, no_members, member, put, depth}
 use Rattle.serde_json.specs.Data as json
@@ -35,10 +36,6 @@ use Rattle.rowtext.proofs.JsonTexts.{text_back}
 use Rattle.rowtext.proofs.Numbers.{number_back, within}
 use Rattle.rowtext.proofs.RowJson.{row_readable_as, members_flat}
 use Rattle.rowtext.proofs.HexTexts.{digits_said}
-
-and_true : (a b : Bool) → (a && b) ≡ true → (a ≡ true) × (b ≡ true)
-and_true true b h = (refl, h)
-and_true false b h = absurd (true≢false (sym h))
 
 -- ---- leaves
 

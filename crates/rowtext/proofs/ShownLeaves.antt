@@ -4,6 +4,7 @@ use Rattle.std.specs.Fmt.{signed_decimal}
 use Rattle.std.specs.Result.{result_ok}
 use Rattle.std.specs.Str.{is_utf8, bytes_eq}
 use Rattle.std.proofs.lemmas.Slice.Eq.{bytes_eq-Decides}
+use Rattle.std.proofs.lemmas.Bool.{and_parts as and_true}
 use Rattle.hex.specs.Hex.{encode_lower, decode_of}
 use Rattle.serde_json.specs.Data as json
 use Rattle.serde_json.specs.Find.{of_integer}
@@ -13,7 +14,6 @@ use Rattle.schema.specs.Values.{ValueTree, bytes}
 use Rattle.schema.specs.Fits.{fits_kind, is_valid_text, fits_leaf}
 use Rattle.rowtext.specs.Json.{leaf_json}
 use Rattle.rowtext.specs.Reading.{bytes_of_digits, bytes_read, leaf_read}
-use Rattle.rowtext.proofs.Both.{and_true}
 
 pub signed_text : (z : ℤ) → signed_decimal z ≡ number_text (of_integer z)
 signed_text (pos n) = refl

@@ -1,7 +1,7 @@
 -- The values of fields that were read as they are shown, and their pieces.
 use Rattle.std.proofs.Common.{◌≡◌, ℕ, zero, suc, ◌+◌, ◌<◌, Bool, true, false, true≢false, ◌==◌, List, [], ◌∷◌, ◌++◌, Option, None, String, Vec, Global, refl, sym, ap, ap₂, subst, ◌∙◌, arith, append_assoc, append-nil}
 use Rattle.std.specs.List.{concat}
-use Rattle.std.proofs.lemmas.Bool.{ne_eqb}
+use Rattle.std.proofs.lemmas.Bool.{ne_eqb, and_parts as and_true, and_from as both}
 use Rattle.serde_json.specs.Data.{Data}
 use Rattle.serde_json.specs.Data as json
 use Rattle.serde_json.specs.Written.{compact_text, comma_if, items_text}
@@ -29,7 +29,6 @@ use Rattle.assemble.specs.Sinks.{single, group_begins, group_ends, list_begins, 
 use Rattle.assemble.specs.inner.Building.{snoc}
 use Rattle.assemble.proofs.Each.{join, join_snoc, join_none}
 use Rattle.assemble.proofs.Showing.{tokens_snoc}
-use Rattle.rowtext.proofs.Both.{and_true, both}
 use Rattle.rowtext.proofs.LinePieces.{grows_then, one_more, between}
 use Rattle.rowtext.proofs.RowOrder.{pieces, ordered_by, object_braced}
 

@@ -95,7 +95,3 @@ module _ (texts : Bool) where
   pub repeated_read : (f : Field) (items : Vec Value Global) (vs : Vec RowValue Global) → repetition_of f ≡ Repeated → Some (views vs.items) ≡ items_read (inside_read_as texts f) (items_view items.items)
       → Some (value_view (ListOf vs)) ≡ field_read_as texts f (Some (view (Array items)))
   repeated_read f items vs r e = ap Some (view-List vs) ∙ ap (option_map list) e ∙ sym (repeated-field_read f (items_view items.items) r) ∙ ap (λ d. field_read_as texts f (Some d)) (sym (view-Array items))
-
-pub nothing_left : {X : Type 0} (xs : List X) → length xs ≡ 0 → xs ≡ []
-nothing_left [] h = refl
-nothing_left (x ∷ xs) h = absurd (omega arith)

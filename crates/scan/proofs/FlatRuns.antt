@@ -2,13 +2,13 @@
 use Rattle.std.proofs.Common.{◌≡◌, ℕ, zero, suc, pos, Bool, true, false, List, [], ◌∷◌, length, map, drop, Option, Some, refl, ap, sym, subst, ◌∙◌}
 use Rattle.std.specs.Prelude.{cond}
 use Rattle.std.specs.List.{AllByRecursion, slice_get}
+use Rattle.lists.proofs.Lists.{all_append as all_joined}
 use Rattle.bits.specs.Codec.{InTurn}
 use Rattle.schema.specs.Cutting.{Shown, shown, cut_to, CutHasLeaves}
 use Rattle.schema.specs.Law.{IsSchema, IsEntry, IsEntryOf}
 use Rattle.schema.specs.Shape.{Fields}
 use Rattle.schema.specs.Stripe.{Leaf, Entry, leaves_of}
 use Rattle.schema.specs.Values.{ValueTree, ValueTrees}
-use Rattle.schema.proofs.Kept.{all_joined}
 use Rattle.metadata.specs.Records.{ColumnMeta, ChunkMeta}
 use Rattle.metadata.specs.Views.{chunk_meta_view}
 use Rattle.pages.specs.Page.{Page, IsPage}

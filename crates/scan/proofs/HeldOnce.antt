@@ -1,8 +1,10 @@
 -- What was read and accepted is one list of rows.
-use Rattle.std.proofs.Common.{◌≡◌, ◌<◌, ℕ, zero, suc, Bool, true, false, List, [], ◌∷◌, length, map, Some, refl, ap, sym, subst, ◌∙◌, arith}
+use Rattle.std.proofs.Common.{◌≡◌, ◌<◌, ℕ, zero, suc, Bool, true, false, List, [], ◌∷◌, length, map, refl, ap, sym, subst, ◌∙◌, arith}
 use Rattle.std.specs.Prelude.{cond}
-use Rattle.std.specs.List.{AllByRecursion, slice_get}
+use Rattle.std.specs.List.{AllByRecursion}
 use Rattle.std.proofs.lemmas.List.{length-map}
+use Rattle.lists.proofs.Slices.{item_there as some_there}
+use Rattle.lists.proofs.Lists.{same_first as head_of, same_rest as tail_of}
 use Rattle.schema.specs.Law.{ColumnsDetermineRows}
 use Rattle.schema.specs.Stripe.{Leaf, Entry, leaves_of}
 use Rattle.schema.specs.Values.{ValueTrees}
@@ -26,22 +28,11 @@ use Rattle.scan.proofs.RowsMade.{selected_map}
 
 -- ---- lists
 
-head_of : {A : Type 0} (x y : A) (xs ys : List A) → x ∷ xs ≡ y ∷ ys → x ≡ y
-head_of x y xs ys e = cc
-
-tail_of : {A : Type 0} (x y : A) (xs ys : List A) → x ∷ xs ≡ y ∷ ys → xs ≡ ys
-tail_of x y xs ys e = cc
-
 all_alike : {A : Type 0} (x : A) (xs ys : List A) → AllByRecursion (λ z. z ≡ x) xs → AllByRecursion (λ z. z ≡ x) ys → length xs ≡ length ys → xs ≡ ys
 all_alike x [] [] h k size = refl
 all_alike x [] (y ∷ ys) h k size = absurd (omega (arith, size))
 all_alike x (z ∷ xs) [] h k size = absurd (omega (arith, size))
 all_alike {A} x (z ∷ xs) (y ∷ ys) h k size = ap (λ (w : A). w ∷ xs) (h.0 ∙ sym k.0) ∙ ap (λ (ws : List A). y ∷ ws) (all_alike x xs ys h.1 k.1 (omega (arith, size)))
-
-some_there : {A : Type 0} (xs : List A) (k : ℕ) → k < length xs → (x : A) × (slice_get xs k ≡ Some x)
-some_there [] k lt = absurd (omega (arith, lt))
-some_there (x ∷ xs) zero lt = (x, refl)
-some_there (x ∷ xs) (suc k) lt = some_there xs k (omega (arith, lt))
 
 -- ---- the columns of chunks
 

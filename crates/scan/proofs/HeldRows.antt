@@ -1,9 +1,8 @@
 -- The chunks of a part file hold the columns of the group's rows.
-use Rattle.std.proofs.Common.{◌≡◌, ◌<◌, ◌+◌, ◌-◌, ℕ, zero, suc, pos, Bool, true, false, not, List, [], ◌∷◌, ◌++◌, length, take, drop, map, Some, refl, ap, sym, subst, ◌∙◌, arith, zero-add, append_assoc, take-append-drop}
+use Rattle.std.proofs.Common.{◌≡◌, ◌<◌, ◌+◌, ◌-◌, ℕ, zero, suc, pos, true, false, not, List, [], ◌∷◌, ◌++◌, length, take, drop, map, Some, refl, ap, sym, subst, ◌∙◌, arith, zero-add, append_assoc, take-append-drop, ltb-true as less}
 use Rattle.std.specs.Prelude.{nat_lt}
 use Rattle.std.specs.List.{slice_get}
-use Rattle.std.proofs.lemmas.Bool.{and_parts, false≢true}
-use Rattle.std.proofs.lemmas.Bool.Decides.{nat_tests}
+use Rattle.std.proofs.lemmas.Bool.{and_parts, not-true as not_false}
 use Rattle.std.proofs.lemmas.List.Concat.{flat_map-cons}
 use Rattle.schema.specs.declared.value.Repetition.{Repetition}
 use Rattle.schema.specs.Values.{ValueTree, ValueTrees, group, member_at}
@@ -68,13 +67,6 @@ full_at front stored (x ∷ ls) (c ∷ cs) (y ∷ ss) h zero l at =
 full_at front stored (x ∷ ls) (c ∷ cs) (y ∷ ss) h (suc k) l at =
     let rest = full_at front stored ls cs ss h.2 k l at in
     record { chunk = rest.chunk; there = rest.there; full = rest.full }
-
-not_false : (b : Bool) → not b ≡ true → b ≡ false
-not_false true h = absurd (false≢true h)
-not_false false h = refl
-
-less : (a b : ℕ) → nat_lt a b ≡ true → a < b
-less a b h = grind (arith, nat_tests)
 
 module _ (keys : List KeyColumn) (fs : Fields) (g : Group) (bytes : List ℕ) (rows : List ValueTrees) (are : AreKeys keys fs) (part : PartMeans keys (without_keys keys fs) g bytes rows)
     (n : ℕ) (l : Leaf) (among : slice_get (leaves_of fs) n ≡ Some l) (stored_is : is_stored (places_of keys) g.width (place_of l.steps) ≡ true) where

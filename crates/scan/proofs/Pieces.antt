@@ -4,6 +4,7 @@ use Rattle.std.specs.Prelude.{◌⊎◌}
 use Rattle.std.specs.List.{slice_get}
 use Rattle.std.proofs.Math.ListN.{set}
 use Rattle.std.proofs.lemmas.Bool.{false≢true}
+use Rattle.std.proofs.lemmas.Option.{slice_get-get_or as get_there}
 use Rattle.bits.specs.declared.fault.Fault.{Fault}
 use Rattle.bits.specs.declared.fault.Fault.TheVariants.{Memory}
 use Rattle.schema.specs.Values.{ValueTrees, no_values, value as item}
@@ -44,11 +45,6 @@ set_cases (x ∷ xs) (suc k) y (suc j) p h = elim (set_cases xs k y j p h) [
   | inl both ↦ inl (ap suc both.0, both.1)
   | inr other ↦ inr ((λ e. other.0 (omega (arith, e))), other.1)
 ]
-
-pub get_there : {A : Type 0} (xs : List A) (k : ℕ) (d : A) → k < length xs → slice_get xs k ≡ Some (get_or xs k d)
-get_there [] k d lt = absurd (omega (arith, lt))
-get_there (x ∷ xs) zero d lt = refl
-get_there (x ∷ xs) (suc k) d lt = get_there xs k d (omega (arith, lt))
 
 -- ---- the parts of a row, one after another
 

@@ -4,6 +4,7 @@ use Rattle.std.specs.Prelude.{IfSome, count_by}
 use Rattle.std.specs.List.{slice_get, AllByRecursion}
 use Rattle.std.proofs.lemmas.List.{length-map}
 use Rattle.std.proofs.lemmas.List.Concat.{flat_map-cons}
+use Rattle.lists.proofs.Lists.{all_weaker as all_map}
 use Rattle.schema.specs.declared.value.Repetition.{Repetition}
 use Rattle.schema.specs.declared.order.Order.{Order}
 use Rattle.schema.specs.Annotations.{LeafType, order_of}
@@ -23,7 +24,6 @@ use Rattle.filter.specs.RuledOut.{key_at, given_or_absent, statistics_at}
 use Rattle.filter.specs.Law.{Describes, CompletedIsTheSame, RuledOutHoldsNoRow}
 use Rattle.scan.specs.Selected.{RuledOutGroupsHoldNone}
 use Rattle.schema.proofs.LeafPlaces.{moved, count_gone, leaves_before, value_moved, field_stays, IsAt, leaf_is_at, leaf_stands, count_places}
-use Rattle.filter.proofs.Columns.{all_map}
 use Rattle.filter.proofs.TermTests.{IsTestOf, tests_are_of}
 use Rattle.scan.proofs.KeyValues.{gone_of, key_found, one_leaf, key_value, key_some, key_none}
 

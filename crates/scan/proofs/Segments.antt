@@ -4,6 +4,7 @@ use Rattle.std.proofs.lemmas.List.{append-nil}
 use Rattle.std.specs.Prelude.{cond}
 use Rattle.std.proofs.lemmas.Bool.{false≢true}
 use Rattle.std.proofs.lemmas.Bool.Decides.{nat_tests}
+use Rattle.lists.proofs.Numbers.{nat_eq_itself as equal_here, nat_eq_above as not_equal}
 use Rattle.schema.specs.Cutting.{is_among}
 use Rattle.schema.specs.Keys.{values_besides, width}
 use Rattle.schema.specs.Values.{ValueTree, ValueTrees, no_values, value as item}
@@ -28,12 +29,6 @@ rising_front i (p ∷ ps) qs h = (h.0, rising_front (suc p) ps qs h.1)
 pub rising_rest : (i : ℕ) (ps qs : List ℕ) → IsRising i (ps ++ qs) → IsRising i qs
 rising_rest i [] qs h = h
 rising_rest i (p ∷ ps) qs h = let le = h.0 in rising_down i (suc p) qs (omega (arith, le)) (rising_rest (suc p) ps qs h.1)
-
-equal_here : (i : ℕ) → nat_eq i i ≡ true
-equal_here i = grind (arith, nat_tests)
-
-not_equal : (p i : ℕ) → i < p → nat_eq p i ≡ false
-not_equal p i lt = grind (arith, nat_tests)
 
 not_equal_past : (p i : ℕ) → p < i → nat_eq p i ≡ false
 not_equal_past p i lt = grind (arith, nat_tests)

@@ -2,6 +2,7 @@
 use Rattle.std.proofs.Common.{◌≡◌, ℕ, Bool, true, false, List, [], ◌∷◌, ◌++◌, length, map, Ok, Err, refl, ap, sym, subst, ◌∙◌, arith, append_assoc}
 use Rattle.std.specs.Prelude.{Result, Option, Some, None, IfErr}
 use Rattle.std.specs.Result.{IsErrAnd}
+use Rattle.std.proofs.lemmas.List.{nil_from_length as empty_when}
 use Rattle.bits.specs.Faults.{refusal_of}
 use Rattle.bits.specs.declared.fault.Fault.{Fault}
 use Rattle.bits.specs.declared.fault.Fault.TheVariants as fault
@@ -88,10 +89,6 @@ module _ (old new : Rows) (from to : List Token → Type 0) (some : old.left ≡
       by : (pieces : List (List ValueTrees)) → length pieces ≡ old.left → PartsStand old.parts.items pieces → f ≡ fault.Memory
       by [] size parts = absurd (some (sym size))
       by (x ∷ rest) size parts = only x rest parts
-
-empty_when : {A : Type 0} (xs : List A) → length xs ≡ 0 → xs ≡ []
-empty_when [] e = refl
-empty_when (x ∷ xs) e = absurd (omega (arith, e))
 
 -- where no row is left
 pub none_left : (r : Rows) → r.left ≡ 0 → (rows : List ValueTrees) → RowsStand r rows → (rows ≡ []) × RowsStand r []

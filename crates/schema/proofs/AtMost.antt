@@ -5,6 +5,7 @@ use Rattle.std.specs.declared.cmp.Ordering.{Ordering}
 use Rattle.std.specs.declared.cmp.Ordering.TheVariants.{Less, Equal, Greater}
 use Rattle.std.specs.Ordering.{is_some_and, is_lt, is_le, is_gt, is_ge, ordering_reverse}
 use Rattle.std.proofs.lemmas.Bool.{false≢true}
+use Rattle.lists.proofs.Options.{ge_reversed as ge_turned, gt_reversed as gt_turned}
 use Rattle.schema.specs.declared.order.Order.{Order}
 use Rattle.schema.specs.declared.order.Order.TheVariants.{Signed, Unsigned, FalseFirst, Bytewise}
 use Rattle.schema.specs.Values.{ValueTree, boolean, integer, bytes}
@@ -24,18 +25,6 @@ below_is None h = absurd (false≢true h)
 below_is (Some Less) h = refl
 below_is (Some Equal) h = absurd (false≢true h)
 below_is (Some Greater) h = absurd (false≢true h)
-
-ge_turned : (x : Option Ordering) → is_some_and is_ge (option_map ordering_reverse x) ≡ is_some_and is_le x
-ge_turned None = refl
-ge_turned (Some Less) = refl
-ge_turned (Some Equal) = refl
-ge_turned (Some Greater) = refl
-
-gt_turned : (x : Option Ordering) → is_some_and is_gt (option_map ordering_reverse x) ≡ is_some_and is_lt x
-gt_turned None = refl
-gt_turned (Some Less) = refl
-gt_turned (Some Equal) = refl
-gt_turned (Some Greater) = refl
 
 pub from_ge : (o : Option Order) (a b : ValueTree) → is_some_and is_ge (compared o a b) ≡ true → IsAtMost o b a
 from_ge o a b h = sym (ap (is_some_and is_ge) (reversed_in o a b) ∙ ge_turned (compared o b a)) ∙ h

@@ -1,9 +1,9 @@
 -- Rows cut to some leaves fit the cut schema, which is a schema within the limits.
-use Rattle.std.proofs.Common.{ℕ, max, ◌≡◌, ◌+◌, ◌≤◌, Bool, true, ◌&&◌, List, [], ◌∷◌, length, Option, Some, None, refl, ap, sym, subst, ◌∙◌, arith}
+use Rattle.std.proofs.Common.{ℕ, max, ◌≡◌, ◌+◌, ◌≤◌, Bool, true, List, [], ◌∷◌, length, Option, Some, None, refl, ap, sym, subst, ◌∙◌, arith}
 use Rattle.std.specs.Prelude.{IsTrue, ◌||◌, nat_eq}
 use Rattle.std.specs.List.{AllByRecursion}
 use Rattle.std.specs.Str.{is_utf8}
-use Rattle.std.proofs.lemmas.Bool.{and_parts, false≢true}
+use Rattle.std.proofs.lemmas.Bool.{and_parts, false≢true, and_from as both_true}
 use Rattle.schema.specs.declared.value.Repetition.{Repetition}
 use Rattle.schema.specs.declared.value.Repetition.TheVariants.{Required, Optional, Repeated}
 use Rattle.schema.specs.declared.annotation.GroupAnnotation.{GroupAnnotation}
@@ -16,9 +16,6 @@ use Rattle.schema.specs.Reading.{tall, tallest}
 use Rattle.schema.specs.Cutting.{group_of, kept, cut, cut_each, is_among, cut_to, cut_items, cut_as, cut_group, kept_value, cut_value, cut_values, wanted_of, ArePlaces, CutRowsFit}
 use Rattle.schema.proofs.Chosen.{wanted_some, wanted-all, wanted-length, Paired, paired-length, paired-none, paired-all}
 use Rattle.schema.proofs.Cuts.{leaf_is, group_is, same_head, SameFrom, each_same}
-
-both_true : (a b : Bool) → a ≡ true → b ≡ true → (a && b) ≡ true
-both_true a b p q = cc
 
 items_fit : (P Q : ValueTrees → Bool) (c : ValueTrees → ValueTrees) → ((v : ValueTree) → is_group P v ≡ true → is_group Q (cut_group c v) ≡ true) → (vs : ValueTrees) → each (is_group P) vs ≡ true → each (is_group Q) (cut_items (cut_group c) vs) ≡ true
 items_fit P Q c h no_values e = refl

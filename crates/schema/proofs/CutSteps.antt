@@ -2,6 +2,8 @@
 use Rattle.std.proofs.Common.{ℕ, suc, ◌≡◌, ◌+◌, ◌<◌, ◌≤◌, Bool, List, [], ◌∷◌, length, map, drop, get_or, Option, Some, None, Result, Ok, Err, refl, ap, sym, subst, ◌∙◌}
 use Rattle.std.specs.Prelude.{IfOk}
 use Rattle.std.specs.List.{AllByRecursion}
+use Rattle.lists.proofs.Slices.{drop_past}
+use Rattle.lists.proofs.Lists.{length_map as length-each}
 use Rattle.schema.specs.declared.value.Repetition.{Repetition}
 use Rattle.schema.specs.declared.annotation.GroupAnnotation.{GroupAnnotation}
 use Rattle.schema.specs.declared.field.Field.{Field as CodeField}
@@ -12,9 +14,8 @@ use Rattle.schema.specs.Reading.{count_leaves, count_leaves_each}
 use Rattle.schema.specs.inner.Reading.{join_fields}
 use Rattle.schema.specs.Views.{field_view, field_views, leaf_view}
 use Rattle.schema.specs.Cutting.{group_of, kept, cut, cut_each, ArePlaces}
-use Rattle.schema.proofs.Limits.{length-each}
 use Rattle.schema.proofs.Few.{sizes}
-use Rattle.schema.proofs.Forest.{field_place, drop_past, join-none}
+use Rattle.schema.proofs.Forest.{field_place, join-none}
 
 pub group_some : (n : List ℕ) (r : Repetition) (a : Option GroupAnnotation) (fs : List CodeField) → (length fs ≡ 0 → ⊥) → Some (fields n r a (field_views fs)) ≡ group_of n r a (field_views fs)
 group_some n r a [] h = absurd (h refl)

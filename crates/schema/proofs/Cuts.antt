@@ -1,6 +1,7 @@
 -- A cut schema has the wanted leaves, and rows cut with it have their columns.
 use Rattle.std.proofs.Common.{ℕ, suc, ◌≡◌, ◌+◌, Bool, true, false, List, [], ◌∷◌, ◌++◌, length, map, Option, Some, None, refl, ap, sym, subst, ◌∙◌, arith}
 use Rattle.std.specs.Prelude.{if◌then◌else◌}
+use Rattle.lists.proofs.Lists.{length_map as length-each}
 use Rattle.schema.specs.declared.value.Repetition.{Repetition}
 use Rattle.schema.specs.declared.value.Repetition.TheVariants.{Required, Optional, Repeated}
 use Rattle.schema.specs.declared.annotation.GroupAnnotation.{GroupAnnotation}
@@ -9,7 +10,6 @@ use Rattle.schema.specs.Values.{ValueTree, null, boolean, integer, bytes, group,
 use Rattle.schema.specs.Shape.{Field, leaf, fields, Fields, no_fields, field, repetition_of, name_of}
 use Rattle.schema.specs.Stripe.{Leaf, leaf_at, below, leaves, leaves_from, leaves_of, Striping, stripe, stripe_as, list_items, later_items, column, definitions, repetitions, greatest_definition, greatest_repetition}
 use Rattle.schema.specs.Cutting.{group_of, kept, cut, cut_each, is_among, cut_to, cut_items, cut_as, cut_group, kept_value, cut_value, cut_values, cut_rows, wanted_of, CutRowsHaveColumns, shown, CutHasLeaves}
-use Rattle.schema.proofs.Limits.{length-each}
 use Rattle.schema.proofs.Determined.{At, At-first, At-next, At-whole}
 use Rattle.schema.proofs.Chosen.{wanted-map, wanted-both, Paired, paired-both, paired-more, paired-each, paired-map}
 

@@ -2,6 +2,7 @@
 use Rattle.std.proofs.Common.{ℕ, ◌≡◌, ◌+◌, ◌<◌, ◌≤◌, suc, true, Bool, List, [], ◌∷◌, map, None, sym, subst, ◌∙◌, inl, inr, arith}
 use Rattle.std.specs.List.{AllByRecursion}
 use Rattle.std.proofs.lemmas.Bool.{and_parts, false≢true}
+use Rattle.lists.proofs.Lists.{all_mapped, all_weaker, all_append as all_joined}
 use Rattle.schema.specs.declared.value.Repetition.{Repetition}
 use Rattle.schema.specs.declared.value.Repetition.TheVariants.{Required, Optional, Repeated}
 use Rattle.schema.specs.Annotations.{LeafType}
@@ -12,15 +13,7 @@ use Rattle.schema.specs.Stripe.{Leaf, below, leaves, leaves_from, leaves_of, Str
 use Rattle.schema.specs.Law.{IsEntry, IsEntryOf, HasGreatestLevels, EntriesAreOfLeaves}
 use Rattle.schema.proofs.LeafLaws.{when_optional, when_repeated, when_group}
 use Rattle.schema.proofs.Determined.{At, At-first, At-next, At-whole}
-use Rattle.schema.proofs.Kept.{all_joined, levels_are_of_steps}
-
-pub all_mapped : {A B : Type 0} (P : A → Type 0) (Q : B → Type 0) (g : A → B) → ((x : A) → P x → Q (g x)) → (xs : List A) → AllByRecursion P xs → AllByRecursion Q (map g xs)
-all_mapped P Q g f [] h = tt
-all_mapped P Q g f (x ∷ xs) h = (f x h.0, all_mapped P Q g f xs h.1)
-
-pub all_weaker : {A : Type 0} (P Q : A → Type 0) → ((x : A) → P x → Q x) → (xs : List A) → AllByRecursion P xs → AllByRecursion Q xs
-all_weaker P Q f [] h = tt
-all_weaker P Q f (x ∷ xs) h = (f x h.0, all_weaker P Q f xs h.1)
+use Rattle.schema.proofs.Kept.{levels_are_of_steps}
 
 -- what fits gives entries of levels at most this far above those that it begins with
 abbrev Holds : (ValueTree → Bool) → Striping → ℕ → ℕ → LeafType → Type 0

@@ -1,6 +1,8 @@
 -- A schema's groups have few children.
-use Rattle.std.proofs.Common.{ℕ, suc, ◌≡◌, ◌+◌, ◌<◌, ◌≤◌, ◌^◌, List, [], ◌∷◌, ◌++◌, length, map, refl, ap, sym, subst, ◌∙◌, arith, append_assoc, Option, Some, None, String, Vec, Global, string_bytes, Result, Ok, Err}
+use Rattle.std.proofs.Common.{ℕ, suc, ◌≡◌, ◌+◌, ◌<◌, ◌≤◌, ◌^◌, List, [], ◌∷◌, ◌++◌, length, map, refl, ap, sym, subst, ◌∙◌, arith, append_assoc, Option, Some, None, String, Vec, Global, string_bytes, Result, Ok, Err, length-append as length-both}
 use Rattle.std.specs.Prelude.{pos, OnOk}
+use Rattle.std.proofs.lemmas.List.{map-append as map-both}
+use Rattle.lists.proofs.Lists.{length_map as length-each}
 use Rattle.schema.specs.declared.field.Field.{Field as CodeField, Leaf, Group}
 use Rattle.schema.specs.declared.value.Repetition.{Repetition}
 use Rattle.schema.specs.declared.annotation.GroupAnnotation.{GroupAnnotation}
@@ -13,7 +15,6 @@ use Rattle.schema.specs.Stripe.{leaves, leaves_from, below}
 use Rattle.schema.specs.Law.{IsValid, AreValid}
 use Rattle.schema.specs.Listed.{leaf_element, group_element, listing, listings, elements_of, root_name, repetition_number, group_converted, IsFew, AreFew}
 use Rattle.schema.specs.Views.{field_view, field_views, leaf_type_view}
-use Rattle.schema.proofs.Limits.{length-both, length-each}
 
 pub count-views : (fs : List CodeField) → count (field_views fs) ≡ length fs
 count-views [] = refl
@@ -49,10 +50,6 @@ few_fields fs v h = let c = count-views fs in small (length fs) (length (leaves_
 
 pub few_here : (f : CodeField) (n : String Global) (r : Repetition) (a : Option GroupAnnotation) (v : Vec CodeField Global) → f ≡ Group n r a v → IsFew (field_view f) → length v.items < 2 ^ 31
 few_here f n r a v is h = let k = (subst IsFew (ap field_view is ∙ view-Group n r a v) h).0 in let c = count-views v.items in omega (arith, k, c)
-
-pub map-both : {A B : Type 0} (f : A → B) (xs ys : List A) → map f (xs ++ ys) ≡ map f xs ++ map f ys
-map-both f [] ys = refl
-map-both f (x ∷ xs) ys = ap (λ t. f x ∷ t) (map-both f xs ys)
 
 one_more : (new old : List CodeElement) (e : CodeElement) (x : Element) → new ≡ old ++ e ∷ [] → element_view e ≡ x → elements_view new ≡ elements_view old ++ x ∷ []
 one_more new old e x p q = ap elements_view p ∙ map-both element_view old (e ∷ []) ∙ ap (λ y. elements_view old ++ y ∷ []) q

@@ -25,12 +25,6 @@ use Rattle.schema.specs.inner.Reading.{amount, children, children_by, may_have, 
 pub at_place : (es : List CodeElement) (i : ℕ) (e : CodeElement) → i < length es → e ≡ get_or es i e → elements_view (drop i es) ≡ element_view e ∷ elements_view (drop (i + 1) es)
 at_place es i e h is = ap elements_view (drop_more es i e h) ∙ ap (λ t. element_view t ∷ elements_view (drop (i + 1) es)) (sym is)
 
-pub drop_past : {A : Type 0} (xs : List A) (i : ℕ) → length xs ≤ i → drop i xs ≡ []
-drop_past [] zero h = refl
-drop_past [] (suc i) h = refl
-drop_past (x ∷ xs) zero h = absurd (omega (arith, h))
-drop_past (x ∷ xs) (suc i) h = drop_past xs i (omega (arith, h))
-
 to_le : (a b : ℕ) → nat_le a b ≡ true → a ≤ b
 to_le a b p = grind (arith, nat_tests)
 

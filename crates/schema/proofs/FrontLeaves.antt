@@ -1,6 +1,7 @@
 -- The leaves of the first fields.
-use Rattle.std.proofs.Common.{◌≡◌, ℕ, zero, suc, ◌+◌, ◌≤◌, List, [], ◌∷◌, ◌++◌, length, map, take, refl, ap, sym, subst, ◌∙◌, arith, add-zero, append_assoc, length-append}
+use Rattle.std.proofs.Common.{◌≡◌, ℕ, zero, suc, ◌+◌, ◌≤◌, ◌++◌, length, map, take, refl, ap, sym, subst, ◌∙◌, arith, add-zero, append_assoc, length-append}
 use Rattle.std.proofs.Math.Seq.{take-append_seam}
+use Rattle.lists.proofs.Lists.{length_map as length_mapped}
 use Rattle.schema.specs.Shape.{Field, leaf, fields, Fields, no_fields, field, count}
 use Rattle.schema.specs.Stripe.{leaves, leaves_from, below}
 use Rattle.schema.specs.Law.{IsGroupOf, IsValid, AreValid}
@@ -19,10 +20,6 @@ pub fronts_have_first_leaves : FrontsHaveFirstLeaves
 fronts_have_first_leaves n fs =
     let first = leaves_from 0 (first_fields n fs) in
     sym (ap (take (length first)) (leaves_split n 0 fs) ∙ take-append_seam first (leaves_from (0 + n) (fields_after n fs)))
-
-pub length_mapped : {A B : Type 0} (f : A → B) (xs : List A) → length (map f xs) ≡ length xs
-length_mapped f [] = refl
-length_mapped f (x ∷ xs) = ap suc (length_mapped f xs)
 
 -- a field has a leaf
 mutual

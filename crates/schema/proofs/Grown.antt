@@ -2,7 +2,7 @@
 use Rattle.std.proofs.Common.{◌≡◌, ℕ, zero, suc, ◌+◌, ◌<◌, ◌≤◌, Bool, true, false, ◌||◌, nat_eq, List, [], ◌∷◌, length, Some, refl, ap, sym, subst, ◌∙◌, arith, add-zero, eqb-true}
 use Rattle.std.specs.Prelude.{cond, count_by, nat_lt}
 use Rattle.std.specs.List.{AllByRecursion}
-use Rattle.std.proofs.lemmas.Bool.{false≢true, and_parts}
+use Rattle.std.proofs.lemmas.Bool.{false≢true, and_parts, and_from as and_true}
 use Rattle.std.proofs.lemmas.Bool.Decides.{nat_tests}
 use Rattle.std.proofs.lemmas.List.Sums.{sum_by-cons}
 use Rattle.schema.specs.declared.value.Repetition.TheVariants.{Optional}
@@ -14,7 +14,7 @@ use Rattle.schema.specs.Keys.{KeyColumn, AreKeys, places_of, field_at, key_field
 use Rattle.schema.proofs.LeafPlaces.{one_if, count_gone, count_places}
 use Rattle.schema.specs.Fronts.{first_fields, fields_after, AreOptional, IsFront, padded, with_field, with_null}
 use Rattle.schema.specs.Growing.{GrownRowsFit, FrontsStay, KeysStay}
-use Rattle.schema.proofs.Padding.{null_fits, and_true}
+use Rattle.schema.proofs.Padding.{null_fits}
 
 pub first_stay : (n : ℕ) (fs : Fields) (f : Field) → n ≤ count fs → first_fields n (with_field fs f) ≡ first_fields n fs
 first_stay zero fs f h = refl

@@ -1,7 +1,8 @@
 -- Levels of leaves, annotations that are written again, and structs that leaves keep.
-use Rattle.std.proofs.Common.{◌≡◌, ℕ, suc, ℤ, pos, Bool, true, false, List, [], ◌∷◌, ◌++◌, map, Option, Some, None, refl, ap, sym, ◌∙◌}
+use Rattle.std.proofs.Common.{◌≡◌, ℕ, suc, ℤ, pos, Bool, true, false, List, [], ◌∷◌, map, Option, Some, None, refl, ap, sym, ◌∙◌}
 use Rattle.std.specs.Prelude.{if◌then◌else◌}
 use Rattle.std.specs.List.{AllByRecursion}
+use Rattle.lists.proofs.Lists.{all_append as all_joined}
 use Rattle.thrift_compact.specs.Tree.{Fields as Struct}
 use Rattle.schema.specs.declared.value.Kind.{Kind}
 use Rattle.schema.specs.declared.value.Kind.TheVariants.{Boolean, Int32, Int64, ByteArray, FixedLenByteArray}
@@ -13,11 +14,6 @@ use Rattle.schema.specs.Annotations.{known, other_logical, number_of, converted_
 use Rattle.schema.specs.Shape.{Field, leaf, fields, Fields, no_fields, field}
 use Rattle.schema.specs.Stripe.{Leaf, below, leaves, leaves_from}
 use Rattle.schema.specs.Law.{HasGreatestLevels, LevelsAreOfSteps, AnnotationsAreKept, KeepsWritable, IsValid, AreValid, KeptStructsHaveBytes}
-
--- of both lists
-pub all_joined : {A : Type 0} (P : A → Type 0) (xs ys : List A) → AllByRecursion P xs → AllByRecursion P ys → AllByRecursion P (xs ++ ys)
-all_joined P [] ys h k = k
-all_joined P (x ∷ xs) ys h k = (h.0, all_joined P xs ys h.1 k)
 
 all_below : (i : ℕ) (f : Field) (ls : List Leaf) → AllByRecursion HasGreatestLevels (map (below i f) ls)
 all_below i f [] = tt

@@ -1,23 +1,14 @@
 -- Tests of key columns.
-use Rattle.std.proofs.Common.{◌≡◌, ℕ, zero, suc, ◌<◌, ◌≤◌, Bool, true, false, List, [], ◌∷◌, length, get_or, Some, refl, ap, sym, arith}
+use Rattle.std.proofs.Common.{◌≡◌, ℕ, zero, suc, ◌<◌, ◌≤◌, true, List, [], ◌∷◌, length, get_or, Some, refl, ap, sym, arith}
 use Rattle.std.specs.Prelude.{not}
 use Rattle.std.specs.List.{AllByRecursion}
-use Rattle.std.proofs.lemmas.Bool.{false≢true, and_parts}
+use Rattle.std.proofs.lemmas.Bool.{and_parts, not-true as not_true, not_from_false as not_false, and_from as and_true}
 use Rattle.schema.specs.declared.field.Field.{Field as CodeField}
 use Rattle.schema.specs.Views.{field_view, field_views}
 use Rattle.schema.specs.Shape.{Field, Fields}
 use Rattle.schema.specs.Cutting.{is_among}
 use Rattle.schema.specs.Keys.{KeyColumn, AreDistinct, field_at, key_field}
 use Rattle.schema.specs.inner.Keyed.{IsKeyOf, are_distinct}
-use Rattle.schema.proofs.Padding.{and_true}
-
-not_true : (b : Bool) → not b ≡ true → b ≡ false
-not_true true h = absurd (false≢true h)
-not_true false h = refl
-
-not_false : (b : Bool) → b ≡ false → not b ≡ true
-not_false true h = absurd (false≢true (sym h))
-not_false false h = refl
 
 pub to_distinct : (ns : List ℕ) → are_distinct ns ≡ true → AreDistinct ns
 to_distinct [] h = tt

@@ -4,6 +4,8 @@ use Rattle.std.specs.Prelude.{cond, count_by}
 use Rattle.std.specs.List.{slice_get}
 use Rattle.std.proofs.lemmas.Bool.Decides.{nat_tests}
 use Rattle.std.proofs.lemmas.List.Sums.{sum_by-cons}
+use Rattle.lists.proofs.Slices.{slice_get_append as get_front}
+use Rattle.lists.proofs.Lists.{length_map as length_mapped}
 use Rattle.schema.specs.Values.{null, ValueTrees, no_values, value as item, member_at}
 use Rattle.schema.specs.Shape.{Field, Fields, no_fields, field}
 use Rattle.schema.specs.Stripe.{Leaf, leaves, leaves_from, below}
@@ -93,18 +95,9 @@ get_mapped f [] n x h = absurd (cc)
 get_mapped f (y ∷ xs) zero x h = let e : y ≡ x = cc in ap (λ z. Some (f z)) e
 get_mapped f (y ∷ xs) (suc n) x h = get_mapped f xs n x h
 
-pub get_front : {A : Type 0} (xs ys : List A) (n : ℕ) (x : A) → slice_get xs n ≡ Some x → slice_get (xs ++ ys) n ≡ Some x
-get_front [] ys n x h = absurd (cc)
-get_front (y ∷ xs) ys zero x h = h
-get_front (y ∷ xs) ys (suc n) x h = get_front xs ys n x h
-
 pub get_behind : {A : Type 0} (xs ys : List A) (n : ℕ) → slice_get (xs ++ ys) (length xs + n) ≡ slice_get ys n
 get_behind [] ys n = let e : 0 + n ≡ n = omega arith in rw e refl
 get_behind (x ∷ xs) ys n = let e : suc (length xs) + n ≡ suc (length xs + n) = omega arith in rw e (get_behind xs ys n)
-
-length_mapped : {A B : Type 0} (f : A → B) (xs : List A) → length (map f xs) ≡ length xs
-length_mapped f [] = refl
-length_mapped f (x ∷ xs) = ap suc (length_mapped f xs)
 
 -- a leaf of a field stands among the leaves of the fields
 pub leaf_stands : (i p m : ℕ) (fs : Fields) (f : Field) (l : Leaf) → field_at p fs ≡ Some f → slice_get (leaves f) m ≡ Some l → slice_get (leaves_from i fs) (leaves_before p fs + m) ≡ Some (below (i + p) f l)

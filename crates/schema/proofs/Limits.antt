@@ -1,7 +1,8 @@
 -- How many leaves a schema has, and how long the ways to them are.
-use Rattle.std.proofs.Common.{ℕ, suc, max, ◌≡◌, ◌+◌, ◌-◌, ◌≤◌, List, [], ◌∷◌, ◌++◌, length, map, refl, ap, subst, ◌∙◌, Option, Some, None, ◌<◌, ◌⊎◌, arith, inl, inr}
+use Rattle.std.proofs.Common.{ℕ, suc, max, ◌≡◌, ◌+◌, ◌-◌, ◌≤◌, List, [], ◌∷◌, ◌++◌, length, map, refl, ap, subst, ◌∙◌, Option, Some, None, ◌<◌, ◌⊎◌, arith, inl, inr, length-append as length-both}
 use Rattle.std.specs.Prelude.{ℤ}
 use Rattle.std.specs.List.{AllByRecursion}
+use Rattle.lists.proofs.Lists.{length_map as length-each, all_append as all-both, all_weaker_on as all-more}
 use Rattle.schema.specs.Elements.{Element}
 use Rattle.schema.specs.Shape.{Field, leaf, fields, Fields, no_fields, field}
 use Rattle.schema.specs.Stripe.{Leaf, leaves, leaves_from, leaves_of, below}
@@ -9,14 +10,6 @@ use Rattle.schema.specs.Law.{IsWithinLimits, IsValid, AreValid}
 use Rattle.schema.specs.Listing.{Branch, branch, Branches, no_branches, branches, count_branches, depth_first, depth_first_each, HasChildren, IsCounted, AreCounted, IsField, AreFields, one_typed, count_typed, height, height_of, IsTreeOf, IsTooLarge, IsSchemaOf}
 use Rattle.schema.specs.Reading.{tall, tallest}
 use Rattle.schema.proofs.Trees.{below_is, forest-listing}
-
-pub length-both : {A : Type 0} (xs ys : List A) → length (xs ++ ys) ≡ length xs + length ys
-length-both [] ys = omega arith
-length-both (x ∷ xs) ys = let h = length-both xs ys in omega (arith, h)
-
-pub length-each : {A B : Type 0} (f : A → B) (xs : List A) → length (map f xs) ≡ length xs
-length-each f [] = refl
-length-each f (x ∷ xs) = ap suc (length-each f xs)
 
 typed-both : (xs ys : List Element) → count_typed (xs ++ ys) ≡ count_typed xs + count_typed ys
 typed-both [] ys = omega arith
@@ -49,14 +42,6 @@ mutual
       let q = length-each (below i f) (leaves f) in
       let r = typed-both (depth_first b) (depth_first_each bs) in
       omega (arith, here, rest, p, q, r)
-
-all-both : {A : Type 0} (P : A → Type 0) (xs ys : List A) → AllByRecursion P xs → AllByRecursion P ys → AllByRecursion P (xs ++ ys)
-all-both P [] ys p q = q
-all-both P (x ∷ xs) ys p q = (p.0, all-both P xs ys p.1 q)
-
-all-more : {A : Type 0} (P Q : A → Type 0) (xs : List A) → ((x : A) → P x → Q x) → AllByRecursion P xs → AllByRecursion Q xs
-all-more P Q [] f p = tt
-all-more P Q (x ∷ xs) f p = (f x p.0, all-more P Q xs f p.1)
 
 all-each : {A B : Type 0} (f : A → B) (P : B → Type 0) (xs : List A) → AllByRecursion (λ x. P (f x)) xs → AllByRecursion P (map f xs)
 all-each f P [] p = tt

@@ -1,11 +1,12 @@
 -- The names of fields, met one by one from the last, and kept in a set.
-use Rattle.std.proofs.Common.{ℕ, zero, suc, ◌≡◌, ◌∙◌, ◌+◌, ◌<◌, Bool, true, false, ◌||◌, cond, not, List, [], ◌∷◌, drop, length, get_or, refl, sym, ap, subst, ⊎_elim, Ordering, nat_cmp, bytes_eq, Bor, BTreeSet}
+use Rattle.std.proofs.Common.{ℕ, zero, suc, ◌≡◌, ◌∙◌, ◌+◌, ◌<◌, Bool, true, false, cond, not, List, [], ◌∷◌, drop, length, get_or, sym, ap, subst, ⊎_elim, Ordering, nat_cmp, bytes_eq, Bor, BTreeSet}
 use Rattle.std.specs.BTreeSet.{contains, Updates}
 use Rattle.std.specs.Cmp.Lexicographic.{slice_cmp}
 use Rattle.std.specs.List.{AllByRecursion, list_any}
 use Rattle.std.proofs.lemmas.Bool.{false≢true, or_parts, or_cases, not-true, not-false}
 use Rattle.std.proofs.lemmas.Map.Text.{is_eq-slice_cmp}
 use Rattle.std.proofs.lemmas.Slice.Eq.{bytes_eq-Decides}
+use Rattle.lists.proofs.Booleans.{cond_is_or as or_else}
 use Rattle.schema.specs.declared.field.Field.{Field as CodeField}
 use Rattle.schema.specs.Shape.{name_of}
 use Rattle.schema.specs.Views.{field_view, field_views}
@@ -36,10 +37,6 @@ apart n (m ∷ ns) h =
 not_apart : (n : List ℕ) (ns : List (List ℕ)) → is_among n ns ≡ true → AllByRecursion (λ m. n ≡ m → ⊥) ns → ⊥
 not_apart n [] h all = false≢true h
 not_apart n (m ∷ ns) h all = ⊎_elim (λ e. all.0 (sym ((bytes_eq-Decides m n).0 e))) (λ e. not_apart n ns e all.1) (or_cases (bytes_eq m n) (is_among n ns) h)
-
-or_else : (a b : Bool) → cond a true b ≡ (a || b)
-or_else true b = refl
-or_else false b = refl
 
 -- one name more
 add_name : (old new : BTreeSet (Bor (List ℕ))) (k : Bor (List ℕ)) (ns : List (List ℕ)) → Updates by_bytes old new k true → HasJust old ns → HasJust new (k.now ∷ ns)

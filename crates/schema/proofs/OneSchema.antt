@@ -1,5 +1,6 @@
 -- A list of elements stands for at most one schema.
 use Rattle.std.proofs.Common.{◌≡◌, [], ◌∷◌, refl, sym, ap, subst, ◌∙◌, Option, Some, None}
+use Rattle.lists.proofs.Options.{one_some}
 use Rattle.schema.specs.declared.value.Kind.{Kind}
 use Rattle.schema.specs.declared.building.Typed.TheVariants.{Stored}
 use Rattle.schema.specs.Annotations.{LeafType}
@@ -8,9 +9,6 @@ use Rattle.schema.specs.Shape.{Field, leaf, fields, Fields, no_fields, field}
 use Rattle.schema.specs.Listing.{Branch, branch, Branches, no_branches, branches, typed, leaf_type, IsTyped, IsField, AreFields, ListsMeanOneSchema}
 use Rattle.schema.specs.inner.Reading.{forest}
 use Rattle.schema.proofs.Trees.{below_is, only_tree}
-
-one_some : {A : Type 0} (o : Option A) (x y : A) → o ≡ Some x → o ≡ Some y → x ≡ y
-one_some o x y p q = cc
 
 one_stored : (k l : Kind) → Stored k ≡ Stored l → k ≡ l
 one_stored k l h = cc

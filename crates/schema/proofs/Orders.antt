@@ -11,6 +11,7 @@ use Rattle.std.specs.Cmp.Lexicographic.{slice_cmp}
 use Rattle.std.proofs.lemmas.Bool.{and_parts}
 use Rattle.std.proofs.lemmas.Cmp.{nat_cmp_total, int_cmp_total, nat_list_cmp_total}
 use Rattle.std.proofs.lemmas.Map.Lookups.{exact_unsigned, exact_signed, exact_bytes}
+use Rattle.lists.proofs.Booleans.{same_by_bool_cmp as bool_equal}
 use Rattle.schema.specs.declared.value.Kind.{Kind}
 use Rattle.schema.specs.declared.value.Kind.TheVariants.{Boolean, Int32, Int64, ByteArray, FixedLenByteArray}
 use Rattle.schema.specs.declared.annotation.ConvertedType.{ConvertedType}
@@ -50,12 +51,6 @@ unsigned_equal (pos a) (pos b) h = ap pos (exact_unsigned a b h)
 unsigned_equal (pos a) (negsuc b) h = cc
 unsigned_equal (negsuc a) (pos b) h = cc
 unsigned_equal (negsuc a) (negsuc b) h = ap negsuc (sym (exact_unsigned b a h))
-
-bool_equal : (a b : Bool) → bool_cmp a b ≡ Equal → a ≡ b
-bool_equal false false h = refl
-bool_equal false true h = cc
-bool_equal true false h = cc
-bool_equal true true h = refl
 
 -- ---- the laws, order by order
 

@@ -1,7 +1,7 @@
 -- Rows with Null at the end.
-use Rattle.std.proofs.Common.{◌≡◌, ℕ, zero, suc, ◌+◌, ◌-◌, ◌≤◌, Bool, true, ◌&&◌, List, [], ◌∷◌, ◌++◌, length, map, replicate, refl, ap, sym, ◌∙◌, arith, length-append}
+use Rattle.std.proofs.Common.{◌≡◌, ℕ, zero, suc, ◌+◌, ◌-◌, ◌≤◌, true, List, [], ◌∷◌, ◌++◌, length, map, replicate, refl, ap, sym, ◌∙◌, arith, length-append}
 use Rattle.std.specs.List.{AllByRecursion}
-use Rattle.std.proofs.lemmas.Bool.{false≢true, and_parts}
+use Rattle.std.proofs.lemmas.Bool.{false≢true, and_parts, and_from as and_true}
 use Rattle.std.proofs.lemmas.List.{map-append}
 use Rattle.std.proofs.lemmas.List.Concat.{flat_map-cons}
 use Rattle.schema.specs.declared.value.Repetition.TheVariants.{Optional}
@@ -15,9 +15,6 @@ use Rattle.schema.proofs.FrontLeaves.{leaves_split}
 pub null_fits : (f : Field) → repetition_of f ≡ Optional → fits f null ≡ true
 null_fits (leaf n r t) e = rw e refl
 null_fits (fields n r a fs) e = rw e refl
-
-pub and_true : (a b : Bool) → a ≡ true → b ≡ true → a && b ≡ true
-and_true a b p q = rw (p, q) refl
 
 nulls_fit : (fs : Fields) → AreOptional fs → fits_each fs (padded fs no_values) ≡ true
 nulls_fit no_fields h = refl

@@ -2,6 +2,7 @@
 use Rattle.std.proofs.Common.{ℕ, ◌≡◌, ◌<◌, suc, true, Bool, List, [], ◌∷◌, ◌++◌, map, refl, sym, subst, ◌∙◌, inl, inr, arith}
 use Rattle.std.specs.List.{AllByRecursion}
 use Rattle.std.proofs.lemmas.Bool.{and_parts, false≢true}
+use Rattle.lists.proofs.Lists.{all_mapped, all_weaker, all_append as all_joined}
 use Rattle.schema.specs.declared.value.Repetition.{Repetition}
 use Rattle.schema.specs.declared.value.Repetition.TheVariants.{Required, Optional, Repeated}
 use Rattle.schema.specs.Annotations.{LeafType}
@@ -12,8 +13,6 @@ use Rattle.schema.specs.Stripe.{Leaf, Entry, below, leaves, leaves_from, leaves_
 use Rattle.schema.specs.Law.{BeginsOneRow, RowsBeginOnce}
 use Rattle.schema.proofs.LeafLaws.{when_optional, when_repeated, when_group}
 use Rattle.schema.proofs.Determined.{At, At-first, At-next, At-whole}
-use Rattle.schema.proofs.Entries.{all_mapped, all_weaker}
-use Rattle.schema.proofs.Kept.{all_joined}
 
 abbrev Above : ℕ → List Entry → Type 0
 Above k es = AllByRecursion (λ e. k < e.repetition) es

@@ -1,14 +1,11 @@
 -- Bytes and texts.
-use Rattle.std.proofs.Common.{ℕ, ◌≡◌, ◌<◌, Bool, true, false, ◌&&◌, nat_lt, List, [], ◌∷◌, Result, Ok, Err, refl, sym, suc, get_or, Fits, w8, arith}
+use Rattle.std.proofs.Common.{ℕ, ◌≡◌, ◌<◌, true, nat_lt, List, [], ◌∷◌, Result, Ok, Err, refl, sym, suc, get_or, Fits, w8, arith}
 use Rattle.std.proofs.lemmas.Bool.Decides.{nat_tests}
 use Rattle.std.specs.Prelude.{is_ok, MatchResult, IsUtf8}
 use Rattle.std.specs.Str.{is_utf8}
 use Rattle.schema.specs.Fits.{are_bytes}
 use Rattle.std.proofs.lemmas.Str.{IsUtf8-from_is_utf8, is_utf8-from_IsUtf8}
-
-not_true : (b : Bool) → (b ≡ true → ⊥) → b ≡ false
-not_true true h = absurd (h refl)
-not_true false h = refl
+use Rattle.std.proofs.lemmas.Bool.{false_from_ne_true as not_true}
 
 -- what is read as text is UTF-8
 pub is_text_just_where : {X E : Type 0} (P : X → Type 0) (r : Result X E) (s : List ℕ) → MatchResult r (λ x. P x × IsUtf8 s) (λ e. ¬ (IsUtf8 s)) → is_ok r ≡ is_utf8 s
@@ -22,7 +19,3 @@ is_byte b h = let lt : b < 256 = omega (arith, h.fits) in grind (arith, nat_test
 pub all_bytes : (s : List ℕ) → ((i : ℕ) → Fits w8 (get_or s i 0)) → are_bytes s ≡ true
 all_bytes [] f = refl
 all_bytes (b ∷ s) f = rw (is_byte b (f 0)) (all_bytes s (λ i. f (suc i)))
-
-pub and_true : (b : Bool) → b && true ≡ b
-and_true true = refl
-and_true false = refl

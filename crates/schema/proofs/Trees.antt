@@ -1,5 +1,5 @@
 -- A list that is well formed is the listing of its trees, and the listing of trees is well formed.
-use Rattle.std.proofs.Common.{ℕ, zero, suc, ◌≡◌, ◌<◌, ◌≤◌, Bool, true, ◌&&◌, nat_lt, nat_le, List, [], ◌∷◌, ◌++◌, drop, get_or, refl, ap, sym, subst, ◌∙◌, Option, Some, None, append_assoc, arith, inl, inr}
+use Rattle.std.proofs.Common.{ℕ, zero, suc, ◌≡◌, ◌<◌, ◌≤◌, Bool, true, ◌&&◌, nat_lt, nat_le, List, [], ◌∷◌, ◌++◌, drop, get_or, refl, ap, sym, subst, ◌∙◌, Option, Some, None, append_assoc, arith, inl, inr, append-nil as append_none}
 use Rattle.std.specs.Prelude.{ℤ, pos, negsuc}
 use Rattle.std.proofs.lemmas.Bool.{false≢true}
 use Rattle.std.proofs.lemmas.Bool.Decides.{nat_tests}
@@ -29,10 +29,6 @@ drop_all (branches b bs) cs = drop_all bs cs
 join-none : (bs : Branches) → join_branches bs no_branches ≡ bs
 join-none no_branches = refl
 join-none (branches b bs) = ap (branches b) (join-none bs)
-
-append_none : {A : Type 0} (xs : List A) → xs ++ [] ≡ xs
-append_none [] = refl
-append_none (x ∷ xs) = ap (λ t. x ∷ t) (append_none xs)
 
 count-join : (bs cs : Branches) → count_branches bs ≤ count_branches (join_branches bs cs)
 count-join no_branches cs = omega arith

@@ -1,14 +1,11 @@
 -- Views of lists of values and of fields, element by element.
-use Rattle.std.proofs.Common.{◌≡◌, ◌≢◌, Bool, true, false, ◌&&◌, List, [], ◌∷◌, length, refl, ap, suc}
+use Rattle.std.proofs.Common.{◌≡◌, ◌≢◌, false, List, [], ◌∷◌, length, refl, ap, suc}
+use Rattle.lists.proofs.Booleans.{and_false as and_no}
 use Rattle.schema.specs.declared.value.Value.{Value}
 use Rattle.schema.specs.declared.field.Field.{Field as CodeField}
 use Rattle.schema.specs.Values.{view, views}
 use Rattle.schema.specs.Fits.{fits, fits_each}
 use Rattle.schema.specs.Views.{field_view, field_views}
-
-and_no : (b : Bool) → b && false ≡ false
-and_no true = refl
-and_no false = refl
 
 -- another number of values than of fields
 pub fits_each-lengths : (fs : List CodeField) (vs : List Value) → length fs ≢ length vs → fits_each (field_views fs) (views vs) ≡ false

@@ -2,6 +2,7 @@
 use Rattle.std.proofs.Common.{ℕ, suc, ◌≡◌, ◌+◌, ◌<◌, ◌≤◌, List, [], ◌∷◌, ◌++◌, length, drop, get_or, map, refl, ap, sym, subst, ◌∙◌, add-one, append_assoc, arith, Global}
 use Rattle.std.specs.Rc.{rc_str_bytes}
 use Rattle.std.specs.declared.rc.RcStr.{RcStr}
+use Rattle.std.proofs.lemmas.List.{map-append as map-both}
 use Rattle.schema.specs.declared.value.Repetition.{Repetition}
 use Rattle.schema.specs.declared.field.Step.{Step as CodeStep}
 use Rattle.schema.specs.declared.field.Field.{Field as CodeField}
@@ -11,10 +12,6 @@ use Rattle.schema.specs.inner.LeafPaths.{along}
 use Rattle.schema.specs.Reading.{tallest}
 use Rattle.schema.specs.Views.{field_view, field_views, step_view}
 use Rattle.schema.proofs.Forest.{field_place}
-
-map-both : {A B : Type 0} (f : A → B) (xs ys : List A) → map f (xs ++ ys) ≡ map f xs ++ map f ys
-map-both f [] ys = refl
-map-both f (x ∷ xs) ys = ap (λ t. f x ∷ t) (map-both f xs ys)
 
 abbrev step_to : ℕ → Field → Step
 step_to i f = record { place = i; repetition = repetition_of f }

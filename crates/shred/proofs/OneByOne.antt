@@ -2,6 +2,7 @@
 use Rattle.std.proofs.Common.{ℕ, ◌≡◌, ◌+◌, ◌<◌, ◌≤◌, List, [], ◌∷◌, ◌++◌, map, length, get_or, take, drop, refl, ap, ap₂, sym, ◌∙◌, arith}
 use Rattle.std.proofs.Math.ListN.{set}
 use Rattle.std.proofs.lemmas.List.{map-append, drop-set-lt, drop_more, take_more, take_more_set, take_all, length-set}
+use Rattle.lists.proofs.Lists.{same_first as first_of_two, same_rest as others_of_two}
 
 -- the elements so far are as they become, and the others as they were
 pub record IsChanged {A B : Type 0} (f g : A → B) (old new : List A) (i : ℕ) : Type 0 where
@@ -11,12 +12,6 @@ pub record IsChanged {A B : Type 0} (f g : A → B) (old new : List A) (i : ℕ)
 
 pub none_changed : {A B : Type 0} (f g : A → B) (xs : List A) → IsChanged f g xs xs 0
 none_changed f g xs = record { done = refl; left = refl; size = refl }
-
-first_of_two : {A : Type 0} (x y : A) (xs ys : List A) → x ∷ xs ≡ y ∷ ys → x ≡ y
-first_of_two x y xs ys e = cc
-
-others_of_two : {A : Type 0} (x y : A) (xs ys : List A) → x ∷ xs ≡ y ∷ ys → xs ≡ ys
-others_of_two x y xs ys e = cc
 
 -- one element more
 pub one_changed : {A B : Type 0} (f g : A → B) (old new : List A) (i : ℕ) (x y : A) → i < length new → f y ≡ g (get_or new i x) → IsChanged f g old new i → IsChanged f g old (set new i y) (i + 1)

@@ -1,11 +1,11 @@
 -- What a buffer holds as it is shown rows.
 use Rattle.std.proofs.Common.{◌≡◌, ℕ, zero, suc, ◌+◌, ◌≤◌, ◌^◌, true, List, [], ◌∷◌, ◌++◌, map, length, refl, ap, sym, ◌∙◌, arith, length-append, IsTrue}
 use Rattle.std.proofs.lemmas.List.{length-map}
+use Rattle.lists.proofs.Lists.{all_append as all_joined}
 use Rattle.schema.specs.Values.{ValueTrees}
 use Rattle.schema.specs.Shape.{Fields}
 use Rattle.schema.specs.Fits.{fits_each, RowsFit}
 use Rattle.schema.specs.Stripe.{Entry, Leaf, leaves_of, column, columns}
-use Rattle.schema.proofs.Kept.{all_joined}
 use Rattle.assemble.specs.Sinks.{Token, tokens_each, Adds}
 use Rattle.shred.specs.declared.filling.Filling.{Filling}
 use Rattle.shred.specs.declared.row_buffer.RowBuffer.{RowBuffer}

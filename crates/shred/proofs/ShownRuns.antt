@@ -1,7 +1,8 @@
 -- What columns hold after the values of a row that fits.
-use Rattle.std.proofs.Common.{◌≡◌, ℕ, suc, ◌+◌, Bool, true, false, true≢false, ◌&&◌, List, [], ◌∷◌, ◌++◌, map, length, Option, Some, refl, ap, ap₂, sym, ◌∙◌}
+use Rattle.std.proofs.Common.{◌≡◌, ℕ, suc, ◌+◌, Bool, true, false, true≢false, List, [], ◌∷◌, ◌++◌, map, length, Option, Some, refl, ap, ap₂, sym, ◌∙◌}
 use Rattle.std.proofs.lemmas.List.{append-nil, length-map}
 use Rattle.std.proofs.lemmas.Grind.{flat_map-append}
+use Rattle.std.proofs.lemmas.Bool.{and_parts as and_true}
 use Rattle.schema.specs.declared.value.Repetition.{Repetition}
 use Rattle.schema.specs.declared.value.Repetition.TheVariants.{Required, Optional, Repeated}
 use Rattle.schema.specs.declared.value.Kind.{Kind}
@@ -18,10 +19,6 @@ use Rattle.shred.specs.inner.Growing.{Columns, grown, nils, levels_at, stripes, 
 use Rattle.shred.specs.inner.Filling.{State, Level, in_group, in_list, held, next, of_field, item_levels, begun, given, deeper, single_stripes, single_given, entered, left, inside, items, step, run, root}
 use Rattle.shred.proofs.Growing.{leaves_split}
 use Rattle.shred.proofs.ShownSteps.{run_append, same_held, given_none, given_twice, grown_again, grown_nothing, there_given}
-
-and_true : (a b : Bool) → (a && b) ≡ true → (a ≡ true) × (b ≡ true)
-and_true true b h = (refl, h)
-and_true false b h = absurd (true≢false (sym h))
 
 -- the value of a field stands after the values of others
 shifted : (i : ℕ) (fs : Fields) (v : ValueTree) (vs : ValueTrees) (x : Levels) → stripes_each (suc i) fs (value v vs) x ≡ stripes_each i fs vs x

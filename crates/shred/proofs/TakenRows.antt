@@ -1,11 +1,11 @@
 -- A buffer that takes over the rows of another.
 use Rattle.std.proofs.Common.{◌≡◌, ℕ, ◌+◌, ◌≤◌, ◌^◌, List, [], ◌∷◌, ◌++◌, map, length, refl, ap, ap₂, sym, ◌∙◌, arith, length-append, IsTrue}
 use Rattle.std.proofs.lemmas.Grind.{flat_map-append}
+use Rattle.lists.proofs.Lists.{all_append as all_joined}
 use Rattle.schema.specs.Values.{ValueTrees, group}
 use Rattle.schema.specs.Shape.{Fields}
 use Rattle.schema.specs.Fits.{fits_each}
 use Rattle.schema.specs.Stripe.{Entry, Leaf, stripe, column, columns, leaves_of}
-use Rattle.schema.proofs.Kept.{all_joined}
 use Rattle.shred.specs.declared.row_buffer.RowBuffer.{RowBuffer}
 use Rattle.shred.specs.Buffer.{schema_of, holds}
 use Rattle.shred.specs.inner.Growing.{Columns, grown}

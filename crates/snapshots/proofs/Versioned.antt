@@ -1,7 +1,7 @@
 -- What the test of a version says.
-use Rattle.std.proofs.Common.{◌≡◌, ℕ, Bool, true, false, not, ◌&&◌, List, [], ◌∷◌, None, refl, ap}
+use Rattle.std.proofs.Common.{◌≡◌, ℕ, Bool, true, false, not, List, [], ◌∷◌, None, refl, ap}
 use Rattle.std.specs.Ordering.{is_le}
-use Rattle.std.proofs.lemmas.Bool.{false≢true, and_parts}
+use Rattle.std.proofs.lemmas.Bool.{and_parts, and_from as both, not-true as to_not}
 use Rattle.bits.specs.declared.refusal.Refusal.TheVariants.{Page, Stale, NoJob}
 use Rattle.schema.specs.Values.{ValueTree}
 use Rattle.schema.specs.Cutting.{is_among as is_number_among}
@@ -10,13 +10,6 @@ use Rattle.partition.specs.Order.{key_cmp, AreInTableOrder}
 use Rattle.manifest.specs.Groups.{keys_of}
 use Rattle.snapshots.specs.State.{numbers_of, are_distinct, are_in_order, is_version, unless, first_of, has_groups, job_is_open, sources_of}
 use Rattle.snapshots.specs.Ordered.{VersionsAreTold, CommittedAreVersions}
-
-both : (a b : Bool) → a ≡ true → b ≡ true → (a && b) ≡ true
-both a b p q = cc
-
-to_not : (b : Bool) → not b ≡ true → b ≡ false
-to_not true h = absurd (false≢true h)
-to_not false h = refl
 
 distinct_to : (ns : List ℕ) → are_distinct ns ≡ true → AreDistinct ns
 distinct_to [] h = tt

@@ -1,5 +1,5 @@
 -- Texts in the order of the numbers that their first bytes make.
-use Rattle.std.proofs.Common.{◌≡◌, ℕ, zero, suc, ◌+◌, ◌*◌, ◌^◌, ◌<◌, ◌≤◌, true, false, List, [], ◌∷◌, length, drop, get_or, refl, sym, ap, ◌∙◌, arith, inl, inr}
+use Rattle.std.proofs.Common.{◌≡◌, ℕ, zero, suc, ◌+◌, ◌*◌, ◌^◌, ◌<◌, ◌≤◌, false, List, [], ◌∷◌, length, drop, get_or, refl, sym, ap, ◌∙◌, arith, inl, inr, lt-ltb as yes}
 use Rattle.std.specs.Prelude.{nat_lt}
 use Rattle.std.specs.List.{AllByRecursion}
 use Rattle.std.proofs.lemmas.Bool.{cases_lt}
@@ -135,9 +135,6 @@ rests_decide xs ys low other a b e = rest_decides 8 xs ys (are_bytes xs low) (ar
 -- texts whose numbers are the same, and one of which has no more bytes
 pub ends_decide : (xs ys : List ℕ) → ((i : ℕ) → get_or xs i 0 < 256) → ((i : ℕ) → get_or ys i 0 < 256) → (8 < length xs → length ys ≤ 8) → big_number 8 xs ≡ big_number 8 ys → nat_cmp (length xs) (length ys) ≡ slice_cmp nat_cmp xs ys
 ends_decide xs ys low other short e = lengths_decide 8 xs ys (are_bytes xs low) (are_bytes ys other) short e
-
-yes : (a b : ℕ) → a < b → nat_lt a b ≡ true
-yes a b lt = grind (arith, nat_tests)
 
 no : (a b : ℕ) → b < a → nat_lt a b ≡ false
 no a b lt = grind (arith, nat_tests)

@@ -4,6 +4,7 @@ use Rattle.std.specs.Prelude.{nat_lt, IsTrue}
 use Rattle.std.specs.List.{AllByRecursion}
 use Rattle.std.proofs.lemmas.Bool.{ltb-true, ltb-false}
 use Rattle.std.proofs.lemmas.List.{append-nil}
+use Rattle.lists.proofs.Lists.{all_right as rest_of_all}
 use Rattle.bits.specs.declared.refusal.Refusal.{Refusal}
 use Rattle.bits.specs.declared.refusal.Refusal.TheVariants.{Device}
 use Rattle.bits.specs.Refusals.{HasCause}
@@ -33,7 +34,7 @@ use Rattle.store.proofs.Loaded.{IsLoaded}
 use Rattle.store.proofs.Loading.{loaded, one_longer}
 use Rattle.store.proofs.Rests.{rest_of, rest_more, all_written}
 use Rattle.store.proofs.Taken.{told, same_length}
-use Rattle.store.proofs.Waits.{rest_of_all, same_key_lists}
+use Rattle.store.proofs.Waits.{same_key_lists}
 
 -- what waits is some rows for each key
 waits_some : (size : ℕ) (s : State) (ws vs : List KeyRows) → AreBuffers s.table.schema s.table.keys ws vs → AllByRecursion (IsFew size) vs → AllByRecursion (λ (w : KeyRows). w.rows ≢ []) ws

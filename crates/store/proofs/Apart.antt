@@ -1,25 +1,13 @@
 -- Numbers that come once: of lists side by side, and of a list of which a part changes.
 use Rattle.std.proofs.Common.{◌≡◌, ◌<◌, ℕ, Bool, true, false, ◌||◌, List, [], ◌∷◌, ◌++◌, refl, sym, ◌∙◌, ap}
 use Rattle.std.specs.Prelude.{nat_eq}
-use Rattle.std.proofs.lemmas.Bool.{eqb-true}
+use Rattle.std.proofs.lemmas.Bool.{eqb-true, or_parts as neither, or_from as both_false, false_from_ne_true as not_true}
 use Rattle.std.proofs.Common.{eq-eqb}
 use Rattle.schema.specs.Cutting.{is_among}
 use Rattle.schema.specs.Keys.{AreDistinct}
 
-neither : (a b : Bool) → (a || b) ≡ false → (a ≡ false) × (b ≡ false)
-neither true b h = absurd (cc)
-neither false b h = (refl, h)
-
-both_false : (a b : Bool) → a ≡ false → b ≡ false → (a || b) ≡ false
-both_false true b e f = absurd (cc)
-both_false false b e f = f
-
 contrary : (b : Bool) → b ≡ true → b ≡ false → ⊥
 contrary b e f = let c : true ≡ false = sym e ∙ f in cc
-
-pub not_true : (b : Bool) → (b ≡ true → ⊥) → b ≡ false
-not_true true h = absurd (h refl)
-not_true false h = refl
 
 -- ---- who is among
 

@@ -3,7 +3,7 @@ use Rattle.std.proofs.Common.{◌≡◌, ◌<◌, ℕ, zero, suc, Bool, true, fa
 use Rattle.std.specs.Prelude.{Vec}
 use Rattle.std.specs.declared.alloc.Global.{Global}
 use Rattle.std.specs.List.{AllZip}
-use Rattle.std.proofs.lemmas.Bool.{eqb-true}
+use Rattle.std.proofs.lemmas.Bool.{eqb-true, or_parts as neither}
 use Rattle.std.proofs.Common.{eq-eqb}
 use Rattle.schema.specs.Shape.{Fields}
 use Rattle.schema.specs.Cutting.{is_among}
@@ -38,10 +38,6 @@ job_numbers_changed x (j ∷ js) = by (j.number == x.number) refl ∙ ap (λ (ns
     by false e = refl
 
 -- ---- what is written at a place stands in place of those of its number
-
-neither : (a b : Bool) → (a || b) ≡ false → (a ≡ false) × (b ≡ false)
-neither true b h = absurd (cc)
-neither false b h = (refl, h)
 
 unlike : (m n : ℕ) → (m ≡ n → ⊥) → (m == n) ≡ false
 unlike m n other = by (m == n) refl

@@ -15,6 +15,7 @@ use Rattle.partition.specs.Splitting.{KeyRows, key_rows_view}
 use Rattle.manifest.specs.declared.group.Group.{Group as CodeGroup}
 use Rattle.std.specs.declared.rc.Rc.{Rc}
 use Rattle.std.specs.declared.alloc.Global.{Global}
+use Rattle.lists.proofs.Lists.{map_empty as no_mapped}
 use Rattle.manifest.specs.Groups.{Group as FileGroup, root_of, handles_view}
 use Rattle.manifest.specs.Laid.{IsRootTooHeavy}
 use Rattle.manifest.specs.Laws.{RowsOfPartsFit}
@@ -68,10 +69,6 @@ beside_nothing R [] [] e z = refl
 beside_nothing R (x ∷ xs) [] e z = absurd z
 beside_nothing R [] (y ∷ ys) e z = absurd (cc)
 beside_nothing R (x ∷ xs) (y ∷ ys) e z = absurd (cc)
-
-no_mapped : {A B : Type 0} (f : A → B) (xs : List A) → map f xs ≡ [] → xs ≡ []
-no_mapped f [] e = refl
-no_mapped f (x ∷ xs) e = absurd (cc)
 
 first_nil : {A : Type 0} (xs ys : List A) → xs ++ ys ≡ [] → xs ≡ []
 first_nil [] ys e = refl

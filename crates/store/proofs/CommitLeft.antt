@@ -1,7 +1,8 @@
 -- The jobs that are left beside one that commits: no number that they wrote is one of its own.
 use Rattle.std.proofs.Common.{◌≡◌, ℕ, Bool, true, false, not, ◌==◌, if◌then◌else◌, List, [], ◌∷◌, ◌++◌, map, Some, refl, sym, ◌∙◌, ap, subst}
 use Rattle.std.specs.List.{AllZip, list_all}
-use Rattle.std.proofs.lemmas.Bool.{and_parts, and_from}
+use Rattle.std.proofs.lemmas.Bool.{and_parts, and_from, false_from_ne_true as not_true}
+use Rattle.std.proofs.lemmas.Option.{same_Some as some_is}
 use Rattle.schema.specs.Shape.{Fields}
 use Rattle.schema.specs.Cutting.{is_among}
 use Rattle.schema.specs.Keys.{KeyColumn, AreDistinct}
@@ -17,9 +18,8 @@ use Rattle.store.specs.declared.jobs.Work.TheVariants.{Append, Rewrite}
 use Rattle.planning.specs.declared.change.Sources.{Sources}
 use Rattle.store.specs.Lookups.{job_at, jobs_left}
 use Rattle.store.specs.Stands.{AreStored, AreWaiting, AreWritten, ShowsRun, ShowsJob, ShowsWork, written_of}
-use Rattle.store.proofs.Apart.{Shares, not_true, among_first, among_later, among_front, among_back, shared_none, shared_back, distinct_back, none_joined}
+use Rattle.store.proofs.Apart.{Shares, among_first, among_later, among_front, among_back, shared_none, shared_back, distinct_back, none_joined}
 use Rattle.store.proofs.Parted.{numbers_written, numbers_first}
-use Rattle.store.proofs.StageOn.{some_is}
 
 -- ---- numbers apart
 

@@ -5,6 +5,7 @@ use Rattle.std.specs.List.{AllByRecursion, AllZip, list_all}
 use Rattle.std.specs.declared.alloc.Global.{Global}
 use Rattle.std.proofs.lemmas.List.{length-append}
 use Rattle.std.proofs.lemmas.Bool.{and_parts}
+use Rattle.lists.proofs.Lists.{all_append, all_weaker as all_so}
 use Rattle.schema.specs.Fits.{RowsFit}
 use Rattle.schema.specs.Cutting.{is_among}
 use Rattle.schema.specs.Keys.{KeyColumn, AreKeys, AreDistinct, AreRowsOf, key_of_row, without_keys}
@@ -38,7 +39,7 @@ use Rattle.store.specs.Bringing.{grown}
 use Rattle.store.specs.Staging.{IsJobBrought}
 use Rattle.store.specs.Filling.{HasSize, IsFilled}
 use Rattle.store.proofs.Apart.{AllBelow, Shares, among_first, among_later, distinct_joined}
-use Rattle.store.proofs.Brought.{all_append, all_so, all_order, length_order, no_number, at_number, each_number, stored_append, stored_order, numbers_too, numbers_back}
+use Rattle.store.proofs.Brought.{all_order, length_order, no_number, at_number, each_number, stored_append, stored_order, numbers_too, numbers_back}
 use Rattle.store.proofs.CommitLeft.{own_apart, jobs_then}
 use Rattle.store.proofs.Events.{jobs_left_shown}
 use Rattle.store.proofs.Grouped.{rows_in_order, groups_keyed, all_full}

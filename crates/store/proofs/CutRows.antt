@@ -1,7 +1,8 @@
 -- Rows that are cut to the columns of a query: the values at the other places go, or those at its places are taken.
-use Rattle.std.proofs.Common.{◌≡◌, ◌≤◌, ◌<◌, ◌+◌, ℕ, zero, suc, Bool, true, false, not, ◌||◌, nat_eq, List, [], ◌∷◌, map, filter, refl, sym, ◌∙◌, ap, subst, arith, eqb-true, eq-eqb, add-zero}
+use Rattle.std.proofs.Common.{◌≡◌, ◌≤◌, ◌<◌, ◌+◌, ℕ, zero, suc, Bool, true, false, not, ◌||◌, nat_eq, List, [], ◌∷◌, map, filter, refl, sym, ◌∙◌, ap, subst, arith, eqb-true, add-zero}
 use Rattle.std.specs.Prelude.{if◌then◌else◌, cond}
 use Rattle.std.specs.List.{AllByRecursion}
+use Rattle.lists.proofs.Numbers.{nat_eq_itself as alike}
 use Rattle.schema.specs.Values.{ValueTree, ValueTrees, no_values, value as item, trees_of, member_at}
 use Rattle.schema.specs.Shape.{Fields, no_fields, field, count, name_of}
 use Rattle.schema.specs.Cutting.{is_among}
@@ -17,9 +18,6 @@ unlike m n low = by (nat_eq n m) refl
     by : (b : Bool) → nat_eq n m ≡ b → nat_eq n m ≡ false
     by true e = let same = eqb-true n m e in absurd (omega (arith, same, low))
     by false e = e
-
-alike : (n : ℕ) → nat_eq n n ≡ true
-alike n = eq-eqb n n refl
 
 -- no place comes before the first
 none_before : (columns : Columns) (i : ℕ) (fs : Fields) (j : ℕ) → j < i → is_among (wanted_places columns i fs) j ≡ false

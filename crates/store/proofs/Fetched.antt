@@ -3,6 +3,7 @@ use Rattle.std.proofs.Common.{◌≡◌, ℕ, Bool, true, false, not, ◌==◌, 
 use Rattle.std.specs.Prelude.{if◌then◌else◌, Vec}
 use Rattle.std.specs.declared.alloc.Global.{Global}
 use Rattle.std.specs.List.{AllZip}
+use Rattle.std.proofs.lemmas.Option.{same_Some as some_is}
 use Rattle.bits.specs.declared.refusal.Refusal.{Refusal}
 use Rattle.bits.specs.declared.refusal.Refusal.TheVariants.{Memory, Device}
 use Rattle.bits.specs.Refusals.{HasCause}
@@ -81,9 +82,6 @@ answer_is places [] rest none = ap next_answer (sym (none refl))
 answer_is places (x ∷ xs) rest none = refl
 
 -- ---- the list of the open cursors
-
-some_is : {A : Type 0} (x y : A) → Some x ≡ Some y → x ≡ y
-some_is x y e = cc
 
 module _ (n passed : ℕ) (over : Bool) where
   abbrev heads : Bool → OpenCursor → List OpenCursor → List OpenCursor

@@ -6,6 +6,7 @@ use Rattle.std.specs.declared.cmp.Ordering.{Ordering}
 use Rattle.std.specs.declared.cmp.Ordering.TheVariants.{Less, Equal, Greater}
 use Rattle.std.specs.Ordering.{is_le, is_lt}
 use Rattle.std.proofs.lemmas.Bool.{false≢true}
+use Rattle.lists.proofs.Lists.{all_append, all_left as front_of_all, all_right as rest_of_all}
 use Rattle.schema.specs.Keys.{KeyColumn, key_of_row, row_without_keys}
 use Rattle.partition.specs.Folders.{CanPartition}
 use Rattle.partition.specs.Order.{key_cmp, is_same_key, AreAscending}
@@ -15,9 +16,8 @@ use Rattle.gather.specs.Groups.{waiting_after, left_after, waiting_rows, filled,
 use Rattle.gather.proofs.WaitingRows.{waits_other, waits_one}
 use Rattle.table.specs.Table.{Row, Key}
 use Rattle.store.specs.Buffers.{keys_in, IsRising, AreTold, buffer, IsAdded}
-use Rattle.store.proofs.Brought.{all_append}
 use Rattle.store.proofs.Sorting.{lt, lt_not_itself, not_le_back}
-use Rattle.store.proofs.Waits.{front_of_all, rest_of_all, from_keys, not_low, not_high}
+use Rattle.store.proofs.Waits.{from_keys, not_low, not_high}
 
 -- ---- keys that rise
 

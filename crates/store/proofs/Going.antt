@@ -3,6 +3,7 @@ use Rattle.std.proofs.Common.{◌≡◌, ◌≤◌, ◌<◌, ◌+◌, ◌-◌, �
 use Rattle.std.specs.Prelude.{if◌then◌else◌, slice_get, is_some}
 use Rattle.std.specs.List.{AllByRecursion}
 use Rattle.std.proofs.lemmas.Bool.{eqb-true, lt-ltb, false≢true}
+use Rattle.lists.proofs.Slices.{drop_past as drop_all}
 use Rattle.schema.specs.Values.{ValueTrees}
 use Rattle.schema.specs.Shape.{Fields, count as count_fields}
 use Rattle.schema.specs.Keys.{KeyColumn, AreKeys, without_keys, width}
@@ -26,7 +27,6 @@ use Rattle.store.specs.Reading.{OnlyReads, ReadsFor, IsReading}
 use Rattle.store.specs.Passing.{AreReached, GoesTo, Comes, batches_with, batches_from}
 use Rattle.store.proofs.CutRows.{cut_each, all_wide}
 use Rattle.store.proofs.Passed.{reading_here, reading_on, from_then, one_from, goes_nowhere}
-use Rattle.store.proofs.Buffered.{drop_all}
 
 -- ---- batches
 

@@ -4,6 +4,7 @@ use Rattle.std.specs.Prelude.{Contains, IsTrue}
 use Rattle.std.specs.List.{list_any}
 use Rattle.std.specs.Ordering.{is_eq}
 use Rattle.std.proofs.lemmas.Bool.{and_parts}
+use Rattle.lists.proofs.Booleans.{equal_by_is_eq as equal}
 use Rattle.schema.specs.Values.{ValueTree}
 use Rattle.schema.specs.Shape.{Fields}
 use Rattle.schema.specs.Keys.{KeyColumn}
@@ -28,7 +29,6 @@ use Rattle.store.specs.declared.jobs.OpenCursor.{OpenCursor}
 use Rattle.store.specs.Spares.{Agrees, Spares}
 use Rattle.store.specs.Stands.{AreStored, Shows, ShowsOpen, numbers_at, job_numbers, cursor_numbers}
 use Rattle.store.specs.Cleaning.{Clears}
-use Rattle.store.proofs.Buffered.{equal}
 use Rattle.store.proofs.Stored.{IsFileBelow, InUse}
 use Rattle.store.proofs.Carried.{shown}
 use Rattle.store.proofs.Written.{same_use}

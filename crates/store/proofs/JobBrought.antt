@@ -3,6 +3,7 @@ use Rattle.std.proofs.Common.{◌≡◌, ◌<◌, ℕ, Bool, true, false, not, �
 use Rattle.std.specs.List.{AllByRecursion}
 use Rattle.std.proofs.lemmas.Bool.{and_from, eqb-true}
 use Rattle.std.proofs.lemmas.List.{length-append, nil_from_length}
+use Rattle.lists.proofs.Lists.{all_append, all_weaker as all_so}
 use Rattle.bits.specs.declared.refusal.Refusal.TheVariants.{NoJob, Stale, Page}
 use Rattle.schema.specs.Cutting.{is_among}
 use Rattle.schema.specs.Keys.{AreDistinct, without_keys}
@@ -30,7 +31,7 @@ use Rattle.store.specs.Committing.{with_version, IsPlanned}
 use Rattle.store.specs.Acting.{WroteTo, AsksCommit}
 use Rattle.store.specs.Bringing.{PlacesInOrder, PlacesDistinct}
 use Rattle.store.specs.Staging.{IsJobBrought, StagedAreReady}
-use Rattle.store.proofs.Brought.{all_append, all_so, among_append, each_number, all_fresh, all_order, length_order, stored_append, stored_order, same_keys, numbers_too, numbers_back}
+use Rattle.store.proofs.Brought.{among_append, each_number, all_fresh, all_order, length_order, stored_append, stored_order, same_keys, numbers_too, numbers_back}
 use Rattle.store.proofs.Ends.{found_open}
 use Rattle.store.proofs.Had.{had_all}
 use Rattle.store.proofs.Kept.{distinct_test, order_test, same_numbers}

@@ -1,6 +1,7 @@
 -- Where a disk and a store stand after an opening.
 use Rattle.std.proofs.Common.{◌≡◌, ◌≤◌, ℕ, Bool, true, false, not, Result, Ok, Err, refl, sym, ◌∙◌, ap, subst, arith, inl, inr}
 use Rattle.std.specs.Prelude.{IfErr, OnOk, OnErr}
+use Rattle.std.proofs.lemmas.Bool.{not-true as was_clean}
 use Rattle.bits.specs.declared.refusal.Refusal.{Refusal}
 use Rattle.bits.specs.Refusals.{HasCause, RefusedMemoryOnly}
 use Rattle.disk.specs.State.{Image, State as DiskState, content, may_leave}
@@ -91,10 +92,6 @@ module _ {D : Type 0} (state : D → DiskState) (old : DiskState) (store : Store
 
 -- ---- whether the cleaning met a fault
 
-was_clean : (fault : Bool) → not fault ≡ true → fault ≡ false
-was_clean true e = absurd (cc)
-was_clean false e = refl
-
 pub is_clean : {D : Type 0} (state : D → DiskState) (store : Store D) (vault : Vault D) (manifest : Manifest) (fault : Bool) → store.vault ≡ vault → store.manifest ≡ manifest → store.clean ≡ not fault
     → (fault ≡ false → IsClean (root_of manifest) (state vault.disk)) → store.clean ≡ true → IsClean (root_of store.manifest) (state store.vault.disk)
 is_clean {D} state store vault manifest fault at_vault at_manifest at_clean clean told =
@@ -142,6 +139,3 @@ anew_shut {D} mid later (Err e) same is = ap (λ (s : Store D). s.closed) same �
 
 pub nothing_left : (disk : DiskState) → IsSound disk → HasRoomForAll disk → LeavesTables disk disk
 nothing_left disk sound room = leaves_tables disk disk (nothing_yet SameTable disk (λ u t h. h)) sound (λ q clear. stays_clear_here disk q clear) room
-
-pub unlike : (b : Bool) → b ≡ false → b ≡ true → ⊥
-unlike b e f = let h : false ≡ true = sym e ∙ f in cc

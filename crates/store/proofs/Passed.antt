@@ -1,6 +1,8 @@
 -- What reading groups one after another leaves, and how often the disk is read for them.
-use Rattle.std.proofs.Common.{◌≡◌, ◌+◌, ℕ, zero, suc, List, [], ◌∷◌, ◌++◌, drop, length, Some, Ok, Err, inl, inr, refl, sym, ◌∙◌, ap, subst, arith}
+use Rattle.std.proofs.Common.{◌≡◌, ◌+◌, ℕ, suc, List, [], ◌∷◌, ◌++◌, drop, Some, Ok, Err, inl, inr, refl, sym, ◌∙◌, ap, subst, arith, length-append as longer}
 use Rattle.std.specs.Prelude.{slice_get}
+use Rattle.lists.proofs.Slices.{drop_found as drop_at}
+use Rattle.lists.proofs.Booleans.{iff_through as both}
 use Rattle.bits.specs.declared.refusal.Refusal.{Refusal}
 use Rattle.bits.specs.declared.refusal.Refusal.TheVariants.{Memory}
 use Rattle.bits.specs.Refusals.{HasCause}
@@ -10,7 +12,7 @@ use Rattle.disk.specs.State.{State as DiskState}
 use Rattle.vault.specs.Views.{Same}
 use Rattle.vault.specs.Calls.{LeavesAll}
 use Rattle.vault.proofs.Moments.{joins, rooted_joins, clear_joins, nothing_yet, same_same, same_twice, stays_rooted_here, stays_clear_here}
-use Rattle.vault.proofs.Chained.{failed_since, both}
+use Rattle.vault.proofs.Chained.{failed_since}
 use Rattle.filter.specs.Test.{Test}
 use Rattle.manifest.specs.Groups.{Group as FileGroup}
 use Rattle.scan.specs.Faults.{IsPartRefusal}
@@ -73,18 +75,9 @@ reading_poor T old new a = record {
 
 -- ---- places of a list
 
-pub drop_at : {A : Type 0} (xs : List A) (i : ℕ) (x : A) → slice_get xs i ≡ Some x → drop i xs ≡ x ∷ drop (suc i) xs
-drop_at [] i x e = absurd (cc)
-drop_at (y ∷ ys) zero x e = let same : y ≡ x = cc in ap (λ (z : _). z ∷ ys) same
-drop_at (y ∷ ys) (suc i) x e = drop_at ys i x e
-
 appended : {A : Type 0} (xs ys zs : List A) → (xs ++ ys) ++ zs ≡ xs ++ (ys ++ zs)
 appended [] ys zs = refl
 appended (x ∷ xs) ys zs = ap (λ (l : List _). x ∷ l) (appended xs ys zs)
-
-longer : {A : Type 0} (xs ys : List A) → length (xs ++ ys) ≡ length xs + length ys
-longer [] ys = omega arith
-longer (x ∷ xs) ys = let r = longer xs ys in omega (arith, r)
 
 -- ---- reads
 

@@ -2,11 +2,11 @@
 use Rattle.std.proofs.Common.{◌≡◌, ◌<◌, ◌≤◌, ◌+◌, ◌++◌, ℕ, zero, suc, Bool, true, false, List, [], ◌∷◌, length, drop, refl, sym, ◌∙◌, ap, arith, add-one, append_assoc}
 use Rattle.std.specs.Prelude.{if◌then◌else◌}
 use Rattle.std.proofs.lemmas.List.{append-nil}
+use Rattle.lists.proofs.Slices.{drop_past as drop_all}
 use Rattle.schema.specs.declared.field.Field.{Field as CodeField}
 use Rattle.schema.specs.Views.{field_views}
 use Rattle.schema.specs.Cutting.{is_among}
 use Rattle.store.specs.Showing.{places_besides}
-use Rattle.store.proofs.Buffered.{drop_all}
 
 item_there : (fs : List CodeField) (i : ℕ) → i < length fs → (f : CodeField) × (drop i fs ≡ f ∷ drop (suc i) fs)
 item_there [] i low = absurd (omega (arith, low))

@@ -1,10 +1,11 @@
 -- What comes in the place of each group, and that this is what a removal makes of a table's groups.
-use Rattle.std.proofs.Common.{◌≡◌, ◌≤◌, ◌+◌, ℕ, zero, suc, Bool, true, false, not, ◌||◌, nat_eq, List, [], ◌∷◌, ◌++◌, map, filter, drop, length, Option, Some, None, refl, sym, ◌∙◌, ap, subst, arith, append_assoc, add-one}
+use Rattle.std.proofs.Common.{◌≡◌, ◌≤◌, ◌+◌, ℕ, zero, suc, Bool, true, false, not, ◌||◌, nat_eq, List, [], ◌∷◌, ◌++◌, map, filter, drop, length, Option, Some, None, refl, sym, ◌∙◌, ap, subst, arith, append_assoc}
 use Rattle.std.specs.Prelude.{if◌then◌else◌, slice_get, nat_lt, Contains}
 use Rattle.std.specs.List.{list_any, list_all, AllByRecursion, AllZip}
-use Rattle.std.proofs.lemmas.Bool.{and_from}
+use Rattle.std.proofs.lemmas.Bool.{and_from, or_parts as neither}
 use Rattle.std.proofs.lemmas.Cmp.{nat_eq_equiv}
 use Rattle.std.proofs.lemmas.List.{append-nil, length-append}
+use Rattle.lists.proofs.Slices.{drop_found_more as drop_more}
 use Rattle.schema.specs.Shape.{Fields}
 use Rattle.schema.specs.Cutting.{is_among}
 use Rattle.schema.specs.Keys.{KeyColumn, AreDistinct}
@@ -21,12 +22,8 @@ use Rattle.table.specs.Leading.{touched}
 use Rattle.store.specs.Stands.{AreStored}
 use Rattle.store.specs.Removing.{Outcome, stays, goes, comes, IsLeft, not_those, files_at, groups_at, files_come, groups_come, change_for, changes_for}
 use Rattle.store.proofs.Kept.{all_kept}
-use Rattle.store.proofs.Passed.{drop_at}
 
 -- ---- any list
-
-pub drop_more : {A : Type 0} (xs : List A) (i : ℕ) (x : A) → slice_get xs i ≡ Some x → drop i xs ≡ x ∷ drop (i + 1) xs
-drop_more xs i x e = rw (add-one i) (drop_at xs i x e)
 
 -- what is passed, and one more
 pub passed_more : {A : Type 0} (all front : List A) (i : ℕ) (x : A) → slice_get all i ≡ Some x → all ≡ front ++ drop i all → all ≡ (front ++ x ∷ []) ++ drop (i + 1) all
@@ -140,10 +137,6 @@ HasCome cs n o = come_for cs n ≡ come_of o
 
 abbrev pub HaveCome : List Change → List FileGroup → List Outcome → Type 0
 HaveCome cs fs os = AllZip (λ (f : FileGroup) (o : Outcome). HasCome cs f.number o) fs os
-
-neither : (a b : Bool) → (a || b) ≡ false → (a ≡ false) × (b ≡ false)
-neither true b e = absurd (cc)
-neither false b e = (refl, e)
 
 come_none : (n : ℕ) (fs : List FileGroup) (os : List Outcome) → is_among (numbers_of fs) n ≡ false → come_for (changes_for fs os) n ≡ None
 come_none n [] os e = refl

@@ -3,6 +3,8 @@ use Rattle.std.proofs.Common.{◌≡◌, ◌≢◌, ◌≤◌, ◌<◌, ◌+◌,
 use Rattle.std.specs.List.{AllByRecursion, AllZip}
 use Rattle.std.proofs.lemmas.Bool.{and_from}
 use Rattle.std.proofs.lemmas.List.{append-nil}
+use Rattle.lists.proofs.Slices.{drop_past as drop_all}
+use Rattle.lists.proofs.Lists.{all_weaker as all_so}
 use Rattle.bits.specs.declared.refusal.Refusal.{Refusal}
 use Rattle.bits.specs.declared.refusal.Refusal.TheVariants.{Limit, Device, Memory, Page}
 use Rattle.bits.specs.Refusals.{HasCause}
@@ -55,8 +57,7 @@ use Rattle.store.proofs.Had.{had_all, had_same}
 use Rattle.store.proofs.LeftJobs.{jobs_left_so}
 use Rattle.store.proofs.Kept.{distinct_test, order_test, same_numbers}
 use Rattle.store.proofs.PlannedWeights.{too_heavy_is_too_much}
-use Rattle.store.proofs.Brought.{all_so, distinct_append, at_number, each_number, same_keys, numbers_too, numbers_back}
-use Rattle.store.proofs.Buffered.{drop_all}
+use Rattle.store.proofs.Brought.{distinct_append, at_number, each_number, same_keys, numbers_too, numbers_back}
 use Rattle.store.proofs.Dropped.{has_reason}
 use Rattle.store.proofs.Replaced.{as_many}
 use Rattle.store.proofs.Remains.{HaveCome, have_come, files_then, groups_then, replaced_are, stored_then, keyed_then, all_then, each_then, none_pass, all_stay, brought_are, renumbered, rests_then, fresh_then}

@@ -3,6 +3,7 @@ use Rattle.std.proofs.Common.{◌≡◌, ◌≤◌, ◌<◌, ◌+◌, ℕ, zero,
 use Rattle.std.specs.Prelude.{slice_get}
 use Rattle.std.specs.List.{list_any, AllByRecursion}
 use Rattle.std.proofs.lemmas.List.{length-append}
+use Rattle.lists.proofs.Slices.{drop_past as drop_all, drop_found_more as drop_more}
 use Rattle.bits.specs.declared.refusal.Refusal.{Refusal}
 use Rattle.bits.specs.declared.refusal.Refusal.TheVariants.{Limit, Device, Memory}
 use Rattle.bits.specs.Refusals.{HasCause}
@@ -36,10 +37,9 @@ use Rattle.store.specs.Removing.{Outcome, stays, goes, comes, IsLeft, not_those,
 use Rattle.store.specs.Stands.{IsStored, AreStored, ShowsOpen}
 use Rattle.store.specs.Writing.{counted}
 use Rattle.store.proofs.Adding.{failed_since as failed_on}
-use Rattle.store.proofs.Buffered.{drop_all}
 use Rattle.store.proofs.Kept.{all_kept}
 use Rattle.store.proofs.Widths.{is_row_of}
-use Rattle.store.proofs.Remains.{drop_more, passed_more, filtered_both, no_picked, any_picked, touched_here, untouched_here, come_files, come_groups, changes_more, touched_at}
+use Rattle.store.proofs.Remains.{passed_more, filtered_both, no_picked, any_picked, touched_here, untouched_here, come_files, come_groups, changes_more, touched_at}
 use Rattle.store.proofs.Replacing.{wrote_read, has_read}
 use Rattle.store.proofs.Events.{zip_more}
 

@@ -1,5 +1,5 @@
 -- A removal, from group to group: what is read, and what is written of it.
-use Rattle.std.proofs.Common.{◌≡◌, ◌≤◌, ◌+◌, ◌⊎◌, ℕ, true, false, List, [], ◌∷◌, ◌++◌, map, length, Option, None, Result, Ok, Err, refl, sym, ◌∙◌, ap, subst, arith, ⊎_elim}
+use Rattle.std.proofs.Common.{◌≡◌, ◌≤◌, ◌+◌, ◌⊎◌, ℕ, true, false, List, [], ◌∷◌, ◌++◌, map, length, Option, None, Result, Ok, Err, refl, sym, ◌∙◌, ap, subst, arith, ⊎_elim, append-nil as nothing_more}
 use Rattle.std.specs.Prelude.{OnOk}
 use Rattle.std.proofs.lemmas.List.{nil_from_length}
 use Rattle.std.specs.Rc.{rc_value}
@@ -115,10 +115,6 @@ module _ {D : Type 0} (state : D → DiskState) (start now : Store D) (s : State
       by f c d = absurd c
 
 -- ---- what is left of a group is written, and its change is kept
-
-nothing_more : {A : Type 0} (xs : List A) → xs ++ [] ≡ xs
-nothing_more [] = refl
-nothing_more (x ∷ xs) = ap (λ (ys : List _). x ∷ ys) (nothing_more xs)
 
 no_more_held : (keys : List KeyColumn) (key : Key) (held : List Row) → AreRowsOf keys key [] held → held ≡ []
 no_more_held keys key [] h = refl

@@ -2,6 +2,7 @@
 use Rattle.std.proofs.Common.{◌≡◌, ◌≤◌, ◌+◌, ℕ, true, List, [], ◌∷◌, ◌++◌, length, Option, refl, sym, ◌∙◌, ap, subst, arith, append_assoc}
 use Rattle.std.specs.List.{AllByRecursion}
 use Rattle.std.proofs.lemmas.List.{append-nil, length-append}
+use Rattle.lists.proofs.Lists.{all_append, all_right as rest_of_all}
 use Rattle.schema.specs.Keys.{key_of_row}
 use Rattle.disk.specs.State.{State as DiskState}
 use Rattle.partition.specs.Folders.{CanPartition}
@@ -13,10 +14,9 @@ use Rattle.table.specs.State.{State}
 use Rattle.store.specs.declared.store.Store.{Store}
 use Rattle.store.specs.Buffers.{keys_in, IsRising}
 use Rattle.store.specs.Filling.{HasWritten, written_group, AreBuffers, rows_waiting, IsFew, HasUpTo, group_keys, Filled, IsFilled}
-use Rattle.store.proofs.Brought.{all_append}
 use Rattle.store.proofs.Sorting.{lt}
 use Rattle.store.proofs.Grouped.{all_full}
-use Rattle.store.proofs.Waits.{rows_append, rest_of_all, from_keys}
+use Rattle.store.proofs.Waits.{rows_append, from_keys}
 use Rattle.store.proofs.Loaded.{IsLoaded}
 use Rattle.store.proofs.Filled.{group_in, size_some}
 

@@ -6,6 +6,7 @@ use Rattle.std.specs.declared.vec.Vec.{Vec}
 use Rattle.std.specs.declared.alloc.Global.{Global}
 use Rattle.std.proofs.lemmas.Bool.{lt-ltb}
 use Rattle.std.proofs.lemmas.List.{length-append}
+use Rattle.lists.proofs.Lists.{all_left as front_of_all, all_right as rest_of_all}
 use Rattle.bits.specs.declared.refusal.Refusal.{Refusal}
 use Rattle.bits.specs.declared.refusal.Refusal.TheVariants.{Stale}
 use Rattle.schema.specs.declared.row.Row.{Row as CodeRow}
@@ -43,7 +44,6 @@ use Rattle.store.proofs.Asked.{commit_fault}
 use Rattle.store.proofs.Ends.{found_open}
 use Rattle.store.proofs.Events.{job_found}
 use Rattle.store.proofs.Kept.{same_numbers}
-use Rattle.store.proofs.Waits.{front_of_all, rest_of_all}
 use Rattle.store.proofs.Wrote.{wrote_nothing}
 
 -- ---- which job it is

@@ -5,6 +5,7 @@ use Rattle.std.specs.List.{AllByRecursion, AllZip}
 use Rattle.std.proofs.lemmas.List.{append-nil, length-append, length-map, drop-map}
 use Rattle.std.specs.declared.rc.Rc.{Rc}
 use Rattle.std.specs.declared.alloc.Global.{Global}
+use Rattle.lists.proofs.Lists.{all_append}
 use Rattle.manifest.specs.declared.group.Group.{Group as CodeGroup}
 use Rattle.bits.specs.declared.refusal.Refusal.{Refusal}
 use Rattle.bits.specs.declared.refusal.Refusal.TheVariants.{Limit, Device, Memory}
@@ -23,7 +24,6 @@ use Rattle.store.specs.declared.jobs.OpenJob.{OpenJob}
 use Rattle.store.specs.Lookups.{job_at}
 use Rattle.store.specs.Filling.{HasWritten, Goes}
 use Rattle.store.specs.Rewritten.{AreSources, IsRunIn, AreRuns, WhyHalted, IsHalted, HasAdded, IsNew, AreNew, HasRewritten, HasRewrittenOne, RewritesOne}
-use Rattle.store.proofs.Brought.{all_append}
 
 -- ---- the rows of a run
 

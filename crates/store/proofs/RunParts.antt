@@ -6,6 +6,7 @@ use Rattle.std.proofs.Common.{eq-eqb}
 use Rattle.std.proofs.lemmas.Bool.{and_from, lt-ltb, le-leb}
 use Rattle.std.proofs.lemmas.Nat.{mul-le}
 use Rattle.std.proofs.lemmas.List.{append-nil, take-append-drop, take-map, drop-map, take_min, drop_min, drop-drop, drop_all}
+use Rattle.lists.proofs.Lists.{all_append}
 use Rattle.bits.specs.declared.refusal.Refusal.{Refusal}
 use Rattle.bits.specs.declared.refusal.Refusal.TheVariants.{Limit, Device, Memory, NoJob, RowShape, Key as BadKey}
 use Rattle.bits.specs.Refusals.{HasCause}
@@ -29,7 +30,6 @@ use Rattle.store.specs.Writing.{IsPartRefusal}
 use Rattle.store.specs.Acting.{WroteTo}
 use Rattle.store.specs.Filling.{HasWritten, HasSize, written_group, Goes}
 use Rattle.store.specs.Rewritten.{WhyHalted, IsHalted, HasAdded, HasAddedOne}
-use Rattle.store.proofs.Brought.{all_append}
 use Rattle.store.proofs.Filled.{size_some, keys_are}
 use Rattle.store.proofs.Waits.{rows_append}
 use Rattle.store.proofs.Widths.{is_row_of, stored_fit}
@@ -233,11 +233,6 @@ part_seen f size count left part is e = ap (map f) (is ∙ ap (λ (k : ℕ). tak
 
 pub behind_seen : {A B : Type 0} (f : A → B) (size count : ℕ) (left behind : List A) → behind ≡ drop count left → count ≡ min size (length left) → map f behind ≡ drop size (map f left)
 behind_seen f size count left behind is e = ap (map f) (is ∙ ap (λ (k : ℕ). drop k left) e ∙ drop_min size left) ∙ sym (drop-map f size left)
-
-pub all_taken : {A : Type 0} (P : A → Type 0) (n : ℕ) (xs : List A) → AllByRecursion P xs → AllByRecursion P (take n xs)
-all_taken P zero xs h = tt
-all_taken P (suc n) [] h = tt
-all_taken P (suc n) (x ∷ xs) h = (h.0, all_taken P n xs h.1)
 
 pub all_dropped : {A : Type 0} (P : A → Type 0) (n : ℕ) (xs : List A) → AllByRecursion P xs → AllByRecursion P (drop n xs)
 all_dropped P zero xs h = h

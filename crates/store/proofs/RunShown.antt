@@ -3,8 +3,9 @@ use Rattle.std.proofs.Common.{◌≡◌, ℕ, Bool, true, false, ◌||◌, nat_e
 use Rattle.std.specs.Prelude.{if◌then◌else◌}
 use Rattle.std.specs.List.{AllByRecursion}
 use Rattle.std.proofs.Common.{eq-eqb}
-use Rattle.std.proofs.lemmas.Bool.{eqb-true}
+use Rattle.std.proofs.lemmas.Bool.{eqb-true, false_from_ne_true as not_true}
 use Rattle.std.proofs.lemmas.List.Elements.{filter-append}
+use Rattle.lists.proofs.Lists.{all_append, all_left as front_of_all, all_right as rest_of_all}
 use Rattle.schema.specs.Shape.{Fields}
 use Rattle.schema.specs.Cutting.{is_among}
 use Rattle.schema.specs.Keys.{KeyColumn, AreDistinct}
@@ -18,9 +19,8 @@ use Rattle.table.specs.Commits.{with_numbers}
 use Rattle.table.specs.State.{sources}
 use Rattle.table.specs.Standing.{StandInRows}
 use Rattle.store.specs.Stands.{IsStored, AreStored}
-use Rattle.store.proofs.Apart.{Shares, distinct_back, shared_none, shared_back, among_front, among_back, none_joined, not_true}
-use Rattle.store.proofs.Brought.{all_append, each_number}
-use Rattle.store.proofs.Waits.{front_of_all, rest_of_all}
+use Rattle.store.proofs.Apart.{Shares, distinct_back, shared_none, shared_back, among_front, among_back, none_joined}
+use Rattle.store.proofs.Brought.{each_number}
 use Rattle.store.proofs.Parted.{numbers_joined}
 
 -- ---- rows by number

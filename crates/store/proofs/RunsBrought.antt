@@ -2,6 +2,7 @@
 use Rattle.std.proofs.Common.{◌≡◌, ◌≢◌, ◌≤◌, ◌<◌, ◌⊎◌, ℕ, Bool, true, false, not, ◌||◌, nat_eq, List, [], ◌∷◌, ◌++◌, map, length, Some, None, refl, sym, ◌∙◌, ap, subst, arith, inl, inr, ⊎_elim}
 use Rattle.std.specs.List.{AllByRecursion, AllZip, list_all}
 use Rattle.std.proofs.lemmas.Bool.{and_from, and_parts, eqb-true}
+use Rattle.lists.proofs.Lists.{all_append, all_weaker as all_so, all_left as front_of_all, all_right as rest_of_all}
 use Rattle.bits.specs.declared.refusal.Refusal.{Refusal}
 use Rattle.bits.specs.declared.refusal.Refusal.TheVariants.{NoJob, Stale, Page}
 use Rattle.schema.specs.Shape.{Fields}
@@ -41,7 +42,7 @@ use Rattle.store.specs.Committing.{with_version, IsPlanned, ShowsJobsLeft}
 use Rattle.store.specs.Acting.{WroteTo, AsksCommit}
 use Rattle.store.specs.Rewritten.{IsNew, AreNew, HasRewritten}
 use Rattle.store.proofs.Apart.{among_first}
-use Rattle.store.proofs.Brought.{all_append, all_so, all_fresh, at_number, each_number, stored_append, numbers_too, numbers_back, same_keys}
+use Rattle.store.proofs.Brought.{all_fresh, at_number, each_number, stored_append, numbers_too, numbers_back, same_keys}
 use Rattle.store.proofs.Ends.{found_open}
 use Rattle.store.proofs.Events.{jobs_left_shown}
 use Rattle.store.proofs.Had.{had_all}
@@ -50,7 +51,6 @@ use Rattle.store.proofs.Kept.{distinct_test, order_test, same_numbers}
 use Rattle.store.proofs.LeftJobs.{jobs_left_so}
 use Rattle.store.proofs.PlannedWeights.{too_heavy_is_too_much}
 use Rattle.store.proofs.RunShown.{rows_at, rows_of, each_at, shown_so, all_each, stored_each, shown_parts, all_seen, all_unseen, rewritten_all, first_there, numbers_in_all, among_runs, picked}
-use Rattle.store.proofs.Waits.{front_of_all, rest_of_all}
 
 -- ---- runs of the code, and runs of the table
 

@@ -1,25 +1,15 @@
 -- Places of sources, over all runs.
-use Rattle.std.proofs.Common.{◌≡◌, ◌≤◌, ◌<◌, ◌+◌, ◌-◌, ℕ, zero, suc, List, [], ◌∷◌, ◌++◌, drop, length, get_or, add-one, Some, None, refl, sym, ◌∙◌, ap, arith}
+use Rattle.std.proofs.Common.{◌≡◌, ◌≤◌, ◌<◌, ◌+◌, ◌-◌, ℕ, zero, suc, List, [], ◌∷◌, ◌++◌, drop, length, get_or, add-one, Some, None, sym, ◌∙◌, ap, arith}
 use Rattle.std.specs.List.{slice_get}
 use Rattle.std.specs.Rc.{rc_value}
 use Rattle.std.specs.declared.rc.Rc.{Rc}
 use Rattle.std.specs.declared.alloc.Global.{Global}
 use Rattle.std.proofs.lemmas.List.{length-map}
+use Rattle.lists.proofs.Slices.{slice_get_left as get_front, slice_get_right as get_behind, drop_past as drop_all}
 use Rattle.manifest.specs.declared.group.Group.{Group as CodeGroup}
 use Rattle.manifest.specs.Groups.{Group, group_view, handles_view}
 use Rattle.planning.specs.declared.change.Sources.{Sources}
 use Rattle.store.specs.Stepping.{sources_in, source_in}
-use Rattle.store.proofs.Buffered.{drop_all}
-
-get_front : {A : Type 0} (xs ys : List A) (n : ℕ) → n < length xs → slice_get (xs ++ ys) n ≡ slice_get xs n
-get_front [] ys n low = absurd (omega (arith, low))
-get_front (x ∷ xs) ys zero low = refl
-get_front (x ∷ xs) ys (suc n) low = get_front xs ys n (omega (arith, low))
-
-get_behind : {A : Type 0} (xs ys : List A) (n : ℕ) → length xs ≤ n → slice_get (xs ++ ys) n ≡ slice_get ys (n - length xs)
-get_behind [] ys n high = let e : n ≡ n - 0 = omega arith in ap (slice_get ys) e
-get_behind (x ∷ xs) ys zero high = absurd (omega (arith, high))
-get_behind (x ∷ xs) ys (suc n) high = get_behind xs ys n (omega (arith, high)) ∙ (let e : n - length xs ≡ suc n - length (x ∷ xs) = omega arith in ap (slice_get ys) e)
 
 runs_from : (xs : List Sources) (i : ℕ) (x : Sources) → i < length xs → x ≡ get_or xs i x → sources_in (drop i xs) ≡ handles_view x.groups.items ++ sources_in (drop (i + 1) xs)
 runs_from xs i x h is = rw (add-one i) (by xs i h is)

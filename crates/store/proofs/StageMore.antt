@@ -1,8 +1,9 @@
 -- Rows that are staged: the writing begins, and the job has them.
-use Rattle.std.proofs.Common.{◌≡◌, ◌≤◌, ◌+◌, ◌*◌, ℕ, Bool, true, false, not, ◌&&◌, List, [], ◌∷◌, ◌++◌, map, flat_map, length, take, drop, Option, Some, None, refl, sym, ◌∙◌, ap, subst, arith, inl, inr, append_assoc}
+use Rattle.std.proofs.Common.{◌≡◌, ◌≤◌, ◌+◌, ◌*◌, ℕ, Bool, true, false, not, ◌&&◌, List, [], ◌∷◌, ◌++◌, map, flat_map, length, take, drop, Option, Some, None, refl, sym, ◌∙◌, ap, subst, arith, inl, inr, append_assoc, add-mul as both_times}
 use Rattle.std.specs.Prelude.{Vec, ◌==◌}
 use Rattle.std.specs.List.{AllByRecursion, AllZip, list_all}
 use Rattle.std.specs.declared.alloc.Global.{Global}
+use Rattle.lists.proofs.Lists.{all_append, all_weaker as all_so}
 use Rattle.bits.specs.declared.refusal.Refusal.{Refusal}
 use Rattle.bits.specs.declared.refusal.Refusal.TheVariants.{Limit, Device, Memory}
 use Rattle.schema.specs.Cutting.{is_among}
@@ -39,7 +40,7 @@ use Rattle.store.specs.Promises.{ActsFrom}
 use Rattle.store.proofs.Acting.{refusals_act}
 use Rattle.store.proofs.Apart.{AllBelow, distinct_joined, none_joined}
 use Rattle.store.proofs.Begins.{job_numbers_are}
-use Rattle.store.proofs.Brought.{all_append, all_so, all_fresh, no_number, stored_append, numbers_too}
+use Rattle.store.proofs.Brought.{all_fresh, no_number, stored_append, numbers_too}
 use Rattle.store.proofs.Carried.{past_of, survives_spared}
 use Rattle.store.proofs.Changes.{job_changed}
 use Rattle.store.proofs.Ends.{found_open}
@@ -50,7 +51,7 @@ use Rattle.store.proofs.Putting.{put_changes}
 use Rattle.store.proofs.Reached.{reached_on}
 use Rattle.store.proofs.Restaged.{whole_of, begin_buffers, begin_few, begin_keys, begin_rows, waits_back, rows_back}
 use Rattle.store.proofs.Sorting.{part_of, same_behind, same_before, sorted_part, part_append}
-use Rattle.store.proofs.StageOn.{Held, held_in, sized, all_sized, keyed_stored, past_all, both_times, own_distinct}
+use Rattle.store.proofs.StageOn.{Held, held_in, sized, all_sized, keyed_stored, past_all, own_distinct}
 use Rattle.store.proofs.Stored.{part_below, Any, all_any, stored_on}
 use Rattle.store.proofs.Waits.{rows_append, same_key_lists}
 use Rattle.store.proofs.Wrote.{wrote_nothing}

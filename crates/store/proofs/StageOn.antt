@@ -1,10 +1,11 @@
 -- Rows that are staged: from what the job holds, to what it holds then.
-use Rattle.std.proofs.Common.{◌≡◌, ◌≤◌, ◌+◌, ◌*◌, ℕ, Bool, true, false, List, [], ◌∷◌, ◌++◌, map, length, drop, Option, Some, None, refl, sym, ◌∙◌, ap, subst, arith}
+use Rattle.std.proofs.Common.{◌≡◌, ◌≤◌, ◌+◌, ℕ, Bool, true, false, List, [], ◌∷◌, ◌++◌, map, length, drop, Option, Some, None, refl, sym, ◌∙◌, ap, subst, arith}
 use Rattle.std.specs.Prelude.{if◌then◌else◌, ◌==◌}
 use Rattle.std.specs.List.{AllByRecursion, AllZip, list_all}
 use Rattle.std.proofs.Math.Seq.{drop-append-add}
 use Rattle.std.proofs.lemmas.Bool.{and_parts, and_from, eqb-true}
 use Rattle.std.proofs.Common.{eq-eqb}
+use Rattle.std.proofs.lemmas.Option.{same_Some as some_is}
 use Rattle.schema.specs.Shape.{Fields}
 use Rattle.schema.specs.Keys.{KeyColumn, AreDistinct, AreRowsOf, key_of_row}
 use Rattle.disk.specs.State.{State as DiskState}
@@ -61,16 +62,10 @@ module _ (disk : DiskState) (keys : List KeyColumn) (schema : Fields) (count siz
 pub past_all : (xs ys : List Row) (j : ℕ) → drop (length xs + j) (xs ++ ys) ≡ drop j ys
 past_all xs ys j = drop-append-add xs ys j
 
-pub both_times : (m i size : ℕ) → (m + i) * size ≡ m * size + i * size
-both_times m i size = grind arith
-
 -- ---- the append that a job is
 
 pub append_in : (o : Option OpenJob) (x : OpenJob) (a : Appending) → o ≡ Some x → x.work ≡ Append a → (waiting_at o ≡ map key_rows_view a.waiting.items) × (groups_at o ≡ handles_view a.written.items)
 append_in o x a there is = (ap waiting_at there ∙ ap waiting_of is, ap groups_at there ∙ ap groups_of is)
-
-pub some_is : {A : Type 0} (x y : A) → Some x ≡ Some y → x ≡ y
-some_is x y e = cc
 
 -- the numbers of a job's files, among those of all
 pub own_distinct : (n : ℕ) (js : List OpenJob) (x : OpenJob) → job_at n js ≡ Some x → AreDistinct (numbers_written js) → AreDistinct (numbers_of (written_of x.work))

@@ -2,7 +2,8 @@
 use Rattle.std.proofs.Common.{◌≡◌, ◌<◌, ◌==◌, ℕ, true, List, [], ◌∷◌, refl, sym, ◌∙◌, ap, subst, arith, inl, ⊎_elim}
 use Rattle.std.specs.Prelude.{Contains, reverse}
 use Rattle.std.specs.List.{AllZip, AllByRecursion}
-use Rattle.std.proofs.lemmas.Bool.{eqb-true}
+use Rattle.std.proofs.lemmas.Bool.{eqb-true, or_cases as either}
+use Rattle.lists.proofs.Booleans.{and_first as both}
 use Rattle.disk.specs.State.{Image, State as DiskState, content, may_leave}
 use Rattle.vault.specs.Views.{IsKept, root_path}
 use Rattle.footer.specs.declared.options.WriteOptions.{WriteOptions}
@@ -24,7 +25,6 @@ use Rattle.store.specs.Paths.{PathsAreApart}
 use Rattle.store.specs.Spares.{HasRoom}
 use Rattle.store.specs.Stands.{ShowsJobs, ShowsCursor, AreFilesBelow, ShowsOpen, Shows, Stands, numbers_at, job_numbers, cursor_numbers, written_in}
 use Rattle.store.specs.Starting.{IsStarted}
-use Rattle.store.proofs.Written.{both, either}
 use Rattle.store.proofs.Found as found
 
 -- a version names only files below a number that all its groups are below

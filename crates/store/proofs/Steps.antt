@@ -5,6 +5,7 @@ use Rattle.std.specs.List.{AllByRecursion, AllZip, slice_get}
 use Rattle.std.specs.declared.vec.Vec.{Vec}
 use Rattle.std.specs.declared.alloc.Global.{Global}
 use Rattle.std.proofs.lemmas.List.{length-append}
+use Rattle.lists.proofs.Lists.{all_append}
 use Rattle.schema.specs.declared.row.Row.{Row as CodeRow}
 use Rattle.schema.specs.Shape.{Fields}
 use Rattle.schema.specs.Views.{rows_view}
@@ -22,7 +23,7 @@ use Rattle.store.specs.declared.jobs.Rewriting.{Rewriting}
 use Rattle.store.specs.Counting.{IsHeld}
 use Rattle.store.specs.Stands.{IsStored, AreStored, AreReadOf, ShowsRun, ShowsRewrite}
 use Rattle.store.specs.Stepping.{sources_in, source_in}
-use Rattle.store.proofs.Brought.{all_append, stored_append}
+use Rattle.store.proofs.Brought.{stored_append}
 use Rattle.store.proofs.Events.{zip_more}
 use Rattle.store.proofs.WholeRows.{stored_fit, padded_same}
 

@@ -2,6 +2,7 @@
 use Rattle.std.proofs.Common.{◌≡◌, ◌<◌, ◌+◌, ℕ, zero, suc, Bool, true, false, not, ◌||◌, nat_eq, List, [], ◌∷◌, map, refl, sym, ◌∙◌, ap, subst, arith, eq-eqb}
 use Rattle.std.specs.Prelude.{if◌then◌else◌}
 use Rattle.std.proofs.lemmas.Bool.Decides.{nat_tests}
+use Rattle.lists.proofs.Numbers.{nat_eq_above as other_too}
 use Rattle.schema.specs.Values.{no_values, value as item}
 use Rattle.schema.specs.Shape.{Fields, no_fields, field, count}
 use Rattle.schema.specs.Fits.{fits_each, RowsFit}
@@ -15,9 +16,6 @@ use Rattle.store.proofs.WholeRows.{whole_width}
 
 other : (i m : ℕ) → i < m → nat_eq i m ≡ false
 other i m low = grind (arith, nat_tests)
-
-other_too : (i m : ℕ) → m < i → nat_eq i m ≡ false
-other_too i m low = grind (arith, nat_tests)
 
 -- a place before the first is none of them
 before_all : (keys : List ℕ) (i m : ℕ) (fs : Fields) → m < i → is_among (places_besides keys i fs) m ≡ false

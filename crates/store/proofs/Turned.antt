@@ -1,7 +1,7 @@
 -- Where a store stands after its root was to be swapped.
 use Rattle.std.proofs.Common.{◌≡◌, ◌≢◌, ◌≤◌, ◌<◌, ◌^◌, ◌⊎◌, ◌==◌, ℕ, true, false, List, [], ◌∷◌, Some, Result, Ok, refl, sym, ◌∙◌, ap, subst, arith, inl, inr, ⊎_elim}
 use Rattle.std.specs.List.{AllZip}
-use Rattle.std.proofs.lemmas.Bool.{eqb-true}
+use Rattle.std.proofs.lemmas.Bool.{eqb-true, or_cases as either}
 use Rattle.bits.specs.declared.refusal.Refusal.{Refusal}
 use Rattle.bits.specs.declared.refusal.Refusal.TheVariants.{Device, InDoubt}
 use Rattle.bits.specs.Refusals.{HasCause, RefusedOnly}
@@ -25,6 +25,7 @@ use Rattle.store.specs.declared.turn.Turn.{Turn}
 use Rattle.store.specs.declared.jobs.OpenJob.{OpenJob}
 use Rattle.std.specs.Prelude.{Vec, reverse}
 use Rattle.std.specs.declared.alloc.Global.{Global}
+use Rattle.lists.proofs.Booleans.{and_first as both}
 use Rattle.store.specs.Paths.{IsPartBelow, IsBelow}
 use Rattle.store.specs.OnDisk.{Holds}
 use Rattle.store.specs.Spares.{Agrees, IsPlace, Spares, HasRoom}
@@ -36,7 +37,7 @@ use Rattle.store.proofs.Numbered.{tracks_left, numbered_left, numbers_shown}
 use Rattle.store.proofs.Parted.{parted_left}
 use Rattle.store.proofs.Stored.{part_below, Any, all_any, stored_on, cursors_on, jobs_on, hold_same}
 use Rattle.store.proofs.Sound.{holds_like, sound_for, sound_for_either}
-use Rattle.store.proofs.Written.{both, either, failed, cause_at, same_use}
+use Rattle.store.proofs.Written.{failed, cause_at, same_use}
 use Rattle.store.proofs.Carried.{past_of, carried, survives_spared, shown, ready}
 
 -- a version whose groups are stored names only files below the count

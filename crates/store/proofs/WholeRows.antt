@@ -1,7 +1,7 @@
 -- Rows of a group with all columns of its table.
 use Rattle.std.proofs.Common.{◌≡◌, ◌≤◌, ◌<◌, ◌+◌, ℕ, zero, suc, Bool, true, false, not, ◌||◌, nat_eq, List, [], ◌∷◌, map, filter, None, Ok, Err, refl, sym, ◌∙◌, ap, subst, arith, eq-eqb}
 use Rattle.std.specs.Prelude.{if◌then◌else◌}
-use Rattle.std.proofs.lemmas.Bool.{false≢true, and_parts}
+use Rattle.std.proofs.lemmas.Bool.{false≢true, and_parts, or_right as or_true}
 use Rattle.schema.specs.Values.{no_values, value as item}
 use Rattle.schema.specs.Shape.{Field, Fields, no_fields, field, count}
 use Rattle.schema.specs.Fits.{fits_each, RowsFit}
@@ -40,10 +40,6 @@ whole_width no_fields no_values e = refl
 whole_width no_fields (item v vs) e = absurd (false≢true e)
 whole_width (field f fs) no_values e = absurd (false≢true e)
 whole_width (field f fs) (item v vs) e = ap suc (whole_width fs vs (and_parts _ (fits_each fs vs) e).1)
-
-or_true : (a b : Bool) → b ≡ true → (a || b) ≡ true
-or_true true b e = refl
-or_true false b e = e
 
 -- each place is a wanted one
 all_wanted : (fs : Fields) (i k : ℕ) → k < count fs → is_among (wanted_places None i fs) (i + k) ≡ true

@@ -1,5 +1,5 @@
 -- What is open, over a table with a column more.
-use Rattle.std.proofs.Common.{◌≡◌, ℕ, zero, suc, Bool, true, false, List, [], ◌∷◌, ◌++◌, map, flat_map, length, take, drop, refl, sym, ◌∙◌, ap, subst, arith}
+use Rattle.std.proofs.Common.{◌≡◌, ℕ, Bool, true, false, List, [], ◌∷◌, ◌++◌, map, flat_map, length, take, drop, refl, sym, ◌∙◌, ap, subst, arith}
 use Rattle.std.specs.Prelude.{if◌then◌else◌, ◌==◌, not}
 use Rattle.std.specs.List.{AllByRecursion, AllZip, list_all}
 use Rattle.std.specs.Ordering.{is_le}
@@ -31,30 +31,13 @@ use Rattle.planning.specs.declared.change.Sources.{Sources}
 use Rattle.schema.specs.declared.row.Row.{Row as CodeRow}
 use Rattle.std.specs.declared.vec.Vec.{Vec}
 use Rattle.std.specs.declared.alloc.Global.{Global}
+use Rattle.std.proofs.lemmas.List.{take-map as take_mapped, drop-map as drop_mapped, map-append as appended_map}
+use Rattle.lists.proofs.Slices.{all_take as all_taken}
+use Rattle.lists.proofs.Lists.{length_map as mapped_length, all_append}
 use Rattle.store.specs.Stands.{IsStored, AreStored, AreWritten, AreWaiting, AreReadOf, ShowsRun, ShowsWork, ShowsJob}
 use Rattle.store.proofs.WholeRows.{stored_fit, padded_more, whole_width, wider}
-use Rattle.store.proofs.RunParts.{all_taken}
-use Rattle.store.proofs.Brought.{all_append}
 
 -- ---- lists
-
-mapped_length : {A B : Type 0} (f : A → B) (xs : List A) → length (map f xs) ≡ length xs
-mapped_length f [] = refl
-mapped_length f (x ∷ xs) = ap suc (mapped_length f xs)
-
-take_mapped : {A B : Type 0} (f : A → B) (n : ℕ) (xs : List A) → take n (map f xs) ≡ map f (take n xs)
-take_mapped f zero xs = refl
-take_mapped f (suc n) [] = refl
-take_mapped f (suc n) (x ∷ xs) = ap (λ (ys : List _). f x ∷ ys) (take_mapped f n xs)
-
-drop_mapped : {A B : Type 0} (f : A → B) (n : ℕ) (xs : List A) → drop n (map f xs) ≡ map f (drop n xs)
-drop_mapped f zero xs = refl
-drop_mapped f (suc n) [] = refl
-drop_mapped f (suc n) (x ∷ xs) = drop_mapped f n xs
-
-appended_map : {A B : Type 0} (f : A → B) (xs ys : List A) → map f (xs ++ ys) ≡ map f xs ++ map f ys
-appended_map f [] ys = refl
-appended_map f (x ∷ xs) ys = ap (λ (zs : List _). f x ∷ zs) (appended_map f xs ys)
 
 flat_mapped : {A B : Type 0} (f : A → B) (xss : List (List A)) → flat_map (λ (xs : List B). xs) (map (map f) xss) ≡ map f (flat_map (λ (xs : List A). xs) xss)
 flat_mapped f [] = refl

@@ -3,7 +3,7 @@ use Rattle.std.proofs.Common.{◌≡◌, inl, inr, ℕ, Bool, true, false, not, 
 use Rattle.std.specs.Prelude.{if◌then◌else◌, filter}
 use Rattle.std.specs.List.{list_any, list_all}
 use Rattle.std.specs.Ordering.{is_le}
-use Rattle.std.proofs.lemmas.Bool.{false≢true, and_parts}
+use Rattle.std.proofs.lemmas.Bool.{false≢true, and_parts, not-true as from_not}
 use Rattle.schema.specs.Cutting.{is_among}
 use Rattle.partition.specs.Order.{key_cmp, AreInTableOrder}
 use Rattle.table.specs.Table.{Row, Key, Group, Table, rows}
@@ -23,10 +23,6 @@ none_is k e = absurd (cc)
 abbrev from_some : Key → Option Key → Key
 from_some k None = k
 from_some k (Some j) = j
-
-from_not : (b : Bool) → not b ≡ true → b ≡ false
-from_not true e = absurd (false≢true e)
-from_not false e = refl
 
 -- ---- new groups have rows
 

@@ -3,6 +3,7 @@ use Rattle.std.proofs.Common.{◌≡◌, ℕ, ◌+◌, ◌≤◌, List, [], ◌�
 use Rattle.std.proofs.lemmas.List.{length-append, append-nil}
 use Rattle.std.proofs.Common.{Result, Ok, Err}
 use Rattle.std.specs.Prelude.{OnOk}
+use Rattle.lists.proofs.Slices.{drop_front}
 use Rattle.bits.specs.declared.refusal.Refusal.{Refusal}
 use Rattle.bits.specs.Codec.{Appends}
 use Rattle.thrift_compact.specs.Compact.{IsByte}
@@ -25,10 +26,6 @@ appends_as Stands Others most other old new then_so least p = record { text = p.
 -- the same under the same bound
 pub appends_so : (Stands Others : List ℕ → ℕ → Type 0) (most : ℕ) (old new : List ℕ) → ((bytes : List ℕ) (used : ℕ) → Stands bytes used → Others bytes used) → Appends Stands most old new → Appends Others most old new
 appends_so Stands Others most old new then_so p = record { text = p.text; joined = p.joined; stands = λ more. then_so (p.text ++ more) (length p.text) (p.stands more); short = p.short }
-
-drop_front : (a b : List ℕ) → drop (length a) (a ++ b) ≡ b
-drop_front [] b = refl
-drop_front (x ∷ a) b = drop_front a b
 
 -- one text, and another behind it
 pub appends_then : (First Second Both : List ℕ → ℕ → Type 0) (m n : ℕ) (old mid new : List ℕ)

@@ -2,6 +2,7 @@
 use Rattle.std.proofs.Common.{◌≡◌, ℕ, suc, ◌+◌, ◌<◌, ◌≤◌, List, ◌++◌, length, drop, refl, sym, ap, subst, ◌∙◌, arith, Option, Some}
 use Rattle.std.proofs.lemmas.List.{drop-drop, length-drop}
 use Rattle.std.specs.Prelude.{option_and_then}
+use Rattle.lists.proofs.Options.{and_then_some}
 use Rattle.bits.specs.Codec.{NothingStands}
 use Rattle.thrift_compact.specs.Tree.{Node, Nodes, no_nodes, node, nodes_nest, count}
 use Rattle.thrift_compact.specs.Compact.{AreElements}
@@ -10,7 +11,6 @@ use Rattle.thrift_compact.specs.inner.Reading.{ElementRead, ElementsTaken}
 use Rattle.thrift_compact.proofs.NodeTypes.{alike}
 use Rattle.thrift_compact.proofs.One.{Same, one_value}
 use Rattle.thrift_compact.proofs.Stays.{value_later}
-use Rattle.thrift_compact.proofs.FieldsTaken.{and_then_some}
 
 -- what stands in the rest, whatever follows it: `done` elements up to `at` are taken, and `now` is held
 pub record Walking {S : Type 0} (step : S → Node → Option S) (start now : S) (bytes : List ℕ) (code left size done at : ℕ) : Type 0 where

@@ -1,7 +1,8 @@
 -- The fields of a struct, each of them taken.
-use Rattle.std.proofs.Common.{◌≡◌, ℕ, ◌+◌, ◌≤◌, List, ◌++◌, length, drop, refl, sym, ap, subst, ◌∙◌, arith, Option, Some, None}
+use Rattle.std.proofs.Common.{◌≡◌, ℕ, ◌+◌, ◌≤◌, List, ◌++◌, length, drop, refl, sym, ap, subst, ◌∙◌, arith, Option, Some}
 use Rattle.std.specs.Prelude.{ℤ, pos, option_and_then}
 use Rattle.std.proofs.lemmas.List.{drop-drop, length-drop}
+use Rattle.lists.proofs.Options.{and_then_some}
 use Rattle.bits.specs.Codec.{NothingStands}
 use Rattle.thrift_compact.specs.Tree.{Node, Fields, no_fields, field, nest, fields_nest}
 use Rattle.thrift_compact.specs.Compact.{IsByte, IsFieldHead, IsValue, AreFields, kind}
@@ -10,10 +11,6 @@ use Rattle.thrift_compact.specs.inner.Reading.{FieldsTaken}
 use Rattle.thrift_compact.proofs.Parts.{one_field_head, not_end}
 use Rattle.thrift_compact.proofs.One.{Same, one_value}
 use Rattle.thrift_compact.proofs.Stays.{value_later, field_head_later}
-
-pub and_then_some : {A B : Type 0} (f : A → Option B) (m : Option A) (y : B) → option_and_then f m ≡ Some y → (x : A) × (m ≡ Some x) × (f x ≡ Some y)
-and_then_some f (Some x) y e = (x, refl, e)
-and_then_some f None y e = absurd (cc)
 
 -- what stands in the rest, whatever follows it: the fields up to `at` are taken, and `now` is held
 pub record Walking {S : Type 0} (step : S → ℤ → Node → Option S) (start now : S) (bytes : List ℕ) (left at : ℕ) (previous : ℤ) : Type 0 where

@@ -1,11 +1,10 @@
 -- No bytes of a struct are fewer than its shortest spelling takes.
-use Rattle.std.proofs.Common.{◌≡◌, ℕ, zero, suc, ◌+◌, ◌*◌, ◌^◌, ◌≤◌, List, [], ◌++◌, length, drop, refl, ap, ◌∙◌, arith, inl, inr}
-use Rattle.std.specs.Prelude.{ℤ, pos, ◌-ℤ◌, nat_le, if◌then◌else◌, Bool, true, false}
+use Rattle.std.proofs.Common.{◌≡◌, ℕ, ◌+◌, ◌≤◌, List, [], ◌++◌, length, drop, arith, inl, inr}
+use Rattle.std.specs.Prelude.{ℤ, pos, ◌-ℤ◌, nat_le, true}
 use Rattle.std.proofs.lemmas.List.{length-append}
 use Rattle.std.proofs.lemmas.Bool.Decides.{nat_tests}
 use Rattle.std.proofs.lemmas.Int.{ints}
-use Rattle.std.proofs.lemmas.Nat.{pow-add}
-use Rattle.std.proofs.Math.Nat.{pow-suc}
+use Rattle.lists.proofs.Numbers.{powers_of_128 as powers, if_at_most}
 use Rattle.bits.specs.Codec.{Appends}
 use Rattle.bits.specs.Varint.{IsUleb, zigzag_of}
 use Rattle.bits.proofs.Varints.{groups_below}
@@ -14,21 +13,10 @@ use Rattle.thrift_compact.specs.Compact.{IsThrift, IsListHead, IsFieldHead, IsVa
 use Rattle.thrift_compact.specs.Length.{size_varint, size_length, size_i16, size_list_head, size_field_head, is_step, size_value, size_elements, size_pairs, size_fields, size_struct, NoSpellingIsShorter}
 use Rattle.thrift_compact.proofs.Sizes.{size_below, if_true}
 
-seven_more : (k : ℕ) → 2 ^ (7 * suc k) ≡ 128 * 2 ^ (7 * k)
-seven_more k = ap (λ (j : ℕ). 2 ^ j) (let e : 7 * suc k ≡ 7 + 7 * k = omega arith in e) ∙ pow-add 2 7 (7 * k)
-
-powers : (k : ℕ) → 128 ^ k ≡ 2 ^ (7 * k)
-powers zero = refl
-powers (suc k) = rw (pow-suc 128 k, seven_more k, powers k) (omega arith)
-
 uleb_least : (k : ℕ) (bytes : List ℕ) (n u : ℕ) → IsUleb bytes n u → size_varint k n ≤ u
 uleb_least k bytes n u p =
     let low = groups_below bytes u p.within in
     size_below k n u p.begins (rw (powers u, p.number) low)
-
-if_at_most : (b : Bool) (x y most : ℕ) → x ≤ most → y ≤ most → (if b then x else y) ≤ most
-if_at_most true x y most h g = h
-if_at_most false x y most h g = g
 
 list_head_least : (bytes : List ℕ) (k n u : ℕ) → IsListHead bytes k n u → size_list_head n ≤ u
 list_head_least bytes k n u (small, inl (few, byte)) =

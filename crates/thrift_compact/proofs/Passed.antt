@@ -1,10 +1,12 @@
 -- What has bytes passes the test.
-use Rattle.std.proofs.Common.{ℕ, ◌≡◌, ◌-◌, ◌^◌, ◌<◌, ◌≤◌, Bool, true, false, ◌&&◌, ◌||◌, nat_lt, List, length, inl, inr, refl, sym, ap, ◌∙◌, arith}
+use Rattle.std.proofs.Common.{ℕ, ◌≡◌, ◌-◌, ◌^◌, ◌<◌, ◌≤◌, Bool, true, false, ◌&&◌, ◌||◌, nat_lt, List, length, inl, inr, refl, sym, ap, ◌∙◌, arith, lt-ltb as less}
 use Rattle.std.specs.Prelude.{ℤ, pos, negsuc, ◌==◌, FitsSigned, IsTrue, ◌↔◌}
 use Rattle.std.specs.Int.{w8, w16, w32, w64, cast_signed}
-use Rattle.std.proofs.lemmas.Bool.{cases_lt}
+use Rattle.std.proofs.lemmas.Bool.{cases_lt, and_from as both, or_left as either, or_right as other, false_from_ne_true as not_true}
 use Rattle.std.proofs.lemmas.Bool.Decides.{nat_tests, Decides-eqb}
 use Rattle.std.proofs.lemmas.List.{length-take-le}
+use Rattle.lists.proofs.Numbers.{eq_from_same as same}
+use Rattle.lists.proofs.Booleans.{and_true}
 use Rattle.bits.specs.Varint.{zigzag_of}
 use Rattle.thrift_compact.specs.declared.tree.Node.{Node as CodeNode}
 use Rattle.thrift_compact.specs.View.{views, pair_views}
@@ -13,23 +15,6 @@ use Rattle.thrift_compact.specs.Tree.{Node, yes, no as never, flag, i8, i16, i32
 use Rattle.thrift_compact.specs.Compact.{kind, IsDouble, IsListHead, IsElement, IsValue, AreElements, ArePairs, AreFields}
 use Rattle.thrift_compact.specs.inner.Writable.{has_bits, is_size, is_field, is_list, is_map, can_write, can_write_each, can_write_pairs, can_write_fields}
 use Rattle.thrift_compact.specs.Shapes.{is_of_type}
-
-pub both : (a b : Bool) → a ≡ true → b ≡ true → (a && b) ≡ true
-both a b p q = cc
-
-pub less : (a b : ℕ) → a < b → nat_lt a b ≡ true
-less a b h = grind (arith, nat_tests)
-
-either : (a b : Bool) → a ≡ true → (a || b) ≡ true
-either true b h = refl
-either false b h = cc
-
-other : (a b : Bool) → b ≡ true → (a || b) ≡ true
-other true b h = refl
-other false b h = h
-
-pub same : (k m : ℕ) → k ≡ m → (k == m) ≡ true
-same k m h = (Decides-eqb k m).1 h
 
 -- ---- numbers and sizes
 
@@ -155,14 +140,6 @@ mutual
       (fields_pass d fs id _ h.2 h.5 (omega (arith, n)))
 
 -- ---- the test of an element
-
-and_true : (b : Bool) → (b && true) ≡ b
-and_true true = refl
-and_true false = refl
-
-not_true : (b : Bool) → (b ≡ true → ⊥) → b ≡ false
-not_true true h = absurd (h refl)
-not_true false h = refl
 
 one_of : (k : ℕ) → ((k == 1 || k == 2) ≡ true) → IsElement k (flag 0)
 one_of k h = grind (arith, nat_tests)

@@ -1,12 +1,12 @@
 -- What has bytes has the shape.
-use Rattle.std.proofs.Common.{◌≡◌, ℕ, ◌-◌, true, ◌&&◌, nat_lt, refl}
+use Rattle.std.proofs.Common.{◌≡◌, ℕ, ◌-◌, true, ◌&&◌, nat_lt, refl, lt-ltb as less}
 use Rattle.std.specs.Prelude.{pos}
-use Rattle.std.proofs.lemmas.Bool.{and_parts}
+use Rattle.std.proofs.lemmas.Bool.{and_parts, and_from as both}
 use Rattle.thrift_compact.specs.Tree.{Node, yes, no as never, flag, i8, i16, i32, i64, double, binary, list, set, empty_map, map, struct, Nodes, no_nodes, node, Pairs, no_pairs, pair, Fields, no_fields, field, count, count_pairs}
 use Rattle.thrift_compact.specs.Compact.{kind}
 use Rattle.thrift_compact.specs.inner.Writable.{is_field, is_list, is_map, can_write, can_write_each, can_write_pairs, can_write_fields}
 use Rattle.thrift_compact.specs.Shapes.{StructsWithBytesHaveTheShape, is_of_type, is_member, may_be_map, has_shape, each_has_shape, pairs_have_shape, fields_have_shape}
-use Rattle.thrift_compact.proofs.Passed.{both, less, fields_pass}
+use Rattle.thrift_compact.proofs.Passed.{fields_pass}
 use Rattle.thrift_compact.proofs.Tested.{field_parts, list_parts, map_parts}
 
 of_map : (k v n : ℕ) → is_map k v n ≡ true → may_be_map k v n ≡ true

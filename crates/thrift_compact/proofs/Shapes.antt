@@ -1,7 +1,8 @@
 -- What is refused for its shape, or for that of a part of it.
-use Rattle.std.proofs.Common.{◌≡◌, ℕ, zero, suc, ◌<◌, Bool, true, false, List, [], ◌∷◌, length, get_or, refl, ap, arith, Result, Ok, Err}
+use Rattle.std.proofs.Common.{◌≡◌, ℕ, zero, suc, ◌<◌, Bool, true, false, List, [], ◌∷◌, length, get_or, refl, arith, Result, Ok, Err}
 use Rattle.std.specs.Prelude.{◌&&◌}
 use Rattle.std.specs.Result.{IsErrAnd}
+use Rattle.std.proofs.lemmas.Bool.{and_left as first_fails}
 use Rattle.bits.specs.declared.refusal.Refusal.{Refusal}
 use Rattle.bits.specs.declared.refusal.Refusal.TheVariants.{Memory}
 use Rattle.bits.specs.Refusals.{HasCause, RefusedOnly}
@@ -10,9 +11,6 @@ use Rattle.thrift_compact.specs.declared.tree.Field.{Field}
 use Rattle.thrift_compact.specs.declared.tree.Node.{Node as CodeNode}
 use Rattle.thrift_compact.specs.View.{view, views, pair_views, field_view, field_views}
 use Rattle.thrift_compact.specs.Shapes.{is_of_type, is_member, has_shape, each_has_shape, pairs_have_shape, pair_has_shape, fields_have_shape, IsShapeless}
-
-pub first_fails : (a b : Bool) → a ≡ false → (a && b) ≡ false
-first_fails a b e = ap (λ x. x && b) e
 
 pub second_fails : (a b : Bool) → b ≡ false → (a && b) ≡ false
 second_fails true b e = e

@@ -7,11 +7,9 @@ use Rattle.std.proofs.lemmas.Int.{to_z-of_z, ints}
 use Rattle.std.proofs.lemmas.Bool.Decides.{nat_tests}
 use lib.Signed.{le_z, mag}
 use borrow.Author.Differences.{up, down}
+use Rattle.lists.proofs.Numbers.{fits_wider as wider}
 use Rattle.thrift_compact.specs.Length.{is_step}
 use Rattle.thrift_compact.specs.inner.Writing.{IsStep}
-
-wider : (z : ℤ) → FitsSigned w16 z → FitsSigned w32 z
-wider z p = record { sfits = omega (arith, p.sfits) }
 
 range_of : (z : ℤ) → FitsSigned w16 z → (up z < down z + 2 ^ 15) × (down z ≤ up z + 2 ^ 15)
 range_of (pos n) p = (omega (arith, p.sfits), omega (arith, p.sfits))

@@ -1,9 +1,9 @@
 -- What passes the test has a text, and nests no deeper.
-use Rattle.std.proofs.Common.{ℕ, ◌≡◌, ◌+◌, ◌-◌, ◌^◌, ◌<◌, ◌≤◌, Bool, true, ◌&&◌, nat_lt, List, [], ◌++◌, length, drop, min, refl, ap, sym, subst, ◌∙◌, arith}
+use Rattle.std.proofs.Common.{ℕ, ◌≡◌, ◌+◌, ◌-◌, ◌^◌, ◌<◌, ◌≤◌, Bool, true, ◌&&◌, nat_lt, List, [], ◌++◌, length, drop, min, refl, ap, sym, subst, ◌∙◌, arith, ltb-true as below}
 use Rattle.std.specs.Prelude.{ℤ, pos, negsuc, FitsSigned, IsTrue, ◌↔◌}
 use Rattle.std.specs.Int.{w8, w16, w32}
 use Rattle.std.proofs.lemmas.Bool.{and_parts}
-use Rattle.std.proofs.lemmas.Bool.Decides.{nat_tests, Decides-eqb}
+use Rattle.std.proofs.lemmas.Bool.Decides.{Decides-eqb}
 use Rattle.bits.specs.Varint.{zigzag_of}
 use Rattle.thrift_compact.specs.Tree.{Node, yes, no as never, flag, i8, i16, i32, i64, double, binary, list, set, empty_map, map, struct, Nodes, no_nodes, node, Pairs, no_pairs, pair, Fields, no_fields, field, nest, nodes_nest, pairs_nest, fields_nest, count, count_pairs}
 use Rattle.thrift_compact.specs.Compact.{kind, IsSigned, IsListHead, IsMapHead, IsFieldHead, IsValue, AreElements, ArePairs, AreFields}
@@ -12,9 +12,6 @@ use Rattle.thrift_compact.specs.inner.Writable.{has_bits, is_size, is_field, is_
 use Rattle.thrift_compact.specs.Shapes.{is_of_type}
 use Rattle.thrift_compact.proofs.Texts.{HasText, then_text, as_text, no_text, byte_text, uleb_text, signed_byte_text, double_text, binary_text, list_head_text, map_head_text, field_head_text}
 use Rattle.thrift_compact.proofs.Passed.{is_element_of, fields_pass}
-
-below : (m n : ℕ) → nat_lt m n ≡ true → m < n
-below m n h = grind (arith, nat_tests)
 
 bits_below : (bits : ℕ) (z : ℤ) → has_bits bits z ≡ true → zigzag_of z < 2 ^ bits
 unfolding has_bits

@@ -1,17 +1,13 @@
 -- What holds of each value of a column, entry by entry.
-use Rattle.std.proofs.Common.{◌≡◌, ◌<◌, ◌+◌, ℕ, List, [], ◌∷◌, map, drop, get_or, length, option_map, Option, Some, None, ap, sym, ◌∙◌, arith}
+use Rattle.std.proofs.Common.{◌≡◌, ◌+◌, List, [], ◌∷◌, map, option_map, Option, Some, None, arith}
 use Rattle.std.specs.Prelude.{IfSome, cond, is_none}
 use Rattle.std.specs.List.{AllByRecursion, cons_option}
-use Rattle.std.proofs.lemmas.List.{drop_more}
 use Rattle.std.proofs.lemmas.List.Sums.{sum_by-cons}
 use Rattle.schema.specs.Values.{ValueTree, view}
 use Rattle.schema.specs.Stripe.{Entry}
 use Rattle.schema.specs.Views.{entry_view}
 use Rattle.schema.specs.declared.row.Entry.{Entry as CodeEntry}
 use Rattle.statistics.specs.Bounds.{values, null_count}
-
-pub rest_is : {A : Type 0} (xs : List A) (i : ℕ) (x : A) → i < length xs → x ≡ get_or xs i x → drop i xs ≡ x ∷ drop (i + 1) xs
-rest_is {A} xs i x h is = drop_more xs i x h ∙ ap (λ (y : A). y ∷ drop (i + 1) xs) (sym is)
 
 module _ (P : ValueTree → Type 0) where
   abbrev pub Each : List CodeEntry → Type 0

@@ -1,11 +1,11 @@
 -- Calls that only read, one after another.
 use Rattle.std.proofs.Common.{◌≡◌, ◌≤◌, ◌+◌, ℕ, List, refl, ◌∙◌, arith}
-use Rattle.std.specs.Prelude.{Result, Ok, Err, OnOk, IfOk}
+use Rattle.std.specs.Prelude.{Result, Ok, Err, IfOk}
+use Rattle.lists.proofs.Booleans.{iff_through as both}
 use Rattle.disk.specs.State.{State}
 use Rattle.vault.specs.Views.{Same}
 use Rattle.vault.specs.Calls.{LeavesAll}
 use Rattle.vault.proofs.Moments.{joins, rooted_joins, stays_rooted_here, clear_joins, stays_clear_here, nothing_yet, same_same}
-use Rattle.vault.proofs.Chained.{both}
 use Rattle.upkeep.specs.Reading.{Looks}
 
 pub leaves_then : (old mid new : State) → LeavesAll old mid → LeavesAll mid new → LeavesAll old new
@@ -36,10 +36,6 @@ looks_then m n old mid new first second = record {
   counts = omega (arith, first.counts, second.counts);
   honest = both first.honest second.honest;
 }
-
-pub ok_map : {T E : Type 0} (P Q : Type 0) (r : Result T E) → (P → Q) → OnOk r P → OnOk r Q
-ok_map P Q (Ok x) f p = f p
-ok_map P Q (Err e) f p = tt
 
 pub looks_most : (m n : ℕ) (old new : State) → m ≤ n → Looks m old new → Looks n old new
 looks_most m n old new le looks = record { unchanged = looks.unchanged; reads = omega (arith, looks.reads, le); counts = looks.counts; honest = looks.honest }

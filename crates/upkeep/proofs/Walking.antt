@@ -1,10 +1,11 @@
 -- A walk through the key folders, entry by entry.
-use Rattle.std.proofs.Common.{◌≡◌, ◌≢◌, ◌<◌, ◌≤◌, ◌^◌, ◌+◌, ◌⊎◌, ℕ, suc, List, [], ◌∷◌, ◌++◌, length, take, map, get_or, Some, String, string_bytes, refl, sym, ◌∙◌, ap, subst, arith, inl, inr, ⊎_elim}
+use Rattle.std.proofs.Common.{◌≡◌, ◌≢◌, ◌<◌, ◌≤◌, ◌^◌, ◌+◌, ◌⊎◌, ℕ, suc, List, [], ◌∷◌, ◌++◌, length, take, get_or, Some, String, string_bytes, refl, sym, ◌∙◌, ap, subst, arith, inl, inr, ⊎_elim}
 use Rattle.std.specs.Prelude.{Result, Ok, Err, OnOk, Contains}
 use Rattle.std.specs.List.{slice_get}
 use Rattle.std.proofs.lemmas.Bool.{cases_lt}
 use Rattle.std.proofs.lemmas.Option.{slice_get-get_or, slice_get_within, same_Some}
 use Rattle.std.proofs.lemmas.List.Elements.{Contains-append_left, Contains-push, Contains-push_cases}
+use Rattle.lists.proofs.Slices.{map_take as map_taken}
 use Rattle.bits.specs.declared.refusal.Refusal.{Refusal}
 use Rattle.schema.specs.Values.{ValueTree}
 use Rattle.schema.specs.Keys.{KeyColumn}
@@ -18,14 +19,13 @@ use Rattle.disk.specs.declared.binding.Kind.{Kind}
 use Rattle.disk.specs.declared.binding.Kind.TheVariants as kind
 use Rattle.partition.specs.Folders.{CanPartition, path, part_name_of, part_path_of}
 use Rattle.partition.specs.Nesting.{path_to}
-use Rattle.partition.proofs.Nested.{map_taken, fewer_can_partition, folders_nest}
+use Rattle.partition.proofs.Nested.{fewer_can_partition, folders_nest}
 use Rattle.schema.specs.Keys.{key_columns_view, key_column_view}
 use Rattle.schema.specs.declared.key.KeyColumn.{KeyColumn as CodeKeyColumn}
 use Rattle.upkeep.specs.Strays.{IsPartPath, IsStray, AreStrays}
 use Rattle.folders.specs.Entries.{IsKeyFolder, path_at, IsPartEntry, IsStrayFile, IsNoStrayFile, IsNoneBelow}
 use Rattle.upkeep.specs.inner.Walk.{Adds, FindsFile, FindsFiles, IsFound, Finds, FindsBelow}
 use Rattle.folders.proofs.Ways.{found_below, found_file, in_is}
-use Rattle.upkeep.proofs.Looking.{ok_map}
 
 -- ---- more paths
 
@@ -217,10 +217,6 @@ module _ (keys : List KeyColumn) (Named : List ℕ → Type 0) where
         let e = part.4 in
         subst (λ (p : List ℕ). Contains found p) (sym e) (finds.found part.0 part.1 is.node part.2 part.3 refl (ap image.names (sym e) ∙ is.file) (λ named. is.unnamed (subst Named (sym e) named)))),
   )
-
-pub count_map : {X Y : Type 0} (f : X → Y) (xs : List X) → length (map f xs) ≡ length xs
-count_map f [] = refl
-count_map f (x ∷ xs) = ap suc (count_map f xs)
 
 pub columns_front : (n : ℕ) (ks front : List CodeKeyColumn) → front ≡ take n ks → key_columns_view front ≡ take n (key_columns_view ks)
 columns_front n ks front cut = ap key_columns_view cut ∙ map_taken key_column_view n ks

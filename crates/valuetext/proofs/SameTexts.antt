@@ -2,6 +2,7 @@
 use Rattle.std.proofs.Common.{◌≡◌, ℕ, List, Bool, true, false, not, nat_eq, refl, sym, ◌∙◌}
 use Rattle.std.specs.Prelude.{IsTrue, ◌↔◌}
 use Rattle.std.specs.Cmp.Lexicographic.{pointwise, same_text, other_text}
+use Rattle.std.proofs.lemmas.Bool.{false≢true as false_true}
 
 both : (p : Bool) → true ≡ not p → false ≡ p
 both false e = refl
@@ -10,12 +11,6 @@ both true e = absurd cc
 neither : (p : Bool) → false ≡ not p → true ≡ p
 neither true e = refl
 neither false e = absurd cc
-
-pub false_true : false ≡ true → ⊥
-false_true e = cc
-
-pub not_true : (r : Bool) → IsTrue r → r ≡ false → ⊥
-not_true r t e = false_true (sym e ∙ t)
 
 pub is_true : (r : Bool) → r ≡ true → IsTrue r
 is_true r e = e

@@ -1,6 +1,7 @@
 -- What the root's two names are as texts.
 use Rattle.std.proofs.Common.{◌≡◌, ◌≢◌, ℕ, zero, suc, List, [], ◌∷◌, length, slice_index, Bool, true, false, if◌then◌else◌, ◌==◌, refl, sym, ◌∙◌, ap, arith, ⊎_elim}
 use Rattle.std.proofs.lemmas.Bool.Decides.{eqb_tells}
+use Rattle.std.proofs.lemmas.Bool.{false≢true as false_is_not_true}
 use Rattle.disk.specs.Paths.{slash, folder_of, IsOnTheWay}
 use Rattle.disk.specs.State.{State}
 use Rattle.vault.specs.Views.{root_path, next_path}
@@ -9,9 +10,6 @@ use Rattle.vault.specs.Ways.{IsOpenWay}
 abbrev has_no_slash : List ℕ → Bool
 has_no_slash [] = true
 has_no_slash (b ∷ rest) = if b == slash then false else has_no_slash rest
-
-false_is_not_true : false ≡ true → ⊥
-false_is_not_true e = cc
 
 if_false : (t u : Bool) → (if t then false else u) ≡ true → (t ≡ false) × (u ≡ true)
 if_false true u e = absurd (false_is_not_true e)

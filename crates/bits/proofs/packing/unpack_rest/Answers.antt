@@ -1,9 +1,9 @@
-use Rattle.std.proofs.Common.{◌≡◌, ℕ, ◌+◌, ◌*◌, ◌^◌, ◌≤◌, ◌++◌, [], ◌∷◌, arith, length, map, sym, ap, ◌∙◌}
+use Rattle.std.proofs.Common.{◌≡◌, ℕ, ◌+◌, ◌*◌, ◌^◌, ◌≤◌, ◌++◌, [], ◌∷◌, arith, length, map, sym, ap, ◌∙◌, add-mul as add-mul-distrib}
 use Rattle.std.specs.Prelude.{slice_range}
 use Rattle.std.proofs.Math.Pow.{pow_mono}
 use Rattle.std.proofs.lemmas.List.{length-append, length-map}
 use Rattle.bits.specs.Bits.{bits, number}
-use Rattle.bits.proofs.Loads.{packed-next, range-small, add-mul-distrib}
+use Rattle.bits.proofs.Loads.{packed-next, range-small}
 use Rattle.bits.proofs.packing.unpack_rest.Goals as goal
 
 pub put-requires : goal.put-requires

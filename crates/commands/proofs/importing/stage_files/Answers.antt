@@ -1,11 +1,11 @@
 use Rattle.std.proofs.Common.{◌≡◌, ◌+◌, ◌++◌, ◌∷◌, [], List, Vec, Global, ℕ, suc, take, drop, sym, subst, arith}
 use Rattle.std.proofs.lemmas.List.{take_all}
+use Rattle.lists.proofs.Slices.{map_take_next as taken}
 use Rattle.vault.proofs.Chained.{refused as passed}
 use Rattle.footer.specs.File.{FileMeans}
 use Rattle.commands.specs.Importing.{files_view, StagesFiles, RefusesFile, StopsAtFile}
 use Rattle.commands.specs.inner.Staged.{StagesAll}
 use Rattle.commands.proofs.StagedFiles.{none_staged, staged_more, stops_here, split_files}
-use Rattle.commands.proofs.Stopped.{taken}
 use Rattle.commands.proofs.importing.stage_files.Goals as goal
 
 pub loop-place-init : goal.loop-place-init

@@ -1,10 +1,11 @@
-use Rattle.std.proofs.Common.{◌≡◌, List, Some, None, ap, sym, subst, ◌∙◌}
+use Rattle.std.proofs.Common.{◌≡◌, List, Some, None, ap, sym, subst, ◌∙◌, true≢false as true_not_false}
 use Rattle.std.specs.Prelude.{slice_get}
+use Rattle.std.proofs.lemmas.Bool.{false_from_ne_true as is_false}
 use Rattle.schema.specs.Keys.{KeyColumn}
 use Rattle.filter.specs.Test.{tests_in}
 use Rattle.manifest.specs.Groups.{Group, group_view, groups_in}
 use Rattle.commands.specs.Kept.{TellsWhichMayHold}
-use Rattle.commands.proofs.FirstKept.{first_here, first_after, first_past, is_false, true_not_false}
+use Rattle.commands.proofs.FirstKept.{first_here, first_after, first_past}
 use Rattle.commands.proofs.kept_style.style_left_by.Goals as goal
 
 pub returns-then-may_hold : goal.returns-then-may_hold

@@ -1,6 +1,6 @@
-use Rattle.std.proofs.Common.{◌≡◌, ◌∙◌, ℕ, Option, length, ap, sym, subst, arith}
+use Rattle.std.proofs.Common.{◌≡◌, ◌∙◌, ℕ, Option, length, ap, sym, subst, arith, take_all as all_taken}
 use Rattle.commands.specs.QueryFile.{first_of}
-use Rattle.commands.proofs.FirstOf.{few_taken, all_taken}
+use Rattle.commands.proofs.FirstOf.{few_taken}
 use Rattle.commands.proofs.row_limit.taken_of.Goals as goal
 
 pub returns-then-limit-count : goal.returns-then-limit-count

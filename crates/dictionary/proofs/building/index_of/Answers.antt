@@ -1,12 +1,13 @@
 use Rattle.std.proofs.Common.{◌≡◌, ◌++◌, ◌∷◌, [], map, refl, sym, ap, ◌∙◌, arith}
 use Rattle.std.specs.Bool.{Decides}
 use Rattle.std.proofs.lemmas.List.{length-map, map-append}
+use Rattle.std.proofs.lemmas.Bool.{not-true as not_true}
 use Rattle.schema.specs.Values.{view}
 use Rattle.schema.specs.Borrowed.{value_ref_view}
 use Rattle.dictionary.specs.declared.key.ValueKey.{ValueKey}
 use Rattle.dictionary.specs.contracts.key.ValueKeyPartialEq.TheImpl.{ghosts}
 use Rattle.dictionary.specs.inner.Keys.{key_view}
-use Rattle.dictionary.proofs.ByKinds.{by_kinds, key_there, key_added, value_lacks, not_true}
+use Rattle.dictionary.proofs.ByKinds.{by_kinds, key_there, key_added, value_lacks}
 use Rattle.dictionary.proofs.building.index_of.Goals.{then-is_new+else-len-eq-MOST_ENTRIES+in_ok-to_value+in_ok-push, else-is_new}
 use Rattle.dictionary.proofs.building.index_of.Goals as goal
 

@@ -1,10 +1,10 @@
 use Rattle.std.proofs.Common.{◌≡◌, map, true, Some, sym, ap, ◌∙◌}
 use Rattle.std.specs.Rc.{rc_str_bytes}
+use Rattle.lists.proofs.Slices.{slice_get_map as gets_here}
 use Rattle.schema.specs.Stripe.{Leaf}
 use Rattle.schema.specs.Views.{leaf_view}
 use Rattle.filter.specs.Terms.{names_of}
 use Rattle.filter.proofs.Made.{passed_over, found_here}
-use Rattle.filter.proofs.Places.{gets_here}
 use Rattle.filter.proofs.making.place_of.Goals as goal
 
 pub returns-then-is_path : goal.returns-then-is_path

@@ -1,11 +1,11 @@
 use Rattle.std.proofs.Common.{◌≡◌, ℕ, map, Option, Some, Ok, Err, sym, ap, ◌∙◌, subst}
 use Rattle.std.specs.Prelude.{IfOk}
+use Rattle.lists.proofs.Slices.{slice_get_map as gets_here}
 use Rattle.bits.specs.Refusals.{RefusedOnly}
 use Rattle.schema.specs.Stripe.{Leaf}
 use Rattle.schema.specs.Views.{leaf_view}
 use Rattle.filter.specs.Test.{test_view}
 use Rattle.filter.specs.Terms.{names_of, term_view, named_leaf, test_found}
-use Rattle.filter.proofs.Places.{gets_here}
 use Rattle.filter.proofs.making.test_of.Goals as goal
 
 pub returns-in-Some-clause-made : goal.returns-in-Some-clause-made

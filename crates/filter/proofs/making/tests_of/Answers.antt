@@ -1,10 +1,10 @@
 use Rattle.std.proofs.Common.{◌≡◌, ◌+◌, List, [], ◌∷◌, ◌++◌, map, drop, sym, ap, ◌∙◌}
 use Rattle.std.proofs.lemmas.List.{map-append}
+use Rattle.lists.proofs.Slices.{map_drop_here as reads}
 use Rattle.schema.specs.Views.{leaf_view}
 use Rattle.filter.specs.Test.{Test, test_view}
 use Rattle.filter.specs.Terms.{Term, term_view, test_of, each_of}
 use Rattle.filter.proofs.Made.{before, made_more}
-use Rattle.filter.proofs.Places.{reads}
 use Rattle.filter.proofs.making.tests_of.Goals as goal
 
 pub loop-term-preserved : goal.loop-term-preserved

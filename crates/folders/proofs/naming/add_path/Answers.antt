@@ -1,13 +1,9 @@
-use Rattle.std.proofs.Common.{◌≡◌, ◌||◌, Bool, true, false, string_bytes, refl, ap, ◌∙◌}
-use Rattle.std.specs.Prelude.{cond}
+use Rattle.std.proofs.Common.{◌||◌, true, string_bytes, ap, ◌∙◌}
 use Rattle.std.specs.HashSet.{contains_text}
 use Rattle.std.specs.Str.{bytes_eq}
 use Rattle.std.proofs.lemmas.Map.Text.{hash_set_updates_text}
+use Rattle.lists.proofs.Booleans.{cond_is_or}
 use Rattle.folders.proofs.naming.add_path.Goals as goal
-
-cond_is_or : (a b : Bool) → cond a true b ≡ (a || b)
-cond_is_or true b = refl
-cond_is_or false b = refl
 
 pub returns-clause-adds : goal.returns-clause-adds
 returns-clause-adds c = λ q.

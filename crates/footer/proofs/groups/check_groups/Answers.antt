@@ -1,6 +1,7 @@
 use Rattle.std.proofs.Common.{List, [], map, refl, sym, subst, Err, ap}
 use Rattle.std.proofs.Math.ListN.{drop_of_length-le}
 use Rattle.std.proofs.lemmas.Bool.{false≢true}
+use Rattle.lists.proofs.Slices.{contains_mapped as among}
 use Rattle.bits.proofs.Passing.{passes}
 use Rattle.bits.specs.Refusals.{IsFault}
 use Rattle.schema.specs.Values.{ValueTrees}
@@ -8,7 +9,7 @@ use Rattle.metadata.specs.Views.{group_meta_view}
 use Rattle.footer.specs.File.{GroupsMean}
 use Rattle.footer.specs.Faults.{HasGroupsFault}
 use Rattle.footer.specs.Left.{GroupsHold}
-use Rattle.footer.proofs.GroupRows.{faulty, has_rows, among, one_more}
+use Rattle.footer.proofs.GroupRows.{faulty, has_rows, one_more}
 use Rattle.footer.proofs.groups.check_groups.Goals as goal
 
 pub returns-then-not-lies_here-clause-only : goal.returns-then-not-lies_here-clause-only

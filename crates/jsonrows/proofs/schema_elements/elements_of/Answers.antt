@@ -1,12 +1,12 @@
 use Rattle.std.proofs.Common.{◌++◌, [], length, List, ap, sym, subst, ◌∙◌, append-nil, arith}
 use Rattle.std.specs.Vec.Iter.{into_iter_items}
+use Rattle.std.proofs.lemmas.List.{nil_from_length as nothing_left}
 use Rattle.bits.specs.Refusals.{IsFault}
 use Rattle.bits.proofs.Passing.{passes}
 use Rattle.schema.specs.Elements.{Element, elements_view}
 use Rattle.jsonrows.specs.inner.SchemaReading.{AreElementsOf}
 use Rattle.jsonrows.specs.inner.SchemaViews.{said_view, saids}
 use Rattle.jsonrows.proofs.Elements.{goes_on_with, goes_on_below, no_elements}
-use Rattle.rowtext.proofs.Taken.{nothing_left}
 use Rattle.jsonrows.proofs.schema_elements.elements_of.Goals as goal
 
 pub returns-in_err-element_of-clause-only : goal.returns-in_err-element_of-clause-only

@@ -1,8 +1,9 @@
 use Rattle.std.proofs.Common.{◌≡◌, ◌∙◌, ◌++◌, ◌+◌, ◌∷◌, [], List, map, take, ap, sym, subst, arith, Err}
-use Rattle.std.proofs.lemmas.List.{take_all}
+use Rattle.std.proofs.lemmas.List.{take_all, map_push}
 use Rattle.std.specs.Rc.{rc_value}
 use Rattle.std.specs.declared.rc.Rc.{Rc}
 use Rattle.std.specs.declared.alloc.Global.{Global}
+use Rattle.lists.proofs.Slices.{take_next}
 use Rattle.bits.specs.declared.refusal.Refusal.TheVariants.{Limit}
 use Rattle.schema.specs.Keys.{key_columns_view}
 use Rattle.metadata.specs.Records.{GroupMeta}
@@ -12,7 +13,6 @@ use Rattle.manifest.specs.declared.group.Group.{Group as CodeGroup}
 use Rattle.manifest.specs.Groups.{Group, group_view, handles_view}
 use Rattle.manifest.specs.Laid.{group_record}
 use Rattle.manifest.specs.inner.Writing.{IsSized, PutsGroups}
-use Rattle.manifest.proofs.GroupChunks.{take_next, map_push}
 use Rattle.manifest.proofs.GroupLists.{each_here, same_refusal}
 use Rattle.manifest.proofs.PutGroups.{puts_none, puts_then, puts_as}
 use Rattle.manifest.proofs.group_writing.put_block.Goals as goal

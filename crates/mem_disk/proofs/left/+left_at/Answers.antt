@@ -1,7 +1,7 @@
 use Rattle.std.proofs.Common.{◌≡◌, ◌≢◌, ◌==◌, List, ℕ, [], length, false, sym, ◌∙◌, ap}
+use Rattle.std.proofs.lemmas.Bool.{false≢true as not_true}
 use Rattle.disk.specs.declared.binding.Binding.TheVariants.{Folder}
 use Rattle.mem_disk.specs.Left.{left_in}
-use Rattle.mem_disk.proofs.Choices.{not_true}
 use Rattle.mem_disk.proofs.Leaving.{left_there_of, left_gone_of}
 use Rattle.mem_disk.proofs.left.+left_at.Goals as goal
 

@@ -1,6 +1,6 @@
 use Rattle.std.proofs.Common.{◌≡◌, ◌≢◌, ◌==◌, ◌++◌, sym, ◌∙◌, ap, arith, List, ℕ, [], length, false}
 use Rattle.std.proofs.lemmas.Str.Pattern.{strip_prefix_char}
-use Rattle.mem_disk.proofs.Choices.{not_true}
+use Rattle.std.proofs.lemmas.Bool.{false≢true as not_true}
 use Rattle.mem_disk.proofs.Listed.{other_front, behind_slash}
 use Rattle.mem_disk.proofs.listing.behind.Goals as goal
 

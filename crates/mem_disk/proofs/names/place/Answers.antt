@@ -3,7 +3,7 @@ use Rattle.std.specs.HashMap.{get_by_text}
 use Rattle.std.specs.Map.{update}
 use Rattle.std.specs.Str.{bytes_eq}
 use Rattle.std.proofs.lemmas.Map.Text.{hash_map_updates_text}
-use Rattle.mem_disk.proofs.Choices.{not_true}
+use Rattle.std.proofs.lemmas.Bool.{false≢true as not_true}
 use Rattle.mem_disk.proofs.Places.{placed_new}
 use Rattle.mem_disk.proofs.names.place.Goals as goal
 

@@ -1,10 +1,11 @@
 use Rattle.std.proofs.Common.{◌≡◌, ℕ, Some, ap, sym, ◌∙◌, inl, inr, arith}
 use Rattle.std.proofs.lemmas.Bool.{cases_lt}
+use Rattle.std.proofs.lemmas.Option.{same_Some as same_some}
 use Rattle.schema.specs.declared.value.Repetition.TheVariants.{Required}
 use Rattle.schema.specs.Keys.{key_type, field_at}
 use Rattle.schema.specs.Shape.{leaf}
 use Rattle.schema.specs.Views.{field_views}
-use Rattle.partition.proofs.KeyColumns.{field_is, no_field, same_some}
+use Rattle.partition.proofs.KeyColumns.{field_is, no_field}
 use Rattle.partition.proofs.columns.key_column.Goals as goal
 
 pub returns-in-Some-clause-stands : goal.returns-in-Some-clause-stands

@@ -1,8 +1,9 @@
 use Rattle.std.proofs.Common.{◌≡◌, ap, ◌∙◌, sym, subst, ◌++◌, ◌∷◌, [], List, map, arith}
+use Rattle.std.proofs.lemmas.List.{map_push}
 use Rattle.schema.specs.Values.{ValueTree, view}
 use Rattle.schema.specs.Keys.{KeyColumn, key_column_view}
 use Rattle.partition.specs.inner.Reading.{ReadsOn}
-use Rattle.partition.proofs.ReadingBack.{next_folder, all_read, columns_from, columns_end, map_push}
+use Rattle.partition.proofs.ReadingBack.{next_folder, all_read, columns_from, columns_end}
 use Rattle.partition.proofs.paths.read_folders.Goals as goal
 
 pub returns-in-None-clause-stands : goal.returns-in-None-clause-stands

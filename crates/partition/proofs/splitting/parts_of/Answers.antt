@@ -1,9 +1,9 @@
 use Rattle.std.proofs.Common.{◌≡◌, ap, ◌∙◌, sym, subst, ◌++◌, ◌∷◌, [], arith}
+use Rattle.std.proofs.lemmas.List.{map_push}
 use Rattle.schema.specs.Values.{view, member_at}
 use Rattle.schema.specs.Views.{row_view}
 use Rattle.partition.specs.inner.Parts.{part_view, parts_view, IsNoKeyValue}
 use Rattle.partition.proofs.Partitioning.{member_is}
-use Rattle.partition.proofs.WithKeys.{map_push}
 use Rattle.partition.proofs.KeyParts.{key_more, no_key_at, no_value}
 use Rattle.partition.proofs.splitting.parts_of.Goals as goal
 

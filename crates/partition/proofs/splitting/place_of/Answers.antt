@@ -3,12 +3,13 @@ use Rattle.std.specs.Prelude.{is_some}
 use Rattle.schema.specs.Values.{ValueTree}
 use Rattle.schema.specs.Views.{key_view, rows_view}
 use Rattle.std.specs.List.{AllByRecursion}
+use Rattle.std.proofs.lemmas.List.{map_push}
 use Rattle.partition.specs.Order.{is_same_key}
 use Rattle.schema.specs.Keys.{key_columns_view}
 use Rattle.partition.specs.Folders.{CanPartition}
 use Rattle.partition.specs.Splitting.{key_rows_view}
 use Rattle.partition.specs.inner.Parts.{parts_view}
-use Rattle.partition.proofs.WithKeys.{map_push, long_views}
+use Rattle.partition.proofs.WithKeys.{long_views}
 use Rattle.partition.proofs.Places.{found_at, absent_from, same_parts, by_kinds}
 use Rattle.partition.proofs.splitting.place_of.Goals as goal
 

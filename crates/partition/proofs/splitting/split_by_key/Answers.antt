@@ -1,6 +1,6 @@
 use Rattle.std.proofs.Common.{◌≡◌, ◌+◌, ◌++◌, ◌∷◌, [], ℕ, suc, ap, ◌∙◌, sym, subst, List, map, take, arith, rules}
 use Rattle.std.proofs.Math.Seq.{take-suc}
-use Rattle.std.proofs.lemmas.List.{take_all}
+use Rattle.std.proofs.lemmas.List.{take_all, map_push}
 use Rattle.schema.specs.Values.{ValueTree, ValueTrees}
 use Rattle.schema.specs.Views.{row_view, rows_view}
 use Rattle.std.specs.List.{AllByRecursion}
@@ -16,7 +16,7 @@ use Rattle.partition.specs.declared.splitting.KeyRows.{KeyRows as CodeKeyRows}
 use Rattle.std.proofs.lemmas.List.Sorted.{ranks_by, answers_always}
 use Rattle.partition.proofs.SameKeys.{key_total}
 use Rattle.partition.proofs.Splits.{split_is, before}
-use Rattle.partition.proofs.WithKeys.{row_of_all, one_more, map_push, keys_with_row}
+use Rattle.partition.proofs.WithKeys.{row_of_all, one_more, keys_with_row}
 use Rattle.partition.proofs.splitting.split_by_key.Goals as goal
 
 pub returns-in_default-clause-only : goal.returns-in_default-clause-only

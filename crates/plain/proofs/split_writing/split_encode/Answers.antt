@@ -1,8 +1,9 @@
 use Rattle.std.proofs.Common.{map, length, sym}
 use Rattle.std.proofs.lemmas.List.{length-map}
+use Rattle.lists.proofs.Options.{on_ok_weaker as when_written}
 use Rattle.plain.specs.Split.{AppendsSplit}
 use Rattle.plain.specs.inner.ByColumns.{AppendsColumns}
-use Rattle.plain.proofs.Streams.{split_after, when_written}
+use Rattle.plain.proofs.Streams.{split_after}
 use Rattle.plain.proofs.split_writing.split_encode.Goals as goal
 
 pub returns-in_ok-encode_fitting-in-Some-clause-stands : goal.returns-in_ok-encode_fitting-in-Some-clause-stands

@@ -1,12 +1,13 @@
 use Rattle.std.proofs.Common.{◌≡◌, ◌∙◌, List, ℕ, sym, subst}
 use Rattle.std.specs.Io.KnownBytes.{Appends}
 use Rattle.std.proofs.lemmas.Result.{on_ok_weaker}
+use Rattle.lists.proofs.Options.{on_ok_always as on_ok_anyway}
 use Rattle.bits.proofs.Passing.{passes}
 use Rattle.bits.specs.Refusals.{HasCause}
 use Rattle.bits.specs.declared.refusal.Refusal.TheVariants.{Device}
 use Rattle.program.specs.Paths.{HasBytes}
 use Rattle.program.specs.Program.{AreRefusedSources}
-use Rattle.program.proofs.Endings.{err_weaker, unwritten, on_ok_anyway, by_file, by_schema_bytes, by_rows_bytes, by_texts}
+use Rattle.program.proofs.Endings.{err_weaker, unwritten, by_file, by_schema_bytes, by_rows_bytes, by_texts}
 use Rattle.program.proofs.check.check.Goals as goal
 
 pub returns-in_err-schema_bytes-clause-which : goal.returns-in_err-schema_bytes-clause-which

@@ -1,17 +1,9 @@
-use Rattle.std.proofs.Common.{◌≡◌, ◌<◌, ◌∙◌, Bool, true, false, ℕ, length, Vec, Global, sym, arith}
+use Rattle.std.proofs.Common.{◌≡◌, ◌<◌, ◌∙◌, true, false, ℕ, length, Vec, Global, sym, arith}
 use Rattle.std.specs.Rc.{rc_str_bytes}
-use mathlib.Core.Bool.{not}
 use Rattle.std.proofs.lemmas.Slice.Eq.{bytes_eq-Decides}
-use Rattle.row_group.proofs.Places.{same_here, same_from_here}
+use Rattle.lists.proofs.Slices.{alike_here as same_here, alike_from_here as same_from_here}
+use Rattle.lists.proofs.Booleans.{true_by_false_not as not_false, false_by_true_not as not_true}
 use Rattle.row_group.proofs.chunk_record.is_same_path.Goals as goal
-
-not_false : (b : Bool) → false ≡ not b → b ≡ true
-not_false true e = cc
-not_false false e = cc
-
-not_true : (b : Bool) → true ≡ not b → b ≡ false
-not_true true e = cc
-not_true false e = cc
 
 pub returns-then-ne : goal.returns-then-ne
 returns-then-ne c =

@@ -1,6 +1,7 @@
 use Rattle.std.proofs.Common.{◌<◌, List, [], ◌∷◌, ◌++◌, length, map, sym, ap, subst, ◌∙◌, arith}
 use Rattle.std.specs.List.{slice_get}
 use Rattle.std.proofs.lemmas.List.{length-map, get_or-map}
+use Rattle.lists.proofs.Slices.{slice_get_map as gets_here}
 use Rattle.bits.specs.Refusals.{IsFault}
 use Rattle.bits.proofs.Passing.{passes}
 use Rattle.schema.specs.Stripe.{Leaf, Entry, leaves_of}
@@ -8,7 +9,6 @@ use Rattle.schema.specs.Views.{leaf_view}
 use Rattle.metadata.specs.Views.{chunk_meta_view}
 use Rattle.row_group.specs.Chunks.{AreChunks}
 use Rattle.row_group.specs.inner.Readers.{IsSound, EachChunk}
-use Rattle.row_group.proofs.Places.{gets_here}
 use Rattle.row_group.proofs.Passed.{passed}
 use Rattle.row_group.proofs.InOrder.{none_done, one_done, at_place, at_end, column_at, as_many}
 use Rattle.row_group.proofs.group_chunks.check_chunks.Goals as goal

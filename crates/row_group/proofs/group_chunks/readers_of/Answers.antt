@@ -1,6 +1,7 @@
 use Rattle.std.proofs.Common.{◌+◌, ◌<◌, List, length, map, drop, sym, ap, subst, ◌∙◌, arith}
 use Rattle.std.specs.List.{slice_get}
 use Rattle.std.proofs.lemmas.List.{length-map, get_or-map}
+use Rattle.lists.proofs.Slices.{slice_get_map as gets_here}
 use Rattle.bits.specs.Refusals.{IsFault}
 use Rattle.bits.proofs.Passing.{passes}
 use Rattle.schema.specs.Stripe.{Leaf, Entry, leaves_of}
@@ -9,7 +10,6 @@ use Rattle.metadata.specs.Views.{chunk_meta_view}
 use Rattle.row_group.specs.declared.chunk_reader.ChunkReader.{ChunkReader}
 use Rattle.row_group.specs.Chunks.{AreChunks}
 use Rattle.row_group.specs.inner.Readers.{IsReaderOf, IsSound, AreSound, EachChunk}
-use Rattle.row_group.proofs.Places.{gets_here}
 use Rattle.row_group.proofs.Passed.{passed}
 use Rattle.row_group.proofs.InOrder.{UpTo, none_done, one_done, at_place, at_end, each_at, column_at, as_many}
 use Rattle.row_group.proofs.Starts.{reads_accepted, same_reader}

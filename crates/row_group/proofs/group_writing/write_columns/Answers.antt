@@ -2,13 +2,13 @@ use Rattle.std.proofs.Common.{◌≡◌, ℕ, List, ◌<◌, ◌+◌, ◌++◌, 
 use Rattle.std.specs.Prelude.{OnErr}
 use Rattle.bits.specs.declared.refusal.Refusal.{Refusal}
 use Rattle.std.proofs.lemmas.List.{length-map, map-append, take-append-le, take_all}
+use Rattle.lists.proofs.Slices.{get_or_map_here as shown_here}
 use Rattle.schema.specs.declared.field.Leaf.{Leaf}
 use Rattle.schema.specs.Views.{leaf_view}
 use Rattle.metadata.specs.Views.{chunk_meta_view}
 use Rattle.shred.specs.declared.column.ColumnRef.{ColumnRef}
 use Rattle.shred.specs.Columns.{column_ref_view, column_refs_view}
 use Rattle.row_group.specs.inner.Columns.{AreColumnsOf, AppendsChunks}
-use Rattle.row_group.proofs.Places.{shown_here}
 use Rattle.row_group.proofs.Passed.{passed}
 use Rattle.row_group.proofs.Laid.{each_kept}
 use Rattle.row_group.proofs.ColumnsWritten.{as_many, column_of_leaf, chunk_more, too_much}

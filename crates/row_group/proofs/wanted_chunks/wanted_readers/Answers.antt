@@ -1,6 +1,7 @@
 use Rattle.std.proofs.Common.{◌≡◌, ◌+◌, List, length, map, true, sym, ap, subst, ◌∙◌, arith}
 use Rattle.std.specs.List.{slice_get}
 use Rattle.std.proofs.lemmas.List.{length-map}
+use Rattle.lists.proofs.Slices.{slice_get_map as gets_here}
 use Rattle.bits.specs.Refusals.{IsFault}
 use Rattle.bits.proofs.Passing.{passes}
 use Rattle.schema.specs.Stripe.{Leaf, Entry, leaves_of}
@@ -10,7 +11,6 @@ use Rattle.metadata.specs.Views.{chunk_meta_view, group_meta_view}
 use Rattle.row_group.specs.Chunks.{ColumnMeans}
 use Rattle.row_group.specs.Wanted.{AreWantedChunks}
 use Rattle.row_group.specs.inner.Readers.{IsReaderOf, EachChunk}
-use Rattle.row_group.proofs.Places.{gets_here}
 use Rattle.row_group.proofs.Passed.{passed}
 use Rattle.row_group.proofs.InOrder.{UpTo, none_done}
 use Rattle.row_group.proofs.WantedChunks.{left_at, wanted_one, not_wanted, wanted_all, wanted_at, each_chunk}

@@ -1,11 +1,11 @@
 use Rattle.std.proofs.Common.{◌≡◌, ◌+◌, ◌∷◌, length, drop, true≢false, refl, sym, ap, ◌∙◌, arith}
-use Rattle.std.proofs.lemmas.List.{drop_more, drop_all}
+use Rattle.std.proofs.lemmas.List.{drop_more, drop_all, nil_from_length as nothing_left}
 use Rattle.std.specs.Vec.Iter.{into_iter_items}
 use Rattle.serde_json.specs.View.{items_view}
 use Rattle.schema.specs.Views.{field_view}
 use Rattle.rowtext.specs.Reading.{items_read, inside_read_as}
 use Rattle.rowtext.proofs.Joined.{behind, goes_on, stops, ends, fails}
-use Rattle.rowtext.proofs.Taken.{takes, none_left-empty, none_left-more, repeated_read, nothing_left}
+use Rattle.rowtext.proofs.Taken.{takes, none_left-empty, none_left-more, repeated_read}
 use Rattle.rowtext.proofs.row_reading.+reading.Goals as goal
 
 pub field_from-returns-in-Some-2 : goal.field_from-returns-in-Some-2

@@ -1,7 +1,7 @@
 use Rattle.std.proofs.Common.{◌≡◌, pos, arith}
 use Rattle.std.proofs.lemmas.Int.{ints}
+use Rattle.lists.proofs.Slices.{slice_get_map as gets_here}
 use Rattle.metadata.specs.Views.{chunk_meta_view}
-use Rattle.filter.proofs.Places.{gets_here}
 use Rattle.scan.proofs.checking.is_counted.Goals as goal
 
 pub returns : goal.returns

@@ -1,5 +1,6 @@
 use Rattle.std.proofs.Common.{◌≡◌, ◌+◌, ℕ, Option, map, ap, sym, subst, ◌∙◌, arith}
 use Rattle.std.specs.Prelude.{IfSome}
+use Rattle.lists.proofs.Lists.{map_empty as none_mapped}
 use Rattle.schema.specs.Keys.{key_columns_view}
 use Rattle.filter.specs.Test.{tests_in}
 use Rattle.manifest.specs.Groups.{group_view}
@@ -12,7 +13,6 @@ use Rattle.scan.specs.inner.Marked.{HaveSelected, AreMarked, MayRead}
 use Rattle.scan.proofs.Chosen.{some_chosen}
 use Rattle.scan.proofs.Passages.{only_on}
 use Rattle.scan.proofs.Reading.{first_stops, after_first, memory_passed}
-use Rattle.scan.proofs.RowsMade.{none_mapped}
 use Rattle.scan.proofs.group_rows.accepted_rows.Goals as goal
 
 pub returns-in_err-read_marked-clause-only : goal.returns-in_err-read_marked-clause-only

@@ -1,4 +1,5 @@
 use Rattle.std.proofs.Common.{◌≡◌, ◌∙◌, List, map, length, refl, ap, sym, subst}
+use Rattle.lists.proofs.Lists.{map_empty as none_mapped}
 use Rattle.schema.specs.Keys.{key_columns_view, places_of}
 use Rattle.schema.specs.Shape.{Fields, count}
 use Rattle.filter.specs.Test.{tests_in}
@@ -11,7 +12,7 @@ use Rattle.scan.specs.inner.Parts.{wanted_from, Making, AreCutParts}
 use Rattle.scan.specs.inner.Texts.{texts_view}
 use Rattle.scan.proofs.Chosen.{some_chosen}
 use Rattle.scan.proofs.FlatRuns.{parts_cut}
-use Rattle.scan.proofs.RowsMade.{none_mapped, all_pieces, pieces_count, parts_hold, rows_selected}
+use Rattle.scan.proofs.RowsMade.{all_pieces, pieces_count, parts_hold, rows_selected}
 use Rattle.scan.proofs.Passages.{only_on}
 use Rattle.scan.proofs.group_rows.rows_in.Goals as goal
 

@@ -1,5 +1,6 @@
 use Rattle.std.proofs.Common.{◌≡◌, ◌<◌, ◌==◌, ℕ, List, length, map, vec_len, eqb-true, ap, sym, subst, false, ◌∙◌}
 use Rattle.std.proofs.lemmas.Bool.{false≢true}
+use Rattle.std.proofs.lemmas.List.{nil_from_length as empty_when}
 use Rattle.schema.specs.Cutting.{IsCutTo}
 use Rattle.schema.specs.Keys.{key_columns_view, places_of}
 use Rattle.schema.specs.Stripe.{leaves_of}
@@ -8,7 +9,7 @@ use Rattle.schema.specs.Values.{ValueTree, no_values, views}
 use Rattle.filter.specs.Test.{tests_in}
 use Rattle.scan.specs.inner.Fills.{fill_view, filled}
 use Rattle.scan.specs.inner.Uses.{numbers_of}
-use Rattle.scan.proofs.Selecting.{are_places, cut_memory, empty_when, some_when}
+use Rattle.scan.proofs.Selecting.{are_places, cut_memory, some_when}
 use Rattle.scan.proofs.UseLaws.{uses_length}
 use Rattle.scan.proofs.parts.part_of.Goals as goal
 

@@ -1,6 +1,6 @@
 use Rattle.std.proofs.Common.{◌≡◌, ◌+◌, ◌++◌, ◌∷◌, [], List, Some, None, drop, ap, sym, subst, ◌∙◌, arith}
 use Rattle.std.specs.Prelude.{option_map}
-use Rattle.std.proofs.lemmas.List.{drop_more, drop_all, length-map}
+use Rattle.std.proofs.lemmas.List.{drop_more, drop_all, length-map, map-append as map-both}
 use Rattle.schema.specs.declared.field.Field.{Field as CodeField}
 use Rattle.schema.specs.Shape.{field, no_fields}
 use Rattle.schema.specs.Elements.{Element, element_view, elements_view}
@@ -10,7 +10,6 @@ use Rattle.schema.specs.Keys.{key_column_view, key_columns_view}
 use Rattle.schema.specs.Fronts.{fields_after}
 use Rattle.schema.specs.inner.Keyed.{key_at, IsMade}
 use Rattle.schema.proofs.FieldViews.{after_views}
-use Rattle.schema.proofs.Few.{map-both}
 use Rattle.schema.proofs.TableFields.{key_placed, other_placed, hole}
 use Rattle.schema.proofs.keyed.place_one.Goals as goal
 

@@ -1,14 +1,10 @@
-use Rattle.std.proofs.Common.{◌≡◌, ◌∙◌, sym, subst, arith, ℕ, ◌<◌, ◌-◌, ◌+◌, drop, length, true, false, Bool, refl}
-use Rattle.std.proofs.lemmas.Bool.{false≢true}
+use Rattle.std.proofs.Common.{◌≡◌, ◌∙◌, sym, subst, arith, ℕ, ◌<◌, ◌-◌, ◌+◌, drop, length, true, false}
+use Rattle.std.proofs.lemmas.Bool.{false≢true, false_from_ne_true as not_true}
 use Rattle.schema.specs.Elements.{element_view, elements_view}
 use Rattle.schema.specs.inner.Reading.{well_formed}
 use Rattle.schema.proofs.Forest.{trees_step, well_step, well_from, place_parts, well_parts}
 use Rattle.schema.proofs.reading.count_trees.Goals as goal
 use Rattle.schema.proofs.reading.count_trees.Goals.{then-not-may_have-via-then-not-may_have, then-not-may_have-via-else-not-may_have+then-trees-below}
-
-not_true : (b : Bool) → (b ≡ true → ⊥) → b ≡ false
-not_true true h = absurd (h refl)
-not_true false h = refl
 
 pub returns-then-not-may_have : goal.returns-then-not-may_have
 returns-then-not-may_have c = record {

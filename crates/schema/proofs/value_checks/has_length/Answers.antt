@@ -1,5 +1,6 @@
 use Rattle.std.proofs.Common.{sym, nat_eq, length}
-use Rattle.schema.proofs.Texts.{all_bytes, and_true}
+use Rattle.lists.proofs.Booleans.{and_true}
+use Rattle.schema.proofs.Texts.{all_bytes}
 use Rattle.schema.proofs.value_checks.has_length.Goals as goal
 
 pub returns-in-None : goal.returns-in-None

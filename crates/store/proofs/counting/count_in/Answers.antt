@@ -6,10 +6,10 @@ use Rattle.filter.specs.Test.{tests_in}
 use Rattle.std.specs.Rc.{rc_value}
 use Rattle.std.specs.declared.rc.Rc.{Rc}
 use Rattle.std.specs.declared.alloc.Global.{Global}
+use Rattle.lists.proofs.Slices.{drop_past as drop_all}
 use Rattle.manifest.specs.declared.group.Group.{Group as CodeGroup}
 use Rattle.manifest.specs.Groups.{Group as FileGroup, group_view, handles_view, root_of}
 use Rattle.store.specs.Counting.{matching}
-use Rattle.store.proofs.Buffered.{drop_all}
 use Rattle.store.proofs.Tallied.{split_so, tally_on, tally_done, one_held, from_one}
 use Rattle.scan.specs.Faults.{IsDevice}
 use Rattle.table.specs.Table.{Group}

@@ -5,11 +5,11 @@ use Rattle.vault.proofs.Chained.{refused}
 use Rattle.filter.specs.Test.{tests_in}
 use Rattle.std.specs.declared.rc.Rc.{Rc}
 use Rattle.std.specs.declared.alloc.Global.{Global}
+use Rattle.lists.proofs.Slices.{drop_past as drop_all}
 use Rattle.manifest.specs.declared.block.Block.{Block}
 use Rattle.manifest.specs.declared.group.Group.{Group as CodeGroup}
 use Rattle.manifest.specs.Groups.{Group as FileGroup, handles_view, groups_of_blocks, root_of}
 use Rattle.store.specs.Counting.{AreHeld}
-use Rattle.store.proofs.Buffered.{drop_all}
 use Rattle.store.proofs.Tallied.{split_so, tally_on, tally_done, blocks_from}
 use Rattle.scan.specs.Faults.{IsDevice}
 use Rattle.store.specs.Reading.{OnlyReads}

@@ -1,6 +1,6 @@
 use Rattle.std.proofs.Common.{◌≡◌, ◌++◌, ◌∷◌, [], map, ap, sym, ◌∙◌, arith}
+use Rattle.std.proofs.lemmas.List.{map_push}
 use Rattle.schema.specs.Values.{view}
-use Rattle.partition.proofs.WithKeys.{map_push}
 use Rattle.partition.proofs.KeyParts.{all_moved}
 use Rattle.store.proofs.Cut.{left_out, kept_one}
 use Rattle.store.proofs.cutting.rest_of.Goals as goal

@@ -1,6 +1,8 @@
 use Rattle.std.proofs.Common.{◌≡◌, ◌∙◌, List, take, Err, sym, ap, subst, true}
 use Rattle.std.specs.Prelude.{IsTrue}
 use Rattle.std.proofs.lemmas.Bool.{false≢true}
+use Rattle.std.proofs.lemmas.List.{map_push}
+use Rattle.lists.proofs.Slices.{take_next as take_item, take_whole, all_mapped_at as all_at}
 use Rattle.bits.specs.declared.refusal.Refusal.TheVariants.{RowShape}
 use Rattle.bits.specs.Refusals.{HasCause}
 use Rattle.bits.proofs.Passing.{passes}
@@ -8,11 +10,9 @@ use Rattle.schema.specs.Fits.{fits_each}
 use Rattle.schema.specs.Shape.{Fields}
 use Rattle.schema.specs.declared.row.Row.{Row as CodeRow}
 use Rattle.schema.specs.Views.{row_view, rows_view}
-use Rattle.partition.proofs.WithKeys.{map_push}
 use Rattle.manifest.specs.Groups.{root_of}
 use Rattle.table.specs.Table.{Row}
 use Rattle.gather.specs.GatheredRows.{holds}
-use Rattle.store.proofs.Buffered.{take_item, take_whole, all_at}
 use Rattle.store.proofs.Gathered.{kept_table, memory_else, shape_or_memory}
 use Rattle.store.proofs.gathered_rows.gather_rows.Goals as goal
 

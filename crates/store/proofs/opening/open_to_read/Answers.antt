@@ -1,7 +1,8 @@
 use Rattle.std.proofs.Common.{sym, subst}
+use Rattle.std.proofs.lemmas.Bool.{both_ways as unlike}
 use Rattle.vault.specs.Calls.{LeavesAll}
 use Rattle.store.specs.Opening.{HasRoomForAll, LeavesTables}
-use Rattle.store.proofs.Opened.{leaves_tables, room_for_all, moments_at, clear_at, found_so, all_here, nothing_left, unlike}
+use Rattle.store.proofs.Opened.{leaves_tables, room_for_all, moments_at, clear_at, found_so, all_here, nothing_left}
 use Rattle.store.proofs.opening.open_to_read.Goals as goal
 
 pub returns-then-is_out_of_range-clause-moments : goal.returns-then-is_out_of_range-clause-moments

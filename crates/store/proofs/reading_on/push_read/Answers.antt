@@ -1,10 +1,10 @@
 use Rattle.std.proofs.Common.{◌≡◌, ◌<◌, ℕ, zero, suc, List, [], ◌∷◌, length, get_or, slice_index_or, Some, None, sym, ◌∙◌, ap, subst, arith}
 use Rattle.std.specs.Prelude.{slice_set}
+use Rattle.std.proofs.lemmas.Option.{same_Some as some_is}
 use Rattle.store.specs.declared.jobs.OpenJob.{OpenJob}
 use Rattle.store.specs.Lookups.{job_at}
 use Rattle.store.specs.Stepping.{HasRead, kept_rows}
 use Rattle.store.proofs.Putting.{put_here, found_at, found_none}
-use Rattle.store.proofs.StageOn.{some_is}
 use Rattle.store.proofs.reading_on.push_read.Goals as goal
 
 again_is : (xs : List OpenJob) (i : ℕ) (x y : OpenJob) → i < length xs → x ≡ get_or xs i x → y ≡ get_or xs i y → x ≡ y

@@ -1,9 +1,10 @@
 use Rattle.std.proofs.Common.{◌≡◌, ◌<◌, ◌⊎◌, ◌+◌, ◌++◌, ℕ, List, [], ◌∷◌, take, inl, inr, sym, ◌∙◌, ap, subst, arith, append_assoc, ⊎_elim}
 use Rattle.std.specs.List.{AllByRecursion}
-use Rattle.std.proofs.lemmas.List.{append-nil}
+use Rattle.std.proofs.lemmas.List.{append-nil, map_push}
 use Rattle.std.specs.declared.rc.Rc.{Rc}
 use Rattle.std.specs.declared.alloc.Global.{Global}
-use Rattle.partition.proofs.WithKeys.{map_push}
+use Rattle.lists.proofs.Slices.{take_next as take_item}
+use Rattle.lists.proofs.Lists.{all_append}
 use Rattle.manifest.specs.declared.group.Group.{Group as CodeGroup}
 use Rattle.manifest.specs.Groups.{Group as FileGroup, handles_view}
 use Rattle.planning.specs.declared.change.Change.{Change as CodeChange}
@@ -11,8 +12,6 @@ use Rattle.planning.specs.Numbered.{brought}
 use Rattle.planning.specs.Replaced.{Change, change_view, changes_view}
 use Rattle.planning.specs.Told.{IsNextOf}
 use Rattle.planning.proofs.Below.{below_rises}
-use Rattle.store.proofs.Brought.{all_append}
-use Rattle.store.proofs.Buffered.{take_item}
 use Rattle.store.proofs.removing.next_with.Goals as goal
 
 brought_more : (cs : List Change) (d : Change) → brought (cs ++ d ∷ []) ≡ brought cs ++ d.come

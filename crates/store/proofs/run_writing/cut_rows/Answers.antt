@@ -1,11 +1,10 @@
 use Rattle.std.proofs.Common.{◌≡◌, ◌+◌, ◌++◌, ◌∷◌, [], List, map, drop, ap, sym, ◌∙◌, arith, append_assoc}
-use Rattle.std.proofs.lemmas.List.{append-nil, length-map}
+use Rattle.std.proofs.lemmas.List.{append-nil, length-map, map_push}
+use Rattle.lists.proofs.Slices.{drop_here as drop_item, drop_past as drop_all, all_mapped_at as all_at}
 use Rattle.schema.specs.Keys.{key_columns_view, key_of_row, row_without_keys}
 use Rattle.schema.specs.Views.{row_view, rows_view}
 use Rattle.schema.specs.declared.row.Row.{Row as CodeRow}
-use Rattle.partition.proofs.WithKeys.{map_push}
 use Rattle.table.specs.Table.{Row}
-use Rattle.store.proofs.Buffered.{drop_item, drop_all, all_at}
 use Rattle.store.proofs.run_writing.cut_rows.Goals as goal
 
 pub loop-row-init : goal.loop-row-init

@@ -2,13 +2,13 @@ use Rattle.std.proofs.Common.{◌≡◌, ◌≤◌, ℕ, zero, suc, List, [], �
 use Rattle.std.specs.Prelude.{◌<ℤ◌, pos}
 use Rattle.std.proofs.lemmas.Int.{ints}
 use Rattle.std.proofs.lemmas.List.{length-map}
+use Rattle.lists.proofs.Slices.{drop_past as drop_all}
 use Rattle.schema.specs.Stripe.{Entry, columns, column, leaves_of, Leaf}
 use Rattle.schema.specs.Views.{leaf_view}
 use Rattle.schema.specs.Borrowed.{entry_ref_view}
 use Rattle.row_group.specs.Greatest.{most_entries}
 use Rattle.shred.specs.Buffer.{schema_of}
 use Rattle.store.specs.Wide.{AreFew}
-use Rattle.store.proofs.Buffered.{drop_all}
 use Rattle.store.proofs.wide_part.has_few_entries.Goals as goal
 
 -- a column that has few entries, in front of others

@@ -1,9 +1,10 @@
 use Rattle.std.proofs.Common.{refl, sym, subst, ◌∙◌, arith}
 use Rattle.std.proofs.lemmas.Bool.{false≢true}
 use Rattle.std.proofs.lemmas.List.{drop_all}
+use Rattle.lists.proofs.Slices.{drop_here as rest_is}
 use Rattle.schema.specs.Orders.{IsAtMost}
 use Rattle.schema.specs.Values.{view}
-use Rattle.upkeep.proofs.Bounding.{rest_is, Each, to_values, from_values}
+use Rattle.upkeep.proofs.Bounding.{Each, to_values, from_values}
 use Rattle.upkeep.proofs.bounds.is_maximum.Goals as goal
 
 pub returns-then-not-is_below : goal.returns-then-not-is_below

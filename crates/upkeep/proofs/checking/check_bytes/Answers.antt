@@ -1,10 +1,10 @@
 use Rattle.std.proofs.Common.{◌≡◌, [], sym, subst}
 use Rattle.std.proofs.lemmas.Option.{MatchOption-at_none}
+use Rattle.lists.proofs.Options.{on_ok_weaker as ok_map}
 use Rattle.schema.specs.Shape.{Fields}
 use Rattle.manifest.specs.Groups.{root_of, group_view}
 use Rattle.manifest.specs.Root.{stored_of}
 use Rattle.upkeep.specs.Intact.{HoldsRows}
-use Rattle.upkeep.proofs.Looking.{ok_map}
 use Rattle.upkeep.proofs.checking.check_bytes.Goals as goal
 
 pub returns-in-Some : goal.returns-in-Some

@@ -1,6 +1,7 @@
 use Rattle.std.proofs.Common.{◌≡◌, ◌+◌, [], length, arith}
+use Rattle.lists.proofs.Options.{on_ok_weaker as ok_map}
 use Rattle.manifest.specs.Groups.{root_of}
-use Rattle.upkeep.proofs.Looking.{looks_then, looks_most, ok_map}
+use Rattle.upkeep.proofs.Looking.{looks_then, looks_most}
 use Rattle.upkeep.proofs.checking.check_files.Goals as goal
 
 pub returns-in_err-paths-clause-effect : goal.returns-in_err-paths-clause-effect

@@ -1,7 +1,8 @@
 use Rattle.std.proofs.Common.{◌≡◌, ◌∙◌, [], Some, sym, ap, subst, arith}
+use Rattle.lists.proofs.Options.{on_ok_weaker as ok_map}
 use Rattle.disk.specs.State.{content}
 use Rattle.manifest.specs.Groups.{root_of, group_view}
-use Rattle.upkeep.proofs.Looking.{ok_map, looks_here, looks_most}
+use Rattle.upkeep.proofs.Looking.{looks_here, looks_most}
 use Rattle.upkeep.proofs.Filling.{at_some}
 use Rattle.upkeep.proofs.Keeping.{held_in}
 use Rattle.upkeep.proofs.checking.check_group.Goals as goal

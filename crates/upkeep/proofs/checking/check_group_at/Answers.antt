@@ -1,9 +1,10 @@
 use Rattle.std.proofs.Common.{◌≡◌, ◌∙◌, [], List, Option, Some, None, sym, ap, subst, arith}
 use Rattle.std.specs.List.{slice_get}
 use Rattle.std.proofs.lemmas.Option.{same_Some}
+use Rattle.lists.proofs.Options.{on_ok_weaker as ok_map}
 use Rattle.manifest.specs.Groups.{Group, root_of, group_view}
 use Rattle.upkeep.specs.Intact.{IsHeldIn}
-use Rattle.upkeep.proofs.Looking.{ok_map, looks_here, looks_most}
+use Rattle.upkeep.proofs.Looking.{looks_here, looks_most}
 use Rattle.upkeep.proofs.checking.check_group_at.Goals as goal
 
 pub returns-in-None-clause-effect : goal.returns-in-None-clause-effect

@@ -1,5 +1,6 @@
 use Rattle.std.proofs.Common.{[], ◌∷◌, ◌+◌, drop, sym, subst, arith, List}
 use Rattle.std.proofs.lemmas.List.{drop_all}
+use Rattle.lists.proofs.Slices.{drop_here as rest_is}
 use Rattle.schema.specs.Stripe.{Entry}
 use Rattle.schema.specs.Views.{leaf_view}
 use Rattle.schema.specs.declared.field.Leaf.{Leaf as CodeLeaf}
@@ -8,7 +9,6 @@ use Rattle.metadata.specs.declared.chunk_meta.ChunkMeta.{ChunkMeta as CodeChunk}
 use Rattle.statistics.specs.Bounds.{statistics_of}
 use Rattle.statistics.specs.declared.stats.Stats.{Stats}
 use Rattle.upkeep.specs.inner.Columns.{AreColumns, IsColumn}
-use Rattle.upkeep.proofs.Bounding.{rest_is}
 use Rattle.upkeep.proofs.Filling.{none_left, one_more_column, none_holds}
 use Rattle.upkeep.proofs.columns.fault_of_columns.Goals as goal
 

@@ -2,11 +2,11 @@ use Rattle.std.proofs.Common.{◌≡◌, ◌+◌, ℕ, List, drop, map, ap, ◌�
 use Rattle.std.specs.Prelude.{sum_by}
 use Rattle.std.proofs.lemmas.List.{drop_all}
 use Rattle.std.proofs.lemmas.List.Sums.{sum_by-cons}
+use Rattle.lists.proofs.Slices.{drop_here as rest_is}
 use Rattle.metadata.specs.Records.{ChunkMeta}
 use Rattle.metadata.specs.Views.{chunk_meta_view}
 use Rattle.metadata.specs.declared.chunk_meta.ChunkMeta.{ChunkMeta as CodeChunk}
 use Rattle.manifest.specs.Laid.{size_by}
-use Rattle.upkeep.proofs.Bounding.{rest_is}
 use Rattle.upkeep.proofs.counting.bytes_of.Goals as goal
 
 abbrev size : ChunkMeta → ℕ

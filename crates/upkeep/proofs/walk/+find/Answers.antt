@@ -1,11 +1,13 @@
 use Rattle.std.proofs.Common.{◌≡◌, ◌<◌, ◌+◌, List, ℕ, length, take, string_bytes, refl, sym, ◌∙◌, ap, subst, arith}
 use Rattle.std.proofs.lemmas.Option.{MatchOption-at_some, MatchOption-at_none}
+use Rattle.lists.proofs.Options.{on_ok_weaker as ok_map}
+use Rattle.lists.proofs.Lists.{length_map as count_map}
 use Rattle.schema.specs.Keys.{key_columns_view, KeyColumn, key_column_view}
 use Rattle.folders.specs.Named.{IsIn}
 use Rattle.folders.specs.Entries.{IsNoneBelow, IsBelow, IsKeyFolder}
 use Rattle.upkeep.specs.inner.Walk.{Finds, FindsFiles, FindsBelow, paths_of}
-use Rattle.upkeep.proofs.Looking.{looks_here, looks_then, ok_map}
-use Rattle.upkeep.proofs.Walking.{names_in, files_are, finds_before, below_before, nothing_so_far, more_so_far, below_are, none_below, folder_below, count_map, columns_front}
+use Rattle.upkeep.proofs.Looking.{looks_here, looks_then}
+use Rattle.upkeep.proofs.Walking.{names_in, files_are, finds_before, below_before, nothing_so_far, more_so_far, below_are, none_below, folder_below, columns_front}
 use Rattle.upkeep.proofs.walk.+find.Goals as goal
 
 pub find-returns-then-depth-keys-clause-finds : goal.find-returns-then-depth-keys-clause-finds

@@ -1,9 +1,9 @@
 use Rattle.std.proofs.Common.{◌++◌, [], ◌∷◌, ◌≡◌, string_bytes}
 use Rattle.std.proofs.lemmas.Option.{MatchOption-at_some, MatchOption-at_none}
+use Rattle.lists.proofs.Options.{on_ok_weaker as ok_map}
 use Rattle.folders.specs.Named.{IsIn}
 use Rattle.folders.specs.Entries.{IsStrayFile, IsNoStrayFile}
 use Rattle.upkeep.specs.inner.Walk.{FindsFile, paths_of}
-use Rattle.upkeep.proofs.Looking.{ok_map}
 use Rattle.upkeep.proofs.Walking.{one_found, none_found}
 use Rattle.upkeep.proofs.walk.find_file.Goals as goal
 

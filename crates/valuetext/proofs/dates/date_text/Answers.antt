@@ -1,8 +1,8 @@
 use Rattle.std.proofs.Common.{◌≡◌, sym, ◌∙◌, arith, subst, to_z, of_z, to_z-of_z, w64, FitsSigned}
+use Rattle.std.proofs.lemmas.Bool.{false≢true as false_true}
 use Rattle.jiff_core.specs.Calendar.{IsEpochDay}
 use Rattle.jiff_core.proofs.DateLemmas.{epoch_day_range, epoch_day_injective}
 use Rattle.jiff_core.proofs.SignedLemmas.{signed_arith}
-use Rattle.valuetext.proofs.SameTexts.{false_true}
 use Rattle.valuetext.proofs.dates.date_text.Goals as goal
 
 pub returns-in_default-clause-none : goal.returns-in_default-clause-none

@@ -1,9 +1,10 @@
 use Rattle.std.proofs.Common.{◌≡◌, sym, ◌∙◌, ap, ◌%◌}
+use Rattle.lists.proofs.Booleans.{not_true_and_false as not_true}
 use Rattle.jiff_fmt.specs.Temporal.{time_parts}
 use Rattle.jiff_core.specs.Time.{time_nanos}
 use Rattle.valuetext.specs.Units.{nanos_of}
 use Rattle.valuetext.proofs.TimeTexts.{unread, read_parts, written_of_parts, nanos_of_parts, multiple, quotient_read}
-use Rattle.valuetext.proofs.SameTexts.{not_true, is_true}
+use Rattle.valuetext.proofs.SameTexts.{is_true}
 use Rattle.valuetext.proofs.times.read_time.Goals as goal
 
 pub returns-in_default-clause-none : goal.returns-in_default-clause-none

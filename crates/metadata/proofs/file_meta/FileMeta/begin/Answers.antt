@@ -2,6 +2,7 @@ use Rattle.std.specs.Int.{w16}
 use Rattle.std.proofs.lemmas.Int.{to_z-of_z}
 use Rattle.std.proofs.Common.{FitsSigned, rules, ◌≡◌, ℕ, ℤ, [], List, map, refl, sym, ap, subst, ◌∙◌}
 use Rattle.std.specs.Prelude.{pos}
+use Rattle.lists.proofs.Booleans.{not_true_and_false as not_shapeless}
 use Rattle.bits.specs.declared.refusal.Refusal.TheVariants.{Thrift}
 use Rattle.bits.specs.Refusals.{HasCause}
 use Rattle.bits.proofs.Passing.{passes}
@@ -15,7 +16,7 @@ use Rattle.metadata.specs.Begun.{fields_before}
 use Rattle.metadata.specs.Kept.{EachKeepsWritten}
 use Rattle.metadata.specs.ToTree.{STRUCT}
 use Rattle.metadata.specs.Views.{file_meta_view}
-use Rattle.metadata.proofs.Shaped.{before_fits, because, each_keeps_shape, not_shapeless}
+use Rattle.metadata.proofs.Shaped.{before_fits, because, each_keeps_shape}
 use Rattle.metadata.proofs.file_meta.FileMeta.begin.Goals as goal
 
 pub returns-in_err-last-clause-which : goal.returns-in_err-last-clause-which

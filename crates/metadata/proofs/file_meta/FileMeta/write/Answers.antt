@@ -1,5 +1,6 @@
 use Rattle.std.proofs.Common.{ℕ, List, [], ◌++◌, length, subst}
 use Rattle.std.specs.Prelude.{OnOk}
+use Rattle.lists.proofs.Booleans.{not_true_and_false as not_shapeless}
 use Rattle.bits.specs.Refusals.{OnFault}
 use Rattle.thrift_compact.specs.Tree.{Fields}
 use Rattle.thrift_compact.specs.Compact.{IsThrift}
@@ -15,7 +16,7 @@ use Rattle.metadata.proofs.Writing.{AppendsStruct, stands_again, only_where, wit
 use Rattle.bits.specs.Refusals.{RefusedOnly}
 use Rattle.thrift_compact.specs.Shapes.{fields_have_shape, IsShapeless}
 use Rattle.metadata.specs.Kept.{EachKeepsWritten}
-use Rattle.metadata.proofs.Shaped.{each_keeps_shape, footer_fits, not_shapeless, refused_where}
+use Rattle.metadata.proofs.Shaped.{each_keeps_shape, footer_fits, refused_where}
 use Rattle.metadata.proofs.file_meta.FileMeta.write.Goals as goal
 
 pub returns-clause-stands : goal.returns-clause-stands

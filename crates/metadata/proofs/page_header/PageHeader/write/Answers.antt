@@ -11,9 +11,10 @@ use Rattle.metadata.proofs.Again.{page_header_again}
 use Rattle.metadata.proofs.Own.{header_has_bytes}
 use Rattle.metadata.proofs.Writing.{AppendsStruct, stands_again, only_where}
 use Rattle.std.proofs.Common.{false}
+use Rattle.lists.proofs.Booleans.{not_true_and_false as not_shapeless}
 use Rattle.bits.specs.Refusals.{RefusedOnly}
 use Rattle.thrift_compact.specs.Shapes.{fields_have_shape, IsShapeless}
-use Rattle.metadata.proofs.Shaped.{header_fits, not_shapeless, refused_where}
+use Rattle.metadata.proofs.Shaped.{header_fits, refused_where}
 use Rattle.metadata.proofs.page_header.PageHeader.write.Goals as goal
 
 pub returns-clause-stands : goal.returns-clause-stands

@@ -1,6 +1,6 @@
 use Rattle.std.proofs.Common.{arith}
+use Rattle.std.proofs.lemmas.List.{nil_from_length as empty}
 use Rattle.row_group.specs.PageLeft.{page_left}
-use Rattle.row_group.proofs.Readers.{empty}
 use Rattle.row_group.proofs.chunk_reader.ChunkReader.fill.Goals as goal
 
 pub read_next_page-requires : goal.read_next_page-requires

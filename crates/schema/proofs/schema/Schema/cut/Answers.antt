@@ -1,11 +1,11 @@
 use Rattle.std.proofs.Common.{◌≡◌, ◌∙◌, ap, sym, subst, arith, length}
 use Rattle.std.specs.Prelude.{IfOk}
+use Rattle.lists.proofs.Lists.{length_map as length-each}
 use Rattle.schema.specs.Shape.{Fields}
 use Rattle.schema.specs.Law.{IsSchema, IsWithinLimits}
 use Rattle.schema.specs.Reading.{tallest, count_leaves_each}
 use Rattle.schema.specs.Cutting.{ArePlaces, IsCutTo, cut_to, is_among}
 use Rattle.schema.specs.Views.{field_views, leaf_view}
-use Rattle.schema.proofs.Limits.{length-each}
 use Rattle.schema.proofs.Marks.{cut_by_marks}
 use Rattle.schema.proofs.CutSteps.{counts_are, places_there, ok_more}
 use Rattle.schema.proofs.CutFits.{cut_schema, cut_within, each_cut_short}

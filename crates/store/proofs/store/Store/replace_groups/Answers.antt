@@ -1,5 +1,6 @@
 use Rattle.std.proofs.Common.{◌≤◌, ◌<◌, List, length, refl, sym, ◌∙◌, ap, subst, arith}
-use Rattle.vault.proofs.Chained.{refused, both}
+use Rattle.lists.proofs.Booleans.{iff_through as both}
+use Rattle.vault.proofs.Chained.{refused}
 use Rattle.filter.specs.Test.{tests_in}
 use Rattle.filter.specs.Deciding.{satisfies as all_satisfied}
 use Rattle.manifest.specs.Groups.{Group as FileGroup, root_of}

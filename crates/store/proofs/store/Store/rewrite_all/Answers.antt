@@ -2,11 +2,12 @@ use Rattle.std.proofs.Common.{◌≡◌, ◌+◌, ◌++◌, [], ℕ, List, Resul
 use Rattle.std.specs.Prelude.{Some, Vec}
 use Rattle.std.specs.declared.rc.Rc.{Rc}
 use Rattle.std.specs.declared.alloc.Global.{Global}
-use Rattle.std.proofs.lemmas.List.{append-nil}
+use Rattle.std.proofs.lemmas.List.{append-nil, map_push}
+use Rattle.lists.proofs.Slices.{drop_here as drop_item, drop_past as drop_all}
+use Rattle.lists.proofs.Booleans.{iff_through as both}
 use Rattle.bits.specs.declared.refusal.Refusal.{Refusal}
 use Rattle.bits.specs.declared.refusal.Refusal.TheVariants.{Memory}
-use Rattle.vault.proofs.Chained.{refused, both}
-use Rattle.partition.proofs.WithKeys.{map_push}
+use Rattle.vault.proofs.Chained.{refused}
 use Rattle.manifest.specs.declared.group.Group.{Group as CodeGroup}
 use Rattle.manifest.specs.Groups.{Group as FileGroup, handles_view}
 use Rattle.planning.specs.declared.change.Run.{Run as CodeRun}
@@ -20,7 +21,6 @@ use Rattle.table.specs.Limits.{IsPart, IsOfRun}
 use Rattle.store.specs.declared.store.Store.{Store}
 use Rattle.store.specs.Lookups.{job_at}
 use Rattle.store.specs.Rewritten.{IsHalted, RewritesAll}
-use Rattle.store.proofs.Buffered.{drop_item, drop_all}
 use Rattle.store.proofs.Fetched.{memory_so}
 use Rattle.store.proofs.RunByRun.{SoFar, one_stops, next_run, none_done, low_enough, of_runs, run_more, poor_more, all_done, brought_two, many_in}
 use Rattle.store.proofs.store.Store.rewrite_all.Goals as goal

@@ -4,18 +4,19 @@ use Rattle.std.specs.Rc.{rc_value}
 use Rattle.std.specs.declared.rc.Rc.{Rc}
 use Rattle.std.specs.declared.alloc.Global.{Global}
 use Rattle.std.proofs.lemmas.List.{map-append}
+use Rattle.lists.proofs.Slices.{drop_here as drop_item, drop_past as drop_all}
+use Rattle.lists.proofs.Booleans.{iff_through as both}
 use Rattle.bits.specs.declared.refusal.Refusal.{Refusal}
 use Rattle.bits.specs.declared.refusal.Refusal.TheVariants.{Memory}
 use Rattle.schema.specs.declared.row.Row.{Row as CodeRow}
 use Rattle.schema.specs.Views.{row_view, rows_view}
-use Rattle.vault.proofs.Chained.{refused, both}
+use Rattle.vault.proofs.Chained.{refused}
 use Rattle.manifest.specs.declared.group.Group.{Group as CodeGroup}
 use Rattle.manifest.specs.Groups.{Group as FileGroup, group_view, handles_view}
 use Rattle.table.specs.Table.{Row, rows}
 use Rattle.store.specs.declared.store.Store.{Store}
 use Rattle.store.specs.Lookups.{job_at}
 use Rattle.store.specs.Rewritten.{Reads, IsHalted, NoPart}
-use Rattle.store.proofs.Buffered.{drop_item, drop_all}
 use Rattle.store.proofs.Fetched.{memory_so}
 use Rattle.store.proofs.RunParts.{poor_here}
 use Rattle.store.proofs.RunReads.{IsRead, next_source, nothing_read, read_more, all_read}

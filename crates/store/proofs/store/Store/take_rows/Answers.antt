@@ -1,19 +1,20 @@
 use Rattle.std.proofs.Common.{◌≡◌, ◌+◌, ℕ, ◌++◌, ◌∷◌, [], List, map, take, drop, refl, ap, sym, ◌∙◌, subst, arith, append_assoc}
 use Rattle.std.specs.Prelude.{IsTrue}
-use Rattle.std.proofs.lemmas.List.{append-nil}
+use Rattle.std.proofs.lemmas.List.{append-nil, map_push}
+use Rattle.lists.proofs.Slices.{take_next as take_item, take_whole, all_mapped_at as all_at}
+use Rattle.lists.proofs.Booleans.{iff_through as both}
 use Rattle.schema.specs.Fits.{fits_each}
 use Rattle.schema.specs.Keys.{key_of_row}
 use Rattle.schema.specs.declared.row.Row.{Row as CodeRow}
 use Rattle.schema.specs.Views.{row_view, rows_view}
-use Rattle.vault.proofs.Chained.{refused, both}
+use Rattle.vault.proofs.Chained.{refused}
 use Rattle.partition.specs.Folders.{CanPartition}
 use Rattle.partition.specs.Splitting.{key_rows_view}
-use Rattle.partition.proofs.WithKeys.{map_push}
 use Rattle.manifest.specs.Groups.{handles_view}
 use Rattle.table.specs.Table.{Row}
 use Rattle.store.specs.declared.store.Store.{Store}
 use Rattle.store.specs.Filling.{Filled, Takes, IsStopped, IsWhole}
-use Rattle.store.proofs.Buffered.{take_item, take_whole, all_at, front_and_rest}
+use Rattle.store.proofs.Buffered.{front_and_rest}
 use Rattle.store.proofs.Filled.{stopped_before}
 use Rattle.store.proofs.store.Store.take_rows.Goals as goal
 

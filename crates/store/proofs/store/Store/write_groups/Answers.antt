@@ -1,9 +1,10 @@
 use Rattle.std.proofs.Common.{◌≡◌, ◌++◌, ◌∷◌, ◌⊎◌, [], List, length, refl, ap, sym, ◌∙◌, subst, arith, inr}
 use Rattle.std.proofs.lemmas.List.{nil_from_length}
 use Rattle.std.specs.Vec.Iter.{into_iter_items}
+use Rattle.lists.proofs.Booleans.{iff_through as both}
 use Rattle.bits.specs.Refusals.{HasCause}
 use Rattle.schema.specs.Keys.{AreRowsOf}
-use Rattle.vault.proofs.Chained.{refused, both}
+use Rattle.vault.proofs.Chained.{refused}
 use Rattle.partition.specs.Splitting.{KeyRows}
 use Rattle.gather.specs.declared.key_buffer.KeyBuffer.{KeyBuffer}
 use Rattle.gather.specs.KeyBuffers.{HoldsRows, Hold}

@@ -2,16 +2,18 @@ use Rattle.std.proofs.Common.{◌≡◌, ◌≤◌, ◌+◌, ◌*◌, ◌++◌, 
 use Rattle.std.specs.Prelude.{Some, min}
 use Rattle.std.specs.List.{AllByRecursion}
 use Rattle.std.proofs.lemmas.List.{length-map}
+use Rattle.lists.proofs.Slices.{all_take as all_taken}
+use Rattle.lists.proofs.Booleans.{iff_through as both}
 use Rattle.bits.specs.declared.refusal.Refusal.{Refusal}
 use Rattle.schema.specs.Views.{row_view, rows_view}
-use Rattle.vault.proofs.Chained.{refused, both}
+use Rattle.vault.proofs.Chained.{refused}
 use Rattle.manifest.specs.Groups.{handles_view}
 use Rattle.table.specs.Table.{Row, IsRowIn}
 use Rattle.footer.specs.declared.options.WriteOptions.{WriteOptions}
 use Rattle.store.specs.declared.store.Store.{Store}
 use Rattle.store.specs.Rewritten.{AddsAll, HasAddedOne, IsHalted}
 use Rattle.store.proofs.Counted.{no_terms}
-use Rattle.store.proofs.RunParts.{goes_on, goes_nowhere, Parts, no_parts, all_parts, none_left, part_some, part_stops, part_more, part_seen, behind_seen, all_taken, all_dropped, not_empty}
+use Rattle.store.proofs.RunParts.{goes_on, goes_nowhere, Parts, no_parts, all_parts, none_left, part_some, part_stops, part_more, part_seen, behind_seen, all_dropped, not_empty}
 use Rattle.store.proofs.store.Store.write_run.Goals as goal
 
 pub loop-init : goal.loop-init
