@@ -25,20 +25,24 @@ is_said z (Some es) = list_any (int_eq z) es
 abbrev pub is_encoded : ℤ → ChunkMeta → Bool
 is_encoded z c = is_said z c.meta_data.encodings
 
--- whether a chunk of the group has values in the encoding of this number
-abbrev pub has_encoding : ℤ → Group → Bool
-has_encoding z g = list_any (is_encoded z) g.chunks
+-- whether one of the chunks has values in the encoding of this number
+abbrev pub has_encoding : ℤ → List ChunkMeta → Bool
+has_encoding z cs = list_any (is_encoded z) cs
 
--- The style of a group, by the encodings of its chunks. RLE_DICTIONARY (8) tells a dictionary, then BYTE_STREAM_SPLIT (9) a split,
+-- The style of chunks, by their encodings. RLE_DICTIONARY (8) tells a dictionary, then BYTE_STREAM_SPLIT (9) a split,
 -- DELTA_BYTE_ARRAY (7) a delta, DELTA_LENGTH_BYTE_ARRAY (6) lengths, and DELTA_BINARY_PACKED (5) a delta; else it is plain.
-abbrev pub style_of : Group → Style
-style_of g =
-    if has_encoding (pos 8) g then Dictionary
-    else if has_encoding (pos 9) g then Split
-    else if has_encoding (pos 7) g then Delta
-    else if has_encoding (pos 6) g then Lengths
-    else if has_encoding (pos 5) g then Delta
+abbrev pub style_in : List ChunkMeta → Style
+style_in cs =
+    if has_encoding (pos 8) cs then Dictionary
+    else if has_encoding (pos 9) cs then Split
+    else if has_encoding (pos 7) cs then Delta
+    else if has_encoding (pos 6) cs then Lengths
+    else if has_encoding (pos 5) cs then Delta
     else Plain
+
+-- the style of a group, by the encodings of its chunks
+abbrev pub style_of : Group → Style
+style_of g = style_in g.chunks
 
 -- the style of the first of these groups that is a source
 abbrev pub first_style : (Group → Bool) → List Group → Option Style

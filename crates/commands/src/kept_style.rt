@@ -1,15 +1,16 @@
 //! The style of the groups that are there, for a call that keeps it.
 
-ghost use Rattle.std.specs.Prelude.{◌≡◌, ◌↔◌, Bool, true, false, IsTrue, IfErr};
+ghost use Rattle.std.specs.Prelude.{◌≡◌, ◌↔◌, map, Bool, true, false, IsTrue, IfOk, IfErr};
 ghost use Rattle.std.specs.Ordering.{int_eq};
 ghost use Rattle.std.specs.List.{list_any};
 ghost use Rattle.bits.specs.declared.refusal.Refusal.TheVariants.{Memory};
+ghost use Rattle.bits.specs.Refusals.{RefusedMemoryOnly};
 ghost use Rattle.metadata.specs.Views.{chunk_meta_view};
 ghost use Rattle.schema.specs.Keys.{key_columns_view, places_of};
 ghost use Rattle.filter.specs.Test.{tests_in};
 ghost use Rattle.filter.specs.RuledOut.{RuledOut};
 ghost use Rattle.manifest.specs.Groups.{Group as GroupShown, group_view, root_of};
-ghost use Rattle.commands.specs.Kept.{is_encoded, has_encoding, style_of, first_style, is_numbered, TellsWhichMayHold, IsRestyled, StaysOpened};
+ghost use Rattle.commands.specs.Kept.{is_encoded, has_encoding, style_in, style_of, first_style, is_numbered, TellsWhichMayHold, IsRestyled, StaysOpened};
 
 use bits::{R, Refusal};
 use dataset_words::Change;
@@ -45,16 +46,16 @@ pub fn kept_style(
     texts: bool,
 ) -> R<Option<Style>> {
     match change {
-        Change::Rewrite { numbers } => Ok(style_among(table, numbers.as_slice())),
+        Change::Rewrite { numbers } => style_among(alloc, table, numbers.as_slice()),
         Change::RewriteSmall { min_rows } => {
             let numbers = plan_rewrite(alloc, table.groups(), *min_rows)?;
-            Ok(style_among(table, numbers.as_slice()))
+            style_among(alloc, table, numbers.as_slice())
         }
-        Change::RewriteAll => Ok(style_of_first(table)),
+        Change::RewriteAll => style_of_first(alloc, table),
         Change::Remove { filter } => {
             let terms = filter_from_as(alloc, table.schema(), filter, texts)?;
             let filter = Filter::new(alloc, table.schema(), terms.as_slice())?;
-            Ok(style_left_by(table, &filter))
+            style_left_by(alloc, table, &filter)
         }
         _ => Ok(None),
     }
@@ -88,29 +89,35 @@ pub fn keep_style<D: Disk>(
 }
 
 /// The style of the first group of a table; None where it has no groups.
-fn style_of_first(table: &Manifest) -> Option<Style>
-    ensures { result ≡ first_style (λ _. true) (root_of table.now).groups }
+fn style_of_first(alloc: Global, table: &Manifest) -> R<Option<Style>>
+    ensures style { IfOk result (λ style. style ≡ first_style (λ _. true) (root_of table.now).groups) }
+    ensures which { RefusedMemoryOnly result }
 {
     match table.groups().group_at(0) {
-        Some(group) => Some(style_of(group)),
-        None => None,
+        Some(group) => {
+            let style = style_of(alloc, group)?;
+            Ok(Some(style))
+        }
+        None => Ok(None),
     }
 }
 
 /// The style of the first group of a table that has one of these numbers; None where none has.
-fn style_among(table: &Manifest, numbers: &[u64]) -> Option<Style>
-    ensures { result ≡ first_style (is_numbered numbers.now) (root_of table.now).groups }
+fn style_among(alloc: Global, table: &Manifest, numbers: &[u64]) -> R<Option<Style>>
+    ensures style { IfOk result (λ style. style ≡ first_style (is_numbered numbers.now) (root_of table.now).groups) }
+    ensures which { RefusedMemoryOnly result }
 {
     let groups = table.groups();
     for place in 0..groups.len() {
         match groups.group_at(place) {
             Some(group) => if is_numbered(group, numbers) {
-                return Some(style_of(group));
+                let style = style_of(alloc, group)?;
+                return Ok(Some(style));
             },
-            None => return None,
+            None => return Ok(None),
         }
     }
-    None
+    Ok(None)
 }
 
 /// Whether a group has one of these numbers.
@@ -126,19 +133,22 @@ fn is_numbered(group: &Group, numbers: &[u64]) -> bool
 }
 
 /// The style of the first group of a table that a filter does not rule out; None where it rules out all.
-fn style_left_by(table: &Manifest, filter: &Filter) -> Option<Style>
-    ensures { (is : GroupShown → Bool) → TellsWhichMayHold (root_of table.now).keys (tests_in filter.now) is → result ≡ first_style is (root_of table.now).groups }
+fn style_left_by(alloc: Global, table: &Manifest, filter: &Filter) -> R<Option<Style>>
+    ensures style { (is : GroupShown → Bool) → TellsWhichMayHold (root_of table.now).keys (tests_in filter.now) is
+        → IfOk result (λ style. style ≡ first_style is (root_of table.now).groups) }
+    ensures which { RefusedMemoryOnly result }
 {
     let groups = table.groups();
     for place in 0..groups.len() {
         match groups.group_at(place) {
             Some(group) => if may_hold(group, table.keys(), filter) {
-                return Some(style_of(group));
+                let style = style_of(alloc, group)?;
+                return Ok(Some(style));
             },
-            None => return None,
+            None => return Ok(None),
         }
     }
-    None
+    Ok(None)
 }
 
 /// Whether the key and the statistics of a group do not rule out that a row of it satisfies a filter.
@@ -148,33 +158,42 @@ fn may_hold(group: &Group, keys: &[KeyColumn], filter: &Filter) -> bool
     !filter.ruled_out(keys, &group.key, &group.stats)
 }
 
-/// The style in which a group was written, by the encodings of its chunks.
-fn style_of(group: &Group) -> Style
-    ensures { result ≡ style_of (group_view group.now) }
+/// The style in which a group was written, by the encodings of its chunks. It fails only when out of memory.
+fn style_of(alloc: Global, group: &Group) -> R<Style>
+    ensures style { IfOk result (λ style. style ≡ style_of (group_view group.now)) }
+    ensures which { RefusedMemoryOnly result }
 {
-    if has_encoding(group, RLE_DICTIONARY) {
+    let chunks = group.chunks.to_chunks(alloc)?;
+    Ok(style_in(chunks.as_slice()))
+}
+
+/// The style in which chunks were written, by their encodings.
+fn style_in(chunks: &[ChunkMeta]) -> Style
+    ensures { result ≡ style_in (map chunk_meta_view chunks.now) }
+{
+    if has_encoding(chunks, RLE_DICTIONARY) {
         return Style::Dictionary;
     }
-    if has_encoding(group, BYTE_STREAM_SPLIT) {
+    if has_encoding(chunks, BYTE_STREAM_SPLIT) {
         return Style::Split;
     }
-    if has_encoding(group, DELTA_BYTE_ARRAY) {
+    if has_encoding(chunks, DELTA_BYTE_ARRAY) {
         return Style::Delta;
     }
-    if has_encoding(group, DELTA_LENGTH_BYTE_ARRAY) {
+    if has_encoding(chunks, DELTA_LENGTH_BYTE_ARRAY) {
         return Style::Lengths;
     }
-    if has_encoding(group, DELTA_BINARY_PACKED) {
+    if has_encoding(chunks, DELTA_BINARY_PACKED) {
         return Style::Delta;
     }
     Style::Plain
 }
 
-/// Whether a chunk of a group has values in the encoding of this number.
-fn has_encoding(group: &Group, number: i32) -> bool
-    ensures { result ≡ has_encoding number (group_view group.now) }
+/// Whether one of the chunks has values in the encoding of this number.
+fn has_encoding(chunks: &[ChunkMeta], number: i32) -> bool
+    ensures { result ≡ has_encoding number (map chunk_meta_view chunks.now) }
 {
-    for chunk in &group.chunks {
+    for chunk in chunks {
         if is_encoded(chunk, number) {
             return true;
         }

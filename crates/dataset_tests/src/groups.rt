@@ -1,7 +1,7 @@
 //! Groups for the tests of versions.
 
 use bits::{R, Refusal};
-use manifest::Group;
+use manifest::{ChunkRecords, Group};
 use schema::{Key, Value};
 use statistics::GroupStats;
 use std::alloc::Global;
@@ -21,7 +21,7 @@ pub(crate) fn group(alloc: Global, number: u32) -> R<Rc<Group>> {
         number: u64::from(number),
         key: key(alloc, number)?,
         width: 0,
-        chunks: Vec::new(alloc),
+        chunks: ChunkRecords::of(alloc, Vec::new(alloc).as_slice())?,
         stats: GroupStats {
             rows: 1,
             leaves: Vec::new(alloc),

@@ -16,7 +16,7 @@ pub mod FilesAreTables
 pub mod WrittenParts
 pub mod WrittenGroups
 pub mod OwnParts
-pub mod ChunkRecords
+pub mod ChunkFaults
 pub mod FrontEnds
 pub mod GroupChunks
 pub mod GroupLists
@@ -28,3 +28,4 @@ pub mod OwnRoots
 pub mod WrittenRoots
 pub mod Unplacing
 pub mod PutGroups
+pub mod KeptRecords

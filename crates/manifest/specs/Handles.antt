@@ -6,8 +6,8 @@ use Rattle.std.specs.declared.alloc.Global.{Global}
 use Rattle.schema.specs.Values.{ValueTree}
 use Rattle.schema.specs.Views.{key_view}
 use Rattle.metadata.specs.Records.{ChunkMeta}
-use Rattle.metadata.specs.Views.{chunk_meta_view}
 use Rattle.statistics.specs.Bounds.{Known, known_of}
+use Rattle.manifest.specs.declared.chunk_records.ChunkRecords.{ChunkRecords}
 use Rattle.manifest.specs.declared.group.Group.{Group as CodeGroup}
 use Rattle.manifest.specs.declared.block.Block.{Block}
 
@@ -20,9 +20,13 @@ pub record Group : Type 0 where
   pub chunks : List ChunkMeta
   pub known : Known
 
+-- the records of chunks that a `ChunkRecords` of the program keeps
+abbrev pub records_of : ChunkRecords → List ChunkMeta
+records_of records = records.held.0
+
 -- the group that a `Group` of the program stands for
 abbrev pub group_view : CodeGroup → Group
-group_view g = record { number = g.number; key = key_view g.key; width = g.width; chunks = map chunk_meta_view g.chunks.items; known = known_of g.stats }
+group_view g = record { number = g.number; key = key_view g.key; width = g.width; chunks = records_of g.chunks; known = known_of g.stats }
 
 -- the groups that handles stand for, in order
 abbrev pub handles_view : List (Rc CodeGroup Global) → List Group

@@ -1,3 +1,4 @@
+pub mod KeptChunks
 pub mod Handles
 pub mod Ordered
 pub mod Groups

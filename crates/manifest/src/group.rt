@@ -2,7 +2,7 @@
 
 ghost use Rattle.std.specs.Prelude.{◌≡◌, ◌<◌, ◌^◌, suc};
 
-use metadata::ChunkMeta;
+use crate::chunk_records::ChunkRecords;
 use schema::Key;
 use statistics::GroupStats;
 
@@ -16,7 +16,7 @@ pub struct Group {
     /// written before a field was added lacks it.
     pub width: usize,
     /// As in the file's own footer, without a path, in the order of the file's leaves.
-    pub chunks: Vec<ChunkMeta>,
+    pub chunks: ChunkRecords,
     /// The number of rows, and the statistics of each chunk.
     pub stats: GroupStats,
     ghost followed: { suc number < 2 ^ 64 },

@@ -2,6 +2,7 @@
 
 ghost use Rattle.std.specs.Prelude.{◌≡◌, suc, ◌<◌, ◌≤◌, ◌^◌, ◌<ℤ◌, ◌↔◌, ℕ, pos, List, Some, map, take, length, option_map, IsTrue, IfOk, OnOk, IfErr};
 ghost use Rattle.bits.specs.declared.refusal.Refusal.TheVariants.{Memory};
+ghost use Rattle.bits.specs.Refusals.{RefusedMemoryOnly};
 ghost use Rattle.schema.specs.Shape.{Fields};
 ghost use Rattle.schema.specs.Law.{IsSchema};
 ghost use Rattle.schema.specs.Stripe.{leaves_of};
@@ -11,11 +12,13 @@ ghost use Rattle.metadata.specs.Records.{ChunkMeta as ChunkMetaShown};
 ghost use Rattle.metadata.specs.Views.{chunk_meta_view, group_meta_view};
 ghost use Rattle.row_group.specs.Greatest.{most_rows};
 ghost use Rattle.statistics.specs.Bounds.{Statistics as StatisticsShown, statistics_of};
+ghost use Rattle.manifest.specs.Handles.{records_of};
 ghost use Rattle.manifest.specs.Groups.{Group as GroupShown, group_view};
 ghost use Rattle.manifest.specs.Records.{AreChunkRecords, IsGroupRecord, placed};
 ghost use Rattle.manifest.specs.inner.Reading.{HasFronts, IsChunksFault, IsGroupFault, IsRowsFault, FirstPath, unplaced};
 
 use crate::chunk_reading::statistics_in;
+use crate::chunk_records::ChunkRecords;
 use crate::fronts::Fronts;
 use crate::group::Group;
 use crate::part_paths::key_and_low_number;
@@ -27,7 +30,7 @@ use statistics::{GroupStats, Stats};
 use std::alloc::Global;
 
 /// What the record of a group in a root says, of a table with these keys, whose files have these leaves or those of the
-/// first fields. The records of its chunks are the group's from then on, without the path of its file: none is copied.
+/// first fields. The group keeps the records of its chunks without the path of its file.
 ///
 /// Refused Schema where its chunks are not those of the leaves; Codec for a compressed chunk; Limit for more rows or
 /// entries than are read; Key for a path that names no key; Page for all else.
@@ -56,7 +59,7 @@ pub(crate) fn group_in(
     };
     let (key, number) = key_and_low_number(alloc, keys, path)?;
     let known = known_at(alloc, leaves, path, columns)?;
-    let chunks = unplaced_chunks(meta.columns);
+    let chunks = unplaced_records(alloc, meta.columns)?;
     let stats = GroupStats {
         rows,
         leaves: known,
@@ -130,6 +133,15 @@ fn is_at(chunk: &ChunkMeta, path: &[u8]) -> bool
         Some(file_path) => file_path.as_slice() == path,
         None => false,
     }
+}
+
+/// The records of chunks as in their own file, without a path, to be kept. It fails only when out of memory.
+fn unplaced_records(alloc: Global, chunks: Vec<ChunkMeta>) -> R<ChunkRecords>
+    ensures are { IfOk result (λ records. records_of records ≡ map unplaced (map chunk_meta_view chunks.items)) }
+    ensures which { RefusedMemoryOnly result }
+{
+    let chunks = unplaced_chunks(chunks);
+    ChunkRecords::of(alloc, chunks.as_slice())
 }
 
 /// The records of chunks as in their own file, without a path.

@@ -8,6 +8,7 @@
 mod block;
 mod builder;
 mod chunk_reading;
+mod chunk_records;
 mod copies;
 mod description;
 mod fronts;
@@ -28,6 +29,7 @@ mod version;
 mod writing;
 
 pub use block::Block;
+pub use chunk_records::ChunkRecords;
 pub use description::Manifest;
 pub use group::Group;
 pub use laws::{

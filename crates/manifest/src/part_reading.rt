@@ -14,6 +14,7 @@ ghost use Rattle.manifest.specs.Records.{AreChunkRecords};
 ghost use Rattle.manifest.specs.Laws.{AreNamesShort};
 
 use crate::chunk_reading::{MOST_BYTES_OF_NAME, statistics_in};
+use crate::chunk_records::ChunkRecords;
 use crate::group::Group;
 use crate::group_reading::rows_of;
 use crate::laws::written_parts_hold_groups;
@@ -66,6 +67,7 @@ impl Group {
         let own = own_group(alloc, bytes)?;
         let rows = rows_of(&own)?;
         let known = known_of(alloc, leaves, own.columns.as_slice())?;
+        let chunks = ChunkRecords::of(alloc, own.columns.as_slice())?;
         let key = key.copied(alloc)?;
         let width = stored.fields().len();
         let stats = GroupStats {
@@ -76,7 +78,7 @@ impl Group {
             number,
             key,
             width,
-            chunks: own.columns,
+            chunks,
             stats,
         })
     }

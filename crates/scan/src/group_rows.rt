@@ -22,7 +22,7 @@ ghost use Rattle.scan.specs.inner.Texts.{AreHeld, texts_view};
 ghost use Rattle.scan.specs.inner.Uses.{uses_of};
 
 use crate::chunks::{path_of, read_chunks};
-use crate::held::{Held, copied_chunks, copied_schema};
+use crate::held::{Held, copied_schema};
 use crate::laws::{chunks_hold_columns, ruled_out_groups_hold_none};
 use crate::leaf_uses::{LeafUse, uses_of};
 use crate::part_reader::{check_parts, readers_of};
@@ -221,7 +221,8 @@ fn read_marked<D: Disk>(
     chunks_hold_columns();
     manifest::rows_of_parts_fit();
     let path = path_of(alloc, keys, group)?;
-    let chunks = group.chunks.as_slice();
+    let kept = group.chunks.to_chunks(alloc)?;
+    let chunks = kept.as_slice();
     let uses = uses_of(alloc, schema, keys, group.width, filter, places)?;
     let first = read_chunks(alloc, vault, path.as_str(), chunks, uses.as_slice(), true)?;
     let marks = marks_for(
@@ -365,7 +366,7 @@ fn rows_in(
     let _ = schema.leaves();
     let parts = parts_of(alloc, schema, keys, group, filter, places)?;
     let copy = copied_schema(alloc, schema)?;
-    let chunks = copied_chunks(alloc, group.chunks.as_slice())?;
+    let chunks = group.chunks.to_chunks(alloc)?;
     let held = Held {
         schema: copy,
         chunks,

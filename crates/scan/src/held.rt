@@ -1,8 +1,7 @@
 //! What was read of a group.
 
-ghost use Rattle.std.specs.Prelude.{◌≡◌, map, IfOk};
+ghost use Rattle.std.specs.Prelude.{◌≡◌, IfOk};
 ghost use Rattle.bits.specs.Refusals.{RefusedMemoryOnly};
-ghost use Rattle.metadata.specs.Views.{chunk_meta_view};
 
 use bits::R;
 use metadata::ChunkMeta;
@@ -30,16 +29,4 @@ pub(crate) fn copied_schema(alloc: Global, schema: &Schema) -> R<Schema>
         numbers.push(number)?;
     }
     schema.cut(alloc, numbers.as_slice())
-}
-
-/// Copies of the records of chunks.
-pub(crate) fn copied_chunks(alloc: Global, chunks: &[ChunkMeta]) -> R<Vec<ChunkMeta>>
-    ensures same { IfOk result (λ copies. map chunk_meta_view copies.items ≡ map chunk_meta_view chunks.now) }
-    ensures which { RefusedMemoryOnly result }
-{
-    let mut copies = Vec::with_capacity(alloc, chunks.len())?;
-    for chunk in chunks {
-        copies.push(chunk.copied(alloc)?)?;
-    }
-    Ok(copies)
 }

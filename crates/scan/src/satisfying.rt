@@ -54,7 +54,8 @@ pub fn row_marks(
         → RefusedMemoryOnly result }
     ensures which { RefusedOnly IsOfParts result }
 {
-    let chunks = group.chunks.as_slice();
+    let kept = group.chunks.to_chunks(alloc)?;
+    let chunks = kept.as_slice();
     let mut sources = sources_of(alloc, schema, chunks, uses, texts, texts, true)?;
     let numbers = numbers_of(alloc, uses, true)?;
     let cells = cells_of(alloc, schema, keys, &group.key)?;

@@ -248,7 +248,8 @@ fn fault_of_query(
     bytes: &[u8],
     fault: Fault,
 ) -> R<Fault> {
-    if let Some((leaf, refusal)) = refused_leaf(alloc, leaves, group.chunks.as_slice(), bytes)? {
+    let chunks = group.chunks.to_chunks(alloc)?;
+    if let Some((leaf, refusal)) = refused_leaf(alloc, leaves, chunks.as_slice(), bytes)? {
         return Ok(Fault {
             damage: Damage::Refused(refusal),
             leaf: Some(leaf),

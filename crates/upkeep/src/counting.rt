@@ -1,15 +1,11 @@
 //! Rows, groups and bytes in all.
 
-ghost use Rattle.std.specs.Prelude.{◌≡◌, ◌+◌, sum_by, map, IfOk, IfErr};
-ghost use Rattle.metadata.specs.Views.{chunk_meta_view, column_meta_view};
-ghost use Rattle.metadata.specs.Records.{ChunkMeta as ChunkShown};
+ghost use Rattle.std.specs.Prelude.{◌≡◌, ◌+◌, IfOk, IfErr};
 ghost use Rattle.manifest.specs.Groups.{root_of};
-ghost use Rattle.manifest.specs.Laid.{size_by};
 ghost use Rattle.upkeep.specs.Totals.{Counts};
 
 use bits::{R, Refusal};
 use manifest::{Group, Manifest, Version};
-use metadata::{ChunkMeta, ColumnMeta};
 
 /// How much there is of a table, or of a part of it, as its root says.
 #[derive(Clone, Copy, Debug, PartialEq, Eq)]
@@ -39,8 +35,7 @@ impl Totals {
     {
         let rows = sum(self.rows, group.rows())?;
         let groups = sum(self.groups, 1)?;
-        let size = bytes_of(group.chunks.as_slice())?;
-        let bytes = sum(self.bytes, size)?;
+        let bytes = sum(self.bytes, group.chunks.size())?;
         Ok(Totals {
             rows,
             groups,
@@ -83,28 +78,4 @@ pub(crate) fn totals_of(manifest: &Manifest) -> R<Totals>
         totals = more;
     }
     Ok(totals)
-}
-
-/// What the pages of these chunks take. Refused Limit for more than a `u64` counts.
-fn bytes_of(chunks: &[ChunkMeta]) -> R<u64>
-    ensures bytes { IfOk result (λ n. n ≡ sum_by (λ (c : ChunkShown). size_by c.meta_data.total_compressed_size) (map chunk_meta_view chunks.now)) }
-    ensures which { IfErr result (λ e. e ≡ Refusal.Limit) }
-{
-    let mut bytes = 0;
-    for chunk in chunks {
-        let size = size_of(&chunk.meta_data);
-        let more = sum(bytes, size)?;
-        bytes = more;
-    }
-    Ok(bytes)
-}
-
-/// What the pages of a chunk take; 0 where its record does not say.
-fn size_of(meta: &ColumnMeta) -> u64
-    ensures { result ≡ size_by (column_meta_view meta.now).total_compressed_size }
-{
-    match meta.total_compressed_size {
-        Some(size) if size >= 0 => size as u64,
-        _ => 0,
-    }
 }

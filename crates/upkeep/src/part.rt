@@ -150,7 +150,8 @@ fn fault_of_group(
     if !has_rows(own, group.rows()) {
         return Ok(Some(Fault::of_file(Damage::Rows)));
     }
-    match first_other(own.columns.as_slice(), group.chunks.as_slice()) {
+    let told = group.chunks.to_chunks(alloc)?;
+    match first_other(own.columns.as_slice(), told.as_slice()) {
         Some(leaf) => Ok(Some(Fault::of_leaf(Damage::Record, leaf))),
         None => fault_in_columns(alloc, group, bytes, schema),
     }
@@ -162,7 +163,8 @@ fn fault_in_columns(alloc: Global, group: &Group, bytes: &[u8], schema: &Schema)
     ensures which { RefusedMemoryOnly result }
 {
     let (front, leaves) = (front_of(bytes), schema.leaves());
-    let (chunks, stats) = (group.chunks.as_slice(), group.stats.leaves.as_slice());
+    let told = group.chunks.to_chunks(alloc)?;
+    let (chunks, stats) = (told.as_slice(), group.stats.leaves.as_slice());
     match fault_of_columns(alloc, front, leaves, chunks, stats)? {
         Some(fault) => Ok(Some(of_columns(fault))),
         None => Ok(None),

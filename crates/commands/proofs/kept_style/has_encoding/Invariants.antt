@@ -5,4 +5,4 @@ use Rattle.commands.specs.Kept.{is_encoded}
 use Rattle.commands.proofs.kept_style.has_encoding.Given as goal
 
 abbrev pub invariant-loop-chunk : goal.invariant-loop-chunk
-invariant-loop-chunk l = list_any (is_encoded l.number) (map chunk_meta_view (drop l.chunk-index l.chunk-items)) ≡ list_any (is_encoded l.number) (map chunk_meta_view l.group.chunks.items)
+invariant-loop-chunk l = list_any (is_encoded l.number) (map chunk_meta_view (drop l.chunk-index l.chunks)) ≡ list_any (is_encoded l.number) (map chunk_meta_view l.chunks)

@@ -5,16 +5,16 @@ use Rattle.commands.specs.Kept.{is_numbered}
 use Rattle.commands.proofs.FirstKept.{first_here, first_after, first_past}
 use Rattle.commands.proofs.kept_style.style_among.Goals as goal
 
-pub returns-then-is_numbered : goal.returns-then-is_numbered
-returns-then-is_numbered c =
+pub returns-then-is_numbered-clause-style : goal.returns-then-is_numbered-clause-style
+returns-then-is_numbered-clause-style c =
     let place = c.loop-place.place in
     let gs = groups_in c.args.table.now.groups in
     let g = group_view c.in-Some.group.now in
     let at : slice_get gs place ≡ Some g = subst (λ (hs : List Group). slice_get hs place ≡ Some g) c.groups-groups.ensures.are (sym c.in-Some.ensures) in
-    ap Some c.style_of.ensures ∙ sym (first_here (is_numbered c.args.numbers.now) gs place g at (sym c.is_numbered.ensures ∙ c.if-is_numbered.true)) ∙ c.loop-place.invariant
+    ap Some c.in_ok-style.ensures.style ∙ sym (first_here (is_numbered c.args.numbers.now) gs place g at (sym c.is_numbered.ensures ∙ c.if-is_numbered.true)) ∙ c.loop-place.invariant
 
-pub returns-in-None : goal.returns-in-None
-returns-in-None c =
+pub returns-in-None-clause-style : goal.returns-in-None-clause-style
+returns-in-None-clause-style c =
     let place = c.loop-place.place in
     let gs = groups_in c.args.table.now.groups in
     let past : slice_get gs place ≡ None = subst (λ (hs : List Group). slice_get hs place ≡ None) c.groups-groups.ensures.are (sym c.in-None.ensures) in

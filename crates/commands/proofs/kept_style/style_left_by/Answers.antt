@@ -8,17 +8,17 @@ use Rattle.commands.specs.Kept.{TellsWhichMayHold}
 use Rattle.commands.proofs.FirstKept.{first_here, first_after, first_past}
 use Rattle.commands.proofs.kept_style.style_left_by.Goals as goal
 
-pub returns-then-may_hold : goal.returns-then-may_hold
-returns-then-may_hold c = λ is tells.
+pub returns-then-may_hold-clause-style : goal.returns-then-may_hold-clause-style
+returns-then-may_hold-clause-style c = λ is tells.
     let place = c.loop-place.place in
     let gs = groups_in c.args.table.now.groups in
     let g = group_view c.in-Some.group.now in
     let at : slice_get gs place ≡ Some g = subst (λ (hs : List Group). slice_get hs place ≡ Some g) c.groups-groups.ensures.are (sym c.in-Some.ensures) in
     let told = subst (λ (ks : List KeyColumn). TellsWhichMayHold ks (tests_in c.args.filter.now) is) (sym c.keys.ensures.are) tells in
-    ap Some c.style_of.ensures ∙ sym (first_here is gs place g at ((told g).1 (c.may_hold.ensures.0 c.if-may_hold.true))) ∙ c.loop-place.invariant is tells
+    ap Some c.in_ok-style.ensures.style ∙ sym (first_here is gs place g at ((told g).1 (c.may_hold.ensures.0 c.if-may_hold.true))) ∙ c.loop-place.invariant is tells
 
-pub returns-in-None : goal.returns-in-None
-returns-in-None c = λ is tells.
+pub returns-in-None-clause-style : goal.returns-in-None-clause-style
+returns-in-None-clause-style c = λ is tells.
     let place = c.loop-place.place in
     let gs = groups_in c.args.table.now.groups in
     let past : slice_get gs place ≡ None = subst (λ (hs : List Group). slice_get hs place ≡ None) c.groups-groups.ensures.are (sym c.in-None.ensures) in

@@ -13,6 +13,7 @@ use Rattle.metadata.specs.declared.chunk_meta.ChunkMeta.{ChunkMeta as CodeChunkM
 use Rattle.schema.specs.Keys.{key_columns_view}
 use Rattle.schema.specs.Views.{leaf_view}
 use Rattle.manifest.specs.Groups.{Group}
+use Rattle.manifest.specs.Handles.{records_of}
 use Rattle.manifest.specs.Records.{AreChunkRecords, IsGroupRecord, placed}
 use Rattle.manifest.specs.inner.Reading.{FirstPath, unplaced}
 use Rattle.manifest.proofs.GroupChunks.{no_front, no_path, path_is, chunks_are}
@@ -59,8 +60,8 @@ returns-clause-stands c = λ stored valid same fronts.
     let taken : take n (map leaf_view c.args.leaves.now) ≡ leaves_of (first_fields w stored)
     = ap (take n) same ∙ ap (λ (k : ℕ). take k (leaves_of stored)) (sym front.1) ∙ sym (c.fronts_have_the_first_leaves.ensures w stored) in
     let ms : c.as_slice-columns.result.now ≡ c.args.meta.columns.items = c.as_slice-columns.ensures.value in
-    let own : map chunk_meta_view c.unplaced_chunks-chunks.result.items ≡ map unplaced (map chunk_meta_view c.as_slice-columns.result.now)
-    = c.unplaced_chunks-chunks.ensures ∙ ap (λ (xs : List CodeChunkMeta). map unplaced (map chunk_meta_view xs)) (sym ms) in
+    let own : records_of c.in_ok-chunks.chunks ≡ map unplaced (map chunk_meta_view c.as_slice-columns.result.now)
+    = c.in_ok-chunks.ensures.are ∙ ap (λ (xs : List CodeChunkMeta). map unplaced (map chunk_meta_view xs)) (sym ms) in
     record {
       is = record {
         some = rows.1;

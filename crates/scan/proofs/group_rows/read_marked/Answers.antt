@@ -1,6 +1,7 @@
 use Rattle.std.proofs.Common.{◌≡◌, ◌+◌, ℕ, Bool, true, false, List, map, Vec, Global, ap, sym, subst, ◌∙◌}
 use Rattle.schema.specs.Keys.{key_columns_view, places_of}
 use Rattle.schema.specs.Stripe.{leaves_of, columns}
+use Rattle.metadata.specs.Records.{ChunkMeta}
 use Rattle.metadata.specs.Views.{chunk_meta_view}
 use Rattle.vault.specs.Views.{IsKept}
 use Rattle.filter.specs.Test.{tests_in}
@@ -16,6 +17,16 @@ use Rattle.scan.proofs.HeldGroups.{size, fit, cells, ranges, filter_held, may_se
 use Rattle.scan.proofs.Passages.{only_on, kept_still}
 use Rattle.scan.proofs.Reading.{nothing_read, first_stops, after_first, second_stops, after_both, chunk_total, memory_passed}
 use Rattle.scan.proofs.group_rows.read_marked.Goals as goal
+
+pub returns-in_err-kept-clause-effect : goal.returns-in_err-kept-clause-effect
+returns-in_err-kept-clause-effect g c =
+    let s0 = g.D.Disk.state c.args.vault.now.disk in
+    let keys = key_columns_view c.args.keys.now in
+    let fs = c.args.schema.now in
+    let gr = group_view c.args.group.now in
+    let places = c.args.places.now in
+    let tests = tests_in c.args.filter.now in
+    nothing_read (chunks_read tests keys fs gr places) s0 c.from_residual-in_err-kept.result (memory_passed IsOfParts c.from_residual-in_err-kept.result c.in_err-kept.field-0.0 c.from_residual-in_err-kept.ensures.1 c.in_err-kept.ensures.which)
 
 pub returns-in_err-uses-clause-effect : goal.returns-in_err-uses-clause-effect
 returns-in_err-uses-clause-effect g c =
@@ -39,7 +50,7 @@ returns-in_err-first-clause-only g c honest are rows h =
     let us1_are : us1 ≡ uses_of tests (places_of keys) gr.width places 0 (leaves_of fs) = c.as_slice.ensures.value ∙ c.in_ok-uses.ensures.stands in
     let kept : IsKept s0 c.as_str.result.now h.bytes = subst (λ (path : List ℕ). IsKept s0 path h.bytes) (sym (c.as_str.ensures.value ∙ c.in_ok-path.ensures.stands)) h.kept in
     only_on IsDevice c.from_residual-in_err-first.result c.in_err-first.field-0.0 c.from_residual-in_err-first.ensures.1
-    (c.in_err-first.ensures.only honest h.bytes kept (subst (λ cs. HaveRanges true (map chunk_meta_view cs) us1) (sym c.as_slice-chunks.ensures.value) (ranges c.chunks_hold_columns.ensures c.rows_of_parts_fit.ensures s0 keys fs gr rows are h tests places us1 us1_are true)))
+    (c.in_err-first.ensures.only honest h.bytes kept (subst (λ (ms : List ChunkMeta). HaveRanges true ms us1) (sym (ap (map chunk_meta_view) c.as_slice-chunks.ensures.value ∙ c.in_ok-kept.ensures.are)) (ranges c.chunks_hold_columns.ensures c.rows_of_parts_fit.ensures s0 keys fs gr rows are h tests places us1 us1_are true)))
 
 pub returns-in_err-first-clause-effect : goal.returns-in_err-first-clause-effect
 returns-in_err-first-clause-effect g c =
@@ -67,7 +78,7 @@ returns-in_err-marks-clause-only g c honest are rows h =
     let places = c.args.places.now in
     let tests = tests_in c.args.filter.now in
     let kept : IsKept s0 c.as_str.result.now h.bytes = subst (λ (path : List ℕ). IsKept s0 path h.bytes) (sym (c.as_str.ensures.value ∙ c.in_ok-path.ensures.stands)) h.kept in
-    let chunks_are = ap (map chunk_meta_view) c.as_slice-chunks.ensures.value in
+    let chunks_are = ap (map chunk_meta_view) c.as_slice-chunks.ensures.value ∙ c.in_ok-kept.ensures.are in
     let us2 = c.as_slice-2.result.now in
     let us2_are : us2 ≡ uses_of tests (places_of keys) gr.width places 0 (leaves_of fs) = c.as_slice-2.ensures.value ∙ c.in_ok-uses.ensures.stands in
     let texts = texts_view c.as_slice-3.result.now in
@@ -101,7 +112,7 @@ returns-then-not-has_selected-clause-stands g c honest over are rows h =
     let places = c.args.places.now in
     let tests = tests_in c.args.filter.now in
     let kept : IsKept s0 c.as_str.result.now h.bytes = subst (λ (path : List ℕ). IsKept s0 path h.bytes) (sym (c.as_str.ensures.value ∙ c.in_ok-path.ensures.stands)) h.kept in
-    let chunks_are = ap (map chunk_meta_view) c.as_slice-chunks.ensures.value in
+    let chunks_are = ap (map chunk_meta_view) c.as_slice-chunks.ensures.value ∙ c.in_ok-kept.ensures.are in
     let us2 = c.as_slice-2.result.now in
     let us2_are : us2 ≡ uses_of tests (places_of keys) gr.width places 0 (leaves_of fs) = c.as_slice-2.ensures.value ∙ c.in_ok-uses.ensures.stands in
     let texts = texts_view c.as_slice-3.result.now in
@@ -147,7 +158,7 @@ returns-in_err-later-clause-only g c honest are rows h =
     let us5 = c.as_slice-5.result.now in
     let us5_are : us5 ≡ uses_of tests (places_of keys) gr.width places 0 (leaves_of fs) = c.as_slice-5.ensures.value ∙ c.in_ok-uses.ensures.stands in
     only_on IsDevice c.from_residual-in_err-later.result c.in_err-later.field-0.0 c.from_residual-in_err-later.ensures.1
-    (c.in_err-later.ensures.only honest1 h.bytes kept1 (subst (λ cs. HaveRanges false (map chunk_meta_view cs) us5) (sym c.as_slice-chunks.ensures.value) (ranges c.chunks_hold_columns.ensures c.rows_of_parts_fit.ensures s0 keys fs gr rows are h tests places us5 us5_are false)))
+    (c.in_err-later.ensures.only honest1 h.bytes kept1 (subst (λ (ms : List ChunkMeta). HaveRanges false ms us5) (sym (ap (map chunk_meta_view) c.as_slice-chunks.ensures.value ∙ c.in_ok-kept.ensures.are)) (ranges c.chunks_hold_columns.ensures c.rows_of_parts_fit.ensures s0 keys fs gr rows are h tests places us5 us5_are false)))
 
 pub returns-in_err-later-clause-effect : goal.returns-in_err-later-clause-effect
 returns-in_err-later-clause-effect g c =
@@ -179,7 +190,7 @@ returns-clause-stands g c honest over are rows h =
     let places = c.args.places.now in
     let tests = tests_in c.args.filter.now in
     let kept : IsKept s0 c.as_str.result.now h.bytes = subst (λ (path : List ℕ). IsKept s0 path h.bytes) (sym (c.as_str.ensures.value ∙ c.in_ok-path.ensures.stands)) h.kept in
-    let chunks_are = ap (map chunk_meta_view) c.as_slice-chunks.ensures.value in
+    let chunks_are = ap (map chunk_meta_view) c.as_slice-chunks.ensures.value ∙ c.in_ok-kept.ensures.are in
     let us2 = c.as_slice-2.result.now in
     let us2_are : us2 ≡ uses_of tests (places_of keys) gr.width places 0 (leaves_of fs) = c.as_slice-2.ensures.value ∙ c.in_ok-uses.ensures.stands in
     let texts = texts_view c.as_slice-3.result.now in
@@ -205,7 +216,7 @@ returns-clause-may g c honest are rows h =
     let tests = tests_in c.args.filter.now in
     let us = uses_of tests (places_of keys) gr.width places 0 (leaves_of fs) in
     let kept : IsKept s0 c.as_str.result.now h.bytes = subst (λ (path : List ℕ). IsKept s0 path h.bytes) (sym (c.as_str.ensures.value ∙ c.in_ok-path.ensures.stands)) h.kept in
-    let chunks_are = ap (map chunk_meta_view) c.as_slice-chunks.ensures.value in
+    let chunks_are = ap (map chunk_meta_view) c.as_slice-chunks.ensures.value ∙ c.in_ok-kept.ensures.are in
     let run = c.in_ok-first.ensures.effect in
     let honest1 = run.honest.0 honest in
     let kept1 : IsKept s1 c.as_str-2.result.now h.bytes =

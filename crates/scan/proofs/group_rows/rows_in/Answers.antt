@@ -4,7 +4,6 @@ use Rattle.schema.specs.Keys.{key_columns_view, places_of}
 use Rattle.schema.specs.Shape.{Fields, count}
 use Rattle.filter.specs.Test.{tests_in}
 use Rattle.manifest.specs.Groups.{group_view}
-use Rattle.metadata.specs.Views.{chunk_meta_view}
 use Rattle.scan.specs.declared.held.Held.{Held}
 use Rattle.scan.specs.declared.parts.Part.{Part}
 use Rattle.scan.specs.Left.{joined, selected_by, turned, PartsHold}
@@ -26,14 +25,14 @@ returns-in_err-check_parts-clause-only c rows may =
     let first = texts_view c.args.marked.first.items in
     let later = texts_view c.args.marked.later.items in
     let h : Held = record { schema = c.in_ok-copy.copy; chunks = c.in_ok-chunks.chunks; first = c.args.marked.first; later = c.args.marked.later } in
-    let chunks_are = c.in_ok-chunks.ensures.same ∙ ap (map chunk_meta_view) c.as_slice.ensures.value in
+    let chunks_are = c.in_ok-chunks.ensures.are in
     let parts = c.in_ok-parts.parts.items in
     let made = c.in_ok-parts.ensures.stands in
     let pieces = all_pieces tests keys fs gr places first later rows c.leaves.ensures.valid.1 may.select h c.in_ok-copy.ensures.same chunks_are refl refl parts made in
     let hold = parts_hold tests keys fs gr places first later rows c.leaves.ensures.valid.1 may.select h c.in_ok-copy.ensures.same chunks_are refl refl parts made in
     let size : length pieces ≡ gr.known.rows = pieces_count tests keys fs gr places first later rows c.leaves.ensures.valid.1 may.select h c.in_ok-copy.ensures.same chunks_are refl refl parts made ∙ may.count in
     only_on (λ _. ⊥) c.from_residual-in_err-check_parts.result c.in_err-check_parts.field-0.0 c.from_residual-in_err-check_parts.ensures.1
-    (c.in_err-check_parts.ensures.only pieces (subst (λ (ps : List Part). PartsHold h ps pieces) (sym c.as_slice-2.ensures.value) hold) size)
+    (c.in_err-check_parts.ensures.only pieces (subst (λ (ps : List Part). PartsHold h ps pieces) (sym c.as_slice.ensures.value) hold) size)
 
 pub returns-clause-stands : goal.returns-clause-stands
 returns-clause-stands c rows may =
@@ -45,7 +44,7 @@ returns-clause-stands c rows may =
     let first = texts_view c.args.marked.first.items in
     let later = texts_view c.args.marked.later.items in
     let h : Held = record { schema = c.in_ok-copy.copy; chunks = c.in_ok-chunks.chunks; first = c.args.marked.first; later = c.args.marked.later } in
-    let chunks_are = c.in_ok-chunks.ensures.same ∙ ap (map chunk_meta_view) c.as_slice.ensures.value in
+    let chunks_are = c.in_ok-chunks.ensures.are in
     let parts = c.in_ok-parts.parts.items in
     let made = c.in_ok-parts.ensures.stands in
     let valid = c.leaves.ensures.valid.1 in
@@ -91,7 +90,7 @@ returns-clause-accepted c =
         pieces = accepts.0;
         count = accepts.2;
         many = c.requires.some.many;
-        parts = subst (λ (ps : List Part). PartsHold h ps accepts.0) c.as_slice-2.ensures.value accepts.1;
+        parts = subst (λ (ps : List Part). PartsHold h ps accepts.0) c.as_slice.ensures.value accepts.1;
         selected = refl;
       },
       (λ none. some_chosen c.args.marked.marks.items c.args.group.now.stats.rows c.requires.some accepts.0 accepts.2 (none_mapped (joined (length parts)) (selected_by c.args.marked.marks.items accepts.0) none)),
@@ -106,6 +105,6 @@ check_parts-requires c =
     let cut : AreCutParts fs parts = parts_cut m (wanted_from c.args.places.now 0 (count fs)) parts c.in_ok-parts.ensures.stands in
     record {
       cut =
-          subst (λ (ps : List Part). AreCutParts c.in_ok-copy.copy ps) (sym c.as_slice-2.ensures.value)
+          subst (λ (ps : List Part). AreCutParts c.in_ok-copy.copy ps) (sym c.as_slice.ensures.value)
           (subst (λ (gs : Fields). AreCutParts gs parts) (sym c.in_ok-copy.ensures.same) cut);
     }

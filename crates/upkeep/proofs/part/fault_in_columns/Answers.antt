@@ -21,6 +21,6 @@ returns-in-None-clause-fills c = λ front meta file.
       are.0,
       subst (λ (f : List ℕ). AreFullChunks f (leaves_of fs) g.chunks g.known.leaves are.0) (c.front_of-front.ensures front meta file)
           (subst (λ (ls : List Leaf). AreFullChunks c.front_of-front.result.now ls g.chunks g.known.leaves are.0) c.leaves-leaves.ensures.leaves_are
-          (subst (λ (cs : List ChunkMeta). AreFullChunks c.front_of-front.result.now (map leaf_view leaves) cs g.known.leaves are.0) (ap (map chunk_meta_view) c.as_slice-chunks.ensures.value)
+          (subst (λ (cs : List ChunkMeta). AreFullChunks c.front_of-front.result.now (map leaf_view leaves) cs g.known.leaves are.0) (ap (map chunk_meta_view) c.as_slice-chunks.ensures.value ∙ c.in_ok-told.ensures.are)
           (subst (λ (ss : List Statistics). AreFullChunks c.front_of-front.result.now (map leaf_view leaves) (map chunk_meta_view chunks) ss are.0) (ap (map statistics_of) c.as_slice-stats.ensures.value) are.1))),
     )

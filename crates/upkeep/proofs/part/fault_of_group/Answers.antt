@@ -14,5 +14,5 @@ returns-in-None-clause-holds c =
     let bytes = c.args.bytes.now in
     let fs = c.args.schema.now in
     let counted = c.has_rows.ensures c.if-not-has_rows.false ∙ ap pos c.rows.ensures in
-    let records : own.columns ≡ g.chunks = ap (map chunk_meta_view) (sym c.as_slice.ensures.value) ∙ c.in-None.ensures ∙ ap (map chunk_meta_view) c.as_slice-2.ensures.value in
+    let records : own.columns ≡ g.chunks = ap (map chunk_meta_view) (sym c.as_slice.ensures.value) ∙ c.in-None.ensures ∙ ap (map chunk_meta_view) c.as_slice-2.ensures.value ∙ c.in_ok-told.ensures.are in
     found_map c.fault_in_columns.result (FillsColumns fs g bytes) (HoldsAs fs g bytes) (holds_as bytes fs own g c.requires c.one_meaning.ensures.column counted records) c.fault_in_columns.ensures.fills
