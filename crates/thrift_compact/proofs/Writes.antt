@@ -152,28 +152,28 @@ field_all previous id x k left old mid new is p q =
     appends_then (λ bytes. IsFieldHead previous bytes id k) (SpellsValue left x) (SpellsField previous left id x) (size_field_head previous id) (size_value x) old mid new
     (λ bytes u v a b. (u, v, subst (λ (j : ℕ). IsFieldHead previous bytes id j u) is a, b, refl)) p q
 
-pub fields_more : (fs : List Field) (i : ℕ) (d : Field) (left : ℕ) (last : ℤ) (old mid new : List ℕ) → i < length fs
-    → Appends (AreBegun left (field_views (take i fs)) (pos 0) last) (size_begun (field_views (take i fs)) (pos 0)) old mid
+pub fields_more : (fs : List Field) (i : ℕ) (d : Field) (left : ℕ) (previous last : ℤ) (old mid new : List ℕ) → i < length fs
+    → Appends (AreBegun left (field_views (take i fs)) previous last) (size_begun (field_views (take i fs)) previous) old mid
     → Appends (SpellsField last left (field_view (get_or fs i d)).0 (field_view (get_or fs i d)).1) (size_field_head last (field_view (get_or fs i d)).0 + size_value (field_view (get_or fs i d)).1) mid new
-    → Appends (AreBegun left (field_views (take (i + 1) fs)) (pos 0) (field_view (get_or fs i d)).0) (size_begun (field_views (take (i + 1) fs)) (pos 0)) old new
-fields_more fs i d left last old mid new lt p q =
+    → Appends (AreBegun left (field_views (take (i + 1) fs)) previous (field_view (get_or fs i d)).0) (size_begun (field_views (take (i + 1) fs)) previous) old new
+fields_more fs i d left previous last old mid new lt p q =
     let id = (field_view (get_or fs i d)).0 in
     let x = (field_view (get_or fs i d)).1 in
     let front = field_views (take i fs) in
     let e : field_views (take (i + 1) fs) ≡ append_fields front (field id x no_fields) = ap field_views (take_more fs i d lt) ∙ field_views_push (take i fs) (get_or fs i d) in
-    let a = appends_then (AreBegun left front (pos 0) last) (SpellsField last left id x) (AreBegun left (append_fields front (field id x no_fields)) (pos 0) id) (size_begun front (pos 0)) (size_field_head last id + size_value x) old mid new
-    (λ bytes u v. push_field front id x left (pos 0) last bytes u v) p q in
-    let m = size_more front left (pos 0) last (p.text ++ []) (length p.text) (p.stands []) id x in
-    let b = subst (λ (n : ℕ). Appends (AreBegun left (append_fields front (field id x no_fields)) (pos 0) id) n old new) (sym m) a in
-    subst (λ (gs : Fields). Appends (AreBegun left gs (pos 0) id) (size_begun gs (pos 0)) old new) (sym e) b
+    let a = appends_then (AreBegun left front previous last) (SpellsField last left id x) (AreBegun left (append_fields front (field id x no_fields)) previous id) (size_begun front previous) (size_field_head last id + size_value x) old mid new
+    (λ bytes u v. push_field front id x left previous last bytes u v) p q in
+    let m = size_more front left previous last (p.text ++ []) (length p.text) (p.stands []) id x in
+    let b = subst (λ (n : ℕ). Appends (AreBegun left (append_fields front (field id x no_fields)) previous id) n old new) (sym m) a in
+    subst (λ (gs : Fields). Appends (AreBegun left gs previous id) (size_begun gs previous) old new) (sym e) b
 
-pub fields_all : (fs : List Field) (i : ℕ) (left : ℕ) (last : ℤ) (old mid new : List ℕ) → length fs ≤ i → Appends (AreBegun left (field_views (take i fs)) (pos 0) last) (size_begun (field_views (take i fs)) (pos 0)) old mid
-    → Appends (λ bytes. IsByte bytes 0) 1 mid new → Appends (SpellsFields left (field_views fs)) (size_fields (field_views fs) (pos 0)) old new
-fields_all fs i left last old mid new le p q =
-    let whole = subst (λ (gs : List Field). Appends (AreBegun left (field_views gs) (pos 0) last) (size_begun (field_views gs) (pos 0)) old mid) (take_all i fs le) p in
-    let a = appends_then (AreBegun left (field_views fs) (pos 0) last) (λ bytes. IsByte bytes 0) (SpellsFields left (field_views fs)) (size_begun (field_views fs) (pos 0)) 1 old mid new
-    (λ bytes u v. finish (field_views fs) left (pos 0) last bytes u v) whole q in
-    subst (λ (n : ℕ). Appends (SpellsFields left (field_views fs)) n old new) (sym (size_end (field_views fs) (pos 0))) a
+pub fields_all : (fs : List Field) (i : ℕ) (left : ℕ) (previous last : ℤ) (old mid new : List ℕ) → length fs ≤ i → Appends (AreBegun left (field_views (take i fs)) previous last) (size_begun (field_views (take i fs)) previous) old mid
+    → Appends (λ bytes. IsByte bytes 0) 1 mid new → Appends (λ bytes used. (fields_nest (field_views fs) ≤ left) × AreFields (field_views fs) previous bytes used) (size_fields (field_views fs) previous) old new
+fields_all fs i left previous last old mid new le p q =
+    let whole = subst (λ (gs : List Field). Appends (AreBegun left (field_views gs) previous last) (size_begun (field_views gs) previous) old mid) (take_all i fs le) p in
+    let a = appends_then (AreBegun left (field_views fs) previous last) (λ bytes. IsByte bytes 0) (λ bytes used. (fields_nest (field_views fs) ≤ left) × AreFields (field_views fs) previous bytes used) (size_begun (field_views fs) previous) 1 old mid new
+    (λ bytes u v. finish (field_views fs) left previous last bytes u v) whole q in
+    subst (λ (n : ℕ). Appends (λ bytes used. (fields_nest (field_views fs) ≤ left) × AreFields (field_views fs) previous bytes used) n old new) (sym (size_end (field_views fs) previous)) a
 
 -- the last id that was written is the last field's
 pub last_is : (fs : Fields) (left : ℕ) (previous last : ℤ) (bytes : List ℕ) (u : ℕ) → AreBegun left fs previous last bytes u → last ≡ last_id fs previous

@@ -1,14 +1,14 @@
 -- Structs that are written piece by piece.
-use Rattle.std.proofs.Common.{◌≡◌, ℕ, suc, ◌+◌, ◌<◌, ◌≤◌, List, [], ◌∷◌, ◌++◌, length, get_or, map, take, refl, sym, ap, subst, ◌∙◌, arith, append_assoc}
+use Rattle.std.proofs.Common.{◌≡◌, ℕ, suc, ◌+◌, ◌<◌, ◌≤◌, List, [], ◌∷◌, ◌++◌, length, get_or, map, take, drop, refl, sym, ap, subst, ◌∙◌, arith, append_assoc}
 use Rattle.std.specs.Prelude.{ℤ, pos}
 use Rattle.std.proofs.lemmas.List.{append-nil, take_more, take_all}
 use Rattle.bits.specs.Codec.{Appends}
 use Rattle.thrift_compact.specs.declared.tree.Field.{Field}
-use Rattle.thrift_compact.specs.Tree.{Node, list, struct, Nodes, no_nodes, node, Fields, no_fields, field, nodes_nest, count}
-use Rattle.thrift_compact.specs.Compact.{IsByte, IsFieldHead, IsListHead, AreElements}
+use Rattle.thrift_compact.specs.Tree.{Node, list, struct, Nodes, no_nodes, node, Fields, no_fields, field, nodes_nest, fields_nest, count}
+use Rattle.thrift_compact.specs.Compact.{IsByte, IsFieldHead, IsListHead, AreElements, AreFields, IsThrift}
 use Rattle.thrift_compact.specs.View.{field_view, field_views, nodes_of, fields_of}
-use Rattle.thrift_compact.specs.Length.{size_field_head, size_list_head, size_value, size_elements, size_struct, AppendsStruct}
-use Rattle.thrift_compact.specs.Piecewise.{AreBegun, size_begun, last_id, last_of, BeginsStruct, BeginsList, StructsBeginEmpty, ListsEnd}
+use Rattle.thrift_compact.specs.Length.{size_field_head, size_list_head, size_value, size_elements, size_struct, size_fields, AppendsStruct}
+use Rattle.thrift_compact.specs.Piecewise.{AreBegun, size_begun, last_id, last_of, BeginsStruct, BeginsList, StructsBeginEmpty, ListsEnd, ListsGrow, RestsFollow}
 use Rattle.thrift_compact.specs.inner.Writing.{AppendsField, SpellsValue, SpellsElement, SpellsElements, SpellsField, SpellsFields}
 use Rattle.thrift_compact.proofs.Elements.{append}
 use Rattle.thrift_compact.proofs.FieldsRead.{append_fields}
@@ -138,3 +138,22 @@ list_ended fs id code xs old new p =
     let value = appends_then (λ bytes. IsListHead bytes code (count all)) (SpellsElements code 31 all) (SpellsValue 32 (list code all)) (size_list_head (count all)) (size_elements all) p.named p.sized new
     (λ bytes u v a b. (omega (arith, b.0), (u, v, a, b.1, refl))) size p.elements in
     begins_more fs id (list code all) old p.before new p.begun (field_all (last_of fs) id (list code all) 9 32 p.before p.named new refl p.head value)
+
+-- one more struct, by its bytes
+pub list_grows : ListsGrow
+list_grows fs id n xs x old mid new p shallow q =
+    list_more x mid new (appends_so (λ bytes used. IsThrift bytes x used) (SpellsFields 30 x) (size_struct x) mid new (λ bytes used s. (shallow, s.spelled)) q) fs id n xs old p
+
+-- a first field, and the rest of a struct
+pub rests_follow : RestsFollow
+rests_follow id x rest old mid new p q =
+    let one = field id x no_fields in
+    let Rest = λ (bytes : List ℕ) (used : ℕ). (fields_nest rest ≤ 32) × AreFields rest id bytes used in
+    let a = appends_then (AreBegun 32 one (pos 0) id) Rest (SpellsFields 32 (field id x rest)) (size_begun one (pos 0)) (size_fields rest id) old mid new (λ bytes u v. joined bytes u v) p q in
+    let m : size_fields (field id x rest) (pos 0) ≡ size_begun one (pos 0) + size_fields rest id = omega arith in
+    thrift_stands (field id x rest) old new (subst (λ (n : ℕ). Appends (SpellsFields 32 (field id x rest)) n old new) (sym m) a)
+  where
+    joined : (bytes : List ℕ) (u v : ℕ) → AreBegun 32 (field id x no_fields) (pos 0) id bytes u → (fields_nest rest ≤ 32) × AreFields rest id (drop u bytes) v → SpellsFields 32 (field id x rest) bytes (u + v)
+    joined bytes u v b r =
+        let e : u ≡ b.0 + b.1 = omega (arith, b.6, b.5.0) in
+        (omega (arith, b.4.0, r.0), (b.0, b.1, v, b.3, b.4.1, subst (λ (n : ℕ). AreFields rest id (drop n bytes) v) e r.1, omega (arith, e)))

@@ -2,10 +2,10 @@
 -- protocol, "Struct Encoding", "List and Set".
 use Rattle.std.specs.Prelude.{◌≡◌, ℕ, ◌+◌, ◌≤◌, ℤ, pos, List, [], ◌∷◌, ◌++◌, length, drop}
 use Rattle.bits.specs.Codec.{Appends}
-use Rattle.thrift_compact.specs.Tree.{Node, list, Fields, no_fields, field, nest, nodes_nest}
-use Rattle.thrift_compact.specs.Compact.{kind, IsFieldHead, IsListHead, IsValue, AreElements}
+use Rattle.thrift_compact.specs.Tree.{Node, list, struct, Fields, no_fields, field, nest, nodes_nest, fields_nest}
+use Rattle.thrift_compact.specs.Compact.{kind, IsFieldHead, IsListHead, IsValue, AreElements, AreFields}
 use Rattle.thrift_compact.specs.View.{nodes_of, fields_of}
-use Rattle.thrift_compact.specs.Length.{size_field_head, size_list_head, size_value, size_elements}
+use Rattle.thrift_compact.specs.Length.{size_field_head, size_list_head, size_value, size_elements, size_fields, AppendsStruct}
 
 -- the first `used` bytes stand for fields after that of the id `previous`, without the byte that ends a struct, with values nested at most
 -- `left` levels; `last` is the id of the last one, or `previous` if there is none
@@ -51,3 +51,17 @@ StructsBeginEmpty = (old : List ℕ) → BeginsStruct [] old old
 abbrev pub ListsEnd : Type 0
 ListsEnd = (fs : List (ℤ × Node)) (id : ℤ) (code : ℕ) (xs : List Node) (old new : List ℕ) → BeginsList fs id code (length xs) xs old new
     → BeginsStruct (fs ++ (id, list code (nodes_of xs)) ∷ []) old new
+
+-- The bytes of `new` are those of `old`, these fields of a struct after one of the id `previous`, and the byte that ends it, in the
+-- fewest bytes.
+abbrev pub AppendsRest : Fields → ℤ → List ℕ → List ℕ → Type 0
+AppendsRest fs previous old new = Appends (λ bytes used. (fields_nest fs ≤ 32) × AreFields fs previous bytes used) (size_fields fs previous) old new
+
+-- a first field, and the rest of a struct after it, are a struct
+abbrev pub RestsFollow : Type 0
+RestsFollow = (id : ℤ) (x : Node) (rest : Fields) (old mid new : List ℕ) → BeginsStruct ((id, x) ∷ []) old mid → AppendsRest rest id mid new → AppendsStruct (field id x rest) old new
+
+-- a struct behind the elements of a list of structs, in whose values 30 levels nest at most, is one more element
+abbrev pub ListsGrow : Type 0
+ListsGrow = (fs : List (ℤ × Node)) (id : ℤ) (n : ℕ) (xs : List Node) (x : Fields) (old mid new : List ℕ) → BeginsList fs id 12 n xs old mid → fields_nest x ≤ 30 → AppendsStruct x mid new
+    → BeginsList fs id 12 n (xs ++ struct x ∷ []) old new

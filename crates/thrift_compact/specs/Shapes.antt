@@ -57,3 +57,7 @@ IsShapeless has_shape e = (e ≡ Thrift) × (has_shape ≡ false)
 -- a struct that some bytes have has the shape
 abbrev pub StructsWithBytesHaveTheShape : Type 0
 StructsWithBytesHaveTheShape = (deep : ℕ) (fs : Fields) → fields_nest fs ≤ deep → HasBytes fs → IsTrue (fields_have_shape deep fs)
+
+-- a struct of this shape nests at most so deep
+abbrev pub ShapesNest : Type 0
+ShapesNest = (deep : ℕ) (fs : Fields) → IsTrue (fields_have_shape deep fs) → fields_nest fs ≤ deep

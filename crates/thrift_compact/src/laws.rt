@@ -5,8 +5,8 @@ ghost use Rattle.bits.specs.Codec.{IsFunctional};
 ghost use Rattle.thrift_compact.specs.Compact.{IsThrift};
 ghost use Rattle.thrift_compact.specs.Law.{StructsStay, ValuesStay, CutStructsDoNotStand, WrittenStructsStand, WrittenStructsAreNoOthers};
 ghost use Rattle.thrift_compact.specs.Length.{NoSpellingIsShorter};
-ghost use Rattle.thrift_compact.specs.Piecewise.{StructsBeginEmpty, ListsEnd};
-ghost use Rattle.thrift_compact.specs.Shapes.{StructsWithBytesHaveTheShape};
+ghost use Rattle.thrift_compact.specs.Piecewise.{StructsBeginEmpty, ListsEnd, ListsGrow, RestsFollow};
+ghost use Rattle.thrift_compact.specs.Shapes.{StructsWithBytesHaveTheShape, ShapesNest};
 ghost use Rattle.thrift_compact.specs.Values.{ValueOf};
 
 /// A prefix of the bytes stands for at most one struct.
@@ -54,8 +54,16 @@ pub fn no_spelling_is_shorter()
     ensures { NoSpellingIsShorter }
 {}
 
-/// A struct without fields is begun by no bytes, and a list all of whose elements are written is a field.
+/// A struct without fields is begun by no bytes; a list all of whose elements are written is a field; a struct behind
+/// the elements of a list is one more; a first field, and the rest of a struct behind it, are a struct.
 pub fn structs_are_written_in_pieces()
     ensures begins { StructsBeginEmpty }
     ensures ends { ListsEnd }
+    ensures grows { ListsGrow }
+    ensures follows { RestsFollow }
+{}
+
+/// A struct of the shape of one in which at most so many levels nest nests at most so deep.
+pub fn structs_of_the_shape_nest()
+    ensures { ShapesNest }
 {}

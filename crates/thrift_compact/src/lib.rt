@@ -21,9 +21,10 @@ mod writing;
 pub use copying::copied_fields;
 pub use laws::{
     no_spelling_is_shorter, one_struct, one_value, structs_are_written_in_pieces,
-    structs_with_bytes_have_the_shape, what_follows_changes_nothing, what_is_written_is_read_again,
+    structs_of_the_shape_nest, structs_with_bytes_have_the_shape, what_follows_changes_nothing,
+    what_is_written_is_read_again,
 };
-pub use piecewise::{put_end, put_list_start, put_next_fields, put_next_struct};
+pub use piecewise::{put_end, put_list_start, put_next_fields, put_next_struct, put_rest};
 pub use reading::read_struct;
 pub use taking::{TakesElements, TakesFields};
 pub use tree::{ElementType, Field, Node, Tree};

@@ -6,7 +6,7 @@ ghost use Rattle.thrift_compact.specs.Tree.{Node, struct};
 ghost use Rattle.thrift_compact.specs.View.{code_of, field_view, field_views, fields_of};
 ghost use Rattle.thrift_compact.specs.Length.{AppendsStruct};
 ghost use Rattle.thrift_compact.specs.Shapes.{fields_have_shape, IsShapeless};
-ghost use Rattle.thrift_compact.specs.Piecewise.{BeginsStruct, BeginsList, last_of, last_id};
+ghost use Rattle.thrift_compact.specs.Piecewise.{BeginsStruct, BeginsList, AppendsRest, last_of, last_id};
 
 use crate::heads::{put_field_head, put_list_head};
 use crate::tree::{DEEPEST, ElementType, Field};
@@ -70,5 +70,22 @@ pub fn put_end(out: &mut Vec<u8>) -> R<()>
     ensures stands { OnOk result ((fs : List (ℤ × Node)) (old : List ℕ) → BeginsStruct fs old out.old.items → AppendsStruct (fields_of fs) old out.new.items) }
     ensures which { RefusedMemoryOnly result }
 {
+    Ok(out.push(0)?)
+}
+
+/// Writes the rest of a struct at the end of `out`: these fields, as those after a field of the id `previous`, and
+/// the byte that ends it. Values nest at most 32 levels. So a struct can be kept without its first field, and be
+/// written again behind another one ([`structs_are_written_in_pieces`](crate::structs_are_written_in_pieces)).
+///
+/// Refused as [`write_struct`](crate::write_struct) is. After a refusal `out` may have more bytes.
+pub fn put_rest(previous: i16, fields: &[Field], out: &mut Vec<u8>) -> R<()>
+    ensures stands { OnOk result (AppendsRest (field_views fields.now) previous out.old.items out.new.items) }
+    ensures which { RefusedOnly (IsShapeless (fields_have_shape 32 (field_views fields.now))) result }
+{
+    let mut last = previous;
+    for field in fields {
+        put_field(last, field, DEEPEST, out)?;
+        last = field.id;
+    }
     Ok(out.push(0)?)
 }

@@ -103,7 +103,7 @@ pub put_fields-loop-field-preserved : goal.put_fields-loop-field-preserved
 put_fields-loop-field-preserved t c =
     let last = to_z w16 c.loop-field.previous-bits in
     let one = subst (λ y. Appends (SpellsField last c.args.left (field_view y).0 (field_view y).1) (size_field_head last (field_view y).0 + size_value (field_view y).1) c.loop-field.out.items c.put_field.new.out.items) c.field-item.is c.in_ok-put_field.ensures.stands in
-    let m = writes.fields_more c.args.fields.now c.loop-field.field-index c.field-item.result c.args.left last c.args.out.now.items c.loop-field.out.items c.put_field.new.out.items c.loop-field-test.true c.loop-field.invariant one in
+    let m = writes.fields_more c.args.fields.now c.loop-field.field-index c.field-item.result c.args.left (pos 0) last c.args.out.now.items c.loop-field.out.items c.put_field.new.out.items c.loop-field-test.true c.loop-field.invariant one in
     let f = c.field-item.result in
     let e : field_view f ≡ (f.id, view f.value) = search (rules, the_lemmas) in
     let fits : FitsSigned w16 f.id = search rules in
@@ -113,7 +113,7 @@ put_fields-loop-field-preserved t c =
 
 pub put_fields-returns-clause-stands : goal.put_fields-returns-clause-stands
 put_fields-returns-clause-stands t c =
-    writes.fields_all c.args.fields.now c.loop-field.field-index c.args.left (to_z w16 c.loop-field.previous-bits) c.args.out.now.items c.loop-field.out.items c.push.new.self.items c.loop-field-test.false c.loop-field.invariant (pushed c.loop-field.out.items c.push.new.self.items 0 c.in_ok-push.ensures.items)
+    writes.fields_all c.args.fields.now c.loop-field.field-index c.args.left (pos 0) (to_z w16 c.loop-field.previous-bits) c.args.out.now.items c.loop-field.out.items c.push.new.self.items c.loop-field-test.false c.loop-field.invariant (pushed c.loop-field.out.items c.push.new.self.items 0 c.in_ok-push.ensures.items)
 
 pub put_struct-returns-clause-stands : goal.put_struct-returns-clause-stands
 put_struct-returns-clause-stands t c =
