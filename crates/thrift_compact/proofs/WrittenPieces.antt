@@ -4,8 +4,8 @@ use Rattle.std.specs.Prelude.{ℤ, pos}
 use Rattle.std.proofs.lemmas.List.{append-nil, take_more, take_all}
 use Rattle.bits.specs.Codec.{Appends}
 use Rattle.thrift_compact.specs.declared.tree.Field.{Field}
-use Rattle.thrift_compact.specs.Tree.{Node, list, struct, Nodes, no_nodes, node, Fields, no_fields, field, nodes_nest, fields_nest, count}
-use Rattle.thrift_compact.specs.Compact.{IsByte, IsFieldHead, IsListHead, AreElements, AreFields, IsThrift}
+use Rattle.thrift_compact.specs.Tree.{Node, list, struct, Nodes, no_nodes, node, Fields, no_fields, field, fields_nest, count}
+use Rattle.thrift_compact.specs.Compact.{IsByte, IsFieldHead, IsListHead, AreFields, IsThrift}
 use Rattle.thrift_compact.specs.View.{field_view, field_views, nodes_of, fields_of}
 use Rattle.thrift_compact.specs.Length.{size_field_head, size_list_head, size_value, size_elements, size_struct, size_fields, AppendsStruct}
 use Rattle.thrift_compact.specs.Piecewise.{AreBegun, size_begun, last_id, last_of, BeginsStruct, BeginsList, StructsBeginEmpty, ListsEnd, ListsGrow, RestsFollow}

@@ -24,7 +24,7 @@ pub use laws::{
     structs_of_the_shape_nest, structs_with_bytes_have_the_shape, what_follows_changes_nothing,
     what_is_written_is_read_again,
 };
-pub use piecewise::{put_end, put_list_start, put_next_fields, put_next_struct, put_rest};
+pub use piecewise::{put_end, put_list_start, put_next_fields, put_rest};
 pub use reading::read_struct;
 pub use taking::{TakesElements, TakesFields};
 pub use tree::{ElementType, Field, Node, Tree};

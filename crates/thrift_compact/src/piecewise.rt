@@ -1,8 +1,8 @@
 //! Structs that are written piece by piece, without a tree of the whole.
 
-ghost use Rattle.std.specs.Prelude.{◌≡◌, ℕ, ◌<◌, ℤ, List, [], ◌∷◌, ◌++◌, map, IfOk, OnOk};
+ghost use Rattle.std.specs.Prelude.{◌≡◌, ℕ, ◌<◌, ℤ, List, [], ◌++◌, map, IfOk, OnOk};
 ghost use Rattle.bits.specs.Refusals.{RefusedOnly, RefusedMemoryOnly};
-ghost use Rattle.thrift_compact.specs.Tree.{Node, struct};
+ghost use Rattle.thrift_compact.specs.Tree.{Node};
 ghost use Rattle.thrift_compact.specs.View.{code_of, field_view, field_views, fields_of};
 ghost use Rattle.thrift_compact.specs.Length.{AppendsStruct};
 ghost use Rattle.thrift_compact.specs.Shapes.{fields_have_shape, IsShapeless};
@@ -10,7 +10,7 @@ ghost use Rattle.thrift_compact.specs.Piecewise.{BeginsStruct, BeginsList, Appen
 
 use crate::heads::{put_field_head, put_list_head};
 use crate::tree::{DEEPEST, ElementType, Field};
-use crate::writing::{put_field, put_fields};
+use crate::writing::put_field;
 use bits::R;
 
 /// The code of a field that is a list.
@@ -51,18 +51,6 @@ pub fn put_list_start(
 {
     put_field_head(previous, id, LIST, out)?;
     put_list_head(kind.code(), size, out)
-}
-
-/// Writes the next element of a list of structs at the end of `out`: the struct of these fields, with
-/// values nested at most 30 levels.
-///
-/// Refused as [`write_struct`](crate::write_struct) is. After a refusal `out` may have more bytes.
-pub fn put_next_struct(fields: &[Field], out: &mut Vec<u8>) -> R<()>
-    ensures stands { OnOk result ((fs : List (ℤ × Node)) (id : ℤ) (n : ℕ) (xs : List Node) (old : List ℕ) → BeginsList fs id 12 n xs old out.old.items
-        → BeginsList fs id 12 n (xs ++ struct (field_views fields.now) ∷ []) old out.new.items) }
-    ensures which { RefusedOnly (IsShapeless (fields_have_shape 30 (field_views fields.now))) result }
-{
-    put_fields(fields, DEEPEST - 2, out)
 }
 
 /// Ends a struct that is begun at the end of `out`.

@@ -50,7 +50,7 @@ pub fn write_struct(tree: &Tree, out: &mut Vec<u8>) -> R<()>
 
 /// Fields and the byte that ends them.
 #[cycle(write)]
-pub(crate) fn put_fields(fields: &[Field], left: u32, out: &mut Vec<u8>) -> R<()>
+fn put_fields(fields: &[Field], left: u32, out: &mut Vec<u8>) -> R<()>
     ensures stands { OnOk result (Appends (SpellsFields left (field_views fields.now)) (size_struct (field_views fields.now)) out.old.items out.new.items) }
     ensures which { RefusedOnly (IsWithoutBytes (SpellsFields left (field_views fields.now))) result }
     ensures kept { Keeps out.old.items out.new.items }

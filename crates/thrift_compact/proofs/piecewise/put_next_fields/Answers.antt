@@ -1,14 +1,12 @@
-use Rattle.std.proofs.Common.{rules, ◌≡◌, length, sym, ap, subst, ◌∙◌, arith, to_z, of_z}
+use Rattle.std.proofs.Common.{rules, ◌≡◌, sym, ap, subst, ◌∙◌, to_z, of_z}
 use Rattle.std.specs.Prelude.{ℤ, FitsSigned, ◌&&◌, false}
 use Rattle.std.specs.Int.{w16}
 use Rattle.std.proofs.lemmas.Int.{to_z-of_z}
-use Rattle.std.proofs.lemmas.List.{append-nil, take_all}
 use Rattle.thrift_compact.specs.declared.tree.Field.{Field}
 use Rattle.thrift_compact.specs.declared.tree.Node.TheFolds.{the_lemmas}
 use Rattle.thrift_compact.specs.Tree.{Node}
 use Rattle.thrift_compact.specs.View.{view, field_view, field_views}
 use Rattle.thrift_compact.specs.Shapes.{is_member, has_shape, fields_have_shape}
-use Rattle.thrift_compact.specs.Piecewise.{BeginsStruct, last_id}
 use Rattle.thrift_compact.proofs.Shapes as shapes
 use Rattle.thrift_compact.proofs.WrittenPieces.{written_next, last_next, written_all}
 use Rattle.thrift_compact.proofs.piecewise.put_next_fields.Goals as goal
