@@ -107,7 +107,7 @@ impl FromNode for GroupMeta {
 }
 
 /// The fields of the record.
-pub(crate) fn fields_of_group_meta(alloc: Global, group_meta: &GroupMeta) -> R<Vec<Field>>
+fn fields_of_group_meta(alloc: Global, group_meta: &GroupMeta) -> R<Vec<Field>>
     ensures stands { IfOk result (λ fields. field_views fields.items ≡ group_meta_fields (group_meta_view group_meta.now)) }
     ensures which { RefusedMemoryOnly result }
 {

@@ -7,8 +7,9 @@ ghost use Rattle.metadata.specs.Records.{KeyValue, Statistics, ColumnMeta, Chunk
 ghost use Rattle.metadata.specs.FromTree.{key_value, statistics, column_meta, chunk_meta, group_meta, column_order, element, data_page_header, dictionary_page_header, data_page_header_v2, file_meta, page_header, has_own_header};
 ghost use Rattle.metadata.specs.ToTree.{key_value_fields, statistics_fields, column_meta_fields, chunk_meta_fields, group_meta_fields, column_order_fields, element_fields, data_page_header_fields, dictionary_page_header_fields, data_page_header_v2_fields, file_meta_fields, page_header_fields};
 ghost use Rattle.metadata.specs.Answers.{StandsFor};
+ghost use Rattle.metadata.specs.Begun.{FootersGrow, GroupsGrow, ChunksFollow};
 
-use thrift_compact::one_struct;
+use thrift_compact::{one_struct, structs_are_written_in_pieces, structs_of_the_shape_nest};
 
 /// The struct that is written for a footer is that footer.
 pub fn footer_again()
@@ -54,4 +55,15 @@ pub fn one_page_header()
     ensures { IsFunctional (StandsFor page_header) }
 {
     one_struct();
+}
+
+/// A footer goes on by the record of a group that is written behind it, a group's record by the record of a chunk, and
+/// the start of a chunk's record by the rest of one.
+pub fn footers_are_written_in_pieces()
+    ensures footers { FootersGrow }
+    ensures groups { GroupsGrow }
+    ensures chunks { ChunksFollow }
+{
+    structs_are_written_in_pieces();
+    structs_of_the_shape_nest();
 }

@@ -43,10 +43,12 @@ pub use data_page_header_v2::DataPageHeaderV2;
 pub use dictionary_page_header::DictionaryPageHeader;
 pub use element::{element_from_tree, element_to_tree};
 pub use file_meta::FileMeta;
+pub use footer_pieces::{begin_chunk, begin_group, end_group};
 pub use group_meta::GroupMeta;
 pub use key_value::KeyValue;
 pub use laws::{
-    footer_again, one_chunk, one_footer, one_page_header, page_header_again, records_again,
+    footer_again, footers_are_written_in_pieces, one_chunk, one_footer, one_page_header,
+    page_header_again, records_again,
 };
 pub use page_header::{DATA_PAGE, DATA_PAGE_V2, DICTIONARY_PAGE, PageHeader};
 pub use statistics::Statistics;
