@@ -33,7 +33,7 @@ next_added S T old shown new takes ends = λ left stood.
 pub none_added : (S : List ValueTrees → Type 0) (buffer : RowBuffer) (held rows : List ValueTrees) → S rows → holds buffer held → AreAdded S buffer held rows
 none_added S buffer held rows stood holds_held = record { taken = []; left = rows; split = refl; stands = stood; holds_now = subst (holds buffer) (sym (append-nil held)) holds_held }
 
-first_fits : (fs : Fields) (taken rest : List ValueTrees) (first : ValueTrees) → RowsFit fs (taken ++ first ∷ rest) → IsTrue (fits_each fs first)
+pub first_fits : (fs : Fields) (taken rest : List ValueTrees) (first : ValueTrees) → RowsFit fs (taken ++ first ∷ rest) → IsTrue (fits_each fs first)
 first_fits fs [] rest first fit = fit.0
 first_fits fs (row ∷ taken) rest first fit = first_fits fs taken rest first fit.1
 

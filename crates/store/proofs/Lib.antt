@@ -7,7 +7,6 @@ pub mod LeftJobs
 pub mod Sound
 pub mod Carried
 pub mod Written
-pub mod Unfit
 pub mod Narrowed
 pub mod Numbered
 pub mod Wrote
@@ -103,6 +102,8 @@ pub mod Judged
 pub mod Removals
 pub mod RunParts
 pub mod RunReads
+pub mod UnderWay
+pub mod SourceRows
 pub mod RunShown
 pub mod RunsBrought
 pub mod RewriteHeld

@@ -1,18 +1,16 @@
 -- Rows of one key that a job writes, group by group.
-use Rattle.std.proofs.Common.{◌≡◌, ◌≤◌, ◌+◌, ◌*◌, ◌⊎◌, ℕ, zero, suc, Bool, true, false, nat_lt, nat_le, List, [], ◌∷◌, ◌++◌, map, length, take, drop, Some, refl, sym, ◌∙◌, ap, subst, arith, ⊎_elim, append_assoc}
-use Rattle.std.specs.Prelude.{if◌then◌else◌, ◌==◌, min}
+use Rattle.std.proofs.Common.{◌≡◌, ◌≤◌, ◌+◌, ◌*◌, ◌⊎◌, ℕ, zero, suc, Bool, true, false, nat_lt, nat_le, List, [], ◌∷◌, ◌++◌, map, length, take, drop, Some, Result, Ok, Err, refl, sym, ◌∙◌, ap, subst, arith, ⊎_elim, append_assoc}
+use Rattle.std.specs.Prelude.{if◌then◌else◌, ◌==◌, OnOk}
 use Rattle.std.specs.List.{AllByRecursion}
 use Rattle.std.proofs.Common.{eq-eqb}
 use Rattle.std.proofs.lemmas.Bool.{and_from, lt-ltb, le-leb}
-use Rattle.std.proofs.lemmas.Nat.{mul-le}
-use Rattle.std.proofs.lemmas.List.{append-nil, take-append-drop, take-map, drop-map, take_min, drop_min, drop-drop, drop_all}
-use Rattle.lists.proofs.Lists.{all_append}
+use Rattle.std.proofs.lemmas.List.{append-nil, take-append-drop, drop-drop}
 use Rattle.bits.specs.declared.refusal.Refusal.{Refusal}
 use Rattle.bits.specs.declared.refusal.Refusal.TheVariants.{Limit, Device, Memory, NoJob, RowShape, Key as BadKey}
-use Rattle.bits.specs.Refusals.{HasCause}
+use Rattle.bits.specs.Refusals.{HasCause, RefusedOnly}
 use Rattle.schema.specs.Shape.{Fields}
 use Rattle.schema.specs.Fits.{RowsFit}
-use Rattle.schema.specs.Keys.{KeyColumn, AreKeys, IsRowOf, AreRowsOf, key_of_row, row_without_keys, without_keys}
+use Rattle.schema.specs.Keys.{KeyColumn, AreKeys, IsRowOf, AreRowsOf, row_without_keys, without_keys}
 use Rattle.disk.specs.State.{State as DiskState}
 use Rattle.vault.specs.Calls.{HasFailed}
 use Rattle.footer.specs.Writing.{IsOutOfRange, IsTooMuch}
@@ -28,8 +26,9 @@ use Rattle.table.specs.Limits.{IsFileTooMuch, IsPart}
 use Rattle.store.specs.declared.store.Store.{Store}
 use Rattle.store.specs.Writing.{IsPartRefusal}
 use Rattle.store.specs.Acting.{WroteTo}
-use Rattle.store.specs.Filling.{HasWritten, HasSize, written_group, Goes}
-use Rattle.store.specs.Rewritten.{WhyHalted, IsHalted, HasAdded, HasAddedOne}
+use Rattle.store.specs.Filling.{HasWritten, HasSize, Adds, written_group, Goes}
+use Rattle.store.specs.Rewritten.{WhyHalted, IsHalted, AddsOne, HasAdded, HasAddedOne, Parts}
+use Rattle.lists.proofs.Lists.{all_append}
 use Rattle.store.proofs.Filled.{size_some, keys_are}
 use Rattle.store.proofs.Waits.{rows_append}
 use Rattle.store.proofs.Widths.{is_row_of, stored_fit}
@@ -40,12 +39,12 @@ pub rows_of : (keys : List KeyColumn) (fs : Fields) (key : Key) → AreKeys keys
 rows_of keys fs key k [] h = tt
 rows_of keys fs key k (r ∷ rs) h = (subst (λ (x : Key). IsRowOf keys x (row_without_keys keys r) r) h.0.keyed (is_row_of keys fs r k h.0.fits), rows_of keys fs key k rs h.1)
 
-pub all_keyed : (keys : List KeyColumn) (fs : Fields) (key : Key) (given : List Row) → AllByRecursion (IsRowIn fs keys key) given → AllByRecursion (λ (row : Row). key_of_row keys row ≡ key) given
-all_keyed keys fs key [] h = tt
-all_keyed keys fs key (r ∷ rs) h = (h.0.keyed, all_keyed keys fs key rs h.1)
-
 pub goes_on : (a b c : List FileGroup) → Goes a b → Goes b c → Goes a c
 goes_on a b c one two = (one.0 ++ two.0, two.1 ∙ ap (λ (gs : List FileGroup). gs ++ two.0) one.1 ∙ append_assoc a one.0 two.0)
+
+pub goes_then : (result : Result (Unit {0}) Refusal) (a b c : List FileGroup) → Goes a b → OnOk result (Goes b c) → OnOk result (Goes a c)
+goes_then (Ok x) a b c one two = goes_on a b c one two
+goes_then (Err e) a b c one two = tt
 
 pub goes_nowhere : (a : List FileGroup) → Goes a a
 goes_nowhere a = ([], sym (append-nil a))
@@ -57,6 +56,10 @@ module _ {D : Type 0} (state : D → DiskState) (start mid : Store D) (s : State
   pub poor_here : (Part : List Row → Type 0) (most : ℕ) → mid.next_group ≤ most → IsHalted state start mid s Part most Memory
   poor_here Part most low = record { wrote = has.wrote; no_more = low; why = tt }
 
+  -- the table's files have these columns
+  pub same_fields : stored_of (root_of mid.manifest) ≡ without_keys s.table.keys s.table.schema
+  same_fields = ap (λ (ks : List KeyColumn). without_keys ks (root_of mid.manifest).schema) has.wrote.shows.keys ∙ ap (λ (fs : Fields). without_keys s.table.keys fs) has.wrote.shows.schema
+
   module _ (key : Key) (given : List Row) (can : CanPartition s.table.keys key) (are_in : AllByRecursion (IsRowIn s.table.schema s.table.keys key) given) where
     pub are_rows : (k : Key) (stored : List Row) → k ≡ key → stored ≡ map (row_without_keys s.table.keys) given → AreRowsOf s.table.keys k stored given
     are_rows k stored ek es = subst (λ (x : Key). AreRowsOf s.table.keys x stored given) (sym ek)
@@ -67,9 +70,6 @@ module _ {D : Type 0} (state : D → DiskState) (start mid : Store D) (s : State
         → WroteTo state start new s new.next_group → new.next_group ≤ mid.next_group + 1 → (e ≡ Device → HasFailed (state start.vault.disk) (state new.vault.disk)) → IsHalted state start new s (λ part. part ≡ given) (mid.next_group + 1) e
     not_written new k stored e ek es cause wrote rises failed = record { wrote = wrote; no_more = rises; why = why e cause failed }
       where
-        same_fields : stored_of (root_of mid.manifest) ≡ without_keys s.table.keys s.table.schema
-        same_fields = ap (λ (ks : List KeyColumn). without_keys ks (root_of mid.manifest).schema) has.wrote.shows.keys ∙ ap (λ (fs : Fields). without_keys s.table.keys fs) has.wrote.shows.schema
-
         too_much : IsOutOfRange mid.options ⊎ IsTooMuch (stored_of (root_of mid.manifest)) mid.options stored → IsFileTooMuch s given
         too_much h = ⊎_elim (λ out. absurd (has.wrote.shows.in_range out))
             (λ much. subst (λ (o : WriteOptions). IsTooMuch (without_keys s.table.keys s.table.schema) o (map (row_without_keys s.table.keys) given)) has.wrote.shows.options
@@ -90,6 +90,15 @@ module _ {D : Type 0} (state : D → DiskState) (start mid : Store D) (s : State
         why RowShape c d = absurd (c fit)
         why BadKey c d = absurd (c can_so)
         why f c d = absurd c
+
+    pub added_so : (new : Store D) (more : List FileGroup) (k : Key) (stored : List Row) → k ≡ key → stored ≡ map (row_without_keys s.table.keys) given → (result : Result (Unit {0}) Refusal) → Adds state start mid new s (Some n) more groups (written_group mid.next_group k given) result
+        → RefusedOnly (IsPartRefusal mid (Some n) k stored) result → OnOk result (Goes files more) → AddsOne state start new s (Some n) files more groups mid.next_group key given result
+    added_so new more k stored ek es (Ok x) adds which goes = record {
+      written = subst (λ (y : Key). HasWritten state start new s (Some n) more (groups ++ written_group mid.next_group y given ∷ [])) ek adds.0;
+      goes = goes;
+      no_more = adds.1;
+    }
+    added_so new more k stored ek es (Err e) adds which goes = not_written new k stored e ek es which adds.0 adds.1 adds.2
 
 -- ---- so many of some rows
 
@@ -131,19 +140,6 @@ full_end size some gs g full least most = by gs full
     by (x ∷ []) h = and_from _ (has_at_most size g) (either (is_same_key x.key g.key) x h.0) (at_most g least most)
     by (x ∷ y ∷ ys) h = and_from _ (are_full size ((y ∷ ys) ++ g ∷ [])) (either (is_same_key x.key y.key) x h.0) (by (y ∷ ys) h.1)
 
--- So far i parts are written, and the rows behind them are left.
-pub record Parts {D : Type 0} (state : D → DiskState) (start mid : Store D) (s : State) (n : ℕ) (was files : List FileGroup) (groups : List Group) (key : Key) (given : List Row) (most i : ℕ) (left : List Row) : Type 0 where
-  pub added : List Group
-  pub written : HasWritten state start mid s (Some n) files (groups ++ added)
-  pub goes : Goes was files
-  pub left_is : left ≡ drop (i * s.options.group_rows) given
-  pub hold : rows added ++ left ≡ given
-  pub keyed : AllByRecursion (λ (g : Group). g.key ≡ key) added
-  pub each : AllByRecursion (IsGroupIn s.table.schema s.table.keys) added
-  pub full : are_full s.options.group_rows added ≡ true
-  pub sized : 1 ≤ length left → AllByRecursion (HasSize s.options.group_rows) added
-  pub no_more : mid.next_group + length left ≤ most
-
 module _ {D : Type 0} (state : D → DiskState) (start : Store D) (s : State) (n : ℕ) (was : List FileGroup) (groups : List Group) (key : Key) (given : List Row) (most : ℕ) where
   pub no_parts : (mid : Store D) → HasWritten state start mid s (Some n) was groups → mid.next_group + length given ≤ most → Parts state start mid s n was was groups key given most 0 given
   no_parts mid has low = record {
@@ -168,13 +164,6 @@ module _ {D : Type 0} (state : D → DiskState) (start : Store D) (s : State) (n
     goes = p.goes;
     no_more = let l = p.no_more in omega (arith, l);
   }
-
-  -- there are no more parts than rows
-  pub none_left : (mid : Store D) (files : List FileGroup) (i : ℕ) (left : List Row) → Parts state start mid s n was files groups key given most i left → length given ≤ i → left ≡ []
-  none_left mid files i left p far = p.left_is ∙ drop_all (i * s.options.group_rows) given (times i s.options.group_rows (length given) (size_some state start mid s (Some n) files (groups ++ p.added) p.written) far)
-    where
-      times : (a b c : ℕ) → 1 ≤ b → c ≤ a → c ≤ a * b
-      times a b c some l = let m = mul-le c 1 a b l some in let e : c * 1 ≡ c = grind arith in omega (arith, m, e)
 
   module _ (mid : Store D) (files : List FileGroup) (i : ℕ) (left : List Row) (p : Parts state start mid s n was files groups key given most i left) (some : 1 ≤ length left) where
     abbrev size : ℕ
@@ -226,19 +215,3 @@ module _ {D : Type 0} (state : D → DiskState) (start : Store D) (s : State) (n
             sized = λ again. all_append (HasSize size) p.added (g ∷ []) (p.sized some) (take_whole_so size left again, tt);
             no_more = let a = p.no_more in let b = one.no_more in let c = part_some in omega (arith, sum, a, b, c);
           }
-
--- the next part as it is taken, and what is behind it
-pub part_seen : {A B : Type 0} (f : A → B) (size count : ℕ) (left part : List A) → part ≡ take count left → count ≡ min size (length left) → map f part ≡ take size (map f left)
-part_seen f size count left part is e = ap (map f) (is ∙ ap (λ (k : ℕ). take k left) e ∙ take_min size left) ∙ sym (take-map f size left)
-
-pub behind_seen : {A B : Type 0} (f : A → B) (size count : ℕ) (left behind : List A) → behind ≡ drop count left → count ≡ min size (length left) → map f behind ≡ drop size (map f left)
-behind_seen f size count left behind is e = ap (map f) (is ∙ ap (λ (k : ℕ). drop k left) e ∙ drop_min size left) ∙ sym (drop-map f size left)
-
-pub all_dropped : {A : Type 0} (P : A → Type 0) (n : ℕ) (xs : List A) → AllByRecursion P xs → AllByRecursion P (drop n xs)
-all_dropped P zero xs h = h
-all_dropped P (suc n) [] h = tt
-all_dropped P (suc n) (x ∷ xs) h = all_dropped P n xs h.1
-
-pub not_empty : (n : ℕ) → (n == 0) ≡ false → 1 ≤ n
-not_empty zero e = absurd (cc)
-not_empty (suc n) e = omega arith

@@ -1,12 +1,12 @@
 -- The sources of a rewrite that are read between writes.
-use Rattle.std.proofs.Common.{◌≡◌, ◌≤◌, ◌+◌, ℕ, suc, false, List, [], ◌∷◌, ◌++◌, Option, Some, None, Result, Ok, Err, refl, sym, ◌∙◌, ap, subst, arith, inl, inr, append_assoc}
-use Rattle.std.specs.Prelude.{option_map, IfOk}
+use Rattle.std.proofs.Common.{◌≡◌, ◌≤◌, ℕ, suc, false, List, [], ◌∷◌, Option, Some, None, Err, refl, sym, ◌∙◌, ap, subst, arith, inl, inr}
+use Rattle.std.specs.Prelude.{option_map}
 use Rattle.std.specs.List.{AllByRecursion}
 use Rattle.std.specs.declared.vec.Vec.{Vec}
 use Rattle.std.specs.declared.alloc.Global.{Global}
 use Rattle.bits.specs.declared.refusal.Refusal.{Refusal}
 use Rattle.bits.specs.declared.refusal.Refusal.TheVariants.{Memory, Device}
-use Rattle.bits.specs.Refusals.{HasCause, RefusedOnly}
+use Rattle.bits.specs.Refusals.{HasCause}
 use Rattle.schema.specs.declared.row.Row.{Row as CodeRow}
 use Rattle.schema.specs.Shape.{Fields}
 use Rattle.schema.specs.Views.{rows_view}
@@ -25,7 +25,6 @@ use Rattle.store.specs.declared.store.Store.{Store}
 use Rattle.store.specs.declared.jobs.OpenJob.{OpenJob}
 use Rattle.store.specs.Completing.{completed_rows}
 use Rattle.store.specs.Counting.{IsHeld}
-use Rattle.store.specs.Lookups.{job_at}
 use Rattle.store.specs.Paths.{IsBelow}
 use Rattle.store.specs.Spares.{Spares}
 use Rattle.store.specs.Stands.{IsStored, AreStored}
@@ -33,7 +32,7 @@ use Rattle.store.specs.Writing.{counted}
 use Rattle.store.specs.Acting.{WroteTo}
 use Rattle.store.specs.Filling.{HasWritten}
 use Rattle.store.specs.Reading.{OnlyReads}
-use Rattle.store.specs.Rewritten.{IsSource, AreSources, kept_at, IsHalted, NoPart, Reads}
+use Rattle.store.specs.Rewritten.{IsSource, AreSources, kept_at, IsHalted}
 use Rattle.store.proofs.Adding.{failed_since}
 use Rattle.store.proofs.Cleaned.{still}
 use Rattle.store.proofs.Spared.{spares_on, spares_less, read_spares}
@@ -105,24 +104,17 @@ module _ {D : Type 0} (state : D → DiskState) (start mid : Store D) (s : State
       distinct = has.distinct;
     }
 
-    pub read_so : (given : List Row) (r : Result (Vec CodeRow Global) Refusal) → IfOk r (λ v. rows_view v.items ≡ given) → RefusedOnly IsDevice r → OnlyReads (state mid.vault.disk) (state vault.disk) r → Reads state start read_store s (Some n) files groups given r
-    read_so given (Ok v) is only effect = (read_on, is)
-    read_so given (Err e) is only effect = by e only effect.which
+    -- it cannot be read
+    pub read_stops : (Part : List Row → Type 0) (most : ℕ) → mid.next_group ≤ most → (T : Type 0) (e : Refusal) → HasCause IsDevice e → OnlyReads {T = T} (state mid.vault.disk) (state vault.disk) (Err e) → IsHalted state start read_store s Part most e
+    read_stops Part most low T e only effect = by e only effect.which
       where
-        by : (f : Refusal) → HasCause IsDevice f → HasCause (IsPartRefusal (state mid.vault.disk) (state vault.disk)) f → IsHalted state start read_store s NoPart mid.next_group f
-        by Memory c d = record { wrote = wrote_so; no_more = omega arith; why = tt }
-        by Device c (inl d) = record { wrote = wrote_so; no_more = omega arith; why = failed_since (state start.vault.disk) (state mid.vault.disk) (state vault.disk) has.no_less later d.1 }
+        by : (f : Refusal) → HasCause IsDevice f → HasCause (IsPartRefusal (state mid.vault.disk) (state vault.disk)) f → IsHalted state start read_store s Part most f
+        by Memory c d = record { wrote = wrote_so; no_more = low; why = tt }
+        by Device c (inl d) = record { wrote = wrote_so; no_more = low; why = failed_since (state start.vault.disk) (state mid.vault.disk) (state vault.disk) has.no_less later d.1 }
         by Device c (inr d) = absurd d
         by f c d = absurd (cc)
 
 -- ---- one after another
-
--- So far these rows are read; these sources are left, from this place on.
-pub record IsRead {D : Type 0} (state : D → DiskState) (start mid : Store D) (s : State) (n : ℕ) (files : List FileGroup) (groups : List Group) (place : ℕ) (fs : List FileGroup) (given all : List Row) : Type 0 where
-  pub has : HasWritten state start mid s (Some n) files groups
-  pub left : List Group
-  pub are : AreSources (state start.vault.disk) s (job_at n start.jobs.items) place fs left
-  pub rows_are : given ++ rows left ≡ all
 
 -- the first of those that are left
 pub record NextSource (disk : DiskState) (s : State) (job : Option OpenJob) (place : ℕ) (f : FileGroup) (fs : List FileGroup) (left : List Group) : Type 0 where
@@ -135,32 +127,3 @@ pub record NextSource (disk : DiskState) (s : State) (job : Option OpenJob) (pla
 pub next_source : (disk : DiskState) (s : State) (job : Option OpenJob) (place : ℕ) (f : FileGroup) (fs : List FileGroup) (left : List Group) → AreSources disk s job place (f ∷ fs) left → NextSource disk s job place f fs left
 next_source disk s job place f fs [] z = absurd z
 next_source disk s job place f fs (g ∷ gs) z = record { g = g; gs = gs; is = refl; source = z.0; others = z.1 }
-
-module _ {D : Type 0} (state : D → DiskState) (start : Store D) (s : State) (n : ℕ) (files : List FileGroup) (groups : List Group) where
-  pub nothing_read : (mid : Store D) (place : ℕ) (fs : List FileGroup) (run : List Group) → HasWritten state start mid s (Some n) files groups → AreSources (state start.vault.disk) s (job_at n start.jobs.items) place fs run
-      → IsRead state start mid s n files groups place fs [] (rows run)
-  nothing_read mid place fs run has are = record { has = has; left = run; are = are; rows_are = refl }
-
-  pub read_more : (mid new : Store D) (place at : ℕ) → at ≡ place + 1 → (f : FileGroup) (fs : List FileGroup) (given more all : List Row) (r : IsRead state start mid s n files groups place (f ∷ fs) given all)
-      → (next : NextSource (state start.vault.disk) s (job_at n start.jobs.items) place f fs r.left) → HasWritten state start new s (Some n) files groups → more ≡ next.g.rows → IsRead state start new s n files groups at fs (given ++ more) all
-  read_more mid new place at step f fs given more all r next has is = record {
-    has = has;
-    left = next.gs;
-    are = subst (λ (k : ℕ). AreSources (state start.vault.disk) s (job_at n start.jobs.items) k fs next.gs) (omega (arith, step)) next.others;
-    rows_are = append_assoc given more (rows next.gs) ∙ ap (λ (rs : List Row). given ++ (rs ++ rows next.gs)) is ∙ ap (λ (hs : List Group). given ++ rows hs) (sym next.is) ∙ r.rows_are;
-  }
-
-  pub all_read : (mid : Store D) (place : ℕ) (given all : List Row) → (r : IsRead state start mid s n files groups place [] given all) → given ≡ all
-  all_read mid place given all r = by r.left r.are r.rows_are
-    where
-      by : (left : List Group) → AreSources (state start.vault.disk) s (job_at n start.jobs.items) place [] left → given ++ rows left ≡ all → given ≡ all
-      by [] z e = sym (plain given) ∙ e
-        where
-          plain : (rs : List Row) → rs ++ [] ≡ rs
-          plain [] = refl
-          plain (x ∷ xs) = ap (λ (ys : List Row). x ∷ ys) (plain xs)
-      by (g ∷ gs) z e = absurd z
-
-  -- it stops while sources are left
-  pub reading_stops : (new : Store D) (e : Refusal) (most : ℕ) → new.next_group ≤ most → IsHalted state start new s NoPart new.next_group e → IsHalted state start new s NoPart most e
-  reading_stops new e most low h = record { wrote = h.wrote; no_more = low; why = h.why }

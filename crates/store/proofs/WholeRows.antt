@@ -63,7 +63,7 @@ cut_all : (fs : Fields) (rows : List Row) → RowsFit fs rows → map (cut_to (w
 cut_all fs [] h = refl
 cut_all fs (r ∷ rs) h = ap (λ (x : Row). x ∷ map (cut_to (wanted_places None 0 fs)) rs) (cut_whole fs r h.0) ∙ ap (λ (xs : List Row). r ∷ xs) (cut_all fs rs h.1)
 
-all_satisfy : (rs : List Row) → filter (all_satisfied []) rs ≡ rs
+pub all_satisfy : (rs : List Row) → filter (all_satisfied []) rs ≡ rs
 all_satisfy [] = refl
 all_satisfy (r ∷ rs) = ap (λ (xs : List Row). r ∷ xs) (all_satisfy rs)
 

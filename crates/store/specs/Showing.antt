@@ -1,11 +1,13 @@
 -- Rows that are shown to a buffer, one after another, in the columns that the table's files have.
-use Rattle.std.specs.Prelude.{◌≡◌, ℕ, suc, Bool, true, false, List, [], ◌∷◌, ◌++◌, Result, Ok, Err, if◌then◌else◌}
+use Rattle.std.specs.Prelude.{◌≡◌, ℕ, suc, Bool, true, false, List, [], ◌∷◌, ◌++◌, Option, Some, None, Result, Ok, Err, if◌then◌else◌}
 use Rattle.bits.specs.declared.refusal.Refusal.{Refusal}
 use Rattle.bits.specs.declared.refusal.Refusal.TheVariants.{Memory}
 use Rattle.schema.specs.Cutting.{is_among}
 use Rattle.schema.specs.Fits.{fits_each}
 use Rattle.schema.specs.Shape.{Fields, no_fields, field}
 use Rattle.schema.specs.Values.{ValueTrees}
+use Rattle.scan.specs.declared.group_rows.GroupRows.{GroupRows}
+use Rattle.scan.specs.Left.{rows_held}
 use Rattle.shred.specs.declared.row_buffer.RowBuffer.{RowBuffer}
 use Rattle.shred.specs.Buffer.{schema_of, holds}
 
@@ -35,3 +37,8 @@ pub record AreAdded (S : List ValueTrees → Type 0) (buffer : RowBuffer) (held 
   pub split : rows ≡ taken ++ left
   pub stands : S left
   pub holds_now : holds buffer (held ++ taken)
+
+-- a group that was read has these rows, which can be shown; it has none where nothing is kept
+abbrev pub AreShown : List ValueTrees → Option GroupRows → Type 0
+AreShown rows None = rows ≡ []
+AreShown rows (Some g) = rows_held g rows

@@ -76,7 +76,7 @@ impl<D: Disk> Store<D> {
         manifest::rows_of_parts_fit();
         let waiting = waiting_rows(alloc, self.jobs.as_slice(), job, self.manifest.stored())?;
         let mut rests = Vec::new(alloc);
-        self.write_rest(alloc, Some(job), &mut rests, waiting.as_slice())?;
+        self.write_rest(alloc, Some(job), &mut rests, waiting)?;
         let come = written_with(alloc, self.jobs.as_slice(), job, rests.as_slice())?;
         let count = plus_rows(0, come.as_slice())?;
         let groups = self.with_new(alloc, come.as_slice())?;

@@ -15,7 +15,7 @@ use crate::run_sources::{made_run, numbers_of_runs, place_after, runs_at};
 use crate::store::Store;
 use bits::{R, Refusal};
 use disk::Disk;
-use manifest::{Group, Version};
+use manifest::{Group, Manifest, Version};
 use planning::{Run, Sources, next_after};
 use snapshots::Event;
 use std::alloc::Global;
@@ -106,10 +106,11 @@ impl<D: Disk> Store<D> {
         ensures counts { (D.state self.old.vault.disk).failures ≤ (D.state self.new.vault.disk).failures }
         ensures honest { (D.state self.old.vault.disk).honest ↔ (D.state self.new.vault.disk).honest }
     {
+        let table = self.description()?;
         let mut made = Vec::new(alloc);
         let mut place = 0;
         for run in runs {
-            let one = self.rewrite_one(alloc, job, written, place, run)?;
+            let one = self.rewrite_one(alloc, job, &table, written, place, run)?;
             made.push(one)?;
             let behind = place_after(place, run.groups.as_slice().len())?;
             place = behind;
@@ -117,16 +118,18 @@ impl<D: Disk> Store<D> {
         Ok(made)
     }
 
-    /// Reads the rows of a run whose first source has this place over all runs, and writes them.
+    /// Reads the rows of a run whose first source has this place over all runs, and writes them, in the table that is
+    /// described so.
     fn rewrite_one(
         &mut self,
         alloc: Global,
         job: JobId,
+        table: &Manifest,
         written: &mut Vec<Rc<Group>>,
         place: usize,
         run: &Sources,
     ) -> R<Run>
-        ensures rewrites { (D.state self.old.vault.disk).honest → (start : Store D) (s : State) (groups given : List TableGroup) → s.closed ≡ false → self.old.jobs ≡ start.jobs
+        ensures rewrites { (D.state self.old.vault.disk).honest → (start : Store D) (s : State) (groups given : List TableGroup) → s.closed ≡ false → self.old.jobs ≡ start.jobs → root_of table.now ≡ root_of self.old.manifest
             → HasWritten D.state start self.old s (Some job) (handles_view written.old.items) groups → AreSources (D.state start.vault.disk) s (job_at job start.jobs.items) place (handles_view run.now.groups.items) given → IsRunIn s given
             → RewritesOne D.state start self.new s (Some job) (handles_view written.old.items) (handles_view written.new.items) groups given self.old.next_group result }
         ensures come { IfOk result (λ r. handles_view written.new.items ≡ handles_view written.old.items ++ (run_view r).come) }
@@ -136,8 +139,7 @@ impl<D: Disk> Store<D> {
         ensures honest { (D.state self.old.vault.disk).honest ↔ (D.state self.new.vault.disk).honest }
     {
         let first = written.as_slice().len();
-        let rows = self.run_rows(alloc, job, place, run.groups.as_slice())?;
-        self.write_run(alloc, job, written, rows.as_slice())?;
+        self.write_sources(alloc, job, table, written, place, run.groups.as_slice())?;
         let (_, come) = written.as_slice().split_at(first);
         made_run(alloc, run.groups.as_slice(), come)
     }

@@ -51,7 +51,7 @@ pub(crate) fn show_rows(alloc: Global, group: &GroupRows, buffer: &mut RowBuffer
 
 /// Shows a buffer the next row of a group. False after the last one, and then the buffer is the same.
 #[inline]
-fn show_next(rows: &mut Rows<'_>, buffer: &mut RowBuffer<'_>) -> R<bool>
+pub(crate) fn show_next(rows: &mut Rows<'_>, buffer: &mut RowBuffer<'_>) -> R<bool>
     ensures adds { AddsNext (rows_stand rows.old) (rows_stand rows.new) buffer.old buffer.new result }
     ensures same { result ≡ Ok false → buffer.new ≡ buffer.old }
     ensures same_schema { schema_of buffer.new ≡ schema_of buffer.old }

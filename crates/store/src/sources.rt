@@ -1,25 +1,30 @@
 //! Reading the sources of a rewrite.
 
-ghost use Rattle.std.specs.Prelude.{◌≡◌, [], option_map, IfOk};
+ghost use Rattle.std.specs.Prelude.{◌≡◌, [], map, option_map, IfOk};
 ghost use Rattle.bits.specs.Refusals.{RefusedOnly};
+ghost use Rattle.schema.specs.Keys.{row_without_keys};
 ghost use Rattle.schema.specs.Views.{rows_view};
 ghost use Rattle.manifest.specs.Groups.{group_view, root_of};
 ghost use Rattle.scan.specs.Faults.{IsDevice};
+ghost use Rattle.scan.specs.Left.{AreAccepted};
 ghost use Rattle.table.specs.Table.{Group as TableGroup};
 ghost use Rattle.store.specs.Promises.{IsSure};
 ghost use Rattle.store.specs.Counting.{IsHeld};
 ghost use Rattle.store.specs.Reading.{OnlyReads};
+ghost use Rattle.store.specs.Showing.{AreShown};
 ghost use Rattle.store.specs.Stepping.{source_in, next_at, next_in};
 ghost use Rattle.store.specs.Lookups.{job_at};
 
 use crate::jobs::{OpenJob, Work};
 use crate::lookup::find_job;
+use crate::showing::stored_places;
 use crate::wanted::places_of;
 use bits::R;
 use disk::Disk;
 use filter::Filter;
 use manifest::{Group, Manifest};
 use planning::Sources;
+use scan::GroupRows;
 use schema::Row;
 use std::alloc::Global;
 use table::JobId;
@@ -48,6 +53,41 @@ pub(crate) fn whole_rows<D: Disk>(
     let filter = Filter::new(alloc, table.schema(), &[])?;
     let places = places_of(alloc, table.schema().fields(), None)?;
     let rows = scan::rows_of(
+        alloc,
+        vault,
+        table.schema(),
+        table.keys(),
+        group,
+        &filter,
+        places.as_slice(),
+    )?;
+    Ok(rows)
+}
+
+/// The rows of a group of a table in the columns that its files have, to be shown. None where it has no rows. Each chunk of
+/// its file is read once.
+///
+/// Refused Device where the disk failed, and Memory; where the group's file is not kept, or is not what the group says,
+/// also by the reader's numbers. Time and room are linear in the group's bytes and its rows.
+pub(crate) fn shown_rows<D: Disk>(
+    alloc: Global,
+    vault: &mut Vault<D>,
+    table: &Manifest,
+    group: &Group,
+) -> R<Option<GroupRows>>
+    ensures stands { (D.state vault.old.disk).honest → (held : TableGroup) → IsHeld (D.state vault.old.disk) [] (root_of table.now) (group_view group.now) held
+        → IfOk result (AreShown (map (row_without_keys (root_of table.now).keys) held.rows)) }
+    ensures accepted { IfOk result AreAccepted }
+    ensures only { (D.state vault.old.disk).honest → (held : TableGroup) → IsHeld (D.state vault.old.disk) [] (root_of table.now) (group_view group.now) held
+        → RefusedOnly IsDevice result }
+    ensures effect { OnlyReads (D.state vault.old.disk) (D.state vault.new.disk) result }
+    ensures sure { IsSure result }
+{
+    // For the proof: the rows of a part file fit the table.
+    manifest::rows_of_parts_fit();
+    let filter = Filter::new(alloc, table.schema(), &[])?;
+    let places = stored_places(alloc, table.schema().fields(), table.keys())?;
+    let rows = GroupRows::read(
         alloc,
         vault,
         table.schema(),

@@ -5,7 +5,6 @@ use Rattle.std.specs.declared.alloc.Global.{Global}
 use Rattle.bits.specs.declared.refusal.Refusal.{Refusal}
 use Rattle.vault.specs.Calls.{HasFailed}
 use Rattle.vault.proofs.Chained.{refused}
-use Rattle.partition.specs.declared.splitting.KeyRows.{KeyRows as CodeKeyRows}
 use Rattle.partition.specs.Splitting.{key_rows_view}
 use Rattle.manifest.specs.declared.group.Group.{Group as CodeGroup}
 use Rattle.manifest.specs.Groups.{Group as FileGroup, root_of, groups_in, handles_view}
@@ -52,8 +51,8 @@ returns-in_err-write_rest-clause-acts g c honest s stands is_open fine is_append
     let n = c.args.job in
     let t = found_there g.D.Disk.state s n old is_append in
     let waits = wait g.D.Disk.state old s stands is_open n t.x t.a t.there t.is in
-    let told = ap (λ (xs : List CodeKeyRows). map key_rows_view xs) c.as_slice-2.ensures.value ∙ (c.in_ok-waiting.ensures.told ∙ ap (λ js. completed_buffers c.stored.result.now (waiting_at (job_at n js))) c.as_slice.ensures.value) in
-    let begun = filled_at g.D.Disk.state old s stands is_open n t c.stored.result.now (handles_view c.new-rests.result.items) (map key_rows_view c.as_slice-2.result.now) (ap handles_view c.new-rests.ensures.items) c.stored.ensures told in
+    let told = c.in_ok-waiting.ensures.told ∙ ap (λ js. completed_buffers c.stored.result.now (waiting_at (job_at n js))) c.as_slice.ensures.value in
+    let begun = filled_at g.D.Disk.state old s stands is_open n t c.stored.result.now (handles_view c.new-rests.result.items) (map key_rows_view c.in_ok-waiting.waiting.items) (ap handles_view c.new-rests.ensures.items) c.stored.ensures told in
     let mid = c.write_rest.new.self in
     let stop = c.in_err-write_rest.ensures.ends honest old s waits is_open begun in
     refused (λ r. ActsFrom g.D.Disk.state old mid (commit n) (answered {T = ℕ} (λ x. done x) r) s) c.from_residual-in_err-write_rest.result _ c.from_residual-in_err-write_rest.ensures.1
@@ -65,8 +64,8 @@ returns-in_err-write_rest-clause-cause g c honest s stands is_open fine is_appen
     let n = c.args.job in
     let t = found_there g.D.Disk.state s n old is_append in
     let waits = wait g.D.Disk.state old s stands is_open n t.x t.a t.there t.is in
-    let told = ap (λ (xs : List CodeKeyRows). map key_rows_view xs) c.as_slice-2.ensures.value ∙ (c.in_ok-waiting.ensures.told ∙ ap (λ js. completed_buffers c.stored.result.now (waiting_at (job_at n js))) c.as_slice.ensures.value) in
-    let begun = filled_at g.D.Disk.state old s stands is_open n t c.stored.result.now (handles_view c.new-rests.result.items) (map key_rows_view c.as_slice-2.result.now) (ap handles_view c.new-rests.ensures.items) c.stored.ensures told in
+    let told = c.in_ok-waiting.ensures.told ∙ ap (λ js. completed_buffers c.stored.result.now (waiting_at (job_at n js))) c.as_slice.ensures.value in
+    let begun = filled_at g.D.Disk.state old s stands is_open n t c.stored.result.now (handles_view c.new-rests.result.items) (map key_rows_view c.in_ok-waiting.waiting.items) (ap handles_view c.new-rests.ensures.items) c.stored.ensures told in
     let mid = c.write_rest.new.self in
     let stop = c.in_err-write_rest.ensures.ends honest old s waits is_open begun in
     refused (λ r. is_failure (answered {T = ℕ} (λ x. done x) r) ≡ true → HasFailed (g.D.Disk.state old.vault.disk) (g.D.Disk.state mid.vault.disk)) c.from_residual-in_err-write_rest.result _ c.from_residual-in_err-write_rest.ensures.1
@@ -78,8 +77,8 @@ returns-in_err-come-clause-acts g c honest s stands is_open fine is_append somet
     let n = c.args.job in
     let t = found_there g.D.Disk.state s n old is_append in
     let waits = wait g.D.Disk.state old s stands is_open n t.x t.a t.there t.is in
-    let told = ap (λ (xs : List CodeKeyRows). map key_rows_view xs) c.as_slice-2.ensures.value ∙ (c.in_ok-waiting.ensures.told ∙ ap (λ js. completed_buffers c.stored.result.now (waiting_at (job_at n js))) c.as_slice.ensures.value) in
-    let begun = filled_at g.D.Disk.state old s stands is_open n t c.stored.result.now (handles_view c.new-rests.result.items) (map key_rows_view c.as_slice-2.result.now) (ap handles_view c.new-rests.ensures.items) c.stored.ensures told in
+    let told = c.in_ok-waiting.ensures.told ∙ ap (λ js. completed_buffers c.stored.result.now (waiting_at (job_at n js))) c.as_slice.ensures.value in
+    let begun = filled_at g.D.Disk.state old s stands is_open n t c.stored.result.now (handles_view c.new-rests.result.items) (map key_rows_view c.in_ok-waiting.waiting.items) (ap handles_view c.new-rests.ensures.items) c.stored.ensures told in
     let mid = c.write_rest.new.self in
     let filled = c.in_ok-write_rest.ensures.ends honest old s waits is_open begun in
     let fit = c.rows_of_parts_fit.ensures in
@@ -101,8 +100,8 @@ returns-in_err-count-clause-acts g c honest s stands is_open fine is_append some
     let n = c.args.job in
     let t = found_there g.D.Disk.state s n old is_append in
     let waits = wait g.D.Disk.state old s stands is_open n t.x t.a t.there t.is in
-    let told = ap (λ (xs : List CodeKeyRows). map key_rows_view xs) c.as_slice-2.ensures.value ∙ (c.in_ok-waiting.ensures.told ∙ ap (λ js. completed_buffers c.stored.result.now (waiting_at (job_at n js))) c.as_slice.ensures.value) in
-    let begun = filled_at g.D.Disk.state old s stands is_open n t c.stored.result.now (handles_view c.new-rests.result.items) (map key_rows_view c.as_slice-2.result.now) (ap handles_view c.new-rests.ensures.items) c.stored.ensures told in
+    let told = c.in_ok-waiting.ensures.told ∙ ap (λ js. completed_buffers c.stored.result.now (waiting_at (job_at n js))) c.as_slice.ensures.value in
+    let begun = filled_at g.D.Disk.state old s stands is_open n t c.stored.result.now (handles_view c.new-rests.result.items) (map key_rows_view c.in_ok-waiting.waiting.items) (ap handles_view c.new-rests.ensures.items) c.stored.ensures told in
     let mid = c.write_rest.new.self in
     let filled = c.in_ok-write_rest.ensures.ends honest old s waits is_open begun in
     let fit = c.rows_of_parts_fit.ensures in
@@ -124,8 +123,8 @@ returns-in_err-groups-clause-acts g c honest s stands is_open fine is_append som
     let n = c.args.job in
     let t = found_there g.D.Disk.state s n old is_append in
     let waits = wait g.D.Disk.state old s stands is_open n t.x t.a t.there t.is in
-    let told = ap (λ (xs : List CodeKeyRows). map key_rows_view xs) c.as_slice-2.ensures.value ∙ (c.in_ok-waiting.ensures.told ∙ ap (λ js. completed_buffers c.stored.result.now (waiting_at (job_at n js))) c.as_slice.ensures.value) in
-    let begun = filled_at g.D.Disk.state old s stands is_open n t c.stored.result.now (handles_view c.new-rests.result.items) (map key_rows_view c.as_slice-2.result.now) (ap handles_view c.new-rests.ensures.items) c.stored.ensures told in
+    let told = c.in_ok-waiting.ensures.told ∙ ap (λ js. completed_buffers c.stored.result.now (waiting_at (job_at n js))) c.as_slice.ensures.value in
+    let begun = filled_at g.D.Disk.state old s stands is_open n t c.stored.result.now (handles_view c.new-rests.result.items) (map key_rows_view c.in_ok-waiting.waiting.items) (ap handles_view c.new-rests.ensures.items) c.stored.ensures told in
     let mid = c.write_rest.new.self in
     let filled = c.in_ok-write_rest.ensures.ends honest old s waits is_open begun in
     let fit = c.rows_of_parts_fit.ensures in
@@ -145,7 +144,7 @@ pub commit_version-requires : goal.commit_version-requires
 commit_version-requires g c =
     let next = c.next_after-next.result in
     let falls = subst (λ (k : ℕ). k ≤ next) c.next.ensures c.next_after-next.ensures.never_falls in
-    let above = subst (λ (hs : List (Rc CodeGroup Global)). AllByRecursion (λ (f : FileGroup). f.number < next) (handles_view hs)) (c.as_slice-7.ensures.value ∙ sym c.as_slice-6.ensures.value) c.next_after-next.ensures.above in
+    let above = subst (λ (hs : List (Rc CodeGroup Global)). AllByRecursion (λ (f : FileGroup). f.number < next) (handles_view hs)) (c.as_slice-6.ensures.value ∙ sym c.as_slice-5.ensures.value) c.next_after-next.ensures.above in
     record { below = c.in_ok-groups.ensures.below next falls above }
 
 pub returns-in_err-commit_version-clause-acts : goal.returns-in_err-commit_version-clause-acts
@@ -154,25 +153,25 @@ returns-in_err-commit_version-clause-acts g c honest s stands is_open fine is_ap
     let n = c.args.job in
     let t = found_there g.D.Disk.state s n old is_append in
     let waits = wait g.D.Disk.state old s stands is_open n t.x t.a t.there t.is in
-    let told = ap (λ (xs : List CodeKeyRows). map key_rows_view xs) c.as_slice-2.ensures.value ∙ (c.in_ok-waiting.ensures.told ∙ ap (λ js. completed_buffers c.stored.result.now (waiting_at (job_at n js))) c.as_slice.ensures.value) in
-    let begun = filled_at g.D.Disk.state old s stands is_open n t c.stored.result.now (handles_view c.new-rests.result.items) (map key_rows_view c.as_slice-2.result.now) (ap handles_view c.new-rests.ensures.items) c.stored.ensures told in
+    let told = c.in_ok-waiting.ensures.told ∙ ap (λ js. completed_buffers c.stored.result.now (waiting_at (job_at n js))) c.as_slice.ensures.value in
+    let begun = filled_at g.D.Disk.state old s stands is_open n t c.stored.result.now (handles_view c.new-rests.result.items) (map key_rows_view c.in_ok-waiting.waiting.items) (ap handles_view c.new-rests.ensures.items) c.stored.ensures told in
     let mid = c.write_rest.new.self in
     let filled = c.in_ok-write_rest.ensures.ends honest old s waits is_open begun in
     let fit = c.rows_of_parts_fit.ensures in
     let same = ap (λ (x : Store g.row.D.Denot). x.jobs) c.in_ok-write_rest.ensures.same in
     let files = handles_view c.write_rest.new.written.items in
     let all = handles_view t.a.written.items ++ files in
-    let there_now : groups_at (job_at n c.as_slice-3.result.now) ≡ handles_view t.a.written.items
-    = ap (λ js. groups_at (job_at n js)) (c.as_slice-3.ensures.value ∙ ap (λ js. js.items) same) ∙ (append_in (job_at n old.jobs.items) t.x t.a t.there t.is).1 in
-    let come : handles_view c.in_ok-come.come.items ≡ all = c.in_ok-come.ensures.told ∙ ap (λ gs. gs ++ handles_view c.as_slice-4.result.now) there_now ∙ ap (λ xs. handles_view t.a.written.items ++ handles_view xs) c.as_slice-4.ensures.value in
+    let there_now : groups_at (job_at n c.as_slice-2.result.now) ≡ handles_view t.a.written.items
+    = ap (λ js. groups_at (job_at n js)) (c.as_slice-2.ensures.value ∙ ap (λ js. js.items) same) ∙ (append_in (job_at n old.jobs.items) t.x t.a t.there t.is).1 in
+    let come : handles_view c.in_ok-come.come.items ≡ all = c.in_ok-come.ensures.told ∙ ap (λ gs. gs ++ handles_view c.as_slice-3.result.now) there_now ∙ ap (λ xs. handles_view t.a.written.items ++ handles_view xs) c.as_slice-3.ensures.value in
     let next = c.next_after-next.result in
     let was : c.next.result ≡ s.table.next = c.next.ensures ∙ (filled.written.wrote.shows.shown is_open).next in
     let falls = subst (λ (k : ℕ). k ≤ next) was c.next_after-next.ensures.never_falls in
-    let seen = ap handles_view c.as_slice-7.ensures.value ∙ come in
+    let seen = ap handles_view c.as_slice-6.ensures.value ∙ come in
     let above = subst (λ (fs : List FileGroup). AllByRecursion (λ (f : FileGroup). f.number < next) fs) seen c.next_after-next.ensures.above in
     let least = subst (λ (k : ℕ). (next ≡ k) ⊎ IsNextOf next all) was (subst (λ (fs : List FileGroup). (next ≡ c.next.result) ⊎ IsNextOf next fs) seen c.next_after-next.ensures.least) in
     let gs = groups_in c.in_ok-groups.groups in
-    let are = c.in_ok-groups.ensures.placed ∙ ap (λ (fs : List FileGroup). in_order (λ (f : FileGroup). f.key) ((root_of mid.manifest).groups ++ fs)) (ap handles_view c.as_slice-6.ensures.value ∙ come) in
+    let are = c.in_ok-groups.ensures.placed ∙ ap (λ (fs : List FileGroup). in_order (λ (f : FileGroup). f.key) ((root_of mid.manifest).groups ++ fs)) (ap handles_view c.as_slice-5.ensures.value ∙ come) in
     let plan = planned g.D.Disk.state old s stands is_open n fine t.x t.a t.there t.is fit something mid (handles_view c.write_rest.new.written.items) filled same next falls above least gs are in
     let new = c.commit_version.new.self in
     let failed = c.in_err-commit_version in
@@ -187,25 +186,25 @@ returns-in_err-commit_version-clause-cause g c honest s stands is_open fine is_a
     let n = c.args.job in
     let t = found_there g.D.Disk.state s n old is_append in
     let waits = wait g.D.Disk.state old s stands is_open n t.x t.a t.there t.is in
-    let told = ap (λ (xs : List CodeKeyRows). map key_rows_view xs) c.as_slice-2.ensures.value ∙ (c.in_ok-waiting.ensures.told ∙ ap (λ js. completed_buffers c.stored.result.now (waiting_at (job_at n js))) c.as_slice.ensures.value) in
-    let begun = filled_at g.D.Disk.state old s stands is_open n t c.stored.result.now (handles_view c.new-rests.result.items) (map key_rows_view c.as_slice-2.result.now) (ap handles_view c.new-rests.ensures.items) c.stored.ensures told in
+    let told = c.in_ok-waiting.ensures.told ∙ ap (λ js. completed_buffers c.stored.result.now (waiting_at (job_at n js))) c.as_slice.ensures.value in
+    let begun = filled_at g.D.Disk.state old s stands is_open n t c.stored.result.now (handles_view c.new-rests.result.items) (map key_rows_view c.in_ok-waiting.waiting.items) (ap handles_view c.new-rests.ensures.items) c.stored.ensures told in
     let mid = c.write_rest.new.self in
     let filled = c.in_ok-write_rest.ensures.ends honest old s waits is_open begun in
     let fit = c.rows_of_parts_fit.ensures in
     let same = ap (λ (x : Store g.row.D.Denot). x.jobs) c.in_ok-write_rest.ensures.same in
     let files = handles_view c.write_rest.new.written.items in
     let all = handles_view t.a.written.items ++ files in
-    let there_now : groups_at (job_at n c.as_slice-3.result.now) ≡ handles_view t.a.written.items
-    = ap (λ js. groups_at (job_at n js)) (c.as_slice-3.ensures.value ∙ ap (λ js. js.items) same) ∙ (append_in (job_at n old.jobs.items) t.x t.a t.there t.is).1 in
-    let come : handles_view c.in_ok-come.come.items ≡ all = c.in_ok-come.ensures.told ∙ ap (λ gs. gs ++ handles_view c.as_slice-4.result.now) there_now ∙ ap (λ xs. handles_view t.a.written.items ++ handles_view xs) c.as_slice-4.ensures.value in
+    let there_now : groups_at (job_at n c.as_slice-2.result.now) ≡ handles_view t.a.written.items
+    = ap (λ js. groups_at (job_at n js)) (c.as_slice-2.ensures.value ∙ ap (λ js. js.items) same) ∙ (append_in (job_at n old.jobs.items) t.x t.a t.there t.is).1 in
+    let come : handles_view c.in_ok-come.come.items ≡ all = c.in_ok-come.ensures.told ∙ ap (λ gs. gs ++ handles_view c.as_slice-3.result.now) there_now ∙ ap (λ xs. handles_view t.a.written.items ++ handles_view xs) c.as_slice-3.ensures.value in
     let next = c.next_after-next.result in
     let was : c.next.result ≡ s.table.next = c.next.ensures ∙ (filled.written.wrote.shows.shown is_open).next in
     let falls = subst (λ (k : ℕ). k ≤ next) was c.next_after-next.ensures.never_falls in
-    let seen = ap handles_view c.as_slice-7.ensures.value ∙ come in
+    let seen = ap handles_view c.as_slice-6.ensures.value ∙ come in
     let above = subst (λ (fs : List FileGroup). AllByRecursion (λ (f : FileGroup). f.number < next) fs) seen c.next_after-next.ensures.above in
     let least = subst (λ (k : ℕ). (next ≡ k) ⊎ IsNextOf next all) was (subst (λ (fs : List FileGroup). (next ≡ c.next.result) ⊎ IsNextOf next fs) seen c.next_after-next.ensures.least) in
     let gs = groups_in c.in_ok-groups.groups in
-    let are = c.in_ok-groups.ensures.placed ∙ ap (λ (fs : List FileGroup). in_order (λ (f : FileGroup). f.key) ((root_of mid.manifest).groups ++ fs)) (ap handles_view c.as_slice-6.ensures.value ∙ come) in
+    let are = c.in_ok-groups.ensures.placed ∙ ap (λ (fs : List FileGroup). in_order (λ (f : FileGroup). f.key) ((root_of mid.manifest).groups ++ fs)) (ap handles_view c.as_slice-5.ensures.value ∙ come) in
     let plan = planned g.D.Disk.state old s stands is_open n fine t.x t.a t.there t.is fit something mid (handles_view c.write_rest.new.written.items) filled same next falls above least gs are in
     let new = c.commit_version.new.self in
     let failed = c.in_err-commit_version in
@@ -219,28 +218,28 @@ returns-clause-acts g c honest s stands is_open fine is_append something =
     let n = c.args.job in
     let t = found_there g.D.Disk.state s n old is_append in
     let waits = wait g.D.Disk.state old s stands is_open n t.x t.a t.there t.is in
-    let told = ap (λ (xs : List CodeKeyRows). map key_rows_view xs) c.as_slice-2.ensures.value ∙ (c.in_ok-waiting.ensures.told ∙ ap (λ js. completed_buffers c.stored.result.now (waiting_at (job_at n js))) c.as_slice.ensures.value) in
-    let begun = filled_at g.D.Disk.state old s stands is_open n t c.stored.result.now (handles_view c.new-rests.result.items) (map key_rows_view c.as_slice-2.result.now) (ap handles_view c.new-rests.ensures.items) c.stored.ensures told in
+    let told = c.in_ok-waiting.ensures.told ∙ ap (λ js. completed_buffers c.stored.result.now (waiting_at (job_at n js))) c.as_slice.ensures.value in
+    let begun = filled_at g.D.Disk.state old s stands is_open n t c.stored.result.now (handles_view c.new-rests.result.items) (map key_rows_view c.in_ok-waiting.waiting.items) (ap handles_view c.new-rests.ensures.items) c.stored.ensures told in
     let mid = c.write_rest.new.self in
     let filled = c.in_ok-write_rest.ensures.ends honest old s waits is_open begun in
     let fit = c.rows_of_parts_fit.ensures in
     let same = ap (λ (x : Store g.row.D.Denot). x.jobs) c.in_ok-write_rest.ensures.same in
     let files = handles_view c.write_rest.new.written.items in
     let all = handles_view t.a.written.items ++ files in
-    let there_now : groups_at (job_at n c.as_slice-3.result.now) ≡ handles_view t.a.written.items
-    = ap (λ js. groups_at (job_at n js)) (c.as_slice-3.ensures.value ∙ ap (λ js. js.items) same) ∙ (append_in (job_at n old.jobs.items) t.x t.a t.there t.is).1 in
-    let come : handles_view c.in_ok-come.come.items ≡ all = c.in_ok-come.ensures.told ∙ ap (λ gs. gs ++ handles_view c.as_slice-4.result.now) there_now ∙ ap (λ xs. handles_view t.a.written.items ++ handles_view xs) c.as_slice-4.ensures.value in
+    let there_now : groups_at (job_at n c.as_slice-2.result.now) ≡ handles_view t.a.written.items
+    = ap (λ js. groups_at (job_at n js)) (c.as_slice-2.ensures.value ∙ ap (λ js. js.items) same) ∙ (append_in (job_at n old.jobs.items) t.x t.a t.there t.is).1 in
+    let come : handles_view c.in_ok-come.come.items ≡ all = c.in_ok-come.ensures.told ∙ ap (λ gs. gs ++ handles_view c.as_slice-3.result.now) there_now ∙ ap (λ xs. handles_view t.a.written.items ++ handles_view xs) c.as_slice-3.ensures.value in
     let next = c.next_after-next.result in
     let was : c.next.result ≡ s.table.next = c.next.ensures ∙ (filled.written.wrote.shows.shown is_open).next in
     let falls = subst (λ (k : ℕ). k ≤ next) was c.next_after-next.ensures.never_falls in
-    let seen = ap handles_view c.as_slice-7.ensures.value ∙ come in
+    let seen = ap handles_view c.as_slice-6.ensures.value ∙ come in
     let above = subst (λ (fs : List FileGroup). AllByRecursion (λ (f : FileGroup). f.number < next) fs) seen c.next_after-next.ensures.above in
     let least = subst (λ (k : ℕ). (next ≡ k) ⊎ IsNextOf next all) was (subst (λ (fs : List FileGroup). (next ≡ c.next.result) ⊎ IsNextOf next fs) seen c.next_after-next.ensures.least) in
     let gs = groups_in c.in_ok-groups.groups in
-    let are = c.in_ok-groups.ensures.placed ∙ ap (λ (fs : List FileGroup). in_order (λ (f : FileGroup). f.key) ((root_of mid.manifest).groups ++ fs)) (ap handles_view c.as_slice-6.ensures.value ∙ come) in
+    let are = c.in_ok-groups.ensures.placed ∙ ap (λ (fs : List FileGroup). in_order (λ (f : FileGroup). f.key) ((root_of mid.manifest).groups ++ fs)) (ap handles_view c.as_slice-5.ensures.value ∙ come) in
     let plan = planned g.D.Disk.state old s stands is_open n fine t.x t.a t.there t.is fit something mid (handles_view c.write_rest.new.written.items) filled same next falls above least gs are in
     let new = c.commit_version.new.self in
-    let counted = count_is g.D.Disk.state old s stands is_open n fine t.x t.a t.there t.is fit something mid (handles_view c.write_rest.new.written.items) filled same next falls above least gs are c.in_ok-count.count (c.in_ok-count.ensures.counted ∙ none_and (rows_in (handles_view c.as_slice-5.result.now)) ∙ ap rows_in (ap handles_view c.as_slice-5.ensures.value ∙ come)) in
+    let counted = count_is g.D.Disk.state old s stands is_open n fine t.x t.a t.there t.is fit something mid (handles_view c.write_rest.new.written.items) filled same next falls above least gs are c.in_ok-count.count (c.in_ok-count.ensures.counted ∙ none_and (rows_in (handles_view c.as_slice-4.result.now)) ∙ ap rows_in (ap handles_view c.as_slice-4.ensures.value ∙ come)) in
     subst (λ (k : ℕ). ActsFrom g.D.Disk.state old new (commit n) (done k) s) (sym counted)
     (done_so g.D.Disk.state old s stands is_open n fine t.x t.a t.there t.is fit something mid (handles_view c.write_rest.new.written.items) filled same next falls above least gs are new
     (c.in_ok-commit_version.ensures.turns (c.in_ok-write_rest.ensures.honest.0 honest) _ _ (ended_at n s.jobs) filled.written.wrote.shows is_open plan))

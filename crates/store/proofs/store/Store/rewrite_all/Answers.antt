@@ -9,7 +9,7 @@ use Rattle.bits.specs.declared.refusal.Refusal.{Refusal}
 use Rattle.bits.specs.declared.refusal.Refusal.TheVariants.{Memory}
 use Rattle.vault.proofs.Chained.{refused}
 use Rattle.manifest.specs.declared.group.Group.{Group as CodeGroup}
-use Rattle.manifest.specs.Groups.{Group as FileGroup, handles_view}
+use Rattle.manifest.specs.Groups.{Group as FileGroup, handles_view, root_of}
 use Rattle.planning.specs.declared.change.Run.{Run as CodeRun}
 use Rattle.planning.specs.declared.change.Sources.{Sources}
 use Rattle.planning.specs.Replaced.{Run, run_view, runs_view}
@@ -22,6 +22,7 @@ use Rattle.store.specs.declared.store.Store.{Store}
 use Rattle.store.specs.Lookups.{job_at}
 use Rattle.store.specs.Rewritten.{IsHalted, RewritesAll}
 use Rattle.store.proofs.Fetched.{memory_so}
+use Rattle.store.proofs.RunParts.{poor_here}
 use Rattle.store.proofs.RunByRun.{SoFar, one_stops, next_run, none_done, low_enough, of_runs, run_more, poor_more, all_done, brought_two, many_in}
 use Rattle.store.proofs.store.Store.rewrite_all.Goals as goal
 
@@ -34,6 +35,14 @@ loop-run-init g c = record {
   fills = λ honest start s given is_open same counter none has are. subst (λ (rs : List CodeRun). SoFar g.D.Disk.state start c.args.self.now s c.args.job (handles_view c.args.written.now.items) (runs_view rs) given 0 (sources_view c.args.runs.now)) (sym c.new-made.ensures.items)
       (subst (λ (xs : List (Rc CodeGroup Global)). SoFar g.D.Disk.state start c.args.self.now s c.args.job (handles_view xs) [] given 0 (sources_view c.args.runs.now)) (sym none) (none_done g.D.Disk.state start s c.args.job given c.args.self.now (sources_view c.args.runs.now) has counter are));
 }
+
+pub returns-in_err-table-clause-rewrites : goal.returns-in_err-table-clause-rewrites
+returns-in_err-table-clause-rewrites g c honest start s given is_open same counter none has are =
+    let state = g.D.Disk.state in
+    let old = c.args.self.now in
+    refused (λ (o : Result (Vec CodeRun Global) Refusal). RewritesAll state start old s (Some c.args.job) (handles_view c.args.written.now.items) given o) c.from_residual.result _ c.from_residual.ensures.1
+    (memory_so c.in_err-table.field-0.0 c.in_err-table.ensures.which (λ e. IsHalted state start old s (IsOfRun s given) (s.next_group + length (rows (sources given))) e)
+    (poor_here state start old s c.args.job [] [] has (IsOfRun s given) (s.next_group + length (rows (sources given))) (omega (arith, counter))))
 
 pub returns-in_err-one-clause-rewrites : goal.returns-in_err-one-clause-rewrites
 returns-in_err-one-clause-rewrites g c honest start s given is_open same counter none has are =
@@ -52,8 +61,9 @@ returns-in_err-one-clause-rewrites g c honest start s given is_open same counter
     let f = subst (λ (xs : List (List FileGroup)). SoFar state start mid s n files made given c.loop-run.place xs) left (so_far.fills honest start s given is_open same counter none has are) in
     let next = next_run (state start.vault.disk) s (job_at n start.jobs.items) c.loop-run.place fs fss f.left f.are in
     let same_mid = ap (λ (st : Store g.row.D.Denot). st.jobs) so_far.same ∙ same in
-    let stop = c.in_err-one.ensures.rewrites (so_far.honest.0 honest) start s (sources f.has.groups) next.run is_open same_mid f.has.written next.sources next.run_in in
-    refused (λ (o : Result (Vec CodeRun Global) Refusal). RewritesAll state start new s (Some n) more given o) c.from_residual.result _ c.from_residual.ensures.1
+    let described = c.in_ok-table.ensures.same ∙ sym (ap (λ (st : Store g.row.D.Denot). root_of st.manifest) so_far.same) in
+    let stop = c.in_err-one.ensures.rewrites (so_far.honest.0 honest) start s (sources f.has.groups) next.run is_open same_mid described f.has.written next.sources next.run_in in
+    refused (λ (o : Result (Vec CodeRun Global) Refusal). RewritesAll state start new s (Some n) more given o) c.from_residual-in_err-one.result _ c.from_residual-in_err-one.ensures.1
     (one_stops state start s n new (IsPart s.options.group_rows (rows next.run)) (IsOfRun s given) (of_runs state start s n given mid files made c.loop-run.place fs fss f next) (mid.next_group + length (rows next.run)) (s.next_group + length (rows (sources given)))
     (low_enough state start s n given mid files made c.loop-run.place fs fss f next) c.in_err-one.field-0.0 stop)
 
@@ -74,7 +84,8 @@ returns-in_err-push-clause-rewrites g c honest start s given is_open same counte
     let f = subst (λ (xs : List (List FileGroup)). SoFar state start mid s n files made given c.loop-run.place xs) left (so_far.fills honest start s given is_open same counter none has are) in
     let next = next_run (state start.vault.disk) s (job_at n start.jobs.items) c.loop-run.place fs fss f.left f.are in
     let same_mid = ap (λ (st : Store g.row.D.Denot). st.jobs) so_far.same ∙ same in
-    let one = c.in_ok-one.ensures.rewrites (so_far.honest.0 honest) start s (sources f.has.groups) next.run is_open same_mid f.has.written next.sources next.run_in in
+    let described = c.in_ok-table.ensures.same ∙ sym (ap (λ (st : Store g.row.D.Denot). root_of st.manifest) so_far.same) in
+    let one = c.in_ok-one.ensures.rewrites (so_far.honest.0 honest) start s (sources f.has.groups) next.run is_open same_mid described f.has.written next.sources next.run_in in
     refused (λ (o : Result (Vec CodeRun Global) Refusal). RewritesAll state start new s (Some n) more given o) c.from_residual-in_err-push.result Memory c.from_residual-in_err-push.ensures.1
     (poor_more state start s n given mid files made c.loop-run.place fs fss f next new more (run_view c.in_ok-one.one) one)
 
@@ -95,7 +106,8 @@ returns-in_err-behind-clause-rewrites g c honest start s given is_open same coun
     let f = subst (λ (xs : List (List FileGroup)). SoFar state start mid s n files made given c.loop-run.place xs) left (so_far.fills honest start s given is_open same counter none has are) in
     let next = next_run (state start.vault.disk) s (job_at n start.jobs.items) c.loop-run.place fs fss f.left f.are in
     let same_mid = ap (λ (st : Store g.row.D.Denot). st.jobs) so_far.same ∙ same in
-    let one = c.in_ok-one.ensures.rewrites (so_far.honest.0 honest) start s (sources f.has.groups) next.run is_open same_mid f.has.written next.sources next.run_in in
+    let described = c.in_ok-table.ensures.same ∙ sym (ap (λ (st : Store g.row.D.Denot). root_of st.manifest) so_far.same) in
+    let one = c.in_ok-one.ensures.rewrites (so_far.honest.0 honest) start s (sources f.has.groups) next.run is_open same_mid described f.has.written next.sources next.run_in in
     refused (λ (o : Result (Vec CodeRun Global) Refusal). RewritesAll state start new s (Some n) more given o) c.from_residual-in_err-behind.result _ c.from_residual-in_err-behind.ensures.1
     (memory_so c.in_err-behind.field-0.0 c.in_err-behind.ensures.which (λ e. IsHalted state start new s (IsOfRun s given) (s.next_group + length (rows (sources given))) e) (poor_more state start s n given mid files made c.loop-run.place fs fss f next new more (run_view c.in_ok-one.one) one))
 
@@ -126,7 +138,8 @@ loop-run-preserved g c =
           let f = subst (λ (xs : List (List FileGroup)). SoFar state start mid s n files made given c.loop-run.place xs) left (so_far.fills honest start s given is_open same counter none has are) in
           let next = next_run (state start.vault.disk) s (job_at n start.jobs.items) c.loop-run.place fs fss f.left f.are in
           let same_mid = ap (λ (st : Store g.row.D.Denot). st.jobs) so_far.same ∙ same in
-          let one = done.ensures.rewrites (so_far.honest.0 honest) start s (sources f.has.groups) next.run is_open same_mid f.has.written next.sources next.run_in in
+          let described = c.in_ok-table.ensures.same ∙ sym (ap (λ (st : Store g.row.D.Denot). root_of st.manifest) so_far.same) in
+          let one = done.ensures.rewrites (so_far.honest.0 honest) start s (sources f.has.groups) next.run is_open same_mid described f.has.written next.sources next.run_in in
           subst (λ (rs : List Run). SoFar state start new s n more rs given c.in_ok-behind.behind fss) (sym pushed)
           (run_more state start s n given mid files made c.loop-run.place fs fss f next new more (run_view c.in_ok-one.one) one c.in_ok-behind.behind step);
     }
