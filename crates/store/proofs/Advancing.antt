@@ -37,7 +37,7 @@ use Rattle.store.proofs.Taken.{told, same_length}
 use Rattle.store.proofs.Waits.{same_key_lists}
 
 -- what waits is some rows for each key
-waits_some : (size : ℕ) (s : State) (ws vs : List KeyRows) → AreBuffers s.table.schema s.table.keys ws vs → AllByRecursion (IsFew size) vs → AllByRecursion (λ (w : KeyRows). w.rows ≢ []) ws
+pub waits_some : (size : ℕ) (s : State) (ws vs : List KeyRows) → AreBuffers s.table.schema s.table.keys ws vs → AllByRecursion (IsFew size) vs → AllByRecursion (λ (w : KeyRows). w.rows ≢ []) ws
 waits_some size s [] [] z few = tt
 waits_some size s (w ∷ ws) (v ∷ vs) z few =
     ((λ none. let many = same_length s.table.keys w.key w.rows v.rows z.0.are in let nothing = ap length none in let some = few.0.0 in absurd (omega (arith, many, nothing, some))), waits_some size s ws vs z.1 few.1)

@@ -115,3 +115,5 @@ pub mod Shown
 pub mod StoredColumns
 pub mod BufferRows
 pub mod PlacesMade
+pub mod Foreseen
+pub mod Overfull

@@ -25,6 +25,7 @@ pub mod Prefixes
 pub mod Buffers
 pub mod Filling
 pub mod Gathering
+pub mod RootLimit
 pub mod Widening
 pub mod Staging
 pub mod Reading

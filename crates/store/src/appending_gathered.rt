@@ -12,6 +12,7 @@ ghost use Rattle.store.specs.Gathering.{AreGatheredFor};
 
 use crate::beginning::MOST_NUMBERS;
 use crate::comparing::same_schema;
+use crate::root_limit::is_beyond_root;
 use crate::store::Store;
 use bits::{R, Refusal};
 use disk::Disk;
@@ -78,7 +79,8 @@ impl<D: Disk> Store<D> {
             && gathered.size() == self.options.group_rows as usize
     }
 
-    /// Appends the groups of so many rows that passed the checks, one at least.
+    /// Appends the groups of so many rows that passed the checks, one at least. Where already the number of the groups makes
+    /// the root too much, it is refused Limit before a file is written.
     fn append_groups(&mut self, alloc: Global, groups: Vec<KeyBuffer<'_>>, count: usize) -> R<u64>
         ensures acts { (D.state self.old.vault.disk).honest → (s : State) (rows : List TableRow) → Stands D.state self.old s → s.closed ≡ false
             → fault s (append rows) ≡ None → rows ≢ [] → count ≡ length rows
@@ -92,6 +94,9 @@ impl<D: Disk> Store<D> {
         ensures counts { (D.state self.old.vault.disk).failures ≤ (D.state self.new.vault.disk).failures }
         ensures honest { (D.state self.old.vault.disk).honest ↔ (D.state self.new.vault.disk).honest }
     {
+        if is_beyond_root(alloc, &self.manifest, self.next_group, groups.as_slice()) {
+            return Err(Refusal::Limit);
+        }
         let written = self.write_groups(alloc, None, groups)?;
         let groups = self.with_new(alloc, written.as_slice())?;
         let next = next_after(self.manifest.next(), written.as_slice());

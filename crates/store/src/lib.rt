@@ -44,6 +44,7 @@ mod reopening;
 mod restart;
 mod rewriting;
 mod rewritten;
+mod root_limit;
 mod run;
 mod run_sources;
 mod run_writing;
