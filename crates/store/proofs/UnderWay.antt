@@ -2,8 +2,9 @@
 use Rattle.std.proofs.Common.{◌≡◌, ◌≤◌, ◌+◌, ℕ, zero, suc, false, List, [], ◌∷◌, ◌++◌, map, length, take, drop, Option, Some, Result, Ok, Err, refl, sym, ◌∙◌, ap, subst, arith, append_assoc}
 use Rattle.std.specs.Prelude.{◌==◌, IsTrue}
 use Rattle.std.specs.List.{AllByRecursion}
-use Rattle.std.proofs.lemmas.List.{append-nil, length-append, length-map, map-append}
-use Rattle.lists.proofs.Lists.{all_left as all_front, all_right as all_behind}
+use Rattle.std.proofs.lemmas.List.{append-nil, length-append, length-map, map-append, nil_from_length, take_all, drop_all, drop-append-le}
+use Rattle.lists.proofs.Lists.{all_left, all_right}
+use Rattle.lists.proofs.Slices.{take_front}
 use Rattle.bits.specs.declared.refusal.Refusal.{Refusal}
 use Rattle.bits.specs.declared.refusal.Refusal.TheVariants.{Memory}
 use Rattle.bits.specs.Refusals.{HasCause}
@@ -35,39 +36,9 @@ use Rattle.store.proofs.RunParts.{no_parts, all_parts, part_more, part_stops}
 use Rattle.store.proofs.RunReads.{NextSource, next_source, read_on, read_stops}
 use Rattle.store.proofs.Widths.{stored_fit}
 
--- ---- some rows before others
-
-taken_front : (size : ℕ) (xs ys : List Row) → length xs ≡ size → take size (xs ++ ys) ≡ xs
-taken_front zero [] ys e = refl
-taken_front zero (x ∷ xs) ys e = absurd (omega (arith, e))
-taken_front (suc n) [] ys e = absurd (omega (arith, e))
-taken_front (suc n) (x ∷ xs) ys e = ap (λ (zs : List Row). x ∷ zs) (taken_front n xs ys (omega (arith, e)))
-
-dropped_front : (size : ℕ) (xs ys : List Row) → length xs ≡ size → drop size (xs ++ ys) ≡ ys
-dropped_front zero [] ys e = refl
-dropped_front zero (x ∷ xs) ys e = absurd (omega (arith, e))
-dropped_front (suc n) [] ys e = absurd (omega (arith, e))
-dropped_front (suc n) (x ∷ xs) ys e = dropped_front n xs ys (omega (arith, e))
-
-taken_all : (size : ℕ) (xs : List Row) → length xs ≤ size → take size xs ≡ xs
-taken_all zero [] low = refl
-taken_all zero (x ∷ xs) low = absurd (omega (arith, low))
-taken_all (suc n) [] low = refl
-taken_all (suc n) (x ∷ xs) low = ap (λ (zs : List Row). x ∷ zs) (taken_all n xs (omega (arith, low)))
-
-dropped_all : (size : ℕ) (xs : List Row) → length xs ≤ size → drop size xs ≡ []
-dropped_all zero [] low = refl
-dropped_all zero (x ∷ xs) low = absurd (omega (arith, low))
-dropped_all (suc n) [] low = refl
-dropped_all (suc n) (x ∷ xs) low = dropped_all n xs (omega (arith, low))
-
 pub not_empty : (k : ℕ) → (k == 0) ≡ false → 1 ≤ k
 not_empty zero e = absurd (cc)
 not_empty (suc k) e = omega arith
-
-no_items : (xs : List Row) → length xs ≡ 0 → xs ≡ []
-no_items [] e = refl
-no_items (x ∷ xs) e = absurd (omega (arith, e))
 
 module _ {D : Type 0} (state : D → DiskState) (start : Store D) (s : State) (n : ℕ) (task : Task) where
   abbrev Stops : Store D → Refusal → Type 0
@@ -136,13 +107,13 @@ module _ {D : Type 0} (state : D → DiskState) (start : Store D) (s : State) (n
 
     -- the rows that wait, and then those that are left
     waiting_in : AllByRecursion (IsRowIn s.table.schema s.table.keys task.key) (u.held ++ left)
-    waiting_in = all_behind (IsRowIn s.table.schema s.table.keys task.key) (rows u.parts.added) (u.held ++ left) (subst (λ (xs : List Row). AllByRecursion (IsRowIn s.table.schema s.table.keys task.key) xs) (sym u.parts.hold) u.rows_in)
+    waiting_in = all_right (IsRowIn s.table.schema s.table.keys task.key) (rows u.parts.added) (u.held ++ left) (subst (λ (xs : List Row). AllByRecursion (IsRowIn s.table.schema s.table.keys task.key) xs) (sym u.parts.hold) u.rows_in)
 
     pub held_in : AllByRecursion (IsRowIn s.table.schema s.table.keys task.key) u.held
-    held_in = all_front (IsRowIn s.table.schema s.table.keys task.key) u.held left waiting_in
+    held_in = all_left (IsRowIn s.table.schema s.table.keys task.key) u.held left waiting_in
 
     pub left_in : AllByRecursion (IsRowIn s.table.schema s.table.keys task.key) left
-    left_in = all_behind (IsRowIn s.table.schema s.table.keys task.key) u.held left waiting_in
+    left_in = all_right (IsRowIn s.table.schema s.table.keys task.key) u.held left waiting_in
 
     -- they are as many as a group has, and are written
     module _ (full : s.options.group_rows ≡ length u.held) (some : 1 ≤ length u.held) where
@@ -150,7 +121,10 @@ module _ {D : Type 0} (state : D → DiskState) (start : Store D) (s : State) (n
       size = s.options.group_rows
 
       front : take size (u.held ++ left) ≡ u.held
-      front = taken_front size u.held left (sym full)
+      front = take_front size u.held left (sym full)
+
+      behind : drop size (u.held ++ left) ≡ left
+      behind = drop-append-le size u.held left (omega (arith, full)) ∙ ap (λ (xs : List Row). xs ++ left) (drop_all size u.held (omega (arith, full)))
 
       some_left : 1 ≤ length (u.held ++ left)
       some_left = let l = length-append u.held left in omega (arith, l, some)
@@ -168,7 +142,7 @@ module _ {D : Type 0} (state : D → DiskState) (start : Store D) (s : State) (n
           record {
             held = [];
             count = u.count + 1;
-            parts = subst (λ (xs : List Row). Parts state start new s n task.was more task.groups task.key task.given task.most (u.count + 1) xs) (dropped_front size u.held left (sym full)) parts;
+            parts = subst (λ (xs : List Row). Parts state start new s n task.was more task.groups task.key task.given task.most (u.count + 1) xs) behind parts;
             can = u.can;
             rows_in = u.rows_in;
             key_is = key_is;
@@ -217,14 +191,14 @@ module _ {D : Type 0} (state : D → DiskState) (start : Store D) (s : State) (n
     few = let a = u.few in omega (arith, a)
 
     pub none_more : length u.held ≡ 0 → HasAdded state start mid s (Some n) task.was files task.groups task.key task.given task.most
-    none_more none = all_parts state start s n task.was task.groups task.key task.given task.most mid files u.count (u.held ++ []) u.parts (plain ∙ no_items u.held none)
+    none_more none = all_parts state start s n task.was task.groups task.key task.given task.most mid files u.count (u.held ++ []) u.parts (plain ∙ nil_from_length u.held none)
 
     module _ (some : 1 ≤ length u.held) where
       some_more : 1 ≤ length (u.held ++ [])
       some_more = let l = length-append u.held [] in omega (arith, l, some)
 
       last_front : take s.options.group_rows (u.held ++ []) ≡ u.held
-      last_front = ap (take s.options.group_rows) plain ∙ taken_all s.options.group_rows u.held few
+      last_front = ap (take s.options.group_rows) plain ∙ take_all s.options.group_rows u.held few
 
       pub last_stops : (new : Store D) (e : Refusal) → IsHalted state start new s (λ part. part ≡ u.held) (mid.next_group + 1) e → Stops new e
       last_stops new e h = part_stops state start s n task.was task.groups task.key task.given task.most mid files u.count (u.held ++ []) u.parts some_more new e
@@ -236,7 +210,7 @@ module _ {D : Type 0} (state : D → DiskState) (start : Store D) (s : State) (n
           let wrote = subst (λ (xs : List Row). HasAddedOne state start new s (Some n) files more all_now mid.next_group task.key xs) (sym last_front) one in
           let parts = part_more state start s n task.was task.groups task.key task.given task.most mid files u.count (u.held ++ []) u.parts some_more in_part u.can new more wrote in
           all_parts state start s n task.was task.groups task.key task.given task.most new more (u.count + 1) (drop s.options.group_rows (u.held ++ [])) parts
-          (ap (drop s.options.group_rows) plain ∙ dropped_all s.options.group_rows u.held few)
+          (ap (drop s.options.group_rows) plain ∙ drop_all s.options.group_rows u.held few)
 
       pub last_goes : (new : Store D) (more : List FileGroup) (result : Result (Unit {0}) Refusal) → AddsOne state start new s (Some n) files more all_now mid.next_group task.key u.held result
           → AddsAll state start new s (Some n) task.was more task.groups task.key task.given task.most result
