@@ -34,7 +34,7 @@ use Rattle.manifest.specs.Records.{HasStatistics, IsChunkRecord, AreChunkRecords
 use Rattle.manifest.specs.Parts.{HoldsGroup, PartMeans}
 use Rattle.manifest.specs.Laws.{HaveStatistics, AreNamesShort, IsWrittenPart, WrittenPartsHoldGroups}
 use Rattle.manifest.specs.Written.{IsPartOf}
-use Rattle.manifest.specs.inner.Reading.{unplaced}
+use Rattle.manifest.specs.KeptChunks.{unplaced}
 use Rattle.manifest.proofs.WrittenParts.{one_group, bound_at}
 use Rattle.manifest.proofs.WrittenGroups.{records_each, long_fields, whole_front, none_after, some_fields}
 

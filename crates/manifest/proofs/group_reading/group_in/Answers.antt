@@ -15,7 +15,8 @@ use Rattle.schema.specs.Views.{leaf_view}
 use Rattle.manifest.specs.Groups.{Group}
 use Rattle.manifest.specs.Handles.{records_of}
 use Rattle.manifest.specs.Records.{AreChunkRecords, IsGroupRecord, placed}
-use Rattle.manifest.specs.inner.Reading.{FirstPath, unplaced}
+use Rattle.manifest.specs.KeptChunks.{unplaced}
+use Rattle.manifest.specs.inner.Reading.{FirstPath}
 use Rattle.manifest.proofs.GroupChunks.{no_front, no_path, path_is, chunks_are}
 use Rattle.manifest.proofs.group_reading.group_in.Goals as goal
 
