@@ -1,6 +1,6 @@
 //! The records of a group's chunks, kept as bytes.
 
-ghost use Rattle.std.specs.Prelude.{◌≡◌, ℕ, List, [], ◌++◌, length, map, IfOk, IfSome, OnOk};
+ghost use Rattle.std.specs.Prelude.{◌≡◌, ℕ, List, [], ◌∷◌, ◌++◌, map, IfOk, IfSome, OnOk};
 ghost use Rattle.bits.specs.Refusals.{RefusedMemoryOnly};
 ghost use Rattle.metadata.specs.Begun.{BeginsChunk, BeginsGroup};
 ghost use Rattle.metadata.specs.Records.{ChunkMeta as ChunkMetaShown};
@@ -29,7 +29,7 @@ pub struct ChunkRecords {
 
 impl ChunkRecords {
     ghost use Rattle.metadata.specs.Begun.{BeginsFooter};
-    ghost use Rattle.metadata.specs.Records.{FileMeta as FileMetaShown, GroupMeta as GroupMetaShown};
+    ghost use Rattle.metadata.specs.Records.{GroupMeta as GroupMetaShown, FileMeta as FileMetaShown};
     ghost use Rattle.manifest.specs.Handles.{records_of};
 
     /// These records, without the paths that they have. It fails only when out of memory, or where a `u64` does not
@@ -95,7 +95,8 @@ impl ChunkRecords {
         let start = start_of(alloc, path)?;
         begin_group(self.ends.len(), out)?;
         self.put_chunks(start.as_slice(), out)?;
-        end_group(alloc, total_byte_size, num_rows, out)
+        end_group(alloc, total_byte_size, num_rows, out)?;
+        Ok(())
     }
 
     /// Writes the records behind this start of a record, as the next chunks of a group that is begun.
