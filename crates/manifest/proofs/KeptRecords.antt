@@ -14,7 +14,7 @@ use Rattle.metadata.specs.ToTree.{chunk_meta_fields}
 use Rattle.metadata.specs.FromTree.{chunk_meta}
 use Rattle.metadata.specs.Answers.{StandsFor}
 use Rattle.manifest.specs.KeptChunks.{IsRestOf, AreRestsOf, sizes_of, size_by, unplaced}
-use Rattle.manifest.specs.Records.{placed}
+use Rattle.manifest.specs.KeptChunks.{placed}
 
 -- what is refused for no fault is refused for memory
 pub memory_left : (e : Refusal) → HasCause (λ f. (f ≡ Truncated) ⊎ (f ≡ Thrift)) e → (IsFault e → ⊥) → HasCause (λ f. ⊥) e

@@ -17,6 +17,10 @@ use Rattle.manifest.specs.OneSpelling.{Rest-prop, four}
 abbrev pub unplaced : ChunkMeta → ChunkMeta
 unplaced c = record { file_path = None; file_offset = c.file_offset; meta_data = c.meta_data }
 
+-- the record of a chunk with the path of the file that it is in
+abbrev pub placed : List ℕ → ChunkMeta → ChunkMeta
+placed path c = record { file_path = Some path; file_offset = c.file_offset; meta_data = c.meta_data }
+
 -- the text is the record of a chunk that names no file: the rest of its struct behind a path
 pub record IsRestOf (text : List ℕ) (c : ChunkMeta) : Type 0 where
   pub here : c.file_path ≡ None

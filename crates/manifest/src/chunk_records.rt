@@ -5,8 +5,7 @@ ghost use Rattle.bits.specs.Refusals.{RefusedMemoryOnly};
 ghost use Rattle.metadata.specs.Begun.{BeginsChunk, BeginsGroup};
 ghost use Rattle.metadata.specs.Records.{ChunkMeta as ChunkMetaShown};
 ghost use Rattle.metadata.specs.Views.{chunk_meta_view};
-ghost use Rattle.manifest.specs.KeptChunks.{IsRestOf, AreRestsOf, HasRecords, HasRecords-prop, size_by, sizes_of, unplaced};
-ghost use Rattle.manifest.specs.Records.{placed};
+ghost use Rattle.manifest.specs.KeptChunks.{IsRestOf, AreRestsOf, HasRecords, HasRecords-prop, placed, size_by, sizes_of, unplaced};
 
 use bits::{R, Refusal};
 use metadata::{

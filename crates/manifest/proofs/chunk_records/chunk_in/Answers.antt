@@ -6,7 +6,7 @@ use Rattle.metadata.specs.Records.{ChunkMeta}
 use Rattle.metadata.specs.FromTree.{chunk_meta}
 use Rattle.metadata.specs.Views.{chunk_meta_view}
 use Rattle.metadata.specs.Answers.{StandsFor}
-use Rattle.manifest.specs.Records.{placed}
+use Rattle.manifest.specs.KeptChunks.{placed}
 use Rattle.manifest.proofs.KeptRecords.{memory_left, stands_behind, without_path}
 use Rattle.manifest.proofs.chunk_records.chunk_in.Goals as goal
 

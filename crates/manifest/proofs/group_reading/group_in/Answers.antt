@@ -62,7 +62,7 @@ returns-clause-stands c = λ stored valid same fronts.
     = ap (take n) same ∙ ap (λ (k : ℕ). take k (leaves_of stored)) (sym front.1) ∙ sym (c.fronts_have_the_first_leaves.ensures w stored) in
     let ms : c.as_slice-columns.result.now ≡ c.args.meta.columns.items = c.as_slice-columns.ensures.value in
     let own : records_of c.in_ok-chunks.chunks ≡ map unplaced (map chunk_meta_view c.as_slice-columns.result.now)
-    = c.in_ok-chunks.ensures.are ∙ ap (λ (xs : List CodeChunkMeta). map unplaced (map chunk_meta_view xs)) (sym ms) in
+    = c.in_ok-chunks.ensures.are in
     record {
       is = record {
         some = rows.1;

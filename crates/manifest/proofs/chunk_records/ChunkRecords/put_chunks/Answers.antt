@@ -3,7 +3,7 @@ use Rattle.std.proofs.lemmas.List.{append-nil, drop_all, map_push}
 use Rattle.metadata.specs.Begun.{BeginsGroup}
 use Rattle.metadata.specs.Records.{ChunkMeta}
 use Rattle.manifest.specs.Handles.{records_of}
-use Rattle.manifest.specs.Records.{placed}
+use Rattle.manifest.specs.KeptChunks.{placed}
 use Rattle.manifest.proofs.KeptRecords.{taken_at, none_left, chunk_follows}
 use Rattle.manifest.proofs.chunk_records.ChunkRecords.put_chunks.Goals as goal
 

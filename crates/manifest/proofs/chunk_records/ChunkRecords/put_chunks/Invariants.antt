@@ -3,7 +3,7 @@ use Rattle.metadata.specs.Begun.{BeginsChunk, BeginsGroup}
 use Rattle.metadata.specs.Records.{ChunkMeta}
 use Rattle.manifest.specs.Handles.{records_of}
 use Rattle.manifest.specs.KeptChunks.{AreRestsOf}
-use Rattle.manifest.specs.Records.{placed}
+use Rattle.manifest.specs.KeptChunks.{placed}
 use Rattle.manifest.proofs.chunk_records.ChunkRecords.put_chunks.Given as goal
 
 -- those so far are written, and they and those that are left are all

@@ -7,7 +7,7 @@ use Rattle.metadata.specs.ToTree.{group_meta_fields}
 use Rattle.metadata.specs.Begun.{BeginsChunk, BeginsGroup}
 use Rattle.metadata.specs.Records.{ChunkMeta, GroupMeta}
 use Rattle.manifest.specs.Handles.{records_of}
-use Rattle.manifest.specs.Records.{placed}
+use Rattle.manifest.specs.KeptChunks.{placed}
 use Rattle.manifest.proofs.KeptRecords.{as_many}
 use Rattle.manifest.proofs.chunk_records.ChunkRecords.put_group.Goals as goal
 

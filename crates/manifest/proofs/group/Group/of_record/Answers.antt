@@ -92,7 +92,7 @@ are_kept ls seen cs taken again kept ss leaves first second records is =
 pub returns-clause-is : goal.returns-clause-is
 returns-clause-is c = λ keys can.
     let kept = are_kept (leaves_of c.args.stored.now) (map leaf_view c.leaves-leaves.result.now) c.in-Some.own.now.columns.items c.as_slice.result.now c.as_slice-2.result.now (records_of c.in_ok-chunks.chunks) (map statistics_of c.in_ok-known.known.items)
-        c.leaves-leaves.ensures.leaves_are c.as_slice.ensures.value c.as_slice-2.ensures.value c.in_ok-known.ensures.stands c.in_ok-chunks.ensures.are in
+    c.leaves-leaves.ensures.leaves_are c.as_slice.ensures.value c.as_slice-2.ensures.value c.in_ok-known.ensures.stands c.in_ok-chunks.ensures.are in
     let rows = c.in_ok-rows.ensures.stands in
     group_is keys c.args.stored.now _ c.leaves-leaves.ensures.valid rows.1 (λ over. c.in_ok-rows.ensures.within_limits (subst (λ (z : ℤ). most_rows <ℤ z) (sym rows.0) over))
     (sym (count_views c.fields-width.result.now) ∙ ap count c.fields-width.ensures) kept.records (subst (λ (k : List ValueTree). CanPartition keys k) (sym c.in_ok-key.ensures.copies) can)
@@ -102,7 +102,7 @@ returns-clause-holds c = λ bytes have o rows w.
     let own = group_meta_view c.in-Some.own.now in
     let alone = rw c.in-Some.is at c.own_group.ensures in
     let kept = are_kept (leaves_of c.args.stored.now) (map leaf_view c.leaves-leaves.result.now) c.in-Some.own.now.columns.items c.as_slice.result.now c.as_slice-2.result.now (records_of c.in_ok-chunks.chunks) (map statistics_of c.in_ok-known.known.items)
-        c.leaves-leaves.ensures.leaves_are c.as_slice.ensures.value c.as_slice-2.ensures.value c.in_ok-known.ensures.stands c.in_ok-chunks.ensures.are in
+    c.leaves-leaves.ensures.leaves_are c.as_slice.ensures.value c.as_slice-2.ensures.value c.in_ok-known.ensures.stands c.in_ok-chunks.ensures.are in
     holds c.written_parts_hold_groups.ensures o c.args.stored.now rows bytes c.leaves-leaves.ensures.valid w own (groups_are bytes (file_meta_view c.args.record.now) own have alone) _ kept.same c.in_ok-rows.ensures.stands.0 kept.records
 
 pub returns-clause-means : goal.returns-clause-means
@@ -113,7 +113,7 @@ returns-clause-means c = λ bytes have o rows w keys held are.
     let own = group_meta_view c.in-Some.own.now in
     let alone = rw c.in-Some.is at c.own_group.ensures in
     let kept = are_kept (leaves_of fs) (map leaf_view c.leaves-leaves.result.now) c.in-Some.own.now.columns.items c.as_slice.result.now c.as_slice-2.result.now (records_of c.in_ok-chunks.chunks) (map statistics_of c.in_ok-known.known.items)
-        c.leaves-leaves.ensures.leaves_are c.as_slice.ensures.value c.as_slice-2.ensures.value c.in_ok-known.ensures.stands c.in_ok-chunks.ensures.are in
+    c.leaves-leaves.ensures.leaves_are c.as_slice.ensures.value c.as_slice-2.ensures.value c.in_ok-known.ensures.stands c.in_ok-chunks.ensures.are in
     part_means c.whole_rows_are_padded.ensures keys fs _ bytes rows held (part law o fs rows bytes valid w).appended.fit (sym (count_views c.fields-width.result.now) ∙ ap count c.fields-width.ensures)
     (holds law o fs rows bytes valid w own (groups_are bytes (file_meta_view c.args.record.now) own have alone) _ kept.same c.in_ok-rows.ensures.stands.0 kept.records)
     (subst (λ (k : List ValueTree). AreRowsOf keys k rows held) (sym c.in_ok-key.ensures.copies) are)
