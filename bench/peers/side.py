@@ -441,6 +441,31 @@ def large_root(it):
     shutil.rmtree(folder)
 
 
+def grown(it, groups):
+    """What a table of so many groups of 5 columns takes: a count of its rows, its root alone, and an append of one row."""
+    folder, columns = it.file("grown"), {f"c{at}": lambda i, at=at: i * 7 + at for at in range(5)}
+    it.pqds("create", folder, it.schema("table.json", pa.schema([pa.field(name, pa.int64(), False) for name in columns])))
+    it.pqds("append", folder, write_lines(it.file("rows.jsonl"), columns, range(groups)), "--group-rows", "1")
+    out, one = it.file("count"), write_lines(it.file("one.jsonl"), columns, range(1))
+
+    def by_pyarrow():
+        assert ds.parquet_dataset(f"{folder}/_metadata").count_rows(use_threads=False) == groups
+
+    def by_fastparquet():
+        assert fast.fastparquet.ParquetFile(folder).count() == groups
+
+    def after(who):
+        if who in ("pqds", "DuckDB") and int(open(out).read()) != groups:
+            it.tell(f"side, count of {groups} groups by {who}: {open(out).read()}")
+
+    works = {"pqds": lambda: it.pqds("count", folder, out=out), "DuckDB": lambda: it.duckdb(f"SELECT count(*) FROM read_parquet('{folder}/*.parquet')", out=out),
+             "pyarrow": lambda: within(by_pyarrow), "fastparquet": lambda: within(by_fastparquet)}
+    row(f"`count`, {groups:,} groups of 5 columns", least(works, after=after))
+    row(f"the root alone, {os.path.getsize(folder + '/_metadata'):,} bytes", least({"pqds": lambda: it.pqds("groups", folder), "pyarrow": lambda: within(pq.read_metadata, f"{folder}/_metadata")}))
+    row("append of one row", least({"pqds": lambda: it.pqds("append", folder, one)}))
+    shutil.rmtree(folder)
+
+
 # ---- rewriting ----
 
 def rewritten(it):
@@ -525,6 +550,13 @@ def starts(it):
 
 def forms(path, room, tell):
     other_forms(Side(path, room, tell))
+
+
+def growth(path, room, tell):
+    it = Side(path, room, tell)
+    head("as a table grows")
+    for groups in (100, 1_000, 10_000, 40_000):
+        grown(it, groups)
 
 
 def run(path, room, tell):

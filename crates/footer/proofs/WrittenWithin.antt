@@ -51,3 +51,12 @@ file_within law footers schemas n fs o rows front bytes gs meta is p ends schema
     (not_long bytes (length filled.footer) short (sym (announced bytes front filled.footer filled.framed)) (few front filled.footer filled.framed))
     (subst (λ (m : FileMeta). IsTooLarge m.schema → ⊥) (sym is) small)
     (subst (λ (m : FileMeta). (g : GroupMeta) → Contains m.row_groups g → IsGroupOver front fs g → ⊥) (sym is) (groups_within law fs (chunk_options o) magic front gs groups p))
+
+-- and its record is the writer's
+pub same_record : IsFunctional (StandsFor file_meta) → (fs : Fields) (o : WriteOptions) (rows : List ValueTrees) (front bytes : List ℕ) (gs : List GroupMeta) (meta : FileMeta)
+    → AreWritten fs o rows front gs → EndsWith front meta bytes → (f : List ℕ) (m : FileMeta) → IsFile bytes f m → m ≡ meta
+same_record footers fs o rows front bytes gs meta p ends f m other =
+    let begun = begins fs (chunk_options o) magic front gs (groups_of o.group_rows rows) p in
+    let filled = ends begun.0 begun.1 in
+    let file : IsFile bytes front meta = record { footer = filled.footer; used = length filled.footer; framed = filled.framed; stands = filled.fills } in
+    (one_file footers bytes f front m meta other file).1

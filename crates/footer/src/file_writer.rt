@@ -1,6 +1,6 @@
 //! A file that is written row by row.
 
-ghost use Rattle.std.specs.Prelude.{◌≡◌, ◌⊎◌, ◌+◌, ◌≤◌, ◌<◌, ◌++◌, ◌∷◌, [], List, true, false, length, IfOk, OnOk, OnErr, Err};
+ghost use Rattle.std.specs.Prelude.{◌≡◌, ◌⊎◌, ℕ, ◌+◌, ◌≤◌, ◌<◌, ◌++◌, ◌∷◌, [], List, true, false, length, IfOk, OnOk, OnErr, Err};
 ghost use Rattle.bits.specs.Refusals.{OnFault, RefusedOnly, RefusedMemoryOnly};
 ghost use Rattle.schema.specs.Fits.{fits_each};
 ghost use Rattle.schema.specs.Shape.{Fields};
@@ -9,7 +9,9 @@ ghost use Rattle.schema.specs.Views.{row_view};
 ghost use Rattle.shred.specs.Buffer.{holds, schema_of as rows_schema};
 ghost use Rattle.row_group.specs.Writing.{IsOfRows};
 ghost use Rattle.footer.specs.Faults.{IsOverLimit};
-ghost use Rattle.footer.specs.File.{FileMeans};
+ghost use Rattle.metadata.specs.Records.{FileMeta as FileMetaShown};
+ghost use Rattle.metadata.specs.Views.{file_meta_view};
+ghost use Rattle.footer.specs.File.{IsFile, FileMeans};
 ghost use Rattle.footer.specs.Own.{IsLaidOut};
 ghost use Rattle.footer.specs.Writing.{IsOutOfRange, IsTooMuch, IsTaken};
 
@@ -20,7 +22,7 @@ use crate::limits::MAGIC;
 use crate::options::WriteOptions;
 use assemble::RowSink;
 use bits::{R, Refusal};
-use metadata::{GroupMeta, one_footer};
+use metadata::{FileMeta, GroupMeta, one_footer};
 use row_group::{
     an_appended_group_has_its_rows, an_appended_group_is_within_limits, write_buffered_group,
 };
@@ -161,7 +163,7 @@ impl<'a> FileWriter<'a> {
 
     /// The bytes of a file that means all rows that were given, laid out as by [`write_file`](crate::write_file).
     /// Refused Limit only where they are too much for a file.
-    pub fn finish(mut self) -> R<Vec<u8>>
+    pub fn finish(self) -> R<Vec<u8>>
         ensures means { IfOk result (λ file. (rows : List ValueTrees) → has_rows self.entry rows → FileMeans file.items (schema_of self.entry) rows) }
         ensures laid_out { IfOk result (λ file. (rows : List ValueTrees) → has_rows self.entry rows
             → IsLaidOut (options_of self.entry) (schema_of self.entry) rows file.items) }
@@ -174,13 +176,35 @@ impl<'a> FileWriter<'a> {
             → IsTooMuch (schema_of self.entry) (options_of self.entry) rows }
         ensures which { RefusedOnly IsOfRows result }
     {
+        let (file, _record) = self.finish_with_record()?;
+        Ok(file)
+    }
+
+    /// The file of [`finish`](FileWriter::finish), and the record in its footer: for who would read that footer next.
+    /// Refused as `finish` is.
+    pub fn finish_with_record(mut self) -> R<(Vec<u8>, FileMeta)>
+        ensures means { IfOk result (λ x. (rows : List ValueTrees) → has_rows self.entry rows → FileMeans x.0.items (schema_of self.entry) rows) }
+        ensures laid_out { IfOk result (λ x. (rows : List ValueTrees) → has_rows self.entry rows
+            → IsLaidOut (options_of self.entry) (schema_of self.entry) rows x.0.items) }
+        ensures readable { IfOk result (λ x. (rows : List ValueTrees) → has_rows self.entry rows
+            → IsTaken (options_of self.entry).group_rows (schema_of self.entry) rows x.0.items) }
+        ensures record_is { IfOk result (λ x. (rows : List ValueTrees) → has_rows self.entry rows
+            → (front : List ℕ) (meta : FileMetaShown) → IsFile x.0.items front meta → meta ≡ file_meta_view x.1) }
+        ensures within_limits { IfOk result (λ x. (rows : List ValueTrees) → has_rows self.entry rows → IsOverLimit x.0.items → ⊥) }
+        ensures in_range { OnOk result ((rows : List ValueTrees) → has_rows self.entry rows → IsOutOfRange (options_of self.entry) → ⊥) }
+        ensures only { OnFault result ((rows : List ValueTrees) → has_rows self.entry rows → ⊥) }
+        ensures limit { result ≡ Err Refusal.Limit → (rows : List ValueTrees) → has_rows self.entry rows
+            → IsTooMuch (schema_of self.entry) (options_of self.entry) rows }
+        ensures which { RefusedOnly IsOfRows result }
+    {
         an_appended_group_has_its_rows();
         an_appended_group_is_within_limits();
         one_footer();
         a_list_means_one_schema();
         self.write_waiting()?;
         let record = record_of(self.alloc, self.waiting.schema(), self.written, self.groups)?;
-        with_footer(self.alloc, self.bytes, &record)
+        let file = with_footer(self.alloc, self.bytes, &record)?;
+        Ok((file, record))
     }
 
     /// Writes the rows that wait where they are a full group. After a refusal they still wait.

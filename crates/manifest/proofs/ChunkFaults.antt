@@ -17,7 +17,8 @@ use Rattle.footer.specs.Greatest.{most_of_file}
 use Rattle.statistics.specs.Bounds.{Statistics}
 use Rattle.statistics.specs.Bytes.{IsBound, IsBoundAt, IsLengthOverLimit}
 use Rattle.manifest.specs.Records.{HasStatistics, IsChunkRecord}
-use Rattle.manifest.specs.inner.Reading.{unplaced, IsChunkFault, AreGiven, HasLongValues}
+use Rattle.manifest.specs.KeptChunks.{unplaced}
+use Rattle.manifest.specs.inner.Reading.{IsChunkFault, AreGiven, HasLongValues}
 
 -- ---- what the record is refused for
 

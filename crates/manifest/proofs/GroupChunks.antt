@@ -19,7 +19,8 @@ use Rattle.schema.specs.Fronts.{first_fields, IsFront, FrontsHaveFirstLeaves}
 use Rattle.metadata.specs.Records.{ChunkMeta, GroupMeta}
 use Rattle.statistics.specs.Bounds.{Statistics}
 use Rattle.manifest.specs.Records.{placed, IsChunkRecord, AreChunkRecords, IsGroupRecord}
-use Rattle.manifest.specs.inner.Reading.{unplaced, IsChunkFault, IsChunksFault, IsGroupFault, IsGroupsFault, IsRowsFault, FirstPath}
+use Rattle.manifest.specs.KeptChunks.{unplaced}
+use Rattle.manifest.specs.inner.Reading.{IsChunkFault, IsChunksFault, IsGroupFault, IsGroupsFault, IsRowsFault, FirstPath}
 
 -- ---- refusals
 

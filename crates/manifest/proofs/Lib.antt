@@ -26,6 +26,5 @@ pub mod ShortTexts
 pub mod WithinBits
 pub mod OwnRoots
 pub mod WrittenRoots
-pub mod Unplacing
 pub mod PutGroups
 pub mod KeptRecords

@@ -4,9 +4,6 @@ use Rattle.std.specs.Prelude.{◌<ℤ◌, sum_by}
 use Rattle.std.specs.List.{AllByRecursion, slice_get}
 use Rattle.std.proofs.lemmas.Bool.{cases_lt}
 use Rattle.std.proofs.lemmas.List.Sums.{sum_by-cons}
-use Rattle.bits.specs.declared.refusal.Refusal.{Refusal}
-use Rattle.bits.specs.declared.refusal.Refusal.TheVariants.{Limit, Memory}
-use Rattle.bits.specs.Refusals.{IsFault}
 use Rattle.schema.specs.Values.{ValueTrees}
 use Rattle.schema.specs.Shape.{Fields, count}
 use Rattle.schema.specs.Fits.{RowsFit}
@@ -22,7 +19,6 @@ use Rattle.row_group.specs.Writing.{AppendsEach}
 use Rattle.row_group.specs.declared.options.ChunkOptions.{ChunkOptions}
 use Rattle.footer.specs.declared.options.WriteOptions.{WriteOptions}
 use Rattle.footer.specs.File.{IsFile}
-use Rattle.footer.specs.Faults.{IsLong, HasFooterFault}
 use Rattle.footer.specs.Greatest.{most_of_footer}
 use Rattle.footer.specs.Own.{own_record}
 use Rattle.footer.specs.Writing.{IsTooMuch, heavy_footer, footer_weight, groups_of, chunk_options}
@@ -33,8 +29,8 @@ use Rattle.manifest.specs.Groups.{Group}
 use Rattle.manifest.specs.Records.{HasStatistics, IsChunkRecord, AreChunkRecords, IsGroup}
 use Rattle.manifest.specs.Parts.{HoldsGroup, PartMeans}
 use Rattle.manifest.specs.Laws.{HaveStatistics, AreNamesShort, IsWrittenPart, WrittenPartsHoldGroups}
-use Rattle.manifest.specs.Written.{IsPartOf}
-use Rattle.manifest.specs.inner.Reading.{unplaced}
+use Rattle.manifest.specs.Written.{HaveRecord, IsPartOf}
+use Rattle.manifest.specs.KeptChunks.{unplaced}
 use Rattle.manifest.proofs.WrittenParts.{one_group, bound_at}
 use Rattle.manifest.proofs.WrittenGroups.{records_each, long_fields, whole_front, none_after, some_fields}
 
@@ -80,15 +76,6 @@ names_too_long o fs rows bytes w h =
     let heavy : most_of_footer < 1024 + sum_by element_weight (elements_of fs) + 1 * (64 + sum_by leaf_weight (leaves_of fs)) = omega (arith, long) in
     heavy_footer (subst (λ (n : ℕ). most_of_footer < footer_weight fs n) (sym one) heavy)
 
--- ---- refusals
-
--- a file that is not too long is not refused
-pub file_only : (bytes : List ℕ) (e : Refusal) → (IsFault e → (front : List ℕ) (meta : FileMeta) → IsFile bytes front meta → ⊥) → HasFooterFault bytes e → (e ≡ Memory → ⊥) → (IsLong bytes → ⊥)
-    → (front : List ℕ) (meta : FileMeta) → IsFile bytes front meta → ⊥
-file_only bytes Limit only why other short front meta file = short why
-file_only bytes Memory only why other short front meta file = other refl
-file_only bytes e only why other short front meta file = only tt front meta file
-
 -- ---- the chunks
 
 -- the record at a place
@@ -111,6 +98,18 @@ leaf_there (l ∷ ls) (suc i) lt = leaf_there ls i (omega (arith, lt))
 pub unplaced_is : (c : ChunkMeta) → c.file_path ≡ None → unplaced c ≡ c
 unplaced_is c none = λ i. record { file_path = sym none i; file_offset = c.file_offset; meta_data = c.meta_data }
 
+-- the records of a file's own chunks are kept as they are
+pub all_unplaced : (ls : List Leaf) (cs : List ChunkMeta) (ss : List Statistics) → AreChunkRecords ls cs ss → map unplaced cs ≡ cs
+all_unplaced [] [] [] h = refl
+all_unplaced [] [] (s ∷ ss) h = absurd h
+all_unplaced [] (c ∷ cs) ss h = absurd h
+all_unplaced (l ∷ ls) [] ss h = absurd h
+all_unplaced (l ∷ ls) (c ∷ cs) [] h = absurd h
+all_unplaced (l ∷ ls) (c ∷ cs) (s ∷ ss) h =
+    let first = unplaced_is c h.0.here in
+    let rest = all_unplaced ls cs ss h.1 in
+    λ i. first i ∷ rest i
+
 -- ---- the group
 
 pub have_statistics : (ls : List Leaf) (cs : List ChunkMeta) (ss : List Statistics) → AreChunkRecords ls cs ss → HaveStatistics ls cs ss
@@ -132,6 +131,10 @@ group_is keys fs g valid some few wide records can = record {
 }
 
 -- ---- the file
+
+-- the groups of a file are those of its record
+pub groups_are : (bytes : List ℕ) (record_of : FileMeta) (own : GroupMeta) → HaveRecord bytes record_of → record_of.row_groups ≡ own ∷ [] → (front : List ℕ) (meta : FileMeta) → IsFile bytes front meta → meta.row_groups ≡ own ∷ []
+groups_are bytes record_of own have alone front meta file = ap (λ (m : FileMeta). m.row_groups) (have front meta file) ∙ alone
 
 module _ (law : WrittenPartsHoldGroups) (o : WriteOptions) (fs : Fields) (rows : List ValueTrees) (bytes : List ℕ) (valid : IsSchema fs) (w : IsPartOf o fs rows bytes) where
   abbrev pub meta_of : FileMeta

@@ -1,3 +1,4 @@
+pub mod OneSpelling
 pub mod KeptChunks
 pub mod Handles
 pub mod Ordered

@@ -12,11 +12,8 @@ use Rattle.statistics.specs.Bounds.{Statistics}
 use Rattle.statistics.specs.Bytes.{IsBoundAt}
 use Rattle.partition.specs.Folders.{CanPartition, part_path_of}
 use Rattle.schema.specs.Fronts.{first_fields, IsFront}
+pub use Rattle.manifest.specs.KeptChunks.{placed}
 use Rattle.manifest.specs.Groups.{Group}
-
--- the record of a chunk with the path of the file that it is in
-abbrev pub placed : List ℕ → ChunkMeta → ChunkMeta
-placed path c = record { file_path = Some path; file_offset = c.file_offset; meta_data = c.meta_data }
 
 -- the statistics that the record of a chunk of this leaf has: the nulls are counted, and each bound that is there is a
 -- value of the leaf's type

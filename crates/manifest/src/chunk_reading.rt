@@ -11,7 +11,8 @@ ghost use Rattle.footer.specs.Greatest.{most_of_file};
 ghost use Rattle.statistics.specs.Bounds.{Statistics as StatisticsView, statistics_of};
 ghost use Rattle.statistics.specs.Bytes.{IsBoundAt};
 ghost use Rattle.manifest.specs.Records.{IsChunkRecord};
-ghost use Rattle.manifest.specs.inner.Reading.{unplaced, IsChunkFault, AreGiven, HasShortBounds, HasLongValues};
+ghost use Rattle.manifest.specs.KeptChunks.{unplaced};
+ghost use Rattle.manifest.specs.inner.Reading.{IsChunkFault, AreGiven, HasShortBounds, HasLongValues};
 
 use bits::{R, Refusal};
 use footer::MOST_BYTES_OF_FILE;

@@ -2,7 +2,6 @@
 
 ghost use Rattle.std.specs.Prelude.{◌≡◌, suc, ◌<◌, ◌≤◌, ◌^◌, ◌<ℤ◌, ◌↔◌, ℕ, pos, List, Some, map, take, length, option_map, IsTrue, IfOk, OnOk, IfErr};
 ghost use Rattle.bits.specs.declared.refusal.Refusal.TheVariants.{Memory};
-ghost use Rattle.bits.specs.Refusals.{RefusedMemoryOnly};
 ghost use Rattle.schema.specs.Shape.{Fields};
 ghost use Rattle.schema.specs.Law.{IsSchema};
 ghost use Rattle.schema.specs.Stripe.{leaves_of};
@@ -12,10 +11,10 @@ ghost use Rattle.metadata.specs.Records.{ChunkMeta as ChunkMetaShown};
 ghost use Rattle.metadata.specs.Views.{chunk_meta_view, group_meta_view};
 ghost use Rattle.row_group.specs.Greatest.{most_rows};
 ghost use Rattle.statistics.specs.Bounds.{Statistics as StatisticsShown, statistics_of};
-ghost use Rattle.manifest.specs.Handles.{records_of};
 ghost use Rattle.manifest.specs.Groups.{Group as GroupShown, group_view};
+ghost use Rattle.manifest.specs.KeptChunks.{unplaced};
 ghost use Rattle.manifest.specs.Records.{AreChunkRecords, IsGroupRecord, placed};
-ghost use Rattle.manifest.specs.inner.Reading.{HasFronts, IsChunksFault, IsGroupFault, IsRowsFault, FirstPath, unplaced};
+ghost use Rattle.manifest.specs.inner.Reading.{HasFronts, IsChunksFault, IsGroupFault, IsRowsFault, FirstPath};
 
 use crate::chunk_reading::statistics_in;
 use crate::chunk_records::ChunkRecords;
@@ -59,7 +58,7 @@ pub(crate) fn group_in(
     };
     let (key, number) = key_and_low_number(alloc, keys, path)?;
     let known = known_at(alloc, leaves, path, columns)?;
-    let chunks = unplaced_records(alloc, meta.columns)?;
+    let chunks = ChunkRecords::of(alloc, columns)?;
     let stats = GroupStats {
         rows,
         leaves: known,
@@ -133,31 +132,4 @@ fn is_at(chunk: &ChunkMeta, path: &[u8]) -> bool
         Some(file_path) => file_path.as_slice() == path,
         None => false,
     }
-}
-
-/// The records of chunks as in their own file, without a path, to be kept. It fails only when out of memory.
-fn unplaced_records(alloc: Global, chunks: Vec<ChunkMeta>) -> R<ChunkRecords>
-    ensures are { IfOk result (λ records. records_of records ≡ map unplaced (map chunk_meta_view chunks.items)) }
-    ensures which { RefusedMemoryOnly result }
-{
-    let chunks = unplaced_chunks(chunks);
-    ChunkRecords::of(alloc, chunks.as_slice())
-}
-
-/// The records of chunks as in their own file, without a path.
-fn unplaced_chunks(chunks: Vec<ChunkMeta>) -> Vec<ChunkMeta>
-    ensures { map chunk_meta_view result.items ≡ map unplaced (map chunk_meta_view chunks.items) }
-{
-    let mut chunks = chunks;
-    for chunk in chunks.iter_mut() {
-        unplace(chunk);
-    }
-    chunks
-}
-
-/// Removes the path of the file.
-fn unplace(chunk: &mut ChunkMeta)
-    ensures { chunk_meta_view chunk.new ≡ unplaced (chunk_meta_view chunk.old) }
-{
-    chunk.file_path = None;
 }

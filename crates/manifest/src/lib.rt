@@ -9,7 +9,6 @@ mod block;
 mod builder;
 mod chunk_reading;
 mod chunk_records;
-mod copies;
 mod description;
 mod fronts;
 mod group;

@@ -5,10 +5,8 @@ ghost use Rattle.std.specs.List.{AllByRecursion};
 ghost use Rattle.std.specs.Rc.{rc_str_bytes};
 ghost use Rattle.bits.specs.declared.refusal.Refusal.TheVariants.{Memory, Limit};
 ghost use Rattle.schema.specs.Views.{leaf_view};
-ghost use Rattle.metadata.specs.Records.{GroupMeta as GroupMetaShown, FileMeta as FileMetaShown};
-ghost use Rattle.metadata.specs.Views.{chunk_meta_view, group_meta_view};
-ghost use Rattle.footer.specs.File.{IsFile};
-ghost use Rattle.footer.specs.Faults.{IsLong};
+ghost use Rattle.metadata.specs.Records.{GroupMeta as GroupMetaShown};
+ghost use Rattle.metadata.specs.Views.{chunk_meta_view, group_meta_view, file_meta_view};
 ghost use Rattle.statistics.specs.Bounds.{Statistics as StatisticsShown, statistics_of};
 ghost use Rattle.manifest.specs.Records.{AreChunkRecords};
 ghost use Rattle.manifest.specs.Laws.{AreNamesShort};
@@ -19,8 +17,7 @@ use crate::group::Group;
 use crate::group_reading::rows_of;
 use crate::laws::written_parts_hold_groups;
 use bits::{R, Refusal};
-use footer::read_footer;
-use metadata::{ChunkMeta, GroupMeta};
+use metadata::{ChunkMeta, FileMeta, GroupMeta};
 use schema::{Key, Leaf, Schema, whole_rows_are_padded};
 use statistics::{GroupStats, Stats};
 use std::alloc::Global;
@@ -37,26 +34,33 @@ impl Group {
     ghost use Rattle.manifest.specs.Handles.{group_view};
     ghost use Rattle.manifest.specs.Records.{IsGroup};
     ghost use Rattle.manifest.specs.Parts.{HoldsGroup, PartMeans};
-    ghost use Rattle.manifest.specs.Written.{IsPartOf};
+    ghost use Rattle.manifest.specs.Written.{HaveRecord, IsPartOf};
 
-    /// The group of a part file: of this key and number, with the records of the file's own footer, in a table whose files
-    /// have these fields. It is the caller's duty that a number stands behind this one in 64 bits.
+    /// The group of a part file with this record in its footer: of this key and number, with the records of its chunks,
+    /// in a table whose files have these fields. It is the caller's duty that a number stands behind this one in 64 bits.
     ///
-    /// Of a file that [`footer::write_file`] made of rows of one group it is refused only for memory, and Limit only
-    /// where the rows are too much for a file: a name has 2^32 bytes and more. Other bytes are refused as
-    /// [`read_footer`] does it; Page for another number of groups; and as the records of a root are. Time and room are
-    /// linear in the footer.
-    pub fn of_part(alloc: Global, stored: &Schema, key: &Key, number: u64, bytes: &[u8]) -> R<Group>
+    /// Where [`footer::FileWriter`] made the file of rows of one group it is refused only for memory, and Limit only where
+    /// the rows are too much for a file: a name has 2^32 bytes and more. Another record is refused Page for another number
+    /// of groups, and as the records of a root are. Time and room are linear in the record.
+    pub fn of_record(
+        alloc: Global,
+        stored: &Schema,
+        key: &Key,
+        number: u64,
+        record: &FileMeta,
+    ) -> R<Group>
         requires { suc number < 2 ^ 64 }
         ensures number { IfOk result (λ g. g.number ≡ number) }
         ensures key { IfOk result (λ g. key_view g.key ≡ key_view key.now) }
         ensures width { IfOk result (λ g. g.width ≡ count stored.now) }
         ensures is { IfOk result (λ g. (keys : List KeyColumn) → CanPartition keys (key_view key.now) → IsGroup keys stored.now (group_view g)) }
-        ensures holds { IfOk result (λ g. (o : WriteOptions) (rows : List ValueTrees) → IsPartOf o stored.now rows bytes.now → HoldsGroup stored.now (group_view g) bytes.now rows) }
-        ensures means { IfOk result (λ g. (o : WriteOptions) (rows : List ValueTrees) → IsPartOf o stored.now rows bytes.now
-            → (keys : List KeyColumn) (held : List ValueTrees) → AreRowsOf keys (key_view key.now) rows held → PartMeans keys stored.now (group_view g) bytes.now held) }
-        ensures only { IfErr result (λ e. (e ≡ Memory → ⊥) → (o : WriteOptions) (rows : List ValueTrees) → IsPartOf o stored.now rows bytes.now
-            → (e ≡ Limit) × IsTooMuch stored.now o rows) }
+        ensures holds { IfOk result (λ g. (bytes : List ℕ) → HaveRecord bytes (file_meta_view record.now)
+            → (o : WriteOptions) (rows : List ValueTrees) → IsPartOf o stored.now rows bytes → HoldsGroup stored.now (group_view g) bytes rows) }
+        ensures means { IfOk result (λ g. (bytes : List ℕ) → HaveRecord bytes (file_meta_view record.now)
+            → (o : WriteOptions) (rows : List ValueTrees) → IsPartOf o stored.now rows bytes
+            → (keys : List KeyColumn) (held : List ValueTrees) → AreRowsOf keys (key_view key.now) rows held → PartMeans keys stored.now (group_view g) bytes held) }
+        ensures only { IfErr result (λ e. (e ≡ Memory → ⊥) → (bytes : List ℕ) → HaveRecord bytes (file_meta_view record.now)
+            → (o : WriteOptions) (rows : List ValueTrees) → IsPartOf o stored.now rows bytes → (e ≡ Limit) × IsTooMuch stored.now o rows) }
     {
         written_parts_hold_groups();
         whole_rows_are_padded();
@@ -64,8 +68,10 @@ impl Group {
         if !have_short_names(leaves) {
             return Err(Refusal::Limit);
         }
-        let own = own_group(alloc, bytes)?;
-        let rows = rows_of(&own)?;
+        let Some(own) = own_group(record) else {
+            return Err(Refusal::Page);
+        };
+        let rows = rows_of(own)?;
         let known = known_of(alloc, leaves, own.columns.as_slice())?;
         let chunks = ChunkRecords::of(alloc, own.columns.as_slice())?;
         let key = key.copied(alloc)?;
@@ -84,28 +90,15 @@ impl Group {
     }
 }
 
-/// The record of the one group of a file.
-fn own_group(alloc: Global, bytes: &[u8]) -> R<GroupMeta>
-    ensures stands { IfOk result (λ own. (front : List ℕ) (meta : FileMetaShown) → IsFile bytes.now front meta → meta.row_groups ≡ group_meta_view own ∷ []) }
-    ensures only { IfErr result (λ e. (e ≡ Memory → ⊥) → (front : List ℕ) (meta : FileMetaShown) (own : GroupMetaShown)
-        → IsFile bytes.now front meta → (IsLong bytes.now → ⊥) → meta.row_groups ≡ own ∷ [] → ⊥) }
+/// The one group of a file, by the record in its footer.
+fn own_group(record: &FileMeta) -> Option<&GroupMeta>
+    ensures { let groups = (file_meta_view record.now).row_groups in
+        MatchOption result ((own : GroupMetaShown) → groups ≡ own ∷ [] → ⊥) (λ own. groups ≡ group_meta_view own.now ∷ []) }
 {
-    let meta = read_footer(alloc, bytes)?;
-    match only_one(meta.row_groups) {
-        Some(own) => Ok(own),
-        None => Err(Refusal::Page),
-    }
-}
-
-/// The one of a list, if it is the only one.
-fn only_one(groups: Vec<GroupMeta>) -> Option<GroupMeta>
-    ensures { MatchOption result ((own : GroupMetaShown) → map group_meta_view groups.items ≡ own ∷ [] → ⊥) (λ own. map group_meta_view groups.items ≡ group_meta_view own ∷ []) }
-{
-    let mut groups = groups;
-    if groups.len() != 1 {
+    if record.row_groups.len() != 1 {
         return None;
     }
-    groups.pop()
+    record.row_groups.first()
 }
 
 /// What the records of a file's own chunks say of its columns, of which these are the leaves.

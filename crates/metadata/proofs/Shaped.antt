@@ -12,7 +12,7 @@ use Rattle.thrift_compact.specs.Shapes.{StructsWithBytesHaveTheShape, is_of_type
 use Rattle.schema.specs.Elements.{Element}
 use Rattle.metadata.specs.Records.{KeyValue, Statistics, ColumnMeta, ChunkMeta, GroupMeta, ColumnOrder, type_order, other_order, FileMeta, DataPageHeader, DictionaryPageHeader, DataPageHeaderV2, PageHeader}
 use Rattle.metadata.specs.Ids as ids
-use Rattle.metadata.specs.Begun.{fields_before, fields_after}
+use Rattle.metadata.specs.Begun.{fields_before, fields_after, group_rest}
 use Rattle.metadata.specs.ToTree.{Entry, there, given, present, present_of, written, truth, many, record_as, STRUCT, key_value_table, key_value_fields, statistics_table, statistics_fields, column_meta_table, column_meta_fields, chunk_meta_table, chunk_meta_fields, group_meta_table, group_meta_fields, column_order_fields, element_table, element_fields, file_meta_table, file_meta_fields, data_page_header_table, data_page_header_fields, dictionary_page_header_table, dictionary_page_header_fields, data_page_header_v2_table, data_page_header_v2_fields, page_header_table, page_header_fields}
 use Rattle.schema.specs.Law.{IsWritable}
 use Rattle.metadata.specs.Kept.{KeepsWritten}
@@ -86,7 +86,7 @@ column_fits : (x : ColumnMeta) → IsTrue (fields_have_shape 27 (column_meta_fie
 column_fits x = table_fits 27 (column_meta_table x)
     (refl, (given_fits 27 (many 5 i32) x.encodings (λ zs. all_fit 26 5 i32 (λ z. refl) zs), (all_fit 26 8 binary (λ text. refl) x.path_in_schema, (refl, (refl, (i64_fits 27 x.total_uncompressed_size, (i64_fits 27 x.total_compressed_size, (refl, (i64_fits 27 x.dictionary_page_offset, (given_fits 27 (record_as statistics_fields) x.statistics (statistics_fit 26), tt))))))))))
 
-chunk_fits : (x : ChunkMeta) → IsTrue (fields_have_shape 28 (chunk_meta_fields x))
+pub chunk_fits : (x : ChunkMeta) → IsTrue (fields_have_shape 28 (chunk_meta_fields x))
 chunk_fits x = table_fits 28 (chunk_meta_table x) (binary_fits 28 x.file_path, (i64_fits 28 x.file_offset, (column_fits x.meta_data, tt)))
 
 pub group_fits : (x : GroupMeta) → IsTrue (fields_have_shape 30 (group_meta_fields x))
@@ -123,6 +123,10 @@ footer_fits m p = table_fits 32 (file_meta_table m)
 pub before_fits : (m : FileMeta) → EachKeepsShape m → IsTrue (fields_have_shape 32 (fields_of (fields_before m)))
 before_fits m p = table_fits 32 (given i32 ids.file_version m.version ∷ there (many STRUCT (record_as element_fields)) ids.file_schema m.schema ∷ given i64 ids.file_num_rows m.num_rows ∷ [])
     (i32_fits 32 m.version, (each_fits KeepsShape 31 STRUCT (record_as element_fields) m.schema element_fits p, (i64_fits 32 m.num_rows, tt)))
+
+-- the fields of a group's record behind its chunks
+pub group_rest_fits : (size : Option ℤ) (rows : ℤ) → IsTrue (fields_have_shape 32 (fields_of (group_rest size rows)))
+group_rest_fits size rows = table_fits 32 (given i64 ids.group_total_byte_size size ∷ there i64 ids.group_num_rows rows ∷ []) (i64_fits 32 size, (refl, tt))
 
 pub after_fits : (m : FileMeta) → IsTrue (fields_have_shape 32 (fields_of (fields_after m)))
 after_fits m = table_fits 32 (given (many STRUCT (record_as key_value_fields)) ids.file_key_value_metadata m.key_value_metadata ∷ given binary ids.file_created_by m.created_by ∷ given (many STRUCT (record_as column_order_fields)) ids.file_column_orders m.column_orders ∷ [])

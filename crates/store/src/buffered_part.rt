@@ -12,6 +12,8 @@ ghost use Rattle.footer.specs.Writing.{IsOutOfRange, IsTooMuch};
 ghost use Rattle.gather.specs.KeyBuffers.{HoldsRows};
 ghost use Rattle.manifest.specs.Groups.{root_of, handles_view};
 ghost use Rattle.manifest.specs.Root.{stored_of};
+ghost use Rattle.manifest.specs.Written.{HaveRecord};
+ghost use Rattle.metadata.specs.Views.{file_meta_view};
 ghost use Rattle.snapshots.specs.State.{job_is_open};
 ghost use Rattle.snapshots.specs.Views.{state_of};
 ghost use Rattle.table.specs.Table.{Row as TableRow};
@@ -29,6 +31,7 @@ use disk::Disk;
 use footer::{FileWriter, WriteOptions};
 use gather::KeyBuffer;
 use manifest::{Group, Manifest};
+use metadata::FileMeta;
 use partition::{part_path, part_paths_are_not_roots};
 use shred::RowBuffer;
 use std::alloc::Global;
@@ -108,7 +111,7 @@ impl<D: Disk> Store<D> {
 }
 
 /// The part file of the rows of a buffer in a table under a number, written by these options: its path, its bytes, and the
-/// group that its own footer records.
+/// group of the record that the writer put into its footer.
 pub(crate) fn buffered_part(
     alloc: Global,
     table: &Manifest,
@@ -128,8 +131,8 @@ pub(crate) fn buffered_part(
     part_paths_are_not_roots();
     let KeyBuffer { key, rows } = buffer;
     let path = part_path(alloc, table.keys(), &key, number)?;
-    let bytes = buffered_bytes(alloc, options, rows)?;
-    let group = match Group::of_part(alloc, table.stored(), &key, number, bytes.as_slice()) {
+    let (bytes, record) = buffered_file(alloc, options, rows)?;
+    let group = match Group::of_record(alloc, table.stored(), &key, number, &record) {
         Ok(group) => group,
         Err(e) => return Err(limit_or_memory(e)),
     };
@@ -148,16 +151,21 @@ fn limit_or_memory(e: Refusal) -> Refusal
     }
 }
 
-/// The bytes of a file of the rows of a buffer. Refused Limit for options out of range, for more rows than a group has, and
-/// where the rows are too much for a file.
-fn buffered_bytes(alloc: Global, options: &WriteOptions, rows: RowBuffer<'_>) -> R<Vec<u8>>
-    ensures laid_out { IfOk result (λ file. (held : List TableRow) → holds rows.entry held → IsLaidOut options.now (schema_of rows.entry) held file.items) }
-    ensures within_limits { IfOk result (λ file. (held : List TableRow) → holds rows.entry held → IsOverLimit file.items → ⊥) }
+/// A file of the rows of a buffer, and the record in its footer. Refused Limit for options out of range, for more rows than a
+/// group has, and where the rows are too much for a file.
+fn buffered_file(
+    alloc: Global,
+    options: &WriteOptions,
+    rows: RowBuffer<'_>,
+) -> R<(Vec<u8>, FileMeta)>
+    ensures laid_out { IfOk result (λ x. (held : List TableRow) → holds rows.entry held → IsLaidOut options.now (schema_of rows.entry) held x.0.items) }
+    ensures record_is { IfOk result (λ x. (held : List TableRow) → holds rows.entry held → HaveRecord x.0.items (file_meta_view x.1)) }
+    ensures within_limits { IfOk result (λ x. (held : List TableRow) → holds rows.entry held → IsOverLimit x.0.items → ⊥) }
     ensures limit { result ≡ Err Refusal.Limit → (held : List TableRow) → holds rows.entry held → length held ≤ options.now.group_rows
         → IsOutOfRange options.now ⊎ IsTooMuch (schema_of rows.entry) options.now held }
     ensures only { OnFault result ((held : List TableRow) → holds rows.entry held → ⊥) }
     ensures which { RefusedOnly IsOfRows result }
 {
     let writer = FileWriter::of_rows(alloc, rows, options)?;
-    Ok(writer.finish()?)
+    Ok(writer.finish_with_record()?)
 }

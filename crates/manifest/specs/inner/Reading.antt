@@ -14,10 +14,6 @@ use Rattle.statistics.specs.Bytes.{IsBoundAt}
 use Rattle.manifest.specs.declared.fronts.Fronts.{Fronts}
 use Rattle.schema.specs.Fronts.{fields_after, AreOptional}
 
--- the record of a chunk as its own file has it, without a path
-abbrev pub unplaced : ChunkMeta → ChunkMeta
-unplaced c = record { file_path = None; file_offset = c.file_offset; meta_data = c.meta_data }
-
 -- what the record of a chunk is refused for
 abbrev pub IsChunkFault : ColumnMeta → Refusal → Type 0
 IsChunkFault m Schema = Unit {0}

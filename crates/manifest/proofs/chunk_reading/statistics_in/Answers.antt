@@ -6,7 +6,7 @@ use Rattle.schema.specs.Views.{leaf_view}
 use Rattle.metadata.specs.Views.{chunk_meta_view}
 use Rattle.statistics.specs.Bounds.{Statistics}
 use Rattle.manifest.specs.Records.{IsChunkRecord}
-use Rattle.manifest.specs.inner.Reading.{unplaced}
+use Rattle.manifest.specs.KeptChunks.{unplaced}
 use Rattle.manifest.proofs.chunk_reading.statistics_in.Goals as goal
 
 pub returns-in_err-_start-clause-only : goal.returns-in_err-_start-clause-only

@@ -15,7 +15,8 @@ use Rattle.schema.specs.Views.{leaf_view}
 use Rattle.manifest.specs.Groups.{Group}
 use Rattle.manifest.specs.Handles.{records_of}
 use Rattle.manifest.specs.Records.{AreChunkRecords, IsGroupRecord, placed}
-use Rattle.manifest.specs.inner.Reading.{FirstPath, unplaced}
+use Rattle.manifest.specs.KeptChunks.{unplaced}
+use Rattle.manifest.specs.inner.Reading.{FirstPath}
 use Rattle.manifest.proofs.GroupChunks.{no_front, no_path, path_is, chunks_are}
 use Rattle.manifest.proofs.group_reading.group_in.Goals as goal
 
@@ -61,7 +62,7 @@ returns-clause-stands c = λ stored valid same fronts.
     = ap (take n) same ∙ ap (λ (k : ℕ). take k (leaves_of stored)) (sym front.1) ∙ sym (c.fronts_have_the_first_leaves.ensures w stored) in
     let ms : c.as_slice-columns.result.now ≡ c.args.meta.columns.items = c.as_slice-columns.ensures.value in
     let own : records_of c.in_ok-chunks.chunks ≡ map unplaced (map chunk_meta_view c.as_slice-columns.result.now)
-    = c.in_ok-chunks.ensures.are ∙ ap (λ (xs : List CodeChunkMeta). map unplaced (map chunk_meta_view xs)) (sym ms) in
+    = c.in_ok-chunks.ensures.are in
     record {
       is = record {
         some = rows.1;

@@ -3,7 +3,7 @@ use Rattle.schema.specs.Views.{leaf_view}
 use Rattle.metadata.specs.Views.{chunk_meta_view}
 use Rattle.statistics.specs.Bounds.{statistics_of}
 use Rattle.manifest.specs.Records.{AreChunkRecords, placed}
-use Rattle.manifest.specs.inner.Reading.{unplaced}
+use Rattle.manifest.specs.KeptChunks.{unplaced}
 use Rattle.manifest.proofs.group_reading.known_at.Given as goal
 
 abbrev pub invariant-loop-i : goal.invariant-loop-i

@@ -28,11 +28,11 @@ use Rattle.store.specs.Writing.{IsUnfit}
 use Rattle.store.proofs.buffered_part.buffered_part.Goals as goal
 
 -- what was written is the part of these rows
-written_here : (root : Root) (o : WriteOptions) (buffer : KeyBuffer) (stored : List Row) (bytes lent : List ℕ) (fs : Fields) → HoldsPart root o buffer stored → fs ≡ stored_of root → lent ≡ bytes
-    → ((held : List Row) → holds buffer.rows held → IsLaidOut o (schema_of buffer.rows) held bytes) → ((held : List Row) → holds buffer.rows held → IsOverLimit bytes → ⊥) → IsPartOf o fs stored lent
-written_here root o buffer stored bytes lent fs part is same laid within = record {
-  laid_out = subst (λ (b : List ℕ). IsLaidOut o fs stored b) (sym same) (subst (λ (gs : Fields). IsLaidOut o gs stored bytes) (part.rows.schema ∙ sym is) (laid stored part.rows.held));
-  short = λ long. within stored part.rows.held (too_long (subst (λ (b : List ℕ). IsLong b) same long));
+written_here : (root : Root) (o : WriteOptions) (buffer : KeyBuffer) (stored : List Row) (bytes : List ℕ) (fs : Fields) → HoldsPart root o buffer stored → fs ≡ stored_of root
+    → ((held : List Row) → holds buffer.rows held → IsLaidOut o (schema_of buffer.rows) held bytes) → ((held : List Row) → holds buffer.rows held → IsOverLimit bytes → ⊥) → IsPartOf o fs stored bytes
+written_here root o buffer stored bytes fs part is laid within = record {
+  laid_out = subst (λ (gs : Fields). IsLaidOut o gs stored bytes) (part.rows.schema ∙ sym is) (laid stored part.rows.held);
+  short = λ long. within stored part.rows.held (too_long long);
   some = part.some;
   few = part.few;
 }
@@ -55,8 +55,8 @@ returns-clause-made c stored held part are =
     let same = c.in_ok-group.ensures.ok in
     let keys = c.keys.ensures.are in
     let can = subst (λ (ks : List KeyColumn). CanPartition ks key) keys c.in_ok-path.ensures.can in
-    let written = written_here root o c.args.buffer stored c.in_ok-bytes.bytes.items c.as_slice.result.now fs part c.stored.ensures c.as_slice.ensures.value c.in_ok-bytes.ensures.laid_out c.in_ok-bytes.ensures.within_limits in
-    let means = subst (λ (b : List ℕ). PartMeans root.keys fs (group_view c.in-Ok.group) b held) c.as_slice.ensures.value (c.in-Ok.ensures.means o stored written root.keys held are) in
+    let written = written_here root o c.args.buffer stored c.in_ok-bytes.bytes.items fs part c.stored.ensures c.in_ok-bytes.ensures.laid_out c.in_ok-bytes.ensures.within_limits in
+    let means = c.in-Ok.ensures.means c.in_ok-bytes.bytes.items (c.in_ok-bytes.ensures.record_is stored part.rows.held) o stored written root.keys held are in
     record {
       number_is = ap (λ (x : CodeGroup). x.number) same ∙ c.in-Ok.ensures.number;
       key_is = ap (λ (x : CodeGroup). key_view x.key) same ∙ c.in-Ok.ensures.key;
@@ -103,9 +103,9 @@ returns-in-Err-clause-which c stored part =
     let root = root_of c.args.table.now in
     let options = c.args.options.now in
     let key = key_view c.args.buffer.key in
-    let written = written_here root options c.args.buffer stored c.in_ok-bytes.bytes.items c.as_slice.result.now c.stored.result.now part c.stored.ensures c.as_slice.ensures.value c.in_ok-bytes.ensures.laid_out c.in_ok-bytes.ensures.within_limits in
+    let written = written_here root options c.args.buffer stored c.in_ok-bytes.bytes.items c.stored.result.now part c.stored.ensures c.in_ok-bytes.ensures.laid_out c.in_ok-bytes.ensures.within_limits in
     of_group root options key stored c.limit_or_memory.result c.in-Err.e c.limit_or_memory.ensures.which c.limit_or_memory.ensures.limit
-    (subst (λ (fs : Fields). (c.in-Err.e ≡ Memory → ⊥) → (c.in-Err.e ≡ Limit) × IsTooMuch fs options stored) c.stored.ensures (λ other. c.in-Err.ensures.only other options stored written))
+    (subst (λ (fs : Fields). (c.in-Err.e ≡ Memory → ⊥) → (c.in-Err.e ≡ Limit) × IsTooMuch fs options stored) c.stored.ensures (λ other. c.in-Err.ensures.only other c.in_ok-bytes.bytes.items (c.in_ok-bytes.ensures.record_is stored part.rows.held) options stored written))
 
 sure_group : (r : Refusal) → (r ≡ Limit) ⊎ (r ≡ Memory) → r ≡ InDoubt → ⊥
 sure_group r which is = ⊎_elim (λ l. let e : Limit ≡ InDoubt = sym l ∙ is in cc) (λ m. let e : Memory ≡ InDoubt = sym m ∙ is in cc) which

@@ -11,17 +11,20 @@ use Rattle.footer.specs.Writing.{IsOutOfRange, IsTooMuch}
 use Rattle.footer.specs.declared.options.WriteOptions.{WriteOptions}
 use Rattle.vault.proofs.Chained.{refused}
 use Rattle.table.specs.Table.{Row}
-use Rattle.store.proofs.buffered_part.buffered_bytes.Goals as goal
+use Rattle.store.proofs.buffered_part.buffered_file.Goals as goal
 
 pub returns-clause-laid_out : goal.returns-clause-laid_out
 returns-clause-laid_out c held known =
     let of = c.in_ok-writer.ensures.of in
-    let bytes = c.in_ok-finish.field-0.items in
+    let bytes = c.in_ok-finish_with_record.field-0.0.items in
     subst (λ (o : WriteOptions). IsLaidOut o (schema_of c.args.rows) held bytes) of.1
-    (subst (λ (fs : Fields). IsLaidOut (options_of c.in_ok-writer.writer) fs held bytes) of.0 (c.in_ok-finish.ensures.laid_out held (c.in_ok-writer.ensures.begins held known)))
+    (subst (λ (fs : Fields). IsLaidOut (options_of c.in_ok-writer.writer) fs held bytes) of.0 (c.in_ok-finish_with_record.ensures.laid_out held (c.in_ok-writer.ensures.begins held known)))
+
+pub returns-clause-record_is : goal.returns-clause-record_is
+returns-clause-record_is c held known = c.in_ok-finish_with_record.ensures.record_is held (c.in_ok-writer.ensures.begins held known)
 
 pub returns-clause-within_limits : goal.returns-clause-within_limits
-returns-clause-within_limits c held known = c.in_ok-finish.ensures.within_limits held (c.in_ok-writer.ensures.begins held known)
+returns-clause-within_limits c held known = c.in_ok-finish_with_record.ensures.within_limits held (c.in_ok-writer.ensures.begins held known)
 
 -- a limit is no fault
 no_fault : (e : Refusal) → HasCause (λ f. f ≡ Limit) e → IsFault e → ⊥
@@ -43,10 +46,10 @@ returns-in_err-writer-clause-only c =
     refused (λ r. OnFault r ((held : List Row) → holds c.args.rows held → ⊥)) c.from_residual.result _ c.from_residual.ensures.1
     (λ fault held known. no_fault c.in_err-writer.field-0.0 c.in_err-writer.ensures.which fault)
 
-pub returns-in_err-finish-clause-only : goal.returns-in_err-finish-clause-only
-returns-in_err-finish-clause-only c =
-    refused (λ r. OnFault r ((held : List Row) → holds c.args.rows held → ⊥)) c.from_residual-in_err-finish.result _ c.from_residual-in_err-finish.ensures.1
-    (λ fault held known. c.in_err-finish.ensures.only fault held (c.in_ok-writer.ensures.begins held known))
+pub returns-in_err-finish_with_record-clause-only : goal.returns-in_err-finish_with_record-clause-only
+returns-in_err-finish_with_record-clause-only c =
+    refused (λ r. OnFault r ((held : List Row) → holds c.args.rows held → ⊥)) c.from_residual-in_err-finish_with_record.result _ c.from_residual-in_err-finish_with_record.ensures.1
+    (λ fault held known. c.in_err-finish_with_record.ensures.only fault held (c.in_ok-writer.ensures.begins held known))
 
 pub returns-in_err-writer-clause-limit : goal.returns-in_err-writer-clause-limit
 returns-in_err-writer-clause-limit c =
@@ -54,11 +57,11 @@ returns-in_err-writer-clause-limit c =
     (λ is held known few. let same : c.in_err-writer.field-0.0 ≡ Limit = cc in
     ⊎_elim inl (λ more. absurd (let m = more held known in omega (arith, m, few))) (c.in_err-writer.ensures.limit (ap (λ (e : Refusal). Err e) same)))
 
-pub returns-in_err-finish-clause-limit : goal.returns-in_err-finish-clause-limit
-returns-in_err-finish-clause-limit c =
+pub returns-in_err-finish_with_record-clause-limit : goal.returns-in_err-finish_with_record-clause-limit
+returns-in_err-finish_with_record-clause-limit c =
     let of = c.in_ok-writer.ensures.of in
-    refused (λ r. r ≡ Err Limit → (held : List Row) → holds c.args.rows held → length held ≤ c.args.options.now.group_rows → IsOutOfRange c.args.options.now ⊎ IsTooMuch (schema_of c.args.rows) c.args.options.now held) c.from_residual-in_err-finish.result _ c.from_residual-in_err-finish.ensures.1
-    (λ is held known few. let same : c.in_err-finish.field-0.0 ≡ Limit = cc in
+    refused (λ r. r ≡ Err Limit → (held : List Row) → holds c.args.rows held → length held ≤ c.args.options.now.group_rows → IsOutOfRange c.args.options.now ⊎ IsTooMuch (schema_of c.args.rows) c.args.options.now held) c.from_residual-in_err-finish_with_record.result _ c.from_residual-in_err-finish_with_record.ensures.1
+    (λ is held known few. let same : c.in_err-finish_with_record.field-0.0 ≡ Limit = cc in
     inr (subst (λ (o : WriteOptions). IsTooMuch (schema_of c.args.rows) o held) of.1
     (subst (λ (fs : Fields). IsTooMuch fs (options_of c.in_ok-writer.writer) held) of.0
-    (c.in_err-finish.ensures.limit (ap (λ (e : Refusal). Err e) same) held (c.in_ok-writer.ensures.begins held known)))))
+    (c.in_err-finish_with_record.ensures.limit (ap (λ (e : Refusal). Err e) same) held (c.in_ok-writer.ensures.begins held known)))))
