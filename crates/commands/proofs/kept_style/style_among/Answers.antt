@@ -11,7 +11,7 @@ returns-then-is_numbered-clause-style c =
     let gs = groups_in c.args.table.now.groups in
     let g = group_view c.in-Some.group.now in
     let at : slice_get gs place ≡ Some g = subst (λ (hs : List Group). slice_get hs place ≡ Some g) c.groups-groups.ensures.are (sym c.in-Some.ensures) in
-    ap Some c.in_ok-style.ensures.style ∙ sym (first_here (is_numbered c.args.numbers.now) gs place g at (sym c.is_numbered.ensures ∙ c.if-is_numbered.true)) ∙ c.loop-place.invariant
+    ap Some c.in_ok-style-in-Some.ensures.style ∙ sym (first_here (is_numbered c.args.numbers.now) gs place g at (sym c.is_numbered.ensures ∙ c.if-is_numbered.true)) ∙ c.loop-place.invariant
 
 pub returns-in-None-clause-style : goal.returns-in-None-clause-style
 returns-in-None-clause-style c =

@@ -15,7 +15,7 @@ returns-then-may_hold-clause-style c = λ is tells.
     let g = group_view c.in-Some.group.now in
     let at : slice_get gs place ≡ Some g = subst (λ (hs : List Group). slice_get hs place ≡ Some g) c.groups-groups.ensures.are (sym c.in-Some.ensures) in
     let told = subst (λ (ks : List KeyColumn). TellsWhichMayHold ks (tests_in c.args.filter.now) is) (sym c.keys.ensures.are) tells in
-    ap Some c.in_ok-style.ensures.style ∙ sym (first_here is gs place g at ((told g).1 (c.may_hold.ensures.0 c.if-may_hold.true))) ∙ c.loop-place.invariant is tells
+    ap Some c.in_ok-style-in-Some.ensures.style ∙ sym (first_here is gs place g at ((told g).1 (c.may_hold.ensures.0 c.if-may_hold.true))) ∙ c.loop-place.invariant is tells
 
 pub returns-in-None-clause-style : goal.returns-in-None-clause-style
 returns-in-None-clause-style c = λ is tells.

@@ -4,12 +4,12 @@ use Rattle.manifest.specs.Groups.{Group, group_view, groups_in}
 use Rattle.commands.proofs.FirstKept.{first_here, first_past}
 use Rattle.commands.proofs.kept_style.style_of_first.Goals as goal
 
-pub returns-in-Some-clause-style : goal.returns-in-Some-clause-style
-returns-in-Some-clause-style c =
+pub returns-in_ok-style-in-Some-clause-style : goal.returns-in_ok-style-in-Some-clause-style
+returns-in_ok-style-in-Some-clause-style c =
     let gs = groups_in c.args.table.now.groups in
     let g = group_view c.in-Some.group.now in
     let at : slice_get gs 0 ≡ Some g = subst (λ (hs : List Group). slice_get hs 0 ≡ Some g) c.groups.ensures.are (sym c.in-Some.ensures) in
-    ap Some c.in_ok-style.ensures.style ∙ sym (first_here (λ _. true) gs 0 g at refl)
+    ap Some c.in_ok-style-in-Some.ensures.style ∙ sym (first_here (λ _. true) gs 0 g at refl)
 
 pub returns-in-None-clause-style : goal.returns-in-None-clause-style
 returns-in-None-clause-style c =

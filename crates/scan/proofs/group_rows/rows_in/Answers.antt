@@ -1,4 +1,4 @@
-use Rattle.std.proofs.Common.{◌≡◌, ◌∙◌, List, map, length, refl, ap, sym, subst}
+use Rattle.std.proofs.Common.{◌≡◌, ◌∙◌, List, map, length, refl, sym, subst}
 use Rattle.lists.proofs.Lists.{map_empty as none_mapped}
 use Rattle.schema.specs.Keys.{key_columns_view, places_of}
 use Rattle.schema.specs.Shape.{Fields, count}
@@ -67,7 +67,7 @@ returns-clause-others c rows may =
     let first = texts_view c.args.marked.first.items in
     let later = texts_view c.args.marked.later.items in
     let h : Held = record { schema = c.in_ok-copy.copy; chunks = c.in_ok-chunks.chunks; first = c.args.marked.first; later = c.args.marked.later } in
-    let chunks_are = c.in_ok-chunks.ensures.same ∙ ap (map chunk_meta_view) c.as_slice.ensures.value in
+    let chunks_are = c.in_ok-chunks.ensures.are in
     let parts = c.in_ok-parts.parts.items in
     let made = c.in_ok-parts.ensures.stands in
     let valid = c.leaves.ensures.valid.1 in
