@@ -25,7 +25,7 @@ KINDS = ("numbers", "nulls", "lists", "booleans", "texts", "long", "structs", "k
 BOUNDS = {
     "decode": {"bytes": 1, "structs": 160, "header": 160, "held": 48, "row": 2},
     "inspect": {"bytes": 1, "structs": 200, "header": 160, "listed": 400},
-    "import": {"bytes": 1, "structs": 320, "header": 160, "held": 48, "values": 256, "written": 4, "groups": 1024, "cells": 800},
+    "import": {"bytes": 1, "structs": 320, "header": 160, "held": 48, "values": 256, "written": 4, "groups": 1024, "cells": 200},
     "count": {"bytes": 1, "structs": 400},
     "append": {"bytes": 8, "values": 160},
     "encode": {"bytes": 80, "fields": 2048},
