@@ -1,9 +1,8 @@
 -- The columns of a file, one by one, in the bytes of their chunks.
-use Rattle.std.proofs.Common.{false, ◌≡◌, ◌<◌, ◌+◌, ◌≤◌, ℕ, suc, List, [], ◌∷◌, length, take, drop, map, get_or, Option, Some, None, refl, ap, sym, subst, ◌∙◌, arith, length-take-le, length-drop}
+use Rattle.std.proofs.Common.{false, ◌≡◌, ℕ, List, [], ◌∷◌, length, drop, Option, Some, None, ap, subst, ◌∙◌, arith, length-take-le, length-drop}
 use Rattle.std.specs.Prelude.{Result, Ok, Err, IfOk, IfSome, MatchOption, is_some}
 use Rattle.std.proofs.lemmas.Bool.{false≢true}
 use Rattle.bits.specs.declared.refusal.Refusal.{Refusal}
-use Rattle.schema.specs.Annotations.{order_of}
 use Rattle.schema.specs.Stripe.{Leaf, Entry}
 use Rattle.schema.specs.Views.{leaf_view}
 use Rattle.schema.specs.declared.field.Leaf.{Leaf as CodeLeaf}
@@ -11,7 +10,7 @@ use Rattle.metadata.specs.Records.{ColumnMeta}
 use Rattle.metadata.specs.Views.{chunk_meta_view}
 use Rattle.metadata.specs.declared.chunk_meta.ChunkMeta.{ChunkMeta as CodeChunk}
 use Rattle.row_group.specs.Chunks.{ChunkMeans}
-use Rattle.statistics.specs.Bounds.{Statistics, Bounds, statistics_of}
+use Rattle.statistics.specs.Bounds.{Statistics, statistics_of}
 use Rattle.statistics.specs.declared.stats.Stats.{Stats}
 use Rattle.upkeep.specs.inner.Columns.{AreColumns, IsColumn, IsColumnIn, IsTextOf}
 

@@ -1,7 +1,6 @@
 -- A part file that was read holds its group.
-use Rattle.std.proofs.Common.{◌≡◌, ℕ, List, [], ◌∷◌, length, pos, refl, sym, ap, subst, ◌∙◌, arith}
-use Rattle.std.specs.Prelude.{ℤ, Contains, Option, Some, None, MatchOption, Result, Ok, Err, IfOk}
-use Rattle.bits.specs.declared.refusal.Refusal.{Refusal}
+use Rattle.std.proofs.Common.{◌≡◌, ℕ, List, [], ◌∷◌, length, pos, refl, sym, subst, arith}
+use Rattle.std.specs.Prelude.{Contains}
 use Rattle.schema.specs.Values.{ValueTrees}
 use Rattle.schema.specs.Shape.{Fields}
 use Rattle.schema.specs.Stripe.{Entry, leaves_of, columns}
@@ -14,7 +13,7 @@ use Rattle.row_group.proofs.OneMeaning.{one_columns}
 use Rattle.footer.specs.File.{IsFile, LiesHere, AreGroups, GroupsMean, FileMeans}
 use Rattle.footer.specs.Faults.{IsOverLimit, large_group}
 use Rattle.manifest.specs.Groups.{Group}
-use Rattle.manifest.specs.Parts.{HoldsGroup, AreFullChunks}
+use Rattle.manifest.specs.Parts.{AreFullChunks}
 use Rattle.upkeep.specs.inner.Files.{IsRecorded, IsReadAs, IsGroupAs, HoldsAs, FillsColumns}
 use Rattle.upkeep.proofs.Longer.{full_are}
 

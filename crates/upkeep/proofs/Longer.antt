@@ -1,16 +1,14 @@
 -- A chunk stands in its bytes whatever follows them.
-use Rattle.std.proofs.Common.{◌≡◌, ℕ, ◌+◌, ◌≤◌, List, [], ◌∷◌, ◌++◌, length, take, drop, Option, refl, sym, ap, subst, ◌∙◌, arith, length-append, append_assoc, length-drop, take-append-drop}
+use Rattle.std.proofs.Common.{ℕ, ◌≤◌, List, [], ◌∷◌, ◌++◌, length, take, drop, Option, sym, ap, subst, ◌∙◌, arith, length-append, append_assoc, length-drop, take-append-drop}
 use Rattle.std.proofs.lemmas.List.{drop-append-le}
 use Rattle.bits.specs.Codec.{InTurn}
-use Rattle.thrift_compact.specs.Compact.{IsThrift}
 use Rattle.thrift_compact.proofs.Within.{fields_within}
 use Rattle.thrift_compact.proofs.Stays.{thrift_stays}
 use Rattle.std.specs.Prelude.{pos}
 use Rattle.schema.specs.Values.{ValueTree}
-use Rattle.schema.specs.Stripe.{Leaf, Entry, leaves_of}
+use Rattle.schema.specs.Stripe.{Leaf, Entry}
 use Rattle.metadata.specs.Records.{ColumnMeta, ChunkMeta}
 use Rattle.pages.specs.Page.{Page, IsPage}
-use Rattle.pages.specs.Chunk.{IsChunk}
 use Rattle.row_group.specs.Chunks.{ChunkMeans, ColumnMeans, AreChunks}
 use Rattle.statistics.specs.Bounds.{Statistics}
 use Rattle.manifest.specs.Parts.{IsFullChunk, AreFullChunks}

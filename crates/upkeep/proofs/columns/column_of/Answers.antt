@@ -1,4 +1,4 @@
-use Rattle.std.proofs.Common.{◌≡◌, ℕ, List, length, ap, sym, subst}
+use Rattle.std.proofs.Common.{ℕ, List, length, ap, sym, subst}
 use Rattle.schema.specs.Stripe.{Entry}
 use Rattle.schema.specs.Views.{leaf_view, column_view}
 use Rattle.metadata.specs.Views.{column_meta_view}

@@ -1,4 +1,3 @@
-use Rattle.std.proofs.lemmas.Option.{MatchOption-at_some}
 use Rattle.std.proofs.Common.{List}
 use Rattle.schema.specs.Stripe.{Entry}
 use Rattle.schema.specs.Views.{leaf_view, leaf_order, column_view}

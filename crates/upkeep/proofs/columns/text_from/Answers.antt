@@ -1,6 +1,3 @@
-use Rattle.std.proofs.Common.{◌≡◌, ◌≤◌, ◌+◌, length, take, drop}
-use Rattle.metadata.specs.Views.{column_meta_view}
-use Rattle.upkeep.specs.inner.Columns.{IsTextFrom}
 use Rattle.upkeep.proofs.Filling.{some_map}
 use Rattle.upkeep.proofs.columns.text_from.Goals as goal
 

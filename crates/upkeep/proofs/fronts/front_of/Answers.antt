@@ -1,6 +1,6 @@
-use Rattle.std.proofs.Common.{◌≡◌, ◌-◌, ℕ, length, take, drop, ap, sym, ◌∙◌, subst, arith}
+use Rattle.std.proofs.Common.{◌≡◌, ◌-◌, length, ap, ◌∙◌, arith}
 use Rattle.byteorder.specs.Endian.{little_number}
-use Rattle.footer.proofs.Frames.{parts, announced}
+use Rattle.footer.proofs.Frames.{parts}
 use Rattle.upkeep.proofs.Fronting.{front_is, fits}
 use Rattle.upkeep.proofs.fronts.front_of.Goals as goal
 

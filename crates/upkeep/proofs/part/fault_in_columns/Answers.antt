@@ -1,6 +1,6 @@
-use Rattle.std.proofs.Common.{◌≡◌, ◌∙◌, ℕ, List, map, sym, ap, subst}
+use Rattle.std.proofs.Common.{◌∙◌, ℕ, List, map, ap, subst}
 use Rattle.std.proofs.lemmas.Option.{MatchOption-at_none}
-use Rattle.schema.specs.Stripe.{Leaf, Entry, leaves_of}
+use Rattle.schema.specs.Stripe.{Leaf, leaves_of}
 use Rattle.schema.specs.Views.{leaf_view}
 use Rattle.metadata.specs.Records.{ChunkMeta}
 use Rattle.metadata.specs.Views.{chunk_meta_view}
@@ -10,8 +10,8 @@ use Rattle.manifest.specs.Parts.{AreFullChunks}
 use Rattle.upkeep.specs.inner.Columns.{AreColumns}
 use Rattle.upkeep.proofs.part.fault_in_columns.Goals as goal
 
-pub returns-in-None-clause-fills : goal.returns-in-None-clause-fills
-returns-in-None-clause-fills c = λ front meta file.
+pub returns-clause-fills : goal.returns-clause-fills
+returns-clause-fills c = λ front meta file.
     let g = group_view c.args.group.now in
     let fs = c.args.schema.now in
     let chunks = c.as_slice-chunks.result.now in

@@ -1,5 +1,4 @@
 use Rattle.std.proofs.Common.{◌≡◌, ◌∙◌, pos, map, sym, ap}
-use Rattle.std.proofs.lemmas.Option.{MatchOption-at_none}
 use Rattle.metadata.specs.Views.{chunk_meta_view, group_meta_view}
 use Rattle.manifest.specs.Groups.{group_view}
 use Rattle.upkeep.specs.inner.Files.{HoldsAs, FillsColumns}
@@ -7,8 +6,8 @@ use Rattle.upkeep.proofs.Filling.{found_map}
 use Rattle.upkeep.proofs.Holding.{holds_as}
 use Rattle.upkeep.proofs.part.fault_of_group.Goals as goal
 
-pub returns-in-None-clause-holds : goal.returns-in-None-clause-holds
-returns-in-None-clause-holds c =
+pub returns-clause-holds : goal.returns-clause-holds
+returns-clause-holds c =
     let g = group_view c.args.group.now in
     let own = group_meta_view c.args.own.now in
     let bytes = c.args.bytes.now in
