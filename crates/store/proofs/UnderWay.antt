@@ -30,7 +30,7 @@ use Rattle.store.specs.Filling.{HasWritten}
 use Rattle.store.specs.Reading.{OnlyReads}
 use Rattle.store.specs.declared.jobs.OpenJob.{OpenJob}
 use Rattle.store.specs.Lookups.{job_at}
-use Rattle.store.specs.Rewritten.{IsHalted, AreSources, AddsAll, AddsOne, HasAdded, HasAddedOne, Parts, Task, AreUnderWay, GoesOn}
+use Rattle.store.specs.Rewritten.{IsHalted, AreSources, AddsAll, AddsOne, HasAdded, HasAddedOne, Parts, Task, AreUnderWay, StaysUnderWay}
 use Rattle.store.proofs.Filled.{size_some}
 use Rattle.store.proofs.RunParts.{no_parts, all_parts, part_more, part_stops}
 use Rattle.store.proofs.RunReads.{NextSource, next_source, read_on, read_stops}
@@ -151,7 +151,7 @@ module _ {D : Type 0} (state : D → DiskState) (start : Store D) (s : State) (n
           }
 
       pub full_goes : (new : Store D) (more : List FileGroup) (fresh : KeyBuffer) → key_view fresh.key ≡ task.key → HoldsRows (without_keys s.table.keys s.table.schema) [] fresh
-          → (result : Result (Unit {0}) Refusal) → AddsOne state start new s (Some n) files more groups_now mid.next_group task.key u.held result → GoesOn state start new s n task more fresh left 1 result
+          → (result : Result (Unit {0}) Refusal) → AddsOne state start new s (Some n) files more groups_now mid.next_group task.key u.held result → StaysUnderWay state start new s n task more fresh left 1 result
       full_goes new more fresh key_is none (Ok x) one = full_written new more fresh one key_is none
       full_goes new more fresh key_is none (Err e) one = full_stops new e one
 

@@ -37,7 +37,7 @@ impl<D: Disk> Store<D> {
     ghost use Rattle.store.specs.Promises.{IsSure};
     ghost use Rattle.store.specs.Lookups.{job_at};
     ghost use Rattle.store.specs.Filling.{HasWritten, Goes};
-    ghost use Rattle.store.specs.Rewritten.{IsSource, AreSources, IsRunIn, kept_at, AddsAll, AddsOne, Task, AreUnderWay, GoesOn};
+    ghost use Rattle.store.specs.Rewritten.{IsSource, AreSources, IsRunIn, kept_at, AddsAll, AddsOne, Task, AreUnderWay, StaysUnderWay};
 
     /// Writes the rows of sources of one key for a job, in their order, in a table that is described so: each group has as
     /// many rows as a group has, the last has the rest. The first source has this place over all runs.
@@ -50,8 +50,10 @@ impl<D: Disk> Store<D> {
         place: usize,
         sources: &[Rc<Group>],
     ) -> R<()>
-        ensures writes { (D.state self.old.vault.disk).honest → (start : Store D) (s : State) (groups run : List TableGroup) → s.closed ≡ false → self.old.jobs ≡ start.jobs → root_of table.now ≡ root_of self.old.manifest
-            → HasWritten D.state start self.old s (Some job) (handles_view written.old.items) groups → AreSources (D.state start.vault.disk) s (job_at job start.jobs.items) place (handles_view sources.now) run → (is : IsRunIn s run)
+        ensures writes { (D.state self.old.vault.disk).honest → (start : Store D) (s : State) (groups run : List TableGroup) → s.closed ≡ false
+            → self.old.jobs ≡ start.jobs → root_of table.now ≡ root_of self.old.manifest
+            → HasWritten D.state start self.old s (Some job) (handles_view written.old.items) groups
+            → AreSources (D.state start.vault.disk) s (job_at job start.jobs.items) place (handles_view sources.now) run → (is : IsRunIn s run)
             → AddsAll D.state start self.new s (Some job) (handles_view written.old.items) (handles_view written.new.items) groups is.key (rows run) (self.old.next_group + length (rows run)) result }
         ensures goes { OnOk result (Goes (handles_view written.old.items) (handles_view written.new.items)) }
         ensures same { self.new ≡ record self.old { vault = self.new.vault; snapshots = self.new.snapshots; next_group = self.new.next_group } }
@@ -83,10 +85,11 @@ impl<D: Disk> Store<D> {
         place: usize,
         source: &Rc<Group>,
     ) -> R<()>
-        ensures takes { (D.state self.old.vault.disk).honest → (start : Store D) (s : State) (task : Task) (group : TableGroup) (later : List TableRow) → s.closed ≡ false → self.old.jobs ≡ start.jobs → root_of table.now ≡ root_of self.old.manifest
+        ensures takes { (D.state self.old.vault.disk).honest → (start : Store D) (s : State) (task : Task) (group : TableGroup) (later : List TableRow)
+            → s.closed ≡ false → self.old.jobs ≡ start.jobs → root_of table.now ≡ root_of self.old.manifest
             → IsSource (D.state start.vault.disk) s (kept_at place (job_at job start.jobs.items)) (group_view (rc_value source.now)) group
             → AreUnderWay D.state start self.old s job task (handles_view written.old.items) waiting.old (group.rows ++ later) 1
-            → GoesOn D.state start self.new s job task (handles_view written.new.items) waiting.new later 1 result }
+            → StaysUnderWay D.state start self.new s job task (handles_view written.new.items) waiting.new later 1 result }
         ensures goes { OnOk result (Goes (handles_view written.old.items) (handles_view written.new.items)) }
         ensures same { self.new ≡ record self.old { vault = self.new.vault; snapshots = self.new.snapshots; next_group = self.new.next_group } }
         ensures sure { IsSure result }
@@ -115,9 +118,10 @@ impl<D: Disk> Store<D> {
         waiting: &mut KeyBuffer<'a>,
         given: Vec<Row>,
     ) -> R<()>
-        ensures takes { (D.state self.old.vault.disk).honest → (start : Store D) (s : State) (task : Task) (later : List TableRow) → s.closed ≡ false → root_of table.now ≡ root_of self.old.manifest
+        ensures takes { (D.state self.old.vault.disk).honest → (start : Store D) (s : State) (task : Task) (later : List TableRow) → s.closed ≡ false
+            → root_of table.now ≡ root_of self.old.manifest
             → AreUnderWay D.state start self.old s job task (handles_view written.old.items) waiting.old (rows_view given.items ++ later) 1
-            → GoesOn D.state start self.new s job task (handles_view written.new.items) waiting.new later 1 result }
+            → StaysUnderWay D.state start self.new s job task (handles_view written.new.items) waiting.new later 1 result }
         ensures goes { OnOk result (Goes (handles_view written.old.items) (handles_view written.new.items)) }
         ensures same { self.new ≡ record self.old { vault = self.new.vault; snapshots = self.new.snapshots; next_group = self.new.next_group } }
         ensures sure { IsSure result }
@@ -142,10 +146,11 @@ impl<D: Disk> Store<D> {
         waiting: &mut KeyBuffer<'a>,
         source: &Group,
     ) -> R<()>
-        ensures takes { (D.state self.old.vault.disk).honest → (start : Store D) (s : State) (task : Task) (group : TableGroup) (later : List TableRow) → s.closed ≡ false → root_of table.now ≡ root_of self.old.manifest
+        ensures takes { (D.state self.old.vault.disk).honest → (start : Store D) (s : State) (task : Task) (group : TableGroup) (later : List TableRow)
+            → s.closed ≡ false → root_of table.now ≡ root_of self.old.manifest
             → IsHeld (D.state self.old.vault.disk) [] (root_of table.now) (group_view source.now) group
             → AreUnderWay D.state start self.old s job task (handles_view written.old.items) waiting.old (group.rows ++ later) 1
-            → GoesOn D.state start self.new s job task (handles_view written.new.items) waiting.new later 1 result }
+            → StaysUnderWay D.state start self.new s job task (handles_view written.new.items) waiting.new later 1 result }
         ensures goes { OnOk result (Goes (handles_view written.old.items) (handles_view written.new.items)) }
         ensures same { self.new ≡ record self.old { vault = self.new.vault; snapshots = self.new.snapshots; next_group = self.new.next_group } }
         ensures sure { IsSure result }
@@ -168,10 +173,11 @@ impl<D: Disk> Store<D> {
         waiting: &mut KeyBuffer<'a>,
         group: &GroupRows,
     ) -> R<()>
-        ensures takes { (D.state self.old.vault.disk).honest → (start : Store D) (s : State) (task : Task) (given later : List TableRow) → s.closed ≡ false → root_of table.now ≡ root_of self.old.manifest
+        ensures takes { (D.state self.old.vault.disk).honest → (start : Store D) (s : State) (task : Task) (given later : List TableRow) → s.closed ≡ false
+            → root_of table.now ≡ root_of self.old.manifest
             → rows_held group.now (map (row_without_keys s.table.keys) given)
             → AreUnderWay D.state start self.old s job task (handles_view written.old.items) waiting.old (given ++ later) 1
-            → GoesOn D.state start self.new s job task (handles_view written.new.items) waiting.new later 1 result }
+            → StaysUnderWay D.state start self.new s job task (handles_view written.new.items) waiting.new later 1 result }
         ensures goes { OnOk result (Goes (handles_view written.old.items) (handles_view written.new.items)) }
         ensures same { self.new ≡ record self.old { vault = self.new.vault; snapshots = self.new.snapshots; next_group = self.new.next_group } }
         ensures sure { (given : List TableRow) → rows_held group.now given → IsSure result }
@@ -198,9 +204,10 @@ impl<D: Disk> Store<D> {
         written: &mut Vec<Rc<Group>>,
         waiting: &mut KeyBuffer<'a>,
     ) -> R<()>
-        ensures writes { (D.state self.old.vault.disk).honest → (start : Store D) (s : State) (task : Task) (left : List TableRow) → s.closed ≡ false → root_of table.now ≡ root_of self.old.manifest
+        ensures writes { (D.state self.old.vault.disk).honest → (start : Store D) (s : State) (task : Task) (left : List TableRow) → s.closed ≡ false
+            → root_of table.now ≡ root_of self.old.manifest
             → AreUnderWay D.state start self.old s job task (handles_view written.old.items) waiting.old left 0
-            → GoesOn D.state start self.new s job task (handles_view written.new.items) waiting.new left 1 result }
+            → StaysUnderWay D.state start self.new s job task (handles_view written.new.items) waiting.new left 1 result }
         ensures goes { OnOk result (Goes (handles_view written.old.items) (handles_view written.new.items)) }
         ensures same { self.new ≡ record self.old { vault = self.new.vault; snapshots = self.new.snapshots; next_group = self.new.next_group } }
         ensures sure { IsSure result }
@@ -247,8 +254,10 @@ impl<D: Disk> Store<D> {
         written: &mut Vec<Rc<Group>>,
         part: KeyBuffer<'_>,
     ) -> R<()>
-        ensures writes { (D.state self.old.vault.disk).honest → (start : Store D) (s : State) (groups : List TableGroup) (key : TableKey) (given : List TableRow) → s.closed ≡ false
-            → HasWritten D.state start self.old s (Some job) (handles_view written.old.items) groups → CanPartition s.table.keys key → AllByRecursion (IsRowIn s.table.schema s.table.keys key) given
+        ensures writes { (D.state self.old.vault.disk).honest
+            → (start : Store D) (s : State) (groups : List TableGroup) (key : TableKey) (given : List TableRow) → s.closed ≡ false
+            → HasWritten D.state start self.old s (Some job) (handles_view written.old.items) groups → CanPartition s.table.keys key
+            → AllByRecursion (IsRowIn s.table.schema s.table.keys key) given
             → key_view part.entry.key ≡ key → HoldsRows (without_keys s.table.keys s.table.schema) (map (row_without_keys s.table.keys) given) part.entry
             → AddsOne D.state start self.new s (Some job) (handles_view written.old.items) (handles_view written.new.items) groups self.old.next_group key given result }
         ensures goes { OnOk result (Goes (handles_view written.old.items) (handles_view written.new.items)) }

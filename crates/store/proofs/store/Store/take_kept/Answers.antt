@@ -15,7 +15,7 @@ use Rattle.manifest.specs.Groups.{Root, root_of, handles_view}
 use Rattle.table.specs.Table.{Row}
 use Rattle.table.specs.Limits.{IsPart}
 use Rattle.store.specs.declared.store.Store.{Store}
-use Rattle.store.specs.Rewritten.{GoesOn, IsHalted, AreUnderWay}
+use Rattle.store.specs.Rewritten.{StaysUnderWay, IsHalted, AreUnderWay}
 use Rattle.store.proofs.Fetched.{memory_so}
 use Rattle.store.proofs.RunParts.{goes_on, goes_nowhere}
 use Rattle.store.proofs.UnderWay.{poor_way, row_fits, row_waits}
@@ -44,7 +44,7 @@ returns-in_err-rest-clause-takes g c honest start s task later is_open described
     let mid = at.self in
     let files = handles_view at.written.items in
     let now = at.invariant.takes honest start s task later is_open described u in
-    refused (λ (r : Result (Unit {0}) Refusal). GoesOn g.D.Disk.state start mid s c.args.job task files at.waiting later 1 r) c.from_residual.result _ c.from_residual.ensures.1
+    refused (λ (r : Result (Unit {0}) Refusal). StaysUnderWay g.D.Disk.state start mid s c.args.job task files at.waiting later 1 r) c.from_residual.result _ c.from_residual.ensures.1
     (memory_so c.in_err-rest.field-0.0 c.in_err-rest.ensures.which (λ e. IsHalted g.D.Disk.state start mid s (IsPart s.options.group_rows task.given) task.most e)
     (poor_way g.D.Disk.state start s c.args.job task mid files at.waiting (rows_view (into_iter_items at.row-iterator) ++ later) 1 now))
 
@@ -60,7 +60,7 @@ returns-in_err-push-clause-takes g c honest start s task later is_open described
     let rest_is = c.in_ok-rest.ensures.is ∙ ap (λ (ks : List KeyColumn). row_without_keys ks row) keys in
     let fits = subst (λ (x : Row). fits_each (schema_of at.waiting.rows) x ≡ true) (sym rest_is) (row_fits g.D.Disk.state start s c.args.job task mid files at.waiting row (others ++ later) way) in
     let e = c.in_err-push.field-0.0 in
-    refused (λ (r : Result (Unit {0}) Refusal). GoesOn g.D.Disk.state start mid s c.args.job task files (record at.waiting { rows = c.push.new.self }) later 1 r) c.from_residual-in_err-push.result _ c.from_residual-in_err-push.ensures.1
+    refused (λ (r : Result (Unit {0}) Refusal). StaysUnderWay g.D.Disk.state start mid s c.args.job task files (record at.waiting { rows = c.push.new.self }) later 1 r) c.from_residual-in_err-push.result _ c.from_residual-in_err-push.ensures.1
     (fits_then e c.in_err-push.ensures.which (λ is. let miss = c.in_err-push.ensures.only (ap (λ (x : Refusal). Err x) is) in let clash : true ≡ false = sym fits ∙ miss in cc) (λ x. IsHalted g.D.Disk.state start mid s (IsPart s.options.group_rows task.given) task.most x)
     (poor_way g.D.Disk.state start s c.args.job task mid files at.waiting (row ∷ others ++ later) 1 way))
 
@@ -79,7 +79,7 @@ returns-in_err-write_full-clause-takes g c honest start s task later is_open des
     let rest_is = c.in_ok-rest.ensures.is ∙ ap (λ (ks : List KeyColumn). row_without_keys ks row) keys in
     let waits = row_waits g.D.Disk.state start s c.args.job task mid files at.waiting row (others ++ later) way fresh c.in_ok-push.ensures.same_schema
     (λ taken held. subst (λ (x : Row). holds fresh (taken ++ x ∷ [])) rest_is (c.in_ok-push.ensures.stands taken held)) in
-    refused (λ (r : Result (Unit {0}) Refusal). GoesOn g.D.Disk.state start new s c.args.job task (handles_view c.write_full.new.written.items) c.write_full.new.waiting later 1 r) c.from_residual-in_err-write_full.result _ c.from_residual-in_err-write_full.ensures.1
+    refused (λ (r : Result (Unit {0}) Refusal). StaysUnderWay g.D.Disk.state start new s c.args.job task (handles_view c.write_full.new.written.items) c.write_full.new.waiting later 1 r) c.from_residual-in_err-write_full.result _ c.from_residual-in_err-write_full.ensures.1
     (c.in_err-write_full.ensures.writes (at.invariant.honest.0 honest) start s task (others ++ later) is_open here waits)
 
 pub loop-row-preserved : goal.loop-row-preserved

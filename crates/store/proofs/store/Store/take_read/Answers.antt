@@ -7,7 +7,7 @@ use Rattle.manifest.specs.Groups.{Root, root_of, handles_view}
 use Rattle.scan.specs.declared.group_rows.GroupRows.{GroupRows}
 use Rattle.scan.specs.Left.{AreAccepted, rows_held}
 use Rattle.table.specs.Table.{Row}
-use Rattle.store.specs.Rewritten.{GoesOn, AreUnderWay}
+use Rattle.store.specs.Rewritten.{StaysUnderWay, AreUnderWay}
 use Rattle.store.specs.Showing.{AreShown}
 use Rattle.store.proofs.UnderWay.{read_way, way_unread, none_of}
 use Rattle.store.proofs.store.Store.take_read.Goals as goal
@@ -19,7 +19,7 @@ returns-in_err-shown_rows-clause-takes g c honest start s task group later is_op
     let waiting = c.args.waiting.now in
     let vault = c.shown_rows.new.vault in
     let failed = c.in_err-shown_rows.ensures in
-    refused (λ (r : Result (Unit {0}) Refusal). GoesOn g.D.Disk.state start (record old { vault = vault }) s c.args.job task files waiting later 1 r) c.from_residual.result _ c.from_residual.ensures.1
+    refused (λ (r : Result (Unit {0}) Refusal). StaysUnderWay g.D.Disk.state start (record old { vault = vault }) s c.args.job task files waiting later 1 r) c.from_residual.result _ c.from_residual.ensures.1
     (way_unread g.D.Disk.state start s c.args.job task old files waiting (group.rows ++ later) 1 u is_open vault (failed.effect.unchanged honest) failed.effect.counts.later (Option GroupRows) c.in_err-shown_rows.field-0.0 (failed.only honest group held) failed.effect)
 
 pub returns-in-None-clause-takes : goal.returns-in-None-clause-takes

@@ -14,7 +14,7 @@ use Rattle.table.specs.Table.{Row}
 use Rattle.table.specs.Limits.{IsPart}
 use Rattle.store.specs.declared.store.Store.{Store}
 use Rattle.store.specs.Promises.{IsSure}
-use Rattle.store.specs.Rewritten.{GoesOn, IsHalted, AreUnderWay}
+use Rattle.store.specs.Rewritten.{StaysUnderWay, IsHalted, AreUnderWay}
 use Rattle.store.specs.Showing.{AddsNext}
 use Rattle.store.proofs.Fetched.{memory_so}
 use Rattle.store.proofs.RunParts.{goes_on, goes_nowhere}
@@ -35,7 +35,7 @@ pub returns-in_err-rows-clause-takes : goal.returns-in_err-rows-clause-takes
 returns-in_err-rows-clause-takes g c honest start s task given later is_open described has u =
     let old = c.args.self.now in
     let files = handles_view c.args.written.now.items in
-    refused (λ (r : Result (Unit {0}) Refusal). GoesOn g.D.Disk.state start old s c.args.job task files c.args.waiting.now later 1 r) c.from_residual.result _ c.from_residual.ensures.1
+    refused (λ (r : Result (Unit {0}) Refusal). StaysUnderWay g.D.Disk.state start old s c.args.job task files c.args.waiting.now later 1 r) c.from_residual.result _ c.from_residual.ensures.1
     (memory_so c.in_err-rows.field-0.0 (c.in_err-rows.ensures.only (map (row_without_keys s.table.keys) given) has) (λ e. IsHalted g.D.Disk.state start old s (IsPart s.options.group_rows task.given) task.most e)
     (poor_way g.D.Disk.state start s c.args.job task old files c.args.waiting.now (given ++ later) 1 u))
 
@@ -63,7 +63,7 @@ returns-in_err-show_next-clause-takes g c honest start s task given later is_ope
     let files = handles_view at.written.items in
     let now = at.invariant.takes honest start s task given later is_open described has u in
     let memory : c.in_err-show_next.field-0.0 ≡ Memory = c.in_err-show_next.ensures.adds (map (row_without_keys s.table.keys) now.0) now.1 in
-    refused (λ (r : Result (Unit {0}) Refusal). GoesOn g.D.Disk.state start mid s c.args.job task files (record at.waiting { rows = c.show_next.new.buffer }) later 1 r) c.from_residual-in_err-show_next.result _ c.from_residual-in_err-show_next.ensures.1
+    refused (λ (r : Result (Unit {0}) Refusal). StaysUnderWay g.D.Disk.state start mid s c.args.job task files (record at.waiting { rows = c.show_next.new.buffer }) later 1 r) c.from_residual-in_err-show_next.result _ c.from_residual-in_err-show_next.ensures.1
     (subst (λ (e : Refusal). IsHalted g.D.Disk.state start mid s (IsPart s.options.group_rows task.given) task.most e) (sym memory) (poor_way g.D.Disk.state start s c.args.job task mid files at.waiting (now.0 ++ later) 1 now.2))
 
 pub returns-in_err-show_next-clause-sure : goal.returns-in_err-show_next-clause-sure
@@ -92,7 +92,7 @@ returns-in_err-write_full-clause-takes g c honest start s task given later is_op
     let waits = row_waits g.D.Disk.state start s c.args.job task mid files at.waiting f.row (f.others ++ later) way fresh c.in_ok-show_next.ensures.same_schema
     (λ taken held. subst (λ (x : Row). holds fresh (taken ++ x ∷ [])) f.first_is (adds.held taken held (subst (λ (x : Row). IsTrue (fits_each (schema_of at.waiting.rows) x)) (sym f.first_is) fits))) in
     let here = described ∙ sym (ap (λ (st : Store g.row.D.Denot). root_of st.manifest) so_far.same) in
-    refused (λ (r : Result (Unit {0}) Refusal). GoesOn g.D.Disk.state start new s c.args.job task (handles_view c.write_full.new.written.items) c.write_full.new.waiting later 1 r) c.from_residual-in_err-write_full.result _ c.from_residual-in_err-write_full.ensures.1
+    refused (λ (r : Result (Unit {0}) Refusal). StaysUnderWay g.D.Disk.state start new s c.args.job task (handles_view c.write_full.new.written.items) c.write_full.new.waiting later 1 r) c.from_residual-in_err-write_full.result _ c.from_residual-in_err-write_full.ensures.1
     (c.in_err-write_full.ensures.writes (so_far.honest.0 honest) start s task (f.others ++ later) is_open here waits)
 
 pub rows-preserved : goal.rows-preserved

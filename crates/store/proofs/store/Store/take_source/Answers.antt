@@ -14,7 +14,7 @@ use Rattle.store.specs.declared.jobs.OpenJob.{OpenJob}
 use Rattle.store.specs.Completing.{completed_rows}
 use Rattle.store.specs.Counting.{IsHeld}
 use Rattle.store.specs.Lookups.{job_at}
-use Rattle.store.specs.Rewritten.{kept_at, GoesOn, IsHalted, AreUnderWay}
+use Rattle.store.specs.Rewritten.{kept_at, StaysUnderWay, IsHalted, AreUnderWay}
 use Rattle.store.proofs.Fetched.{memory_so}
 use Rattle.store.proofs.RunReads.{source_held, source_kept}
 use Rattle.store.proofs.UnderWay.{poor_way}
@@ -24,7 +24,7 @@ pub returns-in_err-rows-clause-takes : goal.returns-in_err-rows-clause-takes
 returns-in_err-rows-clause-takes g c honest start s task group later is_open same described is u =
     let old = c.args.self.now in
     let files = handles_view c.args.written.now.items in
-    refused (λ (r : Result (Unit {0}) Refusal). GoesOn g.D.Disk.state start old s c.args.job task files c.args.waiting.now later 1 r) c.from_residual.result _ c.from_residual.ensures.1
+    refused (λ (r : Result (Unit {0}) Refusal). StaysUnderWay g.D.Disk.state start old s c.args.job task files c.args.waiting.now later 1 r) c.from_residual.result _ c.from_residual.ensures.1
     (memory_so c.in_err-rows.field-0.0 c.in_err-rows.ensures.which (λ e. IsHalted g.D.Disk.state start old s (IsPart s.options.group_rows task.given) task.most e)
     (poor_way g.D.Disk.state start s c.args.job task old files c.args.waiting.now (group.rows ++ later) 1 u))
 

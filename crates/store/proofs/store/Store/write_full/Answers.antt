@@ -11,7 +11,7 @@ use Rattle.gather.specs.KeyBuffers.{HoldsRows}
 use Rattle.manifest.specs.Groups.{Root, handles_view}
 use Rattle.manifest.specs.Root.{stored_of}
 use Rattle.table.specs.Limits.{IsPart}
-use Rattle.store.specs.Rewritten.{GoesOn, IsHalted}
+use Rattle.store.specs.Rewritten.{StaysUnderWay, IsHalted}
 use Rattle.store.proofs.Fetched.{memory_so}
 use Rattle.store.proofs.Filled.{size_some}
 use Rattle.store.proofs.RunParts.{same_fields}
@@ -32,7 +32,7 @@ returns-in_err-key-clause-writes g c honest start s task left is_open described 
     let old = c.args.self.now in
     let files = handles_view c.args.written.now.items in
     let waiting = c.args.waiting.now in
-    refused (λ (r : Result (Unit {0}) Refusal). GoesOn g.D.Disk.state start old s c.args.job task files waiting left 1 r) c.from_residual.result _ c.from_residual.ensures.1
+    refused (λ (r : Result (Unit {0}) Refusal). StaysUnderWay g.D.Disk.state start old s c.args.job task files waiting left 1 r) c.from_residual.result _ c.from_residual.ensures.1
     (memory_so c.in_err-key.field-0.0 c.in_err-key.ensures.which (λ e. IsHalted g.D.Disk.state start old s (IsPart s.options.group_rows task.given) task.most e) (poor_way g.D.Disk.state start s c.args.job task old files waiting left 0 u))
 
 pub returns-in_err-empty-clause-writes : goal.returns-in_err-empty-clause-writes
@@ -40,7 +40,7 @@ returns-in_err-empty-clause-writes g c honest start s task left is_open describe
     let old = c.args.self.now in
     let files = handles_view c.args.written.now.items in
     let waiting = c.args.waiting.now in
-    refused (λ (r : Result (Unit {0}) Refusal). GoesOn g.D.Disk.state start old s c.args.job task files waiting left 1 r) c.from_residual-in_err-empty.result _ c.from_residual-in_err-empty.ensures.1
+    refused (λ (r : Result (Unit {0}) Refusal). StaysUnderWay g.D.Disk.state start old s c.args.job task files waiting left 1 r) c.from_residual-in_err-empty.result _ c.from_residual-in_err-empty.ensures.1
     (memory_so c.in_err-empty.field-0.0 c.in_err-empty.ensures.which (λ e. IsHalted g.D.Disk.state start old s (IsPart s.options.group_rows task.given) task.most e) (poor_way g.D.Disk.state start s c.args.job task old files waiting left 0 u))
 
 pub returns-clause-writes : goal.returns-clause-writes
