@@ -29,6 +29,7 @@ either a b not (inr x) (inr y) = ap inr (b x y)
 sole : (A : ℕ → Type 0) → ((u : ℕ) → IsProp (A u)) → ((u v : ℕ) → A u → A v → u ≡ v) → IsProp ((u : ℕ) × A u)
 sole A a one p q = Σ_prop_path a (one p.0 q.0 p.1 q.1)
 
+-- four things that hold in at most one way each hold together in at most one way
 pub four : {A B C D : Type 0} → IsProp A → IsProp B → IsProp C → IsProp D → IsProp (A × B × C × D)
 four a b c d p q = λ i. (a p.0 q.0 i, b p.1 q.1 i, c p.2 q.2 i, d p.3 q.3 i)
 
@@ -238,6 +239,7 @@ mutual
 abbrev RestText : Fields → ℤ → List ℕ → List ℕ → Type 0
 RestText fs previous new text = (new ≡ text) × ((more : List ℕ) → (fields_nest fs ≤ 32) × AreFields fs previous (text ++ more) (length text)) × (length text ≤ size_fields fs previous)
 
+-- bytes are the rest of a struct in at most one way
 pub Rest-prop : (fs : Fields) (previous : ℤ) (new : List ℕ) → IsProp (AppendsRest fs previous [] new)
 Rest-prop fs previous new p q = ap from (flat (p.text, (p.joined, p.stands, p.short)) (q.text, (q.joined, q.stands, q.short)))
   where
