@@ -1,7 +1,7 @@
 //! Calls of the disk.
 
+use crate::arguments::{bytes, choices, path};
 use crate::images::left;
-use crate::lists::{bytes, choices, path};
 use crate::outcome::{Outcome, shown_file, shown_names};
 use bits::{R, Refusal};
 use case_words::{natural, word, words_from};

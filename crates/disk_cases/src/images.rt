@@ -1,6 +1,6 @@
 //! What a disk holds, and what a stop leaves of it.
 
-use crate::lists::lists;
+use crate::arguments::lists;
 use crate::outcome::{joined, refusal_of, shown_file};
 use bits::R;
 use case_words::listed;

@@ -4,11 +4,11 @@
 //! disk. `stdin` has the lines and `stdout` what they must print; README.md lists them.
 #![tactic(auto)]
 
+mod arguments;
 mod calls;
 mod host;
 mod images;
 mod lines;
-mod lists;
 mod mem_files;
 mod outcome;
 mod script;

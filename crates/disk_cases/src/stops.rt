@@ -1,8 +1,8 @@
 //! `stops PICKS WORD..` .. `end`: lines that are stopped at each call of the disk.
 
+use crate::arguments::{choices, lists};
 use crate::images::{image, left};
 use crate::lines::made;
-use crate::lists::{choices, lists};
 use crate::outcome::{Outcome, joined};
 use bits::{R, Refusal};
 use case_words::{word, words_from};

@@ -3,7 +3,7 @@
 ghost use Rattle.std.specs.Prelude.{IsTrue};
 ghost use Rattle.vault.specs.Views.{IsNoRoot};
 
-use crate::lists::{bytes, path};
+use crate::arguments::{bytes, path};
 use crate::outcome::{Outcome, shown_file, shown_names};
 use bits::{R, Refusal};
 use case_words::{natural, word, words_from};
